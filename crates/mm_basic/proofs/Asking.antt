@@ -40,7 +40,8 @@ written_untouched : (written : Result BatchAnswer StepFault) (old new : Standing
 written_untouched (Ok answer) old new = tt
 written_untouched (Err fault) old new = λ (h : Some fault ≡ None). absurd (cc)
 
-ends_untouched : (found : Result Found Refusal) (old middle new : Standing) (result : Result BatchAnswer Refusal) → Goes ReadCell old middle (fault_in found) → Ends found middle new result → LeavesUntouched result old new
+ends_untouched : (found : Result Found Refusal) (old middle new : Standing) (result : Result BatchAnswer Refusal)
+    → Goes ReadCell old middle (fault_in found) → Ends found middle new result → LeavesUntouched result old new
 ends_untouched (Err why) old middle new result g e =
     subst (λ (r : Result BatchAnswer Refusal). LeavesUntouched r old new) (sym e.1)
     (λ (h : fault_of why ≡ None). subst (λ (s : Standing). IsUntouched old s) (sym e.0)
@@ -49,15 +50,19 @@ ends_untouched (Ok found) old middle new result g e =
     subst (λ (r : Result BatchAnswer Refusal). LeavesUntouched r old new) (sym e.gives) (written_untouched e.written old new)
 
 -- a reading step, a step that commits, and a turn
-pub read_blamed : (meaning : Meaning) (old new : Standing) (offer : List ℕ) (b : Batch) (found : Result Found Refusal) → Reads meaning old new offer b found → Blames (fault_in found) old.faults new.faults
+pub read_blamed : (meaning : Meaning) (old new : Standing) (offer : List ℕ) (b : Batch) (found : Result Found Refusal)
+    → Reads meaning old new offer b found → Blames (fault_in found) old.faults new.faults
 read_blamed meaning old new offer b found r = blamed (fault_in found) old new r.goes.is_made r.goes.ends
 
-pub commit_blamed : (found : Found) (old new : Standing) (written : Result BatchAnswer StepFault) → CommitsFound found old new written → Blames (result_err written) old.faults new.faults
+pub commit_blamed : (found : Found) (old new : Standing) (written : Result BatchAnswer StepFault) → CommitsFound found old new written
+    → Blames (result_err written) old.faults new.faults
 commit_blamed (Repeat answer) old new written c =
-    subst (λ (w : Result BatchAnswer StepFault). Blames (result_err w) old.faults new.faults) (sym c.1) (ap (λ (s : Standing). s.faults) c.0)
+    subst (λ (w : Result BatchAnswer StepFault). Blames (result_err w) old.faults new.faults) (sym c.1)
+    (ap (λ (s : Standing). s.faults) c.0)
 commit_blamed (Change ready) old new written c = blamed (result_err written) old new c.goes.is_made c.goes.ends
 
-pub ends_blamed : (found : Result Found Refusal) (old middle new : Standing) (result : Result BatchAnswer Refusal) → Goes ReadCell old middle (fault_in found) → Ends found middle new result → Blames (fault_in result) old.faults new.faults
+pub ends_blamed : (found : Result Found Refusal) (old middle new : Standing) (result : Result BatchAnswer Refusal)
+    → Goes ReadCell old middle (fault_in found) → Ends found middle new result → Blames (fault_in result) old.faults new.faults
 ends_blamed (Err why) old middle new result g e =
     subst (λ (r : Result BatchAnswer Refusal). Blames (fault_in r) old.faults new.faults) (sym e.1)
     (subst (λ (s : Standing). Blames (fault_of why) old.faults s.faults) (sym e.0) (blamed (fault_of why) old middle g.is_made g.ends))
@@ -77,16 +82,19 @@ once_refused (Some fault) old new r = inl r
 read_once : (fault : Option StepFault) (old new : Standing) → Goes ReadCell old new fault → ReadsOnce old new
 read_once fault old new g = (g.steps, g.writes)
 
-then_written : (fault last : Option StepFault) (ready : Ready) (old middle new : Standing) → Goes ReadCell old middle fault → Goes (WriteCell ready.next) middle new last → ReadsAndWrites old new
+then_written : (fault last : Option StepFault) (ready : Ready) (old middle new : Standing) → Goes ReadCell old middle fault
+    → Goes (WriteCell ready.next) middle new last → ReadsAndWrites old new
 then_written fault last ready old middle new g h = (h.steps ∙ ap counted g.steps, h.writes ∙ ap counted g.writes)
 
-written_stepped : (written : Result BatchAnswer StepFault) (ready : Ready) (old middle new : Standing) → Goes ReadCell old middle None → Writes ready middle new written → ready.answer.again ≡ false → StepsBy (handed_on written) old new
+written_stepped : (written : Result BatchAnswer StepFault) (ready : Ready) (old middle new : Standing) → Goes ReadCell old middle None
+    → Writes ready middle new written → ready.answer.again ≡ false → StepsBy (handed_on written) old new
 written_stepped (Ok answer) ready old middle new g w e =
     subst (λ (t : Bool). StepsAnswered t old new) (sym (ap (λ (a : BatchAnswer). a.again) w.gives ∙ e))
     (then_written None None ready old middle new g w.goes)
 written_stepped (Err fault) ready old middle new g w e = inr (then_written None (Some fault) ready old middle new g w.goes)
 
-ends_stepped : (b : Batch) (found : Result Found Refusal) (old middle new : Standing) (result : Result BatchAnswer Refusal) → IsShaped b found → Goes ReadCell old middle (fault_in found) → Ends found middle new result → StepsBy result old new
+ends_stepped : (b : Batch) (found : Result Found Refusal) (old middle new : Standing) (result : Result BatchAnswer Refusal)
+    → IsShaped b found → Goes ReadCell old middle (fault_in found) → Ends found middle new result → StepsBy result old new
 ends_stepped b (Err why) old middle new result shape g e =
     subst (λ (r : Result BatchAnswer Refusal). StepsBy r old new) (sym e.1)
     (subst (λ (s : Standing). StepsRefused (fault_of why) old s) (sym e.0)
@@ -100,12 +108,16 @@ ends_stepped b (Ok (Change ready)) old middle new result shape g e =
     (written_stepped e.written ready old middle new g e.commits shape.0)
 
 -- what was found, by what a call asked: its shape, or a device's fault
-found_shaped : (meaning : Meaning) → IsLawful meaning → (old middle : Standing) (offer : List ℕ) (b : Batch) (found : Result Found Refusal) → Reads meaning old middle offer b found → IsShaped b found
+found_shaped : (meaning : Meaning) → IsLawful meaning → (old middle : Standing) (offer : List ℕ) (b : Batch) (found : Result Found Refusal)
+    → Reads meaning old middle offer b found → IsShaped b found
 found_shaped meaning lawful old middle offer b (Err why) r = tt
-found_shaped meaning lawful old middle offer b (Ok (Repeat answer)) r = let f = r.finds refl in shaped meaning lawful f.bytes offer b (Ok (Repeat answer)) f.finds
-found_shaped meaning lawful old middle offer b (Ok (Change ready)) r = let f = r.finds refl in shaped meaning lawful f.bytes offer b (Ok (Change ready)) f.finds
+found_shaped meaning lawful old middle offer b (Ok (Repeat answer)) r =
+    let f = r.finds refl in shaped meaning lawful f.bytes offer b (Ok (Repeat answer)) f.finds
+found_shaped meaning lawful old middle offer b (Ok (Change ready)) r =
+    let f = r.finds refl in shaped meaning lawful f.bytes offer b (Ok (Change ready)) f.finds
 
-calls_untouched : (t : Bool) (meaning : Meaning) (old new : Standing) (offer : List ℕ) (b : Batch) (result : Result BatchAnswer Refusal) → is_long b ≡ t → Calls meaning old new offer b result → LeavesUntouched result old new
+calls_untouched : (t : Bool) (meaning : Meaning) (old new : Standing) (offer : List ℕ) (b : Batch) (result : Result BatchAnswer Refusal)
+    → is_long b ≡ t → Calls meaning old new offer b result → LeavesUntouched result old new
 calls_untouched true meaning old new offer b result is c =
     let l = c.long is in
     subst (λ (r : Result BatchAnswer Refusal). LeavesUntouched r old new) (sym l.1)
@@ -113,10 +125,12 @@ calls_untouched true meaning old new offer b result is c =
 calls_untouched false meaning old new offer b result is c =
     let a = c.asks is in ends_untouched a.found old a.middle new result a.reads.goes a.ends
 
-pub untouched : (meaning : Meaning) (old new : Standing) (offer : List ℕ) (b : Batch) (result : Result BatchAnswer Refusal) → Calls meaning old new offer b result → LeavesUntouched result old new
+pub untouched : (meaning : Meaning) (old new : Standing) (offer : List ℕ) (b : Batch) (result : Result BatchAnswer Refusal)
+    → Calls meaning old new offer b result → LeavesUntouched result old new
 untouched meaning old new offer b result c = calls_untouched (is_long b) meaning old new offer b result refl c
 
-calls_blamed : (t : Bool) (meaning : Meaning) (old new : Standing) (offer : List ℕ) (b : Batch) (result : Result BatchAnswer Refusal) → is_long b ≡ t → Calls meaning old new offer b result → Blames (fault_in result) old.faults new.faults
+calls_blamed : (t : Bool) (meaning : Meaning) (old new : Standing) (offer : List ℕ) (b : Batch) (result : Result BatchAnswer Refusal)
+    → is_long b ≡ t → Calls meaning old new offer b result → Blames (fault_in result) old.faults new.faults
 calls_blamed true meaning old new offer b result is c =
     let l = c.long is in
     subst (λ (r : Result BatchAnswer Refusal). Blames (fault_in r) old.faults new.faults) (sym l.1)
@@ -124,10 +138,12 @@ calls_blamed true meaning old new offer b result is c =
 calls_blamed false meaning old new offer b result is c =
     let a = c.asks is in ends_blamed a.found old a.middle new result a.reads.goes a.ends
 
-pub blames : (meaning : Meaning) (old new : Standing) (offer : List ℕ) (b : Batch) (result : Result BatchAnswer Refusal) → Calls meaning old new offer b result → Blames (fault_in result) old.faults new.faults
+pub blames : (meaning : Meaning) (old new : Standing) (offer : List ℕ) (b : Batch) (result : Result BatchAnswer Refusal)
+    → Calls meaning old new offer b result → Blames (fault_in result) old.faults new.faults
 blames meaning old new offer b result c = calls_blamed (is_long b) meaning old new offer b result refl c
 
-pub steps : (meaning : Meaning) → IsLawful meaning → (old new : Standing) (offer : List ℕ) (b : Batch) (result : Result BatchAnswer Refusal) → Calls meaning old new offer b result → is_long b ≡ false → StepsBy result old new
+pub steps : (meaning : Meaning) → IsLawful meaning → (old new : Standing) (offer : List ℕ) (b : Batch) (result : Result BatchAnswer Refusal)
+    → Calls meaning old new offer b result → is_long b ≡ false → StepsBy result old new
 steps meaning lawful old new offer b result c is =
     let a = c.asks is in
     ends_stepped b a.found old a.middle new result (found_shaped meaning lawful old a.middle offer b a.found a.reads) a.reads.goes a.ends
@@ -136,27 +152,33 @@ steps meaning lawful old new offer b result c is =
 abbrev pub IsFitIn : Batch → Result BatchAnswer Refusal → Type 0
 IsFitIn b result = IfOk result (λ answer. IsFit b answer)
 
-written_fit : (b : Batch) (written : Result BatchAnswer StepFault) (ready : Ready) (old new : Standing) → Writes ready old new written → IsFit b ready.answer → IsFitIn b (handed_on written)
+written_fit : (b : Batch) (written : Result BatchAnswer StepFault) (ready : Ready) (old new : Standing) → Writes ready old new written
+    → IsFit b ready.answer → IsFitIn b (handed_on written)
 written_fit b (Ok answer) ready old new w fit = subst (λ (a : BatchAnswer). IsFit b a) (sym w.gives) fit
 written_fit b (Err fault) ready old new w fit = tt
 
-ends_fit : (b : Batch) (found : Result Found Refusal) (old new : Standing) (result : Result BatchAnswer Refusal) → IsShaped b found → Ends found old new result → IsFitIn b result
+ends_fit : (b : Batch) (found : Result Found Refusal) (old new : Standing) (result : Result BatchAnswer Refusal) → IsShaped b found
+    → Ends found old new result → IsFitIn b result
 ends_fit b (Err why) old new result shape e = subst (λ (r : Result BatchAnswer Refusal). IsFitIn b r) (sym e.1) tt
 ends_fit b (Ok (Repeat answer)) old new result shape e =
     subst (λ (r : Result BatchAnswer Refusal). IsFitIn b r) (sym (e.gives ∙ ap handed_on e.commits.1)) shape.1
 ends_fit b (Ok (Change ready)) old new result shape e =
     subst (λ (r : Result BatchAnswer Refusal). IsFitIn b r) (sym e.gives) (written_fit b e.written ready old new e.commits shape.1)
 
-calls_fit : (t : Bool) (meaning : Meaning) → IsLawful meaning → (old new : Standing) (offer : List ℕ) (b : Batch) (result : Result BatchAnswer Refusal) → is_long b ≡ t → Calls meaning old new offer b result → IsFitIn b result
+calls_fit : (t : Bool) (meaning : Meaning) → IsLawful meaning
+    → (old new : Standing) (offer : List ℕ) (b : Batch) (result : Result BatchAnswer Refusal) → is_long b ≡ t
+    → Calls meaning old new offer b result → IsFitIn b result
 calls_fit true meaning lawful old new offer b result is c = subst (λ (r : Result BatchAnswer Refusal). IsFitIn b r) (sym (c.long is).1) tt
 calls_fit false meaning lawful old new offer b result is c =
     let a = c.asks is in
     ends_fit b a.found a.middle new result (found_shaped meaning lawful old a.middle offer b a.found a.reads) a.ends
 
-pub fits : (meaning : Meaning) → IsLawful meaning → (old new : Standing) (offer : List ℕ) (b : Batch) (result : Result BatchAnswer Refusal) → Calls meaning old new offer b result → IsFitIn b result
+pub fits : (meaning : Meaning) → IsLawful meaning → (old new : Standing) (offer : List ℕ) (b : Batch) (result : Result BatchAnswer Refusal)
+    → Calls meaning old new offer b result → IsFitIn b result
 fits meaning lawful old new offer b result c = calls_fit (is_long b) meaning lawful old new offer b result refl c
 
 -- a fit answer to one request
-pub one_output : (request : List ℕ) (result : Result BatchAnswer Refusal) → IsFitIn (One request) result → IfOk result (λ answer. length answer.outputs ≡ 1)
+pub one_output : (request : List ℕ) (result : Result BatchAnswer Refusal) → IsFitIn (One request) result
+    → IfOk result (λ answer. length answer.outputs ≡ 1)
 one_output request (Ok answer) fit = fit.counted
 one_output request (Err why) fit = tt

@@ -9,9 +9,9 @@ use Rattle.mm_seal.specs.declared.snapshot.Place.TheVariants.{Basic as InBasic}
 use Rattle.mm_seal.specs.Cell.{cell_spelling}
 use Rattle.mm_seal.specs.Snapshot.{Content, sealed_of}
 use Rattle.mm_model.specs.Chains.{summary_of}
-use Rattle.mm_model.specs.Instance.{basic}
+use Rattle.mm_model.specs.InstanceWords.{basic}
 use Rattle.mm_model.specs.History.{first_history}
-use Rattle.mm_model.specs.Places.{digest_of}
+use Rattle.mm_model.specs.PlacesWords.{digest_of}
 use Rattle.mm_model.specs.Standing.{cell_of, issued_bytes}
 
 no_batches : (id : ℕ) → summary_of id [] ≡ start_of Basic id
@@ -27,14 +27,18 @@ made_cell id summary key barrier = record { variant = Basic; «module» = id; fl
 abbrev pub made_content : ℕ → Digest → List ℕ → Content
 made_content id summary state = record { id = id; place = InBasic summary; position = 0; state = state }
 
-pub first_cell : (meaning : Meaning) (said : ℕ) (summary : Digest) (key barrier : List ℕ) → said ≡ meaning.id → summary.bytes ≡ start_of Basic said → barrier ≡ zero_bytes → cell_spelling (made_cell said summary key barrier) ≡ cell_spelling (cell_of (basic meaning key) first_history)
+pub first_cell : (meaning : Meaning) (said : ℕ) (summary : Digest) (key barrier : List ℕ) → said ≡ meaning.id
+    → summary.bytes ≡ start_of Basic said → barrier ≡ zero_bytes
+    → cell_spelling (made_cell said summary key barrier) ≡ cell_spelling (cell_of (basic meaning key) first_history)
 first_cell meaning said summary key barrier id_is start_is barrier_is =
     let d : summary ≡ digest_of (summary_of meaning.id []) = first_digest meaning.id said summary id_is start_is in
     ap (λ (id : ℕ). cell_spelling (made_cell id summary key barrier)) id_is
     ∙ ap (λ (s : Digest). cell_spelling (made_cell meaning.id s key barrier)) d
     ∙ ap (λ (v : List ℕ). cell_spelling (made_cell meaning.id (digest_of (summary_of meaning.id [])) key v)) barrier_is
 
-pub first_snapshot : (meaning : Meaning) (said : ℕ) (summary : Digest) (key state : List ℕ) → said ≡ meaning.id → summary.bytes ≡ start_of Basic said → state ≡ meaning.first → sealed_of key (made_content said summary state) ≡ issued_bytes (basic meaning key) first_history
+pub first_snapshot : (meaning : Meaning) (said : ℕ) (summary : Digest) (key state : List ℕ) → said ≡ meaning.id
+    → summary.bytes ≡ start_of Basic said → state ≡ meaning.first
+    → sealed_of key (made_content said summary state) ≡ issued_bytes (basic meaning key) first_history
 first_snapshot meaning said summary key state id_is start_is state_is =
     let d : summary ≡ digest_of (summary_of meaning.id []) = first_digest meaning.id said summary id_is start_is in
     ap (λ (id : ℕ). sealed_of key (made_content id summary state)) id_is

@@ -25,7 +25,8 @@ one_cell bytes cell other s v =
     let e : there ≡ here = reads_cell-same bytes there here v s in
     cc
 
-pub one_sight : (id : ℕ) (bytes offer : List ℕ) (cell : Cell) (taken : Result Snapshot PartsFault) (seen : Seen) → SpellsCell bytes cell → IsCellOf id cell → ReadsParts offer Basic id taken → IsSeen id bytes offer seen → seen ≡ seen_by cell taken
+pub one_sight : (id : ℕ) (bytes offer : List ℕ) (cell : Cell) (taken : Result Snapshot PartsFault) (seen : Seen) → SpellsCell bytes cell
+    → IsCellOf id cell → ReadsParts offer Basic id taken → IsSeen id bytes offer seen → seen ≡ seen_by cell taken
 one_sight id bytes offer cell taken (NoCell fault) s is r v = absurd (no_cell bytes cell fault s v)
 one_sight id bytes offer cell taken OtherCell s is r v =
     absurd (v.2 (subst (λ (c : Cell). IsCellOf id c) (sym (one_cell bytes cell v.0 s v.1)) is))

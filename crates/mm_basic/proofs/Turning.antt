@@ -18,21 +18,24 @@ use Rattle.mm_basic.proofs.Asking.{read_blamed}
 use Rattle.mm_call.proofs.Leaving.{blamed}
 use Rattle.mm_basic.proofs.Continuing.{read_on, written_on}
 
-first_on : (meaning : Meaning) (old new : Standing) (offer : List ℕ) (b : Batch) (turn : Turn) → Turns meaning None old new offer b turn → TurnContinues meaning None old new offer b turn
+first_on : (meaning : Meaning) (old new : Standing) (offer : List ℕ) (b : Batch) (turn : Turn) → Turns meaning None old new offer b turn
+    → TurnContinues meaning None old new offer b turn
 first_on meaning old new offer b turn t key y all taken asked read = record {
   found = t.found;
   reads = read_on meaning old new offer b t.found t.reads key y all taken asked read;
   gives = t.gives;
 }
 
-last_on : (meaning : Meaning) (ready : Ready) (old new : Standing) (offer : List ℕ) (b : Batch) (turn : Turn) → Turns meaning (Some ready) old new offer b turn → TurnContinues meaning (Some ready) old new offer b turn
+last_on : (meaning : Meaning) (ready : Ready) (old new : Standing) (offer : List ℕ) (b : Batch) (turn : Turn)
+    → Turns meaning (Some ready) old new offer b turn → TurnContinues meaning (Some ready) old new offer b turn
 last_on meaning ready old new offer b turn t key y stands next_is = record {
   written = t.written;
   writes = written_on t.written meaning key y b ready old new next_is t.writes stands;
   gives = t.gives;
 }
 
-pub turns_on : (meaning : Meaning) (call : Option Ready) (old new : Standing) (offer : List ℕ) (b : Batch) (turn : Turn) → Turns meaning call old new offer b turn → TurnContinues meaning call old new offer b turn
+pub turns_on : (meaning : Meaning) (call : Option Ready) (old new : Standing) (offer : List ℕ) (b : Batch) (turn : Turn)
+    → Turns meaning call old new offer b turn → TurnContinues meaning call old new offer b turn
 turns_on meaning None old new offer b turn t = first_on meaning old new offer b turn t
 turns_on meaning (Some ready) old new offer b turn t = last_on meaning ready old new offer b turn t
 
@@ -46,7 +49,8 @@ written_fault (Ok answer) = refl
 written_fault (Err fault) = refl
 
 -- the count of faults rises where a turn hands one on
-pub turn_blamed : (meaning : Meaning) (call : Option Ready) (old new : Standing) (offer : List ℕ) (b : Batch) (turn : Turn) → Turns meaning call old new offer b turn → Blames (turn_fault turn) old.faults new.faults
+pub turn_blamed : (meaning : Meaning) (call : Option Ready) (old new : Standing) (offer : List ℕ) (b : Batch) (turn : Turn)
+    → Turns meaning call old new offer b turn → Blames (turn_fault turn) old.faults new.faults
 turn_blamed meaning None old new offer b turn t =
     subst (λ (f : Option StepFault). Blames f old.faults new.faults) (sym (ap turn_fault t.gives ∙ found_fault t.found))
     (read_blamed meaning old new offer b t.found t.reads)

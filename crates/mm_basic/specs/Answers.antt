@@ -12,7 +12,7 @@ use Rattle.mm_model.specs.Chains.{link}
 use Rattle.mm_model.specs.declared.answer.BatchAnswer.{BatchAnswer}
 use Rattle.mm_model.specs.declared.refusal.Refusal.{Refusal}
 use Rattle.mm_model.specs.declared.refusal.Refusal.TheVariants as refusal
-use Rattle.mm_model.specs.Places.{digest_of}
+use Rattle.mm_model.specs.PlacesWords.{digest_of}
 use Rattle.mm_basic.specs.declared.found.Found.{Found}
 use Rattle.mm_basic.specs.declared.found.Found.TheVariants.{Repeat, Change}
 use Rattle.mm_basic.specs.Seen.{Seen, NoCell, OtherCell, NoOffer, Both}
@@ -25,11 +25,13 @@ abbrev pub linked : Content → Batch → List ℕ
 linked offered b = link (summary_in offered.place) (normal b)
 
 abbrev pub answer_of : Meaning → List ℕ → Content → Batch → Bool → BatchAnswer
-answer_of meaning key offered b again = answer_at meaning key offered (Basic (digest_of (linked offered b))) b again
+answer_of meaning key offered b again =
+    answer_at meaning key offered (Basic (digest_of (linked offered b))) b again
 
 -- the cell once the batch is committed
 abbrev pub committed_cell : Cell → Content → Batch → List ℕ
-committed_cell cell offered b = cell_spelling (record cell { summary = digest_of (linked offered b) })
+committed_cell cell offered b =
+    cell_spelling (record cell { summary = digest_of (linked offered b) })
 
 -- A repeat is answered, and a new batch is ready to be committed.
 abbrev pub found_from : Result Bool Refusal → List ℕ → (Bool → BatchAnswer) → Result Found Refusal

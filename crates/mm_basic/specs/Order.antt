@@ -15,4 +15,5 @@ summary_in (Opt anchor extension) = anchor.bytes
 
 -- the verdict by digests on an offer
 abbrev pub verdict_of : Cell → Snapshot → Batch → Verdict
-verdict_of cell offered b = basic_verdict cell.summary.bytes (summary_in offered.content.place) (normal b)
+verdict_of cell offered b =
+    basic_verdict cell.summary.bytes (summary_in offered.content.place) (normal b)

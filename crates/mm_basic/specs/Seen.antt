@@ -18,7 +18,8 @@ pub data Seen : Type 0 where
   NoOffer : PartsFault → Seen
   Both : Cell → Snapshot → Seen
 
--- The cell's bytes and the offered bytes are seen so, by a module with this id. There is one way for each.
+-- The cell's bytes and the offered bytes are seen so, by a module with this id. There is one way
+-- for each.
 abbrev pub IsSeen : ℕ → List ℕ → List ℕ → Seen → Type 0
 IsSeen id bytes offer (NoCell fault) = ReadsCell bytes (Err fault)
 IsSeen id bytes offer OtherCell = (cell : Cell) × SpellsCell bytes cell × (¬ IsCellOf id cell)

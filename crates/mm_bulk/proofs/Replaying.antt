@@ -10,9 +10,8 @@ use Rattle.mm_base.specs.declared.replay_fault.ReplayFault.TheVariants as fault
 use Rattle.mm_base.specs.Limits.{longest_line, most_events}
 use Rattle.mm_digest.specs.declared.variant.Variant.{Variant}
 use Rattle.mm_digest.specs.declared.variant.Variant.TheVariants.{Basic, Opt}
-use Rattle.mm_modules.specs.declared.any.AnyModule.{AnyModule}
-use Rattle.mm_modules.specs.declared.any.AnyModule.TheVariants.{Counter, Limiter, Quota, Ledger, Dispenser, ReceiptCounter, ReceiptLimiter, ReceiptQuota}
 use Rattle.mm_modules.specs.Modules.{name_of}
+use Rattle.mm_modules.specs.Modules.{any_is_found}
 use Rattle.mm_schedule.specs.declared.header.Header.{Header}
 use Rattle.mm_schedule.specs.Events.{Event}
 use Rattle.mm_schedule.specs.Grammar.{event_at}
@@ -27,7 +26,8 @@ use Rattle.mm_play.specs.Play.{Told, told, after_writing, and_then, ended, run}
 use Rattle.mm_run.specs.Folds.{replies_by_digests}
 use Rattle.mm_run.specs.Held.{world_of}
 use Rattle.mm_replay.specs.Schedule.{Running, ReplayStage, AtHeader, InEvents, after_event, begun, is_too_much, running_outcome, schedule_answer, schedule_closing}
-use Rattle.mm_replay.specs.Text.{text_of_replies, texts_of}
+use Rattle.mm_replay.specs.Text.{texts_of}
+use Rattle.mm_replay.specs.TextWords.{text_of_replies}
 use Rattle.mm_bulk.specs.Limits.{IsLimited, is_over}
 use Rattle.mm_bulk.specs.Replayed.{IsReplayed, replay_of}
 use Rattle.mm_bulk.specs.Sums.{SumsUp}
@@ -44,12 +44,15 @@ fits : (line : List ℕ) → length line ≤ longest_line → nat_lt longest_lin
 fits line short = grind (arith, nat_tests)
 
 -- an event line that passes no limit is answered
-goes : (number : ℕ) (r : Running) (line : List ℕ) (more : List (List ℕ)) (event : Event) → length line ≤ longest_line → event_at line ≡ Some event → is_too_much r line ≡ false
-    → lines_run number r (line ∷ more) ≡ after_writing (text_of_replies (running_outcome r event).reply) (lines_run (number + 1) (after_event r line event) more)
+goes : (number : ℕ) (r : Running) (line : List ℕ) (more : List (List ℕ)) (event : Event) → length line ≤ longest_line
+    → event_at line ≡ Some event → is_too_much r line ≡ false
+    → lines_run number r (line ∷ more) ≡ after_writing (text_of_replies (running_outcome r event).reply)
+    (lines_run (number + 1) (after_event r line event) more)
 goes number r line more event short is room = rw (fits line short, is, room) refl
 
 -- one that passes a limit ends the replay
-stops : (number : ℕ) (r : Running) (line : List ℕ) (more : List (List ℕ)) (event : Event) → length line ≤ longest_line → event_at line ≡ Some event → is_too_much r line ≡ true
+stops : (number : ℕ) (r : Running) (line : List ℕ) (more : List (List ℕ)) (event : Event) → length line ≤ longest_line
+    → event_at line ≡ Some event → is_too_much r line ≡ true
     → (lines_run number r (line ∷ more)).outcome ≡ Err fault.TooMuch
 stops number r line more event short is much = rw (fits line short, is, much) refl
 
@@ -64,8 +67,10 @@ record AreAnswered (number : ℕ) (r : Running) (lines : List (List ℕ)) (event
   issued : last.issued ≡ (left_of r events).issued
 
 -- an event line that passes no limit, and the others behind it
-answered_more : (number : ℕ) (r : Running) (line : List ℕ) (lines : List (List ℕ)) (event : Event) (events : List Event) → length line ≤ longest_line → event_at line ≡ Some event
-    → is_too_much r line ≡ false → AreAnswered (number + 1) (after_event r line event) lines events → AreAnswered number r (line ∷ lines) (event ∷ events)
+answered_more : (number : ℕ) (r : Running) (line : List ℕ) (lines : List (List ℕ)) (event : Event) (events : List Event)
+    → length line ≤ longest_line → event_at line ≡ Some event
+    → is_too_much r line ≡ false → AreAnswered (number + 1) (after_event r line event) lines events
+    → AreAnswered number r (line ∷ lines) (event ∷ events)
 answered_more number r line lines event events short is room rest = record {
   last = rest.last;
   ran = goes number r line lines event short is room ∙ ap (after_writing (text_of_replies (running_outcome r event).reply)) rest.ran;
@@ -74,11 +79,13 @@ answered_more number r line lines event events short is room rest = record {
 }
 
 -- by whether the line passes a limit
-answered_line : (number : ℕ) (r : Running) (line : List ℕ) (lines : List (List ℕ)) (event : Event) (events : List Event) (much : Bool) → is_too_much r line ≡ much
+answered_line : (number : ℕ) (r : Running) (line : List ℕ) (lines : List (List ℕ)) (event : Event) (events : List Event) (much : Bool)
+    → is_too_much r line ≡ much
     → length line ≤ longest_line → event_at line ≡ Some event → is_over r (line ∷ lines) ≡ false
     → (is_over (after_event r line event) lines ≡ false → AreAnswered (number + 1) (after_event r line event) lines events)
     → AreAnswered number r (line ∷ lines) (event ∷ events)
-answered_line number r line lines event events true is short read over on = absurd (both_ways (is_over r (line ∷ lines)) (over_at r line lines is) over)
+answered_line number r line lines event events true is short read over on =
+    absurd (both_ways (is_over r (line ∷ lines)) (over_at r line lines is) over)
 answered_line number r line lines event events false is short read over on =
     answered_more number r line lines event events short read is (on (over_behind r line lines event read is ∙ over))
 
@@ -95,11 +102,13 @@ all_answered (line ∷ lines) (event ∷ events) are read number r over =
 -- one of them is one too many
 much_line : (number : ℕ) (r : Running) (line : List ℕ) (lines : List (List ℕ)) (event : Event) (much : Bool) → is_too_much r line ≡ much
     → length line ≤ longest_line → event_at line ≡ Some event → is_over r (line ∷ lines) ≡ true
-    → (is_over (after_event r line event) lines ≡ true → (lines_run (number + 1) (after_event r line event) lines).outcome ≡ Err fault.TooMuch)
+    → (is_over (after_event r line event) lines ≡ true
+    → (lines_run (number + 1) (after_event r line event) lines).outcome ≡ Err fault.TooMuch)
     → (lines_run number r (line ∷ lines)).outcome ≡ Err fault.TooMuch
 much_line number r line lines event true is short read over on = stops number r line lines event short read is
 much_line number r line lines event false is short read over on =
-    ap (λ (t : Told ReplayStage). t.outcome) (goes number r line lines event short read is) ∙ on (over_behind r line lines event read is ∙ over)
+    ap (λ (t : Told ReplayStage). t.outcome) (goes number r line lines event short read is)
+    ∙ on (over_behind r line lines event read is ∙ over)
 
 much_answered : (lines : List (List ℕ)) → AllByRecursion IsEventLine lines → (number : ℕ) (r : Running) → is_over r lines ≡ true
     → (lines_run number r lines).outcome ≡ Err fault.TooMuch
@@ -115,19 +124,14 @@ variant_short : (variant : Variant) → length (variant_text variant) ≤ 20
 variant_short Basic = lit≤ tt
 variant_short Opt = lit≤ tt
 
-name_short : (it : AnyModule) → length (name_of it) ≤ 20
-name_short Counter = lit≤ tt
-name_short Limiter = lit≤ tt
-name_short Quota = lit≤ tt
-name_short Ledger = lit≤ tt
-name_short Dispenser = lit≤ tt
-name_short ReceiptCounter = lit≤ tt
-name_short ReceiptLimiter = lit≤ tt
-name_short ReceiptQuota = lit≤ tt
-
 header_short : (header : Header) → length (header_text header) ≤ longest_line
 header_short header =
-    omega (arith, length-append (variant_text header.variant) (32 ∷ name_of header.module), variant_short header.variant, name_short header.module)
+    omega (
+      arith,
+      length-append (variant_text header.variant) (32 ∷ name_of header.module),
+      variant_short header.variant,
+      (any_is_found header.module).short,
+    )
 
 headed : (header : Header) (lines : List (List ℕ))
     → run (schedule_answer header_at) 1 AtHeader (header_text header ∷ lines) ≡ lines_run 2 (begun header) lines
@@ -140,32 +144,38 @@ abbrev ends : Header → List (List ℕ) → ReplayStage → Told ReplayStage
 ends header lines = ended schedule_closing (1 + length (header_text header ∷ lines)) []
 
 whole : (number count : ℕ) (header : Header) → count ≤ most_events
-    → replay_of number count header ≡ and_then (lines_run 2 (begun header) (schedule_lines number count header)) (ends header (schedule_lines number count header))
+    → replay_of number count header ≡ and_then (lines_run 2 (begun header) (schedule_lines number count header))
+    (ends header (schedule_lines number count header))
 whole number count header few =
     let is = is_schedule number count header few in
     rw (is.lines, is.ends, headed header (schedule_lines number count header)) refl
 
-replayed_ok : (number count : ℕ) (header : Header) (summary : Summary) → count ≤ most_events → SumsUp header (schedule_lines number count header) summary
+replayed_ok : (number count : ℕ) (header : Header) (summary : Summary) → count ≤ most_events
+    → SumsUp header (schedule_lines number count header) summary
     → is_over (begun header) (schedule_lines number count header) ≡ false → IsReplayed (replay_of number count header) (Ok summary)
 replayed_ok number count header summary few sums over =
     let is = is_schedule number count header few in
     let lines : List (List ℕ) = schedule_lines number count header in
     let a = all_answered lines sums.events (recursion_from_All IsEventLine lines is.events) sums.read 2 (begun header) over in
     let replies = replies_by_digests (world_of header) sums.events in
-    let ran : replay_of number count header ≡ told (texts_of replies.replies ++ end_line a.last.digests.count (length a.last.issued)) (Ok (InEvents a.last)) =
+    let ran : replay_of number count header ≡ told (texts_of replies.replies ++ end_line a.last.digests.count (length a.last.issued))
+    (Ok (InEvents a.last)) =
     whole number count header few ∙ ap (λ (t : Told ReplayStage). and_then t (ends header lines)) a.ran in (
       ap (λ (it : Summary). it.replies.bytes) sums.told
           ∙ ap (λ (c : ℕ). sha256 (texts_of replies.replies ++ end_line c (length replies.issued))) (sym (ap (λ d. d.count) a.digests))
-          ∙ ap (λ (issued : List (List ℕ)). sha256 (texts_of replies.replies ++ end_line a.last.digests.count (length issued))) (sym a.issued)
+          ∙ ap (λ (issued : List (List ℕ)). sha256 (texts_of replies.replies ++ end_line a.last.digests.count (length issued)))
+          (sym a.issued)
           ∙ ap (λ (t : Told ReplayStage). sha256 t.written) (sym ran),
       InEvents a.last,
       ap (λ (t : Told ReplayStage). t.outcome) ran,
     )
 
-much_stays : (t : Told ReplayStage) (on : ReplayStage → Told ReplayStage) (outcome : Result ReplayStage ReplayFault) → t.outcome ≡ outcome → outcome ≡ Err fault.TooMuch → (and_then t on).outcome ≡ Err fault.TooMuch
+much_stays : (t : Told ReplayStage) (on : ReplayStage → Told ReplayStage) (outcome : Result ReplayStage ReplayFault) → t.outcome ≡ outcome
+    → outcome ≡ Err fault.TooMuch → (and_then t on).outcome ≡ Err fault.TooMuch
 much_stays t on outcome is much = rw (is, much) refl
 
-replayed_much : (number count : ℕ) (header : Header) → count ≤ most_events → is_over (begun header) (schedule_lines number count header) ≡ true
+replayed_much : (number count : ℕ) (header : Header) → count ≤ most_events
+    → is_over (begun header) (schedule_lines number count header) ≡ true
     → (replay_of number count header).outcome ≡ Err fault.TooMuch
 replayed_much number count header few over =
     let is = is_schedule number count header few in
@@ -176,7 +186,8 @@ replayed_much number count header few over =
 
 -- what a run of a schedule comes to is what a replay of its text does
 pub replayed : (number count : ℕ) (header : Header) (result : Result Summary BulkFault) → count ≤ most_events
-    → IfOk result (SumsUp header (schedule_lines number count header)) → IsLimited (is_over (begun header) (schedule_lines number count header)) result
+    → IfOk result (SumsUp header (schedule_lines number count header))
+    → IsLimited (is_over (begun header) (schedule_lines number count header)) result
     → IsReplayed (replay_of number count header) result
 replayed number count header (Ok summary) few sums limit = replayed_ok number count header summary few sums limit
 replayed number count header (Err TooMuch) few sums limit = replayed_much number count header few limit

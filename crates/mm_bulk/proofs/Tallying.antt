@@ -28,7 +28,8 @@ use Rattle.mm_run.specs.Held.{world_of}
 use Rattle.mm_model.specs.Moves.{Digests}
 use Rattle.mm_call.specs.Levels.{by_digests}
 use Rattle.mm_replay.specs.Schedule.{Running, after_event, begun, is_too_much, running_outcome}
-use Rattle.mm_replay.specs.Text.{text_of_replies, texts_of}
+use Rattle.mm_replay.specs.Text.{texts_of}
+use Rattle.mm_replay.specs.TextWords.{text_of_replies}
 use Rattle.mm_bulk.specs.Answered.{RunsLine}
 use Rattle.mm_bulk.specs.Counting.{counted_reply, counts_of, no_counts, total}
 use Rattle.mm_bulk.specs.Limits.{IsLimited, is_over}
@@ -55,7 +56,8 @@ unfolding line_at
 line_again line more unbroken =
     let within : length line < length (line ++ 10 ∷ more) = omega (arith, length-append line (10 ∷ more)) in
     let test : nat_lt (length line) (length (line ++ 10 ∷ more)) ≡ true = grind (arith, nat_tests) in
-    let found : position is_break (line ++ 10 ∷ more) ≡ Some (length line) = rw (first_break line more (recursion_from_All IsNoBreak line unbroken), test) refl in
+    let found : position is_break (line ++ 10 ∷ more) ≡ Some
+    (length line) = rw (first_break line more (recursion_from_All IsNoBreak line unbroken), test) refl in
     rw (found, take-append_seam line (10 ∷ more), drop-append-add line (10 ∷ more) 1) refl
 
 no_line : line_at [] ≡ None
@@ -101,7 +103,8 @@ pub record Next (lines : List (List ℕ)) (rest : List ℕ) (r : Running) (count
   pub known : is_some (event_at line) ≡ true
   pub room : total counts < most_events
   pub over : is_too_much r line ≡ true → is_over (begun r.header) lines ≡ true
-  pub on : (reply : Reply) (new : Running) → RunsLine r new line reply → Going lines behind new (counted_reply counts reply) (text ++ text_of_replies reply)
+  pub on : (reply : Reply) (new : Running) → RunsLine r new line reply
+      → Going lines behind new (counted_reply counts reply) (text ++ text_of_replies reply)
 
 total-counted : (counts : Counts) (reply : Reply) → total (counted_reply counts reply) ≡ total counts + 1
 total-counted counts (Told false before outputs) = omega arith
@@ -127,7 +130,8 @@ heads one other more others is = (ap (first_or one) is, ap rest_of is)
     rest_of (x ∷ xs) = xs
 
 -- a line that passes no limit: those behind it decide
-pub over_behind : (r : Running) (line : List ℕ) (more : List (List ℕ)) (event : Event) → event_at line ≡ Some event → is_too_much r line ≡ false
+pub over_behind : (r : Running) (line : List ℕ) (more : List (List ℕ)) (event : Event) → event_at line ≡ Some event
+    → is_too_much r line ≡ false
     → is_over (after_event r line event) more ≡ is_over r (line ∷ more)
 over_behind r line more event is room = rw (is, room) refl
 
@@ -135,11 +139,13 @@ over_behind r line more event is room = rw (is, room) refl
 pub over_at : (r : Running) (line : List ℕ) (more : List (List ℕ)) → is_too_much r line ≡ true → is_over r (line ∷ more) ≡ true
 over_at r line more much = rw much refl
 
-answered_on : (lines more : List (List ℕ)) (line : List ℕ) (r : Running) (counts : Counts) (text : List ℕ) (event : Event) (events all : List Event)
+answered_on : (lines more : List (List ℕ)) (line : List ℕ) (r : Running) (counts : Counts) (text : List ℕ) (event : Event)
+    (events all : List Event)
     → AllByRecursion IsEventLine more → map event_at more ≡ map Some events → map event_at lines ≡ map Some all
     → total counts + length (line ∷ more) ≤ most_events → is_over (after_event r line event) more ≡ is_over (begun r.header) lines
     → Rests r counts text (left_of r (event ∷ events)) (replies_by_digests (world_of r.header) all)
-    → Going lines (lines_joined more) (after_event r line event) (counted_reply counts (running_outcome r event).reply) (text ++ text_of_replies (running_outcome r event).reply)
+    → Going lines (lines_joined more) (after_event r line event) (counted_reply counts (running_outcome r event).reply)
+    (text ++ text_of_replies (running_outcome r event).reply)
 answered_on lines more line r counts text event events all are read whole few over rests =
     let said : Reply = (running_outcome r event).reply in
     let behind : Followed Digests = left_of (after_event r line event) events in
@@ -161,7 +167,8 @@ answered_on lines more line r counts text event events all are read whole few ov
       };
     }
 
-next_line : (lines left : List (List ℕ)) (rest : List ℕ) (r : Running) (counts : Counts) (text : List ℕ) (events all : List Event) (line behind : List ℕ)
+next_line : (lines left : List (List ℕ)) (rest : List ℕ) (r : Running) (counts : Counts) (text : List ℕ) (events all : List Event)
+    (line behind : List ℕ)
     → rest ≡ lines_joined left → AllByRecursion IsEventLine left → map event_at left ≡ map Some events → map event_at lines ≡ map Some all
     → total counts + length left ≤ most_events → is_over r left ≡ is_over (begun r.header) lines
     → Rests r counts text (left_of r events) (replies_by_digests (world_of r.header) all)
@@ -172,8 +179,10 @@ next_line lines (l ∷ more) rest r counts text [] all line behind bytes are rea
     absurd (no_events (event_at l) (map event_at more) read)
 next_line lines (l ∷ more) rest r counts text (event ∷ events) all line behind bytes are read whole few over rests found =
     let both = heads (event_at l) (Some event) (map event_at more) (map Some events) read in
-    let first : Some (l, lines_joined more) ≡ Some (line, behind) = sym (line_again l (lines_joined more) are.0.unbroken) ∙ ap line_at (sym bytes) ∙ found in
-    let same : (l, lines_joined more) ≡ (line, behind) = ap (λ (o : Option (List ℕ × List ℕ)). option_map_or (λ (p : List ℕ × List ℕ). p) o (line, behind)) first in
+    let first : Some (l, lines_joined more) ≡ Some (line, behind) = sym (line_again l (lines_joined more) are.0.unbroken)
+    ∙ ap line_at (sym bytes) ∙ found in
+    let same : (l, lines_joined more) ≡ (line, behind) = ap
+    (λ (o : Option (List ℕ × List ℕ)). option_map_or (λ (p : List ℕ × List ℕ). p) o (line, behind)) first in
     let made : Next lines rest r counts text l (lines_joined more) = record {
       less = omega (arith, length-append l (10 ∷ lines_joined more), ap (λ (b : List ℕ). length b) bytes);
       header = λ reply new answered. ap (λ (x : Running). x.header) (answered.1 event both.0).1;
@@ -188,10 +197,12 @@ next_line lines (l ∷ more) rest r counts text (event ∷ events) all line behi
     } in
     subst (λ (p : List ℕ × List ℕ). Next lines rest r counts text p.0 p.1) same made
 
-pub next : (lines : List (List ℕ)) (rest : List ℕ) (r : Running) (counts : Counts) (text line behind : List ℕ) → Going lines rest r counts text
+pub next : (lines : List (List ℕ)) (rest : List ℕ) (r : Running) (counts : Counts) (text line behind : List ℕ)
+    → Going lines rest r counts text
     → line_at rest ≡ Some (line, behind) → Next lines rest r counts text line behind
 next lines rest r counts text line behind going found =
-    next_line lines going.left rest r counts text going.events going.all line behind going.bytes going.are going.read going.whole going.few going.over going.rests found
+    next_line lines going.left rest r counts text going.events going.all line behind going.bytes going.are going.read going.whole going.few
+    going.over going.rests found
 
 -- ---- the end
 
@@ -224,20 +235,23 @@ over_end lines (l ∷ more) rest r bytes are over none =
     absurd (no_pair (l, lines_joined more) (sym none ∙ some))
 
 -- no line was one too many
-pub within : (lines : List (List ℕ)) (rest : List ℕ) (r : Running) (counts : Counts) (text : List ℕ) (header : Header) → Going lines rest r counts text
+pub within : (lines : List (List ℕ)) (rest : List ℕ) (r : Running) (counts : Counts) (text : List ℕ) (header : Header)
+    → Going lines rest r counts text
     → r.header ≡ header → line_at rest ≡ None → is_over (begun header) lines ≡ false
 within lines rest r counts text header going same none =
     subst (λ (h : Header). is_over (begun h) lines ≡ false) same (over_end lines going.left rest r going.bytes going.are going.over none)
 
 -- a line was one too many, or memory was wanting
-pub stops : (lines : List (List ℕ)) (rest : List ℕ) (r : Running) (counts : Counts) (text line behind : List ℕ) (header : Header) (fault : BulkFault)
+pub stops : (lines : List (List ℕ)) (rest : List ℕ) (r : Running) (counts : Counts) (text line behind : List ℕ) (header : Header)
+    (fault : BulkFault)
     → Next lines rest r counts text line behind → r.header ≡ header → (fault ≡ TooMuch → is_too_much r line ≡ true)
     → IsLimited (is_over (begun header) lines) (Err fault)
 stops lines rest r counts text line behind header TooMuch step same limit =
     subst (λ (h : Header). is_over (begun h) lines ≡ true) same (step.over (limit refl))
 stops lines rest r counts text line behind header Memory step same limit = tt
 
-pub ended : (lines : List (List ℕ)) (rest : List ℕ) (r : Running) (counts : Counts) (text : List ℕ) → Going lines rest r counts text → line_at rest ≡ None
+pub ended : (lines : List (List ℕ)) (rest : List ℕ) (r : Running) (counts : Counts) (text : List ℕ) → Going lines rest r counts text
+    → line_at rest ≡ None
     → SumsUp r.header lines (record {
       counts = counts;
       committed = r.digests.count;
@@ -257,7 +271,8 @@ events_read : (lines : List (List ℕ)) (are : AllByRecursion IsEventLine lines)
 unfolding events_of
 events_read [] are = refl
 events_read (line ∷ lines) are =
-    rw (spelled_is_read line are.0.event are.0.spelled) (ap (λ (more : List (Option Event)). Some are.0.event ∷ more) (events_read lines are.1))
+    rw (spelled_is_read line are.0.event are.0.spelled)
+    (ap (λ (more : List (Option Event)). Some are.0.event ∷ more) (events_read lines are.1))
 
 pub begins : (number count : ℕ) (header : Header) → count ≤ most_events
     → Going (schedule_lines number count header) (lines_joined (schedule_lines number count header)) (begun header) no_counts []
@@ -281,10 +296,12 @@ begins number count header few =
 
 pub behind_first : (number count : ℕ) (header : Header)
     → line_at (schedule_text number count header) ≡ Some (header_text header, lines_joined (schedule_lines number count header))
-behind_first number count header = line_again (header_text header) (lines_joined (schedule_lines number count header)) (header-unbroken header)
+behind_first number count header =
+    line_again (header_text header) (lines_joined (schedule_lines number count header)) (header-unbroken header)
 
 -- a summary by its parts
-pub told_at : (header : Header) (lines : List (List ℕ)) (r : Running) (counts : Counts) (committed issued : ℕ) (digest : Digest) (text : List ℕ)
+pub told_at : (header : Header) (lines : List (List ℕ)) (r : Running) (counts : Counts) (committed issued : ℕ) (digest : Digest)
+    (text : List ℕ)
     → r.header ≡ header → committed ≡ r.digests.count → issued ≡ length r.issued
     → digest.bytes ≡ sha256 (text ++ end_line r.digests.count (length r.issued))
     → SumsUp r.header lines (record {
@@ -302,7 +319,8 @@ told_at header lines r counts committed issued digest text same one two three ma
       issued = length r.issued;
       replies = record { bytes = sha256 (text ++ end_line r.digests.count (length r.issued)) };
     } in
-    let equal : summary ≡ other = λ i. record { counts = counts; committed = one i; issued = two i; replies = record { bytes = three i } } in
+    let equal : summary ≡ other = λ i. record { counts = counts; committed = one i; issued = two i; replies = record { bytes = three i } }
+    in
     subst (λ (m : Header). SumsUp m lines summary) same (subst (λ (it : Summary). SumsUp r.header lines it) (sym equal) made)
 
 -- the beginning, by what stands there
@@ -312,7 +330,9 @@ pub starts : (number count : ℕ) (header : Header) (rest : List ℕ) (r : Runni
 starts number count header rest r counts text few one two three four = rw (one, two, three, four) (begins number count header few)
 
 -- a line more, by what stands behind it
-pub goes_on : (lines : List (List ℕ)) (rest : List ℕ) (r new : Running) (counts more : Counts) (text written line behind : List ℕ) (reply : Reply)
-    → Next lines rest r counts text line behind → RunsLine r new line reply → more ≡ counted_reply counts reply → written ≡ text ++ text_of_replies reply
+pub goes_on : (lines : List (List ℕ)) (rest : List ℕ) (r new : Running) (counts more : Counts) (text written line behind : List ℕ)
+    (reply : Reply)
+    → Next lines rest r counts text line behind → RunsLine r new line reply → more ≡ counted_reply counts reply
+    → written ≡ text ++ text_of_replies reply
     → Going lines behind new more written
 goes_on lines rest r new counts more text written line behind reply step answered one two = rw (one, two) (step.on reply new answered)

@@ -9,4 +9,5 @@ use Rattle.mm_replay.specs.Schedule.{Running, after_event, is_too_much, running_
 abbrev pub RunsLine : Running → Running → List ℕ → Reply → Type 0
 RunsLine old new line reply =
     (is_too_much old line ≡ false)
-    × ((event : Event) → event_at line ≡ Some event → (reply ≡ (running_outcome old event).reply) × (new ≡ after_event old line event))
+    × ((event : Event) → event_at line ≡ Some event → (reply ≡ (running_outcome old event).reply)
+    × (new ≡ after_event old line event))

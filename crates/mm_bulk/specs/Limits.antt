@@ -10,7 +10,9 @@ use Rattle.mm_bulk.specs.declared.summary.Summary.{Summary}
 -- one of these lines, answered one after another, is one too many
 abbrev pub is_over : Running → List (List ℕ) → Bool
 is_over r [] = false
-is_over r (line ∷ lines) = is_too_much r line || option_map_or (λ event. is_over (after_event r line event) lines) (event_at line) false
+is_over r (line ∷ lines) =
+    is_too_much r line || option_map_or (λ event. is_over (after_event r line event) lines)
+    (event_at line) false
 
 -- The limits are passed exactly where that is told. Want of memory says nothing of them.
 abbrev pub IsLimited : Bool → Result Summary BulkFault → Type 0

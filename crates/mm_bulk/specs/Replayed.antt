@@ -13,10 +13,14 @@ use Rattle.mm_bulk.specs.declared.summary.Summary.{Summary}
 
 -- a replay of the text of a generated schedule
 abbrev pub replay_of : ℕ → ℕ → Header → Told ReplayStage
-replay_of number count header = run_of (schedule_answer header_at) schedule_closing AtHeader (schedule_text number count header)
+replay_of number count header =
+    run_of (schedule_answer header_at) schedule_closing AtHeader (schedule_text number count header)
 
--- The replay comes to its end, and the digest is that of all bytes that it writes; or it is too much too.
+-- The replay comes to its end, and the digest is that of all bytes that it writes; or it is too
+-- much too.
 abbrev pub IsReplayed : Told ReplayStage → Result Summary BulkFault → Type 0
-IsReplayed replay (Ok summary) = (summary.replies.bytes ≡ sha256 replay.written) × (next : ReplayStage) × (replay.outcome ≡ Ok next)
+IsReplayed replay (Ok summary) =
+    (summary.replies.bytes ≡ sha256 replay.written) × (next : ReplayStage)
+    × (replay.outcome ≡ Ok next)
 IsReplayed replay (Err TooMuch) = replay.outcome ≡ Err fault.TooMuch
 IsReplayed replay (Err Memory) = Unit {0}

@@ -10,10 +10,13 @@ abbrev pub events_text : ℕ → List ℕ
 events_text events = codes "events " ++ decimal events
 
 abbrev pub told_counts : Counts → List ℕ
-told_counts counts = codes "ok " ++ decimal counts.ok ++ codes " again " ++ decimal counts.again ++ codes " no " ++ decimal counts.no
+told_counts counts =
+    codes "ok " ++ decimal counts.ok ++ codes " again " ++ decimal counts.again ++ codes " no "
+    ++ decimal counts.no
 
 abbrev pub other_counts : Counts → List ℕ
-other_counts counts = codes "kept " ++ decimal counts.kept ++ codes " lost " ++ decimal counts.lost ++ codes " other "
+other_counts counts =
+    codes "kept " ++ decimal counts.kept ++ codes " lost " ++ decimal counts.lost ++ codes " other "
     ++ decimal counts.other
 
 abbrev pub end_text : Summary → List ℕ
@@ -25,4 +28,5 @@ replies_text digest = codes "replies " ++ encode_lower digest
 -- the five lines
 abbrev pub bulk_text : ℕ → Summary → List ℕ
 bulk_text events it =
-    lines_joined (events_text events ∷ told_counts it.counts ∷ other_counts it.counts ∷ end_text it ∷ replies_text it.replies.bytes ∷ [])
+    lines_joined (events_text events ∷ told_counts it.counts ∷ other_counts it.counts ∷ end_text it
+    ∷ replies_text it.replies.bytes ∷ [])

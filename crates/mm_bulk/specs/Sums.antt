@@ -18,7 +18,10 @@ bulk_summary run = record {
   counts = counts_of run.replies;
   committed = run.state.count;
   issued = length run.issued;
-  replies = record { bytes = sha256 (texts_of run.replies ++ end_line run.state.count (length run.issued)) };
+  replies =
+      record {
+        bytes = sha256 (texts_of run.replies ++ end_line run.state.count (length run.issued));
+      };
 }
 
 -- The lines are events, and the summary is that of the replies that a replay gives to them.

@@ -29,21 +29,30 @@ steps_by true variant old new result long short =
     let l = long refl in (l.gives, ap (λ (s : Standing). s.steps) l.same, ap (λ (s : Standing). s.writes) l.same)
 steps_by false variant old new result long short = short refl
 
-pub basic_counts : (meaning : Meaning) (old new : Standing) (offer request : List ℕ) (result : Result Answer Refusal) → BasicCalls meaning old new offer (One request) (whole_in result)
-    → (is_long (One request) ≡ false → BasicSteps (whole_in result) old new) → Blames (fault_in (whole_in result)) old.faults new.faults → CountsCall Basic (One request) old new (whole_in result)
+pub basic_counts : (meaning : Meaning) (old new : Standing) (offer request : List ℕ) (result : Result Answer Refusal)
+    → BasicCalls meaning old new offer (One request) (whole_in result)
+    → (is_long (One request) ≡ false → BasicSteps (whole_in result) old new) → Blames (fault_in (whole_in result)) old.faults new.faults
+    → CountsCall Basic (One request) old new (whole_in result)
 basic_counts meaning old new offer request result calls steps blames = record {
-  steps = steps_by (is_long (One request)) Basic old new (whole_in result) (λ e. record { same = (calls.long e).0; gives = (calls.long e).1 }) steps;
+  steps =
+      steps_by (is_long (One request)) Basic old new (whole_in result) (λ e. record { same = (calls.long e).0; gives = (calls.long e).1 })
+      steps;
   faults = blames;
 }
 
-pub opt_counts : (meaning : Meaning) (old new : Standing) (offer request : List ℕ) (result : Result Answer Refusal) → OptCalls meaning old new offer (One request) (whole_in result)
-    → (is_long (One request) ≡ false → OptSteps (whole_in result) old new) → Blames (fault_in (whole_in result)) old.faults new.faults → CountsCall Opt (One request) old new (whole_in result)
+pub opt_counts : (meaning : Meaning) (old new : Standing) (offer request : List ℕ) (result : Result Answer Refusal)
+    → OptCalls meaning old new offer (One request) (whole_in result)
+    → (is_long (One request) ≡ false → OptSteps (whole_in result) old new) → Blames (fault_in (whole_in result)) old.faults new.faults
+    → CountsCall Opt (One request) old new (whole_in result)
 opt_counts meaning old new offer request result calls steps blames = record {
-  steps = steps_by (is_long (One request)) Opt old new (whole_in result) (λ e. record { same = (calls.long e).0; gives = (calls.long e).1 }) steps;
+  steps =
+      steps_by (is_long (One request)) Opt old new (whole_in result) (λ e. record { same = (calls.long e).0; gives = (calls.long e).1 })
+      steps;
   faults = blames;
 }
 
-pub counted_again : (variant : Variant) (b : Batch) (old middle new : Standing) (first : Refusal) (fault : StepFault) (result : Result BatchAnswer Refusal) → first ≡ Device fault
+pub counted_again : (variant : Variant) (b : Batch) (old middle new : Standing) (first : Refusal) (fault : StepFault)
+    (result : Result BatchAnswer Refusal) → first ≡ Device fault
     → CountsCall variant b old middle (Err first) → CountsCall variant b middle new result → CountsAgain variant b old new result
 counted_again variant b old middle new first fault result is c d =
     again middle fault (subst (λ (why : Refusal). CountsCall variant b old middle (Err why)) is c) d
@@ -78,12 +87,14 @@ answered_ended : (again : Bool) (old new : Standing) → StepsAnswered again (en
 answered_ended true old new s = s
 answered_ended false old new s = s
 
-steps_ended : (t : Bool) (old new : Standing) (result : Result BatchAnswer Refusal) → StepsFor t Opt result (ended old) new → StepsFor t Opt result old new
+steps_ended : (t : Bool) (old new : Standing) (result : Result BatchAnswer Refusal) → StepsFor t Opt result (ended old) new
+    → StepsFor t Opt result old new
 steps_ended true old new result s = s
 steps_ended false old new (Ok answer) s = answered_ended answer.again old new s
 steps_ended false old new (Err why) s = refused_ended why old new s
 
-pub counts_ended : (request : List ℕ) (old middle new : Standing) (result : Result Answer Refusal) → middle ≡ ended old → CountsCall Opt (One request) middle new (whole_in result) → CountsCall Opt (One request) old new (whole_in result)
+pub counts_ended : (request : List ℕ) (old middle new : Standing) (result : Result Answer Refusal) → middle ≡ ended old
+    → CountsCall Opt (One request) middle new (whole_in result) → CountsCall Opt (One request) old new (whole_in result)
 counts_ended request old middle new result e c =
     let d = subst (λ (x : Standing). CountsCall Opt (One request) x new (whole_in result)) e c in
     record { steps = steps_ended (is_long (One request)) old new (whole_in result) d.steps; faults = d.faults }

@@ -11,7 +11,8 @@ use Rattle.mm_module.specs.Meaning.{Meaning}
 use Rattle.mm_module.specs.Batch.{Batch}
 use Rattle.mm_seal.specs.Snapshot.{Content}
 use Rattle.mm_model.specs.Chains.{trail}
-use Rattle.mm_model.specs.Instance.{Instance, opt}
+use Rattle.mm_model.specs.Instance.{Instance}
+use Rattle.mm_model.specs.InstanceWords.{opt}
 use Rattle.mm_model.specs.History.{History, Move, Foreign, Close, register_value_of}
 use Rattle.mm_model.specs.Life.{life_of, is_lost}
 use Rattle.mm_model.specs.Messages.{Within, IsClear}
@@ -21,7 +22,8 @@ use Rattle.mm_model.specs.Standing.{StandsFor}
 use Rattle.mm_model.specs.Steps.{Reads, Writes, checkpoint_steps}
 use Rattle.mm_call.specs.Asked.{counted_part, counted_moves, moves_messages, foreign_in, IsWithin}
 use Rattle.mm_call.specs.Called.{seen_at}
-use Rattle.mm_call.specs.Checkpoints.{closing_of, closed_by, checkpointed, IsClosedWithin}
+use Rattle.mm_call.specs.Checkpoints.{closing_of, checkpointed, IsClosedWithin}
+use Rattle.mm_call.specs.CheckpointsWords.{closed_by}
 use Rattle.mm_call.specs.Courses.{End, Done, Fails, Fate, Walked, after_step, walk, closes}
 use Rattle.mm_call.specs.Levels.{by_lists, by_digests, all_made}
 use Rattle.mm_call.specs.Premises.{AreShown}
@@ -53,7 +55,8 @@ pub data Shaped (moves : List Move) : Type 0 where
   closing : Closed moves → Shaped moves
 
 shape_reads : (v : List (List ℕ)) (e : End) (rest : Walked) → Shaped rest.moves → Shaped (after_step Reads v e rest).moves
-shape_reads v Done rest (quiet values is) = quiet (v ++ values) (ap (λ (ms : List Move). map Foreign v ++ ms) is ∙ sym (map-append Foreign v values))
+shape_reads v Done rest (quiet values is) =
+    quiet (v ++ values) (ap (λ (ms : List Move). map Foreign v ++ ms) is ∙ sym (map-append Foreign v values))
 shape_reads v Done rest (closing m) = closing (record {
   values = v ++ m.values;
   later = m.later;
@@ -71,7 +74,8 @@ shape_close u (Fails fault false) = quiet u refl
 pub check_shape : (fates : ℕ → Fate) (flag lost : Bool) → Shaped (walk fates 1 (checkpoint_steps Opt flag lost)).moves
 check_shape fates false lost = quiet (fates 1).brings (read_moves (fates 1).brings (fates 1).ends)
 check_shape fates true true =
-    shape_reads (fates 1).brings (fates 1).ends (walk fates 2 (Reads ∷ [])) (quiet (fates 2).brings (read_moves (fates 2).brings (fates 2).ends))
+    shape_reads (fates 1).brings (fates 1).ends (walk fates 2 (Reads ∷ []))
+    (quiet (fates 2).brings (read_moves (fates 2).brings (fates 2).ends))
 check_shape fates true false =
     shape_reads (fates 1).brings (fates 1).ends (walk fates 2 (Reads ∷ Writes Close ∷ []))
     (shape_reads (fates 2).brings (fates 2).ends (walk fates 3 (Writes Close ∷ [])) (shape_close (fates 3).brings (fates 3).ends))
@@ -87,7 +91,8 @@ uncommitted moves (quiet values is) = ap committed_in is ∙ committed-foreign v
 uncommitted moves (closing m) = ap committed_in m.are ∙ foreign_first m.values (Close ∷ map Foreign m.later) ∙ committed-foreign m.later
 
 -- what a refused checkpoint says
-says_closing : (broken : Option StepFault) (closed flag lost : Bool) (why : CheckpointRefusal) (after : History) → Err why ≡ closing_told (closed_by broken closed (closing_of Opt flag lost))
+says_closing : (broken : Option StepFault) (closed flag lost : Bool) (why : CheckpointRefusal) (after : History)
+    → Err why ≡ closing_told (closed_by broken closed (closing_of Opt flag lost))
     → (broken ≡ None → flag ≡ true → lost ≡ true → is_lost (life_of Opt after) ≡ true) → SaysClosing why after
 says_closing (Some fault) closed flag lost why after e there =
     let is : why ≡ refusal.Device fault = cc in
@@ -108,13 +113,15 @@ module _ (meaning : Meaning) (key barrier : List ℕ) (all others : List (List �
     pub names : (content : Content) → Names (opt meaning key barrier) y content → Names (opt meaning key barrier) after content
     pub says : SaysClosing why after
 
-  shown_shaped : (moves : List Move) (x : Shaped moves) (d : Digests) (items : List Item) → shown (opt meaning key barrier) d moves items ≡ items ++ map foreign_item (brought moves x)
+  shown_shaped : (moves : List Move) (x : Shaped moves) (d : Digests) (items : List Item)
+      → shown (opt meaning key barrier) d moves items ≡ items ++ map foreign_item (brought moves x)
   shown_shaped moves (quiet values is) d items =
       ap (λ (ms : List Move). shown (opt meaning key barrier) d ms items) is ∙ shown_values meaning key barrier values d items
   shown_shaped moves (closing m) d items = shown_closing meaning key barrier moves m d items
 
   -- the checkpoint leaves the items in front, whatever it says
-  pub refused_goes_on : (old new : Standing) (result : Result Said CheckpointRefusal) → ChecksOn old new result → GoesOn meaning key barrier all others asked old new
+  pub refused_goes_on : (old new : Standing) (result : Result Said CheckpointRefusal) → ChecksOn old new result
+      → GoesOn meaning key barrier all others asked old new
   refused_goes_on old new result k d s f items known =
       let i : Instance = opt meaning key barrier in
       let g = k.goes Opt meaning key barrier d s in
@@ -125,17 +132,22 @@ module _ (meaning : Meaning) (key barrier : List ℕ) (all others : List (List �
         g.items ∙ ap (option_map (shown i d moves)) known ∙ ap (λ (xs : List Item). Some xs) (shown_shaped moves x d items),
       )
 
-  quiet_asked : (y : History) (more : List Item) (moves : List Move) (values : List (List ℕ)) → moves ≡ map Foreign values → map foreign_item values ≡ more
-      → IsClear all → IsWithin all others asked (opt meaning key barrier) y → AreShown all others (opt meaning key barrier) y more → y.is_open ≡ true → IsClosedWithin all others asked (opt meaning key barrier) y moves
+  quiet_asked : (y : History) (more : List Item) (moves : List Move) (values : List (List ℕ)) → moves ≡ map Foreign values
+      → map foreign_item values ≡ more
+      → IsClear all → IsWithin all others asked (opt meaning key barrier) y → AreShown all others (opt meaning key barrier) y more
+      → y.is_open ≡ true → IsClosedWithin all others asked (opt meaning key barrier) y moves
   quiet_asked y more moves values is same clear within shown_so e =
       let i : Instance = opt meaning key barrier in
       let values_are : item_values more ≡ values = ap item_values (sym same) ∙ foreign_values values in
       let open_part : counted_part y ≡ y = counted_open y e in
       let messages : Within (moves_messages i (counted_part y) moves) all =
       subst (λ (ms : List (List ℕ)). Within ms all)
-      (ap (trail extended_message (register_value_of i (counted_part y))) values_are ∙ sym (ap (moves_messages i (counted_part y)) is ∙ foreign_trail meaning key barrier values (counted_part y))) shown_so.messages in
+      (ap (trail extended_message (register_value_of i (counted_part y))) values_are
+      ∙ sym (ap (moves_messages i (counted_part y)) is ∙ foreign_trail meaning key barrier values (counted_part y))) shown_so.messages
+      in
       let outside : AllByRecursion (Contains others) (foreign_in moves) =
-      subst (AllByRecursion (Contains others)) (ap foreign_items (sym same) ∙ foreign_of-items values ∙ sym (ap foreign_in is ∙ foreign_in-foreign values)) shown_so.values in
+      subst (AllByRecursion (Contains others)) (ap foreign_items (sym same) ∙ foreign_of-items values
+      ∙ sym (ap foreign_in is ∙ foreign_in-foreign values)) shown_so.values in
       record {
         clear = clear;
         within = within;
@@ -143,15 +155,25 @@ module _ (meaning : Meaning) (key barrier : List ℕ) (all others : List (List �
         values = subst (λ (f : Bool). AllByRecursion (Contains others) (foreign_in (counted_moves f moves))) (sym e) outside;
       }
 
-  inside_asked : (y : History) (more : List Item) (moves : List Move) (x : Shaped moves) → map foreign_item (brought moves x) ≡ more → IsClear all → IsWithin all others asked (opt meaning key barrier) y
-      → AreShown all others (opt meaning key barrier) y more → MayClose all (opt meaning key barrier) y more → y.is_open ≡ true → IsClosedWithin all others asked (opt meaning key barrier) y moves
-  inside_asked y more moves (quiet values is) same clear within shown_so may e = quiet_asked y more moves values is same clear within shown_so e
-  inside_asked y more moves (closing m) same clear within shown_so may e = closing_asked meaning key barrier all others asked y more moves m same clear within shown_so may e
+  inside_asked : (y : History) (more : List Item) (moves : List Move) (x : Shaped moves) → map foreign_item (brought moves x) ≡ more
+      → IsClear all → IsWithin all others asked (opt meaning key barrier) y
+      → AreShown all others (opt meaning key barrier) y more → MayClose all (opt meaning key barrier) y more → y.is_open ≡ true
+      → IsClosedWithin all others asked (opt meaning key barrier) y moves
+  inside_asked y more moves (quiet values is) same clear within shown_so may e =
+      quiet_asked y more moves values is same clear within shown_so e
+  inside_asked y more moves (closing m) same clear within shown_so may e =
+      closing_asked meaning key barrier all others asked y more moves m same clear within shown_so may e
 
   -- what is asked of a checkpoint, by what is asked of the items
-  check_asked : (flag : Bool) (y : History) (old new : Standing) (result : Result Said CheckpointRefusal) (items more : List Item) (k : ChecksOn old new result) → StandsFor (opt meaning key barrier) old y → old.items ≡ Some items → new.items ≡ Some (standing_items y.is_open items ++ more)
-      → IsClear all → IsWithin all others asked (opt meaning key barrier) y → (y.is_open ≡ true → AreShown all others (opt meaning key barrier) y more) → (y.is_open ≡ true → MayClose all (opt meaning key barrier) y more) → y.is_open ≡ flag
-      → IsClosedWithin all others asked (opt meaning key barrier) y (checkpointed (opt meaning key barrier) (by_digests (opt meaning key barrier)) (digests_of (opt meaning key barrier) y) k.course).moves
+  check_asked : (flag : Bool) (y : History) (old new : Standing) (result : Result Said CheckpointRefusal) (items more : List Item)
+      (k : ChecksOn old new result) → StandsFor (opt meaning key barrier) old y → old.items ≡ Some items
+      → new.items ≡ Some (standing_items y.is_open items ++ more)
+      → IsClear all → IsWithin all others asked (opt meaning key barrier) y
+      → (y.is_open ≡ true → AreShown all others (opt meaning key barrier) y more)
+      → (y.is_open ≡ true → MayClose all (opt meaning key barrier) y more) → y.is_open ≡ flag
+      → IsClosedWithin all others asked (opt meaning key barrier) y
+      (checkpointed (opt meaning key barrier) (by_digests (opt meaning key barrier)) (digests_of (opt meaning key barrier) y)
+      k.course).moves
   check_asked true y old new result items more k s known ends clear within shown_so may e =
       let i : Instance = opt meaning key barrier in
       let d : Digests = digests_of i y in
@@ -160,14 +182,16 @@ module _ (meaning : Meaning) (key barrier : List ℕ) (all others : List (List �
       let x : Shaped moves = check_shape k.course.fates d.flag lost in
       let g = k.goes Opt meaning key barrier d (stands_at i old y s) in
       let there : Some (items ++ map foreign_item (brought moves x)) ≡ Some (items ++ more) =
-      sym (g.items ∙ ap (option_map (shown i d moves)) known ∙ ap (λ (xs : List Item). Some xs) (shown_shaped moves x d items)) ∙ ends ∙ ap (λ (flag : Bool). Some (standing_items flag items ++ more)) e in
+      sym (g.items ∙ ap (option_map (shown i d moves)) known ∙ ap (λ (xs : List Item). Some xs) (shown_shaped moves x d items)) ∙ ends
+      ∙ ap (λ (flag : Bool). Some (standing_items flag items ++ more)) e in
       inside_asked y more moves x (same_rest items (map foreign_item (brought moves x)) more (cc)) clear within (shown_so e) (may e) e
   check_asked false y old new result items more k s known ends clear within shown_so may e =
       let i : Instance = opt meaning key barrier in
       let lost : Bool = (by_digests i).is_lost (seen_at i (by_digests i) (digests_of i y) k.course) in
       let values : List (List ℕ) = (k.course.fates 1).brings in
       let W : Bool → Walked = λ flag. walk k.course.fates 1 (checkpoint_steps Opt flag lost) in
-      let made_are : (W y.is_open).moves ≡ map Foreign values = ap (λ (flag : Bool). (W flag).moves) e ∙ read_moves values (k.course.fates 1).ends in
+      let made_are : (W y.is_open).moves ≡ map Foreign values = ap (λ (flag : Bool). (W flag).moves) e
+      ∙ read_moves values (k.course.fates 1).ends in
       let empty : counted_moves y.is_open (W y.is_open).moves ≡ [] = none_counted y values (W y.is_open).moves e made_are in
       record {
         clear = clear;
@@ -176,24 +200,33 @@ module _ (meaning : Meaning) (key barrier : List ℕ) (all others : List (List �
         values = subst (λ (ms : List Move). AllByRecursion (Contains others) (foreign_in ms)) (sym empty) tt;
       }
 
-  names_quiet : (y end : History) (moves : List Move) (values : List (List ℕ)) → moves ≡ map Foreign values → end ≡ all_made (by_lists (opt meaning key barrier)) y moves
+  names_quiet : (y end : History) (moves : List Move) (values : List (List ℕ)) → moves ≡ map Foreign values
+      → end ≡ all_made (by_lists (opt meaning key barrier)) y moves
       → (content : Content) → Names (opt meaning key barrier) y content → Names (opt meaning key barrier) end content
   names_quiet y end moves values is reach content n =
       let i : Instance = opt meaning key barrier in
-      let alike : bare end ≡ bare y = ap bare (reach ∙ ap (all_made (by_lists i) y) is) ∙ alike_still meaning key barrier (map Foreign values) y (committed-foreign values) (closes-foreign values) in
+      let alike : bare end ≡ bare y = ap bare (reach ∙ ap (all_made (by_lists i) y) is)
+      ∙ alike_still meaning key barrier (map Foreign values) y (committed-foreign values) (closes-foreign values) in
       names_alike meaning key barrier y end content (sym alike) n
 
-  names_shaped : (y end : History) (moves : List Move) → Shaped moves → (flag : Bool) → y.is_open ≡ flag → (flag ≡ false → (values : List (List ℕ)) × (moves ≡ map Foreign values)) → IsWithin all others asked (opt meaning key barrier) y
-      → end ≡ all_made (by_lists (opt meaning key barrier)) y moves → IsWithin all others asked (opt meaning key barrier) end → (content : Content) → Names (opt meaning key barrier) y content → Names (opt meaning key barrier) end content
-  names_shaped y end moves (quiet values is) flag e only within reach then_within content n = names_quiet y end moves values is reach content n
+  names_shaped : (y end : History) (moves : List Move) → Shaped moves → (flag : Bool) → y.is_open ≡ flag
+      → (flag ≡ false → (values : List (List ℕ)) × (moves ≡ map Foreign values)) → IsWithin all others asked (opt meaning key barrier) y
+      → end ≡ all_made (by_lists (opt meaning key barrier)) y moves → IsWithin all others asked (opt meaning key barrier) end
+      → (content : Content) → Names (opt meaning key barrier) y content → Names (opt meaning key barrier) end content
+  names_shaped y end moves (quiet values is) flag e only within reach then_within content n =
+      names_quiet y end moves values is reach content n
   names_shaped y end moves (closing m) true e only within reach then_within content n =
       let i : Instance = opt meaning key barrier in
-      names_closed meaning key barrier all others asked y end m.values m.later e within.sound (reach ∙ ap (all_made (by_lists i) y) m.are) then_within content n
+      names_closed meaning key barrier all others asked y end m.values m.later e within.sound (reach ∙ ap (all_made (by_lists i) y) m.are)
+      then_within content n
   names_shaped y end moves (closing m) false e only within reach then_within content n =
       let q = only refl in names_quiet y end moves q.0 q.1 reach content n
 
-  pub check_fell : (y : History) (old new : Standing) (why : CheckpointRefusal) (items more : List Item) (k : ChecksOn old new (Err why)) → StandsFor (opt meaning key barrier) old y → old.items ≡ Some items → new.items ≡ Some (standing_items y.is_open items ++ more)
-      → IsClear all → IsWithin all others asked (opt meaning key barrier) y → (y.is_open ≡ true → AreShown all others (opt meaning key barrier) y more) → (y.is_open ≡ true → MayClose all (opt meaning key barrier) y more) → CheckFell y new why
+  pub check_fell : (y : History) (old new : Standing) (why : CheckpointRefusal) (items more : List Item) (k : ChecksOn old new (Err why))
+      → StandsFor (opt meaning key barrier) old y → old.items ≡ Some items → new.items ≡ Some (standing_items y.is_open items ++ more)
+      → IsClear all → IsWithin all others asked (opt meaning key barrier) y
+      → (y.is_open ≡ true → AreShown all others (opt meaning key barrier) y more)
+      → (y.is_open ≡ true → MayClose all (opt meaning key barrier) y more) → CheckFell y new why
   check_fell y old new why items more k s known ends clear within shown_so may =
       let i : Instance = opt meaning key barrier in
       let is_asked = check_asked y.is_open y old new (Err why) items more k s known ends clear within shown_so may refl in
@@ -209,7 +242,8 @@ module _ (meaning : Meaning) (key barrier : List ℕ) (all others : List (List �
       let there : w.broken ≡ None → y.is_open ≡ true → lost ≡ true → is_lost (life_of Opt end) ≡ true = λ whole flag l.
       let walked : w ≡ W true true = ap (λ (b : Bool). W b lost) flag ∙ ap (W true) l in
       let moves : w.moves ≡ map Foreign v ++ (map Foreign u ++ []) =
-      ap (λ (z : Walked). z.moves) walked ∙ reads_both v (k.course.fates 1).ends u (k.course.fates 2).ends (ap (λ (z : Walked). z.broken) (sym walked) ∙ whole) in
+      ap (λ (z : Walked). z.moves) walked
+      ∙ reads_both v (k.course.fates 1).ends u (k.course.fates 2).ends (ap (λ (z : Walked). z.broken) (sym walked) ∙ whole) in
       ap (λ (ms : List Move). is_lost (life_of Opt (all_made (by_lists i) y ms))) moves ∙ l in
       record {
         after = end;

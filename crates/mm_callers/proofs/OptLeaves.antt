@@ -9,7 +9,8 @@ use Rattle.mm_platform.specs.Standing.{Item, Standing, item_values}
 use Rattle.mm_module.specs.Meaning.{Meaning}
 use Rattle.mm_module.specs.Batch.{Batch, One}
 use Rattle.mm_model.specs.Chains as chains
-use Rattle.mm_model.specs.Instance.{Instance, opt}
+use Rattle.mm_model.specs.Instance.{Instance}
+use Rattle.mm_model.specs.InstanceWords.{opt}
 use Rattle.mm_model.specs.History.{Entry, History, Move, Foreign, joined, register_value_of}
 use Rattle.mm_model.specs.Life.{has_value}
 use Rattle.mm_model.specs.Messages.{Within}
@@ -19,7 +20,8 @@ use Rattle.mm_model.specs.Steps.{Step, Reads, ask_steps}
 use Rattle.mm_model.specs.declared.answer.BatchAnswer.{BatchAnswer}
 use Rattle.mm_model.specs.declared.refusal.Refusal.{Refusal}
 use Rattle.mm_call.specs.Levels.{Level, by_lists, by_digests, all_made}
-use Rattle.mm_call.specs.Found.{Found, found_at, found_unless_wanting, is_fresh}
+use Rattle.mm_call.specs.Found.{Found, found_at}
+use Rattle.mm_call.specs.FoundWords.{found_unless_wanting, is_fresh}
 use Rattle.mm_call.specs.Courses.{Course, Walked, walk, closes}
 use Rattle.mm_call.specs.Called.{called, seen_at, ended_by, given_for}
 use Rattle.mm_call.specs.CallsOn.{CallsOn}
@@ -46,7 +48,8 @@ use Rattle.mm_callers.proofs.OptAlike.{alike_still, alike_one, digests_still, Al
 use Rattle.mm_callers.proofs.OptShown.{Way, only_reads, breaks_off, commits_it, way, pushed_open, counts_opening, none_counted, flag_kept, flag_set, shown_front, shown_back, shown_shut, register_then, stands_with}
 
 -- what one call leaves: the history after it, and what is asked of that
-pub record OptAfter (all others : List (List ℕ)) (asked : List Batch) (meaning : Meaning) (key barrier : List ℕ) (y : History) (new : Standing) (offer : List ℕ) (b : Batch) (result : Result BatchAnswer Refusal) : Type 0 where
+pub record OptAfter (all others : List (List ℕ)) (asked : List Batch) (meaning : Meaning) (key barrier : List ℕ) (y : History)
+    (new : Standing) (offer : List ℕ) (b : Batch) (result : Result BatchAnswer Refusal) : Type 0 where
   pub after : History
   pub stands : StandsFor (opt meaning key barrier) new after
   pub within : IsWithin all others asked (opt meaning key barrier) after
@@ -55,16 +58,19 @@ pub record OptAfter (all others : List (List ℕ)) (asked : List Batch) (meaning
   pub clean : (answer : BatchAnswer) → result ≡ Ok answer → has_value (joined after.closed) ≡ false
 
 -- an answer comes from a walk that wasn't broken off
-pub whole_walk : {S : Type 0} (broken : Option StepFault) (level : Level S) (seen s : S) (b : Batch) (found : Result Found Refusal) (moves : List Move) (answer : BatchAnswer) → given_for (ended_by level seen s b found moves broken) ≡ Ok answer → broken ≡ None
+pub whole_walk : {S : Type 0} (broken : Option StepFault) (level : Level S) (seen s : S) (b : Batch) (found : Result Found Refusal)
+    (moves : List Move) (answer : BatchAnswer) → given_for (ended_by level seen s b found moves broken) ≡ Ok answer → broken ≡ None
 whole_walk (Some fault) level seen s b found moves answer e = absurd (cc)
 whole_walk None level seen s b found moves answer e = refl
 
 -- what a walk commits, on the history
-pub alike_of : (meaning : Meaning) (key barrier : List ℕ) (y : History) (b : Batch) (fresh : Bool) (w : Walked) → Commits b fresh w → closes w.moves ≡ false → Alike meaning key barrier y b (all_made (by_lists (opt meaning key barrier)) y w.moves)
+pub alike_of : (meaning : Meaning) (key barrier : List ℕ) (y : History) (b : Batch) (fresh : Bool) (w : Walked) → Commits b fresh w
+    → closes w.moves ≡ false → Alike meaning key barrier y b (all_made (by_lists (opt meaning key barrier)) y w.moves)
 alike_of meaning key barrier y b fresh w (nothing none unless) e = still (alike_still meaning key barrier w.moves y none e)
 alike_of meaning key barrier y b fresh w (batch one is) e = grown_by (alike_one meaning key barrier w.moves y b one e)
 
-clean_by : (meaning : Meaning) (key barrier : List ℕ) (y sees after : History) (b : Batch) → sees.closed ≡ y.closed → has_value (joined sees.closed) ≡ false → Alike meaning key barrier y b after → has_value (joined after.closed) ≡ false
+clean_by : (meaning : Meaning) (key barrier : List ℕ) (y sees after : History) (b : Batch) → sees.closed ≡ y.closed
+    → has_value (joined sees.closed) ≡ false → Alike meaning key barrier y b after → has_value (joined after.closed) ≡ false
 clean_by meaning key barrier y sees after b same clean (still e) =
     ap (λ (c : List (List Entry)). has_value (joined c)) (ap (λ (x : History). x.closed) e ∙ sym same) ∙ clean
 clean_by meaning key barrier y sees after b same clean (grown_by e) =
@@ -79,19 +85,26 @@ module _ (meaning : Meaning) (key barrier : List ℕ) (all others : List (List �
   Left y new offer request result = OptAfter all others asked meaning key barrier y new offer (One request) result
 
   -- the call by digests that a platform made
-  abbrev pub DigestMoves : (old new : Standing) (offer request : List ℕ) (result : Result BatchAnswer Refusal) → CallsOn Opt meaning old new offer (One request) result → History → List Move
+  abbrev pub DigestMoves : (old new : Standing) (offer request : List ℕ) (result : Result BatchAnswer Refusal)
+      → CallsOn Opt meaning old new offer (One request) result → History → List Move
   DigestMoves old new offer request result c y =
-      (called (opt meaning key barrier) (by_digests (opt meaning key barrier)) (digests_of (opt meaning key barrier) y) c.course offer (One request)).moves
+      (called (opt meaning key barrier) (by_digests (opt meaning key barrier)) (digests_of (opt meaning key barrier) y) c.course offer
+      (One request)).moves
 
   -- a call under the law: what it leaves, and whether a segment is open after it
-  record Lawful (y : History) (old new : Standing) (offer request : List ℕ) (result : Result BatchAnswer Refusal) (c : CallsOn Opt meaning old new offer (One request) result) : Type 0 where
+  record Lawful (y : History) (old new : Standing) (offer request : List ℕ) (result : Result BatchAnswer Refusal)
+      (c : CallsOn Opt meaning old new offer (One request) result) : Type 0 where
     left : Left y new offer request result
-    flag : (all_made (by_digests (opt meaning key barrier)) (digests_of (opt meaning key barrier) y) (DigestMoves old new offer request result c y)).flag ≡ left.after.is_open
+    flag : (all_made (by_digests (opt meaning key barrier)) (digests_of (opt meaning key barrier) y)
+        (DigestMoves old new offer request result c y)).flag ≡ left.after.is_open
 
-  answered_clean : (y : History) (c : Course) (offer request : List ℕ) (answer : BatchAnswer) → AreAsked all others asked (opt meaning key barrier) y offer (One request)
+  answered_clean : (y : History) (c : Course) (offer request : List ℕ) (answer : BatchAnswer)
+      → AreAsked all others asked (opt meaning key barrier) y offer (One request)
       → given_for (called (opt meaning key barrier) (by_lists (opt meaning key barrier)) y c offer (One request)).ending ≡ Ok answer
-      → Alike meaning key barrier y (One request) (called (opt meaning key barrier) (by_lists (opt meaning key barrier)) y c offer (One request)).state
-      → has_value (joined (called (opt meaning key barrier) (by_lists (opt meaning key barrier)) y c offer (One request)).state.closed) ≡ false
+      → Alike meaning key barrier y (One request)
+      (called (opt meaning key barrier) (by_lists (opt meaning key barrier)) y c offer (One request)).state
+      → has_value (joined (called (opt meaning key barrier) (by_lists (opt meaning key barrier)) y c offer (One request)).state.closed) ≡
+      false
   answered_clean y c offer request answer a gives alike =
       let i : Instance = opt meaning key barrier in
       let v : List (List ℕ) = (c.fates 1).brings in
@@ -103,27 +116,37 @@ module _ (meaning : Meaning) (key barrier : List ℕ) (all others : List (List �
       let end : History = all_made (by_lists i) y walked.moves in
       let it = answered_only walked.broken i sees end (One request) found walked.moves answer gives in
       let was = unlacked (found_at i (by_lists i) sees (One request) offer) c.lacks it.it it.found_is in
-      let p = placed meaning key barrier all sees offer (One request) (seen_asking meaning key barrier all others asked y v w offer (One request) a) it.it was in
-      let foreign : bare sees ≡ bare y = alike_still meaning key barrier before y (foreign_first v (map Foreign w ++ []) ∙ foreign_first w []) (seen_closes v w) in
+      let p = placed meaning key barrier all sees offer (One request)
+      (seen_asking meaning key barrier all others asked y v w offer (One request) a) it.it was in
+      let foreign : bare sees ≡ bare y = alike_still meaning key barrier before y
+      (foreign_first v (map Foreign w ++ []) ∙ foreign_first w []) (seen_closes v w) in
       clean_by meaning key barrier y sees end (One request) (ap (λ (x : History). x.closed) foreign) (lives sees p.live).clean alike
 
-  answered_clean_as : (y : History) (old new : Standing) (offer request : List ℕ) (result : Result BatchAnswer Refusal) (c : CallsOn Opt meaning old new offer (One request) result) → AreAsked all others asked (opt meaning key barrier) y offer (One request) → (answer : BatchAnswer) → result ≡ Ok answer
+  answered_clean_as : (y : History) (old new : Standing) (offer request : List ℕ) (result : Result BatchAnswer Refusal)
+      (c : CallsOn Opt meaning old new offer (One request) result)
+      → AreAsked all others asked (opt meaning key barrier) y offer (One request) → (answer : BatchAnswer) → result ≡ Ok answer
       → result ≡ given_for (called (opt meaning key barrier) (by_lists (opt meaning key barrier)) y c.course offer (One request)).ending
-      → Alike meaning key barrier y (One request) (called (opt meaning key barrier) (by_lists (opt meaning key barrier)) y c.course offer (One request)).state
-      → has_value (joined (called (opt meaning key barrier) (by_lists (opt meaning key barrier)) y c.course offer (One request)).state.closed) ≡ false
+      → Alike meaning key barrier y (One request)
+      (called (opt meaning key barrier) (by_lists (opt meaning key barrier)) y c.course offer (One request)).state
+      → has_value (joined (called (opt meaning key barrier) (by_lists (opt meaning key barrier)) y c.course offer
+      (One request)).state.closed) ≡ false
   answered_clean_as y old new offer request result c a answer is gives alike =
       answered_clean y c.course offer request answer a (sym gives ∙ is) alike
 
-  by_law : (y : History) (old new : Standing) (offer request : List ℕ) (result : Result BatchAnswer Refusal) (c : CallsOn Opt meaning old new offer (One request) result) → StandsFor (opt meaning key barrier) old y
-      → AreAsked all others asked (opt meaning key barrier) y offer (One request) → IsAsked all others asked (opt meaning key barrier) y (DigestMoves old new offer request result c y) offer (One request)
+  by_law : (y : History) (old new : Standing) (offer request : List ℕ) (result : Result BatchAnswer Refusal)
+      (c : CallsOn Opt meaning old new offer (One request) result) → StandsFor (opt meaning key barrier) old y
+      → AreAsked all others asked (opt meaning key barrier) y offer (One request)
+      → IsAsked all others asked (opt meaning key barrier) y (DigestMoves old new offer request result c y) offer (One request)
       → Lawful y old new offer request result c
   by_law y old new offer request result c s a is_asked =
       let i : Instance = opt meaning key barrier in
       let b : Batch = One request in
       let o = called i (by_lists i) y c.course offer b in
       let k = c.continues key barrier y all others asked s is_asked in
-      let same = opt_calls_agree meaning key barrier all others asked y (digests_of i y) c.course offer b (is_agrees i y (digests_of i y) refl) is_asked in
-      let fresh : Bool = is_fresh (found_unless_wanting (found_at i (by_lists i) (seen_at i (by_lists i) y c.course) b offer) c.course.lacks) in
+      let same = opt_calls_agree meaning key barrier all others asked y (digests_of i y) c.course offer b
+      (is_agrees i y (digests_of i y) refl) is_asked in
+      let fresh : Bool = is_fresh
+      (found_unless_wanting (found_at i (by_lists i) (seen_at i (by_lists i) y c.course) b offer) c.course.lacks) in
       let steps = sym (asks y.is_open fresh b) in
       let alike : Alike meaning key barrier y b o.state =
       subst (λ (st : List Step). Alike meaning key barrier y b (all_made (by_lists i) y (walk c.course.fates 1 st).moves)) steps
@@ -134,7 +157,9 @@ module _ (meaning : Meaning) (key barrier : List ℕ) (all others : List (List �
           after = o.state;
           stands = k.stands;
           within = k.within;
-          comes = subst (λ (r : Result BatchAnswer Refusal). Comes i y offer b o.state r) (sym k.gives) (comes meaning key barrier all others asked y c.course offer b a);
+          comes =
+              subst (λ (r : Result BatchAnswer Refusal). Comes i y offer b o.state r) (sym k.gives)
+              (comes meaning key barrier all others asked y c.course offer b a);
           alike = alike;
           clean = λ answer is. answered_clean_as y old new offer request result c a answer is k.gives alike;
         };
@@ -142,14 +167,17 @@ module _ (meaning : Meaning) (key barrier : List ℕ) (all others : List (List �
       }
 
   -- the last call of several, which shows at its end what is asked
-  pub last : (y : History) (old new : Standing) (offer request : List ℕ) (result : Result BatchAnswer Refusal) (items more : List Item) → CallsOn Opt meaning old new offer (One request) result
+  pub last : (y : History) (old new : Standing) (offer request : List ℕ) (result : Result BatchAnswer Refusal) (items more : List Item)
+      → CallsOn Opt meaning old new offer (One request) result
       → StandsFor (opt meaning key barrier) old y → old.items ≡ Some items → new.items ≡ Some (standing_items y.is_open items ++ more)
-      → AreAsked all others asked (opt meaning key barrier) y offer (One request) → AreShown all others (opt meaning key barrier) y more → Left y new offer request result
+      → AreAsked all others asked (opt meaning key barrier) y offer (One request) → AreShown all others (opt meaning key barrier) y more
+      → Left y new offer request result
   last y old new offer request result items more c s known ends a shown_so =
       let i : Instance = opt meaning key barrier in
       let g = c.goes key barrier (digests_of i y) (stands_at i old y s) in
       (by_law y old new offer request result c s a
-      (asked_of meaning key barrier all others asked y (DigestMoves old new offer request result c y) offer (One request) old new items more a shown_so known g.items ends
+      (asked_of meaning key barrier all others asked y (DigestMoves old new offer request result c y) offer (One request) old new items more
+      a shown_so known g.items ends
       (opt_tied meaning key barrier y (digests_of i y) c.course offer (One request) refl))).left
 
   -- From a set flag all that the register had shown stays in front.
@@ -158,7 +186,8 @@ module _ (meaning : Meaning) (key barrier : List ℕ) (all others : List (List �
       (d : Digests) → StandsAt (opt meaning key barrier) old d → d.flag ≡ true → (items : List Item) → old.items ≡ Some items
       → (more : List Item) × (new.items ≡ Some (items ++ more))
 
-  pub call_goes_on : (old new : Standing) (offer request : List ℕ) (result : Result BatchAnswer Refusal) → CallsOn Opt meaning old new offer (One request) result → GoesOn old new
+  pub call_goes_on : (old new : Standing) (offer request : List ℕ) (result : Result BatchAnswer Refusal)
+      → CallsOn Opt meaning old new offer (One request) result → GoesOn old new
   call_goes_on old new offer request result c d s f items known =
       let i : Instance = opt meaning key barrier in
       let moves : List Move = (called i (by_digests i) d c.course offer (One request)).moves in
@@ -170,11 +199,13 @@ module _ (meaning : Meaning) (key barrier : List ℕ) (all others : List (List �
   pub record Pushed (y after : History) (more later : List Item) : Type 0 where
     pub front : List Item
     pub whole : front ++ later ≡ more
-    pub register : register_value_of (opt meaning key barrier) (counted_part after) ≡ chains.after extended_message (register_value_of (opt meaning key barrier) (counted_part y)) (item_values front)
+    pub register : register_value_of (opt meaning key barrier) (counted_part after) ≡ chains.after extended_message
+        (register_value_of (opt meaning key barrier) (counted_part y)) (item_values front)
 
   -- What a call hands on: what it leaves; and that behind the items that count then, the register shows at the very end
   -- what is asked.
-  pub record Hands (y : History) (middle new : Standing) (offer request : List ℕ) (result : Result BatchAnswer Refusal) (whole : List Item) : Type 0 where
+  pub record Hands (y : History) (middle new : Standing) (offer request : List ℕ) (result : Result BatchAnswer Refusal)
+      (whole : List Item) : Type 0 where
     pub left : Left y middle offer request result
     pub items : List Item
     pub known : middle.items ≡ Some items
@@ -184,19 +215,24 @@ module _ (meaning : Meaning) (key barrier : List ℕ) (all others : List (List �
     pub pushed : left.after.is_open ≡ true → Pushed y left.after whole more
 
   -- what is asked of a call, by what is asked of the items
-  asked_counts : (y : History) (moves : List Move) (offer request : List ℕ) → AreAsked all others asked (opt meaning key barrier) y offer (One request) → (k : Counts (opt meaning key barrier) y (digests_of (opt meaning key barrier) y) moves)
-      → AreShown all others (opt meaning key barrier) y k.more → IsAsked all others asked (opt meaning key barrier) y moves offer (One request)
+  asked_counts : (y : History) (moves : List Move) (offer request : List ℕ)
+      → AreAsked all others asked (opt meaning key barrier) y offer (One request)
+      → (k : Counts (opt meaning key barrier) y (digests_of (opt meaning key barrier) y) moves)
+      → AreShown all others (opt meaning key barrier) y k.more
+      → IsAsked all others asked (opt meaning key barrier) y moves offer (One request)
   asked_counts y moves offer request a k s =
       asked_by (opt meaning key barrier) all others asked y moves offer (One request) a
       (subst (λ (ms : List (List ℕ)). Within ms all) (sym k.tied.messages) s.messages)
       (subst (λ (vs : List (List ℕ)). AllByRecursion (Contains others) vs) (sym k.tied.values) s.values)
 
   -- a call after which a segment is open
-  hands_open : (y : History) (old middle new : Standing) (offer request : List ℕ) (result : Result BatchAnswer Refusal) (items more : List Item) (c : CallsOn Opt meaning old middle offer (One request) result) → GoesOn middle new
+  hands_open : (y : History) (old middle new : Standing) (offer request : List ℕ) (result : Result BatchAnswer Refusal)
+      (items more : List Item) (c : CallsOn Opt meaning old middle offer (One request) result) → GoesOn middle new
       → StandsFor (opt meaning key barrier) old y → old.items ≡ Some items → new.items ≡ Some (standing_items y.is_open items ++ more)
       → AreAsked all others asked (opt meaning key barrier) y offer (One request) → AreShown all others (opt meaning key barrier) y more
       → Counts (opt meaning key barrier) y (digests_of (opt meaning key barrier) y) (DigestMoves old middle offer request result c y)
-      → (all_made (by_digests (opt meaning key barrier)) (digests_of (opt meaning key barrier) y) (DigestMoves old middle offer request result c y)).flag ≡ true
+      → (all_made (by_digests (opt meaning key barrier)) (digests_of (opt meaning key barrier) y)
+      (DigestMoves old middle offer request result c y)).flag ≡ true
       → Hands y middle new offer request result more
   hands_open y old middle new offer request result items more c goes_on s known ends a shown_so k f =
       let i : Instance = opt meaning key barrier in
@@ -210,11 +246,14 @@ module _ (meaning : Meaning) (key barrier : List ℕ) (all others : List (List �
       let both : Some (xs ++ rest.0) ≡ Some (front ++ more) = sym rest.1 ∙ ends in
       let reach : xs ++ rest.0 ≡ front ++ more = cc in
       let same : k.more ++ rest.0 ≡ more =
-      same_rest front (k.more ++ rest.0) more (sym (append_assoc front k.more rest.0) ∙ ap (λ (v : List Item). v ++ rest.0) (sym (k.are items)) ∙ reach) in
+      same_rest front (k.more ++ rest.0) more (sym (append_assoc front k.more rest.0)
+      ∙ ap (λ (v : List Item). v ++ rest.0) (sym (k.are items)) ∙ reach) in
       let whole : AreShown all others i y (k.more ++ rest.0) = subst (λ (v : List Item). AreShown all others i y v) (sym same) shown_so in
-      let law = by_law y old middle offer request result c s a (asked_counts y moves offer request a k (shown_front all others i y k.more rest.0 whole)) in
+      let law = by_law y old middle offer request result c s a
+      (asked_counts y moves offer request a k (shown_front all others i y k.more rest.0 whole)) in
       let is_open : law.left.after.is_open ≡ true = sym law.flag ∙ f in
-      let register = register_then meaning key barrier y law.left.after old middle items k.more s known law.left.stands (known_then ∙ ap (λ (v : List Item). Some v) (k.are items)) is_open in
+      let register = register_then meaning key barrier y law.left.after old middle items k.more s known law.left.stands
+      (known_then ∙ ap (λ (v : List Item). Some v) (k.are items)) is_open in
       record {
         left = law.left;
         items = xs;
@@ -226,7 +265,8 @@ module _ (meaning : Meaning) (key barrier : List ℕ) (all others : List (List �
       }
 
   -- a call before which no segment was open, and none is after it
-  hands_shut : (y : History) (old middle new : Standing) (offer request : List ℕ) (result : Result BatchAnswer Refusal) (items more : List Item) (c : CallsOn Opt meaning old middle offer (One request) result)
+  hands_shut : (y : History) (old middle new : Standing) (offer request : List ℕ) (result : Result BatchAnswer Refusal)
+      (items more : List Item) (c : CallsOn Opt meaning old middle offer (One request) result)
       → StandsFor (opt meaning key barrier) old y → old.items ≡ Some items → new.items ≡ Some (standing_items y.is_open items ++ more)
       → AreShown all others (opt meaning key barrier) y more → y.is_open ≡ false
       → (left : Left y middle offer request result) → left.after.is_open ≡ false → Hands y middle new offer request result more
@@ -241,14 +281,18 @@ module _ (meaning : Meaning) (key barrier : List ℕ) (all others : List (List �
         items = xs;
         known = g.items ∙ ap (option_map (shown i d moves)) known;
         more = more;
-        ends = ends ∙ ap (λ (flag : Bool). Some (standing_items flag items ++ more)) e ∙ ap (λ (flag : Bool). Some (standing_items flag xs ++ more)) (sym f);
+        ends =
+            ends ∙ ap (λ (flag : Bool). Some (standing_items flag items ++ more)) e
+            ∙ ap (λ (flag : Bool). Some (standing_items flag xs ++ more)) (sym f);
         shown_are = shown_shut all others i y left.after more e f shown_so;
         pushed = λ is. let clash : true ≡ false = sym is ∙ f in absurd (cc);
       }
 
   -- with no segment open: the reading steps alone
-  pub left_reading : (y : History) (old middle : Standing) (offer request : List ℕ) (result : Result BatchAnswer Refusal) (c : CallsOn Opt meaning old middle offer (One request) result) (values : List (List ℕ))
-      → StandsFor (opt meaning key barrier) old y → AreAsked all others asked (opt meaning key barrier) y offer (One request) → y.is_open ≡ false
+  pub left_reading : (y : History) (old middle : Standing) (offer request : List ℕ) (result : Result BatchAnswer Refusal)
+      (c : CallsOn Opt meaning old middle offer (One request) result) (values : List (List ℕ))
+      → StandsFor (opt meaning key barrier) old y → AreAsked all others asked (opt meaning key barrier) y offer (One request)
+      → y.is_open ≡ false
       → DigestMoves old middle offer request result c y ≡ map Foreign values
       → (left : Left y middle offer request result) × (left.after.is_open ≡ false)
   left_reading y old middle offer request result c values s a e is =
@@ -260,13 +304,18 @@ module _ (meaning : Meaning) (key barrier : List ℕ) (all others : List (List �
       (subst (λ (ms : List Move). Within (moves_messages i (counted_part y) ms) all) (sym empty) tt)
       (subst (λ (ms : List Move). AllByRecursion (Contains others) (foreign_in ms)) (sym empty) tt)) in
       let same : (all_made (by_digests i) d moves).flag ≡ d.flag =
-      ap (λ (x : Digests). x.flag) (digests_still meaning key barrier moves d (ap committed_in is ∙ committed-foreign values) (ap closes is ∙ closes-foreign values)) in
+      ap (λ (x : Digests). x.flag)
+      (digests_still meaning key barrier moves d (ap committed_in is ∙ committed-foreign values) (ap closes is ∙ closes-foreign values))
+      in
       (law.left, sym law.flag ∙ same ∙ e)
 
   -- with no segment open: broken off before the commit. The history is as before, but for the register's items.
-  left_broken : (y : History) (old middle : Standing) (offer request : List ℕ) (result : Result BatchAnswer Refusal) (items : List Item) (c : CallsOn Opt meaning old middle offer (One request) result)
-      → StandsFor (opt meaning key barrier) old y → old.items ≡ Some items → AreAsked all others asked (opt meaning key barrier) y offer (One request) → y.is_open ≡ false
-      → committed_in (DigestMoves old middle offer request result c y) ≡ [] → closes (DigestMoves old middle offer request result c y) ≡ false
+  left_broken : (y : History) (old middle : Standing) (offer request : List ℕ) (result : Result BatchAnswer Refusal) (items : List Item)
+      (c : CallsOn Opt meaning old middle offer (One request) result)
+      → StandsFor (opt meaning key barrier) old y → old.items ≡ Some items
+      → AreAsked all others asked (opt meaning key barrier) y offer (One request) → y.is_open ≡ false
+      → committed_in (DigestMoves old middle offer request result c y) ≡ []
+      → closes (DigestMoves old middle offer request result c y) ≡ false
       → ((answer : BatchAnswer) → result ≡ Ok answer → ⊥)
       → (left : Left y middle offer request result) × (left.after.is_open ≡ false)
   left_broken y old middle offer request result items c s known a e none quiet unless =
@@ -278,7 +327,9 @@ module _ (meaning : Meaning) (key barrier : List ℕ) (all others : List (List �
       let after : History = taking (bare y) (item_values xs) in (
         record {
           after = after;
-          stands = stands_with meaning key barrier y (all_made (by_digests i) d moves) middle xs g.stands (digests_still meaning key barrier moves d none quiet) (g.items ∙ ap (option_map (shown i d moves)) known);
+          stands =
+              stands_with meaning key barrier y (all_made (by_digests i) d moves) middle xs g.stands
+              (digests_still meaning key barrier moves d none quiet) (g.items ∙ ap (option_map (shown i d moves)) known);
           within = within_items meaning key barrier all others asked y after.items e a.within;
           comes = kept refl (λ answer gives. absurd (unless answer gives));
           alike = still refl;
@@ -287,7 +338,8 @@ module _ (meaning : Meaning) (key barrier : List ℕ) (all others : List (List �
         e,
       )
 
-  hands_by : (flag fresh : Bool) (y : History) (old middle new : Standing) (offer request : List ℕ) (result : Result BatchAnswer Refusal) (items more : List Item) (c : CallsOn Opt meaning old middle offer (One request) result) → GoesOn middle new
+  hands_by : (flag fresh : Bool) (y : History) (old middle new : Standing) (offer request : List ℕ) (result : Result BatchAnswer Refusal)
+      (items more : List Item) (c : CallsOn Opt meaning old middle offer (One request) result) → GoesOn middle new
       → StandsFor (opt meaning key barrier) old y → old.items ≡ Some items → new.items ≡ Some (standing_items y.is_open items ++ more)
       → AreAsked all others asked (opt meaning key barrier) y offer (One request) → AreShown all others (opt meaning key barrier) y more
       → y.is_open ≡ flag → (w : Walked) → w ≡ walk c.course.fates 1 (Reads ∷ Reads ∷ changing flag fresh (One request))
@@ -297,7 +349,8 @@ module _ (meaning : Meaning) (key barrier : List ℕ) (all others : List (List �
       let i : Instance = opt meaning key barrier in
       let d : Digests = digests_of i y in
       let made : List Move = DigestMoves old middle offer request result c y in
-      let quiet : closes made ≡ false = ap closes (sym moves) ∙ ap (λ (v : Walked). closes v.moves) is ∙ opt_closes c.course.fates true fresh (One request) in
+      let quiet : closes made ≡ false = ap closes (sym moves) ∙ ap (λ (v : Walked). closes v.moves) is
+      ∙ opt_closes c.course.fates true fresh (One request) in
       hands_open y old middle new offer request result items more c goes_on s known ends a shown_so
       (counts_open i y d made e (opt_tied meaning key barrier y d c.course offer (One request) refl))
       (flag_kept meaning key barrier made d e quiet)
@@ -306,24 +359,28 @@ module _ (meaning : Meaning) (key barrier : List ℕ) (all others : List (List �
       let d : Digests = digests_of i y in
       let b : Batch = One request in
       let made : List Move = DigestMoves old middle offer request result c y in
-      let quiet : closes made ≡ false = ap closes (sym moves) ∙ ap (λ (v : Walked). closes v.moves) is ∙ opt_closes c.course.fates false fresh b in
+      let quiet : closes made ≡ false = ap closes (sym moves) ∙ ap (λ (v : Walked). closes v.moves) is
+      ∙ opt_closes c.course.fates false fresh b in
       elim (subst (λ (v : Walked). Way b v) (sym is) (way c.course.fates false fresh b)) [
         | only_reads values are ↦
             let l = left_reading y old middle offer request result c values s a e (sym moves ∙ are) in
             hands_shut y old middle new offer request result items more c s known ends shown_so e l.0 l.1
         | breaks_off none unless ↦
-            let l = left_broken y old middle offer request result items c s known a e (ap committed_in (sym moves) ∙ none) quiet (λ answer gives. unless (answered answer gives)) in
+            let l = left_broken y old middle offer request result items c s known a e (ap committed_in (sym moves) ∙ none) quiet
+            (λ answer gives. unless (answered answer gives)) in
             hands_shut y old middle new offer request result items more c s known ends shown_so e l.0 l.1
         | commits_it one ↦
             let one_made : committed_in made ≡ b ∷ [] = ap committed_in (sym moves) ∙ one in
             hands_open y old middle new offer request result items more c goes_on s known ends a shown_so
             (counts_opening i y d c.course.fates fresh b made e
-            (subst (λ (ms : List Move). Shape c.course.fates fresh b ms) (ap (λ (v : Walked). v.moves) (sym is) ∙ moves) (shape c.course.fates fresh b)) one_made
+            (subst (λ (ms : List Move). Shape c.course.fates fresh b ms) (ap (λ (v : Walked). v.moves) (sym is) ∙ moves)
+            (shape c.course.fates fresh b)) one_made
             (opt_tied meaning key barrier y d c.course offer b refl))
             (flag_set meaning key barrier made d b one_made quiet)
       ]
 
-  pub hands : (y : History) (old middle new : Standing) (offer request : List ℕ) (result : Result BatchAnswer Refusal) (items more : List Item) (c : CallsOn Opt meaning old middle offer (One request) result) → GoesOn middle new
+  pub hands : (y : History) (old middle new : Standing) (offer request : List ℕ) (result : Result BatchAnswer Refusal)
+      (items more : List Item) (c : CallsOn Opt meaning old middle offer (One request) result) → GoesOn middle new
       → StandsFor (opt meaning key barrier) old y → old.items ≡ Some items → new.items ≡ Some (standing_items y.is_open items ++ more)
       → AreAsked all others asked (opt meaning key barrier) y offer (One request) → AreShown all others (opt meaning key barrier) y more
       → Hands y middle new offer request result more
@@ -337,15 +394,18 @@ module _ (meaning : Meaning) (key barrier : List ℕ) (all others : List (List �
       let g = c.goes key barrier d (stands_at i old y s) in
       hands_by y.is_open (is_fresh found) y old middle new offer request result items more c goes_on s known ends a shown_so refl w
       (ap (walk c.course.fates 1) (asks y.is_open (is_fresh found) b)) refl
-      (λ answer gives. whole_walk w.broken (by_digests i) seen (all_made (by_digests i) d w.moves) b found w.moves answer (sym g.gives ∙ gives))
+      (λ answer gives. whole_walk w.broken (by_digests i) seen (all_made (by_digests i) d w.moves) b found w.moves answer
+      (sym g.gives ∙ gives))
 
   -- What an idle call leaves, after which it is idle again.
   pub record LeftIdle (y : History) (new : Standing) (offer request : List ℕ) (result : Result BatchAnswer Refusal) : Type 0 where
     pub left : Left y new offer request result
     pub idle : IsIdle (opt meaning key barrier) left.after offer (One request)
 
-  pub left_idle : (y : History) (old new : Standing) (offer request : List ℕ) (result : Result BatchAnswer Refusal) → CallsOn Opt meaning old new offer (One request) result → StandsFor (opt meaning key barrier) old y
-      → AreAsked all others asked (opt meaning key barrier) y offer (One request) → IsIdle (opt meaning key barrier) y offer (One request) → LeftIdle y new offer request result
+  pub left_idle : (y : History) (old new : Standing) (offer request : List ℕ) (result : Result BatchAnswer Refusal)
+      → CallsOn Opt meaning old new offer (One request) result → StandsFor (opt meaning key barrier) old y
+      → AreAsked all others asked (opt meaning key barrier) y offer (One request) → IsIdle (opt meaning key barrier) y offer (One request)
+      → LeftIdle y new offer request result
   left_idle y old new offer request result c s a idle =
       let i : Instance = opt meaning key barrier in
       let b : Batch = One request in
@@ -359,7 +419,9 @@ module _ (meaning : Meaning) (key barrier : List ℕ) (all others : List (List �
           after = o.state;
           stands = k.stands;
           within = k.within;
-          comes = subst (λ (r : Result BatchAnswer Refusal). Comes i y offer b o.state r) (sym k.gives) (comes meaning key barrier all others asked y c.course offer b a);
+          comes =
+              subst (λ (r : Result BatchAnswer Refusal). Comes i y offer b o.state r) (sym k.gives)
+              (comes meaning key barrier all others asked y c.course offer b a);
           alike = still same;
           clean = λ answer is. answered_clean_as y old new offer request result c a answer is k.gives (still same);
         };
@@ -367,13 +429,16 @@ module _ (meaning : Meaning) (key barrier : List ℕ) (all others : List (List �
       }
 
   -- what is asked of a call goes on for the same call made again
-  pub asked_again : (y : History) (new : Standing) (offer request : List ℕ) (result : Result BatchAnswer Refusal) (left : Left y new offer request result) → AreAsked all others asked (opt meaning key barrier) y offer (One request)
+  pub asked_again : (y : History) (new : Standing) (offer request : List ℕ) (result : Result BatchAnswer Refusal)
+      (left : Left y new offer request result) → AreAsked all others asked (opt meaning key barrier) y offer (One request)
       → AreAsked all others asked (opt meaning key barrier) left.after offer (One request)
   asked_again y new offer request result left a = record {
     clear = a.clear;
     apart = a.apart;
     within = left.within;
     is_asked = a.is_asked;
-    genuine = λ content right. names_after meaning key barrier y left.after (One request) content a.within.sound left.within.sound left.alike (a.genuine content right);
+    genuine =
+        λ content right. names_after meaning key barrier y left.after (One request) content a.within.sound left.within.sound left.alike
+        (a.genuine content right);
     offered = a.offered;
   }

@@ -10,17 +10,20 @@ use Rattle.mm_platform.specs.Standing.{Item, Standing, foreign_item}
 use Rattle.mm_module.specs.Meaning.{Meaning}
 use Rattle.mm_module.specs.Batch.{Batch, One, size_of}
 use Rattle.mm_seal.specs.Snapshot.{Content}
-use Rattle.mm_model.specs.Instance.{Instance, opt}
+use Rattle.mm_model.specs.Instance.{Instance}
+use Rattle.mm_model.specs.InstanceWords.{opt}
 use Rattle.mm_model.specs.History.{History, Move, Foreign, total_of}
 use Rattle.mm_model.specs.Moves.{Digests, digests_of}
 use Rattle.mm_model.specs.Standing.{StandsFor, IsRight}
 use Rattle.mm_model.specs.Steps.{Step, ask_steps}
 use Rattle.mm_model.specs.declared.answer.BatchAnswer.{BatchAnswer}
 use Rattle.mm_model.specs.declared.refusal.Refusal.{Refusal}
-use Rattle.mm_call.specs.Answers.{answer_on, last_outputs}
+use Rattle.mm_call.specs.Answers.{answer_on}
+use Rattle.mm_call.specs.AnswersWords.{last_outputs}
 use Rattle.mm_call.specs.Checkpoints.{checkpointed}
 use Rattle.mm_call.specs.Levels.{Level, by_lists, by_digests, all_made}
-use Rattle.mm_call.specs.Found.{Found, found_at, found_unless_wanting, is_fresh}
+use Rattle.mm_call.specs.Found.{Found, found_at}
+use Rattle.mm_call.specs.FoundWords.{found_unless_wanting, is_fresh}
 use Rattle.mm_call.specs.Courses.{Fate, Walked, walk, closes}
 use Rattle.mm_call.specs.Called.{called, seen_at, ended_by, given_for}
 use Rattle.mm_call.specs.CallsOn.{CallsOn}
@@ -51,7 +54,9 @@ use Rattle.mm_callers.proofs.OptLeaves.{Left, DigestMoves, hands, left_idle, lef
 use Rattle.mm_callers.proofs.OptClosing.{may_close_front, may_close_back, shown_values, Shut, check_goes_on, shut_still, shuts}
 
 -- a call whose answer is told as a repeat made its reading steps alone
-told_again : (broken : Option StepFault) (i : Instance) (seen s : Digests) (b : Batch) (found : Result Found Refusal) (moves : List Move) (answer : BatchAnswer) → given_for (ended_by (by_digests i) seen s b found moves broken) ≡ Ok answer → answer.again ≡ true → is_fresh found ≡ false
+told_again : (broken : Option StepFault) (i : Instance) (seen s : Digests) (b : Batch) (found : Result Found Refusal) (moves : List Move)
+    (answer : BatchAnswer) → given_for (ended_by (by_digests i) seen s b found moves broken) ≡ Ok answer → answer.again ≡ true
+    → is_fresh found ≡ false
 told_again (Some fault) i seen s b found moves answer e again = absurd (cc)
 told_again None i seen s b (Err why) moves answer e again = refl
 told_again None i seen s b (Ok it) moves answer e again =
@@ -71,24 +76,33 @@ record Offers (i : Instance) (batches : List Batch) (offer : List ℕ) (b : Batc
   ends : EndsWith batches b
   position : content.position ≡ total_of ends.front
 
-offers : (i : Instance) (y after : History) (offer : List ℕ) (b : Batch) (answer : BatchAnswer) → Comes i y offer b after (Ok answer) → Offers i after.batches offer b
+offers : (i : Instance) (y after : History) (offer : List ℕ) (b : Batch) (answer : BatchAnswer) → Comes i y offer b after (Ok answer)
+    → Offers i after.batches offer b
 offers i y after offer b answer (kept same gives) =
     let g = gives answer refl in
-    record { content = g.content; right = g.right; ends = record { front = g.ends.front; is = g.ends.is ∙ sym same }; position = g.position }
+    record {
+      content = g.content;
+      right = g.right;
+      ends = record { front = g.ends.front; is = g.ends.is ∙ sym same };
+      position = g.position;
+    }
 offers i y after offer b answer (grown content right at more gives) =
     record { content = content; right = right; ends = record { front = y.batches; is = sym more }; position = at }
 
 -- no such offer stands at the end
-not_at_end : (i : Instance) (batches : List Batch) (offer : List ℕ) (b : Batch) (o : Offers i batches offer b) (content : Content) → IsRight i offer content → content.position ≡ total_of batches → ⊥
+not_at_end : (i : Instance) (batches : List Batch) (offer : List ℕ) (b : Batch) (o : Offers i batches offer b) (content : Content)
+    → IsRight i offer content → content.position ≡ total_of batches → ⊥
 not_at_end i batches offer b o content right at =
     let same : o.content ≡ content = one_content i offer o.content content o.right right in
     absurd (not_again batches o.ends.front b o.ends.is (sym at ∙ ap (λ (c : Content). c.position) (sym same) ∙ o.position))
 
 -- the outputs of an answer are those of its batches
-same_outputs : (i : Instance) (y z : History) (b : Batch) → y.batches ≡ z.batches → last_outputs i.meaning y (size_of b) ≡ last_outputs i.meaning z (size_of b)
+same_outputs : (i : Instance) (y z : History) (b : Batch) → y.batches ≡ z.batches
+    → last_outputs i.meaning y (size_of b) ≡ last_outputs i.meaning z (size_of b)
 same_outputs i y z b e = ap (λ (bs : List Batch). last_outputs i.meaning (record y { batches = bs }) (size_of b)) e
 
-outputs_at : (i : Instance) (y after : History) (offer : List ℕ) (b : Batch) (answer : BatchAnswer) → Comes i y offer b after (Ok answer) → answer.outputs ≡ last_outputs i.meaning after (size_of b)
+outputs_at : (i : Instance) (y after : History) (offer : List ℕ) (b : Batch) (answer : BatchAnswer) → Comes i y offer b after (Ok answer)
+    → answer.outputs ≡ last_outputs i.meaning after (size_of b)
 outputs_at i y after offer b answer (kept same gives) = ap (λ (a : BatchAnswer). a.outputs) (gives answer refl).answer_is
 outputs_at i y after offer b answer (grown content right at more gives) = ap (λ (a : BatchAnswer). a.outputs) (gives answer refl)
 
@@ -96,7 +110,9 @@ pub once_then : (batches middle later : List Batch) (b : Batch) → middle ≡ l
 once_then batches middle later b e o = subst (λ (bs : List Batch). IsOnce batches b bs) e o
 
 -- the second reply, by what the first call and the second one came to
-repeats_by : (i : Instance) (y one two last : History) (new : Standing) (offer : List ℕ) (b : Batch) (first second : BatchAnswer) → two.batches ≡ one.batches → StandsFor i new last → Comes i y offer b one (Ok first) → Comes i two offer b last (Ok second) → RepeatsReply i y new b first second
+repeats_by : (i : Instance) (y one two last : History) (new : Standing) (offer : List ℕ) (b : Batch) (first second : BatchAnswer)
+    → two.batches ≡ one.batches → StandsFor i new last → Comes i y offer b one (Ok first) → Comes i two offer b last (Ok second)
+    → RepeatsReply i y new b first second
 repeats_by i y one two last new offer b first second same s c (grown content right at more gives) =
     absurd (not_at_end i one.batches offer b (offers i y one offer b first c) content right (at ∙ ap total_of same))
 repeats_by i y one two last new offer b first second same s c (kept is gives) =
@@ -106,15 +122,24 @@ repeats_by i y one two last new offer b first second same s c (kept is gives) =
     record {
       again = again;
       position = ap (λ (a : BatchAnswer). a.position) g.answer_is ∙ ap total_of batches ∙ sym (answered_at i y one offer b first c).0;
-      outputs = ap (λ (a : BatchAnswer). a.outputs) g.answer_is ∙ same_outputs i last one b batches ∙ sym (outputs_at i y one offer b first c);
+      outputs =
+          ap (λ (a : BatchAnswer). a.outputs) g.answer_is ∙ same_outputs i last one b batches ∙ sym (outputs_at i y one offer b first c);
       once = record {
         batches = last.batches;
         once = once_then y.batches one.batches last.batches b (sym batches) (once_after i y one offer b first c);
-        run = record { after = last; stands = s; batches_are = refl; answer_is = g.answer_is ∙ ap (λ (f : Bool). answer_on i last b f) (sym again) };
+        run =
+            record {
+              after = last;
+              stands = s;
+              batches_are = refl;
+              answer_is = g.answer_is
+                  ∙ ap (λ (f : Bool). answer_on i last b f) (sym again);
+            };
       };
     }
 
-pub closed_same : (meaning : Meaning) (key barrier : List ℕ) (y after : History) (b : Batch) → Alike meaning key barrier y b after → after.closed ≡ y.closed
+pub closed_same : (meaning : Meaning) (key barrier : List ℕ) (y after : History) (b : Batch) → Alike meaning key barrier y b after
+    → after.closed ≡ y.closed
 closed_same meaning key barrier y after b (still e) = ap (λ (x : History). x.closed) e
 closed_same meaning key barrier y after b (grown_by e) = same_closed meaning key barrier y after b e
 
@@ -124,9 +149,11 @@ module _ (meaning : Meaning) (key barrier : List ℕ) (all others : List (List �
     pub one : Left meaning key barrier all others asked y answered offer request (Ok first)
     pub two : Shut meaning key barrier all others asked one.after closed
 
-  pub behind : (y : History) (old answered closed : Standing) (offer request : List ℕ) (first : BatchAnswer) (said : Said) (items more : List Item) → CallsOn Opt meaning old answered offer (One request) (Ok first) → ChecksOn answered closed (Ok said)
+  pub behind : (y : History) (old answered closed : Standing) (offer request : List ℕ) (first : BatchAnswer) (said : Said)
+      (items more : List Item) → CallsOn Opt meaning old answered offer (One request) (Ok first) → ChecksOn answered closed (Ok said)
       → StandsFor (opt meaning key barrier) old y → old.items ≡ Some items → closed.items ≡ Some (standing_items y.is_open items ++ more)
-      → AreAsked all others asked (opt meaning key barrier) y offer (One request) → AreShown all others (opt meaning key barrier) y more → MayClose all (opt meaning key barrier) y more
+      → AreAsked all others asked (opt meaning key barrier) y offer (One request) → AreShown all others (opt meaning key barrier) y more
+      → MayClose all (opt meaning key barrier) y more
       → Behind y answered closed offer request first
   behind y old answered closed offer request first said items more c k s known ends a shown_so may =
       let i : Instance = opt meaning key barrier in
@@ -135,25 +162,33 @@ module _ (meaning : Meaning) (key barrier : List ℕ) (all others : List (List �
       let after : History = h.left.after in
       let may_then : after.is_open ≡ true → MayClose all i after h.more = λ is.
       let p = h.pushed is in
-      may_close_back all i y after p.front h.more (closed_same meaning key barrier y after (One request) h.left.alike) p.register (subst (λ (xs : List Item). MayClose all i y xs) (sym p.whole) may) in
+      may_close_back all i y after p.front h.more (closed_same meaning key barrier y after (One request) h.left.alike) p.register
+      (subst (λ (xs : List Item). MayClose all i y xs) (sym p.whole) may) in
       record {
         one = h.left;
-        two = shuts meaning key barrier all others asked after answered closed said h.items h.more k h.left.stands h.known h.ends a.clear h.left.within (λ is. h.shown_are) may_then;
+        two =
+            shuts meaning key barrier all others asked after answered closed said h.items h.more k h.left.stands h.known h.ends a.clear
+            h.left.within (λ is. h.shown_are) may_then;
       }
 
   -- where the first call is idle
-  behind_idle : (y : History) (old answered closed : Standing) (offer request : List ℕ) (first : BatchAnswer) (said : Said) → CallsOn Opt meaning old answered offer (One request) (Ok first) → ChecksOn answered closed (Ok said)
-      → StandsFor (opt meaning key barrier) old y → AreAsked all others asked (opt meaning key barrier) y offer (One request) → IsIdle (opt meaning key barrier) y offer (One request)
+  behind_idle : (y : History) (old answered closed : Standing) (offer request : List ℕ) (first : BatchAnswer) (said : Said)
+      → CallsOn Opt meaning old answered offer (One request) (Ok first) → ChecksOn answered closed (Ok said)
+      → StandsFor (opt meaning key barrier) old y → AreAsked all others asked (opt meaning key barrier) y offer (One request)
+      → IsIdle (opt meaning key barrier) y offer (One request)
       → Behind y answered closed offer request first
   behind_idle y old answered closed offer request first said c k s a idle =
       let l = left_idle meaning key barrier all others asked y old answered offer request (Ok first) c s a idle in
       record {
         one = l.left;
-        two = shut_still meaning key barrier all others asked l.left.after answered closed said k l.left.stands a.clear l.left.within l.idle.shut;
+        two =
+            shut_still meaning key barrier all others asked l.left.after answered closed said k l.left.stands a.clear l.left.within
+            l.idle.shut;
       }
 
   -- what is asked of the second call
-  pub asked_behind : (y : History) (answered closed : Standing) (offer request : List ℕ) (first : BatchAnswer) → (x : Behind y answered closed offer request first) → AreAsked all others asked (opt meaning key barrier) y offer (One request)
+  pub asked_behind : (y : History) (answered closed : Standing) (offer request : List ℕ) (first : BatchAnswer)
+      → (x : Behind y answered closed offer request first) → AreAsked all others asked (opt meaning key barrier) y offer (One request)
       → AreAsked all others asked (opt meaning key barrier) x.two.after offer (One request)
   asked_behind y answered closed offer request first x a =
       let b = asked_again meaning key barrier all others asked y answered offer request (Ok first) x.one a in record {
@@ -166,28 +201,38 @@ module _ (meaning : Meaning) (key barrier : List ℕ) (all others : List (List �
       }
 
   -- the moves of the second call, by digests
-  abbrev pub Fresh : (closed new : Standing) (offer request : List ℕ) (result : Result BatchAnswer Refusal) → CallsOn Opt meaning closed new offer (One request) result → Digests → Bool
+  abbrev pub Fresh : (closed new : Standing) (offer request : List ℕ) (result : Result BatchAnswer Refusal)
+      → CallsOn Opt meaning closed new offer (One request) result → Digests → Bool
   Fresh closed new offer request result c d =
-      is_fresh (found_unless_wanting (found_at (opt meaning key barrier) (by_digests (opt meaning key barrier)) (seen_at (opt meaning key barrier) (by_digests (opt meaning key barrier)) d c.course) (One request) offer) c.course.lacks)
+      is_fresh (found_unless_wanting
+      (found_at (opt meaning key barrier) (by_digests (opt meaning key barrier))
+      (seen_at (opt meaning key barrier) (by_digests (opt meaning key barrier)) d c.course) (One request) offer) c.course.lacks)
 
-  pub reads_alone : (closed new : Standing) (offer request : List ℕ) (result : Result BatchAnswer Refusal) (c : CallsOn Opt meaning closed new offer (One request) result) (d : Digests) → Fresh closed new offer request result c d ≡ false
+  pub reads_alone : (closed new : Standing) (offer request : List ℕ) (result : Result BatchAnswer Refusal)
+      (c : CallsOn Opt meaning closed new offer (One request) result) (d : Digests) → Fresh closed new offer request result c d ≡ false
       → Brought (called (opt meaning key barrier) (by_digests (opt meaning key barrier)) d c.course offer (One request)).moves
   reads_alone closed new offer request result c d e =
-      subst (λ (fresh : Bool). Brought (walk c.course.fates 1 (ask_steps Opt d.flag fresh (One request))).moves) (sym e) (reading_steps_of c.course.fates d.flag (One request))
+      subst (λ (fresh : Bool). Brought (walk c.course.fates 1 (ask_steps Opt d.flag fresh (One request))).moves) (sym e)
+      (reading_steps_of c.course.fates d.flag (One request))
 
   -- from reading steps alone
-  replies_alike : (y : History) (answered closed new : Standing) (offer request : List ℕ) (first second : BatchAnswer) (x : Behind y answered closed offer request first) (c : CallsOn Opt meaning closed new offer (One request) (Ok second))
-      → AreAsked all others asked (opt meaning key barrier) y offer (One request) → Fresh closed new offer request (Ok second) c (digests_of (opt meaning key barrier) x.two.after) ≡ false
+  replies_alike : (y : History) (answered closed new : Standing) (offer request : List ℕ) (first second : BatchAnswer)
+      (x : Behind y answered closed offer request first) (c : CallsOn Opt meaning closed new offer (One request) (Ok second))
+      → AreAsked all others asked (opt meaning key barrier) y offer (One request)
+      → Fresh closed new offer request (Ok second) c (digests_of (opt meaning key barrier) x.two.after) ≡ false
       → RepeatsReply (opt meaning key barrier) y new (One request) first second
   replies_alike y answered closed new offer request first second x c a e =
       let i : Instance = opt meaning key barrier in
       let z : History = x.two.after in
       let r = reads_alone closed new offer request (Ok second) c (digests_of i z) e in
-      let l = left_reading meaning key barrier all others asked z closed new offer request (Ok second) c r.values x.two.stands (asked_behind y answered closed offer request first x a) x.two.is_shut r.are in
+      let l = left_reading meaning key barrier all others asked z closed new offer request (Ok second) c r.values x.two.stands
+      (asked_behind y answered closed offer request first x a) x.two.is_shut r.are in
       repeats_by i y x.one.after z l.0.after new offer (One request) first second x.two.batches l.0.stands x.one.comes l.0.comes
 
   -- a call that makes its reading steps alone leaves all items in front
-  pub reads_show : (closed new : Standing) (offer request : List ℕ) (result : Result BatchAnswer Refusal) (c : CallsOn Opt meaning closed new offer (One request) result) (d : Digests) → StandsAt (opt meaning key barrier) closed d → Fresh closed new offer request result c d ≡ false → (items : List Item) → closed.items ≡ Some items
+  pub reads_show : (closed new : Standing) (offer request : List ℕ) (result : Result BatchAnswer Refusal)
+      (c : CallsOn Opt meaning closed new offer (One request) result) (d : Digests) → StandsAt (opt meaning key barrier) closed d
+      → Fresh closed new offer request result c d ≡ false → (items : List Item) → closed.items ≡ Some items
       → (more : List Item) × (new.items ≡ Some (items ++ more))
   reads_show closed new offer request result c d s e items known =
       let i : Instance = opt meaning key barrier in
@@ -196,11 +241,14 @@ module _ (meaning : Meaning) (key barrier : List ℕ) (all others : List (List �
       let r = reads_alone closed new offer request result c d e in (
         map foreign_item r.values,
         g.items ∙ ap (option_map (shown i d o.moves)) known
-            ∙ ap (λ (ms : List Move). Some (shown i d ms items)) r.are ∙ ap (λ (xs : List Item). Some xs) (shown_values meaning key barrier r.values d items),
+            ∙ ap (λ (ms : List Move). Some (shown i d ms items)) r.are
+            ∙ ap (λ (xs : List Item). Some xs) (shown_values meaning key barrier r.values d items),
       )
 
   -- so does one that is told as a repeat
-  repeat_shows : (closed new : Standing) (offer request : List ℕ) (second : BatchAnswer) (c : CallsOn Opt meaning closed new offer (One request) (Ok second)) (d : Digests) → StandsAt (opt meaning key barrier) closed d → second.again ≡ true → (items : List Item) → closed.items ≡ Some items
+  repeat_shows : (closed new : Standing) (offer request : List ℕ) (second : BatchAnswer)
+      (c : CallsOn Opt meaning closed new offer (One request) (Ok second)) (d : Digests) → StandsAt (opt meaning key barrier) closed d
+      → second.again ≡ true → (items : List Item) → closed.items ≡ Some items
       → (more : List Item) × (new.items ≡ Some (items ++ more))
   repeat_shows closed new offer request second c d s again items known =
       let i : Instance = opt meaning key barrier in
@@ -213,8 +261,10 @@ module _ (meaning : Meaning) (key barrier : List ℕ) (all others : List (List �
       (told_again w.broken i seen (all_made (by_digests i) d w.moves) b found w.moves second (sym g.gives) again) items known
 
   -- a call on such an offer, with no segment open, doesn't find a new batch
-  never_fresh : (y : History) (answered closed new : Standing) (offer request : List ℕ) (first second : BatchAnswer) (x : Behind y answered closed offer request first) (c : CallsOn Opt meaning closed new offer (One request) (Ok second))
-      → AreAsked all others asked (opt meaning key barrier) y offer (One request) → Fresh closed new offer request (Ok second) c (digests_of (opt meaning key barrier) x.two.after) ≡ true → ⊥
+  never_fresh : (y : History) (answered closed new : Standing) (offer request : List ℕ) (first second : BatchAnswer)
+      (x : Behind y answered closed offer request first) (c : CallsOn Opt meaning closed new offer (One request) (Ok second))
+      → AreAsked all others asked (opt meaning key barrier) y offer (One request)
+      → Fresh closed new offer request (Ok second) c (digests_of (opt meaning key barrier) x.two.after) ≡ true → ⊥
   never_fresh y answered closed new offer request first second x c a e =
       let i : Instance = opt meaning key barrier in
       let b : Batch = One request in
@@ -226,7 +276,8 @@ module _ (meaning : Meaning) (key barrier : List ℕ) (all others : List (List �
       let seen : Digests = seen_at i (by_digests i) d c.course in
       let once : List ℕ = fold extended_of d.register v in
       let register : List ℕ = fold extended_of once w in
-      let seen_is : seen ≡ record d { register = register } = foreign_digests i v (map Foreign w ++ []) d ∙ foreign_digests i w [] (record d { register = once }) in
+      let seen_is : seen ≡ record d { register = register } = foreign_digests i v (map Foreign w ++ []) d
+      ∙ foreign_digests i w [] (record d { register = once }) in
       let f = fresh_found (found_unless_wanting (found_at i (by_digests i) seen b offer) c.course.lacks) e in
       let was = unlacked (found_at i (by_digests i) seen b offer) c.course.lacks f.0 f.1 in
       let asking : Asking all i (bare z) offer b = record {
@@ -237,46 +288,63 @@ module _ (meaning : Meaning) (key barrier : List ℕ) (all others : List (List �
       let same : found_at i (by_digests i) seen b offer ≡ found_at i (by_lists i) (bare z) b offer =
       ap (λ (s : Digests). found_at i (by_digests i) s b offer) seen_is
       ∙ found_digests meaning key barrier d register b offer x.two.is_shut
-      ∙ found_same meaning key barrier all others asked (bare z) (bare_digests d) offer b (record { clear = asks_z.clear; apart = asks_z.apart }) asks_z.is_asked
+      ∙ found_same meaning key barrier all others asked (bare z) (bare_digests d) offer b
+      (record { clear = asks_z.clear; apart = asks_z.apart }) asks_z.is_asked
       (holds_shut meaning key barrier all others asked z d x.two.is_shut (is_agrees i z d refl) x.two.within) asking in
       let listed : found_at i (by_lists i) (bare z) b offer ≡ Ok f.0 = sym same ∙ was in
       let p = placed meaning key barrier all (bare z) offer b asking f.0 listed in
-      not_at_end i x.one.after.batches offer b (offers i y x.one.after offer b first x.one.comes) f.0.offered (right_at meaning key barrier (bare z) b offer f.0 listed)
+      not_at_end i x.one.after.batches offer b (offers i y x.one.after offer b first x.one.comes) f.0.offered
+      (right_at meaning key barrier (bare z) b offer f.0 listed)
       (p.position ∙ ap total_of (p.fresh f.2 ∙ x.two.batches))
 
-  repeats_either : (fresh : Bool) (y : History) (answered closed new : Standing) (offer request : List ℕ) (first second : BatchAnswer) (x : Behind y answered closed offer request first) (c : CallsOn Opt meaning closed new offer (One request) (Ok second))
-      → AreAsked all others asked (opt meaning key barrier) y offer (One request) → Fresh closed new offer request (Ok second) c (digests_of (opt meaning key barrier) x.two.after) ≡ fresh → RepeatsReply (opt meaning key barrier) y new (One request) first second
-  repeats_either true y answered closed new offer request first second x c a e = absurd (never_fresh y answered closed new offer request first second x c a e)
-  repeats_either false y answered closed new offer request first second x c a e = replies_alike y answered closed new offer request first second x c a e
+  repeats_either : (fresh : Bool) (y : History) (answered closed new : Standing) (offer request : List ℕ) (first second : BatchAnswer)
+      (x : Behind y answered closed offer request first) (c : CallsOn Opt meaning closed new offer (One request) (Ok second))
+      → AreAsked all others asked (opt meaning key barrier) y offer (One request)
+      → Fresh closed new offer request (Ok second) c (digests_of (opt meaning key barrier) x.two.after) ≡ fresh
+      → RepeatsReply (opt meaning key barrier) y new (One request) first second
+  repeats_either true y answered closed new offer request first second x c a e =
+      absurd (never_fresh y answered closed new offer request first second x c a e)
+  repeats_either false y answered closed new offer request first second x c a e =
+      replies_alike y answered closed new offer request first second x c a e
 
   -- the second reply, where the register's items are known when the checkpoint was over
-  pub repeats_between : (y : History) (old answered closed new : Standing) (offer request : List ℕ) (first second : BatchAnswer) (said : Said) (items more : List Item) → CallsOn Opt meaning old answered offer (One request) (Ok first) → ChecksOn answered closed (Ok said) → CallsOn Opt meaning closed new offer (One request) (Ok second)
+  pub repeats_between : (y : History) (old answered closed new : Standing) (offer request : List ℕ) (first second : BatchAnswer)
+      (said : Said) (items more : List Item) → CallsOn Opt meaning old answered offer (One request) (Ok first)
+      → ChecksOn answered closed (Ok said) → CallsOn Opt meaning closed new offer (One request) (Ok second)
       → StandsFor (opt meaning key barrier) old y → old.items ≡ Some items → closed.items ≡ Some (standing_items y.is_open items ++ more)
-      → AreAsked all others asked (opt meaning key barrier) y offer (One request) → AreShownUnlessIdle all others (opt meaning key barrier) y offer (One request) more
+      → AreAsked all others asked (opt meaning key barrier) y offer (One request)
+      → AreShownUnlessIdle all others (opt meaning key barrier) y offer (One request) more
       → RepeatsReply (opt meaning key barrier) y new (One request) first second
   repeats_between y old answered closed new offer request first second said items more c k d s known ends a shown_so =
       let x : Behind y answered closed offer request first = elim (unless_idle (opt meaning key barrier) y offer (One request) shown_so) [
         | inl it ↦ behind y old answered closed offer request first said items more c k s known ends a it.0 it.1
         | inr idle ↦ behind_idle y old answered closed offer request first said c k s a idle
       ] in
-      repeats_either (Fresh closed new offer request (Ok second) d (digests_of (opt meaning key barrier) x.two.after)) y answered closed new offer request first second x d a refl
+      repeats_either (Fresh closed new offer request (Ok second) d (digests_of (opt meaning key barrier) x.two.after)) y answered closed new
+      offer request first second x d a refl
 
   -- the items when the checkpoint was over
   record Front (y : History) (closed : Standing) (items : List Item) : Type 0 where
     more : List Item
     is : closed.items ≡ Some (standing_items y.is_open items ++ more)
 
-  kept_open : (y : History) (old answered : Standing) (offer request : List ℕ) (first : BatchAnswer) (c : CallsOn Opt meaning old answered offer (One request) (Ok first)) → y.is_open ≡ true
-      → (all_made (by_digests (opt meaning key barrier)) (digests_of (opt meaning key barrier) y) (DigestMoves meaning key barrier all others asked old answered offer request (Ok first) c y)).flag ≡ true
+  kept_open : (y : History) (old answered : Standing) (offer request : List ℕ) (first : BatchAnswer)
+      (c : CallsOn Opt meaning old answered offer (One request) (Ok first)) → y.is_open ≡ true
+      → (all_made (by_digests (opt meaning key barrier)) (digests_of (opt meaning key barrier) y)
+      (DigestMoves meaning key barrier all others asked old answered offer request (Ok first) c y)).flag ≡ true
   kept_open y old answered offer request first c e =
       let i : Instance = opt meaning key barrier in
       let d : Digests = digests_of i y in
-      let fresh : Bool = is_fresh (found_unless_wanting (found_at i (by_digests i) (seen_at i (by_digests i) d c.course) (One request) offer) c.course.lacks) in
+      let fresh : Bool = is_fresh
+      (found_unless_wanting (found_at i (by_digests i) (seen_at i (by_digests i) d c.course) (One request) offer) c.course.lacks) in
       flag_kept meaning key barrier (DigestMoves meaning key barrier all others asked old answered offer request (Ok first) c y) d e
-      (ap (λ (st : List Step). closes (walk c.course.fates 1 st).moves) (asks y.is_open fresh (One request)) ∙ opt_closes c.course.fates y.is_open fresh (One request))
+      (ap (λ (st : List Step). closes (walk c.course.fates 1 st).moves) (asks y.is_open fresh (One request))
+      ∙ opt_closes c.course.fates y.is_open fresh (One request))
 
-  front_by : (flag : Bool) (y : History) (old answered closed : Standing) (offer request : List ℕ) (first : BatchAnswer) (said : Said) (items there : List Item) → CallsOn Opt meaning old answered offer (One request) (Ok first) → ChecksOn answered closed (Ok said)
-      → StandsFor (opt meaning key barrier) old y → old.items ≡ Some items → closed.items ≡ Some there → y.is_open ≡ flag → Front y closed items
+  front_by : (flag : Bool) (y : History) (old answered closed : Standing) (offer request : List ℕ) (first : BatchAnswer) (said : Said)
+      (items there : List Item) → CallsOn Opt meaning old answered offer (One request) (Ok first) → ChecksOn answered closed (Ok said)
+      → StandsFor (opt meaning key barrier) old y → old.items ≡ Some items → closed.items ≡ Some there → y.is_open ≡ flag
+      → Front y closed items
   front_by false y old answered closed offer request first said items there c k s known shown_there e = record {
     more = there;
     is = shown_there ∙ ap (λ (f : Bool). Some (standing_items f items ++ there)) (sym e);
@@ -287,11 +355,14 @@ module _ (meaning : Meaning) (key barrier : List ℕ) (all others : List (List �
       let at = stands_at i old y s in
       let g = c.goes key barrier d at in
       let one = call_goes_on meaning key barrier all others asked old answered offer request (Ok first) c d at e items known in
-      let two = check_goes_on meaning key barrier all others asked answered closed said k (all_made (by_digests i) d (DigestMoves meaning key barrier all others asked old answered offer request (Ok first) c y))
+      let two = check_goes_on meaning key barrier all others asked answered closed said k
+      (all_made (by_digests i) d (DigestMoves meaning key barrier all others asked old answered offer request (Ok first) c y))
       g.stands (kept_open y old answered offer request first c e) (items ++ one.0) one.1 in
       record {
         more = one.0 ++ two.0;
-        is = two.1 ∙ ap (λ (xs : List Item). Some xs) (append_assoc items one.0 two.0) ∙ ap (λ (f : Bool). Some (standing_items f items ++ (one.0 ++ two.0))) (sym e);
+        is =
+            two.1 ∙ ap (λ (xs : List Item). Some xs) (append_assoc items one.0 two.0)
+            ∙ ap (λ (f : Bool). Some (standing_items f items ++ (one.0 ++ two.0))) (sym e);
       }
 
   -- the items when the checkpoint was over, by those at the end, where the second call left them in front
@@ -308,7 +379,8 @@ module _ (meaning : Meaning) (key barrier : List ℕ) (all others : List (List �
     pub there : List Item
     pub known : closed.items ≡ Some there
 
-  pub reached : (y : History) (old answered closed : Standing) (offer request : List ℕ) (first : BatchAnswer) (said : Said) (items : List Item) → CallsOn Opt meaning old answered offer (One request) (Ok first) → ChecksOn answered closed (Ok said)
+  pub reached : (y : History) (old answered closed : Standing) (offer request : List ℕ) (first : BatchAnswer) (said : Said)
+      (items : List Item) → CallsOn Opt meaning old answered offer (One request) (Ok first) → ChecksOn answered closed (Ok said)
       → StandsFor (opt meaning key barrier) old y → old.items ≡ Some items → Reached closed
   reached y old answered closed offer request first said items c k s known =
       let i : Instance = opt meaning key barrier in
@@ -325,7 +397,9 @@ module _ (meaning : Meaning) (key barrier : List ℕ) (all others : List (List �
         known = h.items ∙ ap (option_map (shown i d1 o.moves)) (g.items ∙ ap (option_map (shown i d moves)) known);
       }
 
-  pub seen_before : (y : History) (old answered closed new : Standing) (offer request : List ℕ) (first : BatchAnswer) (said : Said) (items more there later : List Item) → CallsOn Opt meaning old answered offer (One request) (Ok first) → ChecksOn answered closed (Ok said)
+  pub seen_before : (y : History) (old answered closed new : Standing) (offer request : List ℕ) (first : BatchAnswer) (said : Said)
+      (items more there later : List Item) → CallsOn Opt meaning old answered offer (One request) (Ok first)
+      → ChecksOn answered closed (Ok said)
       → closed.items ≡ Some there → new.items ≡ Some (there ++ later)
       → StandsFor (opt meaning key barrier) old y → old.items ≡ Some items → new.items ≡ Some (standing_items y.is_open items ++ more)
       → AreShown all others (opt meaning key barrier) y more → MayClose all (opt meaning key barrier) y more → SeenBefore y closed items
@@ -341,31 +415,41 @@ module _ (meaning : Meaning) (key barrier : List ℕ) (all others : List (List �
       record {
         more = front.more;
         is = front.is;
-        shown_are = shown_front all others i y front.more later (subst (λ (xs : List Item). AreShown all others i y xs) (sym same) shown_so);
+        shown_are =
+            shown_front all others i y front.more later (subst (λ (xs : List Item). AreShown all others i y xs) (sym same) shown_so);
         may = may_close_front all i y front.more later (subst (λ (xs : List Item). MayClose all i y xs) (sym same) may);
       }
 
   -- the first two, where the register's items are known at the end, and the second call left those of the checkpoint in front
-  pub behind_seen : (y : History) (old answered closed new : Standing) (offer request : List ℕ) (first : BatchAnswer) (said : Said) (items more there later : List Item) → CallsOn Opt meaning old answered offer (One request) (Ok first) → ChecksOn answered closed (Ok said)
+  pub behind_seen : (y : History) (old answered closed new : Standing) (offer request : List ℕ) (first : BatchAnswer) (said : Said)
+      (items more there later : List Item) → CallsOn Opt meaning old answered offer (One request) (Ok first)
+      → ChecksOn answered closed (Ok said)
       → closed.items ≡ Some there → new.items ≡ Some (there ++ later)
       → StandsFor (opt meaning key barrier) old y → old.items ≡ Some items → new.items ≡ Some (standing_items y.is_open items ++ more)
-      → AreAsked all others asked (opt meaning key barrier) y offer (One request) → AreShownUnlessIdle all others (opt meaning key barrier) y offer (One request) more
+      → AreAsked all others asked (opt meaning key barrier) y offer (One request)
+      → AreShownUnlessIdle all others (opt meaning key barrier) y offer (One request) more
       → Behind y answered closed offer request first
   behind_seen y old answered closed new offer request first said items more there later c k shown_there t s known ends a shown_so =
       elim (unless_idle (opt meaning key barrier) y offer (One request) shown_so) [
         | inl it ↦
-            let before = seen_before y old answered closed new offer request first said items more there later c k shown_there t s known ends it.0 it.1 in
+            let before = seen_before y old answered closed new offer request first said items more there later c k shown_there t s known
+            ends it.0 it.1 in
             behind y old answered closed offer request first said items before.more c k s known before.is a before.shown_are before.may
         | inr idle ↦ behind_idle y old answered closed offer request first said c k s a idle
       ]
 
   -- the second reply, where it is told as a repeat, and the register's items are known at the end
-  pub repeats_shown : (y : History) (old answered closed new : Standing) (offer request : List ℕ) (first second : BatchAnswer) (said : Said) (items more : List Item) → CallsOn Opt meaning old answered offer (One request) (Ok first) → ChecksOn answered closed (Ok said) → CallsOn Opt meaning closed new offer (One request) (Ok second) → second.again ≡ true
+  pub repeats_shown : (y : History) (old answered closed new : Standing) (offer request : List ℕ) (first second : BatchAnswer) (said : Said)
+      (items more : List Item) → CallsOn Opt meaning old answered offer (One request) (Ok first) → ChecksOn answered closed (Ok said)
+      → CallsOn Opt meaning closed new offer (One request) (Ok second) → second.again ≡ true
       → StandsFor (opt meaning key barrier) old y → old.items ≡ Some items → new.items ≡ Some (standing_items y.is_open items ++ more)
-      → AreAsked all others asked (opt meaning key barrier) y offer (One request) → AreShownUnlessIdle all others (opt meaning key barrier) y offer (One request) more
+      → AreAsked all others asked (opt meaning key barrier) y offer (One request)
+      → AreShownUnlessIdle all others (opt meaning key barrier) y offer (One request) more
       → RepeatsReply (opt meaning key barrier) y new (One request) first second
   repeats_shown y old answered closed new offer request first second said items more c k r again s known ends a shown_so =
       let x = reached y old answered closed offer request first said items c k s known in
       let t = repeat_shows closed new offer request second r x.at x.stands again x.there x.known in
-      let z = behind_seen y old answered closed new offer request first said items more x.there t.0 c k x.known t.1 s known ends a shown_so in
-      repeats_either (Fresh closed new offer request (Ok second) r (digests_of (opt meaning key barrier) z.two.after)) y answered closed new offer request first second z r a refl
+      let z = behind_seen y old answered closed new offer request first said items more x.there t.0 c k x.known t.1 s known ends a shown_so
+      in
+      repeats_either (Fresh closed new offer request (Ok second) r (digests_of (opt meaning key barrier) z.two.after)) y answered closed new
+      offer request first second z r a refl

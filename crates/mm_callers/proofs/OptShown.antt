@@ -11,8 +11,10 @@ use Rattle.mm_platform.specs.Standing as platform
 use Rattle.mm_module.specs.Meaning.{Meaning}
 use Rattle.mm_module.specs.Batch.{Batch}
 use Rattle.mm_model.specs.Chains.{after, trail, register_of}
-use Rattle.mm_model.specs.Instance.{Instance, opt}
-use Rattle.mm_model.specs.History.{Value, History, Move, Commit, Foreign, Placed, Reset, Close, Power, first_history, register_value_of, values_of as entry_values}
+use Rattle.mm_model.specs.Instance.{Instance}
+use Rattle.mm_model.specs.InstanceWords.{opt}
+use Rattle.mm_model.specs.History.{Value, History, Move, Commit, Foreign, Placed, Reset, Close, Power, first_history, register_value_of}
+use Rattle.mm_model.specs.HistoryWords.{values_of as entry_values}
 use Rattle.mm_model.specs.Messages.{Within}
 use Rattle.mm_model.specs.Moves.{Digests, made, committing, digests_of}
 use Rattle.mm_model.specs.Standing.{StandsFor}
@@ -47,7 +49,8 @@ pub record Brought (moves : List Move) : Type 0 where
   pub values : List (List ℕ)
   pub are : moves ≡ map Foreign values
 
-pub reads_only : (values later : List (List ℕ)) (ends last : End) → Brought (after_step Reads values ends (after_step Reads later last finished)).moves
+pub reads_only : (values later : List (List ℕ)) (ends last : End)
+    → Brought (after_step Reads values ends (after_step Reads later last finished)).moves
 reads_only values later Done Done = record {
   values = values ++ later;
   are = ap (λ (ms : List Move). map Foreign values ++ ms) (append-nil (map Foreign later)) ∙ sym (map-append Foreign values later);
@@ -74,15 +77,18 @@ some_open = record first_history { is_open = true }
 
 pushed_by : (i : Instance) (d : Digests) (moves : List Move) → Tied i some_open d moves → Pushes i d moves
 pushed_by i d moves (shows more tied are) = record { more = more; are = are }
-pushed_by i d moves (nothing is) = record { more = []; are = λ items. ap (λ (ms : List Move). shown i d ms items) is ∙ sym (append-nil items) }
+pushed_by i d moves (nothing is) =
+    record { more = []; are = λ items. ap (λ (ms : List Move). shown i d ms items) is ∙ sym (append-nil items) }
 
-pub pushed_open : (meaning : Meaning) (key barrier : List ℕ) (d : Digests) (c : Course) (offer : List ℕ) (b : Batch) → d.flag ≡ true → Pushes (opt meaning key barrier) d (called (opt meaning key barrier) (by_digests (opt meaning key barrier)) d c offer b).moves
+pub pushed_open : (meaning : Meaning) (key barrier : List ℕ) (d : Digests) (c : Course) (offer : List ℕ) (b : Batch) → d.flag ≡ true
+    → Pushes (opt meaning key barrier) d (called (opt meaning key barrier) (by_digests (opt meaning key barrier)) d c offer b).moves
 pushed_open meaning key barrier d c offer b f =
     pushed_by (opt meaning key barrier) d (called (opt meaning key barrier) (by_digests (opt meaning key barrier)) d c offer b).moves
     (opt_tied meaning key barrier some_open d c offer b f)
 
 -- a commit with no segment open comes behind a reset
-resets : (fates : ℕ → Fate) (fresh : Bool) (b : Batch) (moves : List Move) → Shape fates fresh b moves → committed_in moves ≡ b ∷ [] → from_reset moves ≡ [] → ⊥
+resets : (fates : ℕ → Fate) (fresh : Bool) (b : Batch) (moves : List Move) → Shape fates fresh b moves → committed_in moves ≡ b ∷ []
+    → from_reset moves ≡ [] → ⊥
 resets fates fresh b moves (still values is) c empty =
     let one : committed_in (map Foreign values) ≡ b ∷ [] = ap committed_in (sym is) ∙ c in
     let same : [] ≡ b ∷ [] = sym (committed-foreign values) ∙ one in
@@ -91,57 +97,78 @@ resets fates fresh b moves (reset values rest is k) c empty =
     let same : Reset ∷ rest ≡ [] = sym (from_reset-foreign values (Reset ∷ rest)) ∙ ap from_reset (sym is) ∙ empty in
     absurd (cc)
 
-pub counts_opening : (i : Instance) (y : History) (d : Digests) (fates : ℕ → Fate) (fresh : Bool) (b : Batch) (moves : List Move) → y.is_open ≡ false → Shape fates fresh b moves → committed_in moves ≡ b ∷ [] → Tied i y d moves → Counts i y d moves
+pub counts_opening : (i : Instance) (y : History) (d : Digests) (fates : ℕ → Fate) (fresh : Bool) (b : Batch) (moves : List Move)
+    → y.is_open ≡ false → Shape fates fresh b moves → committed_in moves ≡ b ∷ [] → Tied i y d moves → Counts i y d moves
 counts_opening i y d fates fresh b moves e s c (shows more tied are) = record { more = more; tied = tied; are = are }
 counts_opening i y d fates fresh b moves e s c (nothing is) =
     absurd (resets fates fresh b moves s c (ap (λ (f : Bool). counted_moves f moves) (sym e) ∙ is))
 
 -- nothing counts of reading steps with no segment open
-pub none_counted : (y : History) (values : List (List ℕ)) (moves : List Move) → y.is_open ≡ false → moves ≡ map Foreign values → counted_moves y.is_open moves ≡ []
+pub none_counted : (y : History) (values : List (List ℕ)) (moves : List Move) → y.is_open ≡ false → moves ≡ map Foreign values
+    → counted_moves y.is_open moves ≡ []
 none_counted y values moves e is =
-    ap (λ (f : Bool). counted_moves f moves) e ∙ ap from_reset is ∙ ap from_reset (sym (append-nil (map Foreign values))) ∙ from_reset-foreign values []
+    ap (λ (f : Bool). counted_moves f moves) e ∙ ap from_reset is ∙ ap from_reset (sym (append-nil (map Foreign values)))
+    ∙ from_reset-foreign values []
 
 -- whether a segment is open after moves
-committing_flag : (flag : Bool) (meaning : Meaning) (key barrier : List ℕ) (d : Digests) (b : Batch) → d.flag ≡ flag → (committing Opt flag (opt meaning key barrier) d b).flag ≡ true
+committing_flag : (flag : Bool) (meaning : Meaning) (key barrier : List ℕ) (d : Digests) (b : Batch) → d.flag ≡ flag
+    → (committing Opt flag (opt meaning key barrier) d b).flag ≡ true
 committing_flag true meaning key barrier d b e = e
 committing_flag false meaning key barrier d b e = refl
 
-pub flag_kept : (meaning : Meaning) (key barrier : List ℕ) (moves : List Move) (d : Digests) → d.flag ≡ true → closes moves ≡ false → (all_made (by_digests (opt meaning key barrier)) d moves).flag ≡ true
+pub flag_kept : (meaning : Meaning) (key barrier : List ℕ) (moves : List Move) (d : Digests) → d.flag ≡ true → closes moves ≡ false
+    → (all_made (by_digests (opt meaning key barrier)) d moves).flag ≡ true
 flag_kept meaning key barrier [] d f e = f
 flag_kept meaning key barrier (Commit b ∷ moves) d f e =
-    flag_kept meaning key barrier moves (made (opt meaning key barrier) d (Commit b)) (committing_flag d.flag meaning key barrier d b refl) e
-flag_kept meaning key barrier (Foreign v ∷ moves) d f e = flag_kept meaning key barrier moves (made (opt meaning key barrier) d (Foreign v)) f e
-flag_kept meaning key barrier (Placed b ∷ moves) d f e = flag_kept meaning key barrier moves (made (opt meaning key barrier) d (Placed b)) f e
+    flag_kept meaning key barrier moves (made (opt meaning key barrier) d (Commit b)) (committing_flag d.flag meaning key barrier d b refl)
+    e
+flag_kept meaning key barrier (Foreign v ∷ moves) d f e =
+    flag_kept meaning key barrier moves (made (opt meaning key barrier) d (Foreign v)) f e
+flag_kept meaning key barrier (Placed b ∷ moves) d f e =
+    flag_kept meaning key barrier moves (made (opt meaning key barrier) d (Placed b)) f e
 flag_kept meaning key barrier (Reset ∷ moves) d f e = flag_kept meaning key barrier moves (made (opt meaning key barrier) d Reset) f e
 flag_kept meaning key barrier (Close ∷ moves) d f e = absurd (cc)
 flag_kept meaning key barrier (Power ∷ moves) d f e = flag_kept meaning key barrier moves (made (opt meaning key barrier) d Power) f e
 
-pub flag_set : (meaning : Meaning) (key barrier : List ℕ) (moves : List Move) (d : Digests) (b : Batch) → committed_in moves ≡ b ∷ [] → closes moves ≡ false → (all_made (by_digests (opt meaning key barrier)) d moves).flag ≡ true
+pub flag_set : (meaning : Meaning) (key barrier : List ℕ) (moves : List Move) (d : Digests) (b : Batch) → committed_in moves ≡ b ∷ []
+    → closes moves ≡ false → (all_made (by_digests (opt meaning key barrier)) d moves).flag ≡ true
 flag_set meaning key barrier [] d b c e = absurd (cc)
 flag_set meaning key barrier (Commit a ∷ moves) d b c e =
-    flag_kept meaning key barrier moves (made (opt meaning key barrier) d (Commit a)) (committing_flag d.flag meaning key barrier d a refl) e
-flag_set meaning key barrier (Foreign v ∷ moves) d b c e = flag_set meaning key barrier moves (made (opt meaning key barrier) d (Foreign v)) b c e
-flag_set meaning key barrier (Placed a ∷ moves) d b c e = flag_set meaning key barrier moves (made (opt meaning key barrier) d (Placed a)) b c e
+    flag_kept meaning key barrier moves (made (opt meaning key barrier) d (Commit a)) (committing_flag d.flag meaning key barrier d a refl)
+    e
+flag_set meaning key barrier (Foreign v ∷ moves) d b c e =
+    flag_set meaning key barrier moves (made (opt meaning key barrier) d (Foreign v)) b c e
+flag_set meaning key barrier (Placed a ∷ moves) d b c e =
+    flag_set meaning key barrier moves (made (opt meaning key barrier) d (Placed a)) b c e
 flag_set meaning key barrier (Reset ∷ moves) d b c e = flag_set meaning key barrier moves (made (opt meaning key barrier) d Reset) b c e
 flag_set meaning key barrier (Close ∷ moves) d b c e = absurd (cc)
 flag_set meaning key barrier (Power ∷ moves) d b c e = flag_set meaning key barrier moves (made (opt meaning key barrier) d Power) b c e
 
 -- What is asked of items, for those in front and those behind.
 
-trail_split : (s : List ℕ) (m k : List Item) → trail extended_message s (item_values (m ++ k)) ≡ trail extended_message s (item_values m) ++ trail extended_message (after extended_message s (item_values m)) (item_values k)
+trail_split : (s : List ℕ) (m k : List Item) → trail extended_message s (item_values (m ++ k)) ≡ trail extended_message s (item_values m)
+    ++ trail extended_message (after extended_message s (item_values m)) (item_values k)
 trail_split s m k =
-    ap (trail extended_message s) (map-append (λ (item : Item). item.value) m k) ∙ trail-append extended_message s (item_values m) (item_values k)
+    ap (trail extended_message s) (map-append (λ (item : Item). item.value) m k)
+    ∙ trail-append extended_message s (item_values m) (item_values k)
 
-pub shown_front : (all others : List (List ℕ)) (i : Instance) (y : History) (m k : List Item) → AreShown all others i y (m ++ k) → AreShown all others i y m
+pub shown_front : (all others : List (List ℕ)) (i : Instance) (y : History) (m k : List Item) → AreShown all others i y (m ++ k)
+    → AreShown all others i y m
 shown_front all others i y m k a =
     let s : List ℕ = register_value_of i (counted_part y) in
     record {
-      messages = each_left (Contains all) (trail extended_message s (item_values m)) (trail extended_message (after extended_message s (item_values m)) (item_values k))
+      messages =
+          each_left (Contains all) (trail extended_message s (item_values m))
+          (trail extended_message (after extended_message s (item_values m)) (item_values k))
           (subst (λ (ms : List (List ℕ)). Within ms all) (trail_split s m k) a.messages);
-      values = each_left (Contains others) (foreign_items m) (foreign_items k) (subst (AllByRecursion (Contains others)) (foreign_of-append m k) a.values);
+      values =
+          each_left (Contains others) (foreign_items m) (foreign_items k)
+          (subst (AllByRecursion (Contains others)) (foreign_of-append m k) a.values);
     }
 
-pub shown_back : (all others : List (List ℕ)) (i : Instance) (y z : History) (m k : List Item) → register_value_of i (counted_part z) ≡ after extended_message (register_value_of i (counted_part y)) (item_values m) → AreShown all others i y (m ++ k) → AreShown all others i z k
+pub shown_back : (all others : List (List ℕ)) (i : Instance) (y z : History) (m k : List Item)
+    → register_value_of i (counted_part z) ≡ after extended_message (register_value_of i (counted_part y)) (item_values m)
+    → AreShown all others i y (m ++ k) → AreShown all others i z k
 shown_back all others i y z m k e a =
     let s : List ℕ = register_value_of i (counted_part y) in
     let t : List ℕ = after extended_message s (item_values m) in
@@ -149,11 +176,14 @@ shown_back all others i y z m k e a =
       messages = subst (λ (r : List ℕ). Within (trail extended_message r (item_values k)) all) (sym e)
           (each_right (Contains all) (trail extended_message s (item_values m)) (trail extended_message t (item_values k))
           (subst (λ (ms : List (List ℕ)). Within ms all) (trail_split s m k) a.messages));
-      values = each_right (Contains others) (foreign_items m) (foreign_items k) (subst (AllByRecursion (Contains others)) (foreign_of-append m k) a.values);
+      values =
+          each_right (Contains others) (foreign_items m) (foreign_items k)
+          (subst (AllByRecursion (Contains others)) (foreign_of-append m k) a.values);
     }
 
 -- with no segment open the register counts as empty
-pub shown_shut : (all others : List (List ℕ)) (i : Instance) (y z : History) (more : List Item) → y.is_open ≡ false → z.is_open ≡ false → AreShown all others i y more → AreShown all others i z more
+pub shown_shut : (all others : List (List ℕ)) (i : Instance) (y z : History) (more : List Item) → y.is_open ≡ false → z.is_open ≡ false
+    → AreShown all others i y more → AreShown all others i z more
 shown_shut all others i y z more e f a =
     let same : register_value_of i (counted_part y) ≡ register_value_of i (counted_part z) =
     ap (register_value_of i) (counted_shut y e) ∙ sym (ap (register_value_of i) (counted_shut z f)) in
@@ -164,13 +194,18 @@ shown_shut all others i y z more e f a =
 
 -- The register's value, by the items that a platform shows.
 
-pub reads_value : (meaning : Meaning) (key barrier : List ℕ) (standing : Standing) (y : History) (items : List Item) → StandsFor (opt meaning key barrier) standing y → standing.items ≡ Some items → platform.register_after (item_values items) ≡ register_value_of (opt meaning key barrier) y
+pub reads_value : (meaning : Meaning) (key barrier : List ℕ) (standing : Standing) (y : History) (items : List Item)
+    → StandsFor (opt meaning key barrier) standing y → standing.items ≡ Some items
+    → platform.register_after (item_values items) ≡ register_value_of (opt meaning key barrier) y
 reads_value meaning key barrier standing y items s known =
     let reads : Some (platform.register_after (item_values items)) ≡ Some (register_value_of (opt meaning key barrier) y) =
     ap (λ (x : Option (List Item)). option_map (λ xs. platform.register_after (item_values xs)) x) (sym known) ∙ s.register in
     cc
 
-start_value : (flag : Bool) (i : Instance) (y : History) (items : List Item) → platform.register_after (item_values items) ≡ register_value_of i y → platform.register_after (item_values (standing_items flag items)) ≡ register_value_of i (record y { items = if flag then y.items else [] })
+start_value : (flag : Bool) (i : Instance) (y : History) (items : List Item)
+    → platform.register_after (item_values items) ≡ register_value_of i y
+    → platform.register_after (item_values (standing_items flag items)) ≡ register_value_of i
+    (record y { items = if flag then y.items else [] })
 start_value true i y items e = e
 start_value false i y items e = sym reads_zero
 
@@ -178,21 +213,27 @@ register-append : (xs ys : List (List ℕ)) → register_of (xs ++ ys) ≡ after
 unfolding register_of
 register-append xs ys = after-append extended_message zero_bytes xs ys
 
-more_value : (xs more : List Item) → platform.register_after (item_values (xs ++ more)) ≡ after extended_message (platform.register_after (item_values xs)) (item_values more)
+more_value : (xs more : List Item)
+    → platform.register_after (item_values (xs ++ more)) ≡ after extended_message (platform.register_after (item_values xs))
+    (item_values more)
 more_value xs more =
     ap platform.register_after (map-append (λ (item : Item). item.value) xs more)
     ∙ register_folds (item_values xs ++ item_values more)
     ∙ register-append (item_values xs) (item_values more)
     ∙ ap (λ (s : List ℕ). after extended_message s (item_values more)) (sym (register_folds (item_values xs)))
 
-pub register_then : (meaning : Meaning) (key barrier : List ℕ) (y z : History) (old new : Standing) (items more : List Item) → StandsFor (opt meaning key barrier) old y → old.items ≡ Some items → StandsFor (opt meaning key barrier) new z → new.items ≡ Some (standing_items y.is_open items ++ more) → z.is_open ≡ true
-    → register_value_of (opt meaning key barrier) (counted_part z) ≡ after extended_message (register_value_of (opt meaning key barrier) (counted_part y)) (item_values more)
+pub register_then : (meaning : Meaning) (key barrier : List ℕ) (y z : History) (old new : Standing) (items more : List Item)
+    → StandsFor (opt meaning key barrier) old y → old.items ≡ Some items → StandsFor (opt meaning key barrier) new z
+    → new.items ≡ Some (standing_items y.is_open items ++ more) → z.is_open ≡ true
+    → register_value_of (opt meaning key barrier) (counted_part z) ≡ after extended_message
+    (register_value_of (opt meaning key barrier) (counted_part y)) (item_values more)
 register_then meaning key barrier y z old new items more s known t shown_then e =
     let i : Instance = opt meaning key barrier in
     ap (register_value_of i) (counted_open z e)
     ∙ sym (reads_value meaning key barrier new z (standing_items y.is_open items ++ more) t shown_then)
     ∙ more_value (standing_items y.is_open items) more
-    ∙ ap (λ (r : List ℕ). after extended_message r (item_values more)) (start_value y.is_open i y items (reads_value meaning key barrier old y items s known))
+    ∙ ap (λ (r : List ℕ). after extended_message r (item_values more))
+    (start_value y.is_open i y items (reads_value meaning key barrier old y items s known))
 
 -- A platform that shows other items while no segment is open stands for the history with these items.
 
@@ -200,7 +241,9 @@ entry_values_of : (barrier : List ℕ) (values : List (List ℕ)) → entry_valu
 entry_values_of barrier [] = refl
 entry_values_of barrier (v ∷ values) = ap (λ (vs : List (List ℕ)). v ∷ vs) (entry_values_of barrier values)
 
-pub stands_with : (meaning : Meaning) (key barrier : List ℕ) (y : History) (d : Digests) (standing : Standing) (items : List Item) → StandsAt (opt meaning key barrier) standing d → bare_digests d ≡ bare_digests (digests_of (opt meaning key barrier) y) → standing.items ≡ Some items
+pub stands_with : (meaning : Meaning) (key barrier : List ℕ) (y : History) (d : Digests) (standing : Standing) (items : List Item)
+    → StandsAt (opt meaning key barrier) standing d → bare_digests d ≡ bare_digests (digests_of (opt meaning key barrier) y)
+    → standing.items ≡ Some items
     → StandsFor (opt meaning key barrier) standing (taking (bare y) (item_values items))
 stands_with meaning key barrier y d standing items s e known =
     let i : Instance = opt meaning key barrier in
@@ -209,5 +252,7 @@ stands_with meaning key barrier y d standing items s e known =
     record {
       spells = subst (λ (x : Digests). IsCell (cell_at i x)) e s.spells;
       cell = s.cell ∙ ap (λ (x : Digests). Some (cell_spelling (cell_at i x))) e;
-      register = ap (λ (x : Option (List Item)). option_map (λ xs. platform.register_after (item_values xs)) x) known ∙ ap (λ (r : List ℕ). Some r) value;
+      register =
+          ap (λ (x : Option (List Item)). option_map (λ xs. platform.register_after (item_values xs)) x) known
+          ∙ ap (λ (r : List ℕ). Some r) value;
     }

@@ -18,7 +18,8 @@ accepts false = tt
 
 pub asked_welcome : (meaning : Meaning) (old new : Standing) (offer request : List ℕ) (result : Result Answer Refusal)
     → AnswersAccepted meaning old new offer (One request) (whole_in result) → AsksWelcome meaning old new offer request result
-asked_welcome meaning old new offer request result complete key barrier y all others asked items more again short s known ends alone a shown_so w =
+asked_welcome meaning old new offer request result complete key barrier y all others asked items more again short s known ends alone a
+    shown_so w =
     let verdict = verdict_is Opt y w.content.position (One request) again w.live w.offered in
     complete short key barrier y all others asked items more w.content s known ends alone a
     (λ busy. shown_so (λ k. busy (k.0, verdict ∙ ap verdict_of k.1))) w.right

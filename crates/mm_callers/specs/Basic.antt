@@ -7,7 +7,8 @@ use Rattle.mm_platform.specs.Standing.{Standing}
 use Rattle.mm_module.specs.Meaning.{Meaning}
 use Rattle.mm_module.specs.Batch.{Batch, One}
 use Rattle.mm_model.specs.Chains.{link_message, summary_of}
-use Rattle.mm_model.specs.Instance.{Instance, basic}
+use Rattle.mm_model.specs.Instance.{Instance}
+use Rattle.mm_model.specs.InstanceWords.{basic}
 use Rattle.mm_model.specs.History.{History}
 use Rattle.mm_model.specs.Long.{is_long}
 use Rattle.mm_model.specs.Standing.{StandsFor, issued_bytes}
@@ -31,15 +32,18 @@ pub record EndsWith (batches : List Batch) (b : Batch) : Type 0 where
 abbrev pub IsOnce : List Batch → Batch → List Batch → Type 0
 IsOnce before b after = (after ≡ before ++ b ∷ []) ⊎ ((after ≡ before) × EndsWith before b)
 
--- The answer is that of one run of these batches, the last of which is b: its position, outputs and snapshot.
-pub record IsOfRun (i : Instance) (new : Standing) (batches : List Batch) (b : Batch) (again : Bool) (answer : BatchAnswer) : Type 0 where
+-- The answer is that of one run of these batches, the last of which is b: its position, outputs and
+-- snapshot.
+pub record IsOfRun (i : Instance) (new : Standing) (batches : List Batch) (b : Batch) (again : Bool)
+    (answer : BatchAnswer) : Type 0 where
   pub after : History
   pub stands : StandsFor i new after
   pub batches_are : after.batches ≡ batches
   pub answer_is : answer ≡ answer_on i after b again
 
 -- The request stands once in the run that the answer is of.
-pub record AnswersOnce (i : Instance) (y : History) (new : Standing) (b : Batch) (answer : BatchAnswer) : Type 0 where
+pub record AnswersOnce (i : Instance) (y : History) (new : Standing) (b : Batch)
+    (answer : BatchAnswer) : Type 0 where
   pub batches : List Batch
   pub once : IsOnce y.batches b batches
   pub run : IsOfRun i new batches b answer.again answer
@@ -58,9 +62,10 @@ abbrev pub SaysUnlessFault : Option StepFault → Result Found Refusal → Refus
 SaysUnlessFault (Some fault) found why = Unit {0}
 SaysUnlessFault None found why = SaysFound found why
 
--- After an error the platform stands for a history of which the same holds as was asked, so that the call may be made
--- again.
-pub record Stays (all others : List (List ℕ)) (asked : List Batch) (i : Instance) (new : Standing) (offer : List ℕ)
+-- After an error the platform stands for a history of which the same holds as was asked, so that
+-- the call may be made again.
+pub record Stays (all others : List (List ℕ)) (asked : List Batch) (i : Instance) (new : Standing)
+    (offer : List ℕ)
     (b : Batch) : Type 0 where
   pub after : History
   pub stands : StandsFor i new after
@@ -68,57 +73,74 @@ pub record Stays (all others : List (List ℕ)) (asked : List Batch) (i : Instan
 
 -- The batches are as before; or this one was committed too, and at least one fault was counted.
 abbrev pub IsLeft : List Batch → Batch → List Batch → Standing → Standing → Type 0
-IsLeft before b after old new = (after ≡ before) ⊎ ((after ≡ before ++ b ∷ []) × (counted old.faults ≤ new.faults))
+IsLeft before b after old new =
+    (after ≡ before) ⊎ ((after ≡ before ++ b ∷ []) × (counted old.faults ≤ new.faults))
 
--- A call ended with an error, as did what was made of it once more after a fault: what stands, and what is told.
-pub record Refuses (all others : List (List ℕ)) (asked : List Batch) (i : Instance) (y : History) (old new : Standing) (offer : List ℕ)
+-- A call ended with an error, as did what was made of it once more after a fault: what stands, and
+-- what is told.
+pub record Refuses (all others : List (List ℕ)) (asked : List Batch) (i : Instance) (y : History)
+    (old new : Standing) (offer : List ℕ)
     (b : Batch) (why : Refusal) : Type 0 where
   pub stays : Stays all others asked i new offer b
   pub left : IsLeft y.batches b stays.after.batches old new
   pub says : SaysUnlessFault (fault_of why) (finds i stays.after offer b) why
 
 -- a call that is made once more after a device's fault
-abbrev pub AsksAgain : Meaning → Standing → Standing → List ℕ → List ℕ → Result Answer Refusal → Type 0
+abbrev pub AsksAgain : Meaning → Standing → Standing → List ℕ → List ℕ → Result Answer Refusal
+    → Type 0
 AsksAgain meaning old new offer request (Err why) =
     (key : List ℕ) (y : History) (all others : List (List ℕ)) (asked : List Batch) →
-    StandsFor (basic meaning key) old y → AreAsked all others asked (basic meaning key) y offer (One request) →
+    StandsFor (basic meaning key) old y
+    → AreAsked all others asked (basic meaning key) y offer (One request) →
     Refuses all others asked (basic meaning key) y old new offer (One request) why
 AsksAgain meaning old new offer request (Ok answer) =
     (key : List ℕ) (y : History) (all others : List (List ℕ)) (asked : List Batch) →
-    StandsFor (basic meaning key) old y → AreAsked all others asked (basic meaning key) y offer (One request) →
+    StandsFor (basic meaning key) old y
+    → AreAsked all others asked (basic meaning key) y offer (One request) →
     AnswersOnce (basic meaning key) y new (One request) (whole answer)
 
--- What is asked besides for a second batch, on the snapshot of the first answer: the messages by which it may follow.
-pub record AreAskedNext (all : List (List ℕ)) (asked : List Batch) (i : Instance) (y : History) (first second : Batch) : Type 0 where
+-- What is asked besides for a second batch, on the snapshot of the first answer: the messages by
+-- which it may follow.
+pub record AreAskedNext (all : List (List ℕ)) (asked : List Batch) (i : Instance) (y : History)
+    (first second : Batch) : Type 0 where
   pub is_asked : Contains asked second
   pub after_repeat : Contains all (link_message (summary_of i.meaning.id y.batches) second)
-  pub after_new : Contains all (link_message (summary_of i.meaning.id (y.batches ++ first ∷ [])) second)
+  pub after_new : Contains all
+      (link_message (summary_of i.meaning.id (y.batches ++ first ∷ [])) second)
 
 -- The first request was committed once, and the second follows it in the run that the answer is of.
-pub record AnswersNext (i : Instance) (y : History) (new : Standing) (first second : Batch) (answer : BatchAnswer) : Type 0 where
+pub record AnswersNext (i : Instance) (y : History) (new : Standing) (first second : Batch)
+    (answer : BatchAnswer) : Type 0 where
   pub batches : List Batch
   pub once : IsOnce y.batches first batches
   pub run : IsOfRun i new (batches ++ second ∷ []) second false answer
 
--- Two calls, the second on the snapshot of the first answer, ended with an error: the first was refused; or it was
--- answered, so that the first batch was committed once, and the second was refused on the snapshot of that place.
-pub data RefusesNext (all others : List (List ℕ)) (asked : List Batch) (i : Instance) (y : History) (old new : Standing) (offer : List ℕ)
+-- Two calls, the second on the snapshot of the first answer, ended with an error: the first was
+-- refused; or it was answered, so that the first batch was committed once, and the second was
+-- refused on the snapshot of that place.
+pub data RefusesNext (all others : List (List ℕ)) (asked : List Batch) (i : Instance) (y : History)
+    (old new : Standing) (offer : List ℕ)
     (first second : Batch) (why : Refusal) : Type 0 where
-  in_first : Refuses all others asked i y old new offer first why → RefusesNext all others asked i y old new offer first second why
-  in_second : (batches : List Batch) → IsOnce y.batches first batches → (stays : Stays all others asked i new offer first)
+  in_first : Refuses all others asked i y old new offer first why
+      → RefusesNext all others asked i y old new offer first second why
+  in_second : (batches : List Batch) → IsOnce y.batches first batches
+      → (stays : Stays all others asked i new offer first)
       → IsLeft batches second stays.after.batches old new
       → SaysUnlessFault (fault_of why) (finds i stays.after (issued_bytes i stays.after) second) why
       → RefusesNext all others asked i y old new offer first second why
 
 -- two calls, the second on the snapshot of the first answer
-abbrev pub AsksTwice : Meaning → Standing → Standing → List ℕ → List ℕ → List ℕ → Result Answer Refusal → Type 0
+abbrev pub AsksTwice : Meaning → Standing → Standing → List ℕ → List ℕ → List ℕ
+    → Result Answer Refusal → Type 0
 AsksTwice meaning old new offer first second (Err why) =
     (key : List ℕ) (y : History) (all others : List (List ℕ)) (asked : List Batch) →
-    StandsFor (basic meaning key) old y → AreAsked all others asked (basic meaning key) y offer (One first) →
+    StandsFor (basic meaning key) old y
+    → AreAsked all others asked (basic meaning key) y offer (One first) →
     AreAskedNext all asked (basic meaning key) y (One first) (One second) →
     RefusesNext all others asked (basic meaning key) y old new offer (One first) (One second) why
 AsksTwice meaning old new offer first second (Ok answer) =
     (key : List ℕ) (y : History) (all others : List (List ℕ)) (asked : List Batch) →
-    StandsFor (basic meaning key) old y → AreAsked all others asked (basic meaning key) y offer (One first) →
+    StandsFor (basic meaning key) old y
+    → AreAsked all others asked (basic meaning key) y offer (One first) →
     AreAskedNext all asked (basic meaning key) y (One first) (One second) →
     AnswersNext (basic meaning key) y new (One first) (One second) (whole answer)

@@ -1,4 +1,5 @@
--- What a caller of Opt gets that closes the segment between a request and the same request once more, by lists.
+-- What a caller of Opt gets that closes the segment between a request and the same request once
+-- more, by lists.
 use Rattle.std.specs.Prelude.{◌≡◌, ℕ, true, List, [], ◌∷◌, ◌++◌, Option, None, Some, Result, Ok, Err}
 use Rattle.mm_digest.specs.declared.variant.Variant.TheVariants.{Opt}
 use Rattle.mm_digest.specs.Messages.{extended_of, anchored_message}
@@ -6,8 +7,10 @@ use Rattle.mm_platform.specs.declared.fault.StepFault.{StepFault}
 use Rattle.mm_platform.specs.Standing.{Item, Standing, item_values}
 use Rattle.mm_module.specs.Meaning.{Meaning}
 use Rattle.mm_module.specs.Batch.{Batch, One}
-use Rattle.mm_model.specs.Instance.{Instance, opt}
-use Rattle.mm_model.specs.History.{History, register_value_of, cell_digest_of}
+use Rattle.mm_model.specs.Instance.{Instance}
+use Rattle.mm_model.specs.InstanceWords.{opt}
+use Rattle.mm_model.specs.History.{History, register_value_of}
+use Rattle.mm_model.specs.HistoryWords.{cell_digest_of}
 use Rattle.mm_model.specs.Life.{life_of, is_lost}
 use Rattle.mm_model.specs.Messages.{Within}
 use Rattle.mm_model.specs.Standing.{StandsFor}
@@ -29,25 +32,31 @@ use Rattle.mm_callers.specs.declared.closing.Replies.{Replies}
 use Rattle.mm_callers.specs.declared.closing.Halted.{Halted}
 use Rattle.mm_callers.specs.declared.closing.Halted.TheVariants.{Asking, Closing}
 
--- The messages by which a segment may be closed at this anchor: with the register's value before each of these values, and
--- after the last of them.
+-- The messages by which a segment may be closed at this anchor: with the register's value before
+-- each of these values, and after the last of them.
 abbrev pub closing_messages : List ℕ → List ℕ → List (List ℕ) → List (List ℕ)
 closing_messages anchor register [] = anchored_message anchor register ∷ []
-closing_messages anchor register (v ∷ values) = anchored_message anchor register ∷ closing_messages anchor (extended_of register v) values
+closing_messages anchor register (v ∷ values) =
+    anchored_message anchor register ∷ closing_messages anchor (extended_of register v) values
 
--- What is asked besides for a checkpoint: the messages by which it may close the segment, at any of these items.
+-- What is asked besides for a checkpoint: the messages by which it may close the segment, at any of
+-- these items.
 abbrev pub MayClose : List (List ℕ) → Instance → History → List Item → Type 0
-MayClose all i y more = Within (closing_messages (cell_digest_of i Opt y) (register_value_of i (counted_part y)) (item_values more)) all
+MayClose all i y more =
+    Within (closing_messages (cell_digest_of i Opt y) (register_value_of i (counted_part y))
+    (item_values more)) all
 
--- What is asked of the items that the register shows. Where the first call is idle nothing is: it leaves no segment open,
--- so there is none to close, and the second call is idle too.
-abbrev pub AreShownUnlessIdle : List (List ℕ) → List (List ℕ) → Instance → History → List ℕ → Batch → List Item → Type 0
+-- What is asked of the items that the register shows. Where the first call is idle nothing is: it
+-- leaves no segment open, so there is none to close, and the second call is idle too.
+abbrev pub AreShownUnlessIdle : List (List ℕ) → List (List ℕ) → Instance → History → List ℕ → Batch
+    → List Item → Type 0
 AreShownUnlessIdle all others i y offer b more =
     (IsIdle i y offer b → ⊥) → AreShown all others i y more × MayClose all i y more
 
--- The second reply is the first one again: it is told as a repeat, at the first one's position and with its outputs, and
--- the batch stands once in the run that it is of.
-pub record RepeatsReply (i : Instance) (y : History) (new : Standing) (b : Batch) (first second : BatchAnswer) : Type 0 where
+-- The second reply is the first one again: it is told as a repeat, at the first one's position and
+-- with its outputs, and the batch stands once in the run that it is of.
+pub record RepeatsReply (i : Instance) (y : History) (new : Standing) (b : Batch)
+    (first second : BatchAnswer) : Type 0 where
   pub again : second.again ≡ true
   pub position : second.position ≡ first.position
   pub outputs : second.outputs ≡ first.outputs
@@ -62,67 +71,86 @@ SaysClosing Cell y = ⊥
 SaysClosing Kind y = ⊥
 
 -- The first call was answered: the batch was committed once, and the call may be made again.
-pub record StaysOnce (all others : List (List ℕ)) (asked : List Batch) (i : Instance) (y : History) (new : Standing) (offer : List ℕ)
+pub record StaysOnce (all others : List (List ℕ)) (asked : List Batch) (i : Instance) (y : History)
+    (new : Standing) (offer : List ℕ)
     (b : Batch) : Type 0 where
   pub stays : Stays all others asked i new offer b
   pub once : IsOnce y.batches b stays.after.batches
 
--- It was made once more behind the checkpoint, and refused as it was found. Where it handed on a device's fault the
--- register may be emptied, and nothing is known by its items at exit.
-pub record RefusesBehind (all others : List (List ℕ)) (asked : List Batch) (i : Instance) (y : History) (new : Standing) (offer : List ℕ)
+-- It was made once more behind the checkpoint, and refused as it was found. Where it handed on a
+-- device's fault the register may be emptied, and nothing is known by its items at exit.
+pub record RefusesBehind (all others : List (List ℕ)) (asked : List Batch) (i : Instance)
+    (y : History) (new : Standing) (offer : List ℕ)
     (b : Batch) (why : Refusal) : Type 0 where
   pub one : StaysOnce all others asked i y new offer b
   pub says : SaysFound (finds i one.stays.after offer b) why
 
-abbrev pub EndsBehind : Option StepFault → List (List ℕ) → List (List ℕ) → List Batch → Instance → History → Standing → List ℕ → Batch
+abbrev pub EndsBehind : Option StepFault → List (List ℕ) → List (List ℕ) → List Batch → Instance
+    → History → Standing → List ℕ → Batch
     → Refusal → Type 0
 EndsBehind (Some fault) all others asked i y new offer b why = Unit {0}
-EndsBehind None all others asked i y new offer b why = RefusesBehind all others asked i y new offer b why
+EndsBehind None all others asked i y new offer b why =
+    RefusesBehind all others asked i y new offer b why
 
 -- The error is that of the call, of the checkpoint, or of the call once more.
-pub data RefusesRepeat (all others : List (List ℕ)) (asked : List Batch) (i : Instance) (y : History) (old new : Standing) (offer : List ℕ)
+pub data RefusesRepeat (all others : List (List ℕ)) (asked : List Batch) (i : Instance)
+    (y : History) (old new : Standing) (offer : List ℕ)
     (b : Batch) (why : Halted) : Type 0 where
   in_first : (is : Refusal) → why ≡ Asking is → Refuses all others asked i y old new offer b is
       → RefusesRepeat all others asked i y old new offer b why
-  in_closing : (is : CheckpointRefusal) → why ≡ Closing is → (one : StaysOnce all others asked i y new offer b)
+  in_closing : (is : CheckpointRefusal) → why ≡ Closing is
+      → (one : StaysOnce all others asked i y new offer b)
       → SaysClosing is one.stays.after
       → RefusesRepeat all others asked i y old new offer b why
-  in_second : (is : Refusal) → why ≡ Asking is → EndsBehind (fault_of is) all others asked i y new offer b is
+  in_second : (is : Refusal) → why ≡ Asking is
+      → EndsBehind (fault_of is) all others asked i y new offer b is
       → RefusesRepeat all others asked i y old new offer b why
 
--- A request, a checkpoint and the request once more, where the second reply is told as a repeat. What is asked of what
--- others do is asked of the register's items at exit.
-abbrev pub RepeatsBehind : Meaning → Standing → Standing → List ℕ → List ℕ → Result Replies Halted → Type 0
+-- A request, a checkpoint and the request once more, where the second reply is told as a repeat.
+-- What is asked of what others do is asked of the register's items at exit.
+abbrev pub RepeatsBehind : Meaning → Standing → Standing → List ℕ → List ℕ → Result Replies Halted
+    → Type 0
 RepeatsBehind meaning old new offer request (Err why) =
-    (key barrier : List ℕ) (y : History) (all others : List (List ℕ)) (asked : List Batch) (items more : List Item) →
-    StandsFor (opt meaning key barrier) old y → old.items ≡ Some items → new.items ≡ Some (standing_items y.is_open items ++ more) →
+    (key barrier : List ℕ) (y : History) (all others : List (List ℕ)) (asked : List Batch)
+    (items more : List Item) →
+    StandsFor (opt meaning key barrier) old y → old.items ≡ Some items
+    → new.items ≡ Some (standing_items y.is_open items ++ more) →
     AreAsked all others asked (opt meaning key barrier) y offer (One request) →
     AreShownUnlessIdle all others (opt meaning key barrier) y offer (One request) more →
     RefusesRepeat all others asked (opt meaning key barrier) y old new offer (One request) why
 RepeatsBehind meaning old new offer request (Ok replies) =
     replies.second.again ≡ true →
-    (key barrier : List ℕ) (y : History) (all others : List (List ℕ)) (asked : List Batch) (items more : List Item) →
-    StandsFor (opt meaning key barrier) old y → old.items ≡ Some items → new.items ≡ Some (standing_items y.is_open items ++ more) →
+    (key barrier : List ℕ) (y : History) (all others : List (List ℕ)) (asked : List Batch)
+    (items more : List Item) →
+    StandsFor (opt meaning key barrier) old y → old.items ≡ Some items
+    → new.items ≡ Some (standing_items y.is_open items ++ more) →
     AreAsked all others asked (opt meaning key barrier) y offer (One request) →
     AreShownUnlessIdle all others (opt meaning key barrier) y offer (One request) more →
-    RepeatsReply (opt meaning key barrier) y new (One request) (whole replies.first) (whole replies.second)
+    RepeatsReply (opt meaning key barrier) y new (One request) (whole replies.first)
+    (whole replies.second)
 
--- It is told as a repeat. A request that is taken as new empties the register, so what was in it when the segment was
--- closed isn't seen at exit: it is seen on the platform when the checkpoint was over, which each of the three calls ties
--- to what stood before and after. What is asked is asked of the items there.
-pub record ClosesBetween (meaning : Meaning) (old new : Standing) (offer request : List ℕ) (first second : Answer) : Type 0 where
+-- It is told as a repeat. A request that is taken as new empties the register, so what was in it
+-- when the segment was closed isn't seen at exit: it is seen on the platform when the checkpoint
+-- was over, which each of the three calls ties to what stood before and after. What is asked is
+-- asked of the items there.
+pub record ClosesBetween (meaning : Meaning) (old new : Standing) (offer request : List ℕ)
+    (first second : Answer) : Type 0 where
   pub answered : Standing
   pub closed : Standing
   pub asks : CallsOn Opt meaning old answered offer (One request) (Ok (whole first))
   pub said : Checkpointed
   pub checks : ChecksOn answered closed (Ok said)
   pub asks_again : CallsOn Opt meaning closed new offer (One request) (Ok (whole second))
-  pub repeats : (key barrier : List ℕ) (y : History) (all others : List (List ℕ)) (asked : List Batch) (items more : List Item) →
-      StandsFor (opt meaning key barrier) old y → old.items ≡ Some items → closed.items ≡ Some (standing_items y.is_open items ++ more) →
+  pub repeats : (key barrier : List ℕ) (y : History) (all others : List (List ℕ))
+      (asked : List Batch) (items more : List Item) →
+      StandsFor (opt meaning key barrier) old y → old.items ≡ Some items
+      → closed.items ≡ Some (standing_items y.is_open items ++ more) →
       AreAsked all others asked (opt meaning key barrier) y offer (One request) →
       AreShownUnlessIdle all others (opt meaning key barrier) y offer (One request) more →
       RepeatsReply (opt meaning key barrier) y new (One request) (whole first) (whole second)
 
-abbrev pub NeverTwice : Meaning → Standing → Standing → List ℕ → List ℕ → Result Replies Halted → Type 0
+abbrev pub NeverTwice : Meaning → Standing → Standing → List ℕ → List ℕ → Result Replies Halted
+    → Type 0
 NeverTwice meaning old new offer request (Err why) = Unit {0}
-NeverTwice meaning old new offer request (Ok replies) = ClosesBetween meaning old new offer request replies.first replies.second
+NeverTwice meaning old new offer request (Ok replies) =
+    ClosesBetween meaning old new offer request replies.first replies.second

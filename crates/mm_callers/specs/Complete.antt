@@ -4,7 +4,8 @@ use Rattle.mm_base.specs.Limits.{last_position}
 use Rattle.mm_module.specs.Meaning.{Meaning}
 use Rattle.mm_module.specs.Batch.{Batch, size_of}
 use Rattle.mm_seal.specs.Snapshot.{Content}
-use Rattle.mm_model.specs.Instance.{Instance, basic, opt}
+use Rattle.mm_model.specs.Instance.{Instance}
+use Rattle.mm_model.specs.InstanceWords.{basic, opt}
 use Rattle.mm_model.specs.History.{History, total_of}
 use Rattle.mm_model.specs.Life.{Live, life_of}
 use Rattle.mm_model.specs.Standing.{IsRight}
@@ -19,15 +20,16 @@ pub record IsSmooth (course : Course) : Type 0 where
   pub done : (n : ℕ) → (course.fates n).ends ≡ Done
   pub lacks : course.lacks ≡ false
 
--- A position at which the batch may be asked for: the last one; or, for a repeat, the one before the batch that was
--- committed last, which is the one asked.
+-- A position at which the batch may be asked for: the last one; or, for a repeat, the one before
+-- the batch that was committed last, which is the one asked.
 abbrev pub IsOfferedAt : Bool → List Batch → ℕ → Batch → Type 0
 IsOfferedAt false batches position b = position ≡ total_of batches
 IsOfferedAt true batches position b = (ends : EndsWith batches b) × (position ≡ total_of ends.front)
 
--- An offer is welcome to a history, by whether it is a repeat's: the history is live; the offer is right, and at such a
--- position; and there are positions left.
-pub record IsWelcome (i : Instance) (y : History) (offer : List ℕ) (b : Batch) (again : Bool) : Type 0 where
+-- An offer is welcome to a history, by whether it is a repeat's: the history is live; the offer is
+-- right, and at such a position; and there are positions left.
+pub record IsWelcome (i : Instance) (y : History) (offer : List ℕ) (b : Batch) (again : Bool) : Type
+    0 where
   pub live : life_of i.variant y ≡ Live
   pub content : Content
   pub right : IsRight i offer content
@@ -40,12 +42,13 @@ batches_then true batches b = batches
 batches_then false batches b = batches ++ b ∷ []
 
 -- the call answers, and what stands then
-pub record IsAnswer (i : Instance) (y : History) (b : Batch) (again : Bool) (o : Called History) : Type 0 where
+pub record IsAnswer (i : Instance) (y : History) (b : Batch) (again : Bool)
+    (o : Called History) : Type 0 where
   pub ending : o.ending ≡ Answers (answer_on i o.state b again)
   pub batches : o.state.batches ≡ batches_then again y.batches b
 
--- On a course on which no step fails and memory isn't wanting, a call whose offer is welcome to the history that it sees
--- answers.
+-- On a course on which no step fails and memory isn't wanting, a call whose offer is welcome to the
+-- history that it sees answers.
 abbrev pub CallsAreComplete : Instance → Type 0
 CallsAreComplete i = (y : History) (course : Course) (offer : List ℕ) (b : Batch) (again : Bool) →
     IsSmooth course → IsWelcome i (seen_at i (by_lists i) y course) offer b again →
@@ -55,4 +58,5 @@ abbrev pub BasicCallsAreComplete : Type 0
 BasicCallsAreComplete = (meaning : Meaning) (key : List ℕ) → CallsAreComplete (basic meaning key)
 
 abbrev pub OptCallsAreComplete : Type 0
-OptCallsAreComplete = (meaning : Meaning) (key barrier : List ℕ) → CallsAreComplete (opt meaning key barrier)
+OptCallsAreComplete =
+    (meaning : Meaning) (key barrier : List ℕ) → CallsAreComplete (opt meaning key barrier)

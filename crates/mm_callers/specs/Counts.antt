@@ -28,42 +28,57 @@ StepsOf Opt result old new = OptSteps result old new
 
 -- Of a batch that is too long, none.
 abbrev pub StepsFor : Bool → Variant → Result BatchAnswer Refusal → Standing → Standing → Type 0
-StepsFor true variant result old new = (result ≡ Err Long) × (new.steps ≡ old.steps) × (new.writes ≡ old.writes)
+StepsFor true variant result old new =
+    (result ≡ Err Long) × (new.steps ≡ old.steps) × (new.writes ≡ old.writes)
 StepsFor false variant result old new = StepsOf variant result old new
 
 -- One call counts its steps, and a fault exactly where it hands one on.
-pub record CountsCall (variant : Variant) (b : Batch) (old new : Standing) (result : Result BatchAnswer Refusal) : Type 0 where
+pub record CountsCall (variant : Variant) (b : Batch) (old new : Standing)
+    (result : Result BatchAnswer Refusal) : Type 0 where
   pub steps : StepsFor (is_long b) variant result old new
   pub faults : Blames (fault_in result) old.faults new.faults
 
--- One call, which hands on no fault; or, where it handed one on, another. So a fault is told only where two were counted.
-pub data CountsAgain (variant : Variant) (b : Batch) (old new : Standing) (result : Result BatchAnswer Refusal) : Type 0 where
-  at_once : fault_in result ≡ None → CountsCall variant b old new result → CountsAgain variant b old new result
-  again : (middle : Standing) (fault : StepFault) → CountsCall variant b old middle (Err (Device fault))
+-- One call, which hands on no fault; or, where it handed one on, another. So a fault is told only
+-- where two were counted.
+pub data CountsAgain (variant : Variant) (b : Batch) (old new : Standing)
+    (result : Result BatchAnswer Refusal) : Type 0 where
+  at_once : fault_in result ≡ None → CountsCall variant b old new result
+      → CountsAgain variant b old new result
+  again : (middle : Standing) (fault : StepFault)
+      → CountsCall variant b old middle (Err (Device fault))
       → CountsCall variant b middle new result → CountsAgain variant b old new result
 
 -- One call, which was refused; or, where it was answered, another.
-pub data CountsNext (variant : Variant) (first second : Batch) (old new : Standing) (result : Result BatchAnswer Refusal) : Type 0 where
+pub data CountsNext (variant : Variant) (first second : Batch) (old new : Standing)
+    (result : Result BatchAnswer Refusal) : Type 0 where
   alone : (why : Refusal) → result ≡ Err why → CountsCall variant first old new result
       → CountsNext variant first second old new result
-  both : (middle : Standing) (answer : BatchAnswer) → CountsCall variant first old middle (Ok answer)
+  both : (middle : Standing) (answer : BatchAnswer)
+      → CountsCall variant first old middle (Ok answer)
       → CountsCall variant second middle new result → CountsNext variant first second old new result
 
 -- So does a checkpoint.
-pub record CountsClosing (old new : Standing) (result : Result Checkpointed CheckpointRefusal) : Type 0 where
+pub record CountsClosing (old new : Standing)
+    (result : Result Checkpointed CheckpointRefusal) : Type 0 where
   pub steps : ClosingStepsBy result old new
   pub faults : Blames (closing_fault_in result) old.faults new.faults
 
--- A call; where it was answered, a checkpoint; and where that was made, the call once more. An error is that of the last
--- of these.
-pub data CountsRepeat (b : Batch) (old new : Standing) (result : Result Replies Halted) : Type 0 where
-  in_first : (why : Refusal) → result ≡ Err (Asking why) → CountsCall Opt b old new (Err why) → CountsRepeat b old new result
-  in_closing : (why : CheckpointRefusal) → result ≡ Err (Closing why) → (answered : Standing) (first : BatchAnswer)
-      → CountsCall Opt b old answered (Ok first) → CountsClosing answered new (Err why) → CountsRepeat b old new result
-  in_second : (why : Refusal) → result ≡ Err (Asking why) → (answered closed : Standing) (first : BatchAnswer) (said : Checkpointed)
-      → CountsCall Opt b old answered (Ok first) → CountsClosing answered closed (Ok said) → CountsCall Opt b closed new (Err why)
-      → CountsRepeat b old new result
-  replied : (first second : Answer) → result ≡ Ok (record { first = first; second = second })
-      → (answered closed : Standing) (said : Checkpointed)
-      → CountsCall Opt b old answered (Ok (whole first)) → CountsClosing answered closed (Ok said)
-      → CountsCall Opt b closed new (Ok (whole second)) → CountsRepeat b old new result
+-- A call; where it was answered, a checkpoint; and where that was made, the call once more. An
+-- error is that of the last of these.
+pub data CountsRepeat (b : Batch) (old new : Standing) (result : Result Replies Halted) : Type 0
+  where
+    in_first : (why : Refusal) → result ≡ Err (Asking why) → CountsCall Opt b old new (Err why)
+        → CountsRepeat b old new result
+    in_closing : (why : CheckpointRefusal) → result ≡ Err (Closing why)
+        → (answered : Standing) (first : BatchAnswer)
+        → CountsCall Opt b old answered (Ok first) → CountsClosing answered new (Err why)
+        → CountsRepeat b old new result
+    in_second : (why : Refusal) → result ≡ Err (Asking why)
+        → (answered closed : Standing) (first : BatchAnswer) (said : Checkpointed)
+        → CountsCall Opt b old answered (Ok first) → CountsClosing answered closed (Ok said)
+        → CountsCall Opt b closed new (Err why)
+        → CountsRepeat b old new result
+    replied : (first second : Answer) → result ≡ Ok (record { first = first; second = second })
+        → (answered closed : Standing) (said : Checkpointed)
+        → CountsCall Opt b old answered (Ok (whole first)) → CountsClosing answered closed (Ok said)
+        → CountsCall Opt b closed new (Ok (whole second)) → CountsRepeat b old new result

@@ -9,7 +9,8 @@ use Rattle.mm_base.specs.Faults.{counted}
 use Rattle.mm_digest.specs.declared.digest.Digest.{Digest}
 use Rattle.mm_platform.specs.declared.plan.Meddle.{Meddle}
 use Rattle.mm_platform.specs.declared.plan.Stop.TheVariants.{Quiet}
-use Rattle.mm_platform.specs.Standing.{Plan, Standing, due}
+use Rattle.mm_platform.specs.Standing.{Plan, Standing}
+use Rattle.mm_platform.specs.StandingWords.{due}
 use Rattle.mm_platform.specs.Memory.{meddling}
 use Rattle.mm_call.proofs.Telling.{IsAt, then_at, room_at}
 use Rattle.mm_flight.specs.InFlight.{plan_by, under, SaySame, GoesOnAs, InFlight}

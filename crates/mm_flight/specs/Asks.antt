@@ -53,15 +53,18 @@ of_opt (in_opt.Done answer) = Done answer
 of_opt (in_opt.Refused why) = Refused why
 
 -- a turn that is drawn from that of a core
-pub record TurnsFrom {T : Type 0} (turned : T → Type 0) (given : T → AskTurn) (turn : AskTurn) : Type 0 where
+pub record TurnsFrom {T : Type 0} (turned : T → Type 0) (given : T → AskTurn)
+    (turn : AskTurn) : Type 0 where
   pub core : T
   pub turns : turned core
   pub gives : turn ≡ given core
 
 -- One turn of a call: what its step does, and what the turn gives.
 abbrev pub AskTurns : Meaning → AskCall → Standing → Standing → List ℕ → Batch → AskTurn → Type 0
-AskTurns meaning (Basic ready) old new offer b turn = TurnsFrom (basic_turns.Turns meaning ready old new offer b) of_basic turn
-AskTurns meaning (Opt stage) old new offer b turn = TurnsFrom (opt_turns.Turns meaning stage old new offer b) of_opt turn
+AskTurns meaning (Basic ready) old new offer b turn =
+    TurnsFrom (basic_turns.Turns meaning ready old new offer b) of_basic turn
+AskTurns meaning (Opt stage) old new offer b turn =
+    TurnsFrom (opt_turns.Turns meaning stage old new offer b) of_opt turn
 
 -- the room that the rest of a call takes, if it goes on
 abbrev pub TurnMayAsk : AskTurn → Standing → Type 0
@@ -76,7 +79,8 @@ ask_fault (Done answer) = None
 ask_fault (Refused why) = fault_of why
 
 -- One turn of a call that stands so.
-pub record AdvancedAsk (meaning : Meaning) (call : AskCall) (old new : Standing) (offer : List ℕ) (b : Batch)
+pub record AdvancedAsk (meaning : Meaning) (call : AskCall) (old new : Standing) (offer : List ℕ)
+    (b : Batch)
     (turn : AskTurn) : Type 0 where
   -- what its step did, and what the turn gives
   pub turns : AskTurns meaning call old new offer b turn
@@ -87,15 +91,20 @@ pub record AdvancedAsk (meaning : Meaning) (call : AskCall) (old new : Standing)
 
 -- What is left of a call: the steps that are made, and what each gives.
 abbrev pub AskFinishes : Meaning → AskCall → Standing → Standing → List ℕ → Batch → Ended → Type 0
-AskFinishes meaning (Basic ready) old new offer b ended = basic_asks.Finishes meaning ready old new offer b ended
-AskFinishes meaning (Opt stage) old new offer b ended = opt_finishes.Finishes meaning stage old new offer b ended
+AskFinishes meaning (Basic ready) old new offer b ended =
+    basic_asks.Finishes meaning ready old new offer b ended
+AskFinishes meaning (Opt stage) old new offer b ended =
+    opt_finishes.Finishes meaning stage old new offer b ended
 
 -- What was left of a call that stood so.
-pub record FinishedAsk (meaning : Meaning) (call : AskCall) (old new : Standing) (offer : List ℕ) (b : Batch)
+pub record FinishedAsk (meaning : Meaning) (call : AskCall) (old new : Standing) (offer : List ℕ)
+    (b : Batch)
     (ended : Ended) : Type 0 where
   -- the steps that were made, and what each gave
   pub finishes : AskFinishes meaning call old new offer b ended
-  -- from its beginning it is the call that the definitions give, on some course, by digests and by lists
-  pub ends : (variant : Variant) → call ≡ begun variant → CallsTo variant meaning old new offer b ended
+  -- from its beginning it is the call that the definitions give, on some course, by digests and by
+  -- lists
+  pub ends : (variant : Variant) → call ≡ begun variant
+      → CallsTo variant meaning old new offer b ended
   -- the count of faults rose exactly where a device's fault is handed on
   pub faults : Blames (fault_in (result_of ended)) old.faults new.faults

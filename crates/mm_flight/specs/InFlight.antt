@@ -1,9 +1,11 @@
--- A call in flight: some of its device steps were made, and whatever ends what is left of it makes it a call in one go.
+-- A call in flight: some of its device steps were made, and whatever ends what is left of it makes
+-- it a call in one go.
 use Rattle.std.specs.Prelude.{◌≡◌, ◌<◌, ◌≤◌, ℕ, true, List, Some}
 use Rattle.mm_platform.specs.declared.plan.Meddle.{Meddle}
 use Rattle.mm_platform.specs.declared.plan.Stop.{Stop}
 use Rattle.mm_platform.specs.declared.plan.Stop.TheVariants.{Quiet}
-use Rattle.mm_platform.specs.Standing.{Plan, Standing, due}
+use Rattle.mm_platform.specs.Standing.{Plan, Standing}
+use Rattle.mm_platform.specs.StandingWords.{due}
 use Rattle.mm_platform.specs.Steps.{fault_at, is_made_at, is_on_at}
 
 -- the plan of a call with these meddles, that is stopped so
@@ -14,21 +16,24 @@ plan_by stop meddles = record { stop = stop; meddles = meddles; at = 0 }
 abbrev pub under : Plan → ℕ → Standing → Standing
 under plan at standing = record standing { plan = Some (record plan { at = at }) }
 
--- Two plans say the same of the step with this number: the values that others bring before it, the fault that it answers,
--- whether its effect is made, and whether the platform is on afterwards.
+-- Two plans say the same of the step with this number: the values that others bring before it, the
+-- fault that it answers, whether its effect is made, and whether the platform is on afterwards.
 pub record SaySame (one other : Plan) (n : ℕ) : Type 0 where
   pub brings : due n one.meddles ≡ due n other.meddles
   pub answers : fault_at one.stop n ≡ fault_at other.stop n
   pub makes : is_made_at one.stop n ≡ is_made_at other.stop n
   pub stays : is_on_at one.stop n ≡ is_on_at other.stop n
 
--- the plan says of the steps that were made what was met there: these meddles, and nothing that goes wrong
+-- the plan says of the steps that were made what was met there: these meddles, and nothing that
+-- goes wrong
 abbrev pub GoesOnAs : Plan → List Meddle → ℕ → Type 0
 GoesOnAs plan meddles made = (n : ℕ) → n ≤ made → SaySame plan (plan_by Quiet meddles) n
 
--- A call that began over a platform that stood as `old`, and of which so many steps were made; these are the meddles so far.
--- Whatever ends what is left of it makes it, under each plan that says so of the steps made, the call in one go.
-pub record InFlight {E : Type 0} (calls rest : Standing → Standing → E → Type 0) (old now : Standing)
+-- A call that began over a platform that stood as `old`, and of which so many steps were made;
+-- these are the meddles so far. Whatever ends what is left of it makes it, under each plan that
+-- says so of the steps made, the call in one go.
+pub record InFlight {E : Type 0} (calls rest : Standing → Standing → E → Type 0)
+    (old now : Standing)
     (meddles : List Meddle) (made : ℕ) : Type 0 where
   pub is_on : now.is_on ≡ true
   pub planned : now.plan ≡ Some (record (plan_by Quiet meddles) { at = made })

@@ -7,7 +7,8 @@ use Rattle.std.proofs.lemmas.Bool.Decides.{nat_tests}
 use Rattle.mm_base.specs.Lines.{MayGrow}
 use Rattle.mm_base.specs.Limits.{longest_request}
 use Rattle.mm_module.specs.Batch.{One}
-use Rattle.mm_model.specs.Long.{is_lf, is_long}
+use Rattle.mm_model.specs.Long.{is_long}
+use Rattle.mm_model.specs.LongWords.{is_lf}
 
 not_lf : (byte : ℕ) → byte ≢ 10 → is_lf byte ≡ false
 not_lf byte h = grind (arith, nat_tests, h)

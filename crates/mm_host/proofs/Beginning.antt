@@ -21,7 +21,8 @@ reads_nothing : (slot : ℕ) (kept : StoreStanding) → ReadsSlot slot kept kept
 reads_nothing slot kept = record { slots = refl; honest = refl; counted = refl; gives = tt; short = tt; unsynced = refl }
 
 -- want of memory at once is that of a first read
-resumes_nothing : (variant : Variant) (meaning : Meaning) (before : Standing) (old : StoreStanding) → Resumes variant meaning before before old old (Err host.Memory)
+resumes_nothing : (variant : Variant) (meaning : Meaning) (before : Standing) (old : StoreStanding)
+    → Resumes variant meaning before before old old (Err host.Memory)
 resumes_nothing variant meaning before old = record {
   middle = old;
   waiting = Err fault.Memory;
@@ -29,7 +30,8 @@ resumes_nothing variant meaning before old = record {
   goes = (refl, refl, refl);
 }
 
-pub lacks_memory : (variant : Variant) (meaning : Meaning) (before : Standing) (old : StoreStanding) (left received : Option (List ℕ)) → Sessions variant meaning before before old old left left received received (Err Memory)
+pub lacks_memory : (variant : Variant) (meaning : Meaning) (before : Standing) (old : StoreStanding) (left received : Option (List ℕ))
+    → Sessions variant meaning before before old old left left received received (Err Memory)
 lacks_memory variant meaning before old left received = record {
   taken = [];
   sent = [];
@@ -42,7 +44,9 @@ lacks_memory variant meaning before old left received = record {
   goes = inl (refl, refl, record { fault = Memory; says = inl (refl, refl); stops = refl; nothing = refl });
 }
 
-pub stops_at_once : (variant : Variant) (meaning : Meaning) (before after : Standing) (old new : StoreStanding) (left received received' : Option (List ℕ)) (begun : Result Resumed HostFault) (told : Result Resumed SessionFault) (fault : SessionFault)
+pub stops_at_once : (variant : Variant) (meaning : Meaning) (before after : Standing) (old new : StoreStanding)
+    (left received received' : Option (List ℕ)) (begun : Result Resumed HostFault) (told : Result Resumed SessionFault)
+    (fault : SessionFault)
     → Resumes variant meaning before after old new begun → TellsReply begun received received' told → told ≡ Err fault
     → Sessions variant meaning before after old new left left received received' (Err fault)
 stops_at_once variant meaning before after old new left received received' begun told fault r t e = record {
@@ -81,9 +85,12 @@ told_on : (begun : Result Resumed HostFault) (sent : List ℕ) (first : Resumed)
 told_on begun sent first (inl s) = record { begins = came_on begun first s.1; text = s.0 }
 told_on begun sent first (inr s) = let e = s.0 in absurd (cc)
 
-pub goes_on : (variant : Variant) (meaning : Meaning) (before platform after : Standing) (old store new : StoreStanding) (left left' received received' received'' : Option (List ℕ)) (begun : Result Resumed HostFault) (told : Result Resumed SessionFault) (first : Resumed) (result : Result Unit SessionFault)
+pub goes_on : (variant : Variant) (meaning : Meaning) (before platform after : Standing) (old store new : StoreStanding)
+    (left left' received received' received'' : Option (List ℕ)) (begun : Result Resumed HostFault) (told : Result Resumed SessionFault)
+    (first : Resumed) (result : Result Unit SessionFault)
     → Resumes variant meaning before platform old store begun → TellsReply begun received received' told → told ≡ Ok first
-    → ServesInput variant meaning (record { platform = platform; store = store; last = first }) after new left left' received' received'' result
+    → ServesInput variant meaning (record { platform = platform; store = store; last = first }) after new left left' received' received''
+    result
     → Sessions variant meaning before after old new left left' received received'' result
 goes_on variant meaning before platform after old store new left left' received received' received'' begun told first result r t e s =
     let o = told_on begun t.sent first (subst (λ (x : Result Resumed SessionFault). SendsReply begun t.sent x) e t.says) in

@@ -7,7 +7,8 @@ use Rattle.mm_platform.specs.Standing.{Item, Standing}
 use Rattle.mm_module.specs.Meaning.{Meaning, IsLawful}
 use Rattle.mm_module.specs.Batch.{Batch, One}
 use Rattle.mm_seal.specs.Snapshot.{Content}
-use Rattle.mm_model.specs.Instance.{Instance, basic, opt}
+use Rattle.mm_model.specs.Instance.{Instance}
+use Rattle.mm_model.specs.InstanceWords.{basic, opt}
 use Rattle.mm_model.specs.History.{History, Move, Commit, Foreign, moved}
 use Rattle.mm_model.specs.Life.{Lost as LostLife, life_of}
 use Rattle.mm_model.specs.Moves.{digests_of}
@@ -58,16 +59,19 @@ IsGrownBy i y waiting after =
     IsSame i.variant after y
     ⊎ ((p : Pending) × (waiting ≡ Some p) × IsSame i.variant after (moved i y (Commit (One p.request))))
 
-basic_grown : (meaning : Meaning) (key : List ℕ) (y after : History) (p : Pending) → (after.batches ≡ y.batches) ⊎ (after.batches ≡ y.batches ++ One p.request ∷ []) → IsGrownBy (basic meaning key) y (Some p) after
+basic_grown : (meaning : Meaning) (key : List ℕ) (y after : History) (p : Pending)
+    → (after.batches ≡ y.batches) ⊎ (after.batches ≡ y.batches ++ One p.request ∷ []) → IsGrownBy (basic meaning key) y (Some p) after
 basic_grown meaning key y after p (inl e) = inl e
 basic_grown meaning key y after p (inr e) = inr (p, refl, e)
 
-pub opt_grown : (meaning : Meaning) (key barrier : List ℕ) (y after : History) (p : Pending) → Alike meaning key barrier y (One p.request) after → IsGrownBy (opt meaning key barrier) y (Some p) after
+pub opt_grown : (meaning : Meaning) (key barrier : List ℕ) (y after : History) (p : Pending)
+    → Alike meaning key barrier y (One p.request) after → IsGrownBy (opt meaning key barrier) y (Some p) after
 opt_grown meaning key barrier y after p (still e) = inl e
 opt_grown meaning key barrier y after p (grown_by e) = inr (p, refl, e)
 
 -- what one call for the request that waits comes to by lists
-pub record Called (all others : List (List ℕ)) (asked : List Batch) (i : Instance) (y : History) (standing : Standing) (offer : List ℕ) (p : Pending) (gives : Result BatchAnswer Refusal) : Type 0 where
+pub record Called (all others : List (List ℕ)) (asked : List Batch) (i : Instance) (y : History) (standing : Standing) (offer : List ℕ)
+    (p : Pending) (gives : Result BatchAnswer Refusal) : Type 0 where
   pub after : History
   pub stands : StandsFor i standing after
   pub within : IsWithin all others asked i after
@@ -79,8 +83,11 @@ pub record Called (all others : List (List ℕ)) (asked : List Batch) (i : Insta
   pub grown : IsGrownBy i y (Some p) after
   pub powered : life_of i.variant y ≢ LostLife → life_of i.variant after ≢ LostLife
 
-pub basic_called : (meaning : Meaning) → IsLawful meaning → (key : List ℕ) (all others : List (List ℕ)) (asked : List Batch) (y : History) (old new : Standing) (offer : List ℕ) (p : Pending) (gives : Result BatchAnswer Refusal)
-    → CallsOn Basic meaning old new offer (One p.request) gives → StandsFor (basic meaning key) old y → AreAsked all others asked (basic meaning key) y offer (One p.request)
+pub basic_called : (meaning : Meaning) → IsLawful meaning
+    → (key : List ℕ) (all others : List (List ℕ)) (asked : List Batch) (y : History) (old new : Standing) (offer : List ℕ) (p : Pending)
+    (gives : Result BatchAnswer Refusal)
+    → CallsOn Basic meaning old new offer (One p.request) gives → StandsFor (basic meaning key) old y
+    → AreAsked all others asked (basic meaning key) y offer (One p.request)
     → IsOffered (basic meaning key) y p offer → Called all others asked (basic meaning key) y new offer p gives
 basic_called meaning lawful key all others asked y old new offer p gives c s a f =
     let i : Instance = basic meaning key in
@@ -101,12 +108,17 @@ basic_called meaning lawful key all others asked y old new offer p gives c s a f
           (offered_then i y (all_made (by_lists i) y (map Foreign values ++ [])) p offer
           (same_batches i (map Foreign values ++ []) y (foreign_first values [])) f) (sym k.gives ∙ e);
       issues = λ (answer : BatchAnswer) (e : gives ≡ Ok answer). issued_in_basic meaning lawful key o.state;
-      grown = basic_grown meaning key y o.state p (grows i y p offer o.state (given_for o.ending) (basic_comes meaning key all others asked y c.course offer (One p.request) a));
+      grown =
+          basic_grown meaning key y o.state p
+          (grows i y p offer o.state (given_for o.ending) (basic_comes meaning key all others asked y c.course offer (One p.request) a));
       powered = λ h e. cc;
     }
 
-pub opt_called : (meaning : Meaning) → IsLawful meaning → (key barrier : List ℕ) (all others : List (List ℕ)) (asked : List Batch) (y : History) (old new : Standing) (offer : List ℕ) (p : Pending) (gives : Result BatchAnswer Refusal) (items more : List Item)
-    → CallsOn Opt meaning old new offer (One p.request) gives → StandsFor (opt meaning key barrier) old y → AreAsked all others asked (opt meaning key barrier) y offer (One p.request)
+pub opt_called : (meaning : Meaning) → IsLawful meaning
+    → (key barrier : List ℕ) (all others : List (List ℕ)) (asked : List Batch) (y : History) (old new : Standing) (offer : List ℕ)
+    (p : Pending) (gives : Result BatchAnswer Refusal) (items more : List Item)
+    → CallsOn Opt meaning old new offer (One p.request) gives → StandsFor (opt meaning key barrier) old y
+    → AreAsked all others asked (opt meaning key barrier) y offer (One p.request)
     → old.items ≡ Some items → new.items ≡ Some (standing_items y.is_open items ++ more)
     → ((IsIdle (opt meaning key barrier) y offer (One p.request) → ⊥) → AreShown all others (opt meaning key barrier) y more)
     → IsOffered (opt meaning key barrier) y p offer → Called all others asked (opt meaning key barrier) y new offer p gives
@@ -124,7 +136,9 @@ opt_called meaning lawful key barrier all others asked y old new offer p gives i
       after = o.state;
       stands = k.stands;
       within = k.within;
-      names = λ (content : Content) (n : Names i y content). named_after meaning key barrier y c.course offer (One p.request) content a.within.sound n;
+      names =
+          λ (content : Content) (n : Names i y content). named_after meaning key barrier y c.course offer (One p.request) content
+          a.within.sound n;
       comes = subst (λ (r : Result BatchAnswer Refusal). Comes i y offer (One p.request) o.state r) (sym k.gives)
           (comes meaning key barrier all others asked y c.course offer (One p.request) a);
       only = λ (why : Refusal) (e : gives ≡ Err why) (none : fault_of why ≡ None).
@@ -132,15 +146,18 @@ opt_called meaning lawful key barrier all others asked y old new offer p gives i
       refuses = λ (why : Refusal) (e : gives ≡ Err why).
           opt_refused meaning key barrier y c.course p offer why
           (offered_then i y (all_made (by_lists i) y (seen_before c.course)) p offer
-          (same_batches i (map Foreign v ++ (map Foreign w ++ [])) y (foreign_first v (map Foreign w ++ []) ∙ foreign_first w [])) f) (sym k.gives ∙ e);
+          (same_batches i (map Foreign v ++ (map Foreign w ++ [])) y (foreign_first v (map Foreign w ++ []) ∙ foreign_first w [])) f)
+          (sym k.gives ∙ e);
       issues = λ (answer : BatchAnswer) (e : gives ≡ Ok answer).
-          issued_in_opt meaning lawful key barrier o.state k.within.sound (answered_clean meaning key barrier y c.course offer (One p.request) answer (sym k.gives ∙ e));
+          issued_in_opt meaning lawful key barrier o.state k.within.sound
+          (answered_clean meaning key barrier y c.course offer (One p.request) answer (sym k.gives ∙ e));
       grown = opt_grown meaning key barrier y o.state p (alike_after meaning key barrier y c.course offer (One p.request));
       powered = λ h. stays_powered meaning key barrier y c.course offer (One p.request) h;
     }
 
 -- it leads on from slots that fit
-module _ (all others : List (List ℕ)) (asked : List Batch) (i : Instance) (y : History) (slots : Slots) (before : Standing) (old : StoreStanding) (can : CanRecover all others asked i y slots before old) where
+module _ (all others : List (List ℕ)) (asked : List Batch) (i : Instance) (y : History) (slots : Slots) (before : Standing)
+    (old : StoreStanding) (can : CanRecover all others asked i y slots before old) where
   pub fits_at : (p : Pending) → can.fits.waiting ≡ Some p → FitsBy i slots y (Some p)
   fits_at p e = subst (λ (w : Option Pending). FitsBy i slots y w) e can.fits.fits
 
@@ -184,7 +201,9 @@ module _ (all others : List (List ℕ)) (asked : List Batch) (i : Instance) (y :
 abbrev pub NoMore : History → Type 0
 NoMore after = Unit {0}
 
-basic_leads : (meaning : Meaning) → IsLawful meaning → (key : List ℕ) (all others : List (List ℕ)) (asked : List Batch) (y : History) (slots : Slots) (before after : Standing) (old : StoreStanding) (result : Result Resumed HostFault) (can : CanRecover all others asked (basic meaning key) y slots before old)
+basic_leads : (meaning : Meaning) → IsLawful meaning
+    → (key : List ℕ) (all others : List (List ℕ)) (asked : List Batch) (y : History) (slots : Slots) (before after : Standing)
+    (old : StoreStanding) (result : Result Resumed HostFault) (can : CanRecover all others asked (basic meaning key) y slots before old)
     → LeadsOn NoMore all others asked Basic (basic meaning key) y slots can.fits.waiting before after result
 basic_leads meaning lawful key all others asked y slots before after old result can = λ p call e given_for c.
     let i : Instance = basic meaning key in
@@ -192,18 +211,26 @@ basic_leads meaning lawful key all others asked y slots before after old result 
     (basic_called meaning lawful key all others asked y before after (slot_read slots (offer_slot p)) p (whole_in call) c.goes can.stands
     (asked_at all others asked i y slots before old can p e) (offered_at all others asked i y slots before old can p e)) tt
 
-opt_leads : (meaning : Meaning) → IsLawful meaning → (key barrier : List ℕ) (all others : List (List ℕ)) (asked : List Batch) (y : History) (slots : Slots) (before after : Standing) (old : StoreStanding) (items more : List Item) (result : Result Resumed HostFault) (can : CanRecover all others asked (opt meaning key barrier) y slots before old)
+opt_leads : (meaning : Meaning) → IsLawful meaning
+    → (key barrier : List ℕ) (all others : List (List ℕ)) (asked : List Batch) (y : History) (slots : Slots) (before after : Standing)
+    (old : StoreStanding) (items more : List Item) (result : Result Resumed HostFault)
+    (can : CanRecover all others asked (opt meaning key barrier) y slots before old)
     → before.items ≡ Some items → after.items ≡ Some (standing_items y.is_open items ++ more)
     → ((AsksIdly (opt meaning key barrier) y slots can.fits.waiting → ⊥) → AreShown all others (opt meaning key barrier) y more)
     → LeadsOn NoMore all others asked Opt (opt meaning key barrier) y slots can.fits.waiting before after result
-opt_leads meaning lawful key barrier all others asked y slots before after old items more result can known ends shown_so = λ p call e given_for c.
+opt_leads meaning lawful key barrier all others asked y slots before after old items more result can known ends shown_so =
+    λ p call e given_for c.
     let i : Instance = opt meaning key barrier in
     left_by all others asked i y slots before old can NoMore after p (whole_in call) e
-    (opt_called meaning lawful key barrier all others asked y before after (slot_read slots (offer_slot p)) p (whole_in call) items more c.goes can.stands
+    (opt_called meaning lawful key barrier all others asked y before after (slot_read slots (offer_slot p)) p (whole_in call) items more
+    c.goes can.stands
     (asked_at all others asked i y slots before old can p e) known ends
-    (λ busy. shown_so (λ k. busy (subst (λ (w : Option Pending). AsksIdly i y slots w) e k))) (offered_at all others asked i y slots before old can p e)) tt
+    (λ busy. shown_so (λ k. busy (subst (λ (w : Option Pending). AsksIdly i y slots w) e k)))
+    (offered_at all others asked i y slots before old can p e)) tt
 
-pub recovers : (variant : Variant) (meaning : Meaning) → IsLawful meaning → (before after : Standing) (old new : StoreStanding) (result : Result Resumed HostFault) → Resumes variant meaning before after old new result → Recovers variant meaning before after old new result
+pub recovers : (variant : Variant) (meaning : Meaning) → IsLawful meaning
+    → (before after : Standing) (old new : StoreStanding) (result : Result Resumed HostFault)
+    → Resumes variant meaning before after old new result → Recovers variant meaning before after old new result
 recovers Basic meaning lawful before after old new result r = λ key y slots all others asked can.
     (recovers_by NoMore Basic all others asked (basic meaning key) lawful y slots before after old can new result (λ e. tt)
     (basic_leads meaning lawful key all others asked y slots before after old result can) r).0

@@ -48,10 +48,6 @@ count_same before after n e = omega (arith, e)
 count_more : (before after : ℕ) → after ≡ counted before → after ≤ before + 1
 count_more before after e = omega (arith, e)
 
-count_once : (before after : ℕ) → (after ≡ before) ⊎ (after ≡ counted before) → after ≤ before + 1
-count_once before after (inl e) = count_same before after 1 e
-count_once before after (inr e) = count_more before after e
-
 none_new : (broken : Option StepFault) → IsNewAt broken 0
 none_new None = refl
 none_new (Some fault) = omega arith
@@ -72,7 +68,8 @@ basic_refused None old new s = record { requests = 0; new_at = refl; writes = s.
 basic_refused (Some fault) old new (inl s) = record { requests = 0; new_at = omega arith; writes = s.1 }
 basic_refused (Some fault) old new (inr s) = record { requests = 1; new_at = omega arith; writes = s.1 }
 
-basic_stepped : (result : Result Answer Refusal) (old new : Standing) → BasicSteps (whole_in result) old new → CallWrites Basic result old new
+basic_stepped : (result : Result Answer Refusal) (old new : Standing) → BasicSteps (whole_in result) old new
+    → CallWrites Basic result old new
 basic_stepped (Ok answer) old new s = record {
   requests = new_by answer.again;
   new = refl;
@@ -86,7 +83,8 @@ basic_stepped (Err why) old new s = let r = basic_refused (fault_of why) old new
   leaves = tt;
 }
 
-pub basic_writes : (meaning : Meaning) (old new : Standing) (offer : List ℕ) (b : Batch) (result : Result Answer Refusal) → is_long b ≡ false → AskedInBasic meaning old new offer b (whole_in result) → CallWrites Basic result old new
+pub basic_writes : (meaning : Meaning) (old new : Standing) (offer : List ℕ) (b : Batch) (result : Result Answer Refusal)
+    → is_long b ≡ false → AskedInBasic meaning old new offer b (whole_in result) → CallWrites Basic result old new
 basic_writes meaning old new offer b result short a = basic_stepped result old new (a.steps short)
 
 -- what Opt finds, by the cell that it read
@@ -96,16 +94,19 @@ IsByCell cell (Ok (Repeat answer)) = Unit {0}
 IsByCell cell (Ok (Inside ready)) = cell.flag ≡ true
 IsByCell cell (Ok (Opens opening)) = (cell.flag ≡ false) × (opening.next ≡ opened_cell cell)
 
-change_by_cell : (cell : Cell) (flag : Bool) (value : List ℕ) (answer : BatchAnswer) → cell.flag ≡ flag → IsByCell cell (Ok (change_by flag value (opened_cell cell) answer))
+change_by_cell : (cell : Cell) (flag : Bool) (value : List ℕ) (answer : BatchAnswer) → cell.flag ≡ flag
+    → IsByCell cell (Ok (change_by flag value (opened_cell cell) answer))
 change_by_cell cell true value answer e = e
 change_by_cell cell false value answer e = (e, refl)
 
-from_by_cell : (e : Result Bool Refusal) (cell : Cell) (value : List ℕ) (answer : Bool → BatchAnswer) → IsByCell cell (found_from e cell value answer)
+from_by_cell : (e : Result Bool Refusal) (cell : Cell) (value : List ℕ) (answer : Bool → BatchAnswer)
+    → IsByCell cell (found_from e cell value answer)
 from_by_cell (Err why) cell value answer = tt
 from_by_cell (Ok true) cell value answer = tt
 from_by_cell (Ok false) cell value answer = change_by_cell cell cell.flag value (answer false) refl
 
-at_by_cell : (meaning : Meaning) (cell : Cell) (register : List ℕ) (taken : Result Snapshot PartsFault) (b : Batch) → IsByCell cell (found_in_offer meaning cell register taken b)
+at_by_cell : (meaning : Meaning) (cell : Cell) (register : List ℕ) (taken : Result Snapshot PartsFault) (b : Batch)
+    → IsByCell cell (found_in_offer meaning cell register taken b)
 at_by_cell meaning cell register (Err parts.Form) b = tt
 at_by_cell meaning cell register (Err parts.Kind) b = tt
 at_by_cell meaning cell register (Ok offered) b =
@@ -121,10 +122,12 @@ or_by_cell cell (Err why) found is o = subst (λ (r : Result Found Refusal). IsB
 or_by_cell cell (Ok it) found is (inl e) = subst (λ (r : Result Found Refusal). IsByCell cell r) (sym e) is
 or_by_cell cell (Ok it) found is (inr e) = subst (λ (r : Result Found Refusal). IsByCell cell r) (sym e) tt
 
-in_by_cell : (meaning : Meaning) (cell : Cell) (register offer : List ℕ) (b : Batch) (found : Result Found Refusal) → FindsIn meaning cell register offer b found → IsByCell cell found
+in_by_cell : (meaning : Meaning) (cell : Cell) (register offer : List ℕ) (b : Batch) (found : Result Found Refusal)
+    → FindsIn meaning cell register offer b found → IsByCell cell found
 in_by_cell meaning cell register offer b found f =
     or_by_cell cell (found_in meaning cell register f.taken b) found
-    (unless_by_cell (has_lost_power cell register) cell (found_in_offer meaning cell register f.taken b) (at_by_cell meaning cell register f.taken b))
+    (unless_by_cell (has_lost_power cell register) cell (found_in_offer meaning cell register f.taken b)
+    (at_by_cell meaning cell register f.taken b))
     f.found_is
 
 -- the cell that was seen
@@ -135,7 +138,8 @@ own_spelled : (t : Bool) (bytes : List ℕ) (cell seen : Cell) → SpellsCell by
 own_spelled true bytes cell seen s e = subst (λ (c : Cell). SpellsCell bytes c) (one_of (own_cell true cell) cell seen refl e) s
 own_spelled false bytes cell seen s e = absurd (cc)
 
-seen_spelled : (id : ℕ) (bytes : List ℕ) (read : Result Cell CellFault) (seen : Cell) → ReadsCell bytes read → Ok seen ≡ cell_in id read → SpellsCell bytes seen
+seen_spelled : (id : ℕ) (bytes : List ℕ) (read : Result Cell CellFault) (seen : Cell) → ReadsCell bytes read → Ok seen ≡ cell_in id read
+    → SpellsCell bytes seen
 seen_spelled id bytes (Err BlankCell) seen r e = absurd (cc)
 seen_spelled id bytes (Err Unspelled) seen r e = absurd (cc)
 seen_spelled id bytes (Ok cell) seen r e = own_spelled (is_cell_of id cell) bytes cell seen r (sym e)
@@ -153,7 +157,8 @@ room_cell (Ok (Repeat answer)) old new r = ap (λ (s : Standing). s.cell) r
 room_cell (Ok (Inside ready)) old new r = ap (λ (s : Standing). s.cell) r.same
 room_cell (Ok (Opens opening)) old new r = ap (λ (s : Standing). s.cell) r.same
 
-saw : (read : Result Cell Refusal) (meaning : Meaning) (old middle new : Standing) (offer : List ℕ) (b : Batch) (found : Found) → ReadsOwnCell meaning.id old middle read → ReadsOn meaning read middle new offer b (Ok found) → (seen : Cell) × Saw old new seen found
+saw : (read : Result Cell Refusal) (meaning : Meaning) (old middle new : Standing) (offer : List ℕ) (b : Batch) (found : Found)
+    → ReadsOwnCell meaning.id old middle read → ReadsOn meaning read middle new offer b (Ok found) → (seen : Cell) × Saw old new seen found
 saw (Err why) meaning old middle new offer b found r on = let e : Ok found ≡ Err why = on.1 in absurd (cc)
 saw (Ok seen) meaning old middle new offer b found r on =
     let f : FindsCell meaning.id old (Ok seen) = r.finds refl in
@@ -175,9 +180,6 @@ same_cell : (cell seen : Cell) → IsCell cell → IsCell seen → cell_spelling
 same_cell cell seen is has e =
     read_alike (Ok cell) (Ok seen) cell seen (reads_cell-same (cell_spelling cell) (Ok cell) (Ok seen) (is, refl) (has, e)) refl refl
 
-some_alike : (x : Option (List ℕ)) (a b : List ℕ) → x ≡ Some a → x ≡ Some b → a ≡ b
-some_alike x a b e f = cc
-
 -- the flag that is left
 open_none : (flag : Bool) → flag ≡ is_open_after flag 0
 open_none true = refl
@@ -188,10 +190,12 @@ open_one true = refl
 open_one false = refl
 
 -- where the flag that was seen stays
-tells_seen : (seen : Cell) (flag : Bool) (new : Standing) → IsCell seen → new.cell ≡ Some (cell_spelling seen) → seen.flag ≡ flag → TellsFlag new flag
+tells_seen : (seen : Cell) (flag : Bool) (new : Standing) → IsCell seen → new.cell ≡ Some (cell_spelling seen) → seen.flag ≡ flag
+    → TellsFlag new flag
 tells_seen seen flag new is e f = record { cell = seen; is_cell = is; tells = e; shows = f }
 
-opened : (seen : Cell) (next : List ℕ) (told : Option (List ℕ)) (new : Standing) → IsCell seen → next ≡ opened_cell seen → told ≡ Some (cell_spelling seen) → new.cell ≡ option_map (λ (x : List ℕ). next) told → TellsFlag new true
+opened : (seen : Cell) (next : List ℕ) (told : Option (List ℕ)) (new : Standing) → IsCell seen → next ≡ opened_cell seen
+    → told ≡ Some (cell_spelling seen) → new.cell ≡ option_map (λ (x : List ℕ). next) told → TellsFlag new true
 opened seen next told new is e t c = record {
   cell = record seen { variant = Opt; flag = true };
   is_cell = record { summary = is.summary; key = is.key; barrier = is.barrier; variant = tt };
@@ -210,17 +214,21 @@ written_answer answer (Ok it) e = ap Ok (ok_alike (handed_on (Ok it)) it answer 
     ok_alike r it answer e f = cc
 written_answer answer (Err fault) e = absurd (cc)
 
-leaves_open : (seen : Cell) (answer : BatchAnswer) (middle new : Standing) → answer.again ≡ false → (middle.cell ≡ Some (cell_spelling seen) → TellsFlag new true) → LeavesSeen seen answer middle new
+leaves_open : (seen : Cell) (answer : BatchAnswer) (middle new : Standing) → answer.again ≡ false
+    → (middle.cell ≡ Some (cell_spelling seen) → TellsFlag new true) → LeavesSeen seen answer middle new
 leaves_open seen answer middle new fresh t = record {
   flags = λ (e : middle.cell ≡ Some (cell_spelling seen)).
       subst (λ (again : Bool). TellsFlag new (is_open_after seen.flag (new_by again))) (sym fresh)
       (subst (λ (flag : Bool). TellsFlag new flag) (open_one seen.flag) (t e));
 }
 
-wrote_seen : (seen : Cell) (opening : Opening) (answer : BatchAnswer) (written : Result BatchAnswer StepFault) (first middle new : Standing) → IsCell seen → opening.next ≡ opened_cell seen → opening.answer.again ≡ false → middle.cell ≡ first.cell → Writes opening middle new written → written ≡ Ok answer → LeavesSeen seen answer first new
+wrote_seen : (seen : Cell) (opening : Opening) (answer : BatchAnswer) (written : Result BatchAnswer StepFault) (first middle new : Standing)
+    → IsCell seen → opening.next ≡ opened_cell seen → opening.answer.again ≡ false → middle.cell ≡ first.cell
+    → Writes opening middle new written → written ≡ Ok answer → LeavesSeen seen answer first new
 wrote_seen seen opening answer (Err fault) first middle new is e fresh same w done = absurd (cc)
 wrote_seen seen opening answer (Ok it) first middle new is e fresh same w done =
-    leaves_open seen answer first new (ap (λ (a : BatchAnswer). a.again) (sym (answers_alike (Ok it) it answer refl done) ∙ w.gives) ∙ fresh)
+    leaves_open seen answer first new (ap (λ (a : BatchAnswer). a.again) (sym (answers_alike (Ok it) it answer refl done) ∙ w.gives)
+    ∙ fresh)
     (λ (t : first.cell ≡ Some (cell_spelling seen)).
     opened seen opening.next middle.cell new is e (same ∙ t)
     (w.goes.cell ∙ ap (λ (made : Bool). cell_after (WriteCell opening.next) made middle.cell) w.goes.ends.made))
@@ -228,19 +236,30 @@ wrote_seen seen opening answer (Ok it) first middle new is e fresh same w done =
     answers_alike : (r : Result BatchAnswer StepFault) (it answer : BatchAnswer) → r ≡ Ok it → r ≡ Ok answer → it ≡ answer
     answers_alike r it answer e f = cc
 
-placed_seen : (seen : Cell) (opening : Opening) (answer : BatchAnswer) (placed : Result Opening StepFault) (written : Result BatchAnswer StepFault) (first middle next new : Standing) → IsCell seen → opening.next ≡ opened_cell seen → opening.answer.again ≡ false → middle.cell ≡ first.cell → Places opening middle next placed → PlacedOn placed next new written → written ≡ Ok answer → LeavesSeen seen answer first new
-placed_seen seen opening answer (Err fault) written first middle next new is e fresh same p on done = let failed : written ≡ Err fault = on.1 in absurd (cc)
+placed_seen : (seen : Cell) (opening : Opening) (answer : BatchAnswer) (placed : Result Opening StepFault)
+    (written : Result BatchAnswer StepFault) (first middle next new : Standing) → IsCell seen → opening.next ≡ opened_cell seen
+    → opening.answer.again ≡ false → middle.cell ≡ first.cell → Places opening middle next placed → PlacedOn placed next new written
+    → written ≡ Ok answer → LeavesSeen seen answer first new
+placed_seen seen opening answer (Err fault) written first middle next new is e fresh same p on done =
+    let failed : written ≡ Err fault = on.1 in absurd (cc)
 placed_seen seen opening answer (Ok it) written first middle next new is e fresh same p on done =
-    wrote_seen seen it answer written first next new is (ap (λ (o : Opening). o.next) p.gives ∙ e) (ap (λ (o : Opening). o.answer.again) p.gives ∙ fresh)
+    wrote_seen seen it answer written first next new is (ap (λ (o : Opening). o.next) p.gives ∙ e)
+    (ap (λ (o : Opening). o.answer.again) p.gives ∙ fresh)
     (p.goes.cell ∙ same) on done
 
-emptied_seen : (seen : Cell) (opening : Opening) (answer : BatchAnswer) (emptied : Result Opening StepFault) (written : Result BatchAnswer StepFault) (first next new : Standing) → IsCell seen → opening.next ≡ opened_cell seen → opening.answer.again ≡ false → Empties opening first next emptied → EmptiedOn emptied next new written → written ≡ Ok answer → LeavesSeen seen answer first new
-emptied_seen seen opening answer (Err fault) written first next new is e fresh p on done = let failed : written ≡ Err fault = on.1 in absurd (cc)
+emptied_seen : (seen : Cell) (opening : Opening) (answer : BatchAnswer) (emptied : Result Opening StepFault)
+    (written : Result BatchAnswer StepFault) (first next new : Standing) → IsCell seen → opening.next ≡ opened_cell seen
+    → opening.answer.again ≡ false → Empties opening first next emptied → EmptiedOn emptied next new written → written ≡ Ok answer
+    → LeavesSeen seen answer first new
+emptied_seen seen opening answer (Err fault) written first next new is e fresh p on done =
+    let failed : written ≡ Err fault = on.1 in absurd (cc)
 emptied_seen seen opening answer (Ok it) written first next new is e fresh p on done =
     placed_seen seen it answer on.placed written first next on.middle new is (ap (λ (o : Opening). o.next) p.gives ∙ e)
     (ap (λ (o : Opening). o.answer.again) p.gives ∙ fresh) p.goes.cell on.places on.on done
 
-found_seen : (found : Found) (seen : Cell) (answer : BatchAnswer) (written : Result BatchAnswer StepFault) (middle new : Standing) → IsCell seen → IsByCell seen (Ok found) → IsShaped (Ok found) → CommitsFound found middle new written → written ≡ Ok answer → LeavesSeen seen answer middle new
+found_seen : (found : Found) (seen : Cell) (answer : BatchAnswer) (written : Result BatchAnswer StepFault) (middle new : Standing)
+    → IsCell seen → IsByCell seen (Ok found) → IsShaped (Ok found) → CommitsFound found middle new written → written ≡ Ok answer
+    → LeavesSeen seen answer middle new
 found_seen (Repeat it) seen answer written middle new is by shape c done = record {
   flags = λ (e : middle.cell ≡ Some (cell_spelling seen)).
       subst (λ (again : Bool). TellsFlag new (is_open_after seen.flag (new_by again))) (sym (repeated it answer written c.1 done ∙ shape))
@@ -261,7 +280,8 @@ found_seen (Opens opening) seen answer written middle new is by shape c done =
     emptied_seen seen opening answer c.emptied written middle c.middle new is by.1 shape c.empties c.on done
 
 -- an answered call: what it found, and what it left
-seen_flag : (seen : Cell) (answer : BatchAnswer) (old middle new : Standing) (found : Found) → Saw old middle seen found → LeavesSeen seen answer middle new → LeavesFlag (new_by answer.again) old new
+seen_flag : (seen : Cell) (answer : BatchAnswer) (old middle new : Standing) (found : Found) → Saw old middle seen found
+    → LeavesSeen seen answer middle new → LeavesFlag (new_by answer.again) old new
 seen_flag seen answer old middle new found s l = record {
   finds = λ (bytes : List ℕ) (e : old.cell ≡ Some bytes). (
     seen.flag,
@@ -273,16 +293,20 @@ seen_flag seen answer old middle new found s l = record {
       (l.flags (s.same ∙ t.tells ∙ ap (λ (c : Cell). Some (cell_spelling c)) same));
 }
 
-ends_flag : (found : Result Found Refusal) (meaning : Meaning) (offer : List ℕ) (b : Batch) (old middle new : Standing) (answer : BatchAnswer) → Reads meaning old middle offer b found → Ends found middle new (Ok answer) → LeavesFlag (new_by answer.again) old new
+ends_flag : (found : Result Found Refusal) (meaning : Meaning) (offer : List ℕ) (b : Batch) (old middle new : Standing)
+    (answer : BatchAnswer) → Reads meaning old middle offer b found → Ends found middle new (Ok answer)
+    → LeavesFlag (new_by answer.again) old new
 ends_flag (Err why) meaning offer b old middle new answer r e = let failed : Ok answer ≡ Err why = e.1 in absurd (cc)
 ends_flag (Ok found) meaning offer b old middle new answer r e =
     let s = saw r.cell meaning old r.middle middle offer b found r.reads r.on in
     seen_flag s.0 answer old middle new found s.1
-    (found_seen found s.0 answer e.written middle new s.1.is_cell s.1.by_cell (reads_shaped r.cell meaning r.middle middle offer b found r.on)
+    (found_seen found s.0 answer e.written middle new s.1.is_cell s.1.by_cell
+    (reads_shaped r.cell meaning r.middle middle offer b found r.on)
     e.commits (written_answer answer e.written (sym e.gives)))
 
 -- how often it writes, by the flag
-opt_opens : (flag again : Bool) (old new : Standing) → StepsFrom flag again old new → new.writes ≡ counted_by (openings flag (new_by again)) old.writes
+opt_opens : (flag again : Bool) (old new : Standing) → StepsFrom flag again old new
+    → new.writes ≡ counted_by (openings flag (new_by again)) old.writes
 opt_opens true true old new s = s.1
 opt_opens false true old new s = s.1
 opt_opens true false old new s = s.1
@@ -293,7 +317,8 @@ opt_each true old new s = count_same old.writes new.writes 0 s.1
 opt_each false old new (inl s) = count_same old.writes new.writes 1 s.1
 opt_each false old new (inr s) = count_more old.writes new.writes s.1
 
-opt_answered : (meaning : Meaning) (old new : Standing) (offer : List ℕ) (b : Batch) (answer : Answer) → is_long b ≡ false → AskedInOpt meaning old new offer b (Ok (whole answer)) → CallWrites Opt (Ok answer) old new
+opt_answered : (meaning : Meaning) (old new : Standing) (offer : List ℕ) (b : Batch) (answer : Answer) → is_long b ≡ false
+    → AskedInOpt meaning old new offer b (Ok (whole answer)) → CallWrites Opt (Ok answer) old new
 opt_answered meaning old new offer b answer short a = record {
   requests = new_by answer.again;
   new = refl;
@@ -312,7 +337,8 @@ opens_none : (flag : Bool) (before after : ℕ) → after ≡ before → after �
 opens_none true before after e = e
 opens_none false before after e = e
 
-opens_one : (flag : Bool) (before after : ℕ) → (flag ≡ true → after ≡ before) → after ≡ counted before → after ≡ counted_by (openings flag 1) before
+opens_one : (flag : Bool) (before after : ℕ) → (flag ≡ true → after ≡ before) → after ≡ counted before
+    → after ≡ counted_by (openings flag 1) before
 opens_one true before after same e = same refl
 opens_one false before after same e = e
 
@@ -328,7 +354,8 @@ opt_quiet why old new same = record {
   leaves = tt;
 }
 
-opt_failed : (broken : StepFault) (meaning : Meaning) (old new : Standing) (offer : List ℕ) (b : Batch) → AskedInOpt meaning old new offer b (Err (Device broken)) → WritesAtMostOnce old new → CallWrites Opt (Err (Device broken)) old new
+opt_failed : (broken : StepFault) (meaning : Meaning) (old new : Standing) (offer : List ℕ) (b : Batch)
+    → AskedInOpt meaning old new offer b (Err (Device broken)) → WritesAtMostOnce old new → CallWrites Opt (Err (Device broken)) old new
 opt_failed broken meaning old new offer b a (inl same) = opt_quiet (Device broken) old new same
 opt_failed broken meaning old new offer b a (inr more) = record {
   requests = 1;
@@ -342,7 +369,8 @@ opt_failed broken meaning old new offer b a (inr more) = record {
   leaves = tt;
 }
 
-opt_refused : (why : Refusal) (meaning : Meaning) (old new : Standing) (offer : List ℕ) (b : Batch) → AskedInOpt meaning old new offer b (Err why) → StepsRefused why old new → CallWrites Opt (Err why) old new
+opt_refused : (why : Refusal) (meaning : Meaning) (old new : Standing) (offer : List ℕ) (b : Batch)
+    → AskedInOpt meaning old new offer b (Err why) → StepsRefused why old new → CallWrites Opt (Err why) old new
 opt_refused (Device broken) meaning old new offer b a s = opt_failed broken meaning old new offer b a a.writes.once
 opt_refused Memory meaning old new offer b a s = opt_quiet Memory old new s.1
 opt_refused Long meaning old new offer b a s = absurd s
@@ -356,6 +384,7 @@ opt_refused Tag meaning old new offer b a s = opt_quiet Tag old new s.1
 opt_refused Stale meaning old new offer b a s = opt_quiet Stale old new s.1
 opt_refused Full meaning old new offer b a s = opt_quiet Full old new s.1
 
-pub opt_writes : (meaning : Meaning) (old new : Standing) (offer : List ℕ) (b : Batch) (result : Result Answer Refusal) → is_long b ≡ false → AskedInOpt meaning old new offer b (whole_in result) → CallWrites Opt result old new
+pub opt_writes : (meaning : Meaning) (old new : Standing) (offer : List ℕ) (b : Batch) (result : Result Answer Refusal) → is_long b ≡ false
+    → AskedInOpt meaning old new offer b (whole_in result) → CallWrites Opt result old new
 opt_writes meaning old new offer b (Ok answer) short a = opt_answered meaning old new offer b answer short a
 opt_writes meaning old new offer b (Err why) short a = opt_refused why meaning old new offer b a (a.steps short)

@@ -8,7 +8,8 @@ use Rattle.mm_digest.specs.Messages.{start_message}
 use Rattle.mm_module.specs.Batch.{Batch, One}
 use Rattle.mm_module.specs.Meaning.{Meaning}
 use Rattle.mm_seal.specs.Snapshot.{Content}
-use Rattle.mm_model.specs.Instance.{Instance, basic, opt}
+use Rattle.mm_model.specs.Instance.{Instance}
+use Rattle.mm_model.specs.InstanceWords.{basic, opt}
 use Rattle.mm_model.specs.History.{History, Move, Commit, Foreign, Placed, Reset, Close, Power, moved, total_of}
 use Rattle.mm_model.specs.Places.{Names}
 use Rattle.mm_model.proofs.Named.{basic_names, opt_names}
@@ -31,19 +32,23 @@ same_batches i y Reset e = refl
 same_batches i y Close e = refl
 same_batches i y Power e = refl
 
-holds_on : (i : Instance) (y z : History) (bytes : List ℕ) (position : ℕ) → ((content : Content) → Names i y content → Names i z content) → Holds i y bytes position → Holds i z bytes position
+holds_on : (i : Instance) (y z : History) (bytes : List ℕ) (position : ℕ) → ((content : Content) → Names i y content → Names i z content)
+    → Holds i y bytes position → Holds i z bytes position
 holds_on i y z bytes position names h = record { content = h.content; right = h.right; names = names h.content h.names; at = h.at }
 
-fits_on : (i : Instance) (slots : Slots) (y z : History) (waiting : Option Pending) → z.batches ≡ y.batches → ((content : Content) → Names i y content → Names i z content) → FitsBy i slots y waiting → FitsBy i slots z waiting
+fits_on : (i : Instance) (slots : Slots) (y z : History) (waiting : Option Pending) → z.batches ≡ y.batches
+    → ((content : Content) → Names i y content → Names i z content) → FitsBy i slots y waiting → FitsBy i slots z waiting
 fits_on i slots y z None same names f = (ap total_of same ∙ f.0, holds_on i y z (slot_read slots 0) 0 names f.1)
 fits_on i slots y z (Some p) same names f = (
   subst (λ (bs : List Batch). (p.position ≡ total_of bs + 1) ⊎ ((p.position ≡ total_of bs) × EndsWith bs (One p.request))) (sym same) f.0,
   holds_on i y z (slot_read slots (offer_slot p)) _ names f.1,
 )
 
-fits_with : (i : Instance) (slots : Slots) (y z : History) (waiting : Option Pending) → z.batches ≡ y.batches → ((content : Content) → Names i y content → Names i z content) → FitsWith i slots y waiting → FitsWith i slots z waiting
+fits_with : (i : Instance) (slots : Slots) (y z : History) (waiting : Option Pending) → z.batches ≡ y.batches
+    → ((content : Content) → Names i y content → Names i z content) → FitsWith i slots y waiting → FitsWith i slots z waiting
 fits_with i slots y z waiting same names f = record {
-  fits = record { waiting = f.fits.waiting; is_waiting = f.fits.is_waiting; fits = fits_on i slots y z f.fits.waiting same names f.fits.fits };
+  fits =
+      record { waiting = f.fits.waiting; is_waiting = f.fits.is_waiting; fits = fits_on i slots y z f.fits.waiting same names f.fits.fits };
   waits = f.waits;
 }
 
@@ -55,15 +60,18 @@ basic_keeps_fitting meaning key y m slots waiting none f =
 pub opt_keeps_fitting : OptKeepsFitting
 opt_keeps_fitting meaning key barrier y m slots waiting sound may none f =
     let i : Instance = opt meaning key barrier in
-    fits_with i slots y (moved i y m) waiting (same_batches i y m none) (λ content n. opt_names meaning key barrier y m content sound may n) f
+    fits_with i slots y (moved i y m) waiting (same_batches i y m none) (λ content n. opt_names meaning key barrier y m content sound may n)
+    f
 
 -- the start message of an instance
-of_instance : (variant : Variant) (meaning : Meaning) (key barrier : List ℕ) (all : List (List ℕ)) → Contains all (start_message variant meaning.id)
+of_instance : (variant : Variant) (meaning : Meaning) (key barrier : List ℕ) (all : List (List ℕ))
+    → Contains all (start_message variant meaning.id)
     → Contains all (start_message (instance_by variant meaning key barrier).variant (instance_by variant meaning key barrier).meaning.id)
 of_instance Basic meaning key barrier all h = h
 of_instance Opt meaning key barrier all h = h
 
-nothing_asked : (all : List (List ℕ)) (asked : List Batch) (i : Instance) (slots : Slots) (waiting : Option Pending) → waiting ≡ None → IsAskedFor all asked i slots waiting
+nothing_asked : (all : List (List ℕ)) (asked : List Batch) (i : Instance) (slots : Slots) (waiting : Option Pending) → waiting ≡ None
+    → IsAskedFor all asked i slots waiting
 nothing_asked all asked i slots waiting e = subst (λ (w : Option Pending). IsAskedFor all asked i slots w) (sym e) tt
 
 pub first_starts_can_go_on : FirstStartsCanGoOn

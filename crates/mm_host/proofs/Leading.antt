@@ -14,12 +14,14 @@ use Rattle.mm_seal.specs.declared.snapshot.Place.{Place}
 use Rattle.mm_seal.specs.declared.snapshot.Place.TheVariants.{Basic as InBasic, Opt as InOpt}
 use Rattle.mm_seal.specs.Snapshot.{Content, IsContent}
 use Rattle.mm_model.specs.Chains.{summary_of, trail}
-use Rattle.mm_model.specs.Instance.{Instance, basic, opt}
+use Rattle.mm_model.specs.Instance.{Instance}
+use Rattle.mm_model.specs.InstanceWords.{basic, opt}
 use Rattle.mm_model.specs.History.{Entry, Own, Value, History, Commit, committed, first_history, joined, moved, register_value_of, total_of}
 use Rattle.mm_model.specs.Life.{Lost as LostLife, are_own, has_value, is_empty, life_by, life_of}
 use Rattle.mm_model.specs.Messages.{Within}
 use Rattle.mm_model.specs.Moves.{Digests}
-use Rattle.mm_model.specs.Places.{IsPoint, at_anchor, in_closed, in_current, IsPlaceOf, Names, anchor_after, digest_of, issued}
+use Rattle.mm_model.specs.Places.{IsPoint, at_anchor, in_closed, in_current, IsPlaceOf, Names, anchor_after, issued}
+use Rattle.mm_model.specs.PlacesWords.{digest_of}
 use Rattle.mm_model.specs.Sound.{IsSound, batches_in}
 use Rattle.mm_model.specs.Standing.{StandsFor}
 use Rattle.mm_model.specs.Steps.{Step}
@@ -32,7 +34,8 @@ use Rattle.mm_call.specs.Asked.{IsLedTo, counted_part}
 use Rattle.mm_call.specs.Called.{called, seen_at}
 use Rattle.mm_call.specs.CallsOn.{CallsOn}
 use Rattle.mm_call.specs.Courses.{walk, closes}
-use Rattle.mm_call.specs.Found.{found_at, found_unless_wanting, is_fresh}
+use Rattle.mm_call.specs.Found.{found_at}
+use Rattle.mm_call.specs.FoundWords.{found_unless_wanting, is_fresh}
 use Rattle.mm_call.specs.Levels.{by_digests, all_made}
 use Rattle.mm_call.specs.Premises.{AreAsked, AreShown}
 use Rattle.mm_call.specs.Standing.{StandsAt, shown}
@@ -85,7 +88,8 @@ reach_same Opt i old new e = λ d s f items known. record {
   shows = ap (λ (x : Standing). x.items) e ∙ known ∙ ap (λ (xs : List Item). Some xs) (sym (append-nil items));
 }
 
-pub reach_then : (variant : Variant) (i : Instance) (old middle new : Standing) → Reaches variant i old middle → Reaches variant i middle new → Reaches variant i old new
+pub reach_then : (variant : Variant) (i : Instance) (old middle new : Standing) → Reaches variant i old middle
+    → Reaches variant i middle new → Reaches variant i old new
 reach_then Basic i old middle new a b = tt
 reach_then Opt i old middle new a b = λ d s f items known.
     let x = a d s f items known in
@@ -98,15 +102,18 @@ reach_then Opt i old middle new a b = λ d s f items known.
       shows = y.shows ∙ ap (λ (xs : List Item). Some xs) (append_assoc items x.more y.more);
     }
 
-opt_reach : (meaning : Meaning) (key barrier : List ℕ) (old new : Standing) (offer request : List ℕ) (gives : Result BatchAnswer Refusal) → CallsOn Opt meaning old new offer (One request) gives → Reaches Opt (opt meaning key barrier) old new
+opt_reach : (meaning : Meaning) (key barrier : List ℕ) (old new : Standing) (offer request : List ℕ) (gives : Result BatchAnswer Refusal)
+    → CallsOn Opt meaning old new offer (One request) gives → Reaches Opt (opt meaning key barrier) old new
 opt_reach meaning key barrier old new offer request gives c = λ d s f items known.
     let i : Instance = opt meaning key barrier in
     let b : Batch = One request in
     let o = called i (by_digests i) d c.course offer b in
     let g = c.goes key barrier d s in
     let p = pushed_open meaning key barrier d c.course offer b f in
-    let fresh : Bool = is_fresh (found_unless_wanting (found_at i (by_digests i) (seen_at i (by_digests i) d c.course) b offer) c.course.lacks) in
-    let quiet : closes o.moves ≡ false = ap (λ (st : List Step). closes (walk c.course.fates 1 st).moves) (asks d.flag fresh b) ∙ opt_closes c.course.fates d.flag fresh b in
+    let fresh : Bool = is_fresh
+    (found_unless_wanting (found_at i (by_digests i) (seen_at i (by_digests i) d c.course) b offer) c.course.lacks) in
+    let quiet : closes o.moves ≡ false = ap (λ (st : List Step). closes (walk c.course.fates 1 st).moves) (asks d.flag fresh b)
+    ∙ opt_closes c.course.fates d.flag fresh b in
     record {
       digests = all_made (by_digests i) d o.moves;
       stands = g.stands;
@@ -115,7 +122,8 @@ opt_reach meaning key barrier old new offer request gives c = λ d s f items kno
       shows = g.items ∙ ap (option_map (shown i d o.moves)) known ∙ ap (λ (xs : List Item). Some xs) (p.are items);
     }
 
-goes_on : (meaning : Meaning) (key barrier : List ℕ) (all others : List (List ℕ)) (asked : List Batch) (old new : Standing) → Reaches Opt (opt meaning key barrier) old new → GoesOn meaning key barrier all others asked old new
+goes_on : (meaning : Meaning) (key barrier : List ℕ) (all others : List (List ℕ)) (asked : List Batch) (old new : Standing)
+    → Reaches Opt (opt meaning key barrier) old new → GoesOn meaning key barrier all others asked old new
 goes_on meaning key barrier all others asked old new r = λ d s f items known. let x = r d s f items known in (x.more, x.shows)
 
 -- The second is the first but for others' values, where the first may be gone on with.
@@ -132,41 +140,51 @@ IsBetween all others i y waiting standing final after =
 pub record Laws (all others : List (List ℕ)) (asked : List Batch) (i : Instance) (final : Standing) : Type 0 where
   pub lawful : IsLawful i.meaning
   -- a call that was answered, with others behind it; and the last call
-  pub between : (y : History) (old middle : Standing) (offer : List ℕ) (p : Pending) (gives : Result BatchAnswer Refusal) → CallsOn i.variant i.meaning old middle offer (One p.request) gives
-      → StandsFor i old y → AreAsked all others asked i y offer (One p.request) → IsOffered i y p offer → Shows i.variant all others i y old final → Reaches i.variant i middle final
+  pub between : (y : History) (old middle : Standing) (offer : List ℕ) (p : Pending) (gives : Result BatchAnswer Refusal)
+      → CallsOn i.variant i.meaning old middle offer (One p.request) gives
+      → StandsFor i old y → AreAsked all others asked i y offer (One p.request) → IsOffered i y p offer
+      → Shows i.variant all others i y old final → Reaches i.variant i middle final
       → ((why : Refusal) → gives ≡ Err why → ⊥)
       → (o : Called all others asked i y middle offer p gives) × IsBetween all others i y (Some p) middle final o.after
-  pub last : (y : History) (old : Standing) (offer : List ℕ) (p : Pending) (gives : Result BatchAnswer Refusal) → CallsOn i.variant i.meaning old final offer (One p.request) gives
-      → StandsFor i old y → AreAsked all others asked i y offer (One p.request) → IsOffered i y p offer → Shows i.variant all others i y old final
+  pub last : (y : History) (old : Standing) (offer : List ℕ) (p : Pending) (gives : Result BatchAnswer Refusal)
+      → CallsOn i.variant i.meaning old final offer (One p.request) gives
+      → StandsFor i old y → AreAsked all others asked i y offer (One p.request) → IsOffered i y p offer
+      → Shows i.variant all others i y old final
       → Called all others asked i y final offer p gives
-  pub reach : (old new : Standing) (offer request : List ℕ) (gives : Result BatchAnswer Refusal) → CallsOn i.variant i.meaning old new offer (One request) gives → Reaches i.variant i old new
+  pub reach : (old new : Standing) (offer request : List ℕ) (gives : Result BatchAnswer Refusal)
+      → CallsOn i.variant i.meaning old new offer (One request) gives → Reaches i.variant i old new
   -- what histories issue that are the same, and how they grow
   pub formed : (y : History) → total_of y.batches ≤ last_position → IsContent (issued i y)
   pub issue : (y z : History) → IsSame i.variant y z → issued i y ≡ issued i z
   pub batches : (y z : History) → IsSame i.variant y z → y.batches ≡ z.batches
   pub like : (y z : History) → IsSame i.variant y z → IsLike i.variant y z
-  pub grow : (y z after : History) (b : Batch) → IsLedTo i.variant after → IsLike i.variant y z → IsSame i.variant after (moved i y (Commit b)) → IsSame i.variant after (moved i z (Commit b))
+  pub grow : (y z after : History) (b : Batch) → IsLedTo i.variant after → IsLike i.variant y z
+      → IsSame i.variant after (moved i y (Commit b)) → IsSame i.variant after (moved i z (Commit b))
   -- where nothing is committed
   pub begins : (y : History) → IsLedTo i.variant y → y.batches ≡ [] → IsLike i.variant y first_history
-  pub placed : (y : History) (content : Content) → IsLedTo i.variant y → Names i y content → content.position ≡ 0 → content.place ≡ (issued i first_history).place
+  pub placed : (y : History) (content : Content) → IsLedTo i.variant y → Names i y content → content.position ≡ 0
+      → content.place ≡ (issued i first_history).place
 
 -- Basic
 
 with_batches : List Batch → History
 with_batches bs = record first_history { batches = bs }
 
-basic_issue : (meaning : Meaning) (key : List ℕ) (y z : History) → y.batches ≡ z.batches → issued (basic meaning key) y ≡ issued (basic meaning key) z
+basic_issue : (meaning : Meaning) (key : List ℕ) (y z : History) → y.batches ≡ z.batches
+    → issued (basic meaning key) y ≡ issued (basic meaning key) z
 unfolding with_batches
 basic_issue meaning key y z e = ap (λ (bs : List Batch). issued (basic meaning key) (with_batches bs)) e
 
-basic_place : (meaning : Meaning) (key : List ℕ) (y : History) (named : List Batch) (place : Place) → IsPlaceOf Basic (basic meaning key) y named place → named ≡ [] → place ≡ (issued (basic meaning key) first_history).place
+basic_place : (meaning : Meaning) (key : List ℕ) (y : History) (named : List Batch) (place : Place)
+    → IsPlaceOf Basic (basic meaning key) y named place → named ≡ [] → place ≡ (issued (basic meaning key) first_history).place
 basic_place meaning key y named (InBasic s) p e = ap (λ (bytes : List ℕ). InBasic (digest_of bytes)) (p ∙ ap (summary_of meaning.id) e)
 basic_place meaning key y named (InOpt a b) p e = absurd p
 
 names_none : (i : Instance) (y : History) (content : Content) (n : Names i y content) → content.position ≡ 0 → n.named ≡ []
 names_none i y content n e = total-nil n.named (sym n.position ∙ e)
 
-pub basic_laws : (meaning : Meaning) → IsLawful meaning → (key : List ℕ) (all others : List (List ℕ)) (asked : List Batch) (final : Standing) → Laws all others asked (basic meaning key) final
+pub basic_laws : (meaning : Meaning) → IsLawful meaning
+    → (key : List ℕ) (all others : List (List ℕ)) (asked : List Batch) (final : Standing) → Laws all others asked (basic meaning key) final
 basic_laws meaning lawful key all others asked final = record {
   lawful = lawful;
   between = λ y old middle offer p gives c s a f shows reaches ok.
@@ -185,7 +203,8 @@ basic_laws meaning lawful key all others asked final = record {
 
 -- Opt: where nothing is committed
 
-no_segments : (segments : List (List Entry)) → AllByRecursion (λ segment. is_empty segment ≡ false) segments → length (joined segments) ≡ 0 → segments ≡ []
+no_segments : (segments : List (List Entry)) → AllByRecursion (λ segment. is_empty segment ≡ false) segments → length (joined segments) ≡ 0
+    → segments ≡ []
 no_segments [] filled e = refl
 no_segments ([] ∷ segments) filled e = let clash : true ≡ false = filled.0 in absurd (cc)
 no_segments ((x ∷ xs) ∷ segments) filled e = absurd (cc)
@@ -214,14 +233,16 @@ or_left false b e = absurd (cc)
 marred_in : (before : List (List Entry)) (last : List Entry) → has_value last ≡ true → has_value (joined (before ++ last ∷ [])) ≡ true
 marred_in [] last e = has_value-append last [] ∙ or_left (has_value last) false e
 marred_in (segment ∷ before) last e =
-    has_value-append segment (joined (before ++ last ∷ [])) ∙ or_right (has_value segment) (has_value (joined (before ++ last ∷ []))) (marred_in before last e)
+    has_value-append segment (joined (before ++ last ∷ []))
+    ∙ or_right (has_value segment) (has_value (joined (before ++ last ∷ []))) (marred_in before last e)
 
 clean_batches : (y : History) → IsSound y → has_value (joined y.closed) ≡ false → y.batches ≡ batches_in (joined y.closed) ++ y.current
 clean_batches y sound clean =
     elim sound.history [
       | inl c ↦ c.batches
       | inr m ↦
-          let marred : has_value (joined y.closed) ≡ true = ap (λ (s : List (List Entry)). has_value (joined s)) m.split ∙ marred_in m.before m.last m.marred in
+          let marred : has_value (joined y.closed) ≡ true = ap (λ (s : List (List Entry)). has_value (joined s)) m.split
+          ∙ marred_in m.before m.last m.marred in
           let clash : true ≡ false = sym marred ∙ clean in
           absurd (cc)
     ]
@@ -234,7 +255,8 @@ unfolding history_of
 opt_begins y sound none clean =
     let both : batches_in (joined y.closed) ++ y.current ≡ [] = sym (clean_batches y sound clean) ∙ none in
     let current : y.current ≡ [] = no_back (batches_in (joined y.closed)) y.current both in
-    let closed : y.closed ≡ [] = no_segments y.closed sound.filled (no_entries (joined y.closed) clean (no_front (batches_in (joined y.closed)) y.current both)) in
+    let closed : y.closed ≡ [] = no_segments y.closed sound.filled
+    (no_entries (joined y.closed) clean (no_front (batches_in (joined y.closed)) y.current both)) in
     let shut : y.is_open ≡ false = sound.shut_is (ap is_empty current) in
     ap (λ (bs : List Batch). history_of bs y.closed y.current y.is_open) none
     ∙ ap (λ (cs : List (List Entry)). history_of [] cs y.current y.is_open) closed
@@ -252,7 +274,8 @@ record IsFirst (i : Instance) (anchor extension : List ℕ) : Type 0 where
   anchor_is : anchor ≡ anchor_after i []
   extension_is : extension ≡ zero_bytes
 
-first_point : (i : Instance) (y : History) (named : List Batch) (a e : List ℕ) → IsSound y → named ≡ [] → IsPoint i y named a e → IsFirst i a e
+first_point : (i : Instance) (y : History) (named : List Batch) (a e : List ℕ) → IsSound y → named ≡ [] → IsPoint i y named a e
+    → IsFirst i a e
 first_point i y named a e sound none (at_anchor p) =
     let filled = each_left (λ (segment : List Entry). is_empty segment ≡ false) p.before p.later
     (subst (λ (s : List (List Entry)). AllByRecursion (λ segment. is_empty segment ≡ false) s) p.split sound.filled) in
@@ -261,7 +284,8 @@ first_point i y named a e sound none (at_anchor p) =
 first_point i y named a e sound none (in_closed p) = absurd (not_taken named p.done p.taken none p.named_is p.begun)
 first_point i y named a e sound none (in_current p) = absurd (not_taken named p.done p.taken none p.named_is p.begun)
 
-opt_place : (meaning : Meaning) (key barrier : List ℕ) (y : History) (named : List Batch) (place : Place) → IsSound y → IsPlaceOf Opt (opt meaning key barrier) y named place → named ≡ [] → place ≡ (issued (opt meaning key barrier) first_history).place
+opt_place : (meaning : Meaning) (key barrier : List ℕ) (y : History) (named : List Batch) (place : Place) → IsSound y
+    → IsPlaceOf Opt (opt meaning key barrier) y named place → named ≡ [] → place ≡ (issued (opt meaning key barrier) first_history).place
 opt_place meaning key barrier y named (InBasic s) sound p e = absurd p
 opt_place meaning key barrier y named (InOpt a b) sound p e =
     let f = first_point (opt meaning key barrier) y named a.bytes b.bytes sound e p in
@@ -288,10 +312,16 @@ shut_by false bare own true e = λ l. cc
 shut_powered : (y : History) → y.is_open ≡ false → life_of Opt y ≢ LostLife
 shut_powered y e = shut_by y.is_open (is_empty y.items) (are_own y.items y.current) (has_value (joined y.closed)) e
 
-module _ (meaning : Meaning) (lawful : IsLawful meaning) (key barrier : List ℕ) (all others : List (List ℕ)) (asked : List Batch) (final : Standing) (y : History) (old middle : Standing) (offer : List ℕ) (p : Pending) (answer : BatchAnswer) (c : CallsOn Opt meaning old middle offer (One p.request) (Ok answer)) (s : StandsFor (opt meaning key barrier) old y) (a : AreAsked all others asked (opt meaning key barrier) y offer (One p.request)) (f : IsOffered (opt meaning key barrier) y p offer) (shows : ShowsAt all others (opt meaning key barrier) y old final) where
+module _ (meaning : Meaning) (lawful : IsLawful meaning) (key barrier : List ℕ) (all others : List (List ℕ)) (asked : List Batch)
+    (final : Standing) (y : History) (old middle : Standing) (offer : List ℕ) (p : Pending) (answer : BatchAnswer)
+    (c : CallsOn Opt meaning old middle offer (One p.request) (Ok answer)) (s : StandsFor (opt meaning key barrier) old y)
+    (a : AreAsked all others asked (opt meaning key barrier) y offer (One p.request)) (f : IsOffered (opt meaning key barrier) y p offer)
+    (shows : ShowsAt all others (opt meaning key barrier) y old final) where
   -- a call that was answered, with others behind it
   abbrev Between : Type 0
-  Between = (o : Called all others asked (opt meaning key barrier) y middle offer p (Ok answer)) × IsBetween all others (opt meaning key barrier) y (Some p) middle final o.after
+  Between =
+      (o : Called all others asked (opt meaning key barrier) y middle offer p (Ok answer))
+      × IsBetween all others (opt meaning key barrier) y (Some p) middle final o.after
 
   abbrev Handed : Type 0
   Handed = Hands meaning key barrier all others asked y middle final offer p.request (Ok answer) shows.more
@@ -303,7 +333,9 @@ module _ (meaning : Meaning) (lawful : IsLawful meaning) (key barrier : List ℕ
       after = h.left.after;
       stands = h.left.stands;
       within = h.left.within;
-      names = λ content n. names_after meaning key barrier y h.left.after (One p.request) content a.within.sound h.left.within.sound h.left.alike n;
+      names =
+          λ content n. names_after meaning key barrier y h.left.after (One p.request) content a.within.sound h.left.within.sound
+          h.left.alike n;
       comes = h.left.comes;
       only = λ why e. absurd (cc);
       refuses = λ why e. absurd (cc);
@@ -318,7 +350,9 @@ module _ (meaning : Meaning) (lawful : IsLawful meaning) (key barrier : List ℕ
   )
 
   -- whether a segment is open after it follows from the answer's position
-  open_by : (after then_is : History) → Alike meaning key barrier y (One p.request) after → IsGrownBy (opt meaning key barrier) y (Some p) then_is → total_of after.batches ≡ total_of then_is.batches → after.is_open ≡ true → then_is.is_open ≡ true
+  open_by : (after then_is : History) → Alike meaning key barrier y (One p.request) after
+      → IsGrownBy (opt meaning key barrier) y (Some p) then_is → total_of after.batches ≡ total_of then_is.batches → after.is_open ≡ true
+      → then_is.is_open ≡ true
   open_by after then_is (still e) (inl same) t is = ap (λ (x : History). x.is_open) (same ∙ sym e) ∙ is
   open_by after then_is (grown_by e) (inl same) t is =
       let more : total_of after.batches ≡ total_of y.batches + 1 =
@@ -335,17 +369,24 @@ module _ (meaning : Meaning) (lawful : IsLawful meaning) (key barrier : List ℕ
       let there : Some (h.items ++ h.more) ≡ Some (standing_items y.is_open shows.items ++ shows.more) =
       ap (λ (flag : Bool). Some (standing_items flag h.items ++ h.more)) (sym e) ∙ sym h.ends ∙ shows.ends in
       let reach : h.items ++ h.more ≡ (standing_items y.is_open shows.items ++ pushed.front) ++ h.more =
-      same_items there ∙ ap (λ (xs : List Item). standing_items y.is_open shows.items ++ xs) (sym pushed.whole) ∙ sym (append_assoc (standing_items y.is_open shows.items) pushed.front h.more) in
-      let items : h.items ≡ standing_items y.is_open shows.items ++ pushed.front = append_cancel_right h.items (standing_items y.is_open shows.items ++ pushed.front) h.more reach in
-      let o = opt_called meaning lawful key barrier all others asked y old middle offer p (Ok answer) shows.items pushed.front c s a shows.known
+      same_items there ∙ ap (λ (xs : List Item). standing_items y.is_open shows.items ++ xs) (sym pushed.whole)
+      ∙ sym (append_assoc (standing_items y.is_open shows.items) pushed.front h.more) in
+      let items : h.items ≡ standing_items y.is_open shows.items ++ pushed.front = append_cancel_right h.items
+      (standing_items y.is_open shows.items ++ pushed.front) h.more reach in
+      let o = opt_called meaning lawful key barrier all others asked y old middle offer p (Ok answer) shows.items pushed.front c s a
+      shows.known
       (h.known ∙ ap (λ (xs : List Item). Some xs) items)
-      (λ busy. shown_front all others i y pushed.front h.more (subst (λ (xs : List Item). AreShown all others i y xs) (sym pushed.whole) shows.shown_are)) f in
+      (λ busy. shown_front all others i y pushed.front h.more
+      (subst (λ (xs : List Item). AreShown all others i y xs) (sym pushed.whole) shows.shown_are)) f in
       let total : total_of h.left.after.batches ≡ total_of o.after.batches =
-      sym (answered_at i y h.left.after offer (One p.request) answer h.left.comes).0 ∙ (answered_at i y o.after offer (One p.request) answer o.comes).0 in
+      sym (answered_at i y h.left.after offer (One p.request) answer h.left.comes).0
+      ∙ (answered_at i y o.after offer (One p.request) answer o.comes).0 in
       let is_open : o.after.is_open ≡ true = open_by h.left.after o.after h.left.alike o.grown total e in
-      let same : Some (register_value_of i h.left.after) ≡ Some (register_value_of i o.after) = sym h.left.stands.register ∙ o.stands.register in
+      let same : Some (register_value_of i h.left.after) ≡ Some (register_value_of i o.after) = sym h.left.stands.register
+      ∙ o.stands.register in
       let register : register_value_of i (counted_part h.left.after) ≡ register_value_of i (counted_part o.after) =
-      ap (register_value_of i) (counted_open h.left.after e) ∙ same_value same ∙ sym (ap (register_value_of i) (counted_open o.after is_open)) in (
+      ap (register_value_of i) (counted_open h.left.after e) ∙ same_value same
+      ∙ sym (ap (register_value_of i) (counted_open o.after is_open)) in (
         o,
         (
           record {
@@ -372,28 +413,38 @@ module _ (meaning : Meaning) (lawful : IsLawful meaning) (key barrier : List ℕ
       (goes_on meaning key barrier all others asked middle final reaches) s shows.known shows.ends a shows.shown_are in
       between_by h h.left.after.is_open refl
 
-opt_between : (meaning : Meaning) → IsLawful meaning → (key barrier : List ℕ) (all others : List (List ℕ)) (asked : List Batch) (final : Standing) (y : History) (old middle : Standing) (offer : List ℕ) (p : Pending) (gives : Result BatchAnswer Refusal)
-    → CallsOn Opt meaning old middle offer (One p.request) gives → StandsFor (opt meaning key barrier) old y → AreAsked all others asked (opt meaning key barrier) y offer (One p.request)
-    → IsOffered (opt meaning key barrier) y p offer → ShowsAt all others (opt meaning key barrier) y old final → Reaches Opt (opt meaning key barrier) middle final → ((why : Refusal) → gives ≡ Err why → ⊥)
-    → (o : Called all others asked (opt meaning key barrier) y middle offer p gives) × IsBetween all others (opt meaning key barrier) y (Some p) middle final o.after
+opt_between : (meaning : Meaning) → IsLawful meaning
+    → (key barrier : List ℕ) (all others : List (List ℕ)) (asked : List Batch) (final : Standing) (y : History) (old middle : Standing)
+    (offer : List ℕ) (p : Pending) (gives : Result BatchAnswer Refusal)
+    → CallsOn Opt meaning old middle offer (One p.request) gives → StandsFor (opt meaning key barrier) old y
+    → AreAsked all others asked (opt meaning key barrier) y offer (One p.request)
+    → IsOffered (opt meaning key barrier) y p offer → ShowsAt all others (opt meaning key barrier) y old final
+    → Reaches Opt (opt meaning key barrier) middle final → ((why : Refusal) → gives ≡ Err why → ⊥)
+    → (o : Called all others asked (opt meaning key barrier) y middle offer p gives)
+    × IsBetween all others (opt meaning key barrier) y (Some p) middle final o.after
 opt_between meaning lawful key barrier all others asked final y old middle offer p (Ok answer) c s a f shows reaches ok =
     between meaning lawful key barrier all others asked final y old middle offer p answer c s a f shows reaches
 opt_between meaning lawful key barrier all others asked final y old middle offer p (Err why) c s a f shows reaches ok = absurd (ok why refl)
 
-opt_grow : (meaning : Meaning) (key barrier : List ℕ) (y z after : History) (b : Batch) → IsSound after → (has_value (joined y.closed) ≡ false → bare y ≡ bare z)
+opt_grow : (meaning : Meaning) (key barrier : List ℕ) (y z after : History) (b : Batch) → IsSound after
+    → (has_value (joined y.closed) ≡ false → bare y ≡ bare z)
     → bare after ≡ bare (moved (opt meaning key barrier) y (Commit b)) → bare after ≡ bare (moved (opt meaning key barrier) z (Commit b))
 opt_grow meaning key barrier y z after b sound like e =
     let clean : has_value (joined y.closed) ≡ false =
-    ap (λ (s : List (List Entry)). has_value (joined s)) (sym (same_closed meaning key barrier y after b e)) ∙ clean_open after sound (opened meaning key barrier y after b e) in
+    ap (λ (s : List (List Entry)). has_value (joined s)) (sym (same_closed meaning key barrier y after b e))
+    ∙ clean_open after sound (opened meaning key barrier y after b e) in
     e ∙ alike_commit meaning key barrier y z b (like clean)
 
-pub opt_laws : (meaning : Meaning) → IsLawful meaning → (key barrier : List ℕ) (all others : List (List ℕ)) (asked : List Batch) (final : Standing) → Laws all others asked (opt meaning key barrier) final
+pub opt_laws : (meaning : Meaning) → IsLawful meaning
+    → (key barrier : List ℕ) (all others : List (List ℕ)) (asked : List Batch) (final : Standing)
+    → Laws all others asked (opt meaning key barrier) final
 opt_laws meaning lawful key barrier all others asked final = record {
   lawful = lawful;
   between = λ y old middle offer p gives c s a f shows reaches ok.
       opt_between meaning lawful key barrier all others asked final y old middle offer p gives c s a f shows reaches ok;
   last = λ y old offer p gives c s a f shows.
-      opt_called meaning lawful key barrier all others asked y old final offer p gives shows.items shows.more c s a shows.known shows.ends (λ busy. shows.shown_are) f;
+      opt_called meaning lawful key barrier all others asked y old final offer p gives shows.items shows.more c s a shows.known shows.ends
+      (λ busy. shows.shown_are) f;
   reach = λ old new offer request gives c. opt_reach meaning key barrier old new offer request gives c;
   formed = λ y most. issued_content meaning lawful key barrier y most;
   issue = λ y z e. issued_alike meaning key barrier y z e;
@@ -401,5 +452,7 @@ opt_laws meaning lawful key barrier all others asked final = record {
   like = λ y z e clean. e;
   grow = λ y z after b sound l e. opt_grow meaning key barrier y z after b sound l e;
   begins = λ y sound e clean. opt_begins y sound e clean;
-  placed = λ y content sound n e. opt_place meaning key barrier y n.named content.place sound n.place (names_none (opt meaning key barrier) y content n e);
+  placed =
+      λ y content sound n e. opt_place meaning key barrier y n.named content.place sound n.place
+      (names_none (opt meaning key barrier) y content n e);
 }

@@ -7,7 +7,7 @@ use Rattle.mm_base.proofs.Input.{joined-append}
 use Rattle.mm_digest.specs.declared.variant.Variant.{Variant}
 use Rattle.mm_platform.specs.Standing.{Standing}
 use Rattle.mm_module.specs.Meaning.{Meaning}
-use Rattle.mm_schedule.specs.Replies.{told_line}
+use Rattle.mm_schedule.specs.RepliesWords.{told_line}
 use Rattle.mm_store.specs.Kept.{StoreStanding}
 use Rattle.mm_host.specs.declared.fault.SessionFault.{SessionFault}
 use Rattle.mm_host.specs.declared.resuming.Resumed.{Resumed}
@@ -18,7 +18,8 @@ use Rattle.mm_host.specs.Sessions.{EndsSession, most_lines}
 use Rattle.mm_host.specs.Turns.{ServesInput, ServesLine, ServesNext, ServedOn}
 
 -- These lines were served, and some bytes are held.
-pub record Stands (variant : Variant) (meaning : Meaning) (from at : Place) (number : ℕ) (left left' received received' : Option (List ℕ)) (held : List ℕ) : Type 0 where
+pub record Stands (variant : Variant) (meaning : Meaning) (from at : Place) (number : ℕ) (left left' received received' : Option (List ℕ))
+    (held : List ℕ) : Type 0 where
   pub taken : List ℕ
   pub sent : List ℕ
   pub calls : List Served
@@ -30,7 +31,8 @@ pub record Stands (variant : Variant) (meaning : Meaning) (from at : Place) (num
   pub few : length calls ≤ most_lines
   pub serves : Serves variant meaning from calls at
 
-pub stands_first : (variant : Variant) (meaning : Meaning) (from : Place) (left received : Option (List ℕ)) → Stands variant meaning from from 1 left left received received []
+pub stands_first : (variant : Variant) (meaning : Meaning) (from : Place) (left received : Option (List ℕ))
+    → Stands variant meaning from from 1 left left received received []
 stands_first variant meaning from left received = record {
   taken = [];
   sent = [];
@@ -46,7 +48,9 @@ stands_first variant meaning from left received = record {
 
 -- one more line at the end
 
-pub Serves-snoc : (variant : Variant) (meaning : Meaning) (from at to : Place) (calls : List Served) (c : Served) → Serves variant meaning from calls at → ServesFirst variant meaning at c (λ next. to ≡ next) → Serves variant meaning from (calls ++ c ∷ []) to
+pub Serves-snoc : (variant : Variant) (meaning : Meaning) (from at to : Place) (calls : List Served) (c : Served)
+    → Serves variant meaning from calls at → ServesFirst variant meaning at c (λ next. to ≡ next)
+    → Serves variant meaning from (calls ++ c ∷ []) to
 Serves-snoc variant meaning from at to [] c h s = subst (λ (p : Place). ServesFirst variant meaning p c (λ next. to ≡ next)) h s
 Serves-snoc variant meaning from at to (d ∷ calls) c h s = record {
   within = h.within;
@@ -67,10 +71,12 @@ replies_to-append (c ∷ calls) more =
     ∙ sym (append_assoc (told_line c.answer.again c.answer.position c.answer.output) (replies_to calls) (replies_to more))
 
 -- a turn took this of the input behind what was taken before
-taken_on : (lines : List (List ℕ)) (before held taken : List ℕ) → before ≡ lines_joined lines ++ held → before ++ taken ≡ lines_joined lines ++ (held ++ taken)
+taken_on : (lines : List (List ℕ)) (before held taken : List ℕ) → before ≡ lines_joined lines ++ held
+    → before ++ taken ≡ lines_joined lines ++ (held ++ taken)
 taken_on lines before held taken cut = ap (λ (b : List ℕ). b ++ taken) cut ∙ append_assoc (lines_joined lines) held taken
 
-regrouped : (lines : List (List ℕ)) (line rest : List ℕ) → lines_joined lines ++ (line ++ 10 ∷ rest) ≡ lines_joined (lines ++ line ∷ []) ++ rest
+regrouped : (lines : List (List ℕ)) (line rest : List ℕ) → lines_joined lines ++ (line ++ 10 ∷ rest) ≡ lines_joined (lines ++ line ∷ [])
+    ++ rest
 regrouped lines line rest =
     ap (λ (b : List ℕ). lines_joined lines ++ b) (sym (append_assoc line (10 ∷ []) rest))
     ∙ sym (append_assoc (lines_joined lines) (line ++ 10 ∷ []) rest)
@@ -83,14 +89,17 @@ few_more : (calls : List Served) (c : Served) (n : ℕ) → n ≡ length calls +
 few_more calls c n h k = omega (arith, length-append calls (c ∷ []))
 
 -- one more line was served
-pub stands_on : (variant : Variant) (meaning : Meaning) (from at : Place) (number : ℕ) (after : Standing) (new : StoreStanding) (next : Resumed) (left left' left'' received received' received'' : Option (List ℕ)) (held held' : List ℕ) (result : Result (Option Resumed) SessionFault)
+pub stands_on : (variant : Variant) (meaning : Meaning) (from at : Place) (number : ℕ) (after : Standing) (new : StoreStanding)
+    (next : Resumed) (left left' left'' received received' received'' : Option (List ℕ)) (held held' : List ℕ)
+    (result : Result (Option Resumed) SessionFault)
     → Stands variant meaning from at number left left' received received' held
     → ServesNext variant meaning number at after new left' left'' held held' received' received'' result
     → result ≡ Ok (Some next)
     → Stands variant meaning from (record { platform = after; store = new; last = next }) (number + 1) left left'' received received'' held'
 stands_on variant meaning from at number after new next left left' left'' received received' received'' held held' result s t went =
     let w : ServesLine variant meaning number at after new (held ++ t.taken) held' t.sent next =
-    subst (λ (r : Result (Option Resumed) SessionFault). ServedOn variant meaning number at after new left'' (held ++ t.taken) held' t.sent r) went t.went in
+    subst (λ (r : Result (Option Resumed) SessionFault). ServedOn variant meaning number at after new left'' (held ++ t.taken) held' t.sent
+    r) went t.went in
     let c : Served = record { line = w.line; answer = w.answer } in
     record {
       taken = s.taken ++ t.taken;
@@ -116,12 +125,10 @@ stands_on variant meaning from at number after new next left left' left'' receiv
       });
     }
 
--- the lines so far are few
-pub few_served : (variant : Variant) (meaning : Meaning) (from at : Place) (number : ℕ) (left left' received received' : Option (List ℕ)) (held : List ℕ) → Stands variant meaning from at number left left' received received' held → number ≤ 1000001
-few_served variant meaning from at number left left' received received' held s = omega (arith, s.counted, s.few)
-
 -- and there it ends
-pub serves_all : (variant : Variant) (meaning : Meaning) (from at : Place) (number : ℕ) (after : Standing) (new : StoreStanding) (left left' left'' received received' received'' : Option (List ℕ)) (held held' : List ℕ) (result : Result (Option Resumed) SessionFault) (ended : Result Unit SessionFault)
+pub serves_all : (variant : Variant) (meaning : Meaning) (from at : Place) (number : ℕ) (after : Standing) (new : StoreStanding)
+    (left left' left'' received received' received'' : Option (List ℕ)) (held held' : List ℕ)
+    (result : Result (Option Resumed) SessionFault) (ended : Result Unit SessionFault)
     → Stands variant meaning from at number left left' received received' held
     → (t : ServesNext variant meaning number at after new left' left'' held held' received' received'' result)
     → EndsSession variant meaning number at after new left'' (held ++ t.taken) t.sent ended
@@ -144,20 +151,26 @@ serves_all variant meaning from at number after new left left' left'' received r
   };
 }
 
-pub serves_ended : (variant : Variant) (meaning : Meaning) (from at : Place) (number : ℕ) (after : Standing) (new : StoreStanding) (left left' left'' received received' received'' : Option (List ℕ)) (held held' : List ℕ) (result : Result (Option Resumed) SessionFault) (it : Unit)
+pub serves_ended : (variant : Variant) (meaning : Meaning) (from at : Place) (number : ℕ) (after : Standing) (new : StoreStanding)
+    (left left' left'' received received' received'' : Option (List ℕ)) (held held' : List ℕ)
+    (result : Result (Option Resumed) SessionFault) (it : Unit)
     → Stands variant meaning from at number left left' received received' held
     → ServesNext variant meaning number at after new left' left'' held held' received' received'' result
     → result ≡ Ok None
     → ServesInput variant meaning from after new left left'' received received'' (Ok it)
 serves_ended variant meaning from at number after new left left' left'' received received' received'' held held' result it s t went =
     serves_all variant meaning from at number after new left left' left'' received received' received'' held held' result (Ok it) s t
-    (subst (λ (r : Result (Option Resumed) SessionFault). ServedOn variant meaning number at after new left'' (held ++ t.taken) held' t.sent r) went t.went)
+    (subst (λ (r : Result (Option Resumed) SessionFault). ServedOn variant meaning number at after new left'' (held ++ t.taken) held' t.sent
+    r) went t.went)
 
-pub serves_stopped : (variant : Variant) (meaning : Meaning) (from at : Place) (number : ℕ) (after : Standing) (new : StoreStanding) (left left' left'' received received' received'' : Option (List ℕ)) (held held' : List ℕ) (result : Result (Option Resumed) SessionFault) (fault : SessionFault)
+pub serves_stopped : (variant : Variant) (meaning : Meaning) (from at : Place) (number : ℕ) (after : Standing) (new : StoreStanding)
+    (left left' left'' received received' received'' : Option (List ℕ)) (held held' : List ℕ)
+    (result : Result (Option Resumed) SessionFault) (fault : SessionFault)
     → Stands variant meaning from at number left left' received received' held
     → ServesNext variant meaning number at after new left' left'' held held' received' received'' result
     → result ≡ Err fault
     → ServesInput variant meaning from after new left left'' received received'' (Err fault)
 serves_stopped variant meaning from at number after new left left' left'' received received' received'' held held' result fault s t went =
     serves_all variant meaning from at number after new left left' left'' received received' received'' held held' result (Err fault) s t
-    (subst (λ (r : Result (Option Resumed) SessionFault). ServedOn variant meaning number at after new left'' (held ++ t.taken) held' t.sent r) went t.went)
+    (subst (λ (r : Result (Option Resumed) SessionFault). ServedOn variant meaning number at after new left'' (held ++ t.taken) held' t.sent
+    r) went t.went)

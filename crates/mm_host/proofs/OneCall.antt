@@ -25,7 +25,8 @@ use Rattle.mm_call.specs.CallsOn.{CallsOn}
 use Rattle.mm_call.specs.Ended.{result_of}
 use Rattle.mm_call.specs.Leaving.{Blames, whole, whole_in}
 use Rattle.mm_call.specs.Refusals.{fault_in, handed_on, OrMemory}
-use Rattle.mm_call.specs.Order.{weighed, examined}
+use Rattle.mm_call.specs.Order.{examined}
+use Rattle.mm_call.specs.OrderWords.{weighed}
 use Rattle.mm_basic.specs.declared.found.Found.{Found}
 use Rattle.mm_basic.specs.Seen.{Seen, NoCell, OtherCell, NoOffer, Both}
 use Rattle.mm_basic.specs.Order.{verdict_of}

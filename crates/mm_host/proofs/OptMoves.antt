@@ -6,7 +6,8 @@ use Rattle.mm_module.specs.Batch.{Batch}
 use Rattle.mm_seal.specs.Snapshot.{Content}
 use Rattle.mm_model.specs.Chains.{guard}
 use Rattle.mm_model.specs.History.{Entry, Own, Value, History, Move, Commit, Foreign, Placed, Reset, Close, Power, committed, joined, moved, renamed}
-use Rattle.mm_model.specs.Instance.{Instance, opt}
+use Rattle.mm_model.specs.Instance.{Instance}
+use Rattle.mm_model.specs.InstanceWords.{opt}
 use Rattle.mm_model.specs.Life.{Lost as LostLife, are_own, has_value, is_empty, life_by, life_of}
 use Rattle.mm_model.specs.Moves.{IsAllowed}
 use Rattle.mm_model.specs.Places.{Names}
@@ -18,7 +19,8 @@ use Rattle.mm_model.proofs.Moves.{sound_moved}
 use Rattle.mm_model.proofs.Named.{opt_names}
 use Rattle.mm_call.specs.Called.{called, given_for}
 use Rattle.mm_call.specs.Courses.{Course, Walked, walk, closes}
-use Rattle.mm_call.specs.Found.{Found, found_at, found_unless_wanting, is_fresh}
+use Rattle.mm_call.specs.Found.{Found, found_at}
+use Rattle.mm_call.specs.FoundWords.{found_unless_wanting, is_fresh}
 use Rattle.mm_call.specs.Levels.{by_lists, all_made}
 use Rattle.mm_call.proofs.BasicLaw.{unlacked}
 use Rattle.mm_call.proofs.OptFinding.{live_found}
@@ -39,17 +41,21 @@ names_made meaning key barrier (m ∷ moves) y content sound may n =
     (sound_moved meaning key barrier y m sound may.0) may.1 (opt_names meaning key barrier y m content sound may.0 n)
 
 -- what a snapshot names is named after a call
-pub named_after : (meaning : Meaning) (key barrier : List ℕ) (y : History) (c : Course) (offer : List ℕ) (b : Batch) (content : Content) → IsSound y
+pub named_after : (meaning : Meaning) (key barrier : List ℕ) (y : History) (c : Course) (offer : List ℕ) (b : Batch) (content : Content)
+    → IsSound y
     → Names (opt meaning key barrier) y content
     → Names (opt meaning key barrier) (called (opt meaning key barrier) (by_lists (opt meaning key barrier)) y c offer b).state content
 named_after meaning key barrier y c offer b content sound n =
     let i : Instance = opt meaning key barrier in
-    let found : Result Found Refusal = found_unless_wanting (found_at i (by_lists i) (all_made (by_lists i) y (before c)) b offer) c.lacks in
-    names_made meaning key barrier (walk c.fates 1 (ask_steps Opt y.is_open (is_fresh found) b)).moves y content sound (ask_may meaning key barrier y c offer b) n
+    let found : Result Found Refusal = found_unless_wanting (found_at i (by_lists i) (all_made (by_lists i) y (before c)) b offer) c.lacks
+    in
+    names_made meaning key barrier (walk c.fates 1 (ask_steps Opt y.is_open (is_fresh found) b)).moves y content sound
+    (ask_may meaning key barrier y c offer b) n
 
 -- What is answered was found in a history whose closed segments hold no value that stands for no batch, and a call
 -- closes none.
-pub answered_clean : (meaning : Meaning) (key barrier : List ℕ) (y : History) (c : Course) (offer : List ℕ) (b : Batch) (answer : BatchAnswer)
+pub answered_clean : (meaning : Meaning) (key barrier : List ℕ) (y : History) (c : Course) (offer : List ℕ) (b : Batch)
+    (answer : BatchAnswer)
     → given_for (called (opt meaning key barrier) (by_lists (opt meaning key barrier)) y c offer b).ending ≡ Ok answer
     → has_value (joined (called (opt meaning key barrier) (by_lists (opt meaning key barrier)) y c offer b).state.closed) ≡ false
 answered_clean meaning key barrier y c offer b answer gives =
@@ -62,8 +68,10 @@ answered_clean meaning key barrier y c offer b answer gives =
     let walked : Walked = walk c.fates 1 (ask_steps Opt y.is_open (is_fresh found) b) in
     let end : History = all_made (by_lists i) y walked.moves in
     let it = answered_only walked.broken i sees end b found walked.moves answer gives in
-    let live = live_found meaning key barrier sees b offer it.it (unlacked (found_at i (by_lists i) sees b offer) c.lacks it.it it.found_is) in
-    let quiet : closes walked.moves ≡ false = ap (λ (s : List Step). closes (walk c.fates 1 s).moves) (asks y.is_open (is_fresh found) b) ∙ opt_closes c.fates y.is_open (is_fresh found) b in
+    let live = live_found meaning key barrier sees b offer it.it (unlacked (found_at i (by_lists i) sees b offer) c.lacks it.it it.found_is)
+    in
+    let quiet : closes walked.moves ≡ false = ap (λ (s : List Step). closes (walk c.fates 1 s).moves) (asks y.is_open (is_fresh found) b)
+    ∙ opt_closes c.fates y.is_open (is_fresh found) b in
     ap (λ (segments : List (List Entry)). has_value (joined segments))
     (closed_kept i walked.moves y quiet ∙ sym (closed_kept i first y (closes_first v (map Foreign w ++ []) ∙ closes_first w [])))
     ∙ live.clean
@@ -122,19 +130,22 @@ committed_items : (flag : Bool) (y : History) (b : Batch) → is_empty (committe
 committed_items true y b = pushed_items y.items (Own b)
 committed_items false y b = renamed_items y.items b
 
-powered_made : (meaning : Meaning) (key barrier : List ℕ) (moves : List Move) (y : History) → loses moves ≡ false → AllMay (opt meaning key barrier) y moves → IsPowered y → IsPowered (all_made (by_lists (opt meaning key barrier)) y moves)
+powered_made : (meaning : Meaning) (key barrier : List ℕ) (moves : List Move) (y : History) → loses moves ≡ false
+    → AllMay (opt meaning key barrier) y moves → IsPowered y → IsPowered (all_made (by_lists (opt meaning key barrier)) y moves)
 powered_made meaning key barrier [] y e may h = h
 powered_made meaning key barrier (Commit b ∷ moves) y e may h =
     powered_made meaning key barrier moves (moved (opt meaning key barrier) y (Commit b)) e may.1 (λ _. committed_items y.is_open y b)
 powered_made meaning key barrier (Foreign v ∷ moves) y e may h =
     powered_made meaning key barrier moves (moved (opt meaning key barrier) y (Foreign v)) e may.1 (λ _. pushed_items y.items (Value v))
 powered_made meaning key barrier (Placed b ∷ moves) y e may h =
-    powered_made meaning key barrier moves (moved (opt meaning key barrier) y (Placed b)) e may.1 (λ _. pushed_items y.items (Value (guard barrier b)))
+    powered_made meaning key barrier moves (moved (opt meaning key barrier) y (Placed b)) e may.1
+    (λ _. pushed_items y.items (Value (guard barrier b)))
 powered_made meaning key barrier (Reset ∷ moves) y e may h =
     powered_made meaning key barrier moves (moved (opt meaning key barrier) y Reset) e may.1
     (λ is. absurd (subst (λ (f : Bool). IsAllowed Opt f (opt meaning key barrier) y Reset) is may.0))
 powered_made meaning key barrier (Close ∷ moves) y e may h =
-    powered_made meaning key barrier moves (moved (opt meaning key barrier) y Close) e may.1 (λ is. let clash : false ≡ true = is in absurd (cc))
+    powered_made meaning key barrier moves (moved (opt meaning key barrier) y Close) e may.1
+    (λ is. let clash : false ≡ true = is in absurd (cc))
 powered_made meaning key barrier (Power ∷ moves) y e may h = absurd (cc)
 
 not_lost : (flag bare own marred : Bool) → (flag ≡ true → bare ≡ false) → life_by flag bare own marred ≢ LostLife
@@ -150,21 +161,29 @@ was_powered true true own marred h e = absurd (h refl)
 was_powered true false own marred h e = refl
 was_powered false bare own marred h e = absurd (cc)
 
-pub stays_powered : (meaning : Meaning) (key barrier : List ℕ) (y : History) (c : Course) (offer : List ℕ) (b : Batch) → life_of Opt y ≢ LostLife
+pub stays_powered : (meaning : Meaning) (key barrier : List ℕ) (y : History) (c : Course) (offer : List ℕ) (b : Batch)
+    → life_of Opt y ≢ LostLife
     → life_of Opt (called (opt meaning key barrier) (by_lists (opt meaning key barrier)) y c offer b).state ≢ LostLife
 stays_powered meaning key barrier y c offer b h =
     let i : Instance = opt meaning key barrier in
-    let found : Result Found Refusal = found_unless_wanting (found_at i (by_lists i) (all_made (by_lists i) y (before c)) b offer) c.lacks in
+    let found : Result Found Refusal = found_unless_wanting (found_at i (by_lists i) (all_made (by_lists i) y (before c)) b offer) c.lacks
+    in
     let moves : List Move = (walk c.fates 1 (ask_steps Opt y.is_open (is_fresh found) b)).moves in
     let end : History = all_made (by_lists i) y moves in
-    let powered : IsPowered end = powered_made meaning key barrier moves y (walk_along KeepsPower power_along c.fates 1 (ask_steps Opt y.is_open (is_fresh found) b) (asks_powered y.is_open (is_fresh found) b))
-    (ask_may meaning key barrier y c offer b) (was_powered y.is_open (is_empty y.items) (are_own y.items y.current) (has_value (joined y.closed)) h) in
+    let powered : IsPowered end = powered_made meaning key barrier moves y
+    (walk_along KeepsPower power_along c.fates 1 (ask_steps Opt y.is_open (is_fresh found) b)
+    (asks_powered y.is_open (is_fresh found) b))
+    (ask_may meaning key barrier y c offer b)
+    (was_powered y.is_open (is_empty y.items) (are_own y.items y.current) (has_value (joined y.closed)) h) in
     not_lost end.is_open (is_empty end.items) (are_own end.items end.current) (has_value (joined end.closed)) powered
 
 -- A call leaves all but the items as they were, or commits the batch.
-pub alike_after : (meaning : Meaning) (key barrier : List ℕ) (y : History) (c : Course) (offer : List ℕ) (b : Batch) → Alike meaning key barrier y b (called (opt meaning key barrier) (by_lists (opt meaning key barrier)) y c offer b).state
+pub alike_after : (meaning : Meaning) (key barrier : List ℕ) (y : History) (c : Course) (offer : List ℕ) (b : Batch)
+    → Alike meaning key barrier y b (called (opt meaning key barrier) (by_lists (opt meaning key barrier)) y c offer b).state
 alike_after meaning key barrier y c offer b =
     let i : Instance = opt meaning key barrier in
     let fresh : Bool = is_fresh (found_unless_wanting (found_at i (by_lists i) (all_made (by_lists i) y (before c)) b offer) c.lacks) in
-    subst (λ (steps : List Step). Alike meaning key barrier y b (all_made (by_lists i) y (walk c.fates 1 steps).moves)) (sym (asks y.is_open fresh b))
-    (alike_of meaning key barrier y b fresh (walk c.fates 1 (Reads ∷ Reads ∷ changing y.is_open fresh b)) (opt_commits c.fates y.is_open fresh b) (opt_closes c.fates y.is_open fresh b))
+    subst (λ (steps : List Step). Alike meaning key barrier y b (all_made (by_lists i) y (walk c.fates 1 steps).moves))
+    (sym (asks y.is_open fresh b))
+    (alike_of meaning key barrier y b fresh (walk c.fates 1 (Reads ∷ Reads ∷ changing y.is_open fresh b))
+    (opt_commits c.fates y.is_open fresh b) (opt_closes c.fates y.is_open fresh b))

@@ -60,13 +60,16 @@ record Saw (slots : Slots) (old new : StoreStanding) (result : Result (Option Pe
   honest : new.is_honest ≡ old.is_honest
   waiting : (w : Option Pending) → result ≡ Ok w → IsWaiting (slot_read slots 2) (slot_read slots 3) w
 
-took : (two three : List ℕ) (result : Result (Option Pending) StoreFault) (taken w : Option Pending) → IsWaiting two three taken → (result ≡ Ok taken) ⊎ (result ≡ Err fault.Memory) → result ≡ Ok w → IsWaiting two three w
+took : (two three : List ℕ) (result : Result (Option Pending) StoreFault) (taken w : Option Pending) → IsWaiting two three taken
+    → (result ≡ Ok taken) ⊎ (result ≡ Err fault.Memory) → result ≡ Ok w → IsWaiting two three w
 took two three result taken w is (inl e) f =
     let same : taken ≡ w = cc in
     subst (λ (x : Option Pending). IsWaiting two three x) same is
 took two three result taken w is (inr e) f = absurd (cc)
 
-saw_three : (slots : Slots) (two : List ℕ) (three : Result (List ℕ) StoreFault) (old new : StoreStanding) (result : Result (Option Pending) StoreFault) → old.slots ≡ Some slots → two ≡ slot_read slots 2 → ReadsSlot 3 old new three → AfterThree two three result → Saw slots old new result
+saw_three : (slots : Slots) (two : List ℕ) (three : Result (List ℕ) StoreFault) (old new : StoreStanding)
+    (result : Result (Option Pending) StoreFault) → old.slots ≡ Some slots → two ≡ slot_read slots 2 → ReadsSlot 3 old new three
+    → AfterThree two three result → Saw slots old new result
 saw_three slots two (Err why) old new result t e r g = record {
   told = r.slots ∙ t;
   honest = r.honest;
@@ -80,7 +83,8 @@ saw_three slots two (Ok three) old new result t e r g = record {
       (subst (λ (x : List ℕ). IsWaiting two x w) (r.gives slots t) (took two three result g.waiting w g.is_waiting g.gives f));
 }
 
-saw_two : (slots : Slots) (two : Result (List ℕ) StoreFault) (old middle new : StoreStanding) (result : Result (Option Pending) StoreFault) → old.slots ≡ Some slots → ReadsSlot 2 old middle two → AfterTwo two middle new result → Saw slots old new result
+saw_two : (slots : Slots) (two : Result (List ℕ) StoreFault) (old middle new : StoreStanding) (result : Result (Option Pending) StoreFault)
+    → old.slots ≡ Some slots → ReadsSlot 2 old middle two → AfterTwo two middle new result → Saw slots old new result
 saw_two slots (Err why) old middle new result t r g = record {
   told = ap (λ (k : StoreStanding). k.slots) g.0 ∙ r.slots ∙ t;
   honest = ap (λ (k : StoreStanding). k.is_honest) g.0 ∙ r.honest;
@@ -95,7 +99,12 @@ grown_none : (y : History) (waiting : Option Pending) → IsGrown y waiting y
 grown_none y None = refl
 grown_none y (Some p) = inl refl
 
-still : (all others : List (List ℕ)) (asked : List Batch) (i : Instance) (y : History) (slots : Slots) (before after : Standing) (old new : StoreStanding) (result : Result Resumed HostFault) (can : CanRecover all others asked i y slots before old) → after ≡ before → new.slots ≡ Some slots → new.is_honest ≡ true → IfOk result (λ resumed. slot_read slots (position_at resumed % 2) ≡ snapshot_at resumed) → IfOk result (λ resumed. Holds i y (snapshot_at resumed) (position_at resumed)) → ComesTo i y slots can.fits.waiting y result → RecoversTo all others asked i y slots can.fits.waiting after new result
+still : (all others : List (List ℕ)) (asked : List Batch) (i : Instance) (y : History) (slots : Slots) (before after : Standing)
+    (old new : StoreStanding) (result : Result Resumed HostFault) (can : CanRecover all others asked i y slots before old) → after ≡ before
+    → new.slots ≡ Some slots → new.is_honest ≡ true
+    → IfOk result (λ resumed. slot_read slots (position_at resumed % 2) ≡ snapshot_at resumed)
+    → IfOk result (λ resumed. Holds i y (snapshot_at resumed) (position_at resumed)) → ComesTo i y slots can.fits.waiting y result
+    → RecoversTo all others asked i y slots can.fits.waiting after new result
 still all others asked i y slots before after old new result can s t h n g c = record {
   after = y;
   stands = subst (λ (x : Standing). StandsFor i x y) (sym s) can.stands;
@@ -114,7 +123,8 @@ still all others asked i y slots before after old new result can s t h n g c = r
 }
 
 -- nothing more is known where memory was wanting in the call
-refused_comes : (i : Instance) (y : History) (slots : Slots) (waiting : Option Pending) (after : History) (why : Refusal) → MayRefuse why (life_of i.variant after) → ComesTo i y slots waiting after (Err (refusal_fault why))
+refused_comes : (i : Instance) (y : History) (slots : Slots) (waiting : Option Pending) (after : History) (why : Refusal)
+    → MayRefuse why (life_of i.variant after) → ComesTo i y slots waiting after (Err (refusal_fault why))
 refused_comes i y slots waiting after refusal.Memory h = tt
 refused_comes i y slots waiting after refusal.Long (inl e) = absurd (cc)
 refused_comes i y slots waiting after refusal.Long (inr h) = h
@@ -148,7 +158,8 @@ seen_put slots n bytes h =
     ap (λ (x : List ℕ). take longest_slot x) (slot_in-with_slot slots n bytes) ∙ take_whole bytes longest_slot h longest_slot-is
 
 -- what stands once the request that waits was asked
-pub record Left (all others : List (List ℕ)) (asked : List Batch) (i : Instance) (y : History) (slots : Slots) (waiting : Option Pending) (p : Pending) (standing : Standing) (gives : Result BatchAnswer Refusal) : Type 0 where
+pub record Left (all others : List (List ℕ)) (asked : List Batch) (i : Instance) (y : History) (slots : Slots) (waiting : Option Pending)
+    (p : Pending) (standing : Standing) (gives : Result BatchAnswer Refusal) : Type 0 where
   pub after : History
   pub stands : StandsFor i standing after
   pub within : IsWithin all others asked i after
@@ -163,12 +174,19 @@ pub record Left (all others : List (List ℕ)) (asked : List Batch) (i : Instanc
   pub awaited : IsAwaited y p
   pub holds : Holds i y (slot_read slots (offer_slot p)) (p.position - 1)
 
-settle : (all others : List (List ℕ)) (asked : List Batch) (i : Instance) (y : History) (slots other : Slots) (waiting : Option Pending) (p : Pending) (standing : Standing) (gives : Result BatchAnswer Refusal) (kept : StoreStanding) (result : Result Resumed HostFault) (l : Left all others asked i y slots waiting p standing gives) → IsElsewhere slots other p → kept.slots ≡ Some other → kept.is_honest ≡ true → IfOk result (λ resumed. slot_read other (position_at resumed % 2) ≡ snapshot_at resumed) → IfOk result (λ resumed. Holds i l.after (snapshot_at resumed) (position_at resumed)) → (l.after.batches ≡ y.batches) ⊎ MayHaveCommitted result → ComesTo i y slots waiting l.after result → RecoversTo all others asked i y slots waiting standing kept result
+settle : (all others : List (List ℕ)) (asked : List Batch) (i : Instance) (y : History) (slots other : Slots) (waiting : Option Pending)
+    (p : Pending) (standing : Standing) (gives : Result BatchAnswer Refusal) (kept : StoreStanding) (result : Result Resumed HostFault)
+    (l : Left all others asked i y slots waiting p standing gives) → IsElsewhere slots other p → kept.slots ≡ Some other
+    → kept.is_honest ≡ true → IfOk result (λ resumed. slot_read other (position_at resumed % 2) ≡ snapshot_at resumed)
+    → IfOk result (λ resumed. Holds i l.after (snapshot_at resumed) (position_at resumed))
+    → (l.after.batches ≡ y.batches) ⊎ MayHaveCommitted result → ComesTo i y slots waiting l.after result
+    → RecoversTo all others asked i y slots waiting standing kept result
 settle all others asked i y slots other waiting p standing gives kept result l e t h n g o c = record {
   after = l.after;
   stands = l.stands;
   within = l.within;
-  grown = subst (λ (w : Option Pending). IsGrown y w l.after) (sym l.is) (grows i y p (slot_read slots (offer_slot p)) l.after gives l.comes);
+  grown =
+      subst (λ (w : Option Pending). IsGrown y w l.after) (sym l.is) (grows i y p (slot_read slots (offer_slot p)) l.after gives l.comes);
   slots_after = other;
   told = t;
   fits = record {
@@ -195,18 +213,26 @@ settle all others asked i y slots other waiting p standing gives kept result l e
 }
 
 -- What came, with more that is known of the history where it is gone on with.
-abbrev pub Recovered : (More : History → Type 0) (all others : List (List ℕ)) (asked : List Batch) (i : Instance) (y : History) (slots : Slots) (waiting : Option Pending) (standing : Standing) (kept : StoreStanding) (result : Result Resumed HostFault) → Type 0
+abbrev pub Recovered : (More : History → Type 0) (all others : List (List ℕ)) (asked : List Batch) (i : Instance) (y : History)
+    (slots : Slots) (waiting : Option Pending) (standing : Standing) (kept : StoreStanding) (result : Result Resumed HostFault) → Type 0
 Recovered More all others asked i y slots waiting standing kept result =
     (r : RecoversTo all others asked i y slots waiting standing kept result) × IfOk result (λ (resumed : Resumed). More r.after)
 
 -- the exits of a write
-keep_exit : (More : History → Type 0) (all others : List (List ℕ)) (asked : List Batch) (i : Instance) (y : History) (slots : Slots) (waiting : Option Pending) (p : Pending) (standing : Standing) (answer : Answer) (written : Result Unit StoreFault) (old new : StoreStanding) (l : Left all others asked i y slots waiting p standing (Ok (whole answer))) → More l.after → old.is_honest ≡ true → old.slots ≡ Some slots → answer.position ≡ p.position → length answer.snapshot ≤ 1048690 → Holds i l.after answer.snapshot answer.position → WritesSlot (p.position % 2) answer.snapshot old new written → AnswersAt i y waiting l.after answer → Recovered More all others asked i y slots waiting standing new (kept_as answer written)
+keep_exit : (More : History → Type 0) (all others : List (List ℕ)) (asked : List Batch) (i : Instance) (y : History) (slots : Slots)
+    (waiting : Option Pending) (p : Pending) (standing : Standing) (answer : Answer) (written : Result Unit StoreFault)
+    (old new : StoreStanding) (l : Left all others asked i y slots waiting p standing (Ok (whole answer))) → More l.after
+    → old.is_honest ≡ true → old.slots ≡ Some slots → answer.position ≡ p.position → length answer.snapshot ≤ 1048690
+    → Holds i l.after answer.snapshot answer.position → WritesSlot (p.position % 2) answer.snapshot old new written
+    → AnswersAt i y waiting l.after answer → Recovered More all others asked i y slots waiting standing new (kept_as answer written)
 unfolding settle
 keep_exit More all others asked i y slots waiting p standing answer (Ok it) old new l m h t e size g w a = (
-  settle all others asked i y slots (with_slot slots (p.position % 2) answer.snapshot) waiting p standing (Ok (whole answer)) new (Ok (Answered answer)) l
+  settle all others asked i y slots (with_slot slots (p.position % 2) answer.snapshot) waiting p standing (Ok (whole answer)) new
+      (Ok (Answered answer)) l
       (elsewhere_put slots p answer.snapshot (awaited_least y p l.awaited))
       (w.leaves h ∙ ap (λ (s : Option Slots). putting (p.position % 2) answer.snapshot s) t) (w.honest ∙ h)
-      (subst (λ (n : ℕ). slot_read (with_slot slots (p.position % 2) answer.snapshot) (n % 2) ≡ answer.snapshot) (sym e) (seen_put slots (p.position % 2) answer.snapshot size)) g (inr tt) a,
+      (subst (λ (n : ℕ). slot_read (with_slot slots (p.position % 2) answer.snapshot) (n % 2) ≡ answer.snapshot) (sym e)
+      (seen_put slots (p.position % 2) answer.snapshot size)) g (inr tt) a,
   m,
 )
 keep_exit More all others asked i y slots waiting p standing answer (Err fault.Memory) old new l m h t e size g w a = (
@@ -216,13 +242,16 @@ keep_exit More all others asked i y slots waiting p standing answer (Err fault.M
 )
 keep_exit More all others asked i y slots waiting p standing answer (Err fault.Failed) old new l m h t e size g w a =
     let left = w.leaves h in (
-      settle all others asked i y slots (with_slot slots (p.position % 2) left.0) waiting p standing (Ok (whole answer)) new (Err (store_fault_as fault.Failed)) l
+      settle all others asked i y slots (with_slot slots (p.position % 2) left.0) waiting p standing (Ok (whole answer)) new
+          (Err (store_fault_as fault.Failed)) l
           (elsewhere_put slots p left.0 (awaited_least y p l.awaited))
           (left.1 ∙ ap (λ (s : Option Slots). putting (p.position % 2) left.0 s) t) (w.honest ∙ h) tt tt (inr tt) tt,
       tt,
     )
 
-answers : (all others : List (List ℕ)) (asked : List Batch) (i : Instance) (y : History) (slots : Slots) (waiting : Option Pending) (p : Pending) (standing : Standing) (answer : Answer) (l : Left all others asked i y slots waiting p standing (Ok (whole answer))) → (AnswersAt i y waiting l.after answer) × (answer.position ≡ p.position)
+answers : (all others : List (List ℕ)) (asked : List Batch) (i : Instance) (y : History) (slots : Slots) (waiting : Option Pending)
+    (p : Pending) (standing : Standing) (answer : Answer) (l : Left all others asked i y slots waiting p standing (Ok (whole answer)))
+    → (AnswersAt i y waiting l.after answer) × (answer.position ≡ p.position)
 answers all others asked i y slots waiting p standing answer l =
     let a = answered_at i y p (slot_read slots (offer_slot p)) l.after (whole answer) l.awaited l.holds l.comes in (
       record { p = p; waits = l.is; position = a.position; answer_is = a.answer_is },
@@ -244,17 +273,25 @@ may_commit refusal.Tag broken e = absurd (cc)
 may_commit refusal.Stale broken e = absurd (cc)
 may_commit refusal.Full broken e = absurd (cc)
 
-only_by : (all others : List (List ℕ)) (asked : List Batch) (i : Instance) (y : History) (slots : Slots) (waiting : Option Pending) (p : Pending) (standing : Standing) (why : Refusal) (broken : Option StepFault) → fault_of why ≡ broken → (l : Left all others asked i y slots waiting p standing (Err why))
+only_by : (all others : List (List ℕ)) (asked : List Batch) (i : Instance) (y : History) (slots : Slots) (waiting : Option Pending)
+    (p : Pending) (standing : Standing) (why : Refusal) (broken : Option StepFault) → fault_of why ≡ broken
+    → (l : Left all others asked i y slots waiting p standing (Err why))
     → (l.after.batches ≡ y.batches) ⊎ MayHaveCommitted {T = Resumed} (Err (refusal_fault why))
 only_by all others asked i y slots waiting p standing why None e l = inl (l.only why refl e)
 only_by all others asked i y slots waiting p standing why (Some broken) e l = inr (may_commit why broken e)
 
 -- the exits of the call
-pub ask_exit : (More : History → Type 0) (all others : List (List ℕ)) (asked : List Batch) (i : Instance) → IsLawful i.meaning → (y : History) (slots : Slots) (waiting : Option Pending) (p : Pending) (standing : Standing) (call : Result Answer Refusal) (old new : StoreStanding) (result : Result Resumed HostFault) (l : Left all others asked i y slots waiting p standing (whole_in call)) → More l.after → IfOk call (λ answer. IsFit (One p.request) (whole answer)) → old.is_honest ≡ true → old.slots ≡ Some slots → AfterAsk call old new result → Recovered More all others asked i y slots waiting standing new result
+pub ask_exit : (More : History → Type 0) (all others : List (List ℕ)) (asked : List Batch) (i : Instance) → IsLawful i.meaning
+    → (y : History) (slots : Slots) (waiting : Option Pending) (p : Pending) (standing : Standing) (call : Result Answer Refusal)
+    (old new : StoreStanding) (result : Result Resumed HostFault) (l : Left all others asked i y slots waiting p standing (whole_in call))
+    → More l.after → IfOk call (λ answer. IsFit (One p.request) (whole answer)) → old.is_honest ≡ true → old.slots ≡ Some slots
+    → AfterAsk call old new result → Recovered More all others asked i y slots waiting standing new result
 ask_exit More all others asked i lawful y slots waiting p standing (Err why) old new result l m fit h t g =
     subst (λ (r : Result Resumed HostFault). Recovered More all others asked i y slots waiting standing new r) (sym g.1) (
       settle all others asked i y slots slots waiting p standing (Err why) new (Err (refusal_fault why)) l
-          (elsewhere_same slots p) (ap (λ (k : StoreStanding). k.slots) g.0 ∙ t) (ap (λ (k : StoreStanding). k.is_honest) g.0 ∙ h) tt tt (only_by all others asked i y slots waiting p standing why (fault_of why) refl l) (refused_comes i y slots waiting l.after why (l.refuses why refl)),
+          (elsewhere_same slots p) (ap (λ (k : StoreStanding). k.slots) g.0 ∙ t) (ap (λ (k : StoreStanding). k.is_honest) g.0 ∙ h) tt tt
+          (only_by all others asked i y slots waiting p standing why (fault_of why) refl l)
+          (refused_comes i y slots waiting l.after why (l.refuses why refl)),
       tt,
     )
 ask_exit More all others asked i lawful y slots waiting p standing (Ok answer) old new result l m fit h t g =
@@ -262,11 +299,15 @@ ask_exit More all others asked i lawful y slots waiting p standing (Ok answer) o
     let at : answer.position ≡ total_of l.after.batches = ap (λ (b : BatchAnswer). b.position) a.0.answer_is in
     subst (λ (r : Result Resumed HostFault). Recovered More all others asked i y slots waiting standing new r) (sym g.gives)
     (keep_exit More all others asked i y slots waiting p standing answer g.written old new l m h t a.1 fit.snapshot
-    (holds_issued i lawful l.after answer.snapshot answer.position (l.issues (whole answer) refl) (subst (λ (n : ℕ). n ≤ last_position) at fit.most) (ap (λ (b : BatchAnswer). b.snapshot) a.0.answer_is) at)
+    (holds_issued i lawful l.after answer.snapshot answer.position (l.issues (whole answer) refl)
+    (subst (λ (n : ℕ). n ≤ last_position) at fit.most) (ap (λ (b : BatchAnswer). b.snapshot) a.0.answer_is) at)
     (subst (λ (n : ℕ). WritesSlot (n % 2) answer.snapshot old new g.written) a.1 g.writes) a.0)
 
 -- what an honest store's slots ask of the call for what waits
-pub asked_of : (all others : List (List ℕ)) (asked : List Batch) (i : Instance) (y : History) (slots : Slots) (before : Standing) (old : StoreStanding) (p : Pending) (can : CanRecover all others asked i y slots before old) → can.fits.waiting ≡ Some p → Holds i y (slot_read slots (offer_slot p)) (p.position - 1) → AreAsked all others asked i y (slot_read slots (offer_slot p)) (One p.request)
+pub asked_of : (all others : List (List ℕ)) (asked : List Batch) (i : Instance) (y : History) (slots : Slots) (before : Standing)
+    (old : StoreStanding) (p : Pending) (can : CanRecover all others asked i y slots before old) → can.fits.waiting ≡ Some p
+    → Holds i y (slot_read slots (offer_slot p)) (p.position - 1)
+    → AreAsked all others asked i y (slot_read slots (offer_slot p)) (One p.request)
 asked_of all others asked i y slots before old p can e holds =
     let a : IsAskedFor all asked i slots (Some p) = subst (λ (w : Option Pending). IsAskedFor all asked i slots w) e can.is_asked in
     record {
@@ -275,61 +316,87 @@ asked_of all others asked i y slots before old p can e holds =
       within = can.within;
       is_asked = a.0;
       genuine = λ (content : Content) (right : IsRight i (slot_read slots (offer_slot p)) content).
-          subst (λ (x : Content). Names i y x) (one_content i (slot_read slots (offer_slot p)) holds.content content holds.right right) holds.names;
+          subst (λ (x : Content). Names i y x) (one_content i (slot_read slots (offer_slot p)) holds.content content holds.right right)
+          holds.names;
       offered = a.1;
     }
 
 -- A call for the request that waits leads on, whatever it gives, to what this result allows.
-abbrev pub LeadsOn : (More : History → Type 0) (all others : List (List ℕ)) (asked : List Batch) (variant : Variant) (i : Instance) (y : History) (slots : Slots) (waiting : Option Pending) (before after : Standing) (result : Result Resumed HostFault) → Type 0
+abbrev pub LeadsOn : (More : History → Type 0) (all others : List (List ℕ)) (asked : List Batch) (variant : Variant) (i : Instance)
+    (y : History) (slots : Slots) (waiting : Option Pending) (before after : Standing) (result : Result Resumed HostFault) → Type 0
 LeadsOn More all others asked variant i y slots waiting before after result =
     (p : Pending) (call : Result Answer Refusal) → waiting ≡ Some p → ((why : Refusal) → call ≡ Err why → result ≡ Err (refusal_fault why))
     → IsCall variant i.meaning before after (slot_read slots (offer_slot p)) p.request call
     → (l : Left all others asked i y slots waiting p after (whole_in call)) × More l.after
 
-pub refusal_told : (call : Result Answer Refusal) (old new : StoreStanding) (result : Result Resumed HostFault) → AfterAsk call old new result → (why : Refusal) → call ≡ Err why → result ≡ Err (refusal_fault why)
+pub refusal_told : (call : Result Answer Refusal) (old new : StoreStanding) (result : Result Resumed HostFault)
+    → AfterAsk call old new result → (why : Refusal) → call ≡ Err why → result ≡ Err (refusal_fault why)
 refusal_told (Err w) old new result g why e = let same : w ≡ why = cc in g.1 ∙ ap (λ (x : Refusal). Err (refusal_fault x)) same
 refusal_told (Ok answer) old new result g why e = absurd (cc)
 
-module _ (More : History → Type 0) (variant : Variant) (all others : List (List ℕ)) (asked : List Batch) (i : Instance) (lawful : IsLawful i.meaning) (y : History) (slots : Slots) (before after : Standing) (first : StoreStanding) (can : CanRecover all others asked i y slots before first) where
+module _ (More : History → Type 0) (variant : Variant) (all others : List (List ℕ)) (asked : List Batch) (i : Instance)
+    (lawful : IsLawful i.meaning) (y : History) (slots : Slots) (before after : Standing) (first : StoreStanding)
+    (can : CanRecover all others asked i y slots before first) where
   -- an exit where nothing was asked, and the store failed
-  still_exit : (why : StoreFault) (new : StoreStanding) → after ≡ before → new.slots ≡ Some slots → new.is_honest ≡ true → Recovered More all others asked i y slots can.fits.waiting after new (Err (store_fault_as why))
-  still_exit fault.Memory new s t h = (still all others asked i y slots before after first new (Err (store_fault_as fault.Memory)) can s t h tt tt tt, tt)
-  still_exit fault.Failed new s t h = (still all others asked i y slots before after first new (Err (store_fault_as fault.Failed)) can s t h tt tt tt, tt)
+  still_exit : (why : StoreFault) (new : StoreStanding) → after ≡ before → new.slots ≡ Some slots → new.is_honest ≡ true
+      → Recovered More all others asked i y slots can.fits.waiting after new (Err (store_fault_as why))
+  still_exit fault.Memory new s t h =
+      (still all others asked i y slots before after first new (Err (store_fault_as fault.Memory)) can s t h tt tt tt, tt)
+  still_exit fault.Failed new s t h =
+      (still all others asked i y slots before after first new (Err (store_fault_as fault.Failed)) can s t h tt tt tt, tt)
 
   -- the exits of the offer
-  offer_exit : (offer : Result (List ℕ) StoreFault) (old middle new : StoreStanding) (p : Pending) (result : Result Resumed HostFault) → LeadsOn More all others asked variant i y slots can.fits.waiting before after result → can.fits.waiting ≡ Some p → old.is_honest ≡ true → old.slots ≡ Some slots → ReadsSlot (offer_slot p) old middle offer → AfterOffer variant i.meaning before after offer middle new p result → Recovered More all others asked i y slots can.fits.waiting after new result
+  offer_exit : (offer : Result (List ℕ) StoreFault) (old middle new : StoreStanding) (p : Pending) (result : Result Resumed HostFault)
+      → LeadsOn More all others asked variant i y slots can.fits.waiting before after result → can.fits.waiting ≡ Some p
+      → old.is_honest ≡ true → old.slots ≡ Some slots → ReadsSlot (offer_slot p) old middle offer
+      → AfterOffer variant i.meaning before after offer middle new p result
+      → Recovered More all others asked i y slots can.fits.waiting after new result
   offer_exit (Err why) old middle new p result leads e h t r g =
       subst (λ (x : Result Resumed HostFault). Recovered More all others asked i y slots can.fits.waiting after new x) (sym g.2)
-      (still_exit why new g.0 (ap (λ (k : StoreStanding). k.slots) g.1 ∙ r.slots ∙ t) (ap (λ (k : StoreStanding). k.is_honest) g.1 ∙ r.honest ∙ h))
+      (still_exit why new g.0 (ap (λ (k : StoreStanding). k.slots) g.1 ∙ r.slots ∙ t)
+      (ap (λ (k : StoreStanding). k.is_honest) g.1 ∙ r.honest ∙ h))
   offer_exit (Ok offer) old middle new p result leads e h t r g =
-      let l = leads p g.asked e (refusal_told g.asked middle new result g.goes) (subst (λ (x : List ℕ). IsCall variant i.meaning before after x p.request g.asked) (r.gives slots t) g.asks) in
+      let l = leads p g.asked e (refusal_told g.asked middle new result g.goes)
+      (subst (λ (x : List ℕ). IsCall variant i.meaning before after x p.request g.asked) (r.gives slots t) g.asks) in
       ask_exit More all others asked i lawful y slots can.fits.waiting p after g.asked middle new result l.0 l.1 g.asks.fits
       (r.honest ∙ h) (r.slots ∙ t) g.goes
 
-  start_exit : (zero : Result (List ℕ) StoreFault) (old new : StoreStanding) → (after ≡ before → More y) → can.fits.waiting ≡ None → after ≡ before → old.slots ≡ Some slots → old.is_honest ≡ true → ReadsSlot 0 old new zero → Recovered More all others asked i y slots can.fits.waiting after new (started zero)
+  start_exit : (zero : Result (List ℕ) StoreFault) (old new : StoreStanding) → (after ≡ before → More y) → can.fits.waiting ≡ None
+      → after ≡ before → old.slots ≡ Some slots → old.is_honest ≡ true → ReadsSlot 0 old new zero
+      → Recovered More all others asked i y slots can.fits.waiting after new (started zero)
   unfolding still
   start_exit (Ok bytes) old new m e s t h r =
       let f : FitsBy i slots y None = subst (λ (w : Option Pending). FitsBy i slots y w) e can.fits.fits in (
-        still all others asked i y slots before after first new (Ok (Start bytes)) can s (r.slots ∙ t) (r.honest ∙ h) (sym (r.gives slots t))
+        still all others asked i y slots before after first new (Ok (Start bytes)) can s (r.slots ∙ t) (r.honest ∙ h)
+            (sym (r.gives slots t))
             (subst (λ (x : List ℕ). Holds i y x 0) (sym (r.gives slots t)) f.1) (e, r.gives slots t),
         m s,
       )
   start_exit (Err why) old new m e s t h r = still_exit why new s (r.slots ∙ t) (r.honest ∙ h)
 
-  found_exit : (waiting : Result (Option Pending) StoreFault) (middle new : StoreStanding) (result : Result Resumed HostFault) → (after ≡ before → More y) → LeadsOn More all others asked variant i y slots can.fits.waiting before after result → Saw slots first middle waiting → AfterFinding variant i.meaning before after waiting middle new result → Recovered More all others asked i y slots can.fits.waiting after new result
+  found_exit : (waiting : Result (Option Pending) StoreFault) (middle new : StoreStanding) (result : Result Resumed HostFault)
+      → (after ≡ before → More y) → LeadsOn More all others asked variant i y slots can.fits.waiting before after result
+      → Saw slots first middle waiting → AfterFinding variant i.meaning before after waiting middle new result
+      → Recovered More all others asked i y slots can.fits.waiting after new result
   found_exit (Err why) middle new result m leads s g =
       subst (λ (x : Result Resumed HostFault). Recovered More all others asked i y slots can.fits.waiting after new x) (sym g.2)
-      (still_exit why new g.0 (ap (λ (k : StoreStanding). k.slots) g.1 ∙ s.told) (ap (λ (k : StoreStanding). k.is_honest) g.1 ∙ s.honest ∙ can.honest))
+      (still_exit why new g.0 (ap (λ (k : StoreStanding). k.slots) g.1 ∙ s.told)
+      (ap (λ (k : StoreStanding). k.is_honest) g.1 ∙ s.honest ∙ can.honest))
   found_exit (Ok None) middle new result m leads s g =
-      let e : can.fits.waiting ≡ None = one_waiting (slot_read slots 2) (slot_read slots 3) can.fits.waiting None can.fits.is_waiting (s.waiting None refl) in
+      let e : can.fits.waiting ≡ None = one_waiting (slot_read slots 2) (slot_read slots 3) can.fits.waiting None can.fits.is_waiting
+      (s.waiting None refl) in
       subst (λ (x : Result Resumed HostFault). Recovered More all others asked i y slots can.fits.waiting after new x) (sym g.1.gives)
       (start_exit g.1.zero middle new m e g.0 s.told (s.honest ∙ can.honest) g.1.reads)
   found_exit (Ok (Some p)) middle new result m leads s g =
-      let e : can.fits.waiting ≡ Some p = one_waiting (slot_read slots 2) (slot_read slots 3) can.fits.waiting (Some p) can.fits.is_waiting (s.waiting (Some p) refl) in
+      let e : can.fits.waiting ≡ Some p = one_waiting (slot_read slots 2) (slot_read slots 3) can.fits.waiting (Some p) can.fits.is_waiting
+      (s.waiting (Some p) refl) in
       offer_exit g.offer middle g.middle new p result leads e (s.honest ∙ can.honest) s.told g.reads g.goes
 
   -- the whole call, in either variant
-  pub recovers_by : (new : StoreStanding) (result : Result Resumed HostFault) → (after ≡ before → More y) → LeadsOn More all others asked variant i y slots can.fits.waiting before after result → Resumes variant i.meaning before after first new result → Recovered More all others asked i y slots can.fits.waiting after new result
+  pub recovers_by : (new : StoreStanding) (result : Result Resumed HostFault) → (after ≡ before → More y)
+      → LeadsOn More all others asked variant i y slots can.fits.waiting before after result
+      → Resumes variant i.meaning before after first new result
+      → Recovered More all others asked i y slots can.fits.waiting after new result
   recovers_by new result m leads r =
       found_exit r.waiting r.middle new result m leads
       (saw_two slots r.finds.two first r.finds.middle r.middle r.waiting can.told r.finds.reads r.finds.goes) r.goes

@@ -15,7 +15,8 @@ use Rattle.mm_seal.specs.Parts.{parts_of}
 use Rattle.mm_seal.specs.declared.snapshot.PartsFault.{PartsFault}
 use Rattle.mm_seal.proofs.SealLaws.{sealed_parts}
 use Rattle.mm_model.specs.History.{History, Move, Foreign, total_of}
-use Rattle.mm_model.specs.Instance.{Instance, basic, opt}
+use Rattle.mm_model.specs.Instance.{Instance}
+use Rattle.mm_model.specs.InstanceWords.{basic, opt}
 use Rattle.mm_model.specs.Judge.{is_last, judged, judge}
 use Rattle.mm_model.specs.Life.{Life, Live, Spoiled, Lost as LostLife, life_of, is_lost}
 use Rattle.mm_model.specs.Standing.{IsRight}
@@ -26,9 +27,11 @@ use Rattle.mm_model.specs.declared.verdict.Verdict.{Verdict}
 use Rattle.mm_model.proofs.Batches.{before_the_last}
 use Rattle.mm_call.specs.Called.{ended_by, given_for, called}
 use Rattle.mm_call.specs.Courses.{Course, Fate, Walked, walk}
-use Rattle.mm_call.specs.Found.{Found, found_with, found_by_verdict, found_at, found_unless_wanting, is_fresh}
+use Rattle.mm_call.specs.Found.{Found, found_by_verdict, found_at}
+use Rattle.mm_call.specs.FoundWords.{found_with, found_unless_wanting, is_fresh}
 use Rattle.mm_call.specs.Levels.{by_lists, all_made}
-use Rattle.mm_call.specs.Order.{admitted, weighed, examined}
+use Rattle.mm_call.specs.Order.{admitted, examined}
+use Rattle.mm_call.specs.OrderWords.{weighed}
 use Rattle.mm_call.proofs.OptLaw.{before, sight_is}
 use Rattle.mm_call.proofs.OptWalks.{path_is}
 use Rattle.mm_call.proofs.Moving.{same_batches}
@@ -53,12 +56,15 @@ pub record IsOffered (i : Instance) (s : History) (p : Pending) (offer : List �
   pub awaited : IsAwaited s p
   pub most : p.position ≤ last_position
 
-pub offered_then : (i : Instance) (y s : History) (p : Pending) (offer : List ℕ) → s.batches ≡ y.batches → IsOffered i y p offer → IsOffered i s p offer
+pub offered_then : (i : Instance) (y s : History) (p : Pending) (offer : List ℕ) → s.batches ≡ y.batches → IsOffered i y p offer
+    → IsOffered i s p offer
 offered_then i y s p offer same o = record {
   content = o.content;
   right = o.right;
   at = o.at;
-  awaited = subst (λ (bs : List Batch). (p.position ≡ total_of bs + 1) ⊎ ((p.position ≡ total_of bs) × EndsWith bs (One p.request))) (sym same) o.awaited;
+  awaited =
+      subst (λ (bs : List Batch). (p.position ≡ total_of bs + 1) ⊎ ((p.position ≡ total_of bs) × EndsWith bs (One p.request))) (sym same)
+      o.awaited;
   most = o.most;
 }
 
@@ -81,14 +87,17 @@ later_most None b x y = y
 later_most (Some a) None x y = x
 later_most (Some a) (Some b) x y = either_most (nat_le b.position a.position) (Some a) (Some b) x y
 
-pub waiting_most : (two three : List ℕ) (waiting : Option Pending) (p : Pending) → IsWaiting two three waiting → waiting ≡ Some p → p.position ≤ last_position
+pub waiting_most : (two three : List ℕ) (waiting : Option Pending) (p : Pending) → IsWaiting two three waiting → waiting ≡ Some p
+    → p.position ≤ last_position
 unfolding AtMost
 waiting_most two three waiting p w e =
-    subst AtMost (sym w.is ∙ e) (later_most w.in_two w.in_three (read_most 2 two w.in_two w.reads_two) (read_most 3 three w.in_three w.reads_three))
+    subst AtMost (sym w.is ∙ e)
+    (later_most w.in_two w.in_three (read_most 2 two w.in_two w.reads_two) (read_most 3 three w.in_three w.reads_three))
 
 -- the position is the last one, or the request is a repeat
 record IsPlaced (s : History) (p : Pending) (position : ℕ) : Type 0 where
-  placed : (nat_eq position (total_of s.batches) ≡ true) ⊎ ((nat_eq (position + 1) (total_of s.batches) && is_last s.batches (One p.request)) ≡ true)
+  placed : (nat_eq position (total_of s.batches) ≡ true)
+      ⊎ ((nat_eq (position + 1) (total_of s.batches) && is_last s.batches (One p.request)) ≡ true)
 
 same_number : (n m : ℕ) → n ≡ m → nat_eq n m ≡ true
 same_number n m e = grind (arith, nat_tests, e)
@@ -102,7 +111,8 @@ repeats batches front request position e at =
 placed_by : (s : History) (p : Pending) (position : ℕ) → position ≡ p.position - 1 → IsAwaited s p → 1 ≤ p.position → IsPlaced s p position
 placed_by s p position at (inl next) least = record { placed = inl (same_number position (total_of s.batches) (omega (arith, at, next))) }
 placed_by s p position at (inr done) least =
-    let here : position ≡ total_of done.1.front = omega (arith, at, done.0, least, one_more done.1.front p.request, ap total_of done.1.is) in
+    let here : position ≡ total_of done.1.front = omega (arith, at, done.0, least, one_more done.1.front p.request, ap total_of done.1.is)
+    in
     record { placed = inr (repeats s.batches done.1.front p.request position done.1.is here) }
 
 -- so the verdict follows from the life
@@ -115,7 +125,8 @@ IsBy : Option Refusal → Result Bool Refusal → Type 0
 IsBy None found = (again : Bool) × (found ≡ Ok again)
 IsBy (Some why) found = found ≡ Err why
 
-admitted_here : (life : Life) (here repeat : Bool) → (here ≡ true) ⊎ (repeat ≡ true) → IsBy (refused_by life) (admitted (judged life here repeat) true)
+admitted_here : (life : Life) (here repeat : Bool) → (here ≡ true) ⊎ (repeat ≡ true)
+    → IsBy (refused_by life) (admitted (judged life here repeat) true)
 unfolding IsBy
 admitted_here LostLife here repeat h = refl
 admitted_here Spoiled here repeat h = refl
@@ -124,27 +135,34 @@ admitted_here Live false true h = (true, refl)
 admitted_here Live false false (inl e) = absurd (cc)
 admitted_here Live false false (inr e) = absurd (cc)
 
-weighed_here : (s t fits : Bool) (v : Verdict) (by : Option Refusal) → s ≡ true → t ≡ true → fits ≡ true → IsBy by (admitted v true) → IsBy by (weighed s t v fits)
+weighed_here : (s t fits : Bool) (v : Verdict) (by : Option Refusal) → s ≡ true → t ≡ true → fits ≡ true → IsBy by (admitted v true)
+    → IsBy by (weighed s t v fits)
 weighed_here s t fits v by p q r h =
     subst (λ (x : Bool). IsBy by (weighed x t v fits)) (sym p)
     (subst (λ (x : Bool). IsBy by (weighed true x v fits)) (sym q)
     (subst (λ (x : Bool). IsBy by (weighed true true v x)) (sym r) h))
 
 examined_here : (i : Instance) (s : History) (p : Pending) (offer : List ℕ) (o : IsOffered i s p offer)
-    → IsBy (refused_by (life_of i.variant s)) (examined i.meaning i.key (offered_of i.key o.content) (One p.request) (judge i.variant s o.content.position (One p.request)))
+    → IsBy (refused_by (life_of i.variant s))
+    (examined i.meaning i.key (offered_of i.key o.content) (One p.request) (judge i.variant s o.content.position (One p.request)))
 examined_here i s p offer o =
     let least : 1 ≤ p.position = awaited_least s p o.awaited in
     let fits : o.content.position + 1 ≤ last_position = omega (arith, o.at, o.most, least) in
-    weighed_here (i.meaning.is_spelled o.content.state) (bytes_eq (tag_of i.key o.content) (tag_of i.key o.content)) (nat_le (o.content.position + 1) last_position) _
-    (refused_by (life_of i.variant s)) o.right.state ((bytes_eq-Decides (tag_of i.key o.content) (tag_of i.key o.content)).1 refl) (le-leb (o.content.position + 1) last_position fits)
+    weighed_here (i.meaning.is_spelled o.content.state) (bytes_eq (tag_of i.key o.content) (tag_of i.key o.content))
+    (nat_le (o.content.position + 1) last_position) _
+    (refused_by (life_of i.variant s)) o.right.state ((bytes_eq-Decides (tag_of i.key o.content) (tag_of i.key o.content)).1 refl)
+    (le-leb (o.content.position + 1) last_position fits)
     (admitted_here (life_of i.variant s) (nat_eq o.content.position (total_of s.batches))
-    (nat_eq (o.content.position + 1) (total_of s.batches) && is_last s.batches (One p.request)) (placed_by s p o.content.position o.at o.awaited least).placed)
+    (nat_eq (o.content.position + 1) (total_of s.batches) && is_last s.batches (One p.request))
+    (placed_by s p o.content.position o.at o.awaited least).placed)
 
 -- what is found is refused by the life alone
-found_by : (life : Life) (content : Content) (x : Result Bool Refusal) (why : Refusal) → IsBy (refused_by life) x → found_with content x ≡ Err why → IsRefusedAs why life
+found_by : (life : Life) (content : Content) (x : Result Bool Refusal) (why : Refusal) → IsBy (refused_by life) x
+    → found_with content x ≡ Err why → IsRefusedAs why life
 unfolding IsBy
 found_by Live content x why h e =
-    let none : found_with content (Ok h.0) ≡ Err why = subst (λ (y : Result Bool Refusal). found_with content y ≡ Err why) h.1 e in absurd (cc)
+    let none : found_with content (Ok h.0) ≡ Err why = subst (λ (y : Result Bool Refusal). found_with content y ≡ Err why) h.1 e
+    in absurd (cc)
 found_by Spoiled content x why h e =
     let stale : found_with content (Err Stale) ≡ Err why = subst (λ (y : Result Bool Refusal). found_with content y ≡ Err why) h e in
     let same : Stale ≡ why = cc in
@@ -154,7 +172,8 @@ found_by LostLife content x why h e =
     let same : Lost ≡ why = cc in
     subst (λ (w : Refusal). IsRefusedAs w LostLife) same refl
 
-unless_lost : (life : Life) (found : Result Found Refusal) (why : Refusal) → (found ≡ Err why → IsRefusedAs why life) → (if is_lost life then Err Lost else found) ≡ Err why → IsRefusedAs why life
+unless_lost : (life : Life) (found : Result Found Refusal) (why : Refusal) → (found ≡ Err why → IsRefusedAs why life)
+    → (if is_lost life then Err Lost else found) ≡ Err why → IsRefusedAs why life
 unless_lost Live found why h e = h e
 unless_lost Spoiled found why h e = h e
 unless_lost LostLife found why h e = let same : Lost ≡ why = cc in subst (λ (w : Refusal). IsRefusedAs w LostLife) same refl
@@ -163,28 +182,33 @@ found_refused : (i : Instance) (s : History) (p : Pending) (offer : List ℕ) (o
     → found_at i (by_lists i) s (One p.request) offer ≡ Err why → IsRefusedAs why (life_of i.variant s)
 found_refused i s p offer o why e =
     let parts : parts_of i.variant i.meaning.id offer ≡ Ok (offered_of i.key o.content) =
-    ap (λ (bytes : List ℕ). parts_of i.variant i.meaning.id bytes) o.right.sealed ∙ sealed_parts i.key o.content i.variant i.meaning.id o.right.formed o.right.variant o.right.id in
+    ap (λ (bytes : List ℕ). parts_of i.variant i.meaning.id bytes) o.right.sealed
+    ∙ sealed_parts i.key o.content i.variant i.meaning.id o.right.formed o.right.variant o.right.id in
     unless_lost (life_of i.variant s) (found_by_verdict i (by_lists i) s (One p.request) (parts_of i.variant i.meaning.id offer)) why
     (λ (f : found_by_verdict i (by_lists i) s (One p.request) (parts_of i.variant i.meaning.id offer) ≡ Err why).
     found_by (life_of i.variant s) o.content _ why (examined_here i s p offer o)
     (sym (ap (λ (x : Result Snapshot PartsFault). found_by_verdict i (by_lists i) s (One p.request) x) parts) ∙ f)) e
 
 -- memory may be wanting besides
-lacking : (found : Result Found Refusal) (lacks : Bool) (why : Refusal) (life : Life) → ((w : Refusal) → found ≡ Err w → IsRefusedAs w life) → found_unless_wanting found lacks ≡ Err why → MayRefuse why life
+lacking : (found : Result Found Refusal) (lacks : Bool) (why : Refusal) (life : Life) → ((w : Refusal) → found ≡ Err w → IsRefusedAs w life)
+    → found_unless_wanting found lacks ≡ Err why → MayRefuse why life
 lacking (Err w) lacks why life h e = let same : w ≡ why = cc in inr (subst (λ (x : Refusal). IsRefusedAs x life) same (h w refl))
 lacking (Ok found) false why _ h e = absurd (cc)
 lacking (Ok found) true why _ h e = let same : Memory ≡ why = cc in inl (sym same)
 
 -- how the call ends
-ended_refused : (i : Instance) (seen end : History) (b : Batch) (found : Result Found Refusal) (moves : List Move) (broken : Option StepFault) (why : Refusal) (life : Life)
-    → (broken ≡ None → found ≡ Err why → MayRefuse why life) → given_for (ended_by (by_lists i) seen end b found moves broken) ≡ Err why → MayRefuse why life
+ended_refused : (i : Instance) (seen end : History) (b : Batch) (found : Result Found Refusal) (moves : List Move)
+    (broken : Option StepFault) (why : Refusal) (life : Life)
+    → (broken ≡ None → found ≡ Err why → MayRefuse why life) → given_for (ended_by (by_lists i) seen end b found moves broken) ≡ Err why
+    → MayRefuse why life
 ended_refused i seen end b found moves (Some fault) why life h e =
     let same : Device fault ≡ why = cc in inr (subst (λ (w : Refusal). IsRefusedAs w life) same tt)
 ended_refused i seen end b (Err w) moves None why _ h e = let same : w ≡ why = cc in h refl (ap (λ (x : Refusal). Err x) same)
 ended_refused i seen end b (Ok found) moves None why _ h e = absurd (cc)
 
 -- a refusal that hands on no device's fault comes where nothing was found, and the walk commits nothing then
-ended_whole : (i : Instance) (seen end : History) (b : Batch) (found : Result Found Refusal) (moves : List Move) (broken : Option StepFault) (why : Refusal)
+ended_whole : (i : Instance) (seen end : History) (b : Batch) (found : Result Found Refusal) (moves : List Move) (broken : Option StepFault)
+    (why : Refusal)
     → given_for (ended_by (by_lists i) seen end b found moves broken) ≡ Err why → fault_of why ≡ None → (w : Refusal) × (found ≡ Err w)
 ended_whole i seen end b found moves (Some fault) why e none =
     let same : Device fault ≡ why = cc in
@@ -196,7 +220,8 @@ not_fresh : (found : Result Found Refusal) (why : Refusal) → found ≡ Err why
 not_fresh (Err w) why e f = cc
 not_fresh (Ok found) why e f = cc
 
-keeps_by : (i : Instance) (b : Batch) (y : History) (w : Walked) (found : Result Found Refusal) (why : Refusal) → found ≡ Err why → Commits b (is_fresh found) w
+keeps_by : (i : Instance) (b : Batch) (y : History) (w : Walked) (found : Result Found Refusal) (why : Refusal) → found ≡ Err why
+    → Commits b (is_fresh found) w
     → (all_made (by_lists i) y w.moves).batches ≡ y.batches
 keeps_by i b y w found why e (nothing none unless) = same_batches i w.moves y none
 keeps_by i b y w found why e (batch one fresh) = absurd (not_fresh found why e fresh)
@@ -222,7 +247,8 @@ opt_keeps meaning key barrier y c b offer why e none =
     let w : Walked = walk c.fates 1 (ask_steps Opt y.is_open (is_fresh found) b) in
     let f = ended_whole i seen (all_made (by_lists i) y w.moves) b found w.moves w.broken why e none in
     keeps_by i b y w found f.0 f.1
-    (subst (λ (steps : List Step). Commits b (is_fresh found) (walk c.fates 1 steps)) (sym (asks y.is_open (is_fresh found) b)) (opt_commits c.fates y.is_open (is_fresh found) b))
+    (subst (λ (steps : List Step). Commits b (is_fresh found) (walk c.fates 1 steps)) (sym (asks y.is_open (is_fresh found) b))
+    (opt_commits c.fates y.is_open (is_fresh found) b))
 
 -- Basic: its life never ends
 pub basic_refused : (meaning : Meaning) (key : List ℕ) (y : History) (c : Course) (p : Pending) (offer : List ℕ) (why : Refusal)
@@ -234,14 +260,16 @@ basic_refused meaning key y c p offer why o e =
     let found : Result Found Refusal = found_unless_wanting (found_at i (by_lists i) seen (One p.request) offer) c.lacks in
     let w : Walked = walk c.fates 1 (ask_steps Basic y.is_open (is_fresh found) (One p.request)) in
     ended_refused i seen (all_made (by_lists i) y w.moves) (One p.request) found w.moves w.broken why Live
-    (λ whole f. lacking (found_at i (by_lists i) seen (One p.request) offer) c.lacks why Live (λ x g. found_refused i seen p offer o x g) f) e
+    (λ whole f. lacking (found_at i (by_lists i) seen (One p.request) offer) c.lacks why Live (λ x g. found_refused i seen p offer o x g) f)
+    e
 
 -- Opt: where nothing was found, the call made its reading steps alone
 fresh_none : (found : Result Found Refusal) (why : Refusal) → found ≡ Err why → is_fresh found ≡ false
 fresh_none (Err w) why e = refl
 fresh_none (Ok found) why e = absurd (cc)
 
-read_alone : (i : Instance) (fates : ℕ → Fate) (y : History) (flag fresh : Bool) (b : Batch) → fresh ≡ false → (walk fates 1 (ask_steps Opt flag fresh b)).broken ≡ None
+read_alone : (i : Instance) (fates : ℕ → Fate) (y : History) (flag fresh : Bool) (b : Batch) → fresh ≡ false
+    → (walk fates 1 (ask_steps Opt flag fresh b)).broken ≡ None
     → all_made (by_lists i) y (walk fates 1 (ask_steps Opt flag fresh b)).moves ≡ taking (taking y (fates 1).brings) (fates 2).brings
 read_alone i fates y flag true b e whole = absurd (cc)
 read_alone i fates y flag false b e whole = path_is i fates (ask_steps Opt flag false b) 1 y whole
@@ -258,6 +286,8 @@ opt_refused meaning key barrier y c p offer why o e =
     let end : History = all_made (by_lists i) y w.moves in
     ended_refused i seen end (One p.request) found w.moves w.broken why (life_of Opt end)
     (λ whole f.
-    let same : end ≡ seen = read_alone i c.fates y y.is_open (is_fresh found) (One p.request) (fresh_none found why f) whole ∙ sym (sight_is i y c) in
+    let same : end ≡ seen = read_alone i c.fates y y.is_open (is_fresh found) (One p.request) (fresh_none found why f) whole
+    ∙ sym (sight_is i y c) in
     subst (λ (z : History). MayRefuse why (life_of Opt z)) (sym same)
-    (lacking (found_at i (by_lists i) seen (One p.request) offer) c.lacks why (life_of Opt seen) (λ x g. found_refused i seen p offer o x g) f)) e
+    (lacking (found_at i (by_lists i) seen (One p.request) offer) c.lacks why (life_of Opt seen) (λ x g. found_refused i seen p offer o x g)
+    f)) e

@@ -29,17 +29,24 @@ use Rattle.mm_host.specs.Sessions.{EndsSession, GoesOn, IsAtRest, Sessions, Stop
 use Rattle.mm_host.proofs.Blaming.{Told, asked_told, resumes_told, store_told, told_as as same_told, told_later}
 
 -- what a line comes to
-recorded_told : (variant : Variant) (meaning : Meaning) (recorded : Result Unit StoreFault) (before after : Standing) (old middle new : StoreStanding) (last : Resumed) (line : List ℕ) (came : Result Resumed HostFault) → CountsFailures old.faults middle.faults recorded → AfterRecord variant meaning before after recorded middle new last line came → Told came before after old new
+recorded_told : (variant : Variant) (meaning : Meaning) (recorded : Result Unit StoreFault) (before after : Standing)
+    (old middle new : StoreStanding) (last : Resumed) (line : List ℕ) (came : Result Resumed HostFault)
+    → CountsFailures old.faults middle.faults recorded → AfterRecord variant meaning before after recorded middle new last line came
+    → Told came before after old new
 recorded_told variant meaning (Ok it) before after old middle new last line came c g =
     told_later came before after old middle new c (asked_told g.asked before after middle new came g.asks.faults g.asks.short g.goes)
 recorded_told variant meaning (Err why) before after old middle new last line came c g =
     same_told came (Err (store_fault_as why)) before after old new g.2
-    (store_told why before after old new g.0 (subst (λ (k : StoreStanding). CountsFailures {T = Unit {0}} old.faults k.faults (Err why)) (sym g.1) (counted_err why old.faults middle.faults c)))
+    (store_told why before after old new g.0
+    (subst (λ (k : StoreStanding). CountsFailures {T = Unit {0}} old.faults k.faults (Err why)) (sym g.1)
+    (counted_err why old.faults middle.faults c)))
   where
-    counted_err : (why : StoreFault) (before now : ℕ) → CountsFailures {T = Unit} before now (Err why) → CountsFailures {T = Unit {0}} before now (Err why)
+    counted_err : (why : StoreFault) (before now : ℕ) → CountsFailures {T = Unit} before now (Err why)
+        → CountsFailures {T = Unit {0}} before now (Err why)
     counted_err why before now c = c
 
-line_told : (variant : Variant) (meaning : Meaning) (before after : Standing) (old new : StoreStanding) (last : Resumed) (line : List ℕ) (came : Result Resumed HostFault) → AsksLine variant meaning before after old new last line came → Told came before after old new
+line_told : (variant : Variant) (meaning : Meaning) (before after : Standing) (old new : StoreStanding) (last : Resumed) (line : List ℕ)
+    (came : Result Resumed HostFault) → AsksLine variant meaning before after old new last line came → Told came before after old new
 line_told variant meaning before after old new last line came a =
     recorded_told variant meaning a.recorded before after old a.middle new last line came a.records.counted a.goes
 
@@ -48,14 +55,16 @@ record AreAsBefore (from to : Place) : Type 0 where
   platform : to.platform.faults ≡ from.platform.faults
   store : to.store.faults ≡ from.store.faults
 
-served_counts : (variant : Variant) (meaning : Meaning) (from to : Place) (calls : List Served) → Serves variant meaning from calls to → AreAsBefore from to
+served_counts : (variant : Variant) (meaning : Meaning) (from to : Place) (calls : List Served) → Serves variant meaning from calls to
+    → AreAsBefore from to
 served_counts variant meaning from to [] s = record {
   platform = ap (λ (p : Place). p.platform.faults) s;
   store = ap (λ (p : Place). p.store.faults) s;
 }
 served_counts variant meaning from to (c ∷ calls) s =
     let t = line_told variant meaning from.platform s.platform from.store s.store from.last c.line (Ok (Answered c.answer)) s.asks in
-    let rest = served_counts variant meaning (record { platform = s.platform; store = s.store; last = Answered c.answer }) to calls s.rest in
+    let rest = served_counts variant meaning (record { platform = s.platform; store = s.store; last = Answered c.answer }) to calls s.rest
+    in
     record { platform = rest.platform ∙ t.blamed.0; store = rest.store ∙ t.blamed.1 }
 
 -- Who is told of a session's end.
@@ -64,7 +73,9 @@ pub record IsTold (result : Result Unit SessionFault) (before after : Standing) 
   pub store : IsBlamed (is_store_fault result) old.faults new.faults
   pub named : IsRefusalNamed result
 
-told_later_on : (result : Result Unit SessionFault) (before platform after : Standing) (old store new : StoreStanding) → platform.faults ≡ before.faults → store.faults ≡ old.faults → IsTold result platform after store new → IsTold result before after old new
+told_later_on : (result : Result Unit SessionFault) (before platform after : Standing) (old store new : StoreStanding)
+    → platform.faults ≡ before.faults → store.faults ≡ old.faults → IsTold result platform after store new
+    → IsTold result before after old new
 told_later_on result before platform after old store new p s t = record {
   platform = subst (λ (n : ℕ). IsBlamed (is_platform_fault result) n after.faults) p t.platform;
   store = subst (λ (n : ℕ). IsBlamed (is_store_fault result) n new.faults) s t.store;
@@ -76,7 +87,8 @@ blames_by None before now b = b
 blames_by (Some fault) before now b = b
 
 -- the fault that came
-came_told : (fault : HostFault) (before after : Standing) (old new : StoreStanding) → Blamed {T = Resumed} (Err fault) before after old new → IsNamed {T = Resumed} (Err fault) → IsTold (Err (as_session_fault fault)) before after old new
+came_told : (fault : HostFault) (before after : Standing) (old new : StoreStanding) → Blamed {T = Resumed} (Err fault) before after old new
+    → IsNamed {T = Resumed} (Err fault) → IsTold (Err (as_session_fault fault)) before after old new
 came_told host.Memory before after old new b n = record {
   platform = b.0;
   store = b.1;
@@ -112,7 +124,8 @@ told_no_device Stale h = refl
 told_no_device Full h = refl
 
 -- where a text is told, no count rose
-quiet_told : (came : Result Resumed HostFault) (before after : Standing) (old new : StoreStanding) → reply_text came ≢ [] → Blamed came before after old new → (after.faults ≡ before.faults) × (new.faults ≡ old.faults)
+quiet_told : (came : Result Resumed HostFault) (before after : Standing) (old new : StoreStanding) → reply_text came ≢ []
+    → Blamed came before after old new → (after.faults ≡ before.faults) × (new.faults ≡ old.faults)
 quiet_told (Ok it) before after old new h b = b
 quiet_told (Err host.Memory) before after old new h b = b
 quiet_told (Err host.Store) before after old new h b = absurd (h refl)
@@ -121,7 +134,8 @@ quiet_told (Err (host.Refused why)) before after old new h b = (
   b.1,
 )
 
-write_told : (before after : Standing) (old new : StoreStanding) → (after.faults ≡ before.faults) × (new.faults ≡ old.faults) → IsTold (Err WriteFault) before after old new
+write_told : (before after : Standing) (old new : StoreStanding) → (after.faults ≡ before.faults) × (new.faults ≡ old.faults)
+    → IsTold (Err WriteFault) before after old new
 write_told before after old new q = record {
   platform = q.0;
   store = q.1;
@@ -131,31 +145,43 @@ write_told before after old new q = record {
 same_fault : (f g : SessionFault) (r : Result Resumed SessionFault) → r ≡ Err f → r ≡ Err g → g ≡ f
 same_fault f g r h k = cc
 
-came_says : (came : Result Resumed HostFault) (fault : SessionFault) (before after : Standing) (old new : StoreStanding) → Err fault ≡ comes_as came → Told came before after old new → IsTold (Err fault) before after old new
+came_says : (came : Result Resumed HostFault) (fault : SessionFault) (before after : Standing) (old new : StoreStanding)
+    → Err fault ≡ comes_as came → Told came before after old new → IsTold (Err fault) before after old new
 came_says (Ok it) fault before after old new e t = absurd (cc)
 came_says (Err why) fault before after old new e t =
-    subst (λ (f : SessionFault). IsTold (Err f) before after old new) (same_fault fault (as_session_fault why) (Err fault) refl e) (came_told why before after old new t.blamed t.named)
+    subst (λ (f : SessionFault). IsTold (Err f) before after old new) (same_fault fault (as_session_fault why) (Err fault) refl e)
+    (came_told why before after old new t.blamed t.named)
 
-says_told : (came : Result Resumed HostFault) (sent : List ℕ) (fault : SessionFault) (before after : Standing) (old new : StoreStanding) → SendsReply came sent (Err fault) → Told came before after old new → IsTold (Err fault) before after old new
+says_told : (came : Result Resumed HostFault) (sent : List ℕ) (fault : SessionFault) (before after : Standing) (old new : StoreStanding)
+    → SendsReply came sent (Err fault) → Told came before after old new → IsTold (Err fault) before after old new
 says_told came sent fault before after old new (inl s) t = came_says came fault before after old new s.1 t
 says_told came sent fault before after old new (inr s) t =
     subst (λ (f : SessionFault). IsTold (Err f) before after old new) (same_fault fault WriteFault (Err fault) refl s.0)
     (write_told before after old new (quiet_told came before after old new s.1 t.blamed))
 
 -- the ends
-rest_counts : (at : Place) (after : Standing) (new : StoreStanding) (sent : List ℕ) → IsAtRest at after new sent → (after.faults ≡ at.platform.faults) × (new.faults ≡ at.store.faults)
+rest_counts : (at : Place) (after : Standing) (new : StoreStanding) (sent : List ℕ) → IsAtRest at after new sent
+    → (after.faults ≡ at.platform.faults) × (new.faults ≡ at.store.faults)
 rest_counts at after new sent r = (ap (λ (s : Standing). s.faults) r.platform, ap (λ (k : StoreStanding). k.faults) r.store)
 
-line_stops_told : (variant : Variant) (meaning : Meaning) (number : ℕ) (at : Place) (after : Standing) (new : StoreStanding) (more sent : List ℕ) (fault : SessionFault) → StopsInLine variant meaning number at after new more sent fault → IsTold (Err fault) at.platform after at.store new
+line_stops_told : (variant : Variant) (meaning : Meaning) (number : ℕ) (at : Place) (after : Standing) (new : StoreStanding)
+    (more sent : List ℕ) (fault : SessionFault) → StopsInLine variant meaning number at after new more sent fault
+    → IsTold (Err fault) at.platform after at.store new
 line_stops_told variant meaning number at after new more sent fault s =
     says_told s.came sent fault at.platform after at.store new s.says
     (line_told variant meaning at.platform after at.store new at.last s.line s.came s.asks)
 
-stops_told : (variant : Variant) (meaning : Meaning) (number : ℕ) (at : Place) (after : Standing) (new : StoreStanding) (left : Option (List ℕ)) (more sent : List ℕ) (fault : SessionFault) → Stops variant meaning number at after new left more sent fault → IsTold (Err fault) at.platform after at.store new
-stops_told variant meaning number at after new left more sent Memory s = line_stops_told variant meaning number at after new more sent Memory s
-stops_told variant meaning number at after new left more sent Store s = line_stops_told variant meaning number at after new more sent Store s
-stops_told variant meaning number at after new left more sent (Refused why) s = line_stops_told variant meaning number at after new more sent (Refused why) s
-stops_told variant meaning number at after new left more sent WriteFault s = line_stops_told variant meaning number at after new more sent WriteFault s
+stops_told : (variant : Variant) (meaning : Meaning) (number : ℕ) (at : Place) (after : Standing) (new : StoreStanding)
+    (left : Option (List ℕ)) (more sent : List ℕ) (fault : SessionFault) → Stops variant meaning number at after new left more sent fault
+    → IsTold (Err fault) at.platform after at.store new
+stops_told variant meaning number at after new left more sent Memory s =
+    line_stops_told variant meaning number at after new more sent Memory s
+stops_told variant meaning number at after new left more sent Store s =
+    line_stops_told variant meaning number at after new more sent Store s
+stops_told variant meaning number at after new left more sent (Refused why) s =
+    line_stops_told variant meaning number at after new more sent (Refused why) s
+stops_told variant meaning number at after new left more sent WriteFault s =
+    line_stops_told variant meaning number at after new more sent WriteFault s
 stops_told variant meaning number at after new left more sent ReadFault s = let q = rest_counts at after new sent s.0 in record {
   platform = q.0;
   store = q.1;
@@ -177,36 +203,52 @@ stops_told variant meaning number at after new left more sent TooMuch s = let q 
   named = record { remembered = λ e. absurd (cc); short = λ e. absurd (cc) };
 }
 
-ends_told : (variant : Variant) (meaning : Meaning) (number : ℕ) (at : Place) (after : Standing) (new : StoreStanding) (left : Option (List ℕ)) (more sent : List ℕ) (result : Result Unit SessionFault) → EndsSession variant meaning number at after new left more sent result → IsTold result at.platform after at.store new
+ends_told : (variant : Variant) (meaning : Meaning) (number : ℕ) (at : Place) (after : Standing) (new : StoreStanding)
+    (left : Option (List ℕ)) (more sent : List ℕ) (result : Result Unit SessionFault)
+    → EndsSession variant meaning number at after new left more sent result → IsTold result at.platform after at.store new
 ends_told variant meaning number at after new left more sent (Ok it) e = let q = rest_counts at after new sent e.0 in record {
   platform = q.0;
   store = q.1;
   named = record { remembered = λ f. absurd (cc); short = λ f. absurd (cc) };
 }
-ends_told variant meaning number at after new left more sent (Err fault) e = stops_told variant meaning number at after new left more sent fault e
+ends_told variant meaning number at after new left more sent (Err fault) e =
+    stops_told variant meaning number at after new left more sent fault e
 
-goes_on_told : (variant : Variant) (meaning : Meaning) (begun : Result Resumed HostFault) (before platform after : Standing) (old store new : StoreStanding) (left : Option (List ℕ)) (taken sent : List ℕ) (result : Result Unit SessionFault) → Told begun before platform old store → GoesOn variant meaning begun platform after store new left taken sent result → IsTold result before after old new
+goes_on_told : (variant : Variant) (meaning : Meaning) (begun : Result Resumed HostFault) (before platform after : Standing)
+    (old store new : StoreStanding) (left : Option (List ℕ)) (taken sent : List ℕ) (result : Result Unit SessionFault)
+    → Told begun before platform old store → GoesOn variant meaning begun platform after store new left taken sent result
+    → IsTold result before after old new
 goes_on_told variant meaning begun before platform after old store new left taken sent result t g =
-    let first : Told (Ok g.first) before platform old store = subst (λ (r : Result Resumed HostFault). Told r before platform old store) g.begins t in
+    let first : Told (Ok g.first) before platform old store = subst (λ (r : Result Resumed HostFault). Told r before platform old store)
+    g.begins t in
     let l = g.lines in
     let counts = served_counts variant meaning (record { platform = platform; store = store; last = g.first }) l.at l.calls l.serves in
     told_later_on result before l.at.platform after old l.at.store new (counts.platform ∙ first.blamed.0) (counts.store ∙ first.blamed.1)
     (ends_told variant meaning (length l.calls + 1) l.at after new left l.more l.last result l.ends)
 
-at_once_told : (begun : Result Resumed HostFault) (before platform after : Standing) (old store new : StoreStanding) (taken sent : List ℕ) (result : Result Unit SessionFault) → Told begun before platform old store → after ≡ platform → new ≡ store → StopsAtOnce begun taken sent result → IsTold result before after old new
+at_once_told : (begun : Result Resumed HostFault) (before platform after : Standing) (old store new : StoreStanding) (taken sent : List ℕ)
+    (result : Result Unit SessionFault) → Told begun before platform old store → after ≡ platform → new ≡ store
+    → StopsAtOnce begun taken sent result → IsTold result before after old new
 at_once_told begun before platform after old store new taken sent result t p s g =
     subst (λ (r : Result Unit SessionFault). IsTold r before after old new) (sym g.stops)
     (subst (λ (x : Standing). IsTold (Err g.fault) before x old new) (sym p)
     (subst (λ (k : StoreStanding). IsTold (Err g.fault) before platform old k) (sym s)
     (says_told begun sent g.fault before platform old store g.says t)))
 
-begun_told : (variant : Variant) (meaning : Meaning) (begun : Result Resumed HostFault) (before platform after : Standing) (old store new : StoreStanding) (left : Option (List ℕ)) (taken sent : List ℕ) (result : Result Unit SessionFault) → Told begun before platform old store
-    → ((after ≡ platform) × (new ≡ store) × StopsAtOnce begun taken sent result) ⊎ GoesOn variant meaning begun platform after store new left taken sent result
+begun_told : (variant : Variant) (meaning : Meaning) (begun : Result Resumed HostFault) (before platform after : Standing)
+    (old store new : StoreStanding) (left : Option (List ℕ)) (taken sent : List ℕ) (result : Result Unit SessionFault)
+    → Told begun before platform old store
+    → ((after ≡ platform) × (new ≡ store) × StopsAtOnce begun taken sent result)
+    ⊎ GoesOn variant meaning begun platform after store new left taken sent result
     → IsTold result before after old new
-begun_told variant meaning begun before platform after old store new left taken sent result t (inl g) = at_once_told begun before platform after old store new taken sent result t g.0 g.1 g.2
-begun_told variant meaning begun before platform after old store new left taken sent result t (inr g) = goes_on_told variant meaning begun before platform after old store new left taken sent result t g
+begun_told variant meaning begun before platform after old store new left taken sent result t (inl g) =
+    at_once_told begun before platform after old store new taken sent result t g.0 g.1 g.2
+begun_told variant meaning begun before platform after old store new left taken sent result t (inr g) =
+    goes_on_told variant meaning begun before platform after old store new left taken sent result t g
 
-pub session_told : (variant : Variant) (meaning : Meaning) (before after : Standing) (old new : StoreStanding) (left left' received received' : Option (List ℕ)) (result : Result Unit SessionFault) → Sessions variant meaning before after old new left left' received received' result → IsTold result before after old new
+pub session_told : (variant : Variant) (meaning : Meaning) (before after : Standing) (old new : StoreStanding)
+    (left left' received received' : Option (List ℕ)) (result : Result Unit SessionFault)
+    → Sessions variant meaning before after old new left left' received received' result → IsTold result before after old new
 session_told variant meaning before after old new left left' received received' result s =
     begun_told variant meaning s.begun before s.platform after old s.store new left' s.taken s.sent result
     (resumes_told variant meaning before s.platform old s.store s.begun s.resumes) s.goes

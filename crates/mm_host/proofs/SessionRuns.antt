@@ -16,7 +16,8 @@ use Rattle.mm_module.specs.Meaning.{Meaning, IsLawful}
 use Rattle.mm_module.specs.Batch.{Batch, One}
 use Rattle.mm_seal.specs.Snapshot.{Content}
 use Rattle.mm_seal.proofs.SealLaws.{sealed_once}
-use Rattle.mm_model.specs.Instance.{Instance, basic, opt}
+use Rattle.mm_model.specs.Instance.{Instance}
+use Rattle.mm_model.specs.InstanceWords.{basic, opt}
 use Rattle.mm_model.specs.History.{History, Commit, committed, moved, requests_of, total_of}
 use Rattle.mm_model.specs.Life.{Life, Lost as LostLife, life_of}
 use Rattle.mm_model.specs.Messages.{IsClear, AreNoGuards}
@@ -65,7 +66,9 @@ is_there n m e = grind (arith, nat_tests, e)
 not_there : (n m : ℕ) → n ≡ m + 1 → nat_eq n m ≡ false
 not_there n m e = grind (arith, nat_tests, e)
 
-answered_same : (i : Instance) (y after : History) (p : Pending) (answer : Answer) → IsAwaited y p → p.position ≡ total_of after.batches → whole answer ≡ answer_on i after (One p.request) (nat_eq p.position (total_of y.batches)) → after.batches ≡ y.batches → RunsOver i.meaning (requests_of y.batches) (told_first (Some p) (Answered answer)) (requests_of after.batches)
+answered_same : (i : Instance) (y after : History) (p : Pending) (answer : Answer) → IsAwaited y p → p.position ≡ total_of after.batches
+    → whole answer ≡ answer_on i after (One p.request) (nat_eq p.position (total_of y.batches)) → after.batches ≡ y.batches
+    → RunsOver i.meaning (requests_of y.batches) (told_first (Some p) (Answered answer)) (requests_of after.batches)
 answered_same i y after p answer (inl next) at is same = absurd (omega (arith, next, at, ap total_of same))
 answered_same i y after p answer (inr last) at is same =
     let flag : nat_eq p.position (total_of y.batches) ≡ true = is_there p.position (total_of y.batches) last.0 in (
@@ -74,7 +77,10 @@ answered_same i y after p answer (inr last) at is same =
       refl,
     )
 
-answered_more : (i : Instance) (y after : History) (p : Pending) (answer : Answer) → p.position ≡ total_of after.batches → whole answer ≡ answer_on i after (One p.request) (nat_eq p.position (total_of y.batches)) → after.batches ≡ y.batches ++ One p.request ∷ [] → RunsOver i.meaning (requests_of y.batches) (told_first (Some p) (Answered answer)) (requests_of after.batches)
+answered_more : (i : Instance) (y after : History) (p : Pending) (answer : Answer) → p.position ≡ total_of after.batches
+    → whole answer ≡ answer_on i after (One p.request) (nat_eq p.position (total_of y.batches))
+    → after.batches ≡ y.batches ++ One p.request ∷ []
+    → RunsOver i.meaning (requests_of y.batches) (told_first (Some p) (Answered answer)) (requests_of after.batches)
 answered_more i y after p answer at is more =
     let next : p.position ≡ total_of y.batches + 1 = at ∙ ap total_of more ∙ one_more y.batches p.request in
     let flag : nat_eq p.position (total_of y.batches) ≡ false = not_there p.position (total_of y.batches) next in (
@@ -83,7 +89,10 @@ answered_more i y after p answer at is more =
       refl,
     )
 
-answered_first : (i : Instance) (y after : History) (p : Pending) (answer : Answer) → IsAwaited y p → p.position ≡ total_of after.batches → whole answer ≡ answer_on i after (One p.request) (nat_eq p.position (total_of y.batches)) → (after.batches ≡ y.batches) ⊎ (after.batches ≡ y.batches ++ One p.request ∷ []) → RunsOver i.meaning (requests_of y.batches) (told_first (Some p) (Answered answer)) (requests_of after.batches)
+answered_first : (i : Instance) (y after : History) (p : Pending) (answer : Answer) → IsAwaited y p → p.position ≡ total_of after.batches
+    → whole answer ≡ answer_on i after (One p.request) (nat_eq p.position (total_of y.batches))
+    → (after.batches ≡ y.batches) ⊎ (after.batches ≡ y.batches ++ One p.request ∷ [])
+    → RunsOver i.meaning (requests_of y.batches) (told_first (Some p) (Answered answer)) (requests_of after.batches)
 answered_first i y after p answer w at is (inl same) = answered_same i y after p answer w at is same
 answered_first i y after p answer w at is (inr more) = answered_more i y after p answer at is more
 
@@ -96,10 +105,12 @@ push_batches Basic flag y b = refl
 push_batches Opt true y b = refl
 push_batches Opt false y b = refl
 
-then_same : (i : Instance) (y : History) (p : Pending) (flag : Bool) → nat_eq p.position (total_of y.batches) ≡ flag → flag ≡ true → history_then i y (Some p) ≡ y
+then_same : (i : Instance) (y : History) (p : Pending) (flag : Bool) → nat_eq p.position (total_of y.batches) ≡ flag → flag ≡ true
+    → history_then i y (Some p) ≡ y
 then_same i y p flag e t = ap (λ (b : Bool). if b then y else moved i y (Commit (One p.request))) (e ∙ t)
 
-then_more : (i : Instance) (y : History) (p : Pending) (flag : Bool) → nat_eq p.position (total_of y.batches) ≡ flag → flag ≡ false → history_then i y (Some p) ≡ moved i y (Commit (One p.request))
+then_more : (i : Instance) (y : History) (p : Pending) (flag : Bool) → nat_eq p.position (total_of y.batches) ≡ flag → flag ≡ false
+    → history_then i y (Some p) ≡ moved i y (Commit (One p.request))
 then_more i y p flag e t = ap (λ (b : Bool). if b then y else moved i y (Commit (One p.request))) (e ∙ t)
 
 same_self : (variant : Variant) (y : History) → IsSame variant y y
@@ -116,12 +127,14 @@ untold_by (host.Refused why) m = m
 same_fault : (f g : SessionFault) (r : Result Resumed SessionFault) → r ≡ Err f → r ≡ Err g → g ≡ f
 same_fault f g r h k = cc
 
-untold_came : (came : Result Resumed HostFault) (fault : SessionFault) → Err fault ≡ comes_as came → MayHaveCommitted came → MayBeUntold {T = Unit} (Err fault)
+untold_came : (came : Result Resumed HostFault) (fault : SessionFault) → Err fault ≡ comes_as came → MayHaveCommitted came
+    → MayBeUntold {T = Unit} (Err fault)
 untold_came (Ok it) fault e m = absurd (cc)
 untold_came (Err f) fault e m =
     subst (λ (x : SessionFault). MayBeUntold {T = Unit} (Err x)) (same_fault fault (as_session_fault f) (Err fault) refl e) (untold_by f m)
 
-untold : (came : Result Resumed HostFault) (sent : List ℕ) (fault : SessionFault) → SendsReply came sent (Err fault) → MayHaveCommitted came → MayBeUntold {T = Unit} (Err fault)
+untold : (came : Result Resumed HostFault) (sent : List ℕ) (fault : SessionFault) → SendsReply came sent (Err fault) → MayHaveCommitted came
+    → MayBeUntold {T = Unit} (Err fault)
 untold came sent fault (inl s) m = untold_came came fault s.1 m
 untold came sent fault (inr s) m =
     subst (λ (x : SessionFault). MayBeUntold {T = Unit} (Err x)) (same_fault fault WriteFault (Err fault) refl s.0) tt
@@ -131,22 +144,28 @@ refuses_by host.Memory how m = m
 refuses_by host.Store how m = m
 refuses_by (host.Refused why) how m = m
 
-refuses_came : (came : Result Resumed HostFault) (fault : SessionFault) (life : Life) → Err fault ≡ comes_as came → IsRefusedBy came life → RefusesAs {T = Unit} (Err fault) life
+refuses_came : (came : Result Resumed HostFault) (fault : SessionFault) (life : Life) → Err fault ≡ comes_as came → IsRefusedBy came life
+    → RefusesAs {T = Unit} (Err fault) life
 refuses_came (Ok it) fault how e m = absurd (cc)
 refuses_came (Err f) fault how e m =
-    subst (λ (x : SessionFault). RefusesAs {T = Unit} (Err x) how) (same_fault fault (as_session_fault f) (Err fault) refl e) (refuses_by f how m)
+    subst (λ (x : SessionFault). RefusesAs {T = Unit} (Err x) how) (same_fault fault (as_session_fault f) (Err fault) refl e)
+    (refuses_by f how m)
 
-refuses_says : (came : Result Resumed HostFault) (sent : List ℕ) (fault : SessionFault) (life : Life) → SendsReply came sent (Err fault) → IsRefusedBy came life → RefusesAs {T = Unit} (Err fault) life
+refuses_says : (came : Result Resumed HostFault) (sent : List ℕ) (fault : SessionFault) (life : Life) → SendsReply came sent (Err fault)
+    → IsRefusedBy came life → RefusesAs {T = Unit} (Err fault) life
 refuses_says came sent fault how (inl s) m = refuses_came came fault how s.1 m
 refuses_says came sent fault how (inr s) m =
     subst (λ (x : SessionFault). RefusesAs {T = Unit} (Err x) how) (same_fault fault WriteFault (Err fault) refl s.0) tt
 
-store_came : (came : Result Resumed HostFault) (sent : List ℕ) (fault : SessionFault) → SendsReply came sent (Err fault) → came ≡ Err host.Store → fault ≡ Store
+store_came : (came : Result Resumed HostFault) (sent : List ℕ) (fault : SessionFault) → SendsReply came sent (Err fault)
+    → came ≡ Err host.Store → fault ≡ Store
 store_came came sent fault (inl s) e =
     sym (same_fault fault Store (Err fault) refl (s.1 ∙ ap comes_as e))
 store_came came sent fault (inr s) e = absurd (s.1 (ap reply_text e))
 
-line_committed : (z after : History) (line : List ℕ) (came : Result Resumed HostFault) (sent : List ℕ) (fault : SessionFault) (hand : List ℕ → Type 0) → hand line → SendsReply came sent (Err fault) → (after.batches ≡ z.batches) ⊎ MayHaveCommitted came → (after.batches ≡ z.batches) ⊎ (after.batches ≡ z.batches ++ One line ∷ [])
+line_committed : (z after : History) (line : List ℕ) (came : Result Resumed HostFault) (sent : List ℕ) (fault : SessionFault)
+    (hand : List ℕ → Type 0) → hand line → SendsReply came sent (Err fault) → (after.batches ≡ z.batches) ⊎ MayHaveCommitted came
+    → (after.batches ≡ z.batches) ⊎ (after.batches ≡ z.batches ++ One line ∷ [])
     → (requests_of after.batches ≡ requests_of z.batches) ⊎ HasUntold hand (Err fault) (requests_of z.batches) (requests_of after.batches)
 line_committed z after line came sent fault hand h s (inl same) g = inl (ap requests_of same)
 line_committed z after line came sent fault hand h s (inr may) (inl same) = inl (ap requests_of same)
@@ -158,7 +177,9 @@ line_committed z after line came sent fault hand h s (inr may) (inr more) = inr 
 })
 
 -- what waited, where the session stops at once
-waiting_committed : (y after : History) (waiting : Option Pending) (begun : Result Resumed HostFault) (sent : List ℕ) (fault : SessionFault) (hand : List ℕ → Type 0) → ((p : Pending) → waiting ≡ Some p → hand p.request) → SendsReply begun sent (Err fault) → (after.batches ≡ y.batches) ⊎ MayHaveCommitted begun → IsGrown y waiting after
+waiting_committed : (y after : History) (waiting : Option Pending) (begun : Result Resumed HostFault) (sent : List ℕ) (fault : SessionFault)
+    (hand : List ℕ → Type 0) → ((p : Pending) → waiting ≡ Some p → hand p.request) → SendsReply begun sent (Err fault)
+    → (after.batches ≡ y.batches) ⊎ MayHaveCommitted begun → IsGrown y waiting after
     → (requests_of after.batches ≡ requests_of y.batches) ⊎ HasUntold hand (Err fault) (requests_of y.batches) (requests_of after.batches)
 waiting_committed y after None begun sent fault hand h s o g = inl (ap requests_of g)
 waiting_committed y after (Some p) begun sent fault hand h s o g = line_committed y after p.request begun sent fault hand (h p refl) s o g
@@ -175,36 +196,51 @@ read_of (Some xs) (Some ys) input taken e c =
     let same : xs ≡ input = cc in
     record { rest = ys; is = sym same ∙ c }
 
-unbroken_served : (variant : Variant) (meaning : Meaning) (from to : Place) (calls : List Served) → Serves variant meaning from calls to → AllByRecursion IsUnbroken (lines_served calls)
+unbroken_served : (variant : Variant) (meaning : Meaning) (from to : Place) (calls : List Served) → Serves variant meaning from calls to
+    → AllByRecursion IsUnbroken (lines_served calls)
 unbroken_served variant meaning from to [] s = tt
-unbroken_served variant meaning from to (c ∷ calls) s = (s.within.unbroken, unbroken_served variant meaning (record { platform = s.platform; store = s.store; last = Answered c.answer }) to calls s.rest)
+unbroken_served variant meaning from to (c ∷ calls) s = (
+  s.within.unbroken,
+  unbroken_served variant meaning (record { platform = s.platform; store = s.store; last = Answered c.answer }) to
+      calls s.rest,
+)
 
 -- from where it began
 module _ (all others : List (List ℕ)) (asked : List Batch) (i : Instance) (final : Standing) (laws : Laws all others asked i final) where
   -- the snapshot of an answer says what the history issues
-  placed_issued : (y z : History) (bytes : List ℕ) → total_of y.batches ≤ last_position → bytes ≡ issued_bytes i y → IsSame i.variant y z → (content : Content) → IsRight i bytes content → content.place ≡ (issued i z).place
+  placed_issued : (y z : History) (bytes : List ℕ) → total_of y.batches ≤ last_position → bytes ≡ issued_bytes i y → IsSame i.variant y z
+      → (content : Content) → IsRight i bytes content → content.place ≡ (issued i z).place
   placed_issued y z bytes most is same content right =
-      let says : issued i y ≡ content = sealed_once i.key i.key (issued i y) content (laws.formed y most) right.formed (sym is ∙ right.sealed) in
+      let says : issued i y ≡ content = sealed_once i.key i.key (issued i y) content (laws.formed y most) right.formed
+      (sym is ∙ right.sealed) in
       ap (λ (c : Content). c.place) (sym says ∙ laws.issue y z same)
 
-  most_of : (y : History) (bytes : List ℕ) (position : ℕ) → Holds i y bytes position → position ≡ total_of y.batches → total_of y.batches ≤ last_position
+  most_of : (y : History) (bytes : List ℕ) (position : ℕ) → Holds i y bytes position → position ≡ total_of y.batches
+      → total_of y.batches ≤ last_position
   most_of y bytes position h e = subst (λ (n : ℕ). n ≤ last_position) (h.at ∙ e) h.right.formed.position
 
   -- what is shown goes on to the end
-  recorded_reach : (recorded : Result Unit StoreFault) (before after : Standing) (old new : StoreStanding) (last : Resumed) (line : List ℕ) (came : Result Resumed HostFault) → AfterRecord i.variant i.meaning before after recorded old new last line came → Reaches i.variant i before after
+  recorded_reach : (recorded : Result Unit StoreFault) (before after : Standing) (old new : StoreStanding) (last : Resumed) (line : List ℕ)
+      (came : Result Resumed HostFault) → AfterRecord i.variant i.meaning before after recorded old new last line came
+      → Reaches i.variant i before after
   recorded_reach (Err why) before after old new last line came g = reach_same i.variant i before after g.0
-  recorded_reach (Ok it) before after old new last line came g = laws.reach before after (snapshot_at last) line (whole_in g.asked) g.asks.goes
+  recorded_reach (Ok it) before after old new last line came g = laws.reach before after (snapshot_at last) line (whole_in g.asked)
+      g.asks.goes
 
-  line_reach : (before after : Standing) (old new : StoreStanding) (last : Resumed) (line : List ℕ) (came : Result Resumed HostFault) → AsksLine i.variant i.meaning before after old new last line came → Reaches i.variant i before after
+  line_reach : (before after : Standing) (old new : StoreStanding) (last : Resumed) (line : List ℕ) (came : Result Resumed HostFault)
+      → AsksLine i.variant i.meaning before after old new last line came → Reaches i.variant i before after
   line_reach before after old new last line came a = recorded_reach a.recorded before after a.middle new last line came a.goes
 
-  serves_reach : (from to : Place) (calls : List Served) → Serves i.variant i.meaning from calls to → Reaches i.variant i to.platform final → Reaches i.variant i from.platform final
+  serves_reach : (from to : Place) (calls : List Served) → Serves i.variant i.meaning from calls to → Reaches i.variant i to.platform final
+      → Reaches i.variant i from.platform final
   serves_reach from to [] h r = subst (λ (p : Place). Reaches i.variant i p.platform final) h r
   serves_reach from to (c ∷ calls) h r =
-      reach_then i.variant i from.platform h.platform final (line_reach from.platform h.platform from.store h.store from.last c.line (Ok (Answered c.answer)) h.asks)
+      reach_then i.variant i from.platform h.platform final
+      (line_reach from.platform h.platform from.store h.store from.last c.line (Ok (Answered c.answer)) h.asks)
       (serves_reach (record { platform = h.platform; store = h.store; last = Answered c.answer }) to calls h.rest r)
 
-  stops_reach : (number : ℕ) (at : Place) (new : StoreStanding) (left : Option (List ℕ)) (more sent : List ℕ) (fault : SessionFault) → Stops i.variant i.meaning number at final new left more sent fault → Reaches i.variant i at.platform final
+  stops_reach : (number : ℕ) (at : Place) (new : StoreStanding) (left : Option (List ℕ)) (more sent : List ℕ) (fault : SessionFault)
+      → Stops i.variant i.meaning number at final new left more sent fault → Reaches i.variant i at.platform final
   stops_reach number at new left more sent Memory e = line_reach at.platform final at.store new at.last e.line e.came e.asks
   stops_reach number at new left more sent Store e = line_reach at.platform final at.store new at.last e.line e.came e.asks
   stops_reach number at new left more sent (Refused why) e = line_reach at.platform final at.store new at.last e.line e.came e.asks
@@ -214,7 +250,9 @@ module _ (all others : List (List ℕ)) (asked : List Batch) (i : Instance) (fin
   stops_reach number at new left more sent (LineLong line) e = reach_same i.variant i at.platform final e.0.platform
   stops_reach number at new left more sent TooMuch e = reach_same i.variant i at.platform final e.0.platform
 
-  ends_reach : (number : ℕ) (at : Place) (new : StoreStanding) (left : Option (List ℕ)) (more sent : List ℕ) (result : Result Unit SessionFault) → EndsSession i.variant i.meaning number at final new left more sent result → Reaches i.variant i at.platform final
+  ends_reach : (number : ℕ) (at : Place) (new : StoreStanding) (left : Option (List ℕ)) (more sent : List ℕ)
+      (result : Result Unit SessionFault) → EndsSession i.variant i.meaning number at final new left more sent result
+      → Reaches i.variant i at.platform final
   ends_reach number at new left more sent (Ok it) e = reach_same i.variant i at.platform final e.0.platform
   ends_reach number at new left more sent (Err fault) e = stops_reach number at new left more sent fault e
 
@@ -229,15 +267,19 @@ module _ (all others : List (List ℕ)) (asked : List Batch) (i : Instance) (fin
     powered : life_of i.variant y ≢ LostLife → life_of i.variant after ≢ LostLife
 
   -- the history after a line that was answered is the one that grew by it
-  grown_same : (y z after : History) (next : Pending) (line : List ℕ) → next.request ≡ line → IsLedTo i.variant after → IsLike i.variant y z → after.batches ≡ y.batches ++ One line ∷ [] → IsGrownBy i y (Some next) after → IsSame i.variant after (moved i z (Commit (One line)))
+  grown_same : (y z after : History) (next : Pending) (line : List ℕ) → next.request ≡ line → IsLedTo i.variant after → IsLike i.variant y z
+      → after.batches ≡ y.batches ++ One line ∷ [] → IsGrownBy i y (Some next) after
+      → IsSame i.variant after (moved i z (Commit (One line)))
   grown_same y z after next line is sound like more (inl same) =
-      let clash : total_of y.batches ≡ total_of y.batches + 1 = ap total_of (sym (laws.batches after y same) ∙ more) ∙ one_more y.batches line in
+      let clash : total_of y.batches ≡ total_of y.batches + 1 = ap total_of (sym (laws.batches after y same) ∙ more)
+      ∙ one_more y.batches line in
       absurd (omega (arith, clash))
   grown_same y z after next line is sound like more (inr g) =
       let same : g.0.request ≡ line = ap (λ (p : Pending). p.request) (same_pending next g.0 g.1) ∙ is in
       laws.grow y z after (One line) sound like (subst (λ (r : List ℕ). IsSame i.variant after (moved i y (Commit (One r)))) same g.2)
 
-  follows_on : (y z : History) (line : List ℕ) (lines : List (List ℕ)) → y.batches ≡ z.batches → MayGrow longest_request line → AreToFollow all asked i z (line ∷ lines) → MayFollow all asked i y z line
+  follows_on : (y z : History) (line : List ℕ) (lines : List (List ℕ)) → y.batches ≡ z.batches → MayGrow longest_request line
+      → AreToFollow all asked i z (line ∷ lines) → MayFollow all asked i y z line
   follows_on y z line lines same within f = record {
     is_asked = f.0;
     listed = f.1;
@@ -247,7 +289,8 @@ module _ (all others : List (List ℕ)) (asked : List Batch) (i : Instance) (fin
 
   lines_come : (y z : History) (from to : Place) (calls : List Served) (rest : List (List ℕ))
       → IsClear all → AreNoGuards i.barrier others asked → IsReady all others asked i y z from final
-      → AreToFollow all asked i z (lines_served calls ++ rest) → Serves i.variant i.meaning from calls to → Reaches i.variant i to.platform final
+      → AreToFollow all asked i z (lines_served calls ++ rest) → Serves i.variant i.meaning from calls to
+      → Reaches i.variant i to.platform final
       → AfterLines y to calls rest
   lines_come y z from to [] rest clear apart s f h reaches = record {
     after = y;
@@ -276,7 +319,9 @@ module _ (all others : List (List ℕ)) (asked : List Batch) (i : Instance) (fin
         };
         like = laws.like l.after z_then same;
         batches = laws.batches l.after z_then same;
-        placed = placed_issued l.after z_then c.answer.snapshot (most_of l.after c.answer.snapshot c.answer.position l.goes.settled.holds l.goes.settled.at_end) l.goes.issued_is same;
+        placed =
+            placed_issued l.after z_then c.answer.snapshot
+            (most_of l.after c.answer.snapshot c.answer.position l.goes.settled.holds l.goes.settled.at_end) l.goes.issued_is same;
         shows = b.1.0;
       } in
       let r = lines_come l.after z_then next to calls rest clear apart here f.3 h.rest reaches in
@@ -301,27 +346,34 @@ module _ (all others : List (List ℕ)) (asked : List Batch) (i : Instance) (fin
   Began y slots waiting standing kept first =
       (r : RecoversTo all others asked i y slots waiting standing kept (Ok first)) × IsBetween all others i y waiting standing final r.after
 
-  then_is : (y after : History) (p : Pending) → p.position ≡ total_of after.batches → IsGrownBy i y (Some p) after → IsSame i.variant after (history_then i y (Some p))
+  then_is : (y after : History) (p : Pending) → p.position ≡ total_of after.batches → IsGrownBy i y (Some p) after
+      → IsSame i.variant after (history_then i y (Some p))
   then_is y after p at (inl same) =
-      let flag : nat_eq p.position (total_of y.batches) ≡ true = is_there p.position (total_of y.batches) (at ∙ ap total_of (laws.batches after y same)) in
+      let flag : nat_eq p.position (total_of y.batches) ≡ true = is_there p.position (total_of y.batches)
+      (at ∙ ap total_of (laws.batches after y same)) in
       subst (λ (h : History). IsSame i.variant after h) (sym (then_same i y p true flag refl)) same
   then_is y after p at (inr g) =
       let same : IsSame i.variant after (moved i y (Commit (One p.request))) =
       subst (λ (q : Pending). IsSame i.variant after (moved i y (Commit (One q.request)))) (same_pending p g.0 g.1) g.2 in
-      let more : after.batches ≡ y.batches ++ One p.request ∷ [] = laws.batches after (moved i y (Commit (One p.request))) same ∙ push_batches i.variant y.is_open y (One p.request) in
-      let flag : nat_eq p.position (total_of y.batches) ≡ false = not_there p.position (total_of y.batches) (at ∙ ap total_of more ∙ one_more y.batches p.request) in
+      let more : after.batches ≡ y.batches ++ One p.request ∷ [] = laws.batches after (moved i y (Commit (One p.request))) same
+      ∙ push_batches i.variant y.is_open y (One p.request) in
+      let flag : nat_eq p.position (total_of y.batches) ≡ false = not_there p.position (total_of y.batches)
+      (at ∙ ap total_of more ∙ one_more y.batches p.request) in
       subst (λ (h : History). IsSame i.variant after h) (sym (then_more i y p false flag refl)) same
 
   -- what was told of what waited is a run
-  run_start : (y : History) (slots : Slots) (waiting : Option Pending) (standing : Standing) (kept : StoreStanding) (first : List ℕ) → waiting ≡ None
+  run_start : (y : History) (slots : Slots) (waiting : Option Pending) (standing : Standing) (kept : StoreStanding) (first : List ℕ)
+      → waiting ≡ None
       → (came : RecoversTo all others asked i y slots waiting standing kept (Ok (Start first)))
       → RunsOver i.meaning (requests_of y.batches) (told_first waiting (Start first)) (requests_of came.after.batches)
   run_start y slots None standing kept first none came = ap requests_of came.grown
   run_start y slots (Some p) standing kept first none came = absurd (cc)
 
-  run_answered : (y : History) (slots : Slots) (waiting : Option Pending) (standing : Standing) (kept : StoreStanding) (answer : Answer) (p : Pending) → waiting ≡ Some p → FitsBy i slots y waiting
+  run_answered : (y : History) (slots : Slots) (waiting : Option Pending) (standing : Standing) (kept : StoreStanding) (answer : Answer)
+      (p : Pending) → waiting ≡ Some p → FitsBy i slots y waiting
       → (came : RecoversTo all others asked i y slots waiting standing kept (Ok (Answered answer)))
-      → p.position ≡ total_of came.after.batches → whole answer ≡ answer_on i came.after (One p.request) (nat_eq p.position (total_of y.batches))
+      → p.position ≡ total_of came.after.batches
+      → whole answer ≡ answer_on i came.after (One p.request) (nat_eq p.position (total_of y.batches))
       → RunsOver i.meaning (requests_of y.batches) (told_first waiting (Answered answer)) (requests_of came.after.batches)
   run_answered y slots None standing kept answer p e f came at is = absurd (cc)
   run_answered y slots (Some q) standing kept answer p e f came at is =
@@ -329,15 +381,19 @@ module _ (all others : List (List ℕ)) (asked : List Batch) (i : Instance) (fin
       answered_first i y came.after q answer f.0 (ap (λ (x : Pending). x.position) (sym same) ∙ at)
       (is ∙ ap (λ (x : Pending). answer_on i came.after (One x.request) (nat_eq x.position (total_of y.batches))) same) came.grown
 
-  run_told : (y : History) (slots : Slots) (before : Standing) (old : StoreStanding) (can : CanRecover all others asked i y slots before old) (standing : Standing) (kept : StoreStanding) (first : Resumed)
+  run_told : (y : History) (slots : Slots) (before : Standing) (old : StoreStanding)
+      (can : CanRecover all others asked i y slots before old) (standing : Standing) (kept : StoreStanding) (first : Resumed)
       → (came : RecoversTo all others asked i y slots can.fits.waiting standing kept (Ok first))
       → RunsOver i.meaning (requests_of y.batches) (told_first can.fits.waiting first) (requests_of came.after.batches)
   run_told y slots before old can standing kept (Start first) came =
       run_start y slots can.fits.waiting standing kept first came.comes.0 came
   run_told y slots before old can standing kept (Answered answer) came =
-      run_answered y slots can.fits.waiting standing kept answer came.comes.p came.comes.waits can.fits.fits came came.comes.position came.comes.answer_is
+      run_answered y slots can.fits.waiting standing kept answer came.comes.p came.comes.waits can.fits.fits came came.comes.position
+      came.comes.answer_is
 
-  begins_start : (y : History) (slots : Slots) (waiting : Option Pending) (standing : Standing) (kept : StoreStanding) (first : List ℕ) → waiting ≡ None → Began y slots waiting standing kept (Start first) → BeginsAt y waiting (record { platform = standing; store = kept; last = Start first })
+  begins_start : (y : History) (slots : Slots) (waiting : Option Pending) (standing : Standing) (kept : StoreStanding) (first : List ℕ)
+      → waiting ≡ None → Began y slots waiting standing kept (Start first)
+      → BeginsAt y waiting (record { platform = standing; store = kept; last = Start first })
   begins_start y slots None standing kept first none m =
       let r = m.0 in
       let f = fits_none i r.after r.slots_after r.fits r.same_wait in
@@ -362,7 +418,8 @@ module _ (all others : List (List ℕ)) (asked : List Batch) (i : Instance) (fin
           like = laws.begins r.after r.within.sound nothing;
           batches = nothing;
           placed = λ (content : Content) (right : IsRight i first content).
-              ap (λ (c : Content). c.place) (one_content i first content r.holds.content right r.holds.right) ∙ laws.placed r.after r.holds.content r.within.sound r.holds.names r.holds.at;
+              ap (λ (c : Content). c.place) (one_content i first content r.holds.content right r.holds.right)
+              ∙ laws.placed r.after r.holds.content r.within.sound r.holds.names r.holds.at;
           shows = m.1.0;
         };
         run = run_start y slots None standing kept first none r;
@@ -370,8 +427,10 @@ module _ (all others : List (List ℕ)) (asked : List Batch) (i : Instance) (fin
       }
   begins_start y slots (Some p) standing kept first none m = absurd (cc)
 
-  begins_answered : (y : History) (slots : Slots) (waiting : Option Pending) (standing : Standing) (kept : StoreStanding) (answer : Answer) (p : Pending) → waiting ≡ Some p → FitsBy i slots y waiting → (m : Began y slots waiting standing kept (Answered answer))
-      → p.position ≡ total_of m.0.after.batches → whole answer ≡ answer_on i m.0.after (One p.request) (nat_eq p.position (total_of y.batches))
+  begins_answered : (y : History) (slots : Slots) (waiting : Option Pending) (standing : Standing) (kept : StoreStanding) (answer : Answer)
+      (p : Pending) → waiting ≡ Some p → FitsBy i slots y waiting → (m : Began y slots waiting standing kept (Answered answer))
+      → p.position ≡ total_of m.0.after.batches
+      → whole answer ≡ answer_on i m.0.after (One p.request) (nat_eq p.position (total_of y.batches))
       → BeginsAt y waiting (record { platform = standing; store = kept; last = Answered answer })
   begins_answered y slots None standing kept answer p e f m at is = absurd (cc)
   begins_answered y slots (Some q) standing kept answer p e f m at is =
@@ -401,21 +460,30 @@ module _ (all others : List (List ℕ)) (asked : List Batch) (i : Instance) (fin
           };
           like = laws.like r.after (history_then i y (Some q)) grown;
           batches = laws.batches r.after (history_then i y (Some q)) grown;
-          placed = placed_issued r.after (history_then i y (Some q)) answer.snapshot (most_of r.after answer.snapshot answer.position r.holds end) (ap (λ (b : BatchAnswer). b.snapshot) answers) grown;
+          placed =
+              placed_issued r.after (history_then i y (Some q)) answer.snapshot
+              (most_of r.after answer.snapshot answer.position r.holds end) (ap (λ (b : BatchAnswer). b.snapshot) answers) grown;
           shows = m.1.0;
         };
         run = run_answered y slots (Some q) standing kept answer p e f r at is;
         powered = r.powered;
       }
 
-  begins : (y : History) (slots : Slots) (before : Standing) (old : StoreStanding) (can : CanRecover all others asked i y slots before old) (standing : Standing) (kept : StoreStanding) (first : Resumed) → Began y slots can.fits.waiting standing kept first → BeginsAt y can.fits.waiting (record { platform = standing; store = kept; last = first })
+  begins : (y : History) (slots : Slots) (before : Standing) (old : StoreStanding) (can : CanRecover all others asked i y slots before old)
+      (standing : Standing) (kept : StoreStanding) (first : Resumed) → Began y slots can.fits.waiting standing kept first
+      → BeginsAt y can.fits.waiting (record { platform = standing; store = kept; last = first })
   begins y slots before old can standing kept (Start first) m =
       begins_start y slots can.fits.waiting standing kept first m.0.comes.0 m
   begins y slots before old can standing kept (Answered answer) m =
-      begins_answered y slots can.fits.waiting standing kept answer m.0.comes.p m.0.comes.waits can.fits.fits m m.0.comes.position m.0.comes.answer_is
+      begins_answered y slots can.fits.waiting standing kept answer m.0.comes.p m.0.comes.waits can.fits.fits m m.0.comes.position
+      m.0.comes.answer_is
 
   -- it rests where it stands
-  rests_at : (y z : History) (at : Place) (new : StoreStanding) (sent : List ℕ) (told : List Served) (hand : List ℕ → Type 0) (result : Result Unit SessionFault) → IsSettledAt all others asked i z at → RunsOver i.meaning (requests_of y.batches) told (requests_of z.batches) → (life_of i.variant y ≢ LostLife → life_of i.variant z ≢ LostLife) → IsAtRest at final new sent → RefusesAs result (life_of i.variant z) → ContinuesTo all others asked i y final new told hand result
+  rests_at : (y z : History) (at : Place) (new : StoreStanding) (sent : List ℕ) (told : List Served) (hand : List ℕ → Type 0)
+      (result : Result Unit SessionFault) → IsSettledAt all others asked i z at
+      → RunsOver i.meaning (requests_of y.batches) told (requests_of z.batches)
+      → (life_of i.variant y ≢ LostLife → life_of i.variant z ≢ LostLife) → IsAtRest at final new sent
+      → RefusesAs result (life_of i.variant z) → ContinuesTo all others asked i y final new told hand result
   rests_at y z at new sent told hand result s r p e u = record {
     after = z;
     stands = subst (λ (x : Standing). StandsFor i x z) (sym e.platform) s.stands;
@@ -433,14 +501,20 @@ module _ (all others : List (List ℕ)) (asked : List Batch) (i : Instance) (fin
     powered = p;
   }
 
-  stops_in : (y z zz : History) (number : ℕ) (at : Place) (new : StoreStanding) (more rest sent : List ℕ) (told : List Served) (hand : List ℕ → Type 0) (fault : SessionFault)
-      → IsClear all → AreNoGuards i.barrier others asked → IsReady all others asked i z zz at final → RunsOver i.meaning (requests_of y.batches) told (requests_of z.batches) → (life_of i.variant y ≢ LostLife → life_of i.variant z ≢ LostLife)
+  stops_in : (y z zz : History) (number : ℕ) (at : Place) (new : StoreStanding) (more rest sent : List ℕ) (told : List Served)
+      (hand : List ℕ → Type 0) (fault : SessionFault)
+      → IsClear all → AreNoGuards i.barrier others asked → IsReady all others asked i z zz at final
+      → RunsOver i.meaning (requests_of y.batches) told (requests_of z.batches)
+      → (life_of i.variant y ≢ LostLife → life_of i.variant z ≢ LostLife)
       → AreToFollow all asked i zz (lines_of (more ++ rest)) → ((line held : List ℕ) → BeginsWith more line held → hand line)
-      → StopsInLine i.variant i.meaning number at final new more sent fault → ContinuesTo all others asked i y final new told hand (Err fault)
+      → StopsInLine i.variant i.meaning number at final new more sent fault
+      → ContinuesTo all others asked i y final new told hand (Err fault)
   stops_in y z zz number at new more rest sent told hand fault clear apart s r p f in_hand e =
       let lines : lines_of (more ++ rest) ≡ e.line ∷ lines_of (e.held ++ rest) =
-      ap (λ (b : List ℕ). lines_of (b ++ rest)) e.begins.cut ∙ ap lines_of (append_assoc e.line (10 ∷ e.held) rest) ∙ lines_of-line e.line (e.held ++ rest) e.begins.within.unbroken in
-      let g : AreToFollow all asked i zz (e.line ∷ lines_of (e.held ++ rest)) = subst (λ (ls : List (List ℕ)). AreToFollow all asked i zz ls) lines f in
+      ap (λ (b : List ℕ). lines_of (b ++ rest)) e.begins.cut ∙ ap lines_of (append_assoc e.line (10 ∷ e.held) rest)
+      ∙ lines_of-line e.line (e.held ++ rest) e.begins.within.unbroken in
+      let g : AreToFollow all asked i zz (e.line ∷ lines_of (e.held ++ rest)) = subst
+      (λ (ls : List (List ℕ)). AreToFollow all asked i zz ls) lines f in
       let l = line_last all others asked i final laws z zz at new e.line e.came clear apart s
       (follows_on z zz e.line (lines_of (e.held ++ rest)) s.batches e.begins.within g) e.asks in
       record {
@@ -451,7 +525,8 @@ module _ (all others : List (List ℕ)) (asked : List Batch) (i : Instance) (fin
         honest = l.honest;
         slots_told = l.told;
         fits = l.fits;
-        whole = λ n. l.whole (λ (c : e.came ≡ Err host.Store). n (ap (λ (x : SessionFault). Err x) (store_came e.came sent fault e.says c)));
+        whole =
+            λ n. l.whole (λ (c : e.came ≡ Err host.Store). n (ap (λ (x : SessionFault). Err x) (store_came e.came sent fault e.says c)));
         requests = requests_of z.batches;
         run = r;
         committed = line_committed z l.after e.line e.came sent fault hand (in_hand e.line e.held e.begins) e.says l.only l.grown;
@@ -460,52 +535,78 @@ module _ (all others : List (List ℕ)) (asked : List Batch) (i : Instance) (fin
         powered = λ k. l.powered (p k);
       }
 
-  stops_by : (y z zz : History) (number : ℕ) (at : Place) (new : StoreStanding) (left : Option (List ℕ)) (more rest sent : List ℕ) (told : List Served) (hand : List ℕ → Type 0) (fault : SessionFault)
-      → IsClear all → AreNoGuards i.barrier others asked → IsReady all others asked i z zz at final → RunsOver i.meaning (requests_of y.batches) told (requests_of z.batches) → (life_of i.variant y ≢ LostLife → life_of i.variant z ≢ LostLife)
+  stops_by : (y z zz : History) (number : ℕ) (at : Place) (new : StoreStanding) (left : Option (List ℕ)) (more rest sent : List ℕ)
+      (told : List Served) (hand : List ℕ → Type 0) (fault : SessionFault)
+      → IsClear all → AreNoGuards i.barrier others asked → IsReady all others asked i z zz at final
+      → RunsOver i.meaning (requests_of y.batches) told (requests_of z.batches)
+      → (life_of i.variant y ≢ LostLife → life_of i.variant z ≢ LostLife)
       → AreToFollow all asked i zz (lines_of (more ++ rest)) → ((line held : List ℕ) → BeginsWith more line held → hand line)
-      → Stops i.variant i.meaning number at final new left more sent fault → ContinuesTo all others asked i y final new told hand (Err fault)
-  stops_by y z zz number at new left more rest sent told hand Memory clear apart s r p f h e = stops_in y z zz number at new more rest sent told hand Memory clear apart s r p f h e
-  stops_by y z zz number at new left more rest sent told hand Store clear apart s r p f h e = stops_in y z zz number at new more rest sent told hand Store clear apart s r p f h e
-  stops_by y z zz number at new left more rest sent told hand (Refused why) clear apart s r p f h e = stops_in y z zz number at new more rest sent told hand (Refused why) clear apart s r p f h e
-  stops_by y z zz number at new left more rest sent told hand WriteFault clear apart s r p f h e = stops_in y z zz number at new more rest sent told hand WriteFault clear apart s r p f h e
-  stops_by y z zz number at new left more rest sent told hand ReadFault clear apart s r p f h e = rests_at y z at new sent told hand (Err ReadFault) s.settled r p e.0 tt
-  stops_by y z zz number at new left more rest sent told hand (BadLine line) clear apart s r p f h e = rests_at y z at new sent told hand (Err (BadLine line)) s.settled r p e.0 tt
-  stops_by y z zz number at new left more rest sent told hand (LineLong line) clear apart s r p f h e = rests_at y z at new sent told hand (Err (LineLong line)) s.settled r p e.0 tt
-  stops_by y z zz number at new left more rest sent told hand TooMuch clear apart s r p f h e = rests_at y z at new sent told hand (Err TooMuch) s.settled r p e.0 tt
+      → Stops i.variant i.meaning number at final new left more sent fault
+      → ContinuesTo all others asked i y final new told hand (Err fault)
+  stops_by y z zz number at new left more rest sent told hand Memory clear apart s r p f h e =
+      stops_in y z zz number at new more rest sent told hand Memory clear apart s r p f h e
+  stops_by y z zz number at new left more rest sent told hand Store clear apart s r p f h e =
+      stops_in y z zz number at new more rest sent told hand Store clear apart s r p f h e
+  stops_by y z zz number at new left more rest sent told hand (Refused why) clear apart s r p f h e =
+      stops_in y z zz number at new more rest sent told hand (Refused why) clear apart s r p f h e
+  stops_by y z zz number at new left more rest sent told hand WriteFault clear apart s r p f h e =
+      stops_in y z zz number at new more rest sent told hand WriteFault clear apart s r p f h e
+  stops_by y z zz number at new left more rest sent told hand ReadFault clear apart s r p f h e =
+      rests_at y z at new sent told hand (Err ReadFault) s.settled r p e.0 tt
+  stops_by y z zz number at new left more rest sent told hand (BadLine line) clear apart s r p f h e =
+      rests_at y z at new sent told hand (Err (BadLine line)) s.settled r p e.0 tt
+  stops_by y z zz number at new left more rest sent told hand (LineLong line) clear apart s r p f h e =
+      rests_at y z at new sent told hand (Err (LineLong line)) s.settled r p e.0 tt
+  stops_by y z zz number at new left more rest sent told hand TooMuch clear apart s r p f h e =
+      rests_at y z at new sent told hand (Err TooMuch) s.settled r p e.0 tt
 
-  ends_by : (y z zz : History) (number : ℕ) (at : Place) (new : StoreStanding) (left : Option (List ℕ)) (more rest sent : List ℕ) (told : List Served) (hand : List ℕ → Type 0) (result : Result Unit SessionFault)
-      → IsClear all → AreNoGuards i.barrier others asked → IsReady all others asked i z zz at final → RunsOver i.meaning (requests_of y.batches) told (requests_of z.batches) → (life_of i.variant y ≢ LostLife → life_of i.variant z ≢ LostLife)
+  ends_by : (y z zz : History) (number : ℕ) (at : Place) (new : StoreStanding) (left : Option (List ℕ)) (more rest sent : List ℕ)
+      (told : List Served) (hand : List ℕ → Type 0) (result : Result Unit SessionFault)
+      → IsClear all → AreNoGuards i.barrier others asked → IsReady all others asked i z zz at final
+      → RunsOver i.meaning (requests_of y.batches) told (requests_of z.batches)
+      → (life_of i.variant y ≢ LostLife → life_of i.variant z ≢ LostLife)
       → AreToFollow all asked i zz (lines_of (more ++ rest)) → ((line held : List ℕ) → BeginsWith more line held → hand line)
-      → EndsSession i.variant i.meaning number at final new left more sent result → ContinuesTo all others asked i y final new told hand result
-  ends_by y z zz number at new left more rest sent told hand (Ok it) clear apart s r p f h e = rests_at y z at new sent told hand (Ok it) s.settled r p e.0 tt
-  ends_by y z zz number at new left more rest sent told hand (Err fault) clear apart s r p f h e = stops_by y z zz number at new left more rest sent told hand fault clear apart s r p f h e
+      → EndsSession i.variant i.meaning number at final new left more sent result
+      → ContinuesTo all others asked i y final new told hand result
+  ends_by y z zz number at new left more rest sent told hand (Ok it) clear apart s r p f h e =
+      rests_at y z at new sent told hand (Ok it) s.settled r p e.0 tt
+  ends_by y z zz number at new left more rest sent told hand (Err fault) clear apart s r p f h e =
+      stops_by y z zz number at new left more rest sent told hand fault clear apart s r p f h e
 
   -- from where it began
 
-  serves_on : (y : History) (slots : Slots) (before : Standing) (old new : StoreStanding) (input taken sent : List ℕ) (left : Option (List ℕ)) (begun : Result Resumed HostFault) (platform : Standing) (store : StoreStanding) (result : Result Unit SessionFault)
+  serves_on : (y : History) (slots : Slots) (before : Standing) (old new : StoreStanding) (input taken sent : List ℕ)
+      (left : Option (List ℕ)) (begun : Result Resumed HostFault) (platform : Standing) (store : StoreStanding)
+      (result : Result Unit SessionFault)
       → IsRead input taken → (can : CanServe all others asked i y slots before old (lines_of input))
       → (g : GoesOn i.variant i.meaning begun platform final store new left taken sent result)
       → Began y slots can.can.fits.waiting platform store g.first
-      → ContinuesTo all others asked i y final new (told_first can.can.fits.waiting g.first ++ g.lines.calls) (λ (request : List ℕ). (held : List ℕ) × BeginsWith g.lines.more request held) result
+      → ContinuesTo all others asked i y final new (told_first can.can.fits.waiting g.first ++ g.lines.calls)
+      (λ (request : List ℕ). (held : List ℕ) × BeginsWith g.lines.more request held) result
   serves_on y slots before old new input taken sent left begun platform store result input_is can g m =
       let l = g.lines in
       let from : Place = record { platform = platform; store = store; last = g.first } in
       let start : History = history_then i y can.can.fits.waiting in
       let b = begins y slots before old can.can platform store g.first m in
       let bytes : input ≡ lines_joined (lines_served l.calls) ++ (l.more ++ input_is.rest) =
-      input_is.is ∙ ap (λ (x : List ℕ). x ++ input_is.rest) l.took ∙ append_assoc (lines_joined (lines_served l.calls)) l.more input_is.rest in
+      input_is.is ∙ ap (λ (x : List ℕ). x ++ input_is.rest) l.took ∙ append_assoc (lines_joined (lines_served l.calls)) l.more input_is.rest
+      in
       let lines : lines_of input ≡ lines_served l.calls ++ lines_of (l.more ++ input_is.rest) =
-      ap lines_of bytes ∙ lines_of-joined (lines_served l.calls) (l.more ++ input_is.rest) (unbroken_served i.variant i.meaning from l.at l.calls l.serves) in
+      ap lines_of bytes ∙ lines_of-joined (lines_served l.calls) (l.more ++ input_is.rest)
+      (unbroken_served i.variant i.meaning from l.at l.calls l.serves) in
       let f : AreToFollow all asked i start (lines_served l.calls ++ lines_of (l.more ++ input_is.rest)) =
       subst (λ (ls : List (List ℕ)). AreToFollow all asked i start ls) lines can.follow in
       let a = lines_come b.after start from l.at l.calls (lines_of (l.more ++ input_is.rest)) can.can.clear can.can.apart b.ready f l.serves
       (ends_reach (length l.calls + 1) l.at new left l.more l.last result l.ends) in
       ends_by y a.after a.then_is (length l.calls + 1) l.at new left l.more input_is.rest l.last
-      (told_first can.can.fits.waiting g.first ++ l.calls) (λ (request : List ℕ). (held : List ℕ) × BeginsWith l.more request held) result can.can.clear can.can.apart a.ready
-      (RunsOver-append i.meaning (requests_of y.batches) (requests_of b.after.batches) (requests_of a.after.batches) (told_first can.can.fits.waiting g.first) l.calls b.run a.run)
+      (told_first can.can.fits.waiting g.first ++ l.calls) (λ (request : List ℕ). (held : List ℕ) × BeginsWith l.more request held) result
+      can.can.clear can.can.apart a.ready
+      (RunsOver-append i.meaning (requests_of y.batches) (requests_of b.after.batches) (requests_of a.after.batches)
+      (told_first can.can.fits.waiting g.first) l.calls b.run a.run)
       (λ p. a.powered (b.powered p)) a.follow (λ (line held : List ℕ) (w : BeginsWith l.more line held). (held, w)) l.ends
 
-  stops_first : (y : History) (slots : Slots) (waiting : Option Pending) (kept : StoreStanding) (begun : Result Resumed HostFault) (sent : List ℕ) (fault : SessionFault) (hand : List ℕ → Type 0) → ((p : Pending) → waiting ≡ Some p → hand p.request)
+  stops_first : (y : History) (slots : Slots) (waiting : Option Pending) (kept : StoreStanding) (begun : Result Resumed HostFault)
+      (sent : List ℕ) (fault : SessionFault) (hand : List ℕ → Type 0) → ((p : Pending) → waiting ≡ Some p → hand p.request)
       → RecoversTo all others asked i y slots waiting final kept begun → SendsReply begun sent (Err fault)
       → ContinuesTo all others asked i y final kept [] hand (Err fault)
   stops_first y slots waiting kept begun sent fault hand h r s = record {
@@ -525,7 +626,9 @@ module _ (all others : List (List ℕ)) (asked : List Batch) (i : Instance) (fin
     powered = r.powered;
   }
 
-  stops_at_once : (y : History) (slots : Slots) (waiting : Option Pending) (store new : StoreStanding) (begun : Result Resumed HostFault) (taken sent : List ℕ) (result : Result Unit SessionFault) (hand : List ℕ → Type 0) → ((p : Pending) → waiting ≡ Some p → hand p.request)
+  stops_at_once : (y : History) (slots : Slots) (waiting : Option Pending) (store new : StoreStanding) (begun : Result Resumed HostFault)
+      (taken sent : List ℕ) (result : Result Unit SessionFault) (hand : List ℕ → Type 0)
+      → ((p : Pending) → waiting ≡ Some p → hand p.request)
       → RecoversTo all others asked i y slots waiting final store begun → new ≡ store → StopsAtOnce begun taken sent result
       → ContinuesTo all others asked i y final new [] hand result
   stops_at_once y slots waiting store new begun taken sent result hand h r s e =
@@ -535,7 +638,9 @@ module _ (all others : List (List ℕ)) (asked : List Batch) (i : Instance) (fin
 
   -- the recovery: it is all, or lines come behind it
 
-  recovers_last : (y : History) (slots : Slots) (before : Standing) (old new : StoreStanding) (result : Result Resumed HostFault) (can : CanRecover all others asked i y slots before old) → Shows i.variant all others i y before final → Resumes i.variant i.meaning before final old new result → RecoversTo all others asked i y slots can.fits.waiting final new result
+  recovers_last : (y : History) (slots : Slots) (before : Standing) (old new : StoreStanding) (result : Result Resumed HostFault)
+      (can : CanRecover all others asked i y slots before old) → Shows i.variant all others i y before final
+      → Resumes i.variant i.meaning before final old new result → RecoversTo all others asked i y slots can.fits.waiting final new result
   recovers_last y slots before old new result can shows r =
       let leads : LeadsOn NoMore all others asked i.variant i y slots can.fits.waiting before final result = λ p call e told c.
       left_by all others asked i y slots before old can NoMore final p (whole_in call) e
@@ -543,14 +648,21 @@ module _ (all others : List (List ℕ)) (asked : List Batch) (i : Instance) (fin
       (asked_at all others asked i y slots before old can p e) (offered_at all others asked i y slots before old can p e) shows) tt in
       (recovers_by NoMore i.variant all others asked i laws.lawful y slots before final old can new result (λ e. tt) leads r).0
 
-  recovers_between : (y : History) (slots : Slots) (before platform : Standing) (old new : StoreStanding) (first : Resumed) (can : CanRecover all others asked i y slots before old) → Shows i.variant all others i y before final → Reaches i.variant i platform final → Resumes i.variant i.meaning before platform old new (Ok first) → Began y slots can.fits.waiting platform new first
+  recovers_between : (y : History) (slots : Slots) (before platform : Standing) (old new : StoreStanding) (first : Resumed)
+      (can : CanRecover all others asked i y slots before old) → Shows i.variant all others i y before final
+      → Reaches i.variant i platform final → Resumes i.variant i.meaning before platform old new (Ok first)
+      → Began y slots can.fits.waiting platform new first
   recovers_between y slots before platform old new first can shows reaches r =
-      let leads : LeadsOn (IsBetween all others i y can.fits.waiting platform final) all others asked i.variant i y slots can.fits.waiting before platform (Ok first) = λ p call e told c.
+      let leads : LeadsOn (IsBetween all others i y can.fits.waiting platform final) all others asked i.variant i y slots can.fits.waiting
+      before platform (Ok first) = λ p call e told c.
       let o = laws.between y before platform (slot_read slots (offer_slot p)) p (whole_in call) c.goes can.stands
-      (asked_at all others asked i y slots before old can p e) (offered_at all others asked i y slots before old can p e) shows reaches (no_refusal call first told) in
-      left_by all others asked i y slots before old can (IsBetween all others i y can.fits.waiting platform final) platform p (whole_in call) e o.0
+      (asked_at all others asked i y slots before old can p e) (offered_at all others asked i y slots before old can p e) shows reaches
+      (no_refusal call first told) in
+      left_by all others asked i y slots before old can (IsBetween all others i y can.fits.waiting platform final) platform p
+      (whole_in call) e o.0
       (subst (λ (w : Option Pending). IsBetween all others i y w platform final o.0.after) (sym e) o.1) in
-      recovers_by (IsBetween all others i y can.fits.waiting platform final) i.variant all others asked i laws.lawful y slots before platform old can new (Ok first)
+      recovers_by (IsBetween all others i y can.fits.waiting platform final) i.variant all others asked i laws.lawful y slots before
+      platform old can new (Ok first)
       (λ e. (subst (λ (x : Standing). Shows i.variant all others i y x final) (sym e) shows, inl (same_self i.variant y))) leads r
 
   -- where there is no line, it rests where the recovery left it
@@ -558,14 +670,16 @@ module _ (all others : List (List ℕ)) (asked : List Batch) (i : Instance) (fin
   no_line : (more rest line held : List ℕ) → BeginsWith more line held → lines_of (more ++ rest) ≡ [] → ⊥
   no_line more rest line held b e =
       let lines : lines_of (more ++ rest) ≡ line ∷ lines_of (held ++ rest) =
-      ap (λ (x : List ℕ). lines_of (x ++ rest)) b.cut ∙ ap lines_of (append_assoc line (10 ∷ held) rest) ∙ lines_of-line line (held ++ rest) b.within.unbroken in
+      ap (λ (x : List ℕ). lines_of (x ++ rest)) b.cut ∙ ap lines_of (append_assoc line (10 ∷ held) rest)
+      ∙ lines_of-line line (held ++ rest) b.within.unbroken in
       let clash : line ∷ lines_of (held ++ rest) ≡ [] = sym lines ∙ e in absurd (cc)
 
   record Rested (at : Place) (new : StoreStanding) (sent : List ℕ) (result : Result Unit SessionFault) : Type 0 where
     rest : IsAtRest at final new sent
     refuses : (how : Life) → RefusesAs result how
 
-  rests_stopped : (number : ℕ) (at : Place) (new : StoreStanding) (left : Option (List ℕ)) (more rest sent : List ℕ) (fault : SessionFault) → lines_of (more ++ rest) ≡ []
+  rests_stopped : (number : ℕ) (at : Place) (new : StoreStanding) (left : Option (List ℕ)) (more rest sent : List ℕ) (fault : SessionFault)
+      → lines_of (more ++ rest) ≡ []
       → Stops i.variant i.meaning number at final new left more sent fault → Rested at new sent (Err fault)
   rests_stopped number at new left more rest sent Memory none e = absurd (no_line more rest e.line e.held e.begins none)
   rests_stopped number at new left more rest sent Store none e = absurd (no_line more rest e.line e.held e.begins none)
@@ -576,7 +690,8 @@ module _ (all others : List (List ℕ)) (asked : List Batch) (i : Instance) (fin
   rests_stopped number at new left more rest sent (LineLong line) none e = record { rest = e.0; refuses = λ how. tt }
   rests_stopped number at new left more rest sent TooMuch none e = record { rest = e.0; refuses = λ how. tt }
 
-  rests_ended : (number : ℕ) (at : Place) (new : StoreStanding) (left : Option (List ℕ)) (more rest sent : List ℕ) (result : Result Unit SessionFault) → lines_of (more ++ rest) ≡ []
+  rests_ended : (number : ℕ) (at : Place) (new : StoreStanding) (left : Option (List ℕ)) (more rest sent : List ℕ)
+      (result : Result Unit SessionFault) → lines_of (more ++ rest) ≡ []
       → EndsSession i.variant i.meaning number at final new left more sent result → Rested at new sent result
   rests_ended number at new left more rest sent (Ok it) none e = record { rest = e.0; refuses = λ how. tt }
   rests_ended number at new left more rest sent (Err fault) none e = rests_stopped number at new left more rest sent fault none e
@@ -589,19 +704,24 @@ module _ (all others : List (List ℕ)) (asked : List Batch) (i : Instance) (fin
   place_kept [] from at e s = s
   place_kept (c ∷ calls) from at e s = absurd (cc)
 
-  rests_on : (y : History) (slots : Slots) (before : Standing) (old new : StoreStanding) (input taken sent : List ℕ) (left : Option (List ℕ)) (begun : Result Resumed HostFault) (platform : Standing) (store : StoreStanding) (result : Result Unit SessionFault)
+  rests_on : (y : History) (slots : Slots) (before : Standing) (old new : StoreStanding) (input taken sent : List ℕ)
+      (left : Option (List ℕ)) (begun : Result Resumed HostFault) (platform : Standing) (store : StoreStanding)
+      (result : Result Unit SessionFault)
       → IsRead input taken → (can : CanServe all others asked i y slots before old (lines_of input)) → lines_of input ≡ []
       → (platform ≡ final → RecoversTo all others asked i y slots can.can.fits.waiting final store begun)
       → (g : GoesOn i.variant i.meaning begun platform final store new left taken sent result)
-      → ContinuesTo all others asked i y final new (told_first can.can.fits.waiting g.first ++ g.lines.calls) (λ (request : List ℕ). (held : List ℕ) × BeginsWith g.lines.more request held) result
+      → ContinuesTo all others asked i y final new (told_first can.can.fits.waiting g.first ++ g.lines.calls)
+      (λ (request : List ℕ). (held : List ℕ) × BeginsWith g.lines.more request held) result
   rests_on y slots before old new input taken sent left begun platform store result input_is can none recovers_so g =
       let l = g.lines in
       let waiting : Option Pending = can.can.fits.waiting in
       let from : Place = record { platform = platform; store = store; last = g.first } in
       let bytes : input ≡ lines_joined (lines_served l.calls) ++ (l.more ++ input_is.rest) =
-      input_is.is ∙ ap (λ (x : List ℕ). x ++ input_is.rest) l.took ∙ append_assoc (lines_joined (lines_served l.calls)) l.more input_is.rest in
+      input_is.is ∙ ap (λ (x : List ℕ). x ++ input_is.rest) l.took ∙ append_assoc (lines_joined (lines_served l.calls)) l.more input_is.rest
+      in
       let lines : lines_of input ≡ lines_served l.calls ++ lines_of (l.more ++ input_is.rest) =
-      ap lines_of bytes ∙ lines_of-joined (lines_served l.calls) (l.more ++ input_is.rest) (unbroken_served i.variant i.meaning from l.at l.calls l.serves) in
+      ap lines_of bytes ∙ lines_of-joined (lines_served l.calls) (l.more ++ input_is.rest)
+      (unbroken_served i.variant i.meaning from l.at l.calls l.serves) in
       let nothing = none_served l.calls (lines_of (l.more ++ input_is.rest)) (sym lines ∙ none) in
       let x = rests_ended (length l.calls + 1) l.at new left l.more input_is.rest l.last result nothing.1 l.ends in
       let at : l.at ≡ from = place_kept l.calls from l.at nothing.0 l.serves in
@@ -629,7 +749,8 @@ module _ (all others : List (List ℕ)) (asked : List Batch) (i : Instance) (fin
         powered = came.powered;
       }
 
-  by_rest : (y : History) (slots : Slots) (before : Standing) (old new : StoreStanding) (input taken sent : List ℕ) (left : Option (List ℕ)) (begun : Result Resumed HostFault) (platform : Standing) (store : StoreStanding) (result : Result Unit SessionFault)
+  by_rest : (y : History) (slots : Slots) (before : Standing) (old new : StoreStanding) (input taken sent : List ℕ) (left : Option (List ℕ))
+      (begun : Result Resumed HostFault) (platform : Standing) (store : StoreStanding) (result : Result Unit SessionFault)
       → IsRead input taken → (can : CanServe all others asked i y slots before old (lines_of input)) → lines_of input ≡ []
       → (platform ≡ final → RecoversTo all others asked i y slots can.can.fits.waiting final store begun)
       → (goes : AfterResume i.variant i.meaning begun platform final store new left taken sent result)
@@ -642,8 +763,11 @@ module _ (all others : List (List ℕ)) (asked : List Batch) (i : Instance) (fin
   by_rest y slots before old new input taken sent left begun platform store result input_is can none recovers_so (inr g) =
       rests_on y slots before old new input taken sent left begun platform store result input_is can none recovers_so g
 
-  by_start : (y : History) (slots : Slots) (before : Standing) (old new : StoreStanding) (input taken sent : List ℕ) (left : Option (List ℕ)) (begun : Result Resumed HostFault) (platform : Standing) (store : StoreStanding) (result : Result Unit SessionFault)
-      → IsRead input taken → (can : CanServe all others asked i y slots before old (lines_of input)) → Shows i.variant all others i y before final
+  by_start : (y : History) (slots : Slots) (before : Standing) (old new : StoreStanding) (input taken sent : List ℕ)
+      (left : Option (List ℕ)) (begun : Result Resumed HostFault) (platform : Standing) (store : StoreStanding)
+      (result : Result Unit SessionFault)
+      → IsRead input taken → (can : CanServe all others asked i y slots before old (lines_of input))
+      → Shows i.variant all others i y before final
       → Resumes i.variant i.meaning before platform old store begun
       → (goes : AfterResume i.variant i.meaning begun platform final store new left taken sent result)
       → ContinuesTo all others asked i y final new (told_in can.can.fits.waiting goes) (IsInHand can.can.fits.waiting goes) result
@@ -651,38 +775,48 @@ module _ (all others : List (List ℕ)) (asked : List Batch) (i : Instance) (fin
       stops_at_once y slots can.can.fits.waiting store new begun taken sent result
       (λ (request : List ℕ). (p : Pending) × (can.can.fits.waiting ≡ Some p) × (p.request ≡ request))
       (λ (p : Pending) (w : can.can.fits.waiting ≡ Some p). (p, w, refl))
-      (recovers_last y slots before old store begun can.can shows (subst (λ (x : Standing). Resumes i.variant i.meaning before x old store begun) (sym e.0) r)) e.1 e.2
+      (recovers_last y slots before old store begun can.can shows
+      (subst (λ (x : Standing). Resumes i.variant i.meaning before x old store begun) (sym e.0) r)) e.1 e.2
   by_start y slots before old new input taken sent left begun platform store result input_is can shows r (inr g) =
       let from : Place = record { platform = platform; store = store; last = g.first } in
       let reaches : Reaches i.variant i platform final =
-      serves_reach from g.lines.at g.lines.calls g.lines.serves (ends_reach (length g.lines.calls + 1) g.lines.at new left g.lines.more g.lines.last result g.lines.ends) in
+      serves_reach from g.lines.at g.lines.calls g.lines.serves
+      (ends_reach (length g.lines.calls + 1) g.lines.at new left g.lines.more g.lines.last result g.lines.ends) in
       serves_on y slots before old new input taken sent left begun platform store result input_is can g
-      (recovers_between y slots before platform old store g.first can.can shows reaches (subst (λ (x : Result Resumed HostFault). Resumes i.variant i.meaning before platform old store x) g.begins r))
+      (recovers_between y slots before platform old store g.first can.can shows reaches
+      (subst (λ (x : Result Resumed HostFault). Resumes i.variant i.meaning before platform old store x) g.begins r))
 
 -- the session has lines, or its recovery minds the register; or neither
 unless_resting : {A : Type 0} (i : Instance) (y : History) (slots : Slots) (waiting : Option Pending) (lines : List (List ℕ))
     → ((AsksIdly i y slots waiting × (lines ≡ []) → ⊥) → A) → A ⊎ (AsksIdly i y slots waiting × (lines ≡ []))
 unless_resting i y slots waiting (line ∷ lines) unless = inl (unless (λ k. let clash : line ∷ lines ≡ [] = k.1 in absurd (cc)))
 unless_resting i y slots None [] unless = inr (tt, refl)
-unless_resting i y slots (Some p) [] unless = elim (unless_idle i y (slot_read slots (offer_slot p)) (One p.request) (λ busy. unless (λ k. busy k.0))) [
-  | inl it ↦ inl it
-  | inr idle ↦ inr (idle, refl)
-]
+unless_resting i y slots (Some p) [] unless =
+    elim (unless_idle i y (slot_read slots (offer_slot p)) (One p.request) (λ busy. unless (λ k. busy k.0))) [
+      | inl it ↦ inl it
+      | inr idle ↦ inr (idle, refl)
+    ]
 
-pub continues : (variant : Variant) (meaning : Meaning) → IsLawful meaning → (before after : Standing) (old new : StoreStanding) (left left' received received' : Option (List ℕ)) (result : Result Unit SessionFault) → SessionContinues variant meaning before after old new left left' received received' result
+pub continues : (variant : Variant) (meaning : Meaning) → IsLawful meaning
+    → (before after : Standing) (old new : StoreStanding) (left left' received received' : Option (List ℕ))
+    (result : Result Unit SessionFault) → SessionContinues variant meaning before after old new left left' received received' result
 continues Basic meaning lawful before after old new left left' received received' result = λ s key y slots all others asked input e can.
-    by_start all others asked (basic meaning key) after (basic_laws meaning lawful key all others asked after) y slots before old new input s.taken s.sent left' s.begun s.platform s.store result
+    by_start all others asked (basic meaning key) after (basic_laws meaning lawful key all others asked after) y slots before old new input
+    s.taken s.sent left' s.begun s.platform s.store result
     (read_of left left' input s.taken e s.consumed) can tt s.resumes s.goes
-continues Opt meaning lawful before after old new left left' received received' result = λ s key barrier y slots all others asked input items more e can known ends shown_so.
+continues Opt meaning lawful before after old new left left' received received' result =
+    λ s key barrier y slots all others asked input items more e can known ends shown_so.
     let i : Instance = opt meaning key barrier in
     let laws = opt_laws meaning lawful key barrier all others asked after in
     let read = read_of left left' input s.taken e s.consumed in
     elim (unless_resting i y slots can.can.fits.waiting (lines_of input) shown_so) [
       | inl shown_are ↦
-          by_start all others asked i after laws y slots before old new input s.taken s.sent left' s.begun s.platform s.store result read can
+          by_start all others asked i after laws y slots before old new input s.taken s.sent left' s.begun s.platform s.store result read
+          can
           (record { items = items; known = known; more = more; ends = ends; shown_are = shown_are }) s.resumes s.goes
       | inr rests ↦
-          by_rest all others asked i after laws y slots before old new input s.taken s.sent left' s.begun s.platform s.store result read can rests.1
+          by_rest all others asked i after laws y slots before old new input s.taken s.sent left' s.begun s.platform s.store result read can
+          rests.1
           (λ same. recovers Opt meaning lawful before after old s.store s.begun
           (subst (λ (x : Standing). Resumes Opt meaning before x old s.store s.begun) same s.resumes)
           key barrier y slots all others asked items more can.can known ends (λ busy. absurd (busy rests.0))) s.goes

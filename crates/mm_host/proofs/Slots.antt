@@ -19,7 +19,8 @@ turns : (n : ℕ) → 1 ≤ n → ((n % 2 ≡ 0) × ((n - 1) % 2 ≡ 1)) ⊎ ((n
 turns n h = grind (arith, h)
 
 by_turn : (slots : Slots) (p : Pending) (bytes : List ℕ) (here there : ℕ) → p.position % 2 ≡ here → offer_slot p ≡ there
-    → slot_read (with_slot slots here bytes) 2 ≡ slot_read slots 2 → slot_read (with_slot slots here bytes) 3 ≡ slot_read slots 3 → slot_read (with_slot slots here bytes) there ≡ slot_read slots there
+    → slot_read (with_slot slots here bytes) 2 ≡ slot_read slots 2 → slot_read (with_slot slots here bytes) 3 ≡ slot_read slots 3
+    → slot_read (with_slot slots here bytes) there ≡ slot_read slots there
     → IsElsewhere slots (with_slot slots (p.position % 2) bytes) p
 by_turn slots p bytes here there h t two three offer = record {
   two = subst (λ (n : ℕ). slot_read (with_slot slots n bytes) 2 ≡ slot_read slots 2) (sym h) two;
@@ -28,9 +29,11 @@ by_turn slots p bytes here there h t two three offer = record {
       (subst (λ (m : ℕ). slot_read (with_slot slots here bytes) m ≡ slot_read slots m) (sym t) offer);
 }
 
-by_cases : (slots : Slots) (p : Pending) (bytes : List ℕ) → ((p.position % 2 ≡ 0) × ((p.position - 1) % 2 ≡ 1)) ⊎ ((p.position % 2 ≡ 1) × ((p.position - 1) % 2 ≡ 0)) → IsElsewhere slots (with_slot slots (p.position % 2) bytes) p
+by_cases : (slots : Slots) (p : Pending) (bytes : List ℕ) → ((p.position % 2 ≡ 0) × ((p.position - 1) % 2 ≡ 1))
+    ⊎ ((p.position % 2 ≡ 1) × ((p.position - 1) % 2 ≡ 0)) → IsElsewhere slots (with_slot slots (p.position % 2) bytes) p
 by_cases slots p bytes (inl t) = by_turn slots p bytes 0 1 t.0 t.1 refl refl refl
 by_cases slots p bytes (inr t) = by_turn slots p bytes 1 0 t.0 t.1 refl refl refl
 
-pub elsewhere_put : (slots : Slots) (p : Pending) (bytes : List ℕ) → 1 ≤ p.position → IsElsewhere slots (with_slot slots (p.position % 2) bytes) p
+pub elsewhere_put : (slots : Slots) (p : Pending) (bytes : List ℕ) → 1 ≤ p.position
+    → IsElsewhere slots (with_slot slots (p.position % 2) bytes) p
 elsewhere_put slots p bytes h = by_cases slots p bytes (turns p.position h)

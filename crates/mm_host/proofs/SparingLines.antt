@@ -35,9 +35,14 @@ read_of (Some xs) (Some ys) input taken e c =
     let same : xs ≡ input = cc in
     record { rest = ys; is = sym same ∙ c; at_end = λ h. h }
 
-pub unbroken_served : (variant : Variant) (meaning : Meaning) (from to : Place) (calls : List Served) → Serves variant meaning from calls to → AllByRecursion IsUnbroken (lines_served calls)
+pub unbroken_served : (variant : Variant) (meaning : Meaning) (from to : Place) (calls : List Served) → Serves variant meaning from calls to
+    → AllByRecursion IsUnbroken (lines_served calls)
 unbroken_served variant meaning from to [] s = tt
-unbroken_served variant meaning from to (c ∷ calls) s = (s.within.unbroken, unbroken_served variant meaning (record { platform = s.platform; store = s.store; last = Answered c.answer }) to calls s.rest)
+unbroken_served variant meaning from to (c ∷ calls) s = (
+  s.within.unbroken,
+  unbroken_served variant meaning (record { platform = s.platform; store = s.store; last = Answered c.answer }) to
+      calls s.rest,
+)
 
 pub length-lines_served : (calls : List Served) → length (lines_served calls) ≡ length calls
 length-lines_served [] = refl
@@ -56,23 +61,29 @@ record IsRest (count : ℕ) (bytes : List ℕ) : Type 0 where
   short : AreShort (lines_of bytes)
   few : count + length (lines_of bytes) ≤ most_lines
 
-rest_of : (variant : Variant) (meaning : Meaning) (from to : Place) (calls : List Served) (input taken more rest : List ℕ) → Serves variant meaning from calls to → input ≡ taken ++ rest → taken ≡ lines_joined (lines_served calls) ++ more → AreWithin input → IsRest (length calls) (more ++ rest)
+rest_of : (variant : Variant) (meaning : Meaning) (from to : Place) (calls : List Served) (input taken more rest : List ℕ)
+    → Serves variant meaning from calls to → input ≡ taken ++ rest → taken ≡ lines_joined (lines_served calls) ++ more → AreWithin input
+    → IsRest (length calls) (more ++ rest)
 rest_of variant meaning from to calls input taken more rest s is took w =
     let bytes : input ≡ lines_joined (lines_served calls) ++ (more ++ rest) =
     is ∙ ap (λ (x : List ℕ). x ++ rest) took ∙ append_assoc (lines_joined (lines_served calls)) more rest in
     let unbroken = unbroken_served variant meaning from to calls s in
-    let lines : lines_of input ≡ lines_served calls ++ lines_of (more ++ rest) = ap lines_of bytes ∙ lines_of-joined (lines_served calls) (more ++ rest) unbroken in
+    let lines : lines_of input ≡ lines_served calls ++ lines_of (more ++ rest) = ap lines_of bytes
+    ∙ lines_of-joined (lines_served calls) (more ++ rest) unbroken in
     record {
       whole = sym (ap tail_of bytes ∙ tail_of-joined (lines_served calls) (more ++ rest) unbroken) ∙ w.whole;
       short = short_later (lines_served calls) (lines_of (more ++ rest)) (subst (λ (ls : List (List ℕ)). AreShort ls) lines w.short);
-      few = counted (lines_served calls) (lines_of (more ++ rest)) (length calls) (length (lines_of input)) (ap (λ (ls : List (List ℕ)). length ls) lines) (length-lines_served calls) w.few;
+      few =
+          counted (lines_served calls) (lines_of (more ++ rest)) (length calls) (length (lines_of input))
+          (ap (λ (ls : List (List ℕ)). length ls) lines) (length-lines_served calls) w.few;
     }
   where
     counted : (a b : List (List ℕ)) (n m : ℕ) → m ≡ length (a ++ b) → length a ≡ n → m ≤ most_lines → n + length b ≤ most_lines
     counted a b n m e f h = omega (arith, e, f, h, length-append a b)
 
 -- no line is too long
-long_front : (lines : List (List ℕ)) (front tail : List ℕ) → longest_request < length front → onto_tail front lines tail ≡ [] → AreShort (onto_first front lines) → ⊥
+long_front : (lines : List (List ℕ)) (front tail : List ℕ) → longest_request < length front → onto_tail front lines tail ≡ []
+    → AreShort (onto_first front lines) → ⊥
 long_front [] front tail h e s = absurd (omega (arith, h, ap (λ (x : List ℕ). length x) e, length-append front tail))
 long_front (line ∷ lines) front tail h e s = absurd (omega (arith, h, s.0, length-append front line))
 
@@ -81,7 +92,8 @@ not_long count more rest r l =
     let front : List ℕ = take (longest_request + 1) more in
     let back : List ℕ = drop (longest_request + 1) more ++ rest in
     let cut : more ++ rest ≡ front ++ back =
-    ap (λ (x : List ℕ). x ++ rest) (sym (take-append-drop (longest_request + 1) more)) ∙ append_assoc front (drop (longest_request + 1) more) rest in
+    ap (λ (x : List ℕ). x ++ rest) (sym (take-append-drop (longest_request + 1) more))
+    ∙ append_assoc front (drop (longest_request + 1) more) rest in
     long_front (lines_of back) front (tail_of back) (long more l.long)
     (sym (ap tail_of cut ∙ tail_of-append front back l.unbroken) ∙ r.whole)
     (subst (λ (ls : List (List ℕ)). AreShort ls) (ap lines_of cut ∙ lines_of-append front back l.unbroken) r.short)
@@ -97,16 +109,20 @@ not_cut count more rest r e w h =
     absurd (omega (arith, h, ap (λ (x : List ℕ). length x) none))
 
 -- and none is one too many
-not_many : (count : ℕ) (more rest line held : List ℕ) → IsRest count (more ++ rest) → count + 1 ≡ most_lines + 1 → BeginsWith more line held → ⊥
+not_many : (count : ℕ) (more rest line held : List ℕ) → IsRest count (more ++ rest) → count + 1 ≡ most_lines + 1 → BeginsWith more line held
+    → ⊥
 not_many count more rest line held r e b =
     let lines : lines_of (more ++ rest) ≡ line ∷ lines_of (held ++ rest) =
-    ap (λ (x : List ℕ). lines_of (x ++ rest)) b.cut ∙ ap lines_of (append_assoc line (10 ∷ held) rest) ∙ lines_of-line line (held ++ rest) b.within.unbroken in
+    ap (λ (x : List ℕ). lines_of (x ++ rest)) b.cut ∙ ap lines_of (append_assoc line (10 ∷ held) rest)
+    ∙ lines_of-line line (held ++ rest) b.within.unbroken in
     absurd (counted count (lines_of (more ++ rest)) (lines_of (held ++ rest)) (ap (λ (ls : List (List ℕ)). length ls) lines) e r.few)
   where
     counted : (n : ℕ) (a b : List (List ℕ)) → length a ≡ suc (length b) → n + 1 ≡ most_lines + 1 → n + length a ≤ most_lines → ⊥
     counted n a b h e k = absurd (omega (arith, h, e, k))
 
-spares_stop : (variant : Variant) (meaning : Meaning) (count : ℕ) (at : Place) (after : Standing) (new : StoreStanding) (left : Option (List ℕ)) (more rest sent : List ℕ) (fault : SessionFault) → IsRest count (more ++ rest) → (IsAtEnd left → rest ≡ []) → Stops variant meaning (count + 1) at after new left more sent fault → IsNoLines {T = Unit} (Err fault)
+spares_stop : (variant : Variant) (meaning : Meaning) (count : ℕ) (at : Place) (after : Standing) (new : StoreStanding)
+    (left : Option (List ℕ)) (more rest sent : List ℕ) (fault : SessionFault) → IsRest count (more ++ rest) → (IsAtEnd left → rest ≡ [])
+    → Stops variant meaning (count + 1) at after new left more sent fault → IsNoLines {T = Unit} (Err fault)
 spares_stop variant meaning count at after new left more rest sent Memory r h s = tt
 spares_stop variant meaning count at after new left more rest sent Store r h s = tt
 spares_stop variant meaning count at after new left more rest sent (Refused why) r h s = tt
@@ -116,9 +132,12 @@ spares_stop variant meaning count at after new left more rest sent (LineLong lin
 spares_stop variant meaning count at after new left more rest sent (BadLine line) r h s = not_cut count more rest r (h s.4) s.2 s.3
 spares_stop variant meaning count at after new left more rest sent TooMuch r h s = not_many count more rest s.2 s.3 r s.1 s.4
 
-spares_end : (variant : Variant) (meaning : Meaning) (count : ℕ) (at : Place) (after : Standing) (new : StoreStanding) (left : Option (List ℕ)) (more rest sent : List ℕ) (result : Result Unit SessionFault) → IsRest count (more ++ rest) → (IsAtEnd left → rest ≡ []) → EndsSession variant meaning (count + 1) at after new left more sent result → IsNoLines result
+spares_end : (variant : Variant) (meaning : Meaning) (count : ℕ) (at : Place) (after : Standing) (new : StoreStanding)
+    (left : Option (List ℕ)) (more rest sent : List ℕ) (result : Result Unit SessionFault) → IsRest count (more ++ rest)
+    → (IsAtEnd left → rest ≡ []) → EndsSession variant meaning (count + 1) at after new left more sent result → IsNoLines result
 spares_end variant meaning count at after new left more rest sent (Ok it) r h e = tt
-spares_end variant meaning count at after new left more rest sent (Err fault) r h e = spares_stop variant meaning count at after new left more rest sent fault r h e
+spares_end variant meaning count at after new left more rest sent (Err fault) r h e =
+    spares_stop variant meaning count at after new left more rest sent fault r h e
 
 told_no_lines : (fault : HostFault) → IsNoLines {T = Unit} (Err (as_session_fault fault))
 told_no_lines host.Memory = tt
@@ -130,20 +149,30 @@ same_fault f g r h k = cc
 
 came_no_lines : (came : Result Resumed HostFault) (fault : SessionFault) → Err fault ≡ comes_as came → IsNoLines {T = Unit} (Err fault)
 came_no_lines (Ok it) fault e = absurd (cc)
-came_no_lines (Err f) fault e = subst (λ (x : SessionFault). IsNoLines {T = Unit} (Err x)) (same_fault fault (as_session_fault f) (Err fault) refl e) (told_no_lines f)
+came_no_lines (Err f) fault e =
+    subst (λ (x : SessionFault). IsNoLines {T = Unit} (Err x)) (same_fault fault (as_session_fault f) (Err fault) refl e) (told_no_lines f)
 
-says_no_lines : (came : Result Resumed HostFault) (sent : List ℕ) (fault : SessionFault) → SendsReply came sent (Err fault) → IsNoLines {T = Unit} (Err fault)
+says_no_lines : (came : Result Resumed HostFault) (sent : List ℕ) (fault : SessionFault) → SendsReply came sent (Err fault)
+    → IsNoLines {T = Unit} (Err fault)
 says_no_lines came sent fault (inl s) = came_no_lines came fault s.1
-says_no_lines came sent fault (inr s) = subst (λ (x : SessionFault). IsNoLines {T = Unit} (Err x)) (same_fault fault WriteFault (Err fault) refl s.0) tt
+says_no_lines came sent fault (inr s) =
+    subst (λ (x : SessionFault). IsNoLines {T = Unit} (Err x)) (same_fault fault WriteFault (Err fault) refl s.0) tt
 
-spares_by : (variant : Variant) (meaning : Meaning) (begun : Result Resumed HostFault) (platform after : Standing) (store new : StoreStanding) (left : Option (List ℕ)) (input taken sent : List ℕ) (result : Result Unit SessionFault) → IsRead input taken left → AreWithin input → AfterResume variant meaning begun platform after store new left taken sent result → IsNoLines result
+spares_by : (variant : Variant) (meaning : Meaning) (begun : Result Resumed HostFault) (platform after : Standing)
+    (store new : StoreStanding) (left : Option (List ℕ)) (input taken sent : List ℕ) (result : Result Unit SessionFault)
+    → IsRead input taken left → AreWithin input → AfterResume variant meaning begun platform after store new left taken sent result
+    → IsNoLines result
 spares_by variant meaning begun platform after store new left input taken sent result r w (inl e) =
     subst (λ (x : Result Unit SessionFault). IsNoLines x) (sym e.2.stops) (says_no_lines begun sent e.2.fault e.2.says)
 spares_by variant meaning begun platform after store new left input taken sent result r w (inr g) =
     let l = g.lines in
     spares_end variant meaning (length l.calls) l.at after new left l.more r.rest l.last result
-    (rest_of variant meaning (record { platform = platform; store = store; last = g.first }) l.at l.calls input taken l.more r.rest l.serves r.is l.took w) r.at_end l.ends
+    (rest_of variant meaning (record { platform = platform; store = store; last = g.first }) l.at l.calls input taken l.more r.rest l.serves
+    r.is l.took w) r.at_end l.ends
 
-pub spares_lines : (variant : Variant) (meaning : Meaning) (before after : Standing) (old new : StoreStanding) (left left' received received' : Option (List ℕ)) (result : Result Unit SessionFault) → Sessions variant meaning before after old new left left' received received' result → SparesLines left result
+pub spares_lines : (variant : Variant) (meaning : Meaning) (before after : Standing) (old new : StoreStanding)
+    (left left' received received' : Option (List ℕ)) (result : Result Unit SessionFault)
+    → Sessions variant meaning before after old new left left' received received' result → SparesLines left result
 spares_lines variant meaning before after old new left left' received received' result s = λ input e w.
-    spares_by variant meaning s.begun s.platform after s.store new left' input s.taken s.sent result (read_of left left' input s.taken e s.consumed) w s.goes
+    spares_by variant meaning s.begun s.platform after s.store new left' input s.taken s.sent result
+    (read_of left left' input s.taken e s.consumed) w s.goes

@@ -15,19 +15,6 @@ consumes_more old middle new xs ys got count same one two =
     (ap (λ (front : List ℕ). front ++ take count (drop got ys)) (sym same) ∙ sym (take-add got count ys))
     (Consumes-both old middle new (take got xs) (take count (drop got ys)) one two)
 
-pub takes_failed : (old middle new : Option (List ℕ)) (before then now : ℕ) (bytes : List ℕ) (why : Failed) → Consumes old middle bytes
-    → then ≡ before → Keeps middle new → CountsFaults {T = ℕ} then now (Err why) → TakesBytes old new before now (Err why)
-takes_failed old middle new before then now bytes why one same kept counted = record {
-  most = tt;
-  consumed = (bytes, Consumes-kept old middle new bytes one kept);
-  ended = tt;
-  counted = record {
-    later = omega (arith, counted.later, same);
-    kept = tt;
-    failed = omega (arith, counted.failed, same);
-  };
-}
-
 pub takes : (old new : Option (List ℕ)) (before now : ℕ) (bytes : List ℕ) (got : ℕ) → length bytes ≡ 64 → got ≤ 64
     → Consumes old new (take got bytes) → now ≡ before → (got < 64 → IsAtEnd new) → TakesBytes old new before now (Ok (take got bytes))
 takes old new before now bytes got size most one same ended =

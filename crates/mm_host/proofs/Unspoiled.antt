@@ -31,22 +31,26 @@ neither_true : (false ≡ true) ⊎ (false ≡ true) → ⊥
 neither_true (inl x) = cc
 neither_true (inr x) = cc
 
-not_spoiled : (flag bare own marred : Bool) → marred ≡ false → (flag ≡ true → (own ≡ true) ⊎ (bare ≡ true)) → life_by flag bare own marred ≢ Spoiled
+not_spoiled : (flag bare own marred : Bool) → marred ≡ false → (flag ≡ true → (own ≡ true) ⊎ (bare ≡ true))
+    → life_by flag bare own marred ≢ Spoiled
 not_spoiled flag bare own true m h = absurd (cc)
 not_spoiled true true own false m h = λ e. cc
 not_spoiled true false true false m h = λ e. cc
 not_spoiled true false false false m h = λ e. neither_true (h refl)
 not_spoiled false bare own false m h = λ e. cc
 
-own_or_bare : (y : History) → AreItems y.items y.current → has_value y.items ≡ false → (are_own y.items y.current ≡ true) ⊎ (is_empty y.items ≡ true)
+own_or_bare : (y : History) → AreItems y.items y.current → has_value y.items ≡ false
+    → (are_own y.items y.current ≡ true) ⊎ (is_empty y.items ≡ true)
 own_or_bare y (inl own) none = inl own
 own_or_bare y (inr (inl bare)) none = inr (ap is_empty bare)
 own_or_bare y (inr (inr value)) none = let clash : true ≡ false = sym value ∙ none in absurd (cc)
 
-pub unspoiled : (variant : Variant) (others : List (List ℕ)) (y : History) → IsLedTo variant y → IsOutside others y → others ≡ [] → life_of variant y ≢ Spoiled
+pub unspoiled : (variant : Variant) (others : List (List ℕ)) (y : History) → IsLedTo variant y → IsOutside others y → others ≡ []
+    → life_of variant y ≢ Spoiled
 unspoiled Basic others y led outside e = λ same. cc
 unspoiled Opt others y sound outside e =
     let none : has_value (counting y) ≡ false = no_values (counting y) (none_in others (values_in (counting y)) e outside) in
-    let both = neither (has_value (joined y.closed)) (has_value (if y.is_open then y.items else [])) (sym (has_value-append (joined y.closed) (if y.is_open then y.items else [])) ∙ none) in
+    let both = neither (has_value (joined y.closed)) (has_value (if y.is_open then y.items else []))
+    (sym (has_value-append (joined y.closed) (if y.is_open then y.items else [])) ∙ none) in
     not_spoiled y.is_open (is_empty y.items) (are_own y.items y.current) (has_value (joined y.closed)) both.0
     (λ is. own_or_bare y (sound.register is) (ap (λ (f : Bool). has_value (if f then y.items else [])) (sym is) ∙ both.1))

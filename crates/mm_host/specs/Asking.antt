@@ -18,14 +18,16 @@ use Rattle.mm_opt.specs.Asked.{AskedInOpt}
 use Rattle.mm_host.specs.CellWrites.{CallWrites}
 
 -- what a whole call promises, in either core
-abbrev pub AskedIn : Variant → Meaning → Standing → Standing → List ℕ → Batch → Result BatchAnswer Refusal → Type 0
+abbrev pub AskedIn : Variant → Meaning → Standing → Standing → List ℕ → Batch
+    → Result BatchAnswer Refusal → Type 0
 AskedIn Basic meaning old new offer b result = AskedInBasic meaning old new offer b result
 AskedIn Opt meaning old new offer b result = AskedInOpt meaning old new offer b result
 
--- One call, for a request that isn't too long: it goes as a call of the variant does, from any history; its count of
--- faults rose exactly where it tells of a device; its answer has its sizes; and it is to write the cell for a new request
--- in Basic, in Opt for one that opens a segment.
-pub record IsCall (variant : Variant) (meaning : Meaning) (old new : Standing) (offer request : List ℕ)
+-- One call, for a request that isn't too long: it goes as a call of the variant does, from any
+-- history; its count of faults rose exactly where it tells of a device; its answer has its sizes;
+-- and it is to write the cell for a new request in Basic, in Opt for one that opens a segment.
+pub record IsCall (variant : Variant) (meaning : Meaning) (old new : Standing)
+    (offer request : List ℕ)
     (result : Result Answer Refusal) : Type 0 where
   pub goes : CallsOn variant meaning old new offer (One request) (whole_in result)
   pub untouched : LeavesUntouched (whole_in result) old new

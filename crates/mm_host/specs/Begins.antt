@@ -35,30 +35,35 @@ ShowsValues Opt standing values = option_map item_values standing.items ≡ Some
 abbrev pub first_slots : Instance → Slots
 first_slots i = record { zero = issued_bytes i first_history; one = []; two = []; three = [] }
 
--- Nothing waits in a new store, and its slots fit the first history, of which holds what is asked of each.
+-- Nothing waits in a new store, and its slots fit the first history, of which holds what is asked
+-- of each.
 pub record IsFirstStore (i : Instance) (y : History) : Type 0 where
   pub fits : FitsHistory i (first_slots i) y
   pub nothing_waits : fits.waiting ≡ None
-  pub within : (all others : List (List ℕ)) (asked : List Batch) → Contains all (start_message i.variant i.meaning.id) →
+  pub within : (all others : List (List ℕ)) (asked : List Batch)
+      → Contains all (start_message i.variant i.meaning.id) →
       IsWithin all others asked i y
 
--- 64 bytes were taken. Where the platform tells its cell, and in Opt the register, it stands for the first history of their
--- instance; and an honest store that tells its slots holds the first ones. A store stays as honest as it was, and where
--- it tells which slots are synced, all are.
+-- 64 bytes were taken. Where the platform tells its cell, and in Opt the register, it stands for
+-- the first history of their instance; and an honest store that tells its slots holds the first
+-- ones. A store stays as honest as it was, and where it tells which slots are synced, all are.
 pub record Begins (variant : Variant) (meaning : Meaning) (before after : Devices) : Type 0 where
   pub secrets : List ℕ
   pub counted : length secrets ≡ 64
   pub taken : Consumes before.left after.left secrets
   pub stands : (cell : List ℕ) (values : List (List ℕ)) → before.platform.cell ≡ Some cell →
-      ShowsValues variant after.platform values → StandsFor (instance_from variant meaning secrets) after.platform (first_on values)
+      ShowsValues variant after.platform values
+      → StandsFor (instance_from variant meaning secrets) after.platform (first_on values)
   pub honest : after.store.is_honest ≡ before.store.is_honest
   pub stores : (slots : Slots) → before.store.is_honest ≡ true → before.store.slots ≡ Some slots →
       after.store.slots ≡ Some (first_slots (instance_from variant meaning secrets))
-  pub synced : (marks : Unsynced) → before.store.unsynced ≡ Some marks → after.store.unsynced ≡ Some all_synced
-  pub first : (values : List (List ℕ)) → IsFirstStore (instance_from variant meaning secrets) (first_on values)
+  pub synced : (marks : Unsynced) → before.store.unsynced ≡ Some marks
+      → after.store.unsynced ≡ Some all_synced
+  pub first : (values : List (List ℕ))
+      → IsFirstStore (instance_from variant meaning secrets) (first_on values)
 
--- All is set up after Ok. After any fault the cell is as before, so that the call may be made again; or else the platform
--- failed at the last step, and all is set up.
+-- All is set up after Ok. After any fault the cell is as before, so that the call may be made
+-- again; or else the platform failed at the last step, and all is set up.
 abbrev pub Leaves : Variant → Meaning → Devices → Devices → Result Unit InitFault → Type 0
 Leaves variant meaning before after (Ok _) = Begins variant meaning before after
 Leaves variant meaning before after (Err (Platform fault)) =

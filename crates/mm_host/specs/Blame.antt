@@ -9,12 +9,17 @@ use Rattle.mm_store.specs.Kept.{StoreStanding}
 use Rattle.mm_host.specs.declared.fault.HostFault.{HostFault}
 use Rattle.mm_host.specs.declared.fault.HostFault.TheVariants.{Memory, Store, Refused}
 
--- The store's count of faults rose exactly where Store is told, and the platform's exactly where a device's fault is.
-abbrev pub Blamed : {T : Type 0} → Result T HostFault → Standing → Standing → StoreStanding → StoreStanding → Type 0
+-- The store's count of faults rose exactly where Store is told, and the platform's exactly where a
+-- device's fault is.
+abbrev pub Blamed : {T : Type 0} → Result T HostFault → Standing → Standing → StoreStanding
+    → StoreStanding → Type 0
 Blamed (Ok it) before after old new = (after.faults ≡ before.faults) × (new.faults ≡ old.faults)
-Blamed (Err Memory) before after old new = (after.faults ≡ before.faults) × (new.faults ≡ old.faults)
-Blamed (Err Store) before after old new = (after.faults ≡ before.faults) × Rose old.faults new.faults
-Blamed (Err (Refused why)) before after old new = Blames (fault_of why) before.faults after.faults × (new.faults ≡ old.faults)
+Blamed (Err Memory) before after old new =
+    (after.faults ≡ before.faults) × (new.faults ≡ old.faults)
+Blamed (Err Store) before after old new =
+    (after.faults ≡ before.faults) × Rose old.faults new.faults
+Blamed (Err (Refused why)) before after old new =
+    Blames (fault_of why) before.faults after.faults × (new.faults ≡ old.faults)
 
 -- A refusal is never want of memory, and never a request that is too long.
 pub record IsNamed {T : Type 0} (result : Result T HostFault) : Type 0 where

@@ -31,12 +31,14 @@ is_open_after true requests = true
 is_open_after false zero = false
 is_open_after false (suc requests) = true
 
--- In Opt, for so many new requests: over any platform the cell was to be written at most once for each. Over one that tells
--- its cell, at most once in all; and by the cell's flag, exactly for the request that opened a segment.
+-- In Opt, for so many new requests: over any platform the cell was to be written at most once for
+-- each. Over one that tells its cell, at most once in all; and by the cell's flag, exactly for the
+-- request that opened a segment.
 pub record WritesByOpening (requests : ℕ) (before after : Standing) : Type 0 where
   pub each : after.writes ≤ before.writes + requests
   pub once : (bytes : List ℕ) → before.cell ≡ Some bytes → WritesAtMostOnce before after
-  pub opens : (flag : Bool) → TellsFlag before flag → after.writes ≡ counted_by (openings flag requests) before.writes
+  pub opens : (flag : Bool) → TellsFlag before flag
+      → after.writes ≡ counted_by (openings flag requests) before.writes
 
 -- In Basic it was to be written once for each.
 abbrev pub WritesFor : Variant → ℕ → Standing → Standing → Type 0
@@ -57,7 +59,8 @@ abbrev pub IsNewIn : Result Answer Refusal → ℕ → Type 0
 IsNewIn (Ok answer) requests = requests ≡ new_by answer.again
 IsNewIn (Err why) requests = IsNewAt (fault_of why) requests
 
--- An answered call of Opt found a cell, and left its flag set where the request was new, as far as the platform tells.
+-- An answered call of Opt found a cell, and left its flag set where the request was new, as far as
+-- the platform tells.
 pub record LeavesFlag (requests : ℕ) (before after : Standing) : Type 0 where
   pub finds : (bytes : List ℕ) → before.cell ≡ Some bytes → (flag : Bool) × TellsFlag before flag
   pub leaves : (flag : Bool) → TellsFlag before flag → TellsFlag after (is_open_after flag requests)
@@ -68,7 +71,8 @@ LeavesOpen Opt (Ok answer) requests before after = LeavesFlag requests before af
 LeavesOpen Opt (Err why) requests before after = Unit {0}
 
 -- One call, which commits a new request or none.
-pub record CallWrites (variant : Variant) (result : Result Answer Refusal) (before after : Standing) : Type 0 where
+pub record CallWrites (variant : Variant) (result : Result Answer Refusal)
+    (before after : Standing) : Type 0 where
   pub requests : ℕ
   pub new : IsNewIn result requests
   pub writes : WritesFor variant requests before after

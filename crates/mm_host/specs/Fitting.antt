@@ -25,13 +25,15 @@ pub record Holds (i : Instance) (y : History) (bytes : List ℕ) (position : ℕ
 -- The request is to be committed next, at its position; or it was committed last, alone.
 abbrev pub IsAwaited : History → Pending → Type 0
 IsAwaited y p =
-    (p.position ≡ total_of y.batches + 1) ⊎ ((p.position ≡ total_of y.batches) × EndsWith y.batches (One p.request))
+    (p.position ≡ total_of y.batches + 1)
+    ⊎ ((p.position ≡ total_of y.batches) × EndsWith y.batches (One p.request))
 
--- Where nothing waits, nothing is committed, and slot 0 holds the first snapshot. Otherwise the request that waits is
--- awaited, and the snapshot before its position is in its slot.
+-- Where nothing waits, nothing is committed, and slot 0 holds the first snapshot. Otherwise the
+-- request that waits is awaited, and the snapshot before its position is in its slot.
 abbrev pub FitsBy : Instance → Slots → History → Option Pending → Type 0
 FitsBy i slots y None = (total_of y.batches ≡ 0) × Holds i y (slot_read slots 0) 0
-FitsBy i slots y (Some p) = IsAwaited y p × Holds i y (slot_read slots (offer_slot p)) (p.position - 1)
+FitsBy i slots y (Some p) =
+    IsAwaited y p × Holds i y (slot_read slots (offer_slot p)) (p.position - 1)
 
 pub record FitsHistory (i : Instance) (slots : Slots) (y : History) : Type 0 where
   pub waiting : Option Pending

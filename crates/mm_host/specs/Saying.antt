@@ -5,7 +5,8 @@ use Rattle.mm_base.specs.Limits.{last_position, longest_request}
 use Rattle.mm_play.specs.Takes.{IsFrontOf}
 use Rattle.mm_model.specs.declared.refusal.Refusal.{Refusal}
 use Rattle.mm_model.specs.declared.refusal.Refusal.TheVariants as refusal
-use Rattle.mm_schedule.specs.Replies.{cause_text, told_line}
+use Rattle.mm_schedule.specs.Replies.{cause_text}
+use Rattle.mm_schedule.specs.RepliesWords.{told_line}
 use Rattle.mm_schedule.specs.declared.reply.Cause.{Cause}
 use Rattle.mm_schedule.specs.declared.reply.Cause.TheVariants as cause
 use Rattle.mm_host.specs.declared.fault.HostFault.{HostFault}
@@ -66,7 +67,8 @@ abbrev pub comes_as : Result Resumed HostFault → Result Resumed SessionFault
 comes_as (Ok resumed) = Ok resumed
 comes_as (Err fault) = Err (as_session_fault fault)
 
--- All of the text went out, and what came is handed on; or the output failed, and a front of it went out.
+-- All of the text went out, and what came is handed on; or the output failed, and a front of it
+-- went out.
 abbrev pub SendsReply : Result Resumed HostFault → List ℕ → Result Resumed SessionFault → Type 0
 SendsReply came sent result =
     ((sent ≡ reply_text came) × (result ≡ comes_as came))

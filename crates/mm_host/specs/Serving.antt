@@ -1,4 +1,5 @@
--- A line that is asked: its record is written before, and the answer's snapshot after. Nothing is asked for these steps.
+-- A line that is asked: its record is written before, and the answer's snapshot after. Nothing is
+-- asked for these steps.
 use Rattle.std.specs.Prelude.{◌≡◌, ◌+◌, ◌%◌, ℕ, List, [], ◌∷◌, ◌++◌, Result, Ok, Err}
 use Rattle.mm_base.specs.Lines.{MayGrow}
 use Rattle.mm_base.specs.Limits.{longest_request}
@@ -6,7 +7,7 @@ use Rattle.mm_digest.specs.declared.variant.Variant.{Variant}
 use Rattle.mm_platform.specs.Standing.{Standing}
 use Rattle.mm_module.specs.Meaning.{Meaning}
 use Rattle.mm_model.specs.declared.answer.Answer.{Answer}
-use Rattle.mm_schedule.specs.Replies.{told_line}
+use Rattle.mm_schedule.specs.RepliesWords.{told_line}
 use Rattle.mm_store.specs.declared.fault.StoreFault.{StoreFault}
 use Rattle.mm_store.specs.Kept.{StoreStanding}
 use Rattle.mm_store.specs.Calls.{WritesSlot}
@@ -23,19 +24,22 @@ abbrev pub record_for : Resumed → List ℕ → Pending
 record_for last line = record { position = position_at last + 1; request = line }
 
 -- The request is asked with the last snapshot, and the answer's snapshot is kept.
-abbrev pub AfterRecord : Variant → Meaning → Standing → Standing → Result Unit StoreFault → StoreStanding → StoreStanding → Resumed → List ℕ
+abbrev pub AfterRecord : Variant → Meaning → Standing → Standing → Result Unit StoreFault
+    → StoreStanding → StoreStanding → Resumed → List ℕ
     → Result Resumed HostFault → Type 0
 AfterRecord variant meaning before after (Err why) old new last line result =
     (after ≡ before) × (new ≡ old) × (result ≡ Err (store_fault_as why))
 AfterRecord variant meaning before after (Ok _) old new last line result =
     AsksAndKeeps variant meaning before after old new (snapshot_at last) line result
 
-pub record AsksLine (variant : Variant) (meaning : Meaning) (before after : Standing) (old new : StoreStanding) (last : Resumed)
+pub record AsksLine (variant : Variant) (meaning : Meaning) (before after : Standing)
+    (old new : StoreStanding) (last : Resumed)
     (line : List ℕ)
     (result : Result Resumed HostFault) : Type 0 where
   pub middle : StoreStanding
   pub recorded : Result Unit StoreFault
-  pub records : WritesSlot (2 + (position_at last + 1) % 2) (pending_spelling (record_for last line)) old middle recorded
+  pub records : WritesSlot (2 + (position_at last + 1) % 2)
+      (pending_spelling (record_for last line)) old middle recorded
   pub goes : AfterRecord variant meaning before after recorded middle new last line result
 
 -- where a session stands: its platform, its store, and what it came to last
@@ -50,17 +54,21 @@ pub record Served : Type 0 where
   pub answer : Answer
 
 -- The line is asked and answered, and the session goes on.
-pub record ServesFirst (variant : Variant) (meaning : Meaning) (from : Place) (c : Served) (goes : Place → Type 0) : Type 0 where
+pub record ServesFirst (variant : Variant) (meaning : Meaning) (from : Place) (c : Served)
+    (goes : Place → Type 0) : Type 0 where
   pub within : MayGrow longest_request c.line
   pub platform : Standing
   pub store : StoreStanding
-  pub asks : AsksLine variant meaning from.platform platform from.store store from.last c.line (Ok (Answered c.answer))
+  pub asks : AsksLine variant meaning from.platform platform from.store store from.last c.line
+      (Ok (Answered c.answer))
   pub rest : goes (record { platform = platform; store = store; last = Answered c.answer })
 
--- These lines are asked one after another, each with the snapshot of the answer before, and answered so.
+-- These lines are asked one after another, each with the snapshot of the answer before, and
+-- answered so.
 abbrev pub Serves : Variant → Meaning → Place → List Served → Place → Type 0
 Serves variant meaning from [] to = to ≡ from
-Serves variant meaning from (c ∷ calls) to = ServesFirst variant meaning from c (λ next. Serves variant meaning next calls to)
+Serves variant meaning from (c ∷ calls) to =
+    ServesFirst variant meaning from c (λ next. Serves variant meaning next calls to)
 
 -- the lines that were served, and what was written for them
 abbrev pub lines_served : List Served → List (List ℕ)
@@ -69,4 +77,5 @@ lines_served (c ∷ calls) = c.line ∷ lines_served calls
 
 abbrev pub replies_to : List Served → List ℕ
 replies_to [] = []
-replies_to (c ∷ calls) = told_line c.answer.again c.answer.position c.answer.output ++ replies_to calls
+replies_to (c ∷ calls) =
+    told_line c.answer.again c.answer.position c.answer.output ++ replies_to calls

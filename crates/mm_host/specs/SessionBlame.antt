@@ -1,4 +1,5 @@
--- Whose fault it is that a session ends: the count of each device that was handed in rose exactly where it is told.
+-- Whose fault it is that a session ends: the count of each device that was handed in rose exactly
+-- where it is told.
 use Rattle.std.specs.Prelude.{◌≢◌, Bool, true, false, is_some, Result, Ok, Err}
 use Rattle.mm_model.specs.declared.refusal.Refusal.TheVariants as refusal
 use Rattle.mm_call.specs.Refusals.{fault_of}

@@ -7,7 +7,8 @@ use Rattle.mm_host.specs.declared.fault.SessionFault.{SessionFault}
 use Rattle.mm_host.specs.declared.fault.SessionFault.TheVariants.{Memory, Store, Refused, ReadFault, WriteFault, LineLong, BadLine, TooMuch}
 use Rattle.mm_host.specs.Sessions.{most_lines}
 
--- Each line has its LF and no more bytes than a line may have, and there are no more lines than there may be.
+-- Each line has its LF and no more bytes than a line may have, and there are no more lines than
+-- there may be.
 pub record AreWithin (input : List ℕ) : Type 0 where
   pub whole : tail_of input ≡ []
   pub short : AllByRecursion (λ line. length line ≤ longest_request) (lines_of input)

@@ -22,8 +22,8 @@ abbrev pub new_first : Resumed → ℕ
 new_first (Start first) = 0
 new_first (Answered answer) = new_by answer.again
 
--- Among what waited and wasn't answered one request may be new, and come to its writing step: where memory was wanting, or
--- the store or a device failed.
+-- Among what waited and wasn't answered one request may be new, and come to its writing step: where
+-- memory was wanting, or the store or a device failed.
 abbrev pub IsNewOf : Result Resumed HostFault → ℕ → Type 0
 IsNewOf (Ok it) requests = requests ≡ new_first it
 IsNewOf (Err Memory) requests = requests ≤ 1
@@ -31,7 +31,8 @@ IsNewOf (Err Store) requests = requests ≤ 1
 IsNewOf (Err (Refused why)) requests = IsNewAt (fault_of why) requests
 
 -- How often a recovery is to write the cell: for what waited, where that is new.
-pub record RecoveryWrites (variant : Variant) (before after : Standing) (result : Result Resumed HostFault) : Type 0 where
+pub record RecoveryWrites (variant : Variant) (before after : Standing)
+    (result : Result Resumed HostFault) : Type 0 where
   pub requests : ℕ
   pub new : IsNewOf result requests
   pub writes : WritesFor variant requests before after
@@ -40,20 +41,25 @@ abbrev pub new_lines : List Served → ℕ
 new_lines [] = 0
 new_lines (c ∷ calls) = new_by c.answer.again + new_lines calls
 
-abbrev pub new_told : {variant : Variant} {meaning : Meaning} {begun : Result Resumed HostFault} {platform after : Standing}
-    {store new : StoreStanding} {left : Option (List ℕ)} {taken sent : List ℕ} {result : Result Unit SessionFault}
+abbrev pub new_told : {variant : Variant} {meaning : Meaning} {begun : Result Resumed HostFault}
+    {platform after : Standing}
+    {store new : StoreStanding} {left : Option (List ℕ)} {taken sent : List ℕ}
+    {result : Result Unit SessionFault}
     → AfterResume variant meaning begun platform after store new left taken sent result → ℕ
 new_told (inl stops) = 0
 new_told (inr goes) = new_first goes.first + new_lines goes.lines.calls
 
--- The cell was to be written for the new requests that were told, and for the one in hand, where that was new and came to
--- its writing step, and the session stopped at a fault before it was told. So in Basic that is once for each of them; in
--- Opt, over a platform that tells its cell, once in all, for the one that opened a segment. No line makes more than one.
-pub record SessionWrites (variant : Variant) (meaning : Meaning) (before after : Standing) (old new : StoreStanding)
-    (left left' received received' : Option (List ℕ)) (result : Result Unit SessionFault) : Type 0 where
-  pub ran : Sessions variant meaning before after old new left left' received received' result
-  pub in_hand : ℕ
-  pub one : in_hand ≤ 1
-  pub untold : in_hand ≢ 0 → MayBeUntold result
-  pub writes : WritesFor variant (new_told ran.goes + in_hand) before after
-  pub by_lines : after.writes ≤ before.writes + (1 + length (lines_of ran.taken))
+-- The cell was to be written for the new requests that were told, and for the one in hand, where
+-- that was new and came to its writing step, and the session stopped at a fault before it was told.
+-- So in Basic that is once for each of them; in Opt, over a platform that tells its cell, once in
+-- all, for the one that opened a segment. No line makes more than one.
+pub record SessionWrites (variant : Variant) (meaning : Meaning) (before after : Standing)
+    (old new : StoreStanding)
+    (left left' received received' : Option (List ℕ)) (result : Result Unit SessionFault) : Type 0
+  where
+    pub ran : Sessions variant meaning before after old new left left' received received' result
+    pub in_hand : ℕ
+    pub one : in_hand ≤ 1
+    pub untold : in_hand ≢ 0 → MayBeUntold result
+    pub writes : WritesFor variant (new_told ran.goes + in_hand) before after
+    pub by_lines : after.writes ≤ before.writes + (1 + length (lines_of ran.taken))

@@ -1,4 +1,5 @@
--- A session: it goes on after a stop, and then answers each line of its input before it reads the next.
+-- A session: it goes on after a stop, and then answers each line of its input before it reads the
+-- next.
 use Rattle.std.specs.Prelude.{◌≡◌, ◌+◌, ◌<◌, ◌≤◌, ℕ, List, [], ◌∷◌, ◌++◌, length, Option, Result, Ok, Err, ◌⊎◌}
 use Rattle.std.specs.Io.KnownBytes.{Appends, Consumes, IsAtEnd}
 use Rattle.mm_base.specs.Input.{lines_joined}
@@ -21,10 +22,11 @@ abbrev pub most_lines : ℕ
 most_lines = 1000000
 
 -- Nothing more is asked or written.
-pub record IsAtRest (at : Place) (after : Standing) (new : StoreStanding) (sent : List ℕ) : Type 0 where
-  pub platform : after ≡ at.platform
-  pub store : new ≡ at.store
-  pub nothing : sent ≡ []
+pub record IsAtRest (at : Place) (after : Standing) (new : StoreStanding) (sent : List ℕ) : Type 0
+  where
+    pub platform : after ≡ at.platform
+    pub store : new ≡ at.store
+    pub nothing : sent ≡ []
 
 -- The bytes begin with a line, its LF and what is held behind.
 pub record BeginsWith (bytes line held : List ℕ) : Type 0 where
@@ -32,7 +34,8 @@ pub record BeginsWith (bytes line held : List ℕ) : Type 0 where
   pub within : MayGrow longest_request line
 
 -- The line in hand is asked, and comes to a fault; or its reply isn't written whole.
-pub record StopsInLine (variant : Variant) (meaning : Meaning) (number : ℕ) (at : Place) (after : Standing) (new : StoreStanding)
+pub record StopsInLine (variant : Variant) (meaning : Meaning) (number : ℕ) (at : Place)
+    (after : Standing) (new : StoreStanding)
     (more sent : List ℕ) (fault : SessionFault) : Type 0 where
   pub line : List ℕ
   pub held : List ℕ
@@ -42,35 +45,46 @@ pub record StopsInLine (variant : Variant) (meaning : Meaning) (number : ℕ) (a
   pub asks : AsksLine variant meaning at.platform after at.store new at.last line came
   pub says : SendsReply came sent (Err fault)
 
--- How a session stops, where the line of this number would be next, and `more` was taken of the input behind the lines
--- before it.
-abbrev pub Stops : Variant → Meaning → ℕ → Place → Standing → StoreStanding → Option (List ℕ) → List ℕ → List ℕ → SessionFault → Type 0
+-- How a session stops, where the line of this number would be next, and `more` was taken of the
+-- input behind the lines before it.
+abbrev pub Stops : Variant → Meaning → ℕ → Place → Standing → StoreStanding → Option (List ℕ)
+    → List ℕ → List ℕ → SessionFault → Type 0
 -- the source failed before the line's LF
-Stops variant meaning number at after new left more sent ReadFault = IsAtRest at after new sent × MayGrow longest_request more
+Stops variant meaning number at after new left more sent ReadFault =
+    IsAtRest at after new sent × MayGrow longest_request more
 -- the input ended within the line
 Stops variant meaning number at after new left more sent (BadLine line) =
-    IsAtRest at after new sent × (line ≡ number) × MayGrow longest_request more × (0 < length more) × IsAtEnd left
+    IsAtRest at after new sent × (line ≡ number) × MayGrow longest_request more × (0 < length more)
+    × IsAtEnd left
 -- more bytes came than a line may have
 Stops variant meaning number at after new left more sent (LineLong line) =
     IsAtRest at after new sent × (line ≡ number) × IsLong longest_request more
 -- the line is one too many
 Stops variant meaning number at after new left more sent TooMuch =
-    IsAtRest at after new sent × (number ≡ most_lines + 1) × (line : List ℕ) × (held : List ℕ) × BeginsWith more line held
+    IsAtRest at after new sent × (number ≡ most_lines + 1) × (line : List ℕ) × (held : List ℕ)
+    × BeginsWith more line held
 -- the line was asked
-Stops variant meaning number at after new left more sent Memory = StopsInLine variant meaning number at after new more sent Memory
-Stops variant meaning number at after new left more sent Store = StopsInLine variant meaning number at after new more sent Store
+Stops variant meaning number at after new left more sent Memory =
+    StopsInLine variant meaning number at after new more sent Memory
+Stops variant meaning number at after new left more sent Store =
+    StopsInLine variant meaning number at after new more sent Store
 Stops variant meaning number at after new left more sent (Refused why) =
     StopsInLine variant meaning number at after new more sent (Refused why)
-Stops variant meaning number at after new left more sent WriteFault = StopsInLine variant meaning number at after new more sent WriteFault
+Stops variant meaning number at after new left more sent WriteFault =
+    StopsInLine variant meaning number at after new more sent WriteFault
 
 -- Ok: the input ended behind a whole line.
-abbrev pub EndsSession : Variant → Meaning → ℕ → Place → Standing → StoreStanding → Option (List ℕ) → List ℕ → List ℕ
+abbrev pub EndsSession : Variant → Meaning → ℕ → Place → Standing → StoreStanding → Option (List ℕ)
+    → List ℕ → List ℕ
     → Result Unit SessionFault → Type 0
-EndsSession variant meaning number at after new left more sent (Ok _) = IsAtRest at after new sent × (more ≡ []) × IsAtEnd left
-EndsSession variant meaning number at after new left more sent (Err fault) = Stops variant meaning number at after new left more sent fault
+EndsSession variant meaning number at after new left more sent (Ok _) =
+    IsAtRest at after new sent × (more ≡ []) × IsAtEnd left
+EndsSession variant meaning number at after new left more sent (Err fault) =
+    Stops variant meaning number at after new left more sent fault
 
 -- Some lines are served from where the session began, and there it ends.
-pub record ServesLines (variant : Variant) (meaning : Meaning) (from : Place) (after : Standing) (new : StoreStanding)
+pub record ServesLines (variant : Variant) (meaning : Meaning) (from : Place) (after : Standing)
+    (new : StoreStanding)
     (left : Option (List ℕ))
     (taken sent : List ℕ) (result : Result Unit SessionFault) : Type 0 where
   pub calls : List Served
@@ -84,24 +98,30 @@ pub record ServesLines (variant : Variant) (meaning : Meaning) (from : Place) (a
   pub ends : EndsSession variant meaning (length calls + 1) at after new left more last result
 
 -- What waited came to a fault, or its reply isn't written whole; no line is read.
-pub record StopsAtOnce (begun : Result Resumed HostFault) (taken sent : List ℕ) (result : Result Unit SessionFault) : Type 0 where
+pub record StopsAtOnce (begun : Result Resumed HostFault) (taken sent : List ℕ)
+    (result : Result Unit SessionFault) : Type 0 where
   pub fault : SessionFault
   pub says : SendsReply begun sent (Err fault)
   pub stops : result ≡ Err fault
   pub nothing : taken ≡ []
 
 -- What waited is told, and the lines are served.
-pub record GoesOn (variant : Variant) (meaning : Meaning) (begun : Result Resumed HostFault) (platform after : Standing)
+pub record GoesOn (variant : Variant) (meaning : Meaning) (begun : Result Resumed HostFault)
+    (platform after : Standing)
     (store new : StoreStanding)
-    (left : Option (List ℕ)) (taken sent : List ℕ) (result : Result Unit SessionFault) : Type 0 where
-  pub first : Resumed
-  pub begins : begun ≡ Ok first
-  pub replies : List ℕ
-  pub wrote : sent ≡ reply_text begun ++ replies
-  pub lines : ServesLines variant meaning (record { platform = platform; store = store; last = first }) after new left taken replies result
+    (left : Option (List ℕ)) (taken sent : List ℕ) (result : Result Unit SessionFault) : Type 0
+  where
+    pub first : Resumed
+    pub begins : begun ≡ Ok first
+    pub replies : List ℕ
+    pub wrote : sent ≡ reply_text begun ++ replies
+    pub lines : ServesLines variant meaning
+        (record { platform = platform; store = store; last = first }) after new left taken replies
+        result
 
 -- It stops at once, or it goes on, as what waited came to.
-abbrev pub AfterResume : Variant → Meaning → Result Resumed HostFault → Standing → Standing → StoreStanding → StoreStanding
+abbrev pub AfterResume : Variant → Meaning → Result Resumed HostFault → Standing → Standing
+    → StoreStanding → StoreStanding
     → Option (List ℕ) → List ℕ
     → List ℕ → Result Unit SessionFault → Type 0
 AfterResume variant meaning begun platform after store new left taken sent result =
@@ -109,14 +129,16 @@ AfterResume variant meaning begun platform after store new left taken sent resul
     ⊎ GoesOn variant meaning begun platform after store new left taken sent result
 
 -- The call: these bytes were taken of the input, and those written.
-pub record Sessions (variant : Variant) (meaning : Meaning) (before after : Standing) (old new : StoreStanding)
-    (left left' received received' : Option (List ℕ)) (result : Result Unit SessionFault) : Type 0 where
-  pub taken : List ℕ
-  pub sent : List ℕ
-  pub consumed : Consumes left left' taken
-  pub appended : Appends received received' sent
-  pub begun : Result Resumed HostFault
-  pub platform : Standing
-  pub store : StoreStanding
-  pub resumes : Resumes variant meaning before platform old store begun
-  pub goes : AfterResume variant meaning begun platform after store new left' taken sent result
+pub record Sessions (variant : Variant) (meaning : Meaning) (before after : Standing)
+    (old new : StoreStanding)
+    (left left' received received' : Option (List ℕ)) (result : Result Unit SessionFault) : Type 0
+  where
+    pub taken : List ℕ
+    pub sent : List ℕ
+    pub consumed : Consumes left left' taken
+    pub appended : Appends received received' sent
+    pub begun : Result Resumed HostFault
+    pub platform : Standing
+    pub store : StoreStanding
+    pub resumes : Resumes variant meaning before platform old store begun
+    pub goes : AfterResume variant meaning begun platform after store new left' taken sent result

@@ -5,7 +5,8 @@ use Rattle.mm_digest.specs.declared.variant.Variant.{Variant}
 use Rattle.mm_digest.specs.Messages.{start_message}
 use Rattle.mm_module.specs.Batch.{Batch}
 use Rattle.mm_module.specs.Meaning.{Meaning}
-use Rattle.mm_model.specs.Instance.{Instance, basic, opt}
+use Rattle.mm_model.specs.Instance.{Instance}
+use Rattle.mm_model.specs.InstanceWords.{basic, opt}
 use Rattle.mm_model.specs.History.{History, Move, moved}
 use Rattle.mm_model.specs.Messages.{IsClear, AreNoGuards}
 use Rattle.mm_model.specs.Moves.{MayMove}
@@ -19,29 +20,38 @@ use Rattle.mm_host.specs.Begins.{first_on, first_slots, ShowsValues, Begins}
 use Rattle.mm_host.specs.Recovery.{CanRecover}
 
 -- the slots fit the history, and this waits
-pub record FitsWith (i : Instance) (slots : Slots) (y : History) (waiting : Option Pending) : Type 0 where
-  pub fits : FitsHistory i slots y
-  pub waits : fits.waiting ≡ waiting
+pub record FitsWith (i : Instance) (slots : Slots) (y : History) (waiting : Option Pending) : Type 0
+  where
+    pub fits : FitsHistory i slots y
+    pub waits : fits.waiting ≡ waiting
 
--- A move that commits nothing keeps them so: a value of others, a loss of power, what closes a segment.
+-- A move that commits nothing keeps them so: a value of others, a loss of power, what closes a
+-- segment.
 abbrev pub BasicKeepsFitting : Type 0
-BasicKeepsFitting = (meaning : Meaning) (key : List ℕ) (y : History) (m : Move) (slots : Slots) (waiting : Option Pending) →
+BasicKeepsFitting =
+    (meaning : Meaning) (key : List ℕ) (y : History) (m : Move) (slots : Slots)
+    (waiting : Option Pending) →
     commits (m ∷ []) ≡ false → FitsWith (basic meaning key) slots y waiting →
     FitsWith (basic meaning key) slots (moved (basic meaning key) y m) waiting
 
 abbrev pub OptKeepsFitting : Type 0
-OptKeepsFitting = (meaning : Meaning) (key barrier : List ℕ) (y : History) (m : Move) (slots : Slots) (waiting : Option Pending) →
+OptKeepsFitting =
+    (meaning : Meaning) (key barrier : List ℕ) (y : History) (m : Move) (slots : Slots)
+    (waiting : Option Pending) →
     IsSound y → MayMove (opt meaning key barrier) y m →
     commits (m ∷ []) ≡ false → FitsWith (opt meaning key barrier) slots y waiting →
     FitsWith (opt meaning key barrier) slots (moved (opt meaning key barrier) y m) waiting
 
 -- From what a first start leaves over an honest store a recovery can go on, and nothing waits.
-pub record CanStart (all others : List (List ℕ)) (asked : List Batch) (i : Instance) (y : History) (after : Devices) : Type 0 where
+pub record CanStart (all others : List (List ℕ)) (asked : List Batch) (i : Instance) (y : History)
+    (after : Devices) : Type 0 where
   pub can : CanRecover all others asked i y (first_slots i) after.platform after.store
   pub nothing_waits : can.fits.waiting ≡ None
 
 abbrev pub FirstStartsCanGoOn : Type 0
-FirstStartsCanGoOn = (variant : Variant) (meaning : Meaning) (before after : Devices) (begun : Begins variant meaning before after)
+FirstStartsCanGoOn =
+    (variant : Variant) (meaning : Meaning) (before after : Devices)
+    (begun : Begins variant meaning before after)
     (cell : List ℕ) (slots : Slots) (values all others : List (List ℕ)) (asked : List Batch) →
     before.platform.cell ≡ Some cell → ShowsValues variant after.platform values →
     before.store.is_honest ≡ true → before.store.slots ≡ Some slots →

@@ -21,10 +21,11 @@ pub record IsWaiting (two three : List ℕ) (waiting : Option Pending) : Type 0 
   pub is : waiting ≡ later in_two in_three
 
 -- what waits is taken, or memory is wanting
-pub record TakesWaiting (two three : List ℕ) (result : Result (Option Pending) StoreFault) : Type 0 where
-  pub waiting : Option Pending
-  pub is_waiting : IsWaiting two three waiting
-  pub gives : (result ≡ Ok waiting) ⊎ (result ≡ Err Memory)
+pub record TakesWaiting (two three : List ℕ) (result : Result (Option Pending) StoreFault) : Type 0
+  where
+    pub waiting : Option Pending
+    pub is_waiting : IsWaiting two three waiting
+    pub gives : (result ≡ Ok waiting) ⊎ (result ≡ Err Memory)
 
 -- a request that may be asked, and has a position before it
 pub record IsAskable (p : Pending) : Type 0 where

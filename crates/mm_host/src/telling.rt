@@ -5,7 +5,7 @@ ghost use Rattle.mm_base.specs.Faults.{CountsFaults};
 ghost use Rattle.mm_base.specs.Streams.{Sends};
 ghost use Rattle.mm_base.specs.Limits.{longest_request};
 ghost use Rattle.mm_play.specs.Plays.{IsBlamed};
-ghost use Rattle.mm_schedule.specs.Replies.{told_line};
+ghost use Rattle.mm_schedule.specs.RepliesWords.{told_line};
 ghost use Rattle.mm_host.specs.declared.fault.HostFault.TheVariants.{Refused};
 ghost use Rattle.mm_host.specs.declared.resuming.Resumed.TheVariants.{Answered};
 ghost use Rattle.mm_host.specs.Saying.{IsSized, TellsReply, told_cause, refusal_text};

@@ -65,7 +65,8 @@ keeps_answered {A} old new answer result g e =
     })
 
 keeps_written : {A : Type 0} (old middle new : Standing) (next : List ℕ) (answer : A) (result : Result A MoveRefusal)
-    (fault : Option StepFault) → Goes ReadCell old middle None → Goes (WriteCell next) middle new fault → result ≡ answered answer fault → Keeps old new result
+    (fault : Option StepFault) → Goes ReadCell old middle None → Goes (WriteCell next) middle new fault → result ≡ answered answer fault
+    → Keeps old new result
 keeps_written {A} old middle new next answer result None g w e =
     subst (λ (r : Result A MoveRefusal). Keeps old new r) (sym e) (record {
       untouched = λ _ (is : false ≡ true). absurd (cc);

@@ -41,7 +41,8 @@ offer_no_fault meaning key (Ok offered) =
     (no_fault_if (Lacks Content) (not (bytes_eq offered.tag (tag_of key offered.content))) _ _ refl refl)
 
 leaves_no_fault : (variant : Variant) (link : Link) (nonce : List ℕ) (summary : Digest) (next : Option (List ℕ))
-    (offered : Result Content MoveRefusal) → move_fault_in offered ≡ None → move_fault_in (leaves_by variant link nonce summary next offered) ≡ None
+    (offered : Result Content MoveRefusal) → move_fault_in offered ≡ None
+    → move_fault_in (leaves_by variant link nonce summary next offered) ≡ None
 leaves_no_fault variant link nonce summary next (Err why) h = h
 leaves_no_fault variant link nonce summary next (Ok offered) h =
     no_fault_if (Lacks (Ready (List ℕ))) (not (stands_at summary offered.place)) _ _ refl refl

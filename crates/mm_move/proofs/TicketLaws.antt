@@ -18,7 +18,7 @@ use Rattle.mm_seal.specs.declared.snapshot.Place.TheVariants.{Basic, Opt}
 use Rattle.mm_seal.specs.declared.snapshot.PartsFault.{PartsFault}
 use Rattle.mm_seal.specs.declared.snapshot.PartsFault.TheVariants.{Form, Kind}
 use Rattle.mm_seal.specs.Snapshot.{Content, IsContent, IsPlace, variant_of}
-use Rattle.mm_seal.specs.Parts.{is_bounded, same_variant}
+use Rattle.mm_seal.specs.PartsWords.{is_bounded, same_variant}
 use Rattle.mm_move.specs.Fields.{part, digest_at, number_at, variant_in}
 use Rattle.mm_move.specs.Tickets.{summary_in, place_at, IsAtAnchor, TicketContent, IsTicket, ticket_front, ticket_signed, TaggedTicket, IsTagged, ticket_spelling, tagged_in, is_for, is_spelled_by, ticket_by, ticket_of, SpellsTicket, TicketsAreRead}
 use Rattle.mm_move.specs.Read.{IsBounded}
@@ -28,15 +28,6 @@ use Rattle.mm_move.proofs.CellLaws.{variant_back}
 pub length-zero_bytes : length zero_bytes ≡ 32
 unfolding zero_bytes
 length-zero_bytes = refl
-
--- the place at a summary or an anchor
-place_variant : (v : Variant) (d : Digest) → variant_of (place_at v d) ≡ v
-place_variant variants.Basic d = refl
-place_variant variants.Opt d = refl
-
-place_summary : (v : Variant) (d : Digest) → summary_in (place_at v d) ≡ d
-place_summary variants.Basic d = refl
-place_summary variants.Opt d = refl
 
 pub at_anchor : (v : Variant) (d : Digest) → IsAtAnchor (place_at v d)
 at_anchor variants.Basic d = refl
@@ -119,14 +110,6 @@ unbounded bytes t h e bounded =
     let outside : is_bounded tagged.ticket.content ≡ false = ap (λ (x : TicketContent). is_bounded x.content) (sym e) ∙ bounded in
     sym (ap (λ (b : Bool). nat_le 114 (length bytes) && b && bytes_eq (ticket_spelling tagged) bytes) outside
     ∙ ap (λ (b : Bool). b && false && bytes_eq (ticket_spelling tagged) bytes) (le_is 114 (length bytes) h))
-
-past_short : (n : ℕ) → n < 114 → 114 ≤ n → ⊥
-past_short n h k = omega arith
-
-pub too_short : (bytes : List ℕ) → length bytes < 114 → is_spelled_by bytes (tagged_in bytes) ≡ false
-too_short bytes h =
-    ap (λ (b : Bool). b && is_bounded (tagged_in bytes).ticket.content && bytes_eq (ticket_spelling (tagged_in bytes)) bytes)
-    (is_false (nat_le 114 (length bytes)) (λ e. past_short (length bytes) h (le_tells 114 (length bytes) e)))
 
 -- what a spelling test that holds has found
 record IsFound (bytes : List ℕ) (tagged : TaggedTicket) : Type 0 where

@@ -17,15 +17,18 @@ use Rattle.mm_move.specs.Fields.{part, digest_at, variant_in}
 
 -- `MM`, the letter of the form, `1`, the variant, the module's id and two zero bytes
 abbrev pub head_of : ℕ → Variant → ℕ → List ℕ → List ℕ
-head_of letter variant id rest = 0x4d ∷ 0x4d ∷ letter ∷ 0x31 ∷ variant_byte variant ∷ id ∷ 0 ∷ 0 ∷ rest
+head_of letter variant id rest =
+    0x4d ∷ 0x4d ∷ letter ∷ 0x31 ∷ variant_byte variant ∷ id ∷ 0 ∷ 0 ∷ rest
 
 -- behind `MMW1`: the nonce, the key and the barrier; 104 bytes in all
 unfoldable pub waiting_spelling : Waiting → List ℕ
-waiting_spelling cell = head_of 0x57 cell.variant cell.module (cell.nonce ++ (cell.key ++ cell.barrier))
+waiting_spelling cell =
+    head_of 0x57 cell.variant cell.module (cell.nonce ++ (cell.key ++ cell.barrier))
 
 -- behind `MMX1`: the summary or anchor, the key and the nonce; 104 bytes in all
 unfoldable pub retired_spelling : Retired → List ℕ
-retired_spelling cell = head_of 0x58 cell.variant cell.module (cell.summary.bytes ++ (cell.key ++ cell.nonce))
+retired_spelling cell =
+    head_of 0x58 cell.variant cell.module (cell.summary.bytes ++ (cell.key ++ cell.nonce))
 
 abbrev pub moved_spelling : MovedCell → List ℕ
 moved_spelling (moved.Live cell) = cell_spelling cell
@@ -58,7 +61,8 @@ IsMoved (moved.Retired cell) = IsRetired cell
 abbrev pub SpellsMoved : List ℕ → MovedCell → Type 0
 SpellsMoved bytes cell = IsMoved cell × (bytes ≡ moved_spelling cell)
 
--- The only cell that the bytes may spell: the third byte tells the form, and the fields stand at fixed places.
+-- The only cell that the bytes may spell: the third byte tells the form, and the fields stand at
+-- fixed places.
 abbrev pub waiting_in : List ℕ → Waiting
 waiting_in bytes = record {
   variant = variant_in bytes;
@@ -90,7 +94,8 @@ live_in bytes = record {
 abbrev pub moved_in : List ℕ → MovedCell
 moved_in bytes =
     if slice_index bytes 2 == 0x57 then moved.Waiting (waiting_in bytes)
-    else (if slice_index bytes 2 == 0x58 then moved.Retired (retired_in bytes) else moved.Live (live_in bytes))
+    else (if slice_index bytes 2 == 0x58 then moved.Retired (retired_in bytes)
+    else moved.Live (live_in bytes))
 
 abbrev pub fits_variant : Variant → Bool → List ℕ → Bool
 fits_variant Basic flag barrier = not flag && bytes_eq barrier zero_bytes

@@ -31,23 +31,27 @@ answered answer None = Ok answer
 answered answer (Some fault) = Err (Core (Device fault))
 
 -- The last step writes these bytes. Where it doesn't fail, the answer that was ready is given.
-pub record WritesCell {A : Type 0} (next : List ℕ) (answer : A) (old new : Standing) (result : Result A MoveRefusal) : Type 0 where
+pub record WritesCell {A : Type 0} (next : List ℕ) (answer : A) (old new : Standing)
+    (result : Result A MoveRefusal) : Type 0 where
   pub fault : Option StepFault
   pub goes : Goes (WriteCell next) old new fault
   pub gives : result ≡ answered answer fault
 
 -- There is no last step where the move was made before.
-abbrev pub Makes : {A : Type 0} → Option (List ℕ) → A → Standing → Standing → Result A MoveRefusal → Type 0
+abbrev pub Makes : {A : Type 0} → Option (List ℕ) → A → Standing → Standing → Result A MoveRefusal
+    → Type 0
 Makes None answer old new result = (new ≡ old) × (result ≡ Ok answer)
 Makes (Some next) answer old new result = WritesCell next answer old new result
 
 -- how a move goes on by what it found
-abbrev pub GoesOn : {A : Type 0} → Result (Ready A) MoveRefusal → Standing → Standing → Result A MoveRefusal → Type 0
+abbrev pub GoesOn : {A : Type 0} → Result (Ready A) MoveRefusal → Standing → Standing
+    → Result A MoveRefusal → Type 0
 GoesOn (Err why) old new result = (new ≡ old) × (result ≡ Err why)
 GoesOn (Ok ready) old new result = Makes ready.next ready.answer old new result
 
 -- What is found in the bytes that were read, and how the move goes on by it.
-pub record Finds {A : Type 0} (finds : List ℕ → Result (Ready A) MoveRefusal) (old middle new : Standing)
+pub record Finds {A : Type 0} (finds : List ℕ → Result (Ready A) MoveRefusal)
+    (old middle new : Standing)
     (result : Result A MoveRefusal) : Type 0 where
   pub bytes : List ℕ
   pub size : length bytes ≡ cell_length
@@ -60,7 +64,8 @@ pub record Finds {A : Type 0} (finds : List ℕ → Result (Ready A) MoveRefusal
 abbrev pub AfterRead : {A : Type 0} → (List ℕ → Result (Ready A) MoveRefusal) → Option StepFault
     → Standing → Standing → Standing → Result A MoveRefusal → Type 0
 AfterRead finds None old middle new result = Finds finds old middle new result
-AfterRead finds (Some fault) old middle new result = (new ≡ middle) × (result ≡ Err (Core (Device fault)))
+AfterRead finds (Some fault) old middle new result =
+    (new ≡ middle) × (result ≡ Err (Core (Device fault)))
 
 -- The steps of a move: it reads the cell, and by what it finds there it ends, or writes the cell.
 pub record Moves {A : Type 0} (finds : List ℕ → Result (Ready A) MoveRefusal) (old new : Standing)
@@ -75,7 +80,8 @@ abbrev pub ReadsOnce : Standing → Standing → Type 0
 ReadsOnce old new = (new.steps ≡ counted old.steps) × (new.writes ≡ old.writes)
 
 abbrev pub ReadsAndWrites : Standing → Standing → Type 0
-ReadsAndWrites old new = (new.steps ≡ counted (counted old.steps)) × (new.writes ≡ counted old.writes)
+ReadsAndWrites old new =
+    (new.steps ≡ counted (counted old.steps)) × (new.writes ≡ counted old.writes)
 
 abbrev pub StepsRefused : Option StepFault → Standing → Standing → Type 0
 StepsRefused None old new = ReadsOnce old new
@@ -89,7 +95,8 @@ MoveStepsBy (Err why) old new = StepsRefused (move_fault_of why) old new
 -- One move over a platform, by what it finds in the cell's bytes.
 pub record MovedAs {A : Type 0} (finds : List ℕ → Result (Ready A) MoveRefusal) (old new : Standing)
     (result : Result A MoveRefusal) : Type 0 where
-  -- the steps that were made, and what each gave; want of memory may come in place of what is not refused
+  -- the steps that were made, and what each gave; want of memory may come in place of what is not
+  -- refused
   pub moves : Moves finds old new result
   -- a refusal that hands on no device's fault has changed nothing
   pub untouched : move_fault_in result ≡ None → IsErr result → IsUntouched old new

@@ -15,7 +15,8 @@ use Rattle.mm_seal.specs.declared.snapshot.Place.TheVariants.{Basic, Opt}
 use Rattle.mm_seal.specs.declared.snapshot.PartsFault.{PartsFault}
 use Rattle.mm_seal.specs.declared.snapshot.PartsFault.TheVariants.{Form, Kind}
 use Rattle.mm_seal.specs.Cell.{cell_spelling}
-use Rattle.mm_seal.specs.Parts.{parts_of, same_variant}
+use Rattle.mm_seal.specs.Parts.{parts_of}
+use Rattle.mm_seal.specs.PartsWords.{same_variant}
 use Rattle.mm_seal.specs.Snapshot.{Content, Snapshot, tag_of, sealed_of}
 use Rattle.mm_model.specs.declared.refusal.Refusal.TheVariants as core
 use Rattle.mm_model.specs.Judge.{forms_of, fits_fresh}
@@ -73,7 +74,8 @@ invites_in next (Ok (Waits cell)) =
 invites_in next (Ok (Live cell)) = Err Already
 invites_in next (Err Unspelled) = Err Already
 
--- Retirement. The offer is read, its state is one of the module's, and its tag is right under the cell's key:
+-- Retirement. The offer is read, its state is one of the module's, and its tag is right under the
+-- cell's key:
 abbrev pub offer_by : Meaning → List ℕ → Result Snapshot PartsFault → Result Content MoveRefusal
 offer_by meaning key (Err Form) = Err (Core core.Form)
 offer_by meaning key (Err Kind) = Err (Core core.Kind)
@@ -98,12 +100,17 @@ ticket_for variant nonce summary offered = record {
   content = record offered { place = place_at variant summary };
 }
 
-abbrev pub leaves_by : Variant → Link → List ℕ → Digest → Option (List ℕ) → Result Content MoveRefusal
+abbrev pub leaves_by : Variant → Link → List ℕ → Digest → Option (List ℕ)
+    → Result Content MoveRefusal
     → Result (Ready (List ℕ)) MoveRefusal
 leaves_by variant link nonce summary next (Err why) = Err why
 leaves_by variant link nonce summary next (Ok offered) =
     refuse_if (not (stands_at summary offered.place)) (Core core.Stale)
-    (Ok (record { next = next; answer = sealed_ticket link.key (ticket_for variant nonce summary offered) }))
+    (Ok (record {
+      next = next;
+      answer = sealed_ticket link.key
+          (ticket_for variant nonce summary offered);
+    }))
 
 -- the cell that a retirement writes
 abbrev pub retired_from : Cell → List ℕ → Retired
@@ -132,8 +139,10 @@ retires_in meaning variant link nonce offer (Ok (Left cell)) =
     (refuse_if (not (bytes_eq cell.nonce nonce)) Gone
     (leaves_by variant link nonce cell.summary None (right_offer meaning variant cell.key offer)))
 
--- Acceptance. The ticket is read, its state is one of the module's, and its tag is right under the link's key:
-abbrev pub ticket_by : Meaning → List ℕ → Result TaggedTicket PartsFault → Result TicketContent MoveRefusal
+-- Acceptance. The ticket is read, its state is one of the module's, and its tag is right under the
+-- link's key:
+abbrev pub ticket_by : Meaning → List ℕ → Result TaggedTicket PartsFault
+    → Result TicketContent MoveRefusal
 ticket_by meaning key (Err Form) = Err (Core core.Form)
 ticket_by meaning key (Err Kind) = Err (Core core.Kind)
 ticket_by meaning key (Ok offered) =
@@ -159,7 +168,8 @@ lives_from cell content = record {
   barrier = cell.barrier;
 }
 
-abbrev pub arrives_by : Waiting → Result TicketContent MoveRefusal → Result (Ready Accepted) MoveRefusal
+abbrev pub arrives_by : Waiting → Result TicketContent MoveRefusal
+    → Result (Ready Accepted) MoveRefusal
 arrives_by cell (Err why) = Err why
 arrives_by cell (Ok ticket) =
     refuse_if (not (bytes_eq ticket.nonce cell.nonce)) Nonce
@@ -168,14 +178,18 @@ arrives_by cell (Ok ticket) =
       answer = accepted_as cell.key ticket.content;
     }))
 
-abbrev pub has_arrived_by : Cell → Result TicketContent MoveRefusal → Result (Ready Accepted) MoveRefusal
+abbrev pub has_arrived_by : Cell → Result TicketContent MoveRefusal
+    → Result (Ready Accepted) MoveRefusal
 has_arrived_by cell (Err why) = Err why
 has_arrived_by cell (Ok ticket) =
-    refuse_if (cell.flag || not (bytes_eq (summary_in ticket.content.place).bytes cell.summary.bytes)) (Core core.Stale)
+    refuse_if (cell.flag
+    || not (bytes_eq (summary_in ticket.content.place).bytes cell.summary.bytes))
+    (Core core.Stale)
     (Ok (record { next = None; answer = accepted_as cell.key ticket.content }))
 
 -- at a waiting cell, or once more at the cell that it wrote
-abbrev pub accepts_in : Meaning → Variant → Link → List ℕ → Result MovedCell CellFault → Result (Ready Accepted) MoveRefusal
+abbrev pub accepts_in : Meaning → Variant → Link → List ℕ → Result MovedCell CellFault
+    → Result (Ready Accepted) MoveRefusal
 accepts_in meaning variant link ticket (Err Blank) = Err (Core core.Blank)
 accepts_in meaning variant link ticket (Ok (Left cell)) = Err Gone
 accepts_in meaning variant link ticket (Err Unspelled) = Err (Core core.Cell)

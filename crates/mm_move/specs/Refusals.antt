@@ -30,7 +30,8 @@ move_fault_in (Ok answer) = None
 move_fault_in (Err why) = move_fault_of why
 
 -- refused where the test holds, and otherwise the rest
-abbrev pub refuse_if : {A : Type 0} → Bool → MoveRefusal → Result A MoveRefusal → Result A MoveRefusal
+abbrev pub refuse_if : {A : Type 0} → Bool → MoveRefusal → Result A MoveRefusal
+    → Result A MoveRefusal
 refuse_if test why rest = if test then Err why else rest
 
 -- Want of memory may come in place of what is not refused.

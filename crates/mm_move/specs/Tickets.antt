@@ -12,7 +12,8 @@ use Rattle.mm_seal.specs.declared.snapshot.Place.TheVariants.{Basic, Opt}
 use Rattle.mm_seal.specs.declared.snapshot.PartsFault.{PartsFault}
 use Rattle.mm_seal.specs.declared.snapshot.PartsFault.TheVariants.{Form, Kind}
 use Rattle.mm_seal.specs.Body.{content_of}
-use Rattle.mm_seal.specs.Parts.{is_bounded, same_variant, is_of_kind}
+use Rattle.mm_seal.specs.Parts.{is_of_kind}
+use Rattle.mm_seal.specs.PartsWords.{is_bounded, same_variant}
 use Rattle.mm_seal.specs.Snapshot.{Content, Snapshot, IsContent, variant_of}
 use Rattle.mm_move.specs.declared.ticket.Ticket.{Ticket}
 use Rattle.mm_move.specs.Fields.{part, digest_at, number_at, variant_in}
@@ -30,7 +31,8 @@ place_at variants.Opt anchor = Opt anchor (record { bytes = zero_bytes })
 abbrev pub IsAtAnchor : Place → Type 0
 IsAtAnchor place = place ≡ place_at (variant_of place) (summary_in place)
 
--- What a ticket says: the nonce that it is for, and what the module's snapshot says where the module left.
+-- What a ticket says: the nonce that it is for, and what the module's snapshot says where the
+-- module left.
 pub record TicketContent : Type 0 where
   pub nonce : List ℕ
   pub content : Content
@@ -43,8 +45,8 @@ pub record IsTicket (ticket : TicketContent) : Type 0 where
   pub content : IsContent ticket.content
   pub place : IsAtAnchor ticket.content.place
 
--- `MMT1`, the variant, the module's id, the nonce, the summary or anchor, the position in 8 bytes, and the length of
--- the state in 4 bytes: 82 bytes
+-- `MMT1`, the variant, the module's id, the nonce, the summary or anchor, the position in 8 bytes,
+-- and the length of the state in 4 bytes: 82 bytes
 unfoldable pub ticket_front : TicketContent → List ℕ
 ticket_front ticket =
     0x4d ∷ 0x4d ∷ 0x54 ∷ 0x31 ∷ variant_byte (variant_of ticket.content.place) ∷ ticket.content.id
@@ -75,7 +77,8 @@ pub record IsTagged (tagged : TaggedTicket) : Type 0 where
 abbrev pub ticket_spelling : TaggedTicket → List ℕ
 ticket_spelling tagged = ticket_signed tagged.ticket ++ tagged.tag
 
--- The only ticket that the bytes may spell: its fields stand at fixed places, and the state in front of the tag.
+-- The only ticket that the bytes may spell: its fields stand at fixed places, and the state in
+-- front of the tag.
 unfoldable pub tagged_in : List ℕ → TaggedTicket
 tagged_in bytes = record {
   ticket = record {
@@ -92,23 +95,27 @@ tagged_in bytes = record {
 
 -- the snapshot that a ticket is like, as far as its kind and its bounds go
 abbrev pub is_for : Variant → ℕ → TaggedTicket → Bool
-is_for variant id tagged = is_of_kind variant id (record { content = tagged.ticket.content; tag = tagged.tag })
+is_for variant id tagged =
+    is_of_kind variant id (record { content = tagged.ticket.content; tag = tagged.tag })
 
 -- whether the bytes are long enough for the fields, within their bounds, and the ticket's own
 abbrev pub is_spelled_by : List ℕ → TaggedTicket → Bool
 is_spelled_by bytes tagged =
-    nat_le 114 (length bytes) && is_bounded tagged.ticket.content && bytes_eq (ticket_spelling tagged) bytes
+    nat_le 114 (length bytes) && is_bounded tagged.ticket.content
+    && bytes_eq (ticket_spelling tagged) bytes
 
 abbrev pub ticket_by : Variant → ℕ → List ℕ → TaggedTicket → Result TaggedTicket PartsFault
 ticket_by variant id bytes tagged =
-    if is_spelled_by bytes tagged then (if is_for variant id tagged then Ok tagged else Err Kind) else Err Form
+    if is_spelled_by bytes tagged then (if is_for variant id tagged then Ok tagged else Err Kind)
+    else Err Form
 
 -- What the bytes say, as a ticket for this variant and module.
 unfoldable pub ticket_of : Variant → ℕ → List ℕ → Result TaggedTicket PartsFault
 ticket_of variant id bytes = ticket_by variant id bytes (tagged_in bytes)
 
 -- the bytes are this ticket's, which is for this variant and module
-pub record SpellsTicket (variant : Variant) (id : ℕ) (bytes : List ℕ) (tagged : TaggedTicket) : Type 0 where
+pub record SpellsTicket (variant : Variant) (id : ℕ) (bytes : List ℕ) (tagged : TaggedTicket) : Type
+    0 where
   pub is : IsTagged tagged
   pub bytes_are : bytes ≡ ticket_spelling tagged
   pub variant_is : variant_of tagged.ticket.content.place ≡ variant

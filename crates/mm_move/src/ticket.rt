@@ -3,7 +3,7 @@
 ghost use Rattle.std.specs.Prelude.{◌≡◌, ◌≤◌, IfOk, MatchOption, true, false, length};
 ghost use Rattle.mm_base.specs.Limits.{last_position, limit_of};
 ghost use Rattle.mm_seal.specs.Body.{content_of};
-ghost use Rattle.mm_seal.specs.Parts.{is_bounded};
+ghost use Rattle.mm_seal.specs.PartsWords.{is_bounded};
 ghost use Rattle.mm_move.specs.Tickets.{IsAtAnchor, summary_in, place_at, ticket_content, ticket_front, sealed_ticket, tagged_in, is_for, is_spelled_by, ticket_of};
 
 use crate::fields::{number_at, part, variant_in};

@@ -54,16 +54,19 @@ last_fault (Ok answer) = refl
 last_fault (Err fault) = refl
 
 -- the fault of what a turn gives
-handed : (act : Act) (old new : Standing) (fault : Option StepFault) (given turn : Turn) → fault ≡ fault_turned given → turn ≡ given → Goes act old new fault → Goes act old new (fault_turned turn)
+handed : (act : Act) (old new : Standing) (fault : Option StepFault) (given turn : Turn) → fault ≡ fault_turned given → turn ≡ given
+    → Goes act old new fault → Goes act old new (fault_turned turn)
 handed act old new fault given turn e gives g = subst (λ (f : Option StepFault). Goes act old new f) (e ∙ ap fault_turned (sym gives)) g
 
-pub room_only : (found : Result Found Refusal) (middle new : Standing) → MakesRoom found middle new → new ≡ record middle { spare = new.spare }
+pub room_only : (found : Result Found Refusal) (middle new : Standing) → MakesRoom found middle new
+    → new ≡ record middle { spare = new.spare }
 room_only (Err why) middle new r = subst (λ (x : Standing). x ≡ record middle { spare = x.spare }) (sym r) refl
 room_only (Ok (Repeat answer)) middle new r = subst (λ (x : Standing). x ≡ record middle { spare = x.spare }) (sym r) refl
 room_only (Ok (Inside ready)) middle new r = r.same
 room_only (Ok (Opens opening)) middle new r = r.same
 
-pub acts_at : (call : Stage) (meaning : Meaning) (old new : Standing) (offer : List ℕ) (b : Batch) (turn : Turn) → Turns meaning call old new offer b turn → ActsAt call old new turn
+pub acts_at : (call : Stage) (meaning : Meaning) (old new : Standing) (offer : List ℕ) (b : Batch) (turn : Turn)
+    → Turns meaning call old new offer b turn → ActsAt call old new turn
 acts_at stage.Begun meaning old new offer b turn t = record {
   middle = new;
   goes = handed ReadCell old new (fault_in t.outcome) (seen_turn t.outcome) turn (seen_fault t.outcome) t.gives t.step.goes;
@@ -76,7 +79,9 @@ acts_at (stage.Seen cell) meaning old new offer b turn t = record {
 }
 acts_at (stage.Changing (change.Inside ready)) meaning old new offer b turn t = record {
   middle = new;
-  goes = handed (ExtendRegister ready.value.bytes) old new (result_err t.outcome) (last_turn t.outcome) turn (last_fault t.outcome) t.gives t.step.goes;
+  goes =
+      handed (ExtendRegister ready.value.bytes) old new (result_err t.outcome) (last_turn t.outcome) turn (last_fault t.outcome) t.gives
+      t.step.goes;
   room = refl;
 }
 acts_at (stage.Changing (change.Emptying opening)) meaning old new offer b turn t = record {
@@ -86,12 +91,15 @@ acts_at (stage.Changing (change.Emptying opening)) meaning old new offer b turn 
 }
 acts_at (stage.Changing (change.Placing opening)) meaning old new offer b turn t = record {
   middle = new;
-  goes = handed (ExtendRegister opening.value.bytes) old new (result_err t.outcome) (placed_turn t.outcome) turn (placed_fault t.outcome) t.gives t.step.goes;
+  goes =
+      handed (ExtendRegister opening.value.bytes) old new (result_err t.outcome) (placed_turn t.outcome) turn (placed_fault t.outcome)
+      t.gives t.step.goes;
   room = refl;
 }
 acts_at (stage.Changing (change.Writing opening)) meaning old new offer b turn t = record {
   middle = new;
-  goes = handed (WriteCell opening.next) old new (result_err t.outcome) (last_turn t.outcome) turn (last_fault t.outcome) t.gives t.step.goes;
+  goes =
+      handed (WriteCell opening.next) old new (result_err t.outcome) (last_turn t.outcome) turn (last_fault t.outcome) t.gives t.step.goes;
   room = refl;
 }
 
@@ -106,7 +114,8 @@ found_room (Ok (Repeat answer)) middle new r = tt
 found_room (Ok (Inside ready)) middle new r = r.room
 found_room (Ok (Opens opening)) middle new r = r.room
 
-emptied_room : (emptied : Result Opening StepFault) (old new : Standing) → IsReady old → Goes ResetRegister old new (result_err emptied) → TurnMayGoOn (emptied_turn emptied) new
+emptied_room : (emptied : Result Opening StepFault) (old new : Standing) → IsReady old → Goes ResetRegister old new (result_err emptied)
+    → TurnMayGoOn (emptied_turn emptied) new
 emptied_room (Err fault) old new ready g = tt
 emptied_room (Ok opening) old new ready g = omega (arith, ready, g.room)
 
@@ -139,7 +148,8 @@ blamed None old new made e = e.faults
 blamed (Some Failed) old new made e = e.faults
 blamed (Some Off) old new made e = e.faults
 
-pub turn_blamed : (call : Stage) (old new : Standing) (turn : Turn) → ActsAt call old new turn → Blames (fault_turned turn) old.faults new.faults
+pub turn_blamed : (call : Stage) (old new : Standing) (turn : Turn) → ActsAt call old new turn
+    → Blames (fault_turned turn) old.faults new.faults
 turn_blamed call old new turn a =
     subst (λ (s : Standing). Blames (fault_turned turn) old.faults s.faults) (sym a.room)
     (blamed (fault_turned turn) old a.middle a.goes.is_made a.goes.ends)
@@ -158,14 +168,17 @@ closed_fault : (written : Result Checkpointed StepFault) → result_err written 
 closed_fault (Ok it) = refl
 closed_fault (Err fault) = refl
 
-closing_handed : (act : Act) (old new : Standing) (fault : Option StepFault) (given turn : CheckpointTurn) → fault ≡ closing_fault_turned given → turn ≡ given → Goes act old new fault → Goes act old new (closing_fault_turned turn)
+closing_handed : (act : Act) (old new : Standing) (fault : Option StepFault) (given turn : CheckpointTurn)
+    → fault ≡ closing_fault_turned given → turn ≡ given → Goes act old new fault → Goes act old new (closing_fault_turned turn)
 closing_handed act old new fault given turn e gives g =
     subst (λ (f : Option StepFault). Goes act old new f) (e ∙ ap closing_fault_turned (sym gives)) g
 
-pub closing_acts_at : (call : CheckpointStage) (old new : Standing) (turn : CheckpointTurn) → ClosingTurns call old new turn → ClosingActsAt call old new turn
+pub closing_acts_at : (call : CheckpointStage) (old new : Standing) (turn : CheckpointTurn) → ClosingTurns call old new turn
+    → ClosingActsAt call old new turn
 closing_acts_at checkpoint_stage.Begun old new turn t =
     closing_handed ReadCell old new (closing_fault_in t.outcome) (looked_turn t.outcome) turn (looked_fault t.outcome) t.gives t.step.goes
 closing_acts_at (checkpoint_stage.Seen cell) old new turn t =
-    closing_handed ReadRegister old new (closing_fault_in t.outcome) (weighed_turn t.outcome) turn (weighed_fault t.outcome) t.gives t.step.goes
+    closing_handed ReadRegister old new (closing_fault_in t.outcome) (weighed_turn t.outcome) turn (weighed_fault t.outcome) t.gives
+    t.step.goes
 closing_acts_at (checkpoint_stage.Closing next) old new turn t =
     closing_handed (WriteCell next) old new (result_err t.outcome) (closed_turn t.outcome) turn (closed_fault t.outcome) t.gives t.step.goes

@@ -67,11 +67,13 @@ then_untouched old middle new u v = record {
   faults = v.faults ∙ u.faults;
 }
 
-pub goes_quietly : (act : Act) (old new : Standing) (fault : Option StepFault) → fault ≡ None → Goes act old new fault → Goes act old new None
+pub goes_quietly : (act : Act) (old new : Standing) (fault : Option StepFault) → fault ≡ None → Goes act old new fault
+    → Goes act old new None
 goes_quietly act old new fault e g = subst (λ (f : Option StepFault). Goes act old new f) e g
 
 -- what the second step leaves where it is refused
-register_refused : (meaning : Meaning) (cell : Cell) (old new : Standing) (offer : List ℕ) (b : Batch) (why : Refusal) → ReadsRegister meaning cell old new offer b (Err why) → fault_of why ≡ None → IsUntouched old new
+register_refused : (meaning : Meaning) (cell : Cell) (old new : Standing) (offer : List ℕ) (b : Batch) (why : Refusal)
+    → ReadsRegister meaning cell old new offer b (Err why) → fault_of why ≡ None → IsUntouched old new
 register_refused meaning cell old new offer b why r h =
     subst (λ (s : Standing). IsUntouched old s) (sym r.room)
     (register_untouched old r.middle (goes_quietly ReadRegister old r.middle (fault_of why) h r.goes))
@@ -80,7 +82,9 @@ same_refusal : (why other : Refusal) (found : Result Found Refusal) → found �
 same_refusal why other found e f = cc
 
 -- what the reading steps leave where they are refused
-reads_refused : (cell : Result Cell Refusal) (meaning : Meaning) (old middle new : Standing) (offer : List ℕ) (b : Batch) (why : Refusal) → Goes ReadCell old middle (fault_in cell) → ReadsOn meaning cell middle new offer b (Err why) → fault_of why ≡ None → IsUntouched old new
+reads_refused : (cell : Result Cell Refusal) (meaning : Meaning) (old middle new : Standing) (offer : List ℕ) (b : Batch) (why : Refusal)
+    → Goes ReadCell old middle (fault_in cell) → ReadsOn meaning cell middle new offer b (Err why) → fault_of why ≡ None
+    → IsUntouched old new
 reads_refused (Err other) meaning old middle new offer b why g on h =
     let e : why ≡ other = same_refusal why other (Err why) refl on.1 in
     subst (λ (s : Standing). IsUntouched old s) (sym on.0)
@@ -92,7 +96,9 @@ written_untouched : (written : Result BatchAnswer StepFault) (old new : Standing
 written_untouched (Ok answer) old new = tt
 written_untouched (Err fault) old new = λ (h : Some fault ≡ None). absurd (cc)
 
-ends_untouched : (found : Result Found Refusal) (meaning : Meaning) (offer : List ℕ) (b : Batch) (old middle new : Standing) (result : Result BatchAnswer Refusal) → Reads meaning old middle offer b found → Ends found middle new result → LeavesUntouched result old new
+ends_untouched : (found : Result Found Refusal) (meaning : Meaning) (offer : List ℕ) (b : Batch) (old middle new : Standing)
+    (result : Result BatchAnswer Refusal) → Reads meaning old middle offer b found → Ends found middle new result
+    → LeavesUntouched result old new
 ends_untouched (Err why) meaning offer b old middle new result r e =
     subst (λ (x : Result BatchAnswer Refusal). LeavesUntouched x old new) (sym e.1)
     (λ (h : fault_of why ≡ None). subst (λ (s : Standing). IsUntouched old s) (sym e.0)
@@ -100,7 +106,8 @@ ends_untouched (Err why) meaning offer b old middle new result r e =
 ends_untouched (Ok found) meaning offer b old middle new result r e =
     subst (λ (x : Result BatchAnswer Refusal). LeavesUntouched x old new) (sym e.gives) (written_untouched e.written old new)
 
-calls_untouched : (t : Bool) (meaning : Meaning) (old new : Standing) (offer : List ℕ) (b : Batch) (result : Result BatchAnswer Refusal) → is_long b ≡ t → Calls meaning old new offer b result → LeavesUntouched result old new
+calls_untouched : (t : Bool) (meaning : Meaning) (old new : Standing) (offer : List ℕ) (b : Batch) (result : Result BatchAnswer Refusal)
+    → is_long b ≡ t → Calls meaning old new offer b result → LeavesUntouched result old new
 calls_untouched true meaning old new offer b result is c =
     let l = c.long is in
     subst (λ (r : Result BatchAnswer Refusal). LeavesUntouched r old new) (sym l.1)
@@ -108,11 +115,13 @@ calls_untouched true meaning old new offer b result is c =
 calls_untouched false meaning old new offer b result is c =
     let a = c.asks is in ends_untouched a.found meaning offer b old a.middle new result a.reads a.ends
 
-pub untouched : (meaning : Meaning) (old new : Standing) (offer : List ℕ) (b : Batch) (result : Result BatchAnswer Refusal) → Calls meaning old new offer b result → LeavesUntouched result old new
+pub untouched : (meaning : Meaning) (old new : Standing) (offer : List ℕ) (b : Batch) (result : Result BatchAnswer Refusal)
+    → Calls meaning old new offer b result → LeavesUntouched result old new
 untouched meaning old new offer b result c = calls_untouched (is_long b) meaning old new offer b result refl c
 
 -- what was found, once the register was read
-pub reads_shaped : (cell : Result Cell Refusal) (meaning : Meaning) (old new : Standing) (offer : List ℕ) (b : Batch) (found : Found) → ReadsOn meaning cell old new offer b (Ok found) → IsShaped (Ok found)
+pub reads_shaped : (cell : Result Cell Refusal) (meaning : Meaning) (old new : Standing) (offer : List ℕ) (b : Batch) (found : Found)
+    → ReadsOn meaning cell old new offer b (Ok found) → IsShaped (Ok found)
 reads_shaped (Err why) meaning old new offer b found on = let e : Ok found ≡ Err why = on.1 in absurd (cc)
 reads_shaped (Ok cell) meaning old new offer b found on = shaped meaning cell old new offer b (Ok found) on
 
@@ -120,13 +129,15 @@ reads_shaped (Ok cell) meaning old new offer b found on = shaped meaning cell ol
 first_counted : (fault : Option StepFault) (old new : Standing) → Goes ReadCell old new fault → OneStep old new
 first_counted fault old new g = (g.steps, g.writes)
 
-pub room_counted : (found : Result Found Refusal) (old new : Standing) → MakesRoom found old new → (new.steps ≡ old.steps) × (new.writes ≡ old.writes)
+pub room_counted : (found : Result Found Refusal) (old new : Standing) → MakesRoom found old new
+    → (new.steps ≡ old.steps) × (new.writes ≡ old.writes)
 room_counted (Err why) old new r = (ap (λ (s : Standing). s.steps) r, ap (λ (s : Standing). s.writes) r)
 room_counted (Ok (Repeat answer)) old new r = (ap (λ (s : Standing). s.steps) r, ap (λ (s : Standing). s.writes) r)
 room_counted (Ok (Inside ready)) old new r = (ap (λ (s : Standing). s.steps) r.same, ap (λ (s : Standing). s.writes) r.same)
 room_counted (Ok (Opens opening)) old new r = (ap (λ (s : Standing). s.steps) r.same, ap (λ (s : Standing). s.writes) r.same)
 
-second_counted : (meaning : Meaning) (cell : Cell) (offer : List ℕ) (b : Batch) (found : Result Found Refusal) (old middle new : Standing) → OneStep old middle → ReadsRegister meaning cell middle new offer b found → TwoSteps old new
+second_counted : (meaning : Meaning) (cell : Cell) (offer : List ℕ) (b : Batch) (found : Result Found Refusal) (old middle new : Standing)
+    → OneStep old middle → ReadsRegister meaning cell middle new offer b found → TwoSteps old new
 second_counted meaning cell offer b found old middle new one r =
     let c = room_counted found r.middle new r.room in
     (c.0 ∙ r.goes.steps ∙ ap counted one.0, c.1 ∙ r.goes.writes ∙ one.1)
@@ -160,7 +171,8 @@ twice_refused refusal.Stale old new is two = two
 twice_refused refusal.Full old new is two = two
 
 -- the reading steps, where they are refused and where they aren't
-reads_stepped : (cell : Result Cell Refusal) (meaning : Meaning) (old middle new : Standing) (offer : List ℕ) (b : Batch) (why : Refusal) → ReadsOwnCell meaning.id old middle cell → ReadsOn meaning cell middle new offer b (Err why) → StepsRefused why old new
+reads_stepped : (cell : Result Cell Refusal) (meaning : Meaning) (old middle new : Standing) (offer : List ℕ) (b : Batch) (why : Refusal)
+    → ReadsOwnCell meaning.id old middle cell → ReadsOn meaning cell middle new offer b (Err why) → StepsRefused why old new
 reads_stepped (Err other) meaning old middle new offer b why r on =
     let e : why ≡ other = same_refusal why other (Err why) refl on.1 in
     subst (λ (w : Refusal). StepsRefused w old new) (sym e)
@@ -170,41 +182,58 @@ reads_stepped (Ok cell) meaning old middle new offer b why r on =
     twice_refused why old new (shaped meaning cell middle new offer b (Err why) on)
     (second_counted meaning cell offer b (Err why) old middle new (first_counted None old middle r.goes) on)
 
-pub reads_counted : (cell : Result Cell Refusal) (meaning : Meaning) (old middle new : Standing) (offer : List ℕ) (b : Batch) (found : Found) → ReadsOwnCell meaning.id old middle cell → ReadsOn meaning cell middle new offer b (Ok found) → TwoSteps old new
+pub reads_counted : (cell : Result Cell Refusal) (meaning : Meaning) (old middle new : Standing) (offer : List ℕ) (b : Batch)
+    (found : Found) → ReadsOwnCell meaning.id old middle cell → ReadsOn meaning cell middle new offer b (Ok found) → TwoSteps old new
 reads_counted (Err why) meaning old middle new offer b found r on = let e : Ok found ≡ Err why = on.1 in absurd (cc)
 reads_counted (Ok cell) meaning old middle new offer b found r on =
     second_counted meaning cell offer b (Ok found) old middle new (first_counted None old middle r.goes) on
 
 -- the changing steps
-extended_stepped : (written : Result BatchAnswer StepFault) (ready : Ready) (old middle new : Standing) → TwoSteps old middle → ready.answer.again ≡ false → Extends ready middle new written → StepsBy (handed_on written) old new
+extended_stepped : (written : Result BatchAnswer StepFault) (ready : Ready) (old middle new : Standing) → TwoSteps old middle
+    → ready.answer.again ≡ false → Extends ready middle new written → StepsBy (handed_on written) old new
 extended_stepped (Ok answer) ready old middle new two e x =
     subst (λ (t : Bool). StepsAnswered t old new) (sym (ap (λ (a : BatchAnswer). a.again) x.gives ∙ e))
     (inl (x.goes.steps ∙ ap counted two.0, x.goes.writes ∙ two.1))
 extended_stepped (Err fault) ready old middle new two e x = three_steps (x.goes.steps ∙ ap counted two.0, x.goes.writes ∙ two.1)
 
-written_stepped : (written : Result BatchAnswer StepFault) (opening : Opening) (old middle new : Standing) → FourSteps old middle → opening.answer.again ≡ false → Writes opening middle new written → StepsBy (handed_on written) old new
+written_stepped : (written : Result BatchAnswer StepFault) (opening : Opening) (old middle new : Standing) → FourSteps old middle
+    → opening.answer.again ≡ false → Writes opening middle new written → StepsBy (handed_on written) old new
 written_stepped (Ok answer) opening old middle new four e w =
     subst (λ (t : Bool). StepsAnswered t old new) (sym (ap (λ (a : BatchAnswer). a.again) w.gives ∙ e))
     (inr (w.goes.steps ∙ ap counted four.0, w.goes.writes ∙ ap counted four.1))
-written_stepped (Err fault) opening old middle new four e w = five_steps (w.goes.steps ∙ ap counted four.0, w.goes.writes ∙ ap counted four.1)
+written_stepped (Err fault) opening old middle new four e w =
+    five_steps (w.goes.steps ∙ ap counted four.0, w.goes.writes ∙ ap counted four.1)
 
-placed_stepped : (placed : Result Opening StepFault) (written : Result BatchAnswer StepFault) (opening : Opening) (old middle next new : Standing) → ThreeSteps old middle → opening.answer.again ≡ false → Places opening middle next placed → PlacedOn placed next new written → StepsBy (handed_on written) old new
+placed_stepped : (placed : Result Opening StepFault) (written : Result BatchAnswer StepFault) (opening : Opening)
+    (old middle next new : Standing) → ThreeSteps old middle → opening.answer.again ≡ false → Places opening middle next placed
+    → PlacedOn placed next new written → StepsBy (handed_on written) old new
 placed_stepped (Err fault) written opening old middle next new three e p on =
     subst (λ (w : Result BatchAnswer StepFault). StepsBy (handed_on w) old new) (sym on.1)
-    (four_steps (ap (λ (s : Standing). s.steps) on.0 ∙ p.goes.steps ∙ ap counted three.0, ap (λ (s : Standing). s.writes) on.0 ∙ p.goes.writes ∙ three.1))
+    (four_steps (
+      ap (λ (s : Standing). s.steps) on.0 ∙ p.goes.steps ∙ ap counted three.0,
+      ap (λ (s : Standing). s.writes) on.0
+          ∙ p.goes.writes ∙ three.1,
+    ))
 placed_stepped (Ok it) written opening old middle next new three e p on =
     written_stepped written it old next new (p.goes.steps ∙ ap counted three.0, p.goes.writes ∙ three.1)
     (ap (λ (o : Opening). o.answer.again) p.gives ∙ e) on
 
-emptied_stepped : (emptied : Result Opening StepFault) (written : Result BatchAnswer StepFault) (opening : Opening) (old middle next new : Standing) → TwoSteps old middle → opening.answer.again ≡ false → Empties opening middle next emptied → EmptiedOn emptied next new written → StepsBy (handed_on written) old new
+emptied_stepped : (emptied : Result Opening StepFault) (written : Result BatchAnswer StepFault) (opening : Opening)
+    (old middle next new : Standing) → TwoSteps old middle → opening.answer.again ≡ false → Empties opening middle next emptied
+    → EmptiedOn emptied next new written → StepsBy (handed_on written) old new
 emptied_stepped (Err fault) written opening old middle next new two e p on =
     subst (λ (w : Result BatchAnswer StepFault). StepsBy (handed_on w) old new) (sym on.1)
-    (three_steps (ap (λ (s : Standing). s.steps) on.0 ∙ p.goes.steps ∙ ap counted two.0, ap (λ (s : Standing). s.writes) on.0 ∙ p.goes.writes ∙ two.1))
+    (three_steps (
+      ap (λ (s : Standing). s.steps) on.0 ∙ p.goes.steps ∙ ap counted two.0,
+      ap (λ (s : Standing). s.writes) on.0
+          ∙ p.goes.writes ∙ two.1,
+    ))
 emptied_stepped (Ok it) written opening old middle next new two e p on =
     placed_stepped on.placed written it old next on.middle new (p.goes.steps ∙ ap counted two.0, p.goes.writes ∙ two.1)
     (ap (λ (o : Opening). o.answer.again) p.gives ∙ e) on.places on.on
 
-commits_stepped : (found : Found) (written : Result BatchAnswer StepFault) (b : Batch) (old middle new : Standing) → TwoSteps old middle → IsShaped (Ok found) → CommitsFound found middle new written → StepsBy (handed_on written) old new
+commits_stepped : (found : Found) (written : Result BatchAnswer StepFault) (b : Batch) (old middle new : Standing) → TwoSteps old middle
+    → IsShaped (Ok found) → CommitsFound found middle new written → StepsBy (handed_on written) old new
 commits_stepped (Repeat answer) written b old middle new two shape c =
     subst (λ (w : Result BatchAnswer StepFault). StepsBy (handed_on w) old new) (sym c.1)
     (subst (λ (t : Bool). StepsAnswered t old new) (sym shape)
@@ -213,7 +242,8 @@ commits_stepped (Inside ready) written b old middle new two shape c = extended_s
 commits_stepped (Opens opening) written b old middle new two shape c =
     emptied_stepped c.emptied written opening old middle c.middle new two shape c.empties c.on
 
-ends_stepped : (found : Result Found Refusal) (meaning : Meaning) (offer : List ℕ) (b : Batch) (old middle new : Standing) (result : Result BatchAnswer Refusal) → Reads meaning old middle offer b found → Ends found middle new result → StepsBy result old new
+ends_stepped : (found : Result Found Refusal) (meaning : Meaning) (offer : List ℕ) (b : Batch) (old middle new : Standing)
+    (result : Result BatchAnswer Refusal) → Reads meaning old middle offer b found → Ends found middle new result → StepsBy result old new
 ends_stepped (Err why) meaning offer b old middle new result r e =
     subst (λ (x : Result BatchAnswer Refusal). StepsBy x old new) (sym e.1)
     (subst (λ (s : Standing). StepsRefused why old s) (sym e.0)
@@ -223,6 +253,7 @@ ends_stepped (Ok found) meaning offer b old middle new result r e =
     (commits_stepped found e.written b old middle new (reads_counted r.cell meaning old r.middle middle offer b found r.reads r.on)
     (reads_shaped r.cell meaning r.middle middle offer b found r.on) e.commits)
 
-pub steps : (meaning : Meaning) (old new : Standing) (offer : List ℕ) (b : Batch) (result : Result BatchAnswer Refusal) → Calls meaning old new offer b result → is_long b ≡ false → StepsBy result old new
+pub steps : (meaning : Meaning) (old new : Standing) (offer : List ℕ) (b : Batch) (result : Result BatchAnswer Refusal)
+    → Calls meaning old new offer b result → is_long b ≡ false → StepsBy result old new
 steps meaning old new offer b result c is =
     let a = c.asks is in ends_stepped a.found meaning offer b old a.middle new result a.reads a.ends

@@ -17,7 +17,8 @@ use Rattle.mm_seal.specs.declared.cell.Cell.{Cell}
 use Rattle.mm_seal.specs.declared.cell.CellFault.{CellFault}
 use Rattle.mm_seal.specs.Cell.{IsCell, cell_spelling}
 use Rattle.mm_seal.proofs.CellLaws.{reads_cell-same}
-use Rattle.mm_model.specs.Instance.{Instance, basic, opt}
+use Rattle.mm_model.specs.Instance.{Instance}
+use Rattle.mm_model.specs.InstanceWords.{basic, opt}
 use Rattle.mm_module.specs.Batch.{Batch}
 use Rattle.mm_model.specs.History.{History, Move, Foreign, Close}
 use Rattle.mm_model.specs.Moves.{Digests, digests_of}
@@ -26,7 +27,8 @@ use Rattle.mm_model.specs.Steps.{Step, Reads, Writes, checkpoint_steps}
 use Rattle.mm_call.specs.Levels.{all_made, by_lists, by_digests}
 use Rattle.mm_call.specs.Courses.{Course, Fate, Walked, closes, walk, step_moves, seen_in}
 use Rattle.mm_call.specs.Called.{reading_steps}
-use Rattle.mm_call.specs.Checkpoints.{Closing, closing_of, closed_by, checkpointed_by, checkpointed_with, checkpointed, IsClosedWithin, CheckpointsAgree}
+use Rattle.mm_call.specs.Checkpoints.{Closing, closing_of, checkpointed_by, checkpointed, IsClosedWithin, CheckpointsAgree}
+use Rattle.mm_call.specs.CheckpointsWords.{closed_by, checkpointed_with}
 use Rattle.mm_call.specs.Standing.{instance_by, cell_at, StandsAt, shown_by}
 use Rattle.mm_call.specs.Trails.{IsWrite, Stepped, Trail}
 use Rattle.mm_call.proofs.Trails.{reads_of, reads_beside, with_register, leads}
@@ -51,28 +53,38 @@ use Rattle.mm_opt.proofs.Going.{fate_of, quietly, loudly, read_value, two_brough
 abbrev on_course : (ℕ → Fate) → Course
 on_course fates = record { fates = fates; lacks = false }
 
-abbrev pub closing_fates : (found : Result (List ℕ) CheckpointRefusal) (old new : Standing) (result : Result Checkpointed CheckpointRefusal) → EndsClosing found old new result → List Fate
+abbrev pub closing_fates : (found : Result (List ℕ) CheckpointRefusal) (old new : Standing) (result : Result Checkpointed CheckpointRefusal)
+    → EndsClosing found old new result → List Fate
 closing_fates (Err why) old new result e = []
 closing_fates (Ok next) old new result e = fate_of (WriteCell next) old new (result_err e.written) e.closes.goes ∷ []
 
-abbrev pub looked_fates : (found : Result Segment CheckpointRefusal) (old new : Standing) (result : Result Checkpointed CheckpointRefusal) → EndsLooking found old new result → List Fate
+abbrev pub looked_fates : (found : Result Segment CheckpointRefusal) (old new : Standing) (result : Result Checkpointed CheckpointRefusal)
+    → EndsLooking found old new result → List Fate
 looked_fates (Err why) old new result e = []
 looked_fates (Ok Shut) old new result e = []
 looked_fates (Ok (Open cell)) old new result e =
     fate_of ReadRegister old e.middle (closing_fault_in e.found) e.weighs.goes ∷ closing_fates e.found e.middle new result e.ends
 
-abbrev pub checked_fates : (found : Result Segment CheckpointRefusal) (old middle new : Standing) (result : Result Checkpointed CheckpointRefusal) → Looks old middle found → EndsLooking found middle new result → List Fate
-checked_fates found old middle new result l e = fate_of ReadCell old middle (closing_fault_in found) l.goes ∷ looked_fates found middle new result e
+abbrev pub checked_fates : (found : Result Segment CheckpointRefusal) (old middle new : Standing)
+    (result : Result Checkpointed CheckpointRefusal) → Looks old middle found → EndsLooking found middle new result → List Fate
+checked_fates found old middle new result l e =
+    fate_of ReadCell old middle (closing_fault_in found) l.goes ∷ looked_fates found middle new result e
 
 -- it is the plan's, where one is told
-tells_closing : (found : Result (List ℕ) CheckpointRefusal) (cell : Cell) (old middle new : Standing) (result : Result Checkpointed CheckpointRefusal) (plan : Plan) → IsAt old plan 1 → (w : Weighs cell old middle found) → (e : EndsClosing found middle new result) → AreMet (fate_of ReadRegister old middle (closing_fault_in found) w.goes ∷ closing_fates found middle new result e) 2 plan
-tells_closing (Err why) cell old middle new result plan at w e = (met_at ReadRegister old middle (closing_fault_of why) plan 1 at w.goes, tt)
+tells_closing : (found : Result (List ℕ) CheckpointRefusal) (cell : Cell) (old middle new : Standing)
+    (result : Result Checkpointed CheckpointRefusal) (plan : Plan) → IsAt old plan 1 → (w : Weighs cell old middle found)
+    → (e : EndsClosing found middle new result)
+    → AreMet (fate_of ReadRegister old middle (closing_fault_in found) w.goes ∷ closing_fates found middle new result e) 2 plan
+tells_closing (Err why) cell old middle new result plan at w e =
+    (met_at ReadRegister old middle (closing_fault_of why) plan 1 at w.goes, tt)
 tells_closing (Ok next) cell old middle new result plan at w e = (
   met_at ReadRegister old middle None plan 1 at w.goes,
   (met_at (WriteCell next) middle new (result_err e.written) plan 2 (then_at ReadRegister old middle plan 1 at w.goes) e.closes.goes, tt),
 )
 
-tells_looked : (found : Result Segment CheckpointRefusal) (old middle new : Standing) (result : Result Checkpointed CheckpointRefusal) (plan : Plan) → IsAt old plan 0 → (l : Looks old middle found) → (e : EndsLooking found middle new result) → AreMet (checked_fates found old middle new result l e) 1 plan
+tells_looked : (found : Result Segment CheckpointRefusal) (old middle new : Standing) (result : Result Checkpointed CheckpointRefusal)
+    (plan : Plan) → IsAt old plan 0 → (l : Looks old middle found) → (e : EndsLooking found middle new result)
+    → AreMet (checked_fates found old middle new result l e) 1 plan
 tells_looked (Err why) old middle new result plan at l e = (met_at ReadCell old middle (closing_fault_of why) plan 0 at l.goes, tt)
 tells_looked (Ok Shut) old middle new result plan at l e = (met_at ReadCell old middle None plan 0 at l.goes, tt)
 tells_looked (Ok (Open cell)) old middle new result plan at l e = (
@@ -81,13 +93,16 @@ tells_looked (Ok (Open cell)) old middle new result plan at l e = (
 )
 
 -- A checkpoint whose steps made this trail
-concluded : (i : Instance) (d : Digests) (fates : ℕ → Fate) (lost : Bool) (steps : List Step) (said : Closing) (old new : Standing) (fault : Option StepFault) (result : Result Checkpointed CheckpointRefusal) → StandsAt i old d → checkpoint_steps i.variant d.flag lost ≡ steps → closing_of i.variant d.flag lost ≡ said → Trail i d fates 1 steps old new fault
+concluded : (i : Instance) (d : Digests) (fates : ℕ → Fate) (lost : Bool) (steps : List Step) (said : Closing) (old new : Standing)
+    (fault : Option StepFault) (result : Result Checkpointed CheckpointRefusal) → StandsAt i old d
+    → checkpoint_steps i.variant d.flag lost ≡ steps → closing_of i.variant d.flag lost ≡ said → Trail i d fates 1 steps old new fault
     → result ≡ closing_told (closed_by fault (closes (walk fates 1 steps).moves) said)
     → ChecksBy i d (checkpointed_with i (by_digests i) d (on_course fates) lost) old new result
 concluded i d fates lost steps said old new fault result s e saying t is =
     let l = leads i d fates 1 steps old new fault s t in
     let w : Walked = walk fates 1 steps in
-    subst (λ (st : List Step). ChecksBy i d (checkpointed_by (by_digests i) d (closing_of i.variant d.flag lost) (walk fates 1 st)) old new result) (sym e)
+    subst (λ (st : List Step). ChecksBy i d (checkpointed_by (by_digests i) d (closing_of i.variant d.flag lost) (walk fates 1 st)) old new
+    result) (sym e)
     (subst (λ (sd : Closing). ChecksBy i d (checkpointed_by (by_digests i) d sd (walk fates 1 steps)) old new result) (sym saying)
     (record {
       gives = is ∙ ap (λ (f : Option StepFault). closing_told (closed_by f (closes w.moves) said)) (sym l.broken);
@@ -127,34 +142,50 @@ abbrev refused : CheckpointRefusal → Result Checkpointed CheckpointRefusal
 refused why = Err why
 
 -- the segment that is found
-pub seen_segment : (i : Instance) (d : Digests) (old : Standing) (found : Result Segment CheckpointRefusal) → FindsSegment old found → StandsAt i old d → found ≡ segment_by i.variant d.flag (cell_at i d)
+pub seen_segment : (i : Instance) (d : Digests) (old : Standing) (found : Result Segment CheckpointRefusal) → FindsSegment old found
+    → StandsAt i old d → found ≡ segment_by i.variant d.flag (cell_at i d)
 seen_segment i d old found f s =
     let same : f.sees.read ≡ Ok (cell_at i d) =
     reads_cell-same f.bytes f.sees.read (Ok (cell_at i d)) f.sees.reads (s.spells, f.told (cell_spelling (cell_at i d)) s.cell) in
     f.sees.found_is ∙ ap (λ (r : Result Cell CellFault). segment_in r) same
 
 -- the first step fails
-checks_first : (i : Instance) (d : Digests) (fates : ℕ → Fate) (lost : Bool) (old new : Standing) (fault : StepFault) (result : Result Checkpointed CheckpointRefusal) → StandsAt i old d → Stepped i d (fates 1) Reads old new (Some fault) → result ≡ Err (refusal.Device fault) → ChecksBy i d (checkpointed_with i (by_digests i) d (on_course fates) lost) old new result
+checks_first : (i : Instance) (d : Digests) (fates : ℕ → Fate) (lost : Bool) (old new : Standing) (fault : StepFault)
+    (result : Result Checkpointed CheckpointRefusal) → StandsAt i old d → Stepped i d (fates 1) Reads old new (Some fault)
+    → result ≡ Err (refusal.Device fault) → ChecksBy i d (checkpointed_with i (by_digests i) d (on_course fates) lost) old new result
 checks_first i d fates lost old new fault result s t is =
     concluded i d fates lost (Reads ∷ later_steps i.variant d.flag lost) (closing_of i.variant d.flag lost) old new (Some fault) result s
     (first_reads i.variant d.flag lost) refl (trail_fails i d fates 1 Reads (later_steps i.variant d.flag lost) old new fault t) is
 
 -- the first step is the last
-checks_one : (i : Instance) (d : Digests) (fates : ℕ → Fate) (lost : Bool) (old new : Standing) (result : Result Checkpointed CheckpointRefusal) → StandsAt i old d → Stepped i d (fates 1) Reads old new None → checkpoint_steps i.variant d.flag lost ≡ Reads ∷ [] → result ≡ closing_told (closing_of i.variant d.flag lost) → ChecksBy i d (checkpointed_with i (by_digests i) d (on_course fates) lost) old new result
+checks_one : (i : Instance) (d : Digests) (fates : ℕ → Fate) (lost : Bool) (old new : Standing)
+    (result : Result Checkpointed CheckpointRefusal) → StandsAt i old d → Stepped i d (fates 1) Reads old new None
+    → checkpoint_steps i.variant d.flag lost ≡ Reads ∷ [] → result ≡ closing_told (closing_of i.variant d.flag lost)
+    → ChecksBy i d (checkpointed_with i (by_digests i) d (on_course fates) lost) old new result
 checks_one i d fates lost old new result s t steps is =
-    concluded i d fates lost (Reads ∷ []) (closing_of i.variant d.flag lost) old new None result s steps refl (trail_last i d fates 1 Reads old new None t) is
+    concluded i d fates lost (Reads ∷ []) (closing_of i.variant d.flag lost) old new None result s steps refl
+    (trail_last i d fates 1 Reads old new None t) is
 
 -- the second step fails
-checks_second : (i : Instance) (d : Digests) (fates : ℕ → Fate) (lost : Bool) (rest : List Step) (old first new : Standing) (fault : StepFault) (result : Result Checkpointed CheckpointRefusal) → StandsAt i old d → checkpoint_steps i.variant d.flag lost ≡ Reads ∷ Reads ∷ rest → Stepped i d (fates 1) Reads old first None → Stepped i (all_made (by_digests i) d (step_moves Reads true (fates 1).brings)) (fates 2) Reads first new (Some fault) → result ≡ Err (refusal.Device fault) → ChecksBy i d (checkpointed_with i (by_digests i) d (on_course fates) lost) old new result
+checks_second : (i : Instance) (d : Digests) (fates : ℕ → Fate) (lost : Bool) (rest : List Step) (old first new : Standing)
+    (fault : StepFault) (result : Result Checkpointed CheckpointRefusal) → StandsAt i old d
+    → checkpoint_steps i.variant d.flag lost ≡ Reads ∷ Reads ∷ rest → Stepped i d (fates 1) Reads old first None
+    → Stepped i (all_made (by_digests i) d (step_moves Reads true (fates 1).brings)) (fates 2) Reads first new (Some fault)
+    → result ≡ Err (refusal.Device fault) → ChecksBy i d (checkpointed_with i (by_digests i) d (on_course fates) lost) old new result
 checks_second i d fates lost rest old first new fault result s steps t u is =
     concluded i d fates lost (Reads ∷ Reads ∷ rest) (closing_of i.variant d.flag lost) old new (Some fault) result s steps refl
     (trail_on i d fates 1 Reads (Reads ∷ rest) old first new (Some fault) t
     (trail_fails i (all_made (by_digests i) d (step_moves Reads true (fates 1).brings)) fates 2 Reads rest first new fault u)) is
 
 -- both reading steps were made
-checks_two : (i : Instance) (d : Digests) (fates : ℕ → Fate) (lost : Bool) (rest : List Step) (old first second new : Standing) (fault : Option StepFault) (result : Result Checkpointed CheckpointRefusal) → StandsAt i old d → checkpoint_steps i.variant d.flag lost ≡ Reads ∷ Reads ∷ rest → Stepped i d (fates 1) Reads old first None → Stepped i (all_made (by_digests i) d (step_moves Reads true (fates 1).brings)) (fates 2) Reads first second None
-    → Trail i (all_made (by_digests i) (all_made (by_digests i) d (step_moves Reads true (fates 1).brings)) (step_moves Reads true (fates 2).brings)) fates 3 rest second new fault
-    → result ≡ closing_told (closed_by fault (closes (walk fates 1 (Reads ∷ Reads ∷ rest)).moves) (closing_of i.variant d.flag lost)) → ChecksBy i d (checkpointed_with i (by_digests i) d (on_course fates) lost) old new result
+checks_two : (i : Instance) (d : Digests) (fates : ℕ → Fate) (lost : Bool) (rest : List Step) (old first second new : Standing)
+    (fault : Option StepFault) (result : Result Checkpointed CheckpointRefusal) → StandsAt i old d
+    → checkpoint_steps i.variant d.flag lost ≡ Reads ∷ Reads ∷ rest → Stepped i d (fates 1) Reads old first None
+    → Stepped i (all_made (by_digests i) d (step_moves Reads true (fates 1).brings)) (fates 2) Reads first second None
+    → Trail i (all_made (by_digests i) (all_made (by_digests i) d (step_moves Reads true (fates 1).brings))
+    (step_moves Reads true (fates 2).brings)) fates 3 rest second new fault
+    → result ≡ closing_told (closed_by fault (closes (walk fates 1 (Reads ∷ Reads ∷ rest)).moves) (closing_of i.variant d.flag lost))
+    → ChecksBy i d (checkpointed_with i (by_digests i) d (on_course fates) lost) old new result
 checks_two i d fates lost rest old first second new fault result s steps t u trail is =
     concluded i d fates lost (Reads ∷ Reads ∷ rest) (closing_of i.variant d.flag lost) old new fault result s steps refl
     (trail_on i d fates 1 Reads (Reads ∷ rest) old first new fault t
@@ -165,7 +196,8 @@ shows_closed true i items = refl
 shows_closed false i items = refl
 
 -- the write that closes a segment
-pub write_closed : (meaning : Meaning) (key barrier : List ℕ) (d : Digests) (next : List ℕ) → IsCell (cell_at (opt meaning key barrier) d) → next ≡ closed_cell (cell_at (opt meaning key barrier) d) d.register → IsWrite (opt meaning key barrier) d next Close
+pub write_closed : (meaning : Meaning) (key barrier : List ℕ) (d : Digests) (next : List ℕ) → IsCell (cell_at (opt meaning key barrier) d)
+    → next ≡ closed_cell (cell_at (opt meaning key barrier) d) d.register → IsWrite (opt meaning key barrier) d next Close
 write_closed meaning key barrier d next spells next_is = record {
   spells = record { summary = length-anchored_of d.digest d.register; key = spells.key; barrier = spells.barrier; variant = tt };
   cell = next_is;
@@ -173,12 +205,17 @@ write_closed meaning key barrier d next spells next_is = record {
   shows = λ (items : List Item). shows_closed d.flag (opt meaning key barrier) items;
 }
 
-same_refusal : (why other : CheckpointRefusal) (x : Result Segment CheckpointRefusal) → x ≡ Err why → x ≡ Err other → refused why ≡ refused other
+same_refusal : (why other : CheckpointRefusal) (x : Result Segment CheckpointRefusal) → x ≡ Err why → x ≡ Err other
+    → refused why ≡ refused other
 same_refusal why other x p q = let e : why ≡ other = cc in ap refused e
 
 -- Basic has no segments
-checks_basic : (found : Result Segment CheckpointRefusal) (meaning : Meaning) (key : List ℕ) (d : Digests) (lost : Bool) (old middle new : Standing) (result : Result Checkpointed CheckpointRefusal) → StandsAt (basic meaning key) old d → (l : Looks old middle found) → (e : EndsLooking found middle new result)
-    → ChecksBy (basic meaning key) d (checkpointed_with (basic meaning key) (by_digests (basic meaning key)) d (on_course (met (checked_fates found old middle new result l e) 1 (next_plan old))) lost) old new result
+checks_basic : (found : Result Segment CheckpointRefusal) (meaning : Meaning) (key : List ℕ) (d : Digests) (lost : Bool)
+    (old middle new : Standing) (result : Result Checkpointed CheckpointRefusal) → StandsAt (basic meaning key) old d
+    → (l : Looks old middle found) → (e : EndsLooking found middle new result)
+    → ChecksBy (basic meaning key) d
+    (checkpointed_with (basic meaning key) (by_digests (basic meaning key)) d
+    (on_course (met (checked_fates found old middle new result l e) 1 (next_plan old))) lost) old new result
 checks_basic (Err why) meaning key d lost old middle new result s l e =
     let i : Instance = basic meaning key in
     let fates : ℕ → Fate = met (fate_of ReadCell old middle (closing_fault_of why) l.goes ∷ []) 1 (next_plan old) in
@@ -224,15 +261,18 @@ open_said : (flag lost : Bool) → flag ≡ true → closing_of Opt flag lost �
 open_said flag lost e = ap (λ (f : Bool). closing_of Opt f lost) e
 
 -- what is found in the register
-pub closing_lost : (zero : Bool) (cell : Cell) (register : List ℕ) (why : CheckpointRefusal) → Err why ≡ closing_by zero cell register → (zero ≡ true) × (why ≡ refusal.Lost)
+pub closing_lost : (zero : Bool) (cell : Cell) (register : List ℕ) (why : CheckpointRefusal) → Err why ≡ closing_by zero cell register
+    → (zero ≡ true) × (why ≡ refusal.Lost)
 closing_lost true cell register why e = (refl, cc)
 closing_lost false cell register why e = (cc, cc)
 
-closing_refused : (zero : Bool) (cell : Cell) (register : List ℕ) (why : CheckpointRefusal) → Err why ≡ closing_by zero cell register → (zero ≡ true) × (refused why ≡ refused refusal.Lost)
+closing_refused : (zero : Bool) (cell : Cell) (register : List ℕ) (why : CheckpointRefusal) → Err why ≡ closing_by zero cell register
+    → (zero ≡ true) × (refused why ≡ refused refusal.Lost)
 closing_refused true cell register why e = (refl, let same : why ≡ refusal.Lost = cc in ap refused same)
 closing_refused false cell register why e = (cc, cc)
 
-pub closing_next : (zero : Bool) (cell : Cell) (register next : List ℕ) → Ok next ≡ closing_by zero cell register → (zero ≡ false) × (next ≡ closed_cell cell register)
+pub closing_next : (zero : Bool) (cell : Cell) (register next : List ℕ) → Ok next ≡ closing_by zero cell register
+    → (zero ≡ false) × (next ≡ closed_cell cell register)
 closing_next true cell register next e = (cc, cc)
 closing_next false cell register next e = (refl, cc)
 
@@ -240,7 +280,9 @@ abbrev said : Checkpointed → Result Checkpointed CheckpointRefusal
 said it = Ok it
 
 -- what a checkpoint gives whose last step was made, or failed
-closed_told : (written : Result Checkpointed StepFault) (flag : Bool) (moves : List Move) → flag ≡ true → IfOk written (λ given. given ≡ Done) → closing_handed_on written ≡ closing_told (closed_by (result_err written) (closes moves) (closing_of Opt flag false))
+closed_told : (written : Result Checkpointed StepFault) (flag : Bool) (moves : List Move) → flag ≡ true
+    → IfOk written (λ given. given ≡ Done)
+    → closing_handed_on written ≡ closing_told (closed_by (result_err written) (closes moves) (closing_of Opt flag false))
 closed_told (Ok it) flag moves e gives = ap said gives ∙ sym (ap closing_told (open_said flag false e))
 closed_told (Err fault) flag moves e gives = refl
 
@@ -249,10 +291,14 @@ abbrev after_both : Instance → Digests → List (List ℕ) → List (List ℕ)
 after_both i d v w = all_made (by_digests i) (all_made (by_digests i) d (map Foreign v)) (map Foreign w)
 
 -- what was read in the register: whether power was lost, what is found by it, and that it is what these digests have
-read_closing : (meaning : Meaning) (key barrier : List ℕ) (d : Digests) (cell : Cell) (old first second : Standing) (found : Result (List ℕ) CheckpointRefusal) (g : Goes ReadCell old first None) → StandsAt (opt meaning key barrier) old d → cell ≡ cell_at (opt meaning key barrier) d → (w : Weighs cell first second found) → closing_fault_in found ≡ None
+read_closing : (meaning : Meaning) (key barrier : List ℕ) (d : Digests) (cell : Cell) (old first second : Standing)
+    (found : Result (List ℕ) CheckpointRefusal) (g : Goes ReadCell old first None) → StandsAt (opt meaning key barrier) old d
+    → cell ≡ cell_at (opt meaning key barrier) d → (w : Weighs cell first second found) → closing_fault_in found ≡ None
     → (register : List ℕ)
-    × (d.flag ≡ true → ((after_both (opt meaning key barrier) d g.others w.goes.others).flag && bytes_eq (after_both (opt meaning key barrier) d g.others w.goes.others).register zero_bytes) ≡ bytes_eq register zero_bytes)
-    × (found ≡ closing_by (bytes_eq register zero_bytes) cell register) × (register ≡ (after_both (opt meaning key barrier) d g.others w.goes.others).register)
+    × (d.flag ≡ true → ((after_both (opt meaning key barrier) d g.others w.goes.others).flag
+    && bytes_eq (after_both (opt meaning key barrier) d g.others w.goes.others).register zero_bytes) ≡ bytes_eq register zero_bytes)
+    × (found ≡ closing_by (bytes_eq register zero_bytes) cell register)
+    × (register ≡ (after_both (opt meaning key barrier) d g.others w.goes.others).register)
 read_closing meaning key barrier d cell old first second found g s mine w quiet =
     let i : Instance = opt meaning key barrier in
     let both : Digests = after_both i d g.others w.goes.others in
@@ -266,23 +312,35 @@ read_closing meaning key barrier d cell old first second found g s mine w quiet 
     read_value second.items value f.register reads f.told ∙ sym (ap (λ (y : Digests). y.register) brought) in (
       f.register,
       λ (is_open : d.flag ≡ true).
-          ap (λ (t : Bool). t && bytes_eq both.register zero_bytes) (ap (λ (y : Digests). y.flag) brought ∙ is_open) ∙ ap (λ (r : List ℕ). bytes_eq r zero_bytes) (sym read),
+          ap (λ (t : Bool). t && bytes_eq both.register zero_bytes) (ap (λ (y : Digests). y.flag) brought ∙ is_open)
+          ∙ ap (λ (r : List ℕ). bytes_eq r zero_bytes) (sym read),
       f.found_is,
       read,
     )
 
 -- the second step, where a segment is open
-checks_open : (found : Result (List ℕ) CheckpointRefusal) (meaning : Meaning) (key barrier : List ℕ) (d : Digests) (lost : Bool) (plan : Plan) (cell : Cell) (old first second new : Standing) (result : Result Checkpointed CheckpointRefusal) (g : Goes ReadCell old first None) → StandsAt (opt meaning key barrier) old d → d.flag ≡ true → cell ≡ cell_at (opt meaning key barrier) d
-    → (w : Weighs cell first second found) → (e : EndsClosing found second new result) → lost ≡ ((after_both (opt meaning key barrier) d g.others w.goes.others).flag && bytes_eq (after_both (opt meaning key barrier) d g.others w.goes.others).register zero_bytes)
-    → ChecksBy (opt meaning key barrier) d (checkpointed_with (opt meaning key barrier) (by_digests (opt meaning key barrier)) d (on_course (met (fate_of ReadCell old first None g ∷ fate_of ReadRegister first second (closing_fault_in found) w.goes ∷ closing_fates found second new result e) 1 plan)) lost) old new result
+checks_open : (found : Result (List ℕ) CheckpointRefusal) (meaning : Meaning) (key barrier : List ℕ) (d : Digests) (lost : Bool)
+    (plan : Plan) (cell : Cell) (old first second new : Standing) (result : Result Checkpointed CheckpointRefusal)
+    (g : Goes ReadCell old first None) → StandsAt (opt meaning key barrier) old d → d.flag ≡ true
+    → cell ≡ cell_at (opt meaning key barrier) d
+    → (w : Weighs cell first second found) → (e : EndsClosing found second new result)
+    → lost ≡ ((after_both (opt meaning key barrier) d g.others w.goes.others).flag
+    && bytes_eq (after_both (opt meaning key barrier) d g.others w.goes.others).register zero_bytes)
+    → ChecksBy (opt meaning key barrier) d
+    (checkpointed_with (opt meaning key barrier) (by_digests (opt meaning key barrier)) d
+    (on_course (met (fate_of ReadCell old first None g ∷ fate_of ReadRegister first second (closing_fault_in found) w.goes
+    ∷ closing_fates found second new result e) 1 plan)) lost) old new result
 checks_open (Err why) meaning key barrier d lost plan cell old first second new result g s is_open mine w e lost_is =
     let i : Instance = opt meaning key barrier in
-    let fates : ℕ → Fate = met (fate_of ReadCell old first None g ∷ fate_of ReadRegister first second (closing_fault_of why) w.goes ∷ []) 1 plan in
+    let fates : ℕ → Fate = met (fate_of ReadCell old first None g ∷ fate_of ReadRegister first second (closing_fault_of why) w.goes ∷ []) 1
+    plan in
     let t : Stepped i d (fates 1) Reads old first None = stepped i d ReadCell Reads old first None g tt in
     subst (λ (n : Standing). ChecksBy i d (checkpointed_with i (by_digests i) d (on_course fates) lost) old n result) (sym e.0)
     (elim (handing why) [
-      | handed fault is ↦ checks_second i d fates lost (closing_steps lost) old first second fault result s (open_steps d.flag lost is_open) t
-          (loudly (closing_fault_of why) fault i (all_made (by_digests i) d (map Foreign g.others)) ReadRegister Reads first second second w.goes (ap closing_fault_of is) tt refl)
+      | handed fault is ↦ checks_second i d fates lost (closing_steps lost) old first second fault result s (open_steps d.flag lost is_open)
+          t
+          (loudly (closing_fault_of why) fault i (all_made (by_digests i) d (map Foreign g.others)) ReadRegister Reads first second second
+          w.goes (ap closing_fault_of is) tt refl)
           (e.1 ∙ ap (λ (v : CheckpointRefusal). Err v) is)
       | kept quiet ↦
           let c = read_closing meaning key barrier d cell old first second (Err why) g s mine w quiet in
@@ -290,13 +348,16 @@ checks_open (Err why) meaning key barrier d lost plan cell old first second new 
           let is_lost : lost ≡ true = lost_is ∙ c.1 is_open ∙ r.0 in
           checks_two i d fates lost [] old first second second None result s
           (open_steps d.flag lost is_open ∙ ap (λ (l : Bool). Reads ∷ Reads ∷ closing_steps l) is_lost) t
-          (quietly (closing_fault_of why) i (all_made (by_digests i) d (map Foreign g.others)) ReadRegister Reads first second second w.goes quiet tt refl)
+          (quietly (closing_fault_of why) i (all_made (by_digests i) d (map Foreign g.others)) ReadRegister Reads first second second w.goes
+          quiet tt refl)
           (refl, refl)
           (e.1 ∙ r.1 ∙ sym (ap closing_told (open_said d.flag lost is_open ∙ ap (λ (l : Bool). closing_of Opt true l) is_lost)))
     ])
 checks_open (Ok next) meaning key barrier d lost plan cell old first second new result g s is_open mine w e lost_is =
     let i : Instance = opt meaning key barrier in
-    let fates : ℕ → Fate = met (fate_of ReadCell old first None g ∷ fate_of ReadRegister first second None w.goes ∷ fate_of (WriteCell next) second new (result_err e.written) e.closes.goes ∷ []) 1 plan in
+    let fates : ℕ → Fate = met
+    (fate_of ReadCell old first None g ∷ fate_of ReadRegister first second None w.goes
+    ∷ fate_of (WriteCell next) second new (result_err e.written) e.closes.goes ∷ []) 1 plan in
     let both : Digests = after_both i d g.others w.goes.others in
     let value : List ℕ = fold extended_of (fold extended_of d.register g.others) w.goes.others in
     let brought : both ≡ with_register d value = two_brought i d g.others w.goes.others in
@@ -313,10 +374,16 @@ checks_open (Ok next) meaning key barrier d lost plan cell old first second new 
     (write_closed meaning key barrier both next (subst (λ (y : Digests). IsCell (cell_at i y)) (sym brought) s.spells)
     (r.1 ∙ ap (λ (x : Cell). closed_cell x c.0) same ∙ ap (λ (v : List ℕ). closed_cell (cell_at i both) v) c.3))))
     (e.gives ∙ closed_told e.written d.flag (walk fates 1 (Reads ∷ Reads ∷ Writes Close ∷ [])).moves is_open e.closes.gives
-    ∙ ap (λ (l : Bool). closing_told (closed_by (result_err e.written) (closes (walk fates 1 (Reads ∷ Reads ∷ Writes Close ∷ [])).moves) (closing_of Opt d.flag l))) (sym not_lost))
+    ∙ ap (λ (l : Bool). closing_told
+    (closed_by (result_err e.written) (closes (walk fates 1 (Reads ∷ Reads ∷ Writes Close ∷ [])).moves) (closing_of Opt d.flag l)))
+    (sym not_lost))
 
-checks_opt : (found : Result Segment CheckpointRefusal) (meaning : Meaning) (key barrier : List ℕ) (d : Digests) (old middle new : Standing) (result : Result Checkpointed CheckpointRefusal) → StandsAt (opt meaning key barrier) old d → (l : Looks old middle found) → (e : EndsLooking found middle new result)
-    → ChecksBy (opt meaning key barrier) d (checkpointed (opt meaning key barrier) (by_digests (opt meaning key barrier)) d (on_course (met (checked_fates found old middle new result l e) 1 (next_plan old)))) old new result
+checks_opt : (found : Result Segment CheckpointRefusal) (meaning : Meaning) (key barrier : List ℕ) (d : Digests) (old middle new : Standing)
+    (result : Result Checkpointed CheckpointRefusal) → StandsAt (opt meaning key barrier) old d → (l : Looks old middle found)
+    → (e : EndsLooking found middle new result)
+    → ChecksBy (opt meaning key barrier) d
+    (checkpointed (opt meaning key barrier) (by_digests (opt meaning key barrier)) d
+    (on_course (met (checked_fates found old middle new result l e) 1 (next_plan old)))) old new result
 checks_opt (Err why) meaning key barrier d old middle new result s l e =
     let i : Instance = opt meaning key barrier in
     let fates : ℕ → Fate = met (fate_of ReadCell old middle (closing_fault_of why) l.goes ∷ []) 1 (next_plan old) in
@@ -342,11 +409,16 @@ checks_opt (Ok (Open cell)) meaning key barrier d old middle new result s l e =
     checks_open e.found meaning key barrier d _ (next_plan old) cell old middle e.middle new result l.goes s o.0 o.1 e.weighs e.ends
     (ap (λ (y : Digests). y.flag && bytes_eq y.register zero_bytes) (seen_is meaning key barrier d l.goes.others e.weighs.goes.others))
 
-goes_by : (variant : Variant) (found : Result Segment CheckpointRefusal) (meaning : Meaning) (key barrier : List ℕ) (d : Digests) (old middle new : Standing) (result : Result Checkpointed CheckpointRefusal) → StandsAt (instance_by variant meaning key barrier) old d → (l : Looks old middle found) → (e : EndsLooking found middle new result)
-    → ChecksBy (instance_by variant meaning key barrier) d (checkpointed (instance_by variant meaning key barrier) (by_digests (instance_by variant meaning key barrier)) d (on_course (met (checked_fates found old middle new result l e) 1 (next_plan old)))) old new result
+goes_by : (variant : Variant) (found : Result Segment CheckpointRefusal) (meaning : Meaning) (key barrier : List ℕ) (d : Digests)
+    (old middle new : Standing) (result : Result Checkpointed CheckpointRefusal) → StandsAt (instance_by variant meaning key barrier) old d
+    → (l : Looks old middle found) → (e : EndsLooking found middle new result)
+    → ChecksBy (instance_by variant meaning key barrier) d
+    (checkpointed (instance_by variant meaning key barrier) (by_digests (instance_by variant meaning key barrier)) d
+    (on_course (met (checked_fates found old middle new result l e) 1 (next_plan old)))) old new result
 goes_by Basic found meaning key barrier d old middle new result s l e =
     let i : Instance = basic meaning key in
-    let seen : Digests = all_made (by_digests i) d (seen_in (met (checked_fates found old middle new result l e) 1 (next_plan old)) (reading_steps Basic) 1) in
+    let seen : Digests = all_made (by_digests i) d
+    (seen_in (met (checked_fates found old middle new result l e) 1 (next_plan old)) (reading_steps Basic) 1) in
     checks_basic found meaning key d (seen.flag && bytes_eq seen.register zero_bytes) old middle new result s l e
 goes_by Opt found meaning key barrier d old middle new result s l e = checks_opt found meaning key barrier d old middle new result s l e
 
@@ -362,7 +434,8 @@ continued i law old new c result by y all others asked s a =
     record {
       gives = g.gives ∙ ap closing_told same.ending;
       stands = stands_for i new (checkpointed i (by_lists i) y c).state
-          (subst (λ (x : Digests). StandsAt i new x) (agrees_is i (checkpointed i (by_lists i) y c).state (checkpointed i (by_digests i) d c).state same.agrees) g.stands);
+          (subst (λ (x : Digests). StandsAt i new x)
+          (agrees_is i (checkpointed i (by_lists i) y c).state (checkpointed i (by_digests i) d c).state same.agrees) g.stands);
       within = same.within;
     }
 
@@ -371,39 +444,49 @@ agree Basic meaning key barrier = basic_checkpoints_agree meaning key
 agree Opt meaning key barrier = opt_checkpoints_agree meaning key barrier
 
 -- power after a checkpoint under a plan
-planned_by : (fault : Option StepFault) (act : Act) (old new : Standing) (plan : Plan) (at : ℕ) → IsAt old plan at → Goes act old new fault → StaysOn plan.stop (is_some fault) new × IsSome new.plan
+planned_by : (fault : Option StepFault) (act : Act) (old new : Standing) (plan : Plan) (at : ℕ) → IsAt old plan at → Goes act old new fault
+    → StaysOn plan.stop (is_some fault) new × IsSome new.plan
 planned_by None act old new plan at p g = planned_done act old new plan at p g
 planned_by (Some fault) act old new plan at p g = planned_broken act old new fault plan at p g
 
 abbrev StaysBy : Plan → Standing → Result Checkpointed CheckpointRefusal → Type 0
 StaysBy plan new result = StaysOn plan.stop (is_some (closing_fault_in result)) new × IsSome new.plan
 
-closed_planned : (written : Result Checkpointed StepFault) (next : List ℕ) (old new : Standing) (plan : Plan) (at : ℕ) → IsAt old plan at → Goes (WriteCell next) old new (result_err written) → StaysBy plan new (closing_handed_on written)
+closed_planned : (written : Result Checkpointed StepFault) (next : List ℕ) (old new : Standing) (plan : Plan) (at : ℕ) → IsAt old plan at
+    → Goes (WriteCell next) old new (result_err written) → StaysBy plan new (closing_handed_on written)
 closed_planned (Ok it) next old new plan at p g = planned_done (WriteCell next) old new plan at p g
 closed_planned (Err fault) next old new plan at p g = planned_broken (WriteCell next) old new fault plan at p g
 
-weighed_planned : (found : Result (List ℕ) CheckpointRefusal) (cell : Cell) (old middle new : Standing) (result : Result Checkpointed CheckpointRefusal) (plan : Plan) → IsAt old plan 1 → Weighs cell old middle found → EndsClosing found middle new result → StaysBy plan new result
+weighed_planned : (found : Result (List ℕ) CheckpointRefusal) (cell : Cell) (old middle new : Standing)
+    (result : Result Checkpointed CheckpointRefusal) (plan : Plan) → IsAt old plan 1 → Weighs cell old middle found
+    → EndsClosing found middle new result → StaysBy plan new result
 weighed_planned (Err why) cell old middle new result plan p w e =
     subst (λ (n : Standing). StaysBy plan n result) (sym e.0)
-    (subst (λ (r : Result Checkpointed CheckpointRefusal). StaysBy plan middle r) (sym e.1) (planned_by (closing_fault_of why) ReadRegister old middle plan 1 p w.goes))
+    (subst (λ (r : Result Checkpointed CheckpointRefusal). StaysBy plan middle r) (sym e.1)
+    (planned_by (closing_fault_of why) ReadRegister old middle plan 1 p w.goes))
 weighed_planned (Ok next) cell old middle new result plan p w e =
     subst (λ (r : Result Checkpointed CheckpointRefusal). StaysBy plan new r) (sym e.gives)
     (closed_planned e.written next middle new plan 2 (then_at ReadRegister old middle plan 1 p w.goes) e.closes.goes)
 
-looked_planned : (found : Result Segment CheckpointRefusal) (old middle new : Standing) (result : Result Checkpointed CheckpointRefusal) (plan : Plan) → IsAt old plan 0 → Looks old middle found → EndsLooking found middle new result → StaysBy plan new result
+looked_planned : (found : Result Segment CheckpointRefusal) (old middle new : Standing) (result : Result Checkpointed CheckpointRefusal)
+    (plan : Plan) → IsAt old plan 0 → Looks old middle found → EndsLooking found middle new result → StaysBy plan new result
 looked_planned (Err why) old middle new result plan p l e =
     subst (λ (n : Standing). StaysBy plan n result) (sym e.0)
-    (subst (λ (r : Result Checkpointed CheckpointRefusal). StaysBy plan middle r) (sym e.1) (planned_by (closing_fault_of why) ReadCell old middle plan 0 p l.goes))
+    (subst (λ (r : Result Checkpointed CheckpointRefusal). StaysBy plan middle r) (sym e.1)
+    (planned_by (closing_fault_of why) ReadCell old middle plan 0 p l.goes))
 looked_planned (Ok Shut) old middle new result plan p l e =
     subst (λ (n : Standing). StaysBy plan n result) (sym e.0)
-    (subst (λ (r : Result Checkpointed CheckpointRefusal). StaysBy plan middle r) (sym e.1) (planned_done ReadCell old middle plan 0 p l.goes))
+    (subst (λ (r : Result Checkpointed CheckpointRefusal). StaysBy plan middle r) (sym e.1)
+    (planned_done ReadCell old middle plan 0 p l.goes))
 looked_planned (Ok (Open cell)) old middle new result plan p l e =
     weighed_planned e.found cell middle e.middle new result plan (then_at ReadCell old middle plan 0 p l.goes) e.weighs e.ends
 
-pub checks_on : (old new : Standing) (result : Result Checkpointed CheckpointRefusal) → ClosesSegment old new result → ChecksOn old new result
+pub checks_on : (old new : Standing) (result : Result Checkpointed CheckpointRefusal) → ClosesSegment old new result
+    → ChecksOn old new result
 checks_on old new result c =
     let course : Course = on_course (met (checked_fates c.found old c.middle new result c.looks c.ends) 1 (next_plan old)) in
-    let by = λ (variant : Variant) (meaning : Meaning) (key barrier : List ℕ) (d : Digests) (s : StandsAt (instance_by variant meaning key barrier) old d).
+    let by = λ (variant : Variant) (meaning : Meaning) (key barrier : List ℕ) (d : Digests)
+    (s : StandsAt (instance_by variant meaning key barrier) old d).
     goes_by variant c.found meaning key barrier d old c.middle new result s c.looks c.ends in
     record {
       course = course;
@@ -411,9 +494,14 @@ checks_on old new result c =
           (λ (plan : Plan) (is_on : old.is_on ≡ true) (known : old.plan ≡ Some plan) (at : plan.at ≡ 0).
           tells_looked c.found old c.middle new result plan (begins_at old plan is_on known at) c.looks c.ends);
       goes = by;
-      continues = λ (variant : Variant) (meaning : Meaning) (key barrier : List ℕ) (y : History) (all others : List (List ℕ)) (asked : List Batch) (s : StandsFor (instance_by variant meaning key barrier) old y)
-          (a : IsClosedWithin all others asked (instance_by variant meaning key barrier) y (checkpointed (instance_by variant meaning key barrier) (by_digests (instance_by variant meaning key barrier)) (digests_of (instance_by variant meaning key barrier) y) course).moves).
-          continued (instance_by variant meaning key barrier) (agree variant meaning key barrier) old new course result (by variant meaning key barrier) y all others asked s a;
+      continues =
+          λ (variant : Variant) (meaning : Meaning) (key barrier : List ℕ) (y : History) (all others : List (List ℕ)) (asked : List Batch)
+          (s : StandsFor (instance_by variant meaning key barrier) old y)
+          (a : IsClosedWithin all others asked (instance_by variant meaning key barrier) y
+          (checkpointed (instance_by variant meaning key barrier) (by_digests (instance_by variant meaning key barrier))
+          (digests_of (instance_by variant meaning key barrier) y) course).moves).
+          continued (instance_by variant meaning key barrier) (agree variant meaning key barrier) old new course result
+          (by variant meaning key barrier) y all others asked s a;
       plans = λ (plan : Plan) (is_on : old.is_on ≡ true) (known : old.plan ≡ Some plan) (at : plan.at ≡ 0).
           looked_planned c.found old c.middle new result plan (begins_at old plan is_on known at) c.looks c.ends;
     }

@@ -8,7 +8,8 @@ use Rattle.mm_platform.specs.Standing.{Standing}
 use Rattle.mm_platform.specs.Steps.{Goes}
 use Rattle.mm_module.specs.Meaning.{Meaning}
 use Rattle.mm_seal.specs.declared.cell.Cell.{Cell}
-use Rattle.mm_model.specs.Instance.{Instance, opt}
+use Rattle.mm_model.specs.Instance.{Instance}
+use Rattle.mm_model.specs.InstanceWords.{opt}
 use Rattle.mm_model.specs.History.{Move, Foreign}
 use Rattle.mm_model.specs.Moves.{Digests}
 use Rattle.mm_model.specs.Steps.{Step, Reads}
@@ -33,14 +34,20 @@ use Rattle.mm_opt.proofs.Going.{fate_of, read_value}
 use Rattle.mm_opt.proofs.Turning.{quiet_moves}
 use Rattle.mm_opt.proofs.Checking.{seen_segment, opt_refused, opt_shut, opt_open, closing_lost, closing_next, write_closed}
 
-makes_of : (call : CheckpointStage) (meaning : Meaning) (key barrier : List ℕ) (d : Digests) (old : Standing) → StandsAt (opt meaning key barrier) old d → ClosingHoldsAt (opt meaning key barrier) d call → MakesStep (opt meaning key barrier) d (closing_act_of call) (closing_step_of call)
+makes_of : (call : CheckpointStage) (meaning : Meaning) (key barrier : List ℕ) (d : Digests) (old : Standing)
+    → StandsAt (opt meaning key barrier) old d → ClosingHoldsAt (opt meaning key barrier) d call
+    → MakesStep (opt meaning key barrier) d (closing_act_of call) (closing_step_of call)
 makes_of stage.Begun meaning key barrier d old s h = tt
 makes_of (stage.Seen cell) meaning key barrier d old s h = tt
 makes_of (stage.Closing next) meaning key barrier d old s h = write_closed meaning key barrier d next s.spells h.1
 
 -- a turn, by the goes of its step
-steps_on : (call : CheckpointStage) (meaning : Meaning) (key barrier : List ℕ) (d : Digests) (old new : Standing) (turn : CheckpointTurn) → StandsAt (opt meaning key barrier) old d → ClosingHoldsAt (opt meaning key barrier) d call → (g : Goes (closing_act_of call) old new (closing_fault_turned turn))
-    → (closing_fault_turned turn ≡ None → ClosingHoldsOn (opt meaning key barrier) (all_made (by_digests (opt meaning key barrier)) d (step_moves (closing_step_of call) true g.others)) turn)
+steps_on : (call : CheckpointStage) (meaning : Meaning) (key barrier : List ℕ) (d : Digests) (old new : Standing) (turn : CheckpointTurn)
+    → StandsAt (opt meaning key barrier) old d → ClosingHoldsAt (opt meaning key barrier) d call
+    → (g : Goes (closing_act_of call) old new (closing_fault_turned turn))
+    → (closing_fault_turned turn ≡ None
+    → ClosingHoldsOn (opt meaning key barrier)
+    (all_made (by_digests (opt meaning key barrier)) d (step_moves (closing_step_of call) true g.others)) turn)
     → (closing_fault_turned turn ≡ None → ClosingGives call (all_made (by_digests (opt meaning key barrier)) d (map Foreign g.others)) turn)
     → ClosingStepsOn (opt meaning key barrier) d call old new turn
 steps_on call meaning key barrier d old new turn s h g holds gives =
@@ -58,15 +65,20 @@ steps_on call meaning key barrier d old new turn s h g holds gives =
     } in
     record {
       fate = fate;
-      leads = leads i d (λ (n : ℕ). fate) 1 (step ∷ []) old new (closing_fault_turned turn) s (trail_last i d (λ (n : ℕ). fate) 1 step old new (closing_fault_turned turn) stepped);
+      leads =
+          leads i d (λ (n : ℕ). fate) 1 (step ∷ []) old new (closing_fault_turned turn) s
+          (trail_last i d (λ (n : ℕ). fate) 1 step old new (closing_fault_turned turn) stepped);
       holds = λ (e : closing_fault_turned turn ≡ None). subst (λ (ms : List Move). ClosingHoldsOn i (all_made (by_digests i) d ms) turn)
           (sym (quiet_moves (closing_fault_turned turn) g.is_made step g.others e)) (holds e);
       gives = λ (e : closing_fault_turned turn ≡ None) (seen : Digests) (is : seen ≡ all_made (by_digests i) d (one_step fate Reads).moves).
           subst (λ (x : Digests). ClosingGives call x turn)
-          (sym (is ∙ ap (λ (ms : List Move). all_made (by_digests i) d ms) (quiet_moves (closing_fault_turned turn) g.is_made Reads g.others e))) (gives e);
+          (sym (is ∙ ap (λ (ms : List Move). all_made (by_digests i) d ms)
+          (quiet_moves (closing_fault_turned turn) g.is_made Reads g.others e))) (gives e);
     }
 
-looked_on : (outcome : Result Segment CheckpointRefusal) (meaning : Meaning) (key barrier : List ℕ) (d : Digests) (old new : Standing) → StandsAt (opt meaning key barrier) old d → Looks old new outcome → ClosingStepsOn (opt meaning key barrier) d stage.Begun old new (looked_turn outcome)
+looked_on : (outcome : Result Segment CheckpointRefusal) (meaning : Meaning) (key barrier : List ℕ) (d : Digests) (old new : Standing)
+    → StandsAt (opt meaning key barrier) old d → Looks old new outcome
+    → ClosingStepsOn (opt meaning key barrier) d stage.Begun old new (looked_turn outcome)
 looked_on (Err why) meaning key barrier d old new s l =
     let i : Instance = opt meaning key barrier in
     steps_on stage.Begun meaning key barrier d old new (looked_turn (Err why)) s tt l.goes (λ (e : closing_fault_of why ≡ None). tt)
@@ -74,13 +86,19 @@ looked_on (Err why) meaning key barrier d old new s l =
 looked_on (Ok Shut) meaning key barrier d old new s l =
     let i : Instance = opt meaning key barrier in
     let n : Option StepFault = None in
-    let brought : all_made (by_digests i) d (map Foreign l.goes.others) ≡ with_register d (fold extended_of d.register l.goes.others) = foreign_made i d l.goes.others in
+    let brought : all_made (by_digests i) d (map Foreign l.goes.others) ≡ with_register d
+    (fold extended_of d.register l.goes.others) = foreign_made i d l.goes.others in
     steps_on stage.Begun meaning key barrier d old new (looked_turn (Ok Shut)) s tt l.goes (λ (e : n ≡ None). tt)
-    (λ (e : n ≡ None). (ap (λ (x : Digests). x.flag) brought ∙ opt_shut d.flag (cell_at i d) (seen_segment i d old (Ok Shut) (l.finds refl) s), refl))
+    (λ (e : n ≡ None). (
+      ap (λ (x : Digests). x.flag) brought
+          ∙ opt_shut d.flag (cell_at i d) (seen_segment i d old (Ok Shut) (l.finds refl) s),
+      refl,
+    ))
 looked_on (Ok (Open cell)) meaning key barrier d old new s l =
     let i : Instance = opt meaning key barrier in
     let n : Option StepFault = None in
-    let brought : all_made (by_digests i) d (map Foreign l.goes.others) ≡ with_register d (fold extended_of d.register l.goes.others) = foreign_made i d l.goes.others in
+    let brought : all_made (by_digests i) d (map Foreign l.goes.others) ≡ with_register d
+    (fold extended_of d.register l.goes.others) = foreign_made i d l.goes.others in
     let o = opt_open d.flag (cell_at i d) cell (seen_segment i d old (Ok (Open cell)) (l.finds refl) s) in
     let is_open : (all_made (by_digests i) d (map Foreign l.goes.others)).flag ≡ true = ap (λ (x : Digests). x.flag) brought ∙ o.0 in
     steps_on stage.Begun meaning key barrier d old new (looked_turn (Ok (Open cell))) s tt l.goes
@@ -88,8 +106,11 @@ looked_on (Ok (Open cell)) meaning key barrier d old new s l =
     (λ (e : n ≡ None). is_open)
 
 -- the register that is read is that of the digests
-weighed_register : (meaning : Meaning) (key barrier : List ℕ) (d : Digests) (cell : Cell) (old new : Standing) (found : Result (List ℕ) CheckpointRefusal) → StandsAt (opt meaning key barrier) old d → (w : Weighs cell old new found) → closing_fault_in found ≡ None
-    → (register : List ℕ) × (found ≡ closing_by (bytes_eq register zero_bytes) cell register) × (register ≡ (all_made (by_digests (opt meaning key barrier)) d (map Foreign w.goes.others)).register)
+weighed_register : (meaning : Meaning) (key barrier : List ℕ) (d : Digests) (cell : Cell) (old new : Standing)
+    (found : Result (List ℕ) CheckpointRefusal) → StandsAt (opt meaning key barrier) old d → (w : Weighs cell old new found)
+    → closing_fault_in found ≡ None
+    → (register : List ℕ) × (found ≡ closing_by (bytes_eq register zero_bytes) cell register)
+    × (register ≡ (all_made (by_digests (opt meaning key barrier)) d (map Foreign w.goes.others)).register)
 weighed_register meaning key barrier d cell old new found s w quiet =
     let i : Instance = opt meaning key barrier in
     let value : List ℕ = fold extended_of d.register w.goes.others in
@@ -100,7 +121,9 @@ weighed_register meaning key barrier d cell old new found s w quiet =
       read_value new.items value f.register reads f.told ∙ sym (ap (λ (y : Digests). y.register) (foreign_made i d w.goes.others)),
     )
 
-weighed_on : (outcome : Result (List ℕ) CheckpointRefusal) (meaning : Meaning) (key barrier : List ℕ) (d : Digests) (cell : Cell) (old new : Standing) → StandsAt (opt meaning key barrier) old d → (d.flag ≡ true) × (cell ≡ cell_at (opt meaning key barrier) d) → Weighs cell old new outcome → ClosingStepsOn (opt meaning key barrier) d (stage.Seen cell) old new (weighed_turn outcome)
+weighed_on : (outcome : Result (List ℕ) CheckpointRefusal) (meaning : Meaning) (key barrier : List ℕ) (d : Digests) (cell : Cell)
+    (old new : Standing) → StandsAt (opt meaning key barrier) old d → (d.flag ≡ true) × (cell ≡ cell_at (opt meaning key barrier) d)
+    → Weighs cell old new outcome → ClosingStepsOn (opt meaning key barrier) d (stage.Seen cell) old new (weighed_turn outcome)
 weighed_on (Err why) meaning key barrier d cell old new s h w =
     let i : Instance = opt meaning key barrier in
     steps_on (stage.Seen cell) meaning key barrier d old new (weighed_turn (Err why)) s h w.goes (λ (e : closing_fault_of why ≡ None). tt)
@@ -123,18 +146,26 @@ weighed_on (Ok next) meaning key barrier d cell old new s h w =
     ))
     (λ (e : n ≡ None). ap (λ (v : List ℕ). bytes_eq v zero_bytes) (sym r.2) ∙ c.0)
 
-closed_on : (outcome : Result Checkpointed StepFault) (meaning : Meaning) (key barrier : List ℕ) (d : Digests) (next : List ℕ) (old new : Standing) → StandsAt (opt meaning key barrier) old d → ClosingHoldsAt (opt meaning key barrier) d (stage.Closing next) → Closes next old new outcome → ClosingStepsOn (opt meaning key barrier) d (stage.Closing next) old new (closed_turn outcome)
+closed_on : (outcome : Result Checkpointed StepFault) (meaning : Meaning) (key barrier : List ℕ) (d : Digests) (next : List ℕ)
+    (old new : Standing) → StandsAt (opt meaning key barrier) old d → ClosingHoldsAt (opt meaning key barrier) d (stage.Closing next)
+    → Closes next old new outcome → ClosingStepsOn (opt meaning key barrier) d (stage.Closing next) old new (closed_turn outcome)
 closed_on (Err fault) meaning key barrier d next old new s h c =
     let n : Option StepFault = Some fault in
-    steps_on (stage.Closing next) meaning key barrier d old new (closed_turn (Err fault)) s h c.goes (λ (e : n ≡ None). tt) (λ (e : n ≡ None). absurd (cc))
+    steps_on (stage.Closing next) meaning key barrier d old new (closed_turn (Err fault)) s h c.goes (λ (e : n ≡ None). tt)
+    (λ (e : n ≡ None). absurd (cc))
 closed_on (Ok it) meaning key barrier d next old new s h c =
     let n : Option StepFault = None in
-    steps_on (stage.Closing next) meaning key barrier d old new (closed_turn (Ok it)) s h c.goes (λ (e : n ≡ None). tt) (λ (e : n ≡ None). c.gives)
+    steps_on (stage.Closing next) meaning key barrier d old new (closed_turn (Ok it)) s h c.goes (λ (e : n ≡ None). tt)
+    (λ (e : n ≡ None). c.gives)
 
-pub closing_turns_on : (call : CheckpointStage) (old new : Standing) (turn : CheckpointTurn) → ClosingTurns call old new turn → ClosingTurnsOn call old new turn
+pub closing_turns_on : (call : CheckpointStage) (old new : Standing) (turn : CheckpointTurn) → ClosingTurns call old new turn
+    → ClosingTurnsOn call old new turn
 closing_turns_on stage.Begun old new turn t meaning key barrier d s h =
-    subst (λ (u : CheckpointTurn). ClosingStepsOn (opt meaning key barrier) d stage.Begun old new u) (sym t.gives) (looked_on t.outcome meaning key barrier d old new s t.step)
+    subst (λ (u : CheckpointTurn). ClosingStepsOn (opt meaning key barrier) d stage.Begun old new u) (sym t.gives)
+    (looked_on t.outcome meaning key barrier d old new s t.step)
 closing_turns_on (stage.Seen cell) old new turn t meaning key barrier d s h =
-    subst (λ (u : CheckpointTurn). ClosingStepsOn (opt meaning key barrier) d (stage.Seen cell) old new u) (sym t.gives) (weighed_on t.outcome meaning key barrier d cell old new s h t.step)
+    subst (λ (u : CheckpointTurn). ClosingStepsOn (opt meaning key barrier) d (stage.Seen cell) old new u) (sym t.gives)
+    (weighed_on t.outcome meaning key barrier d cell old new s h t.step)
 closing_turns_on (stage.Closing next) old new turn t meaning key barrier d s h =
-    subst (λ (u : CheckpointTurn). ClosingStepsOn (opt meaning key barrier) d (stage.Closing next) old new u) (sym t.gives) (closed_on t.outcome meaning key barrier d next old new s h t.step)
+    subst (λ (u : CheckpointTurn). ClosingStepsOn (opt meaning key barrier) d (stage.Closing next) old new u) (sym t.gives)
+    (closed_on t.outcome meaning key barrier d next old new s h t.step)

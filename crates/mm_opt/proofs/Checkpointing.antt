@@ -22,20 +22,25 @@ use Rattle.mm_opt.specs.Asks.{OneStep, TwoSteps}
 use Rattle.mm_opt.specs.Checkpoints.{closing_fault_of, closing_fault_in, segment_by, segment_in, Looks, closing_by, Weighs, Closes, closing_handed_on, EndsClosing, EndsLooking, ClosesSegment, LeavesStill, one_step, two_steps, three_steps, ClosingStepsRefused, ClosingStepsBy}
 use Rattle.mm_opt.proofs.Asking.{cell_untouched, register_untouched, then_untouched, goes_quietly}
 
-closed_still : (written : Result Checkpointed StepFault) (next : List ℕ) (old middle new : Standing) → Closes next middle new written → LeavesStill (closing_handed_on written) old new
+closed_still : (written : Result Checkpointed StepFault) (next : List ℕ) (old middle new : Standing) → Closes next middle new written
+    → LeavesStill (closing_handed_on written) old new
 closed_still (Ok it) next old middle new c = subst (λ (x : Checkpointed). LeavesStill (Ok x) old new) (sym c.gives) tt
 closed_still (Err why) next old middle new c = λ (h : Some why ≡ None). absurd (cc)
 
-weighed_still : (found : Result (List ℕ) CheckpointRefusal) (cell : Cell) (old one two new : Standing) (result : Result Checkpointed CheckpointRefusal) → Goes ReadCell old one None → Weighs cell one two found → EndsClosing found two new result → LeavesStill result old new
+weighed_still : (found : Result (List ℕ) CheckpointRefusal) (cell : Cell) (old one two new : Standing)
+    (result : Result Checkpointed CheckpointRefusal) → Goes ReadCell old one None → Weighs cell one two found
+    → EndsClosing found two new result → LeavesStill result old new
 weighed_still (Err why) cell old one two new result g w e =
     subst (λ (r : Result Checkpointed CheckpointRefusal). LeavesStill r old new) (sym e.1)
     (λ (h : closing_fault_of why ≡ None). subst (λ (s : Standing). IsUntouched old s) (sym e.0)
     (then_untouched old one two (cell_untouched old one g)
     (register_untouched one two (goes_quietly ReadRegister one two (closing_fault_of why) h w.goes))))
 weighed_still (Ok next) cell old one two new result g w e =
-    subst (λ (r : Result Checkpointed CheckpointRefusal). LeavesStill r old new) (sym e.gives) (closed_still e.written next old two new e.closes)
+    subst (λ (r : Result Checkpointed CheckpointRefusal). LeavesStill r old new) (sym e.gives)
+    (closed_still e.written next old two new e.closes)
 
-looked_still : (found : Result Segment CheckpointRefusal) (old middle new : Standing) (result : Result Checkpointed CheckpointRefusal) → Goes ReadCell old middle (closing_fault_in found) → EndsLooking found middle new result → LeavesStill result old new
+looked_still : (found : Result Segment CheckpointRefusal) (old middle new : Standing) (result : Result Checkpointed CheckpointRefusal)
+    → Goes ReadCell old middle (closing_fault_in found) → EndsLooking found middle new result → LeavesStill result old new
 looked_still (Err why) old middle new result g e =
     subst (λ (r : Result Checkpointed CheckpointRefusal). LeavesStill r old new) (sym e.1)
     (λ (h : closing_fault_of why ≡ None). subst (λ (s : Standing). IsUntouched old s) (sym e.0)
@@ -45,7 +50,8 @@ looked_still (Ok Shut) old middle new result g e =
     (subst (λ (s : Standing). IsUntouched old s) (sym e.0) (cell_untouched old middle g))
 looked_still (Ok (Open cell)) old middle new result g e = weighed_still e.found cell old middle e.middle new result g e.weighs e.ends
 
-pub leaves_still : (old new : Standing) (result : Result Checkpointed CheckpointRefusal) → ClosesSegment old new result → LeavesStill result old new
+pub leaves_still : (old new : Standing) (result : Result Checkpointed CheckpointRefusal) → ClosesSegment old new result
+    → LeavesStill result old new
 leaves_still old new result c = looked_still c.found old c.middle new result c.looks.goes c.ends
 
 -- whom a checkpoint blames
@@ -148,7 +154,8 @@ second_refused : (cell : Cell) (old new : Standing) (why : CheckpointRefusal) �
 second_refused cell old new why w =
     second_unless why (λ (h : closing_fault_of why ≡ None).
     let f = w.finds h in
-    subst (λ (x : Result (List ℕ) CheckpointRefusal). IsSecondIn x) (sym f.found_is) (second_by (bytes_eq f.register zero_bytes) cell f.register))
+    subst (λ (x : Result (List ℕ) CheckpointRefusal). IsSecondIn x) (sym f.found_is)
+    (second_by (bytes_eq f.register zero_bytes) cell f.register))
 
 once_refused : (why : CheckpointRefusal) (old new : Standing) → IsFirst why → OneStep old new → ClosingStepsRefused why old new
 once_refused (refusal.Device fault) old new is one = one_step one
@@ -164,12 +171,16 @@ twice_refused refusal.Cell old new is two = absurd is
 twice_refused refusal.Kind old new is two = absurd is
 twice_refused refusal.Lost old new is two = two
 
-closed_stepped : (written : Result Checkpointed StepFault) (next : List ℕ) (old middle new : Standing) → TwoSteps old middle → Closes next middle new written → ClosingStepsBy (closing_handed_on written) old new
+closed_stepped : (written : Result Checkpointed StepFault) (next : List ℕ) (old middle new : Standing) → TwoSteps old middle
+    → Closes next middle new written → ClosingStepsBy (closing_handed_on written) old new
 closed_stepped (Ok it) next old middle new two c =
-    subst (λ (x : Checkpointed). ClosingStepsBy (Ok x) old new) (sym c.gives) (c.goes.steps ∙ ap counted two.0, c.goes.writes ∙ ap counted two.1)
+    subst (λ (x : Checkpointed). ClosingStepsBy (Ok x) old new) (sym c.gives)
+    (c.goes.steps ∙ ap counted two.0, c.goes.writes ∙ ap counted two.1)
 closed_stepped (Err why) next old middle new two c = three_steps (c.goes.steps ∙ ap counted two.0, c.goes.writes ∙ ap counted two.1)
 
-weighed_stepped : (found : Result (List ℕ) CheckpointRefusal) (cell : Cell) (old one two new : Standing) (result : Result Checkpointed CheckpointRefusal) → OneStep old one → Weighs cell one two found → EndsClosing found two new result → ClosingStepsBy result old new
+weighed_stepped : (found : Result (List ℕ) CheckpointRefusal) (cell : Cell) (old one two new : Standing)
+    (result : Result Checkpointed CheckpointRefusal) → OneStep old one → Weighs cell one two found → EndsClosing found two new result
+    → ClosingStepsBy result old new
 weighed_stepped (Err why) cell old one two new result first w e =
     subst (λ (r : Result Checkpointed CheckpointRefusal). ClosingStepsBy r old new) (sym e.1)
     (subst (λ (s : Standing). ClosingStepsRefused why old s) (sym e.0)
@@ -178,7 +189,8 @@ weighed_stepped (Ok next) cell old one two new result first w e =
     subst (λ (r : Result Checkpointed CheckpointRefusal). ClosingStepsBy r old new) (sym e.gives)
     (closed_stepped e.written next old two new (w.goes.steps ∙ ap counted first.0, w.goes.writes ∙ first.1) e.closes)
 
-looked_stepped : (found : Result Segment CheckpointRefusal) (old middle new : Standing) (result : Result Checkpointed CheckpointRefusal) → Looks old middle found → EndsLooking found middle new result → ClosingStepsBy result old new
+looked_stepped : (found : Result Segment CheckpointRefusal) (old middle new : Standing) (result : Result Checkpointed CheckpointRefusal)
+    → Looks old middle found → EndsLooking found middle new result → ClosingStepsBy result old new
 looked_stepped (Err why) old middle new result l e =
     subst (λ (r : Result Checkpointed CheckpointRefusal). ClosingStepsBy r old new) (sym e.1)
     (subst (λ (s : Standing). ClosingStepsRefused why old s) (sym e.0)
@@ -189,5 +201,6 @@ looked_stepped (Ok Shut) old middle new result l e =
 looked_stepped (Ok (Open cell)) old middle new result l e =
     weighed_stepped e.found cell old middle e.middle new result (l.goes.steps, l.goes.writes) e.weighs e.ends
 
-pub closing_steps : (old new : Standing) (result : Result Checkpointed CheckpointRefusal) → ClosesSegment old new result → ClosingStepsBy result old new
+pub closing_steps : (old new : Standing) (result : Result Checkpointed CheckpointRefusal) → ClosesSegment old new result
+    → ClosingStepsBy result old new
 closing_steps old new result c = looked_stepped c.found old c.middle new result c.looks c.ends

@@ -12,7 +12,8 @@ use Rattle.mm_module.proofs.BatchLaws.{members_of-normal}
 use Rattle.mm_seal.specs.Parts.{parts_of}
 use Rattle.mm_seal.specs.Snapshot.{Content, tag_of, offered_of}
 use Rattle.mm_seal.proofs.SealLaws.{sealed_parts}
-use Rattle.mm_model.specs.Instance.{Instance, opt}
+use Rattle.mm_model.specs.Instance.{Instance}
+use Rattle.mm_model.specs.InstanceWords.{opt}
 use Rattle.mm_model.specs.History.{History, Move, Foreign, Value, total_of}
 use Rattle.mm_model.specs.Judge.{judge, judged, is_last}
 use Rattle.mm_model.specs.Life.{Life, Live, Spoiled, Lost as LostLife, life_of, is_lost}
@@ -28,9 +29,11 @@ use Rattle.mm_call.specs.Asked.{counted_moves, foreign_in, IsAsked}
 use Rattle.mm_call.specs.Called.{called, ended_by, given_for}
 use Rattle.mm_call.specs.CallsOn.{CallsOn}
 use Rattle.mm_call.specs.Courses.{End, Done, Course, Walked, walk}
-use Rattle.mm_call.specs.Found.{Found, found_with, found_by_verdict, found_at, found_unless_wanting, is_fresh}
+use Rattle.mm_call.specs.Found.{Found, found_by_verdict, found_at}
+use Rattle.mm_call.specs.FoundWords.{found_with, found_unless_wanting, is_fresh}
 use Rattle.mm_call.specs.Leaving.{Blames, IsAccepted, IsAnswered}
-use Rattle.mm_call.specs.Order.{admitted, weighed}
+use Rattle.mm_call.specs.Order.{admitted}
+use Rattle.mm_call.specs.OrderWords.{weighed}
 use Rattle.mm_call.specs.Levels.{by_lists, by_digests, all_made}
 use Rattle.mm_call.specs.Premises.{AreAsked, AreShown}
 use Rattle.mm_call.specs.Refusals.{fault_in}
@@ -98,7 +101,8 @@ found_right i y offer b content live right fits =
     let e = weighed_whole (i.meaning.is_spelled content.state) (bytes_eq tag tag) (nat_le (content.position + size_of b) (2 ^ 48))
     (judge i.variant y content.position b) spelled ((bytes_eq-Decides tag tag).1 refl)
     (le-leb (content.position + size_of b) (2 ^ 48) fits) in
-    ap (λ (l : Life). if is_lost l then Err refusal.Lost else found_by_verdict i (by_lists i) y b (parts_of i.variant i.meaning.id offer)) live
+    ap (λ (l : Life). if is_lost l then Err refusal.Lost else found_by_verdict i (by_lists i) y b (parts_of i.variant i.meaning.id offer))
+    live
     ∙ ap (found_by_verdict i (by_lists i) y b) parts
     ∙ ap (found_with content) e
 
@@ -106,19 +110,22 @@ accepted_found : (i : Instance) (y : History) (offer : List ℕ) (b : Batch) (co
     → IsRight i offer content → IsAccepted (judge i.variant y content.position b) → content.position + size_of b ≤ 2 ^ 48
     → IsFound (found_at i (by_lists i) y b offer)
 accepted_found i y offer b content live right accepted fits =
-    subst IsFound (sym (found_right i y offer b content live right fits)) (admitted_found content (judge i.variant y content.position b) accepted)
+    subst IsFound (sym (found_right i y offer b content live right fits))
+    (admitted_found content (judge i.variant y content.position b) accepted)
 
 -- a repeat isn't taken for new
 repeat_found : (i : Instance) (y : History) (offer : List ℕ) (b : Batch) (content : Content) → life_of i.variant y ≡ Live
     → IsRight i offer content → judge i.variant y content.position b ≡ Again → content.position + size_of b ≤ 2 ^ 48
     → is_fresh (found_at i (by_lists i) y b offer) ≡ false
 repeat_found i y offer b content live right again fits =
-    ap is_fresh (found_right i y offer b content live right fits) ∙ ap (λ (v : Verdict). is_fresh (found_with content (admitted v true))) again
+    ap is_fresh (found_right i y offer b content live right fits)
+    ∙ ap (λ (v : Verdict). is_fresh (found_with content (admitted v true))) again
 
 -- What a call sees.
 
 -- a walk that isn't broken off has made both reading steps
-both_done : (v : List (List ℕ)) (e : End) (w : List (List ℕ)) (f : End) (rest : Walked) → (two_reads v e w f rest).broken ≡ None → (e ≡ Done) × (f ≡ Done)
+both_done : (v : List (List ℕ)) (e : End) (w : List (List ℕ)) (f : End) (rest : Walked) → (two_reads v e w f rest).broken ≡ None
+    → (e ≡ Done) × (f ≡ Done)
 both_done v e w f rest whole =
     elim (reading v w e f) [
       | past p q ↦ (p, q)
@@ -137,33 +144,44 @@ no_values v w rest e =
     (one.0, two.0)
 
 -- what a call sees is live, where nobody brought values inside a segment
-sees_open : (i : Instance) (y : History) (c : Course) → (c.fates 1).brings ≡ [] → (c.fates 2).brings ≡ [] → all_made (by_lists i) y (before c) ≡ y
+sees_open : (i : Instance) (y : History) (c : Course) → (c.fates 1).brings ≡ [] → (c.fates 2).brings ≡ []
+    → all_made (by_lists i) y (before c) ≡ y
 sees_open i y c p q =
     ap (λ (v : List (List ℕ)). all_made (by_lists i) y (map Foreign v ++ (map Foreign (c.fates 2).brings ++ []))) p
     ∙ ap (λ (w : List (List ℕ)). all_made (by_lists i) y (map Foreign w ++ [])) q
 
-sees_shut : (meaning : Meaning) (key barrier : List ℕ) (y : History) (c : Course) → y.is_open ≡ false → life_of Opt (all_made (by_lists (opt meaning key barrier)) y (before c)) ≡ life_of Opt y
+sees_shut : (meaning : Meaning) (key barrier : List ℕ) (y : History) (c : Course) → y.is_open ≡ false
+    → life_of Opt (all_made (by_lists (opt meaning key barrier)) y (before c)) ≡ life_of Opt y
 sees_shut meaning key barrier y c e =
     let items = (y.items ++ map Value (c.fates 1).brings) ++ map Value (c.fates 2).brings in
     ap (life_of Opt) (sight_is (opt meaning key barrier) y c) ∙ life_bare y items e ∙ sym (life_bare y y.items e)
 
-sees_live : (flag : Bool) (meaning : Meaning) (key barrier : List ℕ) (y : History) (c : Course) → life_of Opt y ≡ Live → y.is_open ≡ flag → (flag ≡ true → ((c.fates 1).brings ≡ []) × ((c.fates 2).brings ≡ []))
+sees_live : (flag : Bool) (meaning : Meaning) (key barrier : List ℕ) (y : History) (c : Course) → life_of Opt y ≡ Live → y.is_open ≡ flag
+    → (flag ≡ true → ((c.fates 1).brings ≡ []) × ((c.fates 2).brings ≡ []))
     → life_of Opt (all_made (by_lists (opt meaning key barrier)) y (before c)) ≡ Live
 sees_live true meaning key barrier y c live e none =
     ap (life_of Opt) (sees_open (opt meaning key barrier) y c (none refl).0 (none refl).1) ∙ live
 sees_live false meaning key barrier y c live e none = sees_shut meaning key barrier y c e ∙ live
 
 -- a call that wasn't broken off, and found an offer that is accepted, or lacked memory
-whole_answers : (lacks : Bool) (i : Instance) (sees end : History) (b : Batch) (found : Found) (moves : List Move) (result : Result BatchAnswer Refusal) (old new : Standing) → result ≡ given_for (ended_by (by_lists i) sees end b (found_unless_wanting (Ok found) lacks) moves None) → IsAnswered result old new
-whole_answers false i sees end b found moves result old new e = subst (λ (r : Result BatchAnswer Refusal). IsAnswered r old new) (sym e) (inl refl)
-whole_answers true i sees end b found moves result old new e = subst (λ (r : Result BatchAnswer Refusal). IsAnswered r old new) (sym e) (inr (inl refl))
+whole_answers : (lacks : Bool) (i : Instance) (sees end : History) (b : Batch) (found : Found) (moves : List Move)
+    (result : Result BatchAnswer Refusal) (old new : Standing)
+    → result ≡ given_for (ended_by (by_lists i) sees end b (found_unless_wanting (Ok found) lacks) moves None) → IsAnswered result old new
+whole_answers false i sees end b found moves result old new e =
+    subst (λ (r : Result BatchAnswer Refusal). IsAnswered r old new) (sym e) (inl refl)
+whole_answers true i sees end b found moves result old new e =
+    subst (λ (r : Result BatchAnswer Refusal). IsAnswered r old new) (sym e) (inr (inl refl))
 
 answered_by : (broken : Option StepFault) (i : Instance) (sees end : History) (b : Batch) (lacks : Bool) (moves : List Move)
     (result : Result BatchAnswer Refusal) (old new : Standing) → Blames (fault_in result) old.faults new.faults
     → (x : Result Found Refusal) → (broken ≡ None → IsFound x)
     → result ≡ given_for (ended_by (by_lists i) sees end b (found_unless_wanting x lacks) moves broken) → IsAnswered result old new
 answered_by (Some fault) i sees end b lacks moves result old new blames x finds e =
-    inr (inr (ap (λ (r : Result BatchAnswer Refusal). is_some (fault_in r)) e, subst (λ (r : Result BatchAnswer Refusal). Blames (fault_in r) old.faults new.faults) e blames))
+    inr (inr (
+      ap (λ (r : Result BatchAnswer Refusal). is_some (fault_in r)) e,
+      subst
+          (λ (r : Result BatchAnswer Refusal). Blames (fault_in r) old.faults new.faults) e blames,
+    ))
 answered_by None i sees end b lacks moves result old new blames x finds e =
     let f = finds refl in
     whole_answers lacks i sees end b f.found moves result old new
@@ -175,11 +193,13 @@ accepted_answers : (meaning : Meaning) (key barrier : List ℕ) (all others : Li
     → StandsFor (opt meaning key barrier) old y → old.items ≡ Some items
     → new.items ≡ Some (standing_items y.is_open items ++ more) → (y.is_open ≡ true → foreign_items more ≡ [])
     → AreAsked all others asked (opt meaning key barrier) y offer (normal batch)
-    → (((y.is_open ≡ false) × (judge Opt y content.position (normal batch) ≡ Again) → ⊥) → AreShown all others (opt meaning key barrier) y more)
+    → (((y.is_open ≡ false) × (judge Opt y content.position (normal batch) ≡ Again) → ⊥)
+    → AreShown all others (opt meaning key barrier) y more)
     → IsRight (opt meaning key barrier) offer content
     → IsAccepted (judge Opt y content.position (normal batch)) → content.position + size_of (normal batch) ≤ 2 ^ 48
     → IsAnswered result old new
-accepted_answers meaning key barrier all others asked y old new offer batch result items more content blames c s known ends alone a shown_so right accepted fits =
+accepted_answers meaning key barrier all others asked y old new offer batch result items more content blames c s known ends alone a shown_so
+    right accepted fits =
     let i : Instance = opt meaning key barrier in
     let b : Batch = normal batch in
     let d : Digests = digests_of i y in
@@ -188,8 +208,10 @@ accepted_answers meaning key barrier all others asked y old new offer batch resu
     let tie = opt_tied meaning key barrier y d c.course offer b refl in
     let live : life_of Opt y ≡ Live = live_if (life_of Opt y) (nat_eq content.position (total_of y.batches))
     (nat_eq (content.position + size_of b) (total_of y.batches) && is_last y.batches b) accepted in
-    let is_asked : IsAsked all others asked i y moves offer b = asked_for meaning key barrier all others asked y c.course offer b old new items more a
-    (λ busy. shown_so (λ k. busy (record { shut = k.0; not_new = repeat_found i y offer b content live right k.1 fits }))) known g.items ends in
+    let is_asked : IsAsked all others asked i y moves offer b = asked_for meaning key barrier all others asked y c.course offer b old new
+    items more a
+    (λ busy. shown_so (λ k. busy (record { shut = k.0; not_new = repeat_found i y offer b content live right k.1 fits }))) known g.items
+    ends in
     let k = c.continues key barrier y all others asked s is_asked in
     let same = opt_calls_agree meaning key barrier all others asked y d c.course offer b (is_agrees i y d refl) is_asked in
     let v : List (List ℕ) = (c.course.fates 1).brings in
@@ -199,26 +221,33 @@ accepted_answers meaning key barrier all others asked y old new offer batch resu
     let found : Result Found Refusal = found_unless_wanting at c.course.lacks in
     let walked : Walked = walk c.course.fates 1 (ask_steps Opt y.is_open (is_fresh found) b) in
     let rest : Walked = walk c.course.fates 3 (changing y.is_open (is_fresh found) b) in
-    let steps : walked ≡ two_reads v (c.course.fates 1).ends u (c.course.fates 2).ends rest = ap (walk c.course.fates 1) (asks y.is_open (is_fresh found) b) in
+    let steps : walked ≡ two_reads v (c.course.fates 1).ends u (c.course.fates 2).ends rest = ap (walk c.course.fates 1)
+    (asks y.is_open (is_fresh found) b) in
     let brought : walked.broken ≡ None → y.is_open ≡ true → (v ≡ []) × (u ≡ []) = λ whole e.
     let t = counts_open i y d moves e tie in
-    let more_is : t.more ≡ more = shown_same old.items (shown i d moves) items (standing_items y.is_open items) more t.more known (t.are items) (sym g.items ∙ ends) in
-    let empty : foreign_in moves ≡ [] = ap (λ (f : Bool). foreign_in (counted_moves f moves)) (sym e) ∙ t.tied.values ∙ ap foreign_items more_is ∙ alone e in
+    let more_is : t.more ≡ more = shown_same old.items (shown i d moves) items (standing_items y.is_open items) more t.more known
+    (t.are items) (sym g.items ∙ ends) in
+    let empty : foreign_in moves ≡ [] = ap (λ (f : Bool). foreign_in (counted_moves f moves)) (sym e) ∙ t.tied.values
+    ∙ ap foreign_items more_is ∙ alone e in
     let done = both_done v (c.course.fates 1).ends u (c.course.fates 2).ends rest (ap (λ (x : Walked). x.broken) (sym steps) ∙ whole) in
     let there : foreign_in (two_reads v Done u Done rest).moves ≡ [] =
-    ap (λ (z : End). foreign_in (two_reads v Done u z rest).moves) (sym done.1) ∙ ap (λ (z : End). foreign_in (two_reads v z u (c.course.fates 2).ends rest).moves) (sym done.0)
+    ap (λ (z : End). foreign_in (two_reads v Done u z rest).moves) (sym done.1)
+    ∙ ap (λ (z : End). foreign_in (two_reads v z u (c.course.fates 2).ends rest).moves) (sym done.0)
     ∙ ap (λ (x : Walked). foreign_in x.moves) (sym steps) ∙ ap foreign_in (sym same.moves) ∙ empty in
     no_values v u rest.moves there in
-    let batches : sees.batches ≡ y.batches = same_batches i (before c.course) y (foreign_first v (map Foreign u ++ []) ∙ foreign_first u []) in
+    let batches : sees.batches ≡ y.batches = same_batches i (before c.course) y (foreign_first v (map Foreign u ++ []) ∙ foreign_first u [])
+    in
     let finds : walked.broken ≡ None → IsFound at = λ whole.
     let there = sees_live y.is_open meaning key barrier y c.course live refl (brought whole) in
     accepted_found i sees offer b content there right (accepted_then y sees content.position b batches there live accepted) fits in
-    answered_by walked.broken i sees (all_made (by_lists i) y walked.moves) b c.course.lacks walked.moves result old new blames at finds k.gives
+    answered_by walked.broken i sees (all_made (by_lists i) y walked.moves) b c.course.lacks walked.moves result old new blames at finds
+    k.gives
 
 pub complete : (meaning : Meaning) (old new : Standing) (offer : List ℕ) (b : Batch) (result : Result BatchAnswer Refusal)
     → Calls meaning old new offer b result → Blames (fault_in result) old.faults new.faults
     → AnswersAccepted meaning old new offer b result
-complete meaning old new offer b result calls blames short key barrier y all others asked items more content s known ends alone a shown_so right accepted fits =
+complete meaning old new offer b result calls blames short key barrier y all others asked items more content s known ends alone a shown_so
+    right accepted fits =
     accepted_answers meaning key barrier all others asked y old new offer b result items more content blames
     (calls_on meaning old new offer b result calls short) s known ends alone a shown_so right accepted
     (subst (λ (members : List (List ℕ)). content.position + length members ≤ 2 ^ 48) (sym (members_of-normal b)) fits)

@@ -3,21 +3,25 @@ use Rattle.std.proofs.Common.{◌≡◌, ℕ, Bool, true, false, List, length, O
 use Rattle.mm_platform.specs.declared.fault.StepFault.{StepFault}
 use Rattle.mm_platform.specs.Standing.{Item, Standing, item_values, register_after}
 use Rattle.mm_platform.specs.Steps.{ReadRegister, Goes}
+use Rattle.std.specs.Prelude.{◌+◌, nat_le}
+use Rattle.std.specs.Str.{bytes_eq}
+use Rattle.mm_base.specs.Limits.{last_position}
 use Rattle.mm_module.specs.Meaning.{Meaning}
-use Rattle.mm_module.specs.Batch.{Batch}
+use Rattle.mm_module.specs.Batch.{Batch, size_of}
 use Rattle.mm_seal.specs.declared.cell.Cell.{Cell}
 use Rattle.mm_seal.specs.declared.cell.CellFault.{CellFault}
 use Rattle.mm_seal.specs.declared.cell.CellFault.TheVariants.{Blank, Cell as Unspelled}
 use Rattle.mm_seal.specs.declared.snapshot.PartsFault.{PartsFault}
 use Rattle.mm_seal.specs.declared.snapshot.PartsFault.TheVariants.{Form, Kind}
-use Rattle.mm_seal.specs.Snapshot.{Content, Snapshot}
+use Rattle.mm_seal.specs.Snapshot.{Content, Snapshot, tag_of}
 use Rattle.mm_model.specs.declared.answer.BatchAnswer.{BatchAnswer}
 use Rattle.mm_model.specs.declared.refusal.Refusal.{Refusal}
 use Rattle.mm_model.specs.declared.refusal.Refusal.TheVariants as refusal
 use Rattle.mm_model.specs.declared.refusal.Refusal.TheVariants.{Memory}
 use Rattle.mm_model.specs.declared.verdict.Verdict.{Verdict}
 use Rattle.mm_model.specs.declared.verdict.Verdict.TheVariants.{Fresh, Again, Lost, Stale}
-use Rattle.mm_call.specs.Order.{admitted, weighed, examined}
+use Rattle.mm_call.specs.Order.{admitted, examined}
+use Rattle.mm_call.specs.OrderWords.{weighed}
 use Rattle.mm_call.specs.Refusals.{fault_of, fault_in, OrMemory}
 use Rattle.mm_opt.specs.declared.found.Found.{Found}
 use Rattle.mm_opt.specs.declared.found.Found.TheVariants.{Repeat, Inside, Opens}
@@ -27,7 +31,8 @@ use Rattle.mm_opt.specs.Answers.{answer_of, change_by, found_from, found_in_offe
 use Rattle.mm_opt.specs.Steps.{ReadsOwnCell, FindsIn, MakesRoom, ReadsRegister}
 
 -- want of memory, twice
-or_then : (x : Result Found Refusal) (found : Found) (result : Result Found Refusal) → OrMemory x (Ok found) → OrMemory (Ok found) result → OrMemory x result
+or_then : (x : Result Found Refusal) (found : Found) (result : Result Found Refusal) → OrMemory x (Ok found) → OrMemory (Ok found) result
+    → OrMemory x result
 or_then (Err why) found result o p = cc
 or_then (Ok it) found result o p =
     elim o [
@@ -40,8 +45,10 @@ no_fault_or found result o =
     elim o [ inl e ↦ ap (λ (r : Result Found Refusal). fault_in r) e | inr e ↦ ap (λ (r : Result Found Refusal). fault_in r) e ]
 
 -- the second step, by what it found and the room that was made
-pub reads_register : (meaning : Meaning) (cell : Cell) (old middle new : Standing) (offer : List ℕ) (b : Batch) (register : List ℕ) (found : Found) (result : Result Found Refusal)
-    → Goes ReadRegister old middle None → ((items : List Item) → middle.items ≡ Some items → register ≡ register_after (item_values items)) → length register ≡ 32
+pub reads_register : (meaning : Meaning) (cell : Cell) (old middle new : Standing) (offer : List ℕ) (b : Batch) (register : List ℕ)
+    (found : Found) (result : Result Found Refusal)
+    → Goes ReadRegister old middle None → ((items : List Item) → middle.items ≡ Some items → register ≡ register_after (item_values items))
+    → length register ≡ 32
     → FindsIn meaning cell register offer b (Ok found) → OrMemory (Ok found) result → MakesRoom result middle new
     → ReadsRegister meaning cell old new offer b result
 reads_register meaning cell old middle new offer b register found result goes told size finds or room = record {
@@ -161,22 +168,31 @@ second_weighed false t v fits = tt
 second_weighed true false v fits = tt
 second_weighed true true v fits = second_admitted v fits
 
-shaped_change : (flag : Bool) (value next : List ℕ) (answer : BatchAnswer) → answer.again ≡ false → IsShaped (Ok (change_by flag value next answer))
+second_examined : (meaning : Meaning) (key : List ℕ) (offered : Snapshot) (b : Batch) (v : Verdict)
+    → IsSecondIn (examined meaning key offered b v)
+second_examined meaning key offered b v =
+    second_weighed (meaning.is_spelled offered.content.state) (bytes_eq offered.tag (tag_of key offered.content)) v
+    (nat_le (offered.content.position + size_of b) last_position)
+
+shaped_change : (flag : Bool) (value next : List ℕ) (answer : BatchAnswer) → answer.again ≡ false
+    → IsShaped (Ok (change_by flag value next answer))
 shaped_change true value next answer is = is
 shaped_change false value next answer is = is
 
-shaped_from : (e : Result Bool Refusal) (meaning : Meaning) (cell : Cell) (register : List ℕ) (offered : Content) (b : Batch) → IsSecondIn e → IsShaped (found_from e cell (batch_value cell b) (answer_of meaning cell register offered b))
+shaped_from : (e : Result Bool Refusal) (meaning : Meaning) (cell : Cell) (register : List ℕ) (offered : Content) (b : Batch) → IsSecondIn e
+    → IsShaped (found_from e cell (batch_value cell b) (answer_of meaning cell register offered b))
 shaped_from (Err why) meaning cell register offered b is = is
 shaped_from (Ok true) meaning cell register offered b is = refl
 shaped_from (Ok false) meaning cell register offered b is =
     shaped_change cell.flag (batch_value cell b) (opened_cell cell) (answer_of meaning cell register offered b false) refl
 
-shaped_at : (meaning : Meaning) (cell : Cell) (register : List ℕ) (taken : Result Snapshot PartsFault) (b : Batch) → IsShaped (found_in_offer meaning cell register taken b)
+shaped_at : (meaning : Meaning) (cell : Cell) (register : List ℕ) (taken : Result Snapshot PartsFault) (b : Batch)
+    → IsShaped (found_in_offer meaning cell register taken b)
 shaped_at meaning cell register (Err Form) b = tt
 shaped_at meaning cell register (Err Kind) b = tt
 shaped_at meaning cell register (Ok offered) b =
     shaped_from (examined meaning cell.key offered b (verdict_of cell register offered b)) meaning cell register offered.content b
-    (second_weighed _ _ _ _)
+    (second_examined meaning cell.key offered b (verdict_of cell register offered b))
 
 shaped_found_unless : (t : Bool) (found : Result Found Refusal) → IsShaped found → IsShaped (found_unless t found)
 shaped_found_unless true found is = tt
@@ -185,12 +201,18 @@ shaped_found_unless false found is = is
 shaped_or : (x found : Result Found Refusal) → IsShaped x → OrMemory x found → IsShaped found
 shaped_or (Err why) found h o = subst (λ (r : Result Found Refusal). IsShaped r) (sym o) h
 shaped_or (Ok it) found h o =
-    elim o [ inl e ↦ subst (λ (r : Result Found Refusal). IsShaped r) (sym e) h | inr e ↦ subst (λ (r : Result Found Refusal). IsShaped r) (sym e) tt ]
+    elim o [
+      | inl e ↦ subst (λ (r : Result Found Refusal). IsShaped r) (sym e) h
+      | inr e ↦ subst (λ (r : Result Found Refusal). IsShaped r)
+          (sym e) tt
+    ]
 
-shaped_in : (meaning : Meaning) (cell : Cell) (register offer : List ℕ) (b : Batch) (found : Result Found Refusal) → FindsIn meaning cell register offer b found → IsShaped found
+shaped_in : (meaning : Meaning) (cell : Cell) (register offer : List ℕ) (b : Batch) (found : Result Found Refusal)
+    → FindsIn meaning cell register offer b found → IsShaped found
 shaped_in meaning cell register offer b found f =
     shaped_or (found_in meaning cell register f.taken b) found
-    (shaped_found_unless (has_lost_power cell register) (found_in_offer meaning cell register f.taken b) (shaped_at meaning cell register f.taken b))
+    (shaped_found_unless (has_lost_power cell register) (found_in_offer meaning cell register f.taken b)
+    (shaped_at meaning cell register f.taken b))
     f.found_is
 
 shaped_unless : (found : Result Found Refusal) → (fault_in found ≡ None → IsShaped found) → IsShaped found
@@ -198,7 +220,8 @@ shaped_unless (Err why) h = second_unless why h
 shaped_unless (Ok found) h = h refl
 
 -- what the second step finds
-pub shaped : (meaning : Meaning) (cell : Cell) (old new : Standing) (offer : List ℕ) (b : Batch) (found : Result Found Refusal) → ReadsRegister meaning cell old new offer b found → IsShaped found
+pub shaped : (meaning : Meaning) (cell : Cell) (old new : Standing) (offer : List ℕ) (b : Batch) (found : Result Found Refusal)
+    → ReadsRegister meaning cell old new offer b found → IsShaped found
 shaped meaning cell old new offer b found r =
     shaped_unless found (λ (h : fault_in found ≡ None).
     let f = r.finds h in shaped_in meaning cell f.register offer b found f.finds)

@@ -9,9 +9,9 @@ use Rattle.mm_seal.specs.declared.snapshot.Place.TheVariants.{Opt as InOpt}
 use Rattle.mm_seal.specs.Cell.{cell_spelling}
 use Rattle.mm_seal.specs.Snapshot.{Content, sealed_of}
 use Rattle.mm_model.specs.Chains.{anchor_of}
-use Rattle.mm_model.specs.Instance.{opt}
+use Rattle.mm_model.specs.InstanceWords.{opt}
 use Rattle.mm_model.specs.History.{first_history}
-use Rattle.mm_model.specs.Places.{digest_of}
+use Rattle.mm_model.specs.PlacesWords.{digest_of}
 use Rattle.mm_model.specs.Standing.{cell_of, issued_bytes}
 use Rattle.mm_call.proofs.Moving.{anchor-nil}
 
@@ -24,13 +24,17 @@ made_cell id anchor key barrier = record { variant = Opt; «module» = id; flag 
 abbrev pub made_content : ℕ → Digest → Digest → List ℕ → Content
 made_content id anchor extension state = record { id = id; place = InOpt anchor extension; position = 0; state = state }
 
-pub first_cell : (meaning : Meaning) (said : ℕ) (anchor : Digest) (key barrier : List ℕ) → said ≡ meaning.id → anchor.bytes ≡ start_of Opt said → cell_spelling (made_cell said anchor key barrier) ≡ cell_spelling (cell_of (opt meaning key barrier) first_history)
+pub first_cell : (meaning : Meaning) (said : ℕ) (anchor : Digest) (key barrier : List ℕ) → said ≡ meaning.id
+    → anchor.bytes ≡ start_of Opt said
+    → cell_spelling (made_cell said anchor key barrier) ≡ cell_spelling (cell_of (opt meaning key barrier) first_history)
 first_cell meaning said anchor key barrier id_is start_is =
     let d : anchor ≡ digest_of (anchor_of meaning.id []) = first_digest meaning.id said anchor id_is start_is in
     ap (λ (id : ℕ). cell_spelling (made_cell id anchor key barrier)) id_is
     ∙ ap (λ (a : Digest). cell_spelling (made_cell meaning.id a key barrier)) d
 
-pub first_snapshot : (meaning : Meaning) (said : ℕ) (anchor extension : Digest) (key barrier state : List ℕ) → said ≡ meaning.id → anchor.bytes ≡ start_of Opt said → extension.bytes ≡ zero_bytes → state ≡ meaning.first → sealed_of key (made_content said anchor extension state) ≡ issued_bytes (opt meaning key barrier) first_history
+pub first_snapshot : (meaning : Meaning) (said : ℕ) (anchor extension : Digest) (key barrier state : List ℕ) → said ≡ meaning.id
+    → anchor.bytes ≡ start_of Opt said → extension.bytes ≡ zero_bytes → state ≡ meaning.first
+    → sealed_of key (made_content said anchor extension state) ≡ issued_bytes (opt meaning key barrier) first_history
 first_snapshot meaning said anchor extension key barrier state id_is start_is extension_is state_is =
     let d : anchor ≡ digest_of (anchor_of meaning.id []) = first_digest meaning.id said anchor id_is start_is in
     ap (λ (id : ℕ). sealed_of key (made_content id anchor extension state)) id_is

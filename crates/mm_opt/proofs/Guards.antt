@@ -1,7 +1,8 @@
 -- The value of a batch, by the digest of its request or of its text.
 use Rattle.std.proofs.Common.{◌≡◌, ℕ, Bool, true, false, List, refl, if◌then◌else◌, ap, ◌∙◌}
-use Rattle.mm_digest.specs.Messages.{secured_of, secured_batch_of}
-use Rattle.mm_module.specs.Batch.{One, Many, has_tab, normal}
+use Rattle.mm_digest.specs.MessagesWords.{secured_of, secured_batch_of}
+use Rattle.mm_module.specs.Batch.{One, Many, normal}
+use Rattle.mm_module.specs.BatchWords.{has_tab}
 use Rattle.mm_model.specs.Chains.{guard}
 
 pub guard_one : (barrier request : List ℕ) → guard barrier (One request) ≡ secured_of barrier request

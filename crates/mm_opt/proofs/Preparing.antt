@@ -14,8 +14,10 @@ use Rattle.mm_platform.proofs.Calling.{beside-beside}
 use Rattle.mm_module.specs.Meaning.{Meaning}
 use Rattle.mm_module.specs.Batch.{Batch, normal}
 use Rattle.mm_seal.specs.declared.cell.Cell.{Cell}
-use Rattle.mm_model.specs.Chains.{guard, guard_message, register_of, own_values}
-use Rattle.mm_model.specs.Instance.{Instance, opt}
+use Rattle.mm_model.specs.Chains.{guard, guard_message, register_of}
+use Rattle.mm_model.specs.ChainsWords.{own_values}
+use Rattle.mm_model.specs.Instance.{Instance}
+use Rattle.mm_model.specs.InstanceWords.{opt}
 use Rattle.mm_model.specs.History.{History, Move, Commit, Foreign, moved}
 use Rattle.mm_model.specs.Life.{Live, life_of}
 use Rattle.mm_model.specs.Moves.{Digests, digests_of, made}
@@ -70,17 +72,21 @@ stands_still meaning key barrier y old new values cell items s =
       reads = ap reads_of items ∙ reads_beside old.items values d.register at.reads;
     } in
     stands_for i new z
-    (subst (λ (x : Digests). StandsAt i new x) (sym is ∙ agrees_is i z e (foreign_agrees meaning key barrier values y d (is_agrees i y d refl))) here)
+    (subst (λ (x : Digests). StandsAt i new x)
+    (sym is ∙ agrees_is i z e (foreign_agrees meaning key barrier values y d (is_agrees i y d refl))) here)
 
-so_far : (meaning : Meaning) (old new : Standing) (offer : List ℕ) (b : Batch) (found : Result Found Refusal) → Reads meaning old new offer b found
+so_far : (meaning : Meaning) (old new : Standing) (offer : List ℕ) (b : Batch) (found : Result Found Refusal)
+    → Reads meaning old new offer b found
     → IsCallSoFar meaning old new offer b found
 so_far meaning old new offer b (Err why) r =
     calls_by meaning old new offer b (Err why) (record { middle = new; found = Err why; reads = r; ends = (refl, refl) })
-so_far meaning old new offer b (Ok found) r = λ (after : Standing) (written : Result BatchAnswer StepFault) (c : CommitsFound found new after written).
+so_far meaning old new offer b (Ok found) r =
+    λ (after : Standing) (written : Result BatchAnswer StepFault) (c : CommitsFound found new after written).
     calls_by meaning old after offer b _
     (record { middle = new; found = Ok found; reads = r; ends = record { written = written; commits = c; gives = refl } })
 
-finds_as : (found : Found) (i : Instance) (seen : Digests) (b : Batch) (x : Result Accepted Refusal) → AsFound i seen b x (Ok found) → FindsFor i seen b found
+finds_as : (found : Found) (i : Instance) (seen : Digests) (b : Batch) (x : Result Accepted Refusal) → AsFound i seen b x (Ok found)
+    → FindsFor i seen b found
 finds_as (Repeat answer) i seen b x a = tt
 finds_as (Inside ready) i seen b x a = (a.0, a.1)
 finds_as (Opens opening) i seen b x a = record { shut = a.0; value = a.1; next = a.2 }
@@ -94,16 +100,19 @@ finds_read : (cell : Cell) (meaning : Meaning) (old middle new : Standing) (offe
     → (r : ReadsOwnCell meaning.id old middle (Ok cell)) → (on : ReadsOn meaning (Ok cell) middle new offer b result)
     → Finds meaning old b (r.goes.others ++ on.goes.others) result
 finds_read cell meaning old middle new offer b (Err why) r on = tt
-finds_read cell meaning old middle new offer b (Ok found) r on = λ (key barrier : List ℕ) (d : Digests) (s : StandsAt (opt meaning key barrier) old d).
+finds_read cell meaning old middle new offer b (Ok found) r on =
+    λ (key barrier : List ℕ) (d : Digests) (s : StandsAt (opt meaning key barrier) old d).
     let i : Instance = opt meaning key barrier in
     let v : List (List ℕ) = r.goes.others in
     let w : List (List ℕ) = on.goes.others in
-    let seen : all_made (by_digests i) d (map Foreign (v ++ w)) ≡ all_made (by_digests i) (all_made (by_digests i) d (map Foreign v)) (map Foreign w) =
+    let seen : all_made (by_digests i) d (map Foreign (v ++ w)) ≡ all_made (by_digests i) (all_made (by_digests i) d (map Foreign v))
+    (map Foreign w) =
     ap (all_made (by_digests i) d) (map-append Foreign v w) ∙ all_made-append i d (map Foreign v) (map Foreign w) in
     subst (λ (x : Digests). FindsFor i x (normal b) found) (sym seen)
     (finds_as found i _ (normal b) _ (second_found meaning key barrier d cell old middle new offer b (Ok found) s r on refl))
 
-prepares_by : (cell : Result Cell Refusal) (meaning : Meaning) (old middle new : Standing) (offer : List ℕ) (b : Batch) (found : Result Found Refusal)
+prepares_by : (cell : Result Cell Refusal) (meaning : Meaning) (old middle new : Standing) (offer : List ℕ) (b : Batch)
+    (found : Result Found Refusal)
     → ReadsOwnCell meaning.id old middle cell → ReadsOn meaning cell middle new offer b found → IsCallSoFar meaning old new offer b found
     → PreparesOn meaning old new offer b found
 prepares_by (Err why) meaning old middle new offer b found r on goes =
@@ -121,7 +130,8 @@ prepares_by (Ok cell) meaning old middle new offer b found r on goes =
     let values : List (List ℕ) = r.goes.others ++ on.goes.others in
     let cell_is : new.cell ≡ old.cell = ap (λ (s : Standing). s.cell) room ∙ on.goes.cell ∙ r.goes.cell in
     let items : new.items ≡ beside values old.items =
-    ap (λ (s : Standing). s.items) room ∙ on.goes.items ∙ ap (beside on.goes.others) r.goes.items ∙ beside-beside r.goes.others on.goes.others old.items in
+    ap (λ (s : Standing). s.items) room ∙ on.goes.items ∙ ap (beside on.goes.others) r.goes.items
+    ∙ beside-beside r.goes.others on.goes.others old.items in
     record {
       values = values;
       items = items;
@@ -130,7 +140,8 @@ prepares_by (Ok cell) meaning old middle new offer b found r on goes =
       goes = goes;
     }
 
-pub prepares : (meaning : Meaning) (old new : Standing) (offer : List ℕ) (b : Batch) (found : Result Found Refusal) → Reads meaning old new offer b found
+pub prepares : (meaning : Meaning) (old new : Standing) (offer : List ℕ) (b : Batch) (found : Result Found Refusal)
+    → Reads meaning old new offer b found
     → PreparesOn meaning old new offer b found
 prepares meaning old new offer b found r =
     prepares_by r.cell meaning old r.middle new offer b found r.reads r.on (so_far meaning old new offer b found r)
@@ -140,11 +151,13 @@ prepares meaning old new offer b found r =
 still : Fate
 still = record { brings = []; ends = Done }
 
-abbrev fates_of : (found : Found) (old new : Standing) (written : Result BatchAnswer StepFault) → CommitsFound found old new written → ℕ → Fate
+abbrev fates_of : (found : Found) (old new : Standing) (written : Result BatchAnswer StepFault) → CommitsFound found old new written → ℕ
+    → Fate
 fates_of found old new written c = met (still ∷ still ∷ found_fates found old new written c) 1 quiet_plan
 
 trail_of : (found : Found) (old new : Standing) (written : Result BatchAnswer StepFault) (c : CommitsFound found old new written)
-    (meaning : Meaning) (key barrier : List ℕ) (d : Digests) (b : Batch) → StandsAt (opt meaning key barrier) old d → FindsFor (opt meaning key barrier) d b found
+    (meaning : Meaning) (key barrier : List ℕ) (d : Digests) (b : Batch) → StandsAt (opt meaning key barrier) old d
+    → FindsFor (opt meaning key barrier) d b found
     → Trail (opt meaning key barrier) d (fates_of found old new written c) 3 (commit_steps found b) old new (result_err written)
 trail_of (Repeat answer) old new written c meaning key barrier d b s f = (c.0, ap result_err c.1)
 trail_of (Inside ready) old new written c meaning key barrier d b s f =
@@ -153,12 +166,15 @@ trail_of (Inside ready) old new written c meaning key barrier d b s f =
     (stepped i d (ExtendRegister ready.value.bytes) (Changes (Commit b)) old new (result_err written) c.goes
     (change_inside meaning key barrier d b ready.value.bytes f.0 f.1))
 trail_of (Opens opening) old new written c meaning key barrier d b s f =
-    emptied_trail c.emptied meaning key barrier d b opening old c.middle new written still still quiet_plan f.shut s.spells f.value f.next c.empties c.on
+    emptied_trail c.emptied meaning key barrier d b opening old c.middle new written still still quiet_plan f.shut s.spells f.value f.next
+    c.empties c.on
 
 -- moves that may be made lead to what the digests lead to
-agrees_along : (meaning : Meaning) (key barrier : List ℕ) (moves : List Move) (y : History) (d : Digests) → AllMay (opt meaning key barrier) y moves
+agrees_along : (meaning : Meaning) (key barrier : List ℕ) (moves : List Move) (y : History) (d : Digests)
+    → AllMay (opt meaning key barrier) y moves
     → Agrees (opt meaning key barrier) y d
-    → Agrees (opt meaning key barrier) (all_made (by_lists (opt meaning key barrier)) y moves) (all_made (by_digests (opt meaning key barrier)) d moves)
+    → Agrees (opt meaning key barrier) (all_made (by_lists (opt meaning key barrier)) y moves)
+    (all_made (by_digests (opt meaning key barrier)) d moves)
 agrees_along meaning key barrier [] y d may a = a
 agrees_along meaning key barrier (m ∷ moves) y d may a =
     let i : Instance = opt meaning key barrier in
@@ -172,7 +188,8 @@ own_changes true b = (refl, tt)
 own_changes false b = (refl, (refl, (refl, tt)))
 
 -- a live history lets a batch be committed
-may_change : (meaning : Meaning) (key barrier : List ℕ) (fates : ℕ → Fate) (y : History) (b : Batch) (flag : Bool) → y.is_open ≡ flag → IsLive y
+may_change : (meaning : Meaning) (key barrier : List ℕ) (fates : ℕ → Fate) (y : History) (b : Batch) (flag : Bool) → y.is_open ≡ flag
+    → IsLive y
     → AllMay (opt meaning key barrier) y (walk fates 3 (changing flag true b)).moves
 may_change meaning key barrier fates y b flag e live =
     let i : Instance = opt meaning key barrier in
@@ -191,7 +208,8 @@ may_change meaning key barrier fates y b flag e live =
     ))))
 
 may_found : (found : Found) (meaning : Meaning) (key barrier : List ℕ) (fates : ℕ → Fate) (y : History) (b : Batch) → life_of Opt y ≡ Live
-    → FindsFor (opt meaning key barrier) (digests_of (opt meaning key barrier) y) b found → AllMay (opt meaning key barrier) y (walk fates 3 (commit_steps found b)).moves
+    → FindsFor (opt meaning key barrier) (digests_of (opt meaning key barrier) y) b found
+    → AllMay (opt meaning key barrier) y (walk fates 3 (commit_steps found b)).moves
 may_found (Repeat answer) meaning key barrier fates y b live f = tt
 may_found (Inside ready) meaning key barrier fates y b live f = may_change meaning key barrier fates y b true f.0 (lives y live)
 may_found (Opens opening) meaning key barrier fates y b live f = may_change meaning key barrier fates y b false f.shut (lives y live)
@@ -208,12 +226,14 @@ answers_ready (Inside ready) old new written c = c.gives
 answers_ready (Opens opening) old new written c =
     if_given opening.answer written (emptied_given c.emptied opening old c.middle new written c.empties c.on)
 
-pub commits_on : (found : Found) (old new : Standing) (written : Result BatchAnswer StepFault) → CommitsFound found old new written → CommitsOn found old new written
+pub commits_on : (found : Found) (old new : Standing) (written : Result BatchAnswer StepFault) → CommitsFound found old new written
+    → CommitsOn found old new written
 commits_on found old new written c =
     let fates : ℕ → Fate = fates_of found old new written c in
     let along = λ (meaning : Meaning) (key barrier : List ℕ) (d : Digests) (b : Batch) (s : StandsAt (opt meaning key barrier) old d)
     (f : FindsFor (opt meaning key barrier) d b found).
-    leads (opt meaning key barrier) d fates 3 (commit_steps found b) old new (result_err written) s (trail_of found old new written c meaning key barrier d b s f) in
+    leads (opt meaning key barrier) d fates 3 (commit_steps found b) old new (result_err written) s
+    (trail_of found old new written c meaning key barrier d b s f) in
     record {
       fates = fates;
       goes = along;
@@ -226,6 +246,7 @@ commits_on found old new written c =
           stands_for i new (all_made (by_lists i) y moves)
           (subst (λ (x : Digests). StandsAt i new x)
           (agrees_is i (all_made (by_lists i) y moves) (all_made (by_digests i) d moves)
-          (agrees_along meaning key barrier moves y d (may_found found meaning key barrier fates y b live f) (is_agrees i y d refl))) l.stands);
+          (agrees_along meaning key barrier moves y d (may_found found meaning key barrier fates y b live f) (is_agrees i y d refl)))
+          l.stands);
       answers = answers_ready found old new written c;
     }

@@ -14,7 +14,7 @@ use Rattle.mm_seal.specs.Snapshot.{Content, Snapshot}
 use Rattle.mm_model.specs.declared.answer.BatchAnswer.{BatchAnswer}
 use Rattle.mm_model.specs.declared.refusal.Refusal.{Refusal}
 use Rattle.mm_model.specs.declared.refusal.Refusal.TheVariants as refusal
-use Rattle.mm_model.specs.Places.{digest_of}
+use Rattle.mm_model.specs.PlacesWords.{digest_of}
 use Rattle.mm_call.specs.Order.{examined}
 use Rattle.mm_opt.specs.declared.found.Found.{Found}
 use Rattle.mm_opt.specs.declared.found.Found.TheVariants.{Repeat, Inside, Opens}
@@ -31,14 +31,16 @@ abbrev pub extension_after : Bool → List ℕ → List ℕ → List ℕ
 extension_after true extension value = extension
 extension_after false extension value = extended_of extension value
 
--- the place of an answer: where the platform stands once the batch is committed, if nobody else extends the register
+-- the place of an answer: where the platform stands once the batch is committed, if nobody else
+-- extends the register
 abbrev pub place_after : Cell → List ℕ → List ℕ → Bool → Place
 place_after cell register value again =
     Opt cell.summary (digest_of (extension_after again (extension_at cell.flag register) value))
 
 abbrev pub answer_of : Meaning → Cell → List ℕ → Content → Batch → Bool → BatchAnswer
 answer_of meaning cell register offered b again =
-    answer_at meaning cell.key offered (place_after cell register (batch_value cell b) again) b again
+    answer_at meaning cell.key offered (place_after cell register (batch_value cell b) again) b
+    again
 
 -- the cell once a segment is open
 abbrev pub opened_cell : Cell → List ℕ
@@ -47,32 +49,37 @@ opened_cell cell = cell_spelling (record cell { variant = variants.Opt; flag = t
 -- a new batch is to be committed in the open segment, or to open one
 abbrev pub change_by : Bool → List ℕ → List ℕ → BatchAnswer → Found
 change_by true value next answer = Inside (record { value = digest_of value; answer = answer })
-change_by false value next answer = Opens (record { value = digest_of value; next = next; answer = answer })
+change_by false value next answer =
+    Opens (record { value = digest_of value; next = next; answer = answer })
 
 abbrev pub change_of : Cell → List ℕ → BatchAnswer → Found
 change_of cell value answer = change_by cell.flag value (opened_cell cell) answer
 
 -- A repeat is answered, and a new batch is ready to be committed.
-abbrev pub found_from : Result Bool Refusal → Cell → List ℕ → (Bool → BatchAnswer) → Result Found Refusal
+abbrev pub found_from : Result Bool Refusal → Cell → List ℕ → (Bool → BatchAnswer)
+    → Result Found Refusal
 found_from (Err why) cell value answer = Err why
 found_from (Ok true) cell value answer = Ok (Repeat (answer true))
 found_from (Ok false) cell value answer = Ok (change_of cell value (answer false))
 
 -- what a call finds in an offer, where power wasn't lost
-abbrev pub found_in_offer : Meaning → Cell → List ℕ → Result Snapshot PartsFault → Batch → Result Found Refusal
+abbrev pub found_in_offer : Meaning → Cell → List ℕ → Result Snapshot PartsFault → Batch
+    → Result Found Refusal
 found_in_offer meaning cell register (Err Form) b = Err refusal.Form
 found_in_offer meaning cell register (Err Kind) b = Err refusal.Kind
 found_in_offer meaning cell register (Ok offered) b =
-    found_from (examined meaning cell.key offered b (verdict_of cell register offered b)) cell (batch_value cell b)
+    found_from (examined meaning cell.key offered b (verdict_of cell register offered b)) cell
+    (batch_value cell b)
     (answer_of meaning cell register offered.content b)
 
 abbrev pub found_unless : Bool → Result Found Refusal → Result Found Refusal
 found_unless true found = Err refusal.Lost
 found_unless false found = found
 
--- what a call finds, in the order of the refusals; but for want of memory: from the cell and the register's value, as
--- they were read, and the offer as it is taken apart
-abbrev pub found_in : Meaning → Cell → List ℕ → Result Snapshot PartsFault → Batch → Result Found Refusal
+-- what a call finds, in the order of the refusals; but for want of memory: from the cell and the
+-- register's value, as they were read, and the offer as it is taken apart
+abbrev pub found_in : Meaning → Cell → List ℕ → Result Snapshot PartsFault → Batch
+    → Result Found Refusal
 found_in meaning cell register taken b =
     found_unless (has_lost_power cell register) (found_in_offer meaning cell register taken b)
 

@@ -18,11 +18,13 @@ use Rattle.mm_opt.specs.declared.found.Found.TheVariants.{Repeat, Inside, Opens}
 use Rattle.mm_opt.specs.Steps.{IsReady, ReadsOwnCell, ReadsRegister, Extends, Empties, Places, Writes}
 
 -- The reading steps of a call.
-abbrev pub ReadsOn : Meaning → Result Cell Refusal → Standing → Standing → List ℕ → Batch → Result Found Refusal → Type 0
+abbrev pub ReadsOn : Meaning → Result Cell Refusal → Standing → Standing → List ℕ → Batch
+    → Result Found Refusal → Type 0
 ReadsOn meaning (Err why) old new offer b found = (new ≡ old) × (found ≡ Err why)
 ReadsOn meaning (Ok cell) old new offer b found = ReadsRegister meaning cell old new offer b found
 
-pub record Reads (meaning : Meaning) (old new : Standing) (offer : List ℕ) (b : Batch) (found : Result Found Refusal) : Type 0 where
+pub record Reads (meaning : Meaning) (old new : Standing) (offer : List ℕ) (b : Batch)
+    (found : Result Found Refusal) : Type 0 where
   pub middle : Standing
   pub cell : Result Cell Refusal
   pub reads : ReadsOwnCell meaning.id old middle cell
@@ -35,33 +37,39 @@ MayCommit (Inside ready) standing = IsReady standing
 MayCommit (Opens opening) standing = IsReady standing
 
 -- The steps that open a segment, one after another; none comes after one that fails.
-abbrev pub PlacedOn : Result Opening StepFault → Standing → Standing → Result BatchAnswer StepFault → Type 0
+abbrev pub PlacedOn : Result Opening StepFault → Standing → Standing → Result BatchAnswer StepFault
+    → Type 0
 PlacedOn (Err fault) old new written = (new ≡ old) × (written ≡ Err fault)
 PlacedOn (Ok opening) old new written = Writes opening old new written
 
-pub record PlacesAndWrites (opening : Opening) (old new : Standing) (written : Result BatchAnswer StepFault) : Type 0 where
+pub record PlacesAndWrites (opening : Opening) (old new : Standing)
+    (written : Result BatchAnswer StepFault) : Type 0 where
   pub middle : Standing
   pub placed : Result Opening StepFault
   pub places : Places opening old middle placed
   pub on : PlacedOn placed middle new written
 
-abbrev pub EmptiedOn : Result Opening StepFault → Standing → Standing → Result BatchAnswer StepFault → Type 0
+abbrev pub EmptiedOn : Result Opening StepFault → Standing → Standing → Result BatchAnswer StepFault
+    → Type 0
 EmptiedOn (Err fault) old new written = (new ≡ old) × (written ≡ Err fault)
 EmptiedOn (Ok opening) old new written = PlacesAndWrites opening old new written
 
-pub record OpensSegment (opening : Opening) (old new : Standing) (written : Result BatchAnswer StepFault) : Type 0 where
+pub record OpensSegment (opening : Opening) (old new : Standing)
+    (written : Result BatchAnswer StepFault) : Type 0 where
   pub middle : Standing
   pub emptied : Result Opening StepFault
   pub empties : Empties opening old middle emptied
   pub on : EmptiedOn emptied middle new written
 
--- How a call goes on once its batch has run in memory: a repeat is answered, and a new batch is committed.
+-- How a call goes on once its batch has run in memory: a repeat is answered, and a new batch is
+-- committed.
 abbrev pub CommitsFound : Found → Standing → Standing → Result BatchAnswer StepFault → Type 0
 CommitsFound (Repeat answer) old new written = (new ≡ old) × (written ≡ Ok answer)
 CommitsFound (Inside ready) old new written = Extends ready old new written
 CommitsFound (Opens opening) old new written = OpensSegment opening old new written
 
-pub record Commits (found : Found) (old new : Standing) (result : Result BatchAnswer Refusal) : Type 0 where
+pub record Commits (found : Found) (old new : Standing) (result : Result BatchAnswer Refusal) : Type
+    0 where
   pub written : Result BatchAnswer StepFault
   pub commits : CommitsFound found old new written
   pub gives : result ≡ handed_on written
@@ -70,15 +78,18 @@ abbrev pub Ends : Result Found Refusal → Standing → Standing → Result Batc
 Ends (Err why) old new result = (new ≡ old) × (result ≡ Err why)
 Ends (Ok found) old new result = Commits found old new result
 
--- A call that isn't refused as Long: it reads the cell and the register, and goes on by what it finds.
-pub record Asks (meaning : Meaning) (old new : Standing) (offer : List ℕ) (b : Batch) (result : Result BatchAnswer Refusal) : Type 0 where
+-- A call that isn't refused as Long: it reads the cell and the register, and goes on by what it
+-- finds.
+pub record Asks (meaning : Meaning) (old new : Standing) (offer : List ℕ) (b : Batch)
+    (result : Result BatchAnswer Refusal) : Type 0 where
   pub middle : Standing
   pub found : Result Found Refusal
   pub reads : Reads meaning old middle offer b found
   pub ends : Ends found middle new result
 
 -- A call: one that is too long is refused before its first step.
-pub record Calls (meaning : Meaning) (old new : Standing) (offer : List ℕ) (b : Batch) (result : Result BatchAnswer Refusal) : Type 0 where
+pub record Calls (meaning : Meaning) (old new : Standing) (offer : List ℕ) (b : Batch)
+    (result : Result BatchAnswer Refusal) : Type 0 where
   pub long : is_long b ≡ true → (new ≡ old) × (result ≡ Err Long)
   pub asks : is_long b ≡ false → Asks meaning old new offer b result
 
@@ -98,11 +109,13 @@ abbrev pub ThreeSteps : Standing → Standing → Type 0
 ThreeSteps old new = (new.steps ≡ counted (counted (counted old.steps))) × (new.writes ≡ old.writes)
 
 abbrev pub FourSteps : Standing → Standing → Type 0
-FourSteps old new = (new.steps ≡ counted (counted (counted (counted old.steps)))) × (new.writes ≡ old.writes)
+FourSteps old new =
+    (new.steps ≡ counted (counted (counted (counted old.steps)))) × (new.writes ≡ old.writes)
 
 abbrev pub FiveSteps : Standing → Standing → Type 0
 FiveSteps old new =
-    (new.steps ≡ counted (counted (counted (counted (counted old.steps))))) × (new.writes ≡ counted old.writes)
+    (new.steps ≡ counted (counted (counted (counted (counted old.steps)))))
+    × (new.writes ≡ counted old.writes)
 
 pub data StepsMade (old new : Standing) : Type 0 where
   one_step : OneStep old new → StepsMade old new
@@ -150,9 +163,12 @@ abbrev pub AnswersFrom : Bool → Result BatchAnswer Refusal → Standing → St
 AnswersFrom flag (Ok answer) old new = StepsFrom flag answer.again old new
 AnswersFrom flag (Err why) old new = Unit {0}
 
--- A call is to write the cell at most once. Where the platform tells its cell, and the flag there is set, it never is: a
--- new batch is committed by three steps; where the flag is clear, by five, of which the last writes the cell.
+-- A call is to write the cell at most once. Where the platform tells its cell, and the flag there
+-- is set, it never is: a new batch is committed by three steps; where the flag is clear, by five,
+-- of which the last writes the cell.
 pub record WritesBy (result : Result BatchAnswer Refusal) (old new : Standing) : Type 0 where
   pub once : WritesAtMostOnce old new
-  pub inside : (cell : Cell) → IsCell cell → old.cell ≡ Some (cell_spelling cell) → cell.flag ≡ true → new.writes ≡ old.writes
-  pub answers : (cell : Cell) → IsCell cell → old.cell ≡ Some (cell_spelling cell) → AnswersFrom cell.flag result old new
+  pub inside : (cell : Cell) → IsCell cell → old.cell ≡ Some (cell_spelling cell) → cell.flag ≡ true
+      → new.writes ≡ old.writes
+  pub answers : (cell : Cell) → IsCell cell → old.cell ≡ Some (cell_spelling cell)
+      → AnswersFrom cell.flag result old new

@@ -32,7 +32,8 @@ closed_turn (Err fault) = Refused (Device fault)
 closed_turn (Ok it) = Done it
 
 -- a turn gives what is drawn from the outcome of its step
-pub record TurnsClosingBy {A : Type 0} (steps : A → Type 0) (given : A → CheckpointTurn) (turn : CheckpointTurn) : Type 0 where
+pub record TurnsClosingBy {A : Type 0} (steps : A → Type 0) (given : A → CheckpointTurn)
+    (turn : CheckpointTurn) : Type 0 where
   pub outcome : A
   pub step : steps outcome
   pub gives : turn ≡ given outcome
@@ -41,7 +42,8 @@ pub record TurnsClosingBy {A : Type 0} (steps : A → Type 0) (given : A → Che
 abbrev pub ClosingTurns : CheckpointStage → Standing → Standing → CheckpointTurn → Type 0
 ClosingTurns stage.Begun old new turn = TurnsClosingBy (Looks old new) looked_turn turn
 ClosingTurns (stage.Seen cell) old new turn = TurnsClosingBy (Weighs cell old new) weighed_turn turn
-ClosingTurns (stage.Closing next) old new turn = TurnsClosingBy (Closes next old new) closed_turn turn
+ClosingTurns (stage.Closing next) old new turn =
+    TurnsClosingBy (Closes next old new) closed_turn turn
 
 -- the fault that a turn hands on
 abbrev pub closing_fault_turned : CheckpointTurn → Option StepFault

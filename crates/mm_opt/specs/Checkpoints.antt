@@ -11,7 +11,7 @@ use Rattle.mm_seal.specs.declared.cell.Cell.{Cell}
 use Rattle.mm_seal.specs.declared.cell.CellFault.{CellFault}
 use Rattle.mm_seal.specs.declared.cell.CellFault.TheVariants as fault
 use Rattle.mm_seal.specs.Cell.{ReadsCell, cell_spelling}
-use Rattle.mm_model.specs.Places.{digest_of}
+use Rattle.mm_model.specs.PlacesWords.{digest_of}
 use Rattle.mm_call.specs.Leaving.{IsUntouched}
 use Rattle.mm_opt.specs.declared.segment.Checkpointed.{Checkpointed}
 use Rattle.mm_opt.specs.declared.segment.Checkpointed.TheVariants.{Done, NoSegment}
@@ -80,7 +80,11 @@ pub record Looks (old new : Standing) (found : Result Segment CheckpointRefusal)
 -- the cell once its segment is closed, where the register has this value
 abbrev pub closed_cell : Cell → List ℕ → List ℕ
 closed_cell cell register =
-    cell_spelling (record cell { variant = Opt; flag = false; summary = digest_of (anchored_of cell.summary.bytes register) })
+    cell_spelling (record cell {
+      variant = Opt;
+      flag = false;
+      summary = digest_of (anchored_of cell.summary.bytes register);
+    })
 
 -- the bytes that close the segment, by whether the register reads zero
 abbrev pub closing_by : Bool → Cell → List ℕ → Result (List ℕ) CheckpointRefusal
@@ -90,14 +94,18 @@ closing_by false cell register = Ok (closed_cell cell register)
 abbrev pub closing_in : Cell → List ℕ → Result (List ℕ) CheckpointRefusal
 closing_in cell register = closing_by (bytes_eq register zero_bytes) cell register
 
--- What is found on a platform, whose register is read; it is the platform's, where that tells its items.
-pub record FindsClosing (cell : Cell) (new : Standing) (found : Result (List ℕ) CheckpointRefusal) : Type 0 where
+-- What is found on a platform, whose register is read; it is the platform's, where that tells its
+-- items.
+pub record FindsClosing (cell : Cell) (new : Standing)
+    (found : Result (List ℕ) CheckpointRefusal) : Type 0 where
   pub register : List ℕ
-  pub told : (items : List Item) → new.items ≡ Some items → register ≡ register_after (item_values items)
+  pub told : (items : List Item) → new.items ≡ Some items
+      → register ≡ register_after (item_values items)
   pub found_is : found ≡ closing_in cell register
 
 -- The second step, and what is found where it doesn't fail.
-pub record Weighs (cell : Cell) (old new : Standing) (found : Result (List ℕ) CheckpointRefusal) : Type 0 where
+pub record Weighs (cell : Cell) (old new : Standing)
+    (found : Result (List ℕ) CheckpointRefusal) : Type 0 where
   pub goes : Goes ReadRegister old new (closing_fault_in found)
   pub finds : closing_fault_in found ≡ None → FindsClosing cell new found
 
@@ -110,41 +118,48 @@ abbrev pub closing_handed_on : Result Checkpointed StepFault → Result Checkpoi
 closing_handed_on (Ok it) = Ok it
 closing_handed_on (Err fault) = Err (refusal.Device fault)
 
-pub record ClosesBy (next : List ℕ) (old new : Standing) (result : Result Checkpointed CheckpointRefusal) : Type 0 where
+pub record ClosesBy (next : List ℕ) (old new : Standing)
+    (result : Result Checkpointed CheckpointRefusal) : Type 0 where
   pub written : Result Checkpointed StepFault
   pub closes : Closes next old new written
   pub gives : result ≡ closing_handed_on written
 
 -- The rest of a checkpoint, by what was found.
-abbrev pub EndsClosing : Result (List ℕ) CheckpointRefusal → Standing → Standing → Result Checkpointed CheckpointRefusal → Type 0
+abbrev pub EndsClosing : Result (List ℕ) CheckpointRefusal → Standing → Standing
+    → Result Checkpointed CheckpointRefusal → Type 0
 EndsClosing (Err why) old new result = (new ≡ old) × (result ≡ Err why)
 EndsClosing (Ok next) old new result = ClosesBy next old new result
 
-pub record WeighsAndCloses (cell : Cell) (old new : Standing) (result : Result Checkpointed CheckpointRefusal) : Type 0 where
+pub record WeighsAndCloses (cell : Cell) (old new : Standing)
+    (result : Result Checkpointed CheckpointRefusal) : Type 0 where
   pub middle : Standing
   pub found : Result (List ℕ) CheckpointRefusal
   pub weighs : Weighs cell old middle found
   pub ends : EndsClosing found middle new result
 
-abbrev pub EndsLooking : Result Segment CheckpointRefusal → Standing → Standing → Result Checkpointed CheckpointRefusal → Type 0
+abbrev pub EndsLooking : Result Segment CheckpointRefusal → Standing → Standing
+    → Result Checkpointed CheckpointRefusal → Type 0
 EndsLooking (Err why) old new result = (new ≡ old) × (result ≡ Err why)
 EndsLooking (Ok Shut) old new result = (new ≡ old) × (result ≡ Ok NoSegment)
 EndsLooking (Ok (Open cell)) old new result = WeighsAndCloses cell old new result
 
 -- A checkpoint: it reads the cell, and goes on by what it finds.
-pub record ClosesSegment (old new : Standing) (result : Result Checkpointed CheckpointRefusal) : Type 0 where
+pub record ClosesSegment (old new : Standing)
+    (result : Result Checkpointed CheckpointRefusal) : Type 0 where
   pub middle : Standing
   pub found : Result Segment CheckpointRefusal
   pub looks : Looks old middle found
   pub ends : EndsLooking found middle new result
 
 -- What is left of a checkpoint, by where it stands.
-abbrev pub FinishesClosing : CheckpointStage → Standing → Standing → Result Checkpointed CheckpointRefusal → Type 0
+abbrev pub FinishesClosing : CheckpointStage → Standing → Standing
+    → Result Checkpointed CheckpointRefusal → Type 0
 FinishesClosing stage.Begun old new result = ClosesSegment old new result
 FinishesClosing (stage.Seen cell) old new result = WeighsAndCloses cell old new result
 FinishesClosing (stage.Closing next) old new result = ClosesBy next old new result
 
--- what a refused checkpoint leaves, unless it hands on a device's fault; and one that found no segment
+-- what a refused checkpoint leaves, unless it hands on a device's fault; and one that found no
+-- segment
 abbrev pub LeavesStill : Result Checkpointed CheckpointRefusal → Standing → Standing → Type 0
 LeavesStill (Ok Done) old new = Unit {0}
 LeavesStill (Ok NoSegment) old new = IsUntouched old new

@@ -29,8 +29,9 @@ closing_told NoSegment = Ok said.NoSegment
 closing_told LostPower = Err refusal.Lost
 closing_told (Stops fault closed) = Err (refusal.Device fault)
 
--- The checkpoint over a platform that stood at these digests was this one: its result; the cell and the register; what
--- the register shows of its moves; and its steps, and those of them that write the cell.
+-- The checkpoint over a platform that stood at these digests was this one: its result; the cell and
+-- the register; what the register shows of its moves; and its steps, and those of them that write
+-- the cell.
 pub record ChecksBy (i : Instance) (d : Digests) (o : Checkpointed Digests) (old new : Standing)
     (result : Result Said CheckpointRefusal) : Type 0 where
   pub gives : result ≡ closing_told o.ending
@@ -39,31 +40,37 @@ pub record ChecksBy (i : Instance) (d : Digests) (o : Checkpointed Digests) (old
   pub steps : new.steps ≡ counted_by o.steps old.steps
   pub writes : new.writes ≡ counted_by o.writes old.writes
 
--- The checkpoint over a platform that stood for a history was this one, and what was asked of the history holds after it.
-pub record ChecksFor (all others : List (List ℕ)) (asked : List Batch) (i : Instance) (o : Checkpointed History) (new : Standing)
+-- The checkpoint over a platform that stood for a history was this one, and what was asked of the
+-- history holds after it.
+pub record ChecksFor (all others : List (List ℕ)) (asked : List Batch) (i : Instance)
+    (o : Checkpointed History) (new : Standing)
     (result : Result Said CheckpointRefusal) : Type 0 where
   pub gives : result ≡ closing_told o.ending
   pub stands : StandsFor i new o.state
   pub within : IsWithin all others asked i o.state
 
--- A checkpoint over a platform: there is a course, which is that of the plan where one is told, on which it goes from any
--- digests that the platform stands at, and from any history that it stands for, in either variant. Under a plan the
--- platform stays on, unless the checkpoint was cut.
+-- A checkpoint over a platform: there is a course, which is that of the plan where one is told, on
+-- which it goes from any digests that the platform stands at, and from any history that it stands
+-- for, in either variant. Under a plan the platform stays on, unless the checkpoint was cut.
 pub record ChecksOn (old new : Standing) (result : Result Said CheckpointRefusal) : Type 0 where
   pub course : Course
   pub tells : AreTold old course.fates
   pub goes : (variant : Variant) (meaning : Meaning) (key barrier : List ℕ) (d : Digests) →
       StandsAt (instance_by variant meaning key barrier) old d →
       ChecksBy (instance_by variant meaning key barrier) d
-      (checkpointed (instance_by variant meaning key barrier) (by_digests (instance_by variant meaning key barrier)) d course)
+      (checkpointed (instance_by variant meaning key barrier)
+      (by_digests (instance_by variant meaning key barrier)) d course)
       old new result
-  pub continues : (variant : Variant) (meaning : Meaning) (key barrier : List ℕ) (y : History) (all others : List (List ℕ))
+  pub continues : (variant : Variant) (meaning : Meaning) (key barrier : List ℕ) (y : History)
+      (all others : List (List ℕ))
       (asked : List Batch) →
       StandsFor (instance_by variant meaning key barrier) old y →
       IsClosedWithin all others asked (instance_by variant meaning key barrier) y
-      (checkpointed (instance_by variant meaning key barrier) (by_digests (instance_by variant meaning key barrier))
+      (checkpointed (instance_by variant meaning key barrier)
+      (by_digests (instance_by variant meaning key barrier))
       (digests_of (instance_by variant meaning key barrier) y) course).moves →
       ChecksFor all others asked (instance_by variant meaning key barrier)
-      (checkpointed (instance_by variant meaning key barrier) (by_lists (instance_by variant meaning key barrier)) y course)
+      (checkpointed (instance_by variant meaning key barrier)
+      (by_lists (instance_by variant meaning key barrier)) y course)
       new result
   pub plans : StaysPlanned old new (is_some (closing_fault_in result))

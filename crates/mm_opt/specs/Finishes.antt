@@ -61,14 +61,16 @@ EndsTo (Ok (Inside ready)) old new ended = ExtendsTo ready old new ended
 EndsTo (Ok (Opens opening)) old new ended = OpensTo opening old new ended
 
 -- A call from its first step to its end.
-pub record AsksTo (meaning : Meaning) (old new : Standing) (offer : List ℕ) (b : Batch) (ended : Ended) : Type 0 where
+pub record AsksTo (meaning : Meaning) (old new : Standing) (offer : List ℕ) (b : Batch)
+    (ended : Ended) : Type 0 where
   pub middle : Standing
   pub found : Result Found Refusal
   pub reads : Reads meaning old middle offer b found
   pub ends : EndsTo found middle new ended
 
 -- A call from its second step to its end.
-pub record SeesTo (meaning : Meaning) (cell : Cell) (old new : Standing) (offer : List ℕ) (b : Batch) (ended : Ended) : Type 0 where
+pub record SeesTo (meaning : Meaning) (cell : Cell) (old new : Standing) (offer : List ℕ)
+    (b : Batch) (ended : Ended) : Type 0 where
   pub middle : Standing
   pub found : Result Found Refusal
   pub reads : ReadsRegister meaning cell old middle offer b found

@@ -34,7 +34,8 @@ has_lost_power cell register = cell.flag && bytes_eq register zero_bytes
 -- the verdict by digests on an offered place
 abbrev pub verdict_at : Cell → List ℕ → Place → Batch → Verdict
 verdict_at cell register place b =
-    opt_verdict cell.flag cell.summary.bytes register (forms_of (anchor_in place) (extension_in place)) (batch_value cell b)
+    opt_verdict cell.flag cell.summary.bytes register
+    (forms_of (anchor_in place) (extension_in place)) (batch_value cell b)
 
 abbrev pub verdict_of : Cell → List ℕ → Snapshot → Batch → Verdict
 verdict_of cell register offered b = verdict_at cell register offered.content.place b

@@ -24,9 +24,9 @@ use Rattle.mm_opt.specs.declared.stage.Change.TheVariants as change
 use Rattle.mm_opt.specs.Seen.{SeesCell}
 use Rattle.mm_opt.specs.Answers.{found_in}
 
--- The device step that a call makes next. It reads the cell, and then the register. In an open segment it extends the
--- register, which commits the batch. Otherwise it resets the register, extends it, and writes the cell with the flag
--- set, which commits the batch.
+-- The device step that a call makes next. It reads the cell, and then the register. In an open
+-- segment it extends the register, which commits the batch. Otherwise it resets the register,
+-- extends it, and writes the cell with the flag set, which commits the batch.
 abbrev pub act_in : Change → Act
 act_in (change.Inside ready) = ExtendRegister ready.value.bytes
 act_in (change.Emptying opening) = ResetRegister
@@ -78,28 +78,34 @@ pub record ReadsOwnCell (id : ℕ) (old new : Standing) (found : Result Cell Ref
   pub finds : fault_in found ≡ None → FindsCell id old found
 
 -- What is found in this cell, with this value of the register, and in the offered bytes.
-pub record FindsIn (meaning : Meaning) (cell : Cell) (register offer : List ℕ) (b : Batch) (found : Result Found Refusal) : Type 0 where
+pub record FindsIn (meaning : Meaning) (cell : Cell) (register offer : List ℕ) (b : Batch)
+    (found : Result Found Refusal) : Type 0 where
   pub taken : Result Snapshot PartsFault
   pub reads : ReadsParts offer Opt meaning.id taken
   pub found_is : OrMemory (found_in meaning cell register taken b) found
 
--- The same, on a platform whose register is read, 32 bytes; they are the platform's, where that tells its items.
+-- The same, on a platform whose register is read, 32 bytes; they are the platform's, where that
+-- tells its items.
 pub record Finds (meaning : Meaning) (cell : Cell) (middle : Standing) (offer : List ℕ) (b : Batch)
     (found : Result Found Refusal) : Type 0 where
   pub register : List ℕ
-  pub told : (items : List Item) → middle.items ≡ Some items → register ≡ register_after (item_values items)
+  pub told : (items : List Item) → middle.items ≡ Some items
+      → register ≡ register_after (item_values items)
   pub size : length register ≡ 32
   pub finds : FindsIn meaning cell register offer b found
 
--- The room that is made after what was found: for one own extension, where the batch is to be committed.
+-- The room that is made after what was found: for one own extension, where the batch is to be
+-- committed.
 abbrev pub MakesRoom : Result Found Refusal → Standing → Standing → Type 0
 MakesRoom (Err why) old new = new ≡ old
 MakesRoom (Ok (Repeat answer)) old new = new ≡ old
 MakesRoom (Ok (Inside ready)) old new = Readies old new
 MakesRoom (Ok (Opens opening)) old new = Readies old new
 
--- The second step, and what is found where it doesn't fail; then room is made. Nothing after it takes memory.
-pub record ReadsRegister (meaning : Meaning) (cell : Cell) (old new : Standing) (offer : List ℕ) (b : Batch)
+-- The second step, and what is found where it doesn't fail; then room is made. Nothing after it
+-- takes memory.
+pub record ReadsRegister (meaning : Meaning) (cell : Cell) (old new : Standing) (offer : List ℕ)
+    (b : Batch)
     (found : Result Found Refusal) : Type 0 where
   pub middle : Standing
   pub goes : Goes ReadRegister old middle (fault_in found)
@@ -107,7 +113,8 @@ pub record ReadsRegister (meaning : Meaning) (cell : Cell) (old new : Standing) 
   pub room : MakesRoom found middle new
 
 -- a device step that is handed what comes next, and gives it where the step doesn't fail
-pub record Makes {A : Type 0} (act : Act) (it : A) (old new : Standing) (made : Result A StepFault) : Type 0 where
+pub record Makes {A : Type 0} (act : Act) (it : A) (old new : Standing)
+    (made : Result A StepFault) : Type 0 where
   pub goes : Goes act old new (result_err made)
   pub gives : IfOk made (λ given. given ≡ it)
 

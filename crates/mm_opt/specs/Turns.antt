@@ -33,8 +33,8 @@ stage_position stage.Begun = None
 stage_position (stage.Seen cell) = None
 stage_position (stage.Changing it) = Some (position_in it)
 
--- the position up to which the next step commits the batch: that of an extension in an open segment, and the write of
--- an opening
+-- the position up to which the next step commits the batch: that of an extension in an open
+-- segment, and the write of an opening
 abbrev pub commits_in : Change → Option ℕ
 commits_in (change.Inside ready) = Some ready.answer.position
 commits_in (change.Emptying opening) = None
@@ -87,7 +87,8 @@ Changes (change.Writing opening) old new turn = TurnsBy (Writes opening old new)
 
 -- one turn of a call
 abbrev pub Turns : Meaning → Stage → Standing → Standing → List ℕ → Batch → Turn → Type 0
-Turns meaning stage.Begun old new offer b turn = TurnsBy (ReadsOwnCell meaning.id old new) seen_turn turn
+Turns meaning stage.Begun old new offer b turn =
+    TurnsBy (ReadsOwnCell meaning.id old new) seen_turn turn
 Turns meaning (stage.Seen cell) old new offer b turn =
     TurnsBy (ReadsRegister meaning cell old new offer b) found_turn turn
 Turns meaning (stage.Changing it) old new offer b turn = Changes it old new turn
@@ -104,7 +105,8 @@ fault_turned (Going stage) = None
 fault_turned (Done answer) = None
 fault_turned (Refused why) = fault_of why
 
--- One turn makes exactly the device step that comes next, and hands its fault on. Besides it may make room.
+-- One turn makes exactly the device step that comes next, and hands its fault on. Besides it may
+-- make room.
 pub record ActsAt (call : Stage) (old new : Standing) (turn : Turn) : Type 0 where
   pub middle : Standing
   pub goes : Goes (act_of call) old middle (fault_turned turn)

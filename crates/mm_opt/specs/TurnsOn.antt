@@ -1,11 +1,13 @@
--- Each turn of a call makes the next step of its walk, from any digests that the platform stands at.
+-- Each turn of a call makes the next step of its walk, from any digests that the platform stands
+-- at.
 use Rattle.std.specs.Prelude.{◌≡◌, ℕ, Bool, true, false, List, [], ◌∷◌, None, Result, Ok, Err}
 use Rattle.mm_platform.specs.Standing.{Standing}
 use Rattle.mm_module.specs.Meaning.{Meaning}
 use Rattle.mm_module.specs.Batch.{Batch, normal}
 use Rattle.mm_seal.specs.Snapshot.{Content}
 use Rattle.mm_model.specs.Chains.{guard}
-use Rattle.mm_model.specs.Instance.{Instance, opt}
+use Rattle.mm_model.specs.Instance.{Instance}
+use Rattle.mm_model.specs.InstanceWords.{opt}
 use Rattle.mm_model.specs.History.{Commit, Placed, Reset}
 use Rattle.mm_model.specs.Moves.{Digests}
 use Rattle.mm_model.specs.Steps.{Step, Reads, Changes, Writes}
@@ -13,7 +15,8 @@ use Rattle.mm_model.specs.declared.answer.BatchAnswer.{BatchAnswer}
 use Rattle.mm_model.specs.declared.refusal.Refusal.{Refusal}
 use Rattle.mm_call.specs.Answers.{answer_at}
 use Rattle.mm_call.specs.Levels.{all_made, by_digests, place_then}
-use Rattle.mm_call.specs.Found.{Found as Accepted, found_at as accepted_at, found_unless_wanting as accepted_in}
+use Rattle.mm_call.specs.Found.{Found as Accepted, found_at as accepted_at}
+use Rattle.mm_call.specs.FoundWords.{found_unless_wanting as accepted_in}
 use Rattle.mm_call.specs.Courses.{Fate, Walked, walk}
 use Rattle.mm_call.specs.Standing.{cell_at, StandsAt}
 use Rattle.mm_call.specs.Trails.{Leads}
@@ -64,11 +67,13 @@ HoldsOn i d b (Done answer) = Unit {0}
 HoldsOn i d b (Refused why) = Unit {0}
 
 -- an accepted offer, and the answer to it
-pub record Accepts (i : Instance) (seen : Digests) (b : Batch) (x : Result Accepted Refusal) (again : Bool)
+pub record Accepts (i : Instance) (seen : Digests) (b : Batch) (x : Result Accepted Refusal)
+    (again : Bool)
     (answer : BatchAnswer) : Type 0 where
   pub offered : Content
   pub found_is : x ≡ Ok (record { offered = offered; again = again })
-  pub answer_is : answer ≡ answer_at i.meaning i.key offered (place_then i.variant seen.flag again i seen b) b again
+  pub answer_is : answer ≡ answer_at i.meaning i.key offered
+      (place_then i.variant seen.flag again i seen b) b again
 
 -- what the turn that reads the register gives, by what the call by digests finds there
 abbrev pub GivesFound : Instance → Digests → Batch → Result Accepted Refusal → Turn → Type 0
@@ -76,15 +81,20 @@ GivesFound i seen b x (Done answer) = Accepts i seen b x true answer
 GivesFound i seen b x (Refused why) = x ≡ Err why
 GivesFound i seen b x (Going stage.Begun) = ⊥
 GivesFound i seen b x (Going (stage.Seen cell)) = ⊥
-GivesFound i seen b x (Going (stage.Changing (change.Inside ready))) = Accepts i seen b x false ready.answer
-GivesFound i seen b x (Going (stage.Changing (change.Emptying opening))) = Accepts i seen b x false opening.answer
+GivesFound i seen b x (Going (stage.Changing (change.Inside ready))) =
+    Accepts i seen b x false ready.answer
+GivesFound i seen b x (Going (stage.Changing (change.Emptying opening))) =
+    Accepts i seen b x false opening.answer
 GivesFound i seen b x (Going (stage.Changing (change.Placing opening))) = ⊥
 GivesFound i seen b x (Going (stage.Changing (change.Writing opening))) = ⊥
 
--- What the register was read to give, but for want of memory, which comes in place of an accepted offer.
-pub record FindsSeen (i : Instance) (seen : Digests) (offer : List ℕ) (b : Batch) (turn : Turn) : Type 0 where
+-- What the register was read to give, but for want of memory, which comes in place of an accepted
+-- offer.
+pub record FindsSeen (i : Instance) (seen : Digests) (offer : List ℕ) (b : Batch)
+    (turn : Turn) : Type 0 where
   pub lacks : Bool
-  pub gives : GivesFound i seen b (accepted_in (accepted_at i (by_digests i) seen b offer) lacks) turn
+  pub gives : GivesFound i seen b (accepted_in (accepted_at i (by_digests i) seen b offer) lacks)
+      turn
 
 abbrev pub SecondOn : Stage → Instance → Digests → List ℕ → Batch → Turn → Type 0
 SecondOn stage.Begun i d offer b turn = Unit {0}
@@ -95,17 +105,23 @@ SecondOn (stage.Changing it) i d offer b turn = Unit {0}
 abbrev pub one_step : Fate → Step → Walked
 one_step fate step = walk (λ _. fate) 1 (step ∷ [])
 
--- A turn was the next step of the walk: the platform goes on by its moves; and where the step didn't fail, the call holds
--- again what the digests then gave, and the turn that read the register gives what the call by digests finds.
-pub record WalksOn (i : Instance) (d : Digests) (stage : Stage) (old new : Standing) (offer : List ℕ) (b : Batch)
+-- A turn was the next step of the walk: the platform goes on by its moves; and where the step
+-- didn't fail, the call holds again what the digests then gave, and the turn that read the register
+-- gives what the call by digests finds.
+pub record WalksOn (i : Instance) (d : Digests) (stage : Stage) (old new : Standing)
+    (offer : List ℕ) (b : Batch)
     (turn : Turn) : Type 0 where
   pub fate : Fate
   pub leads : Leads i d (one_step fate (step_of stage b)) old new (fault_turned turn)
-  pub holds : fault_turned turn ≡ None → HoldsOn i (all_made (by_digests i) d (one_step fate (step_of stage b)).moves) b turn
-  pub finds : fault_turned turn ≡ None → SecondOn stage i (all_made (by_digests i) d (one_step fate (step_of stage b)).moves) offer b turn
+  pub holds : fault_turned turn ≡ None
+      → HoldsOn i (all_made (by_digests i) d (one_step fate (step_of stage b)).moves) b turn
+  pub finds : fault_turned turn ≡ None
+      → SecondOn stage i (all_made (by_digests i) d (one_step fate (step_of stage b)).moves) offer b
+      turn
 
 -- One turn, from any digests that the platform stands at and that gave what the call holds.
 abbrev pub TurnsOn : Meaning → Stage → Standing → Standing → List ℕ → Batch → Turn → Type 0
 TurnsOn meaning stage old new offer b turn =
-    (key barrier : List ℕ) (d : Digests) → StandsAt (opt meaning key barrier) old d → HoldsAt (opt meaning key barrier) d (normal b) stage →
+    (key barrier : List ℕ) (d : Digests) → StandsAt (opt meaning key barrier) old d
+    → HoldsAt (opt meaning key barrier) d (normal b) stage →
     WalksOn (opt meaning key barrier) d stage old new offer (normal b) turn

@@ -100,7 +100,8 @@ put_held slot page part digest kept old new rows after h d k r = record {
       let same : new.slots ≡ old.slots = ap (λ (x : Paged). x.slots) h.same in
       subst (λ (x : Option Slots). PutsThere slot page part old.slots x) (sym same)
       (stays_there slot page part old.slots
-      (λ told e. same_bytes (page_of (slot_in told slot) page) part (both_right (may_be kept digest) (bytes_eq (page_of (slot_in told slot) page) part) (h.holds told e))));
+      (λ told e. same_bytes (page_of (slot_in told slot) page) part
+      (both_right (may_be kept digest) (bytes_eq (page_of (slot_in told slot) page) part) (h.holds told e))));
   writes =
       λ told e step.
       let none : change_count (page_of (slot_in told slot) page) part ≡ 0 =

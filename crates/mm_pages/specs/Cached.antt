@@ -14,9 +14,11 @@ pub record Cached (D : Type 0) : Type 0 where
   pub device : D
   pub rows : Rows
 
--- the digests kept after a write: those of the pages of the bytes and no other of their slot, or none of it
+-- the digests kept after a write: those of the pages of the bytes and no other of their slot, or
+-- none of it
 abbrev pub rows_after_write : {T : Type 0} → ℕ → List ℕ → Rows → Result T StoreFault → Rows
-rows_after_write slot bytes rows (Ok _) = with_row rows slot (page_digests bytes (page_count (length bytes)))
+rows_after_write slot bytes rows (Ok _) =
+    with_row rows slot (page_digests bytes (page_count (length bytes)))
 rows_after_write slot bytes rows (Err _) = with_row rows slot []
 
 -- the digests kept after a read: all of them, or none of its slot where the device failed
@@ -39,5 +41,6 @@ pub record AreInStep (rows : Rows) (slots : Slots) : Type 0 where
 -- digests in step with what an honest device has stay so
 abbrev pub KeepsStep : Paged → Paged → Rows → Rows → Type 0
 KeepsStep old new rows after =
-    old.is_honest ≡ true → (was now : Slots) → old.slots ≡ Some was → new.slots ≡ Some now → AreInStep rows was
+    old.is_honest ≡ true → (was now : Slots) → old.slots ≡ Some was → new.slots ≡ Some now
+    → AreInStep rows was
     → AreInStep after now

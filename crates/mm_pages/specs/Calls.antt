@@ -14,25 +14,32 @@ use Rattle.mm_pages.specs.Paged.{Paged}
 pub record ReadsLength (slot : ℕ) (old new : Paged) (result : Result ℕ Failed) : Type 0 where
   pub same : new ≡ record old { faults = new.faults }
   pub counted_faults : CountsFaults old.faults new.faults result
-  pub gives : IfOk result (λ size. (slots : Slots) → old.slots ≡ Some slots → size ≡ length (slot_in slots slot))
+  pub gives : IfOk result (λ size. (slots : Slots) → old.slots ≡ Some slots
+      → size ≡ length (slot_in slots slot))
 
 -- reading a page changes no slot, and gives the page where the slots are told
-pub record ReadsPage (slot page : ℕ) (old new : Paged) (into : List ℕ) (result : Result Unit Failed) : Type 0 where
+pub record ReadsPage (slot page : ℕ) (old new : Paged) (into : List ℕ)
+    (result : Result Unit Failed) : Type 0 where
   pub same : new ≡ record old { faults = new.faults; page_reads = counted old.page_reads }
   pub counted_faults : CountsFaults old.faults new.faults result
-  pub gives : OnOk result ((slots : Slots) → old.slots ≡ Some slots → into ≡ page_of (slot_in slots slot) page)
+  pub gives : OnOk result ((slots : Slots) → old.slots ≡ Some slots
+      → into ≡ page_of (slot_in slots slot) page)
 
 -- the slots where they are told, one of them changed so
 abbrev pub changing : ℕ → (List ℕ → List ℕ) → Option Slots → Option Slots
-changing slot change slots = option_map (λ told. with_slot told slot (change (slot_in told slot))) slots
+changing slot change slots =
+    option_map (λ told. with_slot told slot (change (slot_in told slot))) slots
 
--- what a write to a slot of an honest device leaves: the change after Ok, and any bytes there after it failed
-abbrev pub LeavesSlot : ℕ → (List ℕ → List ℕ) → Option Slots → Option Slots → Result Unit Failed → Type 0
+-- what a write to a slot of an honest device leaves: the change after Ok, and any bytes there after
+-- it failed
+abbrev pub LeavesSlot : ℕ → (List ℕ → List ℕ) → Option Slots → Option Slots → Result Unit Failed
+    → Type 0
 LeavesSlot slot change old new (Ok _) = new ≡ changing slot change old
 LeavesSlot slot change old new (Err _) = (left : List ℕ) × (new ≡ putting slot left old)
 
 -- a write of a page leaves its slot unsynced, whether it fails or not
-pub record WritesPage (slot page : ℕ) (part : List ℕ) (old new : Paged) (result : Result Unit Failed) : Type 0 where
+pub record WritesPage (slot page : ℕ) (part : List ℕ) (old new : Paged)
+    (result : Result Unit Failed) : Type 0 where
   pub same : new ≡ record old {
     slots = new.slots;
     faults = new.faults;
@@ -40,7 +47,8 @@ pub record WritesPage (slot page : ℕ) (part : List ℕ) (old new : Paged) (res
     unsynced = marking slot true old.unsynced;
   }
   pub counted_faults : CountsFaults old.faults new.faults result
-  pub leaves : old.is_honest ≡ true → LeavesSlot slot (with_page page part) old.slots new.slots result
+  pub leaves : old.is_honest ≡ true
+      → LeavesSlot slot (with_page page part) old.slots new.slots result
 
 -- and so does a write of a length
 pub record SetsLength (slot size : ℕ) (old new : Paged) (result : Result Unit Failed) : Type 0 where
@@ -53,7 +61,8 @@ pub record SetsLength (slot size : ℕ) (old new : Paged) (result : Result Unit 
   pub counted_faults : CountsFaults old.faults new.faults result
   pub leaves : old.is_honest ≡ true → LeavesSlot slot (resized size) old.slots new.slots result
 
--- what a sync of a slot of an honest device leaves: all as it was after Ok, and any bytes there after it failed
+-- what a sync of a slot of an honest device leaves: all as it was after Ok, and any bytes there
+-- after it failed
 abbrev pub KeepsSlot : ℕ → Option Slots → Option Slots → Result Unit Failed → Type 0
 KeepsSlot slot old new (Ok _) = new ≡ old
 KeepsSlot slot old new (Err _) = (left : List ℕ) × (new ≡ putting slot left old)

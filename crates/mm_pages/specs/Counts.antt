@@ -23,8 +23,8 @@ one_if b = if b then 1 else 0
 abbrev pub look_at : List (Option Digest) → ℕ → List ℕ → ℕ
 look_at row page part = one_if (may_be (kept_digest row page) (page_digest part))
 
--- how many of the first pages of these bytes are read back: those of which no digest is kept, or that of the
--- new page
+-- how many of the first pages of these bytes are read back: those of which no digest is kept, or
+-- that of the new page
 abbrev pub looks_at : List (Option Digest) → List ℕ → ℕ → ℕ
 looks_at row bytes zero = 0
 looks_at row bytes (suc count) = look_at row count (page_of bytes count) + looks_at row bytes count
@@ -36,4 +36,5 @@ change_count was part = if bytes_eq was part then 0 else 1
 -- how many of the first pages of these bytes differ from what was there
 abbrev pub changes_of : List ℕ → List ℕ → ℕ → ℕ
 changes_of was bytes zero = 0
-changes_of was bytes (suc count) = change_count (page_of was count) (page_of bytes count) + changes_of was bytes count
+changes_of was bytes (suc count) =
+    change_count (page_of was count) (page_of bytes count) + changes_of was bytes count

@@ -4,9 +4,9 @@ use Rattle.mm_store.specs.Slots.{Slots}
 use Rattle.mm_store.specs.Unsynced.{Unsynced}
 use Rattle.mm_store.specs.Kept.{StoreStanding}
 
--- the slots where the device tells them, whether it is honest, its count of faults, how many reads of pages,
--- writes of pages and writes of lengths were called, and, where it is told, which slots have changes that were not
--- synced
+-- the slots where the device tells them, whether it is honest, its count of faults, how many reads
+-- of pages, writes of pages and writes of lengths were called, and, where it is told, which slots
+-- have changes that were not synced
 pub record Paged : Type 0 where
   pub slots : Option Slots
   pub is_honest : Bool

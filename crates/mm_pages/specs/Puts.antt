@@ -15,12 +15,15 @@ use Rattle.mm_pages.specs.Rows.{Rows, row_in, with_row, kept_digest, page_digest
 
 -- the digest that is kept of a page, if any, is the digest of what is there
 abbrev pub IsInStep : List (Option Digest) → ℕ → List ℕ → Type 0
-IsInStep row page was = (digest : Digest) → kept_digest row page ≡ Some digest → digest ≡ page_digest (page_of was page)
+IsInStep row page was =
+    (digest : Digest) → kept_digest row page ≡ Some digest → digest ≡ page_digest (page_of was page)
 
 -- a page is looked up and, where its digest doesn't tell it from the new one, read back
-pub record HoldsPage (slot page : ℕ) (kept : Option Digest) (digest : Digest) (part : List ℕ) (old new : Paged)
+pub record HoldsPage (slot page : ℕ) (kept : Option Digest) (digest : Digest) (part : List ℕ)
+    (old new : Paged)
     (result : Result Bool Failed) : Type 0 where
-  pub same : new ≡ record old { faults = new.faults; page_reads = counted_by (one_if (may_be kept digest)) old.page_reads }
+  pub same : new ≡ record old
+      { faults = new.faults; page_reads = counted_by (one_if (may_be kept digest)) old.page_reads }
   pub counted_faults : CountsFaults old.faults new.faults result
   pub holds : IfOk result (λ is. (slots : Slots) → old.slots ≡ Some slots
       → is ≡ (may_be kept digest && bytes_eq (page_of (slot_in slots slot) page) part))
@@ -51,18 +54,22 @@ pub record PutsThere (slot page : ℕ) (part : List ℕ) (old new : Option Slots
   pub there : (told : Slots) → old ≡ Some told → IsPutAt page part (slot_in told slot) left
 
 -- one page of a write
-pub record PutsOne (slot page : ℕ) (part : List ℕ) (old new : Paged) (rows after : Rows) : Type 0 where
-  pub honest : new.is_honest ≡ old.is_honest
-  pub faults : new.faults ≡ old.faults
-  pub lengths : new.length_writes ≡ old.length_writes
-  pub marks : MarksAlone slot old.unsynced new.unsynced
-  pub rows_are : after ≡ with_row rows slot (keeping page (page_digest part) (row_in rows slot))
-  pub looks : new.page_reads ≡ counted_by (look_at (row_in rows slot) page part) old.page_reads
-  pub puts : old.is_honest ≡ true → PutsThere slot page part old.slots new.slots
-  pub writes : (told : Slots) → old.slots ≡ Some told → IsInStep (row_in rows slot) page (slot_in told slot)
-      → new.page_writes ≡ counted_by (change_count (page_of (slot_in told slot) page) part) old.page_writes
-  pub still : (told : Slots) → old.slots ≡ Some told → IsInStep (row_in rows slot) page (slot_in told slot)
-      → change_count (page_of (slot_in told slot) page) part ≡ 0 → new.slots ≡ old.slots
+pub record PutsOne (slot page : ℕ) (part : List ℕ) (old new : Paged) (rows after : Rows) : Type 0
+  where
+    pub honest : new.is_honest ≡ old.is_honest
+    pub faults : new.faults ≡ old.faults
+    pub lengths : new.length_writes ≡ old.length_writes
+    pub marks : MarksAlone slot old.unsynced new.unsynced
+    pub rows_are : after ≡ with_row rows slot (keeping page (page_digest part) (row_in rows slot))
+    pub looks : new.page_reads ≡ counted_by (look_at (row_in rows slot) page part) old.page_reads
+    pub puts : old.is_honest ≡ true → PutsThere slot page part old.slots new.slots
+    pub writes : (told : Slots) → old.slots ≡ Some told
+        → IsInStep (row_in rows slot) page (slot_in told slot)
+        → new.page_writes ≡ counted_by (change_count (page_of (slot_in told slot) page) part)
+        old.page_writes
+    pub still : (told : Slots) → old.slots ≡ Some told
+        → IsInStep (row_in rows slot) page (slot_in told slot)
+        → change_count (page_of (slot_in told slot) page) part ≡ 0 → new.slots ≡ old.slots
 
 abbrev pub PutsPage : ℕ → ℕ → List ℕ → Paged → Paged → Rows → Rows → Result Unit Failed → Type 0
 PutsPage slot page part old new rows after (Ok _) = PutsOne slot page part old new rows after
@@ -73,19 +80,22 @@ pub record IsFilled (count : ℕ) (bytes was now : List ℕ) : Type 0 where
   pub filled : (i : ℕ) → i < 256 * count → slice_index now i ≡ slice_index bytes i
   pub after : (i : ℕ) → 256 * count ≤ i → slice_index now i ≡ slice_index was i
 
--- the slot changed to some bytes where the slots are told, and its first pages are those of the bytes
+-- the slot changed to some bytes where the slots are told, and its first pages are those of the
+-- bytes
 pub record FillsSlot (slot count : ℕ) (bytes : List ℕ) (old new : Option Slots) : Type 0 where
   pub left : List ℕ
   pub slots : new ≡ putting slot left old
   pub fills : (told : Slots) → old ≡ Some told → IsFilled count bytes (slot_in told slot) left
 
 -- the first pages of a write
-pub record PutsFirst (slot count : ℕ) (bytes : List ℕ) (old new : Paged) (rows after : Rows) : Type 0 where
+pub record PutsFirst (slot count : ℕ) (bytes : List ℕ) (old new : Paged) (rows after : Rows) : Type
+    0 where
   pub honest : new.is_honest ≡ old.is_honest
   pub faults : new.faults ≡ old.faults
   pub lengths : new.length_writes ≡ old.length_writes
   pub marks : MarksAlone slot old.unsynced new.unsynced
-  pub rows_are : after ≡ with_row rows slot (page_digests bytes count ++ drop count (row_in rows slot))
+  pub rows_are : after ≡ with_row rows slot
+      (page_digests bytes count ++ drop count (row_in rows slot))
   pub looks : new.page_reads ≡ counted_by (looks_at (row_in rows slot) bytes count) old.page_reads
   pub fills : old.is_honest ≡ true → FillsSlot slot count bytes old.slots new.slots
   pub writes : old.is_honest ≡ true → (told : Slots) → old.slots ≡ Some told
@@ -96,7 +106,8 @@ pub record PutsFirst (slot count : ℕ) (bytes : List ℕ) (old new : Paged) (ro
       → changes_of (slot_in told slot) bytes count ≡ 0 → new.slots ≡ old.slots
 
 abbrev pub PutsPages : ℕ → List ℕ → Paged → Paged → Rows → Rows → Result Unit Failed → Type 0
-PutsPages slot bytes old new rows after (Ok _) = PutsFirst slot (page_count (length bytes)) bytes old new rows after
+PutsPages slot bytes old new rows after (Ok _) =
+    PutsFirst slot (page_count (length bytes)) bytes old new rows after
 PutsPages slot bytes old new rows after (Err _) = Fails slot old new rows after
 
 -- the count is as before, or one more
@@ -129,20 +140,25 @@ EndsInSync slot size old new (Ok _) = FitsAndSyncs slot size old new
 EndsInSync slot size old new (Err _) = FailsIn slot old new
 
 -- a whole write
-pub record PutsWhole (slot : ℕ) (bytes : List ℕ) (old new : Paged) (rows after : Rows) : Type 0 where
-  pub honest : new.is_honest ≡ old.is_honest
-  pub faults : new.faults ≡ old.faults
-  pub lengths : IsOneMoreAtMost old.length_writes new.length_writes
-  pub synced : new.unsynced ≡ marking slot false old.unsynced
-  pub rows_are : after ≡ with_row rows slot (page_digests bytes (page_count (length bytes)))
-  pub looks : new.page_reads ≡ counted_by (looks_at (row_in rows slot) bytes (page_count (length bytes))) old.page_reads
-  pub slots : old.is_honest ≡ true → new.slots ≡ putting slot bytes old.slots
-  pub writes : old.is_honest ≡ true → (told : Slots) → old.slots ≡ Some told
-      → ((page : ℕ) → page < page_count (length bytes) → IsInStep (row_in rows slot) page (slot_in told slot))
-      → new.page_writes ≡ counted_by (changes_of (slot_in told slot) bytes (page_count (length bytes))) old.page_writes
-  pub settled : old.is_honest ≡ true → (told : Slots) → old.slots ≡ Some told
-      → ((page : ℕ) → page < page_count (length bytes) → IsInStep (row_in rows slot) page (slot_in told slot))
-      → slot_in told slot ≡ bytes → new.length_writes ≡ old.length_writes
+pub record PutsWhole (slot : ℕ) (bytes : List ℕ) (old new : Paged) (rows after : Rows) : Type 0
+  where
+    pub honest : new.is_honest ≡ old.is_honest
+    pub faults : new.faults ≡ old.faults
+    pub lengths : IsOneMoreAtMost old.length_writes new.length_writes
+    pub synced : new.unsynced ≡ marking slot false old.unsynced
+    pub rows_are : after ≡ with_row rows slot (page_digests bytes (page_count (length bytes)))
+    pub looks : new.page_reads ≡ counted_by
+        (looks_at (row_in rows slot) bytes (page_count (length bytes))) old.page_reads
+    pub slots : old.is_honest ≡ true → new.slots ≡ putting slot bytes old.slots
+    pub writes : old.is_honest ≡ true → (told : Slots) → old.slots ≡ Some told
+        → ((page : ℕ) → page < page_count (length bytes)
+        → IsInStep (row_in rows slot) page (slot_in told slot))
+        → new.page_writes ≡ counted_by
+        (changes_of (slot_in told slot) bytes (page_count (length bytes))) old.page_writes
+    pub settled : old.is_honest ≡ true → (told : Slots) → old.slots ≡ Some told
+        → ((page : ℕ) → page < page_count (length bytes)
+        → IsInStep (row_in rows slot) page (slot_in told slot))
+        → slot_in told slot ≡ bytes → new.length_writes ≡ old.length_writes
 
 abbrev pub PutsBytes : ℕ → List ℕ → Paged → Paged → Rows → Rows → Result Unit Failed → Type 0
 PutsBytes slot bytes old new rows after (Ok _) = PutsWhole slot bytes old new rows after

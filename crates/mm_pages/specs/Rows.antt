@@ -17,7 +17,9 @@ no_rows = record { zero = []; one = []; two = []; three = [] }
 
 -- the digests of one slot's pages
 abbrev pub row_in : Rows → ℕ → List (Option Digest)
-row_in rows slot = if slot == 0 then rows.zero else if slot == 1 then rows.one else if slot == 2 then rows.two else rows.three
+row_in rows slot =
+    if slot == 0 then rows.zero else if slot == 1 then rows.one else if slot == 2 then rows.two
+    else rows.three
 
 -- the digests, with these in place of one slot's
 abbrev pub with_row : Rows → ℕ → List (Option Digest) → Rows
@@ -40,7 +42,8 @@ keeping page digest row = take page row ++ (Some digest ∷ drop (page + 1) row)
 -- the digests of the first pages of these bytes
 abbrev pub page_digests : List ℕ → ℕ → List (Option Digest)
 page_digests bytes zero = []
-page_digests bytes (suc count) = page_digests bytes count ++ (Some (page_digest (page_of bytes count)) ∷ [])
+page_digests bytes (suc count) =
+    page_digests bytes count ++ (Some (page_digest (page_of bytes count)) ∷ [])
 
 -- one row changed but for its digests before and after a page
 pub record DropsPage (slot page : ℕ) (old new : Rows) : Type 0 where

@@ -6,9 +6,9 @@ use Rattle.mm_store.specs.Slots.{Slots, slot_in, with_slot}
 use Rattle.mm_store.specs.Unsynced.{Unsynced, with_unsynced, all_synced}
 use Rattle.mm_pages.specs.Paged.{Paged}
 
--- The slots, the counts of faults, of reads of pages, of writes of pages and of lengths, which slots have changes
--- that were not synced, the number of calls up to the one that is to fail (none where 0), and what that call leaves
--- if it is a write.
+-- The slots, the counts of faults, of reads of pages, of writes of pages and of lengths, which
+-- slots have changes that were not synced, the number of calls up to the one that is to fail (none
+-- where 0), and what that call leaves if it is a write.
 pub record Sheets : Type 0 where
   pub slots : Slots
   pub faults : ℕ
@@ -74,5 +74,6 @@ after_changing slot change s (Err _) = failed_in slot s
 
 -- after a sync of a slot
 abbrev pub after_syncing : ℕ → Sheets → Result Unit Failed → Sheets
-after_syncing slot s (Ok _) = record (call_made s) { unsynced = with_unsynced s.unsynced slot false }
+after_syncing slot s (Ok _) =
+    record (call_made s) { unsynced = with_unsynced s.unsynced slot false }
 after_syncing slot s (Err _) = failed_in slot s

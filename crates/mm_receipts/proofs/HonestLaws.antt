@@ -14,7 +14,7 @@ use Rattle.mm_base.specs.declared.replay_fault.ReplayFault.{ReplayFault}
 use Rattle.mm_base.specs.declared.replay_fault.ReplayFault.TheVariants.{LineLong}
 use Rattle.mm_base.specs.Limits.{last_position, longest_line, longest_request}
 use Rattle.mm_module.specs.Meaning.{Meaning}
-use Rattle.mm_module.specs.Words.{is_space}
+use Rattle.mm_module.specs.WordsWords.{is_space}
 use Rattle.mm_module.specs.LineLaws.{and-true}
 use Rattle.mm_play.specs.declared.player.Refused.{Refused}
 use Rattle.mm_play.specs.declared.player.Refused.TheVariants.{Bad, Much}
@@ -48,10 +48,12 @@ record StepOf (it : Checking) (line : List ℕ) (number : ℕ) (lines : List (Li
   ran : run receipts_answer (number + 1) mid lines ≡ told rest (Ok next)
   parts : written ≡ reply ++ rest
 
-answered-step : (it : Checking) (line : List ℕ) (number : ℕ) (lines : List (List ℕ)) (written : List ℕ) (next : Checking) (answer : Result (List ℕ × Checking) Refused)
+answered-step : (it : Checking) (line : List ℕ) (number : ℕ) (lines : List (List ℕ)) (written : List ℕ) (next : Checking)
+    (answer : Result (List ℕ × Checking) Refused)
     → receipts_answer it line ≡ answer → answered (λ mid. run receipts_answer (number + 1) mid lines) number answer ≡ told written (Ok next)
     → StepOf it line number lines written next
-answered-step it line number lines written next (Err why) is ran = absurd (not_ok (refusal_at number why) next (ap (λ (t : Told Checking). t.outcome) ran))
+answered-step it line number lines written next (Err why) is ran =
+    absurd (not_ok (refusal_at number why) next (ap (λ (t : Told Checking). t.outcome) ran))
 answered-step it line number lines written next (Ok reply) is ran =
     let more = run receipts_answer (number + 1) reply.1 lines in
     record {
@@ -64,7 +66,8 @@ answered-step it line number lines written next (Ok reply) is ran =
     }
 
 turn-step : (it : Checking) (line : List ℕ) (number : ℕ) (lines : List (List ℕ)) (written : List ℕ) (next : Checking) (long : Bool)
-    → (let t : Told Checking = if long then stopped (LineLong number) else answered (λ mid. run receipts_answer (number + 1) mid lines) number (receipts_answer it line) in t ≡ told written (Ok next))
+    → (let t : Told Checking = if long then stopped (LineLong number) else answered (λ mid. run receipts_answer (number + 1) mid lines)
+    number (receipts_answer it line) in t ≡ told written (Ok next))
     → StepOf it line number lines written next
 turn-step it line number lines written next true ran = absurd (not_ok (LineLong number) next (ap (λ (t : Told Checking). t.outcome) ran))
 turn-step it line number lines written next false ran = answered-step it line number lines written next (receipts_answer it line) refl ran
@@ -78,7 +81,8 @@ abbrev MayWait : Option Asked → Type 0
 MayWait None = Unit {0}
 MayWait (Some asked) = IsFormed asked
 
-numbered-formed : (request : List ℕ) (number : ℕ) (flag : Bool) → (nat_le 1 number && nat_le number last_position && nat_le (length request) longest_request) ≡ flag
+numbered-formed : (request : List ℕ) (number : ℕ) (flag : Bool)
+    → (nat_le 1 number && nat_le number last_position && nat_le (length request) longest_request) ≡ flag
     → MayWait (if flag then Some (record { position = number; request = request }) else None)
 numbered-formed request number true is =
     let w = and-true (nat_le 1 number && nat_le number last_position) (nat_le (length request) longest_request) is in
@@ -114,36 +118,43 @@ module _ (inner : Meaning) (requests : List (List ℕ)) (counted : AllByRecursio
   SoundAt number None = Unit {0}
   SoundAt number (Some pair) = IsUnforged inner requests key number pair.request pair.output
 
-  sound-here : (number : ℕ) (entry : ℕ × Pair) (rest : List (ℕ × Pair)) (here : Bool) → is_at (nat_cmp number) entry.0 ≡ here → IsSound entry
-      → SoundAt number (lookup (is_at (nat_cmp number)) rest) → SoundAt number (cond here (Some entry.1) (lookup (is_at (nat_cmp number)) rest))
+  sound-here : (number : ℕ) (entry : ℕ × Pair) (rest : List (ℕ × Pair)) (here : Bool) → is_at (nat_cmp number) entry.0 ≡ here
+      → IsSound entry
+      → SoundAt number (lookup (is_at (nat_cmp number)) rest)
+      → SoundAt number (cond here (Some entry.1) (lookup (is_at (nat_cmp number)) rest))
   sound-here number entry rest true is sound later =
       subst (λ n. IsUnforged inner requests key n entry.1.request entry.1.output) (sym (at-key number entry.0 is)) sound
   sound-here number entry rest false is sound later = later
 
   sound-at : (number : ℕ) (known : List (ℕ × Pair)) → AreSound known → SoundAt number (known_at number known)
   sound-at number [] sound = tt
-  sound-at number (entry ∷ known) sound = sound-here number entry known (is_at (nat_cmp number) entry.0) refl sound.0 (sound-at number known sound.1)
+  sound-at number (entry ∷ known) sound =
+      sound-here number entry known (is_at (nat_cmp number) entry.0) refl sound.0 (sound-at number known sound.1)
 
   sound-by : (number : ℕ) (pair : Pair) (entry : ℕ × Pair) (known rest : List (ℕ × Pair)) (below same : Bool) → (number == entry.0) ≡ same
       → IsUnforged inner requests key number pair.request pair.output → IsSound entry → AreSound known → AreSound rest
-      → AreSound (match_ordering (cond below Less (cond same Equal Greater)) ((number, pair) ∷ entry ∷ known) ((entry.0, pair) ∷ known) (entry ∷ rest))
+      → AreSound (match_ordering (cond below Less (cond same Equal Greater)) ((number, pair) ∷ entry ∷ known) ((entry.0, pair) ∷ known)
+      (entry ∷ rest))
   sound-by number pair entry known rest true same is new old more later = (new, (old, more))
   sound-by number pair entry known rest false true is new old more later =
       let e : number ≡ entry.0 = grind (arith, nat_tests) in
       (subst (λ n. IsUnforged inner requests key n pair.request pair.output) e new, more)
   sound-by number pair entry known rest false false is new old more later = (old, later)
 
-  sound-insert : (number : ℕ) (pair : Pair) (known : List (ℕ × Pair)) → IsUnforged inner requests key number pair.request pair.output → AreSound known
+  sound-insert : (number : ℕ) (pair : Pair) (known : List (ℕ × Pair)) → IsUnforged inner requests key number pair.request pair.output
+      → AreSound known
       → AreSound (insert_entry nat_cmp known number pair)
   sound-insert number pair [] new sound = (new, tt)
   sound-insert number pair (entry ∷ known) new sound =
-      sound-by number pair entry known (insert_entry nat_cmp known number pair) (nat_lt number entry.0) (number == entry.0) refl new sound.0 sound.1
+      sound-by number pair entry known (insert_entry nat_cmp known number pair) (nat_lt number entry.0) (number == entry.0) refl new sound.0
+      sound.1
       (sound-insert number pair known new sound.1)
 
   same_bytes : (a b : List ℕ) → a ≡ b → bytes_eq a b ≡ true
   same_bytes a b is = grind (arith, bytes_eq-Decides)
 
-  beside-good : (asked : Asked) (output : List ℕ) (known : Option Pair) → IsUnforged inner requests key asked.position asked.request output → SoundAt asked.position known
+  beside-good : (asked : Asked) (output : List ℕ) (known : Option Pair) → IsUnforged inner requests key asked.position asked.request output
+      → SoundAt asked.position known
       → against_pair known asked.request output ≡ Good
   beside-good asked output None new sound = refl
   beside-good asked output (Some pair) new sound =
@@ -151,31 +162,38 @@ module _ (inner : Meaning) (requests : List (List ℕ)) (counted : AllByRecursio
       rw (same_bytes asked.request pair.request same.0, same_bytes output pair.output same.1) refl
 
   -- a verdict on a sound tally is the one of the pair alone
-  verdict-alone : (asked : Asked) (output : List ℕ) (known : Option Pair) (answer : Result (Unit {0}) NotReceipt) → (answer ≡ Ok tt → IsUnforged inner requests key asked.position asked.request output)
+  verdict-alone : (asked : Asked) (output : List ℕ) (known : Option Pair) (answer : Result (Unit {0}) NotReceipt)
+      → (answer ≡ Ok tt → IsUnforged inner requests key asked.position asked.request output)
       → SoundAt asked.position known → receipt_verdict answer known asked.request output ≡ receipt_verdict answer None asked.request output
   verdict-alone asked output known (Err Form) new sound = refl
   verdict-alone asked output known (Err Tag) new sound = refl
   verdict-alone asked output known (Ok done) new sound = beside-good asked output known (new refl) sound
 
-  after-sound : (tally : Tally) (asked : Asked) (output : List ℕ) (answer : Result (Unit {0}) NotReceipt) → (answer ≡ Ok tt → IsUnforged inner requests key asked.position asked.request output)
+  after-sound : (tally : Tally) (asked : Asked) (output : List ℕ) (answer : Result (Unit {0}) NotReceipt)
+      → (answer ≡ Ok tt → IsUnforged inner requests key asked.position asked.request output)
       → AreSound tally.known → AreSound (after_pair tally asked output (receipt_verdict answer None asked.request output)).known
   after-sound tally asked output (Err Form) new sound = sound
   after-sound tally asked output (Err Tag) new sound = sound
-  after-sound tally asked output (Ok done) new sound = sound-insert asked.position (record { request = asked.request; output = output }) tally.known (new refl) sound
+  after-sound tally asked output (Ok done) new sound =
+      sound-insert asked.position (record { request = asked.request; output = output }) tally.known (new refl) sound
 
-  after-key : (tally : Tally) (asked : Asked) (output : List ℕ) (verdict : Verdict) → (after_pair tally asked output verdict).key ≡ tally.key
+  after-key : (tally : Tally) (asked : Asked) (output : List ℕ) (verdict : Verdict)
+      → (after_pair tally asked output verdict).key ≡ tally.key
   after-key tally asked output NoForm = refl
   after-key tally asked output NoTag = refl
   after-key tally asked output Clash = refl
   after-key tally asked output Good = refl
 
-  refuses : (why : Refused) (reply : List ℕ) (next : Checking) → (let r : Result (List ℕ × Checking) Refused = Err why in r ≡ Ok (reply, next)) → ⊥
+  refuses : (why : Refused) (reply : List ℕ) (next : Checking)
+      → (let r : Result (List ℕ × Checking) Refused = Err why in r ≡ Ok (reply, next)) → ⊥
   refuses why reply next h = cc
 
-  same_reply : (reply said : List ℕ) (next it : Checking) → (let r : Result (List ℕ × Checking) Refused = Ok (said, it) in r ≡ Ok (reply, next)) → reply ≡ said
+  same_reply : (reply said : List ℕ) (next it : Checking)
+      → (let r : Result (List ℕ × Checking) Refused = Ok (said, it) in r ≡ Ok (reply, next)) → reply ≡ said
   same_reply reply said next it h = let p : (said, it) ≡ (reply, next) = cc in sym (ap (λ (q : List ℕ × Checking). q.0) p)
 
-  same_mid : (reply said : List ℕ) (next it : Checking) → (let r : Result (List ℕ × Checking) Refused = Ok (said, it) in r ≡ Ok (reply, next)) → next ≡ it
+  same_mid : (reply said : List ℕ) (next it : Checking)
+      → (let r : Result (List ℕ × Checking) Refused = Ok (said, it) in r ≡ Ok (reply, next)) → next ≡ it
   same_mid reply said next it h = let p : (said, it) ≡ (reply, next) = cc in sym (ap (λ (q : List ℕ × Checking). q.1) p)
 
   -- what stands between two lines
@@ -191,7 +209,8 @@ module _ (inner : Meaning) (requests : List (List ℕ)) (counted : AllByRecursio
     known : mid.tally.known ≡ tally.known
     same_key : mid.tally.key ≡ tally.key
 
-  first-waits : (tally : Tally) (line : List ℕ) (found : Option Asked) (much : Bool) (reply : List ℕ) (mid : Checking) → pair_at line ≡ found → is_too_much tally line ≡ much
+  first-waits : (tally : Tally) (line : List ℕ) (found : Option Asked) (much : Bool) (reply : List ℕ) (mid : Checking)
+      → pair_at line ≡ found → is_too_much tally line ≡ much
       → waits (first_by tally line found) ≡ Ok (reply, mid) → Waiting tally line reply mid
   first-waits tally line None much reply mid is flag h = absurd (refuses Bad reply mid h)
   first-waits tally line (Some asked) true reply mid is flag h = absurd (refuses Much reply mid (rw flag at h))
@@ -209,7 +228,8 @@ module _ (inner : Meaning) (requests : List (List ℕ)) (counted : AllByRecursio
     told : reply ≡ verdict_text asked.position (pair_verdict tally asked line)
     next : mid ≡ record { tally = after_pair tally asked line (pair_verdict tally asked line); asked = None }
 
-  second-settles : (tally : Tally) (asked : Asked) (line : List ℕ) (much : Bool) (reply : List ℕ) (mid : Checking) → is_too_much tally line ≡ much
+  second-settles : (tally : Tally) (asked : Asked) (line : List ℕ) (much : Bool) (reply : List ℕ) (mid : Checking)
+      → is_too_much tally line ≡ much
       → settles (second_answer tally asked line) ≡ Ok (reply, mid) → Settling tally asked line reply mid
   second-settles tally asked line true reply mid flag h = absurd (refuses Much reply mid (rw flag at h))
   second-settles tally asked line false reply mid flag h =
@@ -217,20 +237,26 @@ module _ (inner : Meaning) (requests : List (List ℕ)) (counted : AllByRecursio
 
   unforged : (asked : Asked) (line : List ℕ) → IsFormed asked → WasTagged inner requests key (record { asked = asked; output = line })
       → verified key asked.position asked.request line ≡ Ok tt → IsUnforged inner requests key asked.position asked.request line
-  unforged asked line formed genuine accepted = record { near = formed.near; short = formed.short; accepted = accepted; tagged = genuine accepted }
+  unforged asked line formed genuine accepted =
+      record { near = formed.near; short = formed.short; accepted = accepted; tagged = genuine accepted }
 
   true-pair : (asked : Asked) (line : List ℕ) → IsFormed asked → WasTagged inner requests key (record { asked = asked; output = line })
       → IsTrue inner requests key (record { asked = asked; output = line })
-  true-pair asked line formed genuine accepted = receipts-true inner requests counted key asked.position asked.request line (unforged asked line formed genuine accepted)
+  true-pair asked line formed genuine accepted =
+      receipts-true inner requests counted key asked.position asked.request line (unforged asked line formed genuine accepted)
 
-  honest-from : (lines : List (List ℕ)) (number : ℕ) (tally : Tally) (asked : Option Asked) (written : List ℕ) (next : Checking) → Stands tally asked
+  honest-from : (lines : List (List ℕ)) (number : ℕ) (tally : Tally) (asked : Option Asked) (written : List ℕ) (next : Checking)
+      → Stands tally asked
       → run receipts_answer number (record { tally = tally; asked = asked }) lines ≡ told written (Ok next)
       → AllByRecursion (WasTagged inner requests key) (pairs_of asked lines) → IsHonest inner requests key (pairs_of asked lines) written
-  honest-from [] number tally asked written next s ran genuine = record { plain = sym (ap (λ (t : Told Checking). t.written) ran); right = tt }
+  honest-from [] number tally asked written next s ran genuine =
+      record { plain = sym (ap (λ (t : Told Checking). t.written) ran); right = tt }
   honest-from (line ∷ lines) number tally None written next s ran genuine =
-      let step = turn-step (record { tally = tally; asked = None }) line number lines written next (nat_lt longest_line (length line)) ran in
+      let step = turn-step (record { tally = tally; asked = None }) line number lines written next (nat_lt longest_line (length line)) ran
+      in
       let w = first-waits tally line (pair_at line) (is_too_much tally line) step.reply step.mid refl refl step.answer in
-      let mid : record { tally = step.mid.tally; asked = pair_at line } ≡ step.mid = ap (λ (a : Option Asked). record { tally = step.mid.tally; asked = a }) (sym w.asked) in
+      let mid : record { tally = step.mid.tally; asked = pair_at line } ≡ step.mid = ap
+      (λ (a : Option Asked). record { tally = step.mid.tally; asked = a }) (sym w.asked) in
       let stands : Stands step.mid.tally (pair_at line) = record {
         keyed = w.same_key ∙ s.keyed;
         sound = subst AreSound (sym w.known) s.sound;
@@ -240,27 +266,34 @@ module _ (inner : Meaning) (requests : List (List ℕ)) (counted : AllByRecursio
       (ap (λ (c : Checking). run receipts_answer (number + 1) c lines) mid ∙ step.ran) genuine in
       record { plain = step.parts ∙ ap (λ (l : List ℕ). l ++ step.rest) w.silent ∙ rest.plain; right = rest.right }
   honest-from (line ∷ lines) number tally (Some asked) written next s ran genuine =
-      let step = turn-step (record { tally = tally; asked = Some asked }) line number lines written next (nat_lt longest_line (length line)) ran in
+      let step = turn-step (record { tally = tally; asked = Some asked }) line number lines written next (nat_lt longest_line (length line))
+      ran in
       let w = second-settles tally asked line (is_too_much tally line) step.reply step.mid refl step.answer in
       let answer = verified key asked.position asked.request line in
       let new : answer ≡ Ok tt → IsUnforged inner requests key asked.position asked.request line = unforged asked line s.formed genuine.0 in
       let plain : pair_verdict tally asked line ≡ receipt_verdict answer None asked.request line =
-      ap (λ (k : List ℕ). receipt_verdict (verified k asked.position asked.request line) (known_at asked.position tally.known) asked.request line) s.keyed
+      ap (λ (k : List ℕ). receipt_verdict (verified k asked.position asked.request line) (known_at asked.position tally.known) asked.request
+      line) s.keyed
       ∙ verdict-alone asked line (known_at asked.position tally.known) answer new (sound-at asked.position tally.known s.sound) in
       let after = after_pair tally asked line (pair_verdict tally asked line) in
       let stands : Stands after None = record {
         keyed = after-key tally asked line (pair_verdict tally asked line) ∙ s.keyed;
-        sound = subst (λ (v : Verdict). AreSound (after_pair tally asked line v).known) (sym plain) (after-sound tally asked line answer new s.sound);
+        sound =
+            subst (λ (v : Verdict). AreSound (after_pair tally asked line v).known) (sym plain)
+            (after-sound tally asked line answer new s.sound);
         formed = tt;
       } in
       let rest = honest-from lines (number + 1) after None step.rest next stands
       (ap (λ (c : Checking). run receipts_answer (number + 1) c lines) (sym w.next) ∙ step.ran) genuine.1 in
       record {
-        plain = step.parts ∙ ap (λ (l : List ℕ). l ++ step.rest) (w.told ∙ ap (λ (v : Verdict). verdict_text asked.position v) plain ∙ alone-text asked.position asked.request line answer)
+        plain =
+            step.parts ∙ ap (λ (l : List ℕ). l ++ step.rest) (w.told ∙ ap (λ (v : Verdict). verdict_text asked.position v) plain
+            ∙ alone-text asked.position asked.request line answer)
             ∙ ap (λ (l : List ℕ). alone key (record { asked = asked; output = line }) ++ l) rest.plain;
         right = (true-pair asked line s.formed genuine.0, rest.right);
       }
 
 pub honest : ChecksAreHonest
 honest key lines written next ran inner requests counted genuine =
-    honest-from inner requests counted key lines 1 (first_tally key) None written next (record { keyed = refl; sound = tt; formed = tt }) ran genuine
+    honest-from inner requests counted key lines 1 (first_tally key) None written next (record { keyed = refl; sound = tt; formed = tt })
+    ran genuine

@@ -21,7 +21,8 @@ settled-answer : (it : Checking) (old : Tally) (asked : Asked) (line : List ℕ)
 settled-answer it old asked line answer is said =
     ap (λ (c : Checking). receipts_answer c line) is ∙ ap settles said
 
-pub takes-second : (it : Checking) (old : Tally) (asked : Asked) (line : List ℕ) (new : Tally) (next : Checking) (result : Result (List ℕ) ReplyFault)
+pub takes-second : (it : Checking) (old : Tally) (asked : Asked) (line : List ℕ) (new : Tally) (next : Checking)
+    (result : Result (List ℕ) ReplyFault)
     → it ≡ record { tally = old; asked = Some asked } → record { tally = new; asked = None } ≡ next
     → GivesReply (second_answer old asked line) new result → GivesReply (receipts_answer it line) next result
 takes-second it old asked line new next (Ok reply) is then t =
@@ -35,13 +36,16 @@ lines_run key lines = run receipts_answer 1 (first_checking key) lines
 abbrev whole_run : List ℕ → List ℕ → Told Checking
 whole_run key input = run_of receipts_answer receipts_closing (first_checking key) input
 
-pub checks-err : (key : List ℕ) (first : Checking) → first ≡ first_checking key → (left left' received received' : Option (List ℕ)) (next : Checking)
+pub checks-err : (key : List ℕ) (first : Checking) → first ≡ first_checking key
+    → (left left' received received' : Option (List ℕ)) (next : Checking)
     (result : Result (Unit {0}) ReplayFault) (fault : ReplayFault)
     → Plays receipts_answer receipts_closing first next left left' received received' result → result ≡ Err fault
     → ChecksReceipts key left left' received received' (Err fault)
 checks-err key first is_first left left' received received' next result fault played is =
-    let p = subst (λ (it : Checking). Plays receipts_answer receipts_closing it next left left' received received' result) is_first played in
-    let s = subst (λ (r : Result (Unit {0}) ReplayFault). Settles (lines_run key) (whole_run key) next left' p.taken p.sent r) is p.settled in
+    let p = subst (λ (it : Checking). Plays receipts_answer receipts_closing it next left left' received received' result) is_first played
+    in
+    let s = subst (λ (r : Result (Unit {0}) ReplayFault). Settles (lines_run key) (whole_run key) next left' p.taken p.sent r) is p.settled
+    in
     record {
       taken = p.taken;
       sent = p.sent;
@@ -52,36 +56,23 @@ checks-err key first is_first left left' received received' next result fault pl
       reported = tt;
     }
 
-pub checks-ok : (key : List ℕ) (first : Checking) → first ≡ first_checking key → (left left' received received' : Option (List ℕ)) (next : Checking) (report : ReceiptReport)
-    (result : Result (Unit {0}) ReplayFault) (done : Unit {0})
-    → Plays receipts_answer receipts_closing first next left left' received received' result → result ≡ Ok done
-    → CountsLast next report → ChecksReceipts key left left' received received' (Ok report)
-checks-ok key first is_first left left' received received' next report result done played is reported =
-    let p = subst (λ (it : Checking). Plays receipts_answer receipts_closing it next left left' received received' result) is_first played in
-    let s = subst (λ (r : Result (Unit {0}) ReplayFault). Settles (lines_run key) (whole_run key) next left' p.taken p.sent r) is p.settled in
-    record {
-      taken = p.taken;
-      sent = p.sent;
-      next = next;
-      consumed = p.consumed;
-      appended = p.appended;
-      settled = s;
-      reported = reported;
-    }
-
 -- lines of the form within the limits are not refused
-pub unrefused : (key : List ℕ) (left left' received received' : Option (List ℕ)) (result : Result ReceiptReport ReplayFault) → ChecksReceipts key left left' received received' result
-    → (bytes : List ℕ) (end : Checking) → left ≡ Some bytes → (run_of receipts_answer receipts_closing (first_checking key) bytes).outcome ≡ Ok end → IsUnrefused result
+pub unrefused : (key : List ℕ) (left left' received received' : Option (List ℕ)) (result : Result ReceiptReport ReplayFault)
+    → ChecksReceipts key left left' received received' result
+    → (bytes : List ℕ) (end : Checking) → left ≡ Some bytes
+    → (run_of receipts_answer receipts_closing (first_checking key) bytes).outcome ≡ Ok end → IsUnrefused result
 unrefused key left left' received received' result r bytes end is ran =
     completed (lines_run key) (whole_run key) r.next left left' r.taken r.sent result r.consumed r.settled bytes end is ran
 
 -- ---- what is said, where no receipt is forged
 
-answers-honestly : (key : List ℕ) (lines : List (List ℕ)) (written : List ℕ) → Answered receipts_answer (first_checking key) lines written → AnswersHonestly key lines written
+answers-honestly : (key : List ℕ) (lines : List (List ℕ)) (written : List ℕ) → Answered receipts_answer (first_checking key) lines written
+    → AnswersHonestly key lines written
 answers-honestly key lines written a = record { answered = a; honest = honest key lines written a.0 a.1 }
 
 -- the last line has the counts of what was found
-closes-with : (tally : Tally) (asked : Option Asked) (last : List ℕ) → closing_at tally asked ≡ Some last → last ≡ last_line tally.good tally.pairs
+closes-with : (tally : Tally) (asked : Option Asked) (last : List ℕ) → closing_at tally asked ≡ Some last
+    → last ≡ last_line tally.good tally.pairs
 closes-with tally None last is = some_same (last_line tally.good tally.pairs) last is
   where
     some_same : (a b : List ℕ) → Some a ≡ Some b → b ≡ a
@@ -91,7 +82,8 @@ closes-with tally (Some asked) last is = absurd (none_some last is)
     none_some : (last : List ℕ) → (let o : Option (List ℕ) = None in o ≡ Some last) → ⊥
     none_some last h = cc
 
-ends-honestly : (key : List ℕ) (lines : List (List ℕ)) (written : List ℕ) → Finished receipts_answer receipts_closing (first_checking key) lines written → EndsHonestly key lines written
+ends-honestly : (key : List ℕ) (lines : List (List ℕ)) (written : List ℕ)
+    → Finished receipts_answer receipts_closing (first_checking key) lines written → EndsHonestly key lines written
 unfolding answers-honestly
 ends-honestly key lines written f = record {
   said = f.said;
@@ -99,7 +91,8 @@ ends-honestly key lines written f = record {
   whole = f.whole ∙ ap (λ (l : List ℕ). f.said ++ l) (closes-with f.next.tally f.next.asked f.last f.closed);
 }
 
-pub honestly : (key : List ℕ) (left left' received received' : Option (List ℕ)) (result : Result ReceiptReport ReplayFault) → ChecksReceipts key left left' received received' result
+pub honestly : (key : List ℕ) (left left' received received' : Option (List ℕ)) (result : Result ReceiptReport ReplayFault)
+    → ChecksReceipts key left left' received received' result
     → ChecksHonestly key left left' received received' result
 honestly key left left' received received' result r = record {
   taken = r.taken;

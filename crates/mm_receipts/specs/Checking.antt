@@ -1,4 +1,5 @@
--- The check of receipts: pairs of lines, a request with its position and then the output, each answered in a line.
+-- The check of receipts: pairs of lines, a request with its position and then the output, each
+-- answered in a line.
 use Rattle.std.specs.Prelude.{ℕ, ◌+◌, ◌-◌, ◌*◌, ◌&&◌, ◌||◌, Bool, nat_le, nat_lt, List, [], ◌∷◌, ◌++◌, length, take, drop, codes, Option, Some, None, Result, Ok, Err, if◌then◌else◌}
 use Rattle.std.specs.BTreeMap.{is_at, insert_entry}
 use Rattle.std.specs.Fmt.{decimal}
@@ -8,7 +9,7 @@ use Rattle.std.specs.Ordering.{nat_cmp}
 use Rattle.std.specs.Str.{bytes_eq}
 use Rattle.mm_base.specs.Decimals.{decimal_number}
 use Rattle.mm_base.specs.Limits.{last_position, longest_request}
-use Rattle.mm_module.specs.Words.{is_space}
+use Rattle.mm_module.specs.WordsWords.{is_space}
 use Rattle.mm_play.specs.declared.player.Refused.{Refused}
 use Rattle.mm_play.specs.declared.player.Refused.TheVariants.{Bad, Much}
 use Rattle.mm_receipt.specs.Receipts.{verified}
@@ -41,7 +42,8 @@ parted line (Some at) = asked_with (drop (at + 1) line) (decimal_number (take at
 abbrev pub pair_at : List ℕ → Option Asked
 pair_at line = parted line (position is_space line)
 
--- the good pairs by their positions, how many pairs were good, how many there were, and the bytes of their lines
+-- the good pairs by their positions, how many pairs were good, how many there were, and the bytes
+-- of their lines
 pub record Tally : Type 0 where
   pub key : List ℕ
   pub known : List (ℕ × Pair)
@@ -54,7 +56,8 @@ first_tally key = record { key = key; known = []; good = 0; pairs = 0; read = 0 
 
 -- a pair more would be too many, or this line too many bytes
 abbrev pub is_too_much : Tally → List ℕ → Bool
-is_too_much tally line = nat_le most_pairs tally.pairs || nat_lt most_read (tally.read + length line)
+is_too_much tally line =
+    nat_le most_pairs tally.pairs || nat_lt most_read (tally.read + length line)
 
 -- the good pair of a position
 abbrev pub known_at : ℕ → List (ℕ × Pair) → Option Pair
@@ -62,7 +65,8 @@ known_at number known = lookup (is_at (nat_cmp number)) known
 
 -- a pair whose position has a good one: the same, or another
 abbrev pub compared : Pair → List ℕ → List ℕ → Verdict
-compared pair request output = if bytes_eq request pair.request && bytes_eq output pair.output then Good else Clash
+compared pair request output =
+    if bytes_eq request pair.request && bytes_eq output pair.output then Good else Clash
 
 abbrev pub against_pair : Option Pair → List ℕ → List ℕ → Verdict
 against_pair None request output = Good
@@ -76,7 +80,8 @@ receipt_verdict (Ok _) known request output = against_pair known request output
 -- what a pair is answered
 abbrev pub pair_verdict : Tally → Asked → List ℕ → Verdict
 pair_verdict tally asked output =
-    receipt_verdict (verified tally.key asked.position asked.request output) (known_at asked.position tally.known) asked.request output
+    receipt_verdict (verified tally.key asked.position asked.request output)
+    (known_at asked.position tally.known) asked.request output
 
 -- its line
 abbrev pub verdict_text : ℕ → Verdict → List ℕ
@@ -99,18 +104,28 @@ counted_in tally line = record {
 abbrev pub remembered : Tally → Asked → List ℕ → Tally
 remembered tally asked output = record {
   key = tally.key;
-  known = insert_entry nat_cmp tally.known asked.position (record { request = asked.request; output = output });
+  known =
+      insert_entry nat_cmp tally.known asked.position
+      (record { request = asked.request; output = output });
   good = tally.good;
   pairs = tally.pairs;
   read = tally.read;
 }
 
 abbrev pub one_more_good : Tally → Tally
-one_more_good tally = record { key = tally.key; known = tally.known; good = tally.good + 1; pairs = tally.pairs; read = tally.read }
+one_more_good tally =
+    record {
+      key = tally.key;
+      known = tally.known;
+      good = tally.good + 1;
+      pairs = tally.pairs;
+      read = tally.read;
+    }
 
 -- after a pair with this verdict
 abbrev pub after_pair : Tally → Asked → List ℕ → Verdict → Tally
-after_pair tally asked output Good = one_more_good (remembered (counted_in tally output) asked output)
+after_pair tally asked output Good =
+    one_more_good (remembered (counted_in tally output) asked output)
 after_pair tally asked output NoForm = counted_in tally output
 after_pair tally asked output NoTag = counted_in tally output
 after_pair tally asked output Clash = counted_in tally output
@@ -121,7 +136,13 @@ first_by tally line (Some asked) =
     if is_too_much tally line then Err Much
     else Ok (
       asked,
-      record { key = tally.key; known = tally.known; good = tally.good; pairs = tally.pairs; read = tally.read + length line },
+      record {
+        key = tally.key;
+        known = tally.known;
+        good = tally.good;
+        pairs = tally.pairs;
+        read = tally.read + length line;
+      },
     )
 
 -- the first line of a pair, which is answered nothing
@@ -132,7 +153,11 @@ first_answer tally line = first_by tally line (pair_at line)
 abbrev pub second_answer : Tally → Asked → List ℕ → Result (List ℕ × Tally) Refused
 second_answer tally asked line =
     if is_too_much tally line then Err Much
-    else Ok (verdict_text asked.position (pair_verdict tally asked line), after_pair tally asked line (pair_verdict tally asked line))
+    else Ok (
+      verdict_text asked.position (pair_verdict tally asked line),
+      after_pair tally asked
+          line (pair_verdict tally asked line),
+    )
 
 -- what was found, and the first line of a pair that waits for its second
 pub record Checking : Type 0 where

@@ -25,7 +25,8 @@ pub record ChecksReceipts (key : List ℕ) (left left' received received' : Opti
   pub next : Checking
   pub consumed : Consumes left left' taken
   pub appended : Appends received received' sent
-  pub settled : Settles (run receipts_answer 1 (first_checking key)) (run_of receipts_answer receipts_closing (first_checking key)) next
+  pub settled : Settles (run receipts_answer 1 (first_checking key))
+      (run_of receipts_answer receipts_closing (first_checking key)) next
       left' taken sent result
   pub reported : IsReceiptReport next result
 
@@ -38,13 +39,16 @@ pub record AnswersHonestly (key : List ℕ) (lines : List (List ℕ)) (written :
 pub record EndsHonestly (key : List ℕ) (lines : List (List ℕ)) (written : List ℕ) : Type 0 where
   pub said : List ℕ
   pub answers : AnswersHonestly key lines said
-  pub whole : written ≡ said ++ last_line answers.answered.0.tally.good answers.answered.0.tally.pairs
+  pub whole : written ≡ said ++ last_line answers.answered.0.tally.good
+      answers.answered.0.tally.pairs
 
--- A check took these bytes of the input and wrote those, by how it ended the answers to all lines or to some first ones.
+-- A check took these bytes of the input and wrote those, by how it ended the answers to all lines
+-- or to some first ones.
 pub record ChecksHonestly (key : List ℕ) (left left' received received' : Option (List ℕ))
     (result : Result ReceiptReport ReplayFault) : Type 0 where
   pub taken : List ℕ
   pub sent : List ℕ
   pub consumed : Consumes left left' taken
   pub appended : Appends received received' sent
-  pub tells : TellsBy (AnswersHonestly key) (EndsHonestly key) (RefusesMuch receipts_answer (first_checking key)) left' taken sent result
+  pub tells : TellsBy (AnswersHonestly key) (EndsHonestly key)
+      (RefusesMuch receipts_answer (first_checking key)) left' taken sent result

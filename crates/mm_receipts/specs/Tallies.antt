@@ -9,10 +9,18 @@ use Rattle.mm_receipts.specs.declared.pair.Asked.{Asked}
 use Rattle.mm_receipts.specs.declared.tally.Tally.{Tally}
 
 abbrev pub tallied : Tally → checking.Tally
-tallied tally = record { key = tally.key; known = tally.known.entries; good = tally.good; pairs = tally.pairs; read = tally.read }
+tallied tally =
+    record {
+      key = tally.key;
+      known = tally.known.entries;
+      good = tally.good;
+      pairs = tally.pairs;
+      read = tally.read;
+    }
 
 -- The first line of a pair was taken, with this answer.
-abbrev pub TakesFirst : Result (Asked × checking.Tally) Refused → checking.Tally → Result Asked ReplyFault → Type 0
+abbrev pub TakesFirst : Result (Asked × checking.Tally) Refused → checking.Tally
+    → Result Asked ReplyFault → Type 0
 TakesFirst answer next (Ok asked) = answer ≡ Ok (asked, next)
 TakesFirst answer next (Err fault.Memory) = Unit {0}
 TakesFirst answer next (Err (fault.Refused why)) = answer ≡ Err why

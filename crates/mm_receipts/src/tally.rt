@@ -3,7 +3,7 @@
 ghost use Rattle.std.specs.Prelude.{◌≡◌, ◌≤◌, ◌<◌, ◌+◌, ℕ, List, false, length, IfOk, IfSome, OnOk, option_map};
 ghost use Rattle.std.specs.List.{position};
 ghost use Rattle.mm_base.specs.Limits.{longest_line, longest_request};
-ghost use Rattle.mm_module.specs.Words.{is_space};
+ghost use Rattle.mm_module.specs.WordsWords.{is_space};
 ghost use Rattle.mm_receipts.specs.Checking.{pair_at, compared, most_pairs, most_read};
 
 use crate::pair::{Asked, Pair, Verdict};

@@ -23,7 +23,7 @@ use Rattle.mm_call.specs.Standing.{instance_by}
 use Rattle.mm_move.specs.Tickets.{TicketContent, sealed_ticket, summary_in}
 use Rattle.mm_run.specs.Folds.{course_of}
 use Rattle.mm_run.specs.OneEvent.{Keeps}
-use Rattle.mm_run.specs.Premises.{AreApartIn}
+use Rattle.mm_run.specs.PremisesWords.{AreApartIn}
 use Rattle.mm_sides.specs.Roles.{Effect, Invites, Leaves, Enters, Notes, is_live}
 use Rattle.mm_sides.specs.Both.{Pair, Both, lists_move, digests_move}
 use Rattle.mm_sides.specs.Moves.{Command, MoveCause, FoundMove}
@@ -109,8 +109,11 @@ module _ (variant : Variant) (meaning : Meaning) (key key' barrier : List ℕ) (
       let none : is_live l.second.role ≡ false = roles_are_one l.first.role l.second.role notes k.order live in
       let here : AllByRecursion (IsNamed all me y) notes.retired =
       subst (λ f. AllByRecursion (IsNamed all me (history_at f (is_live l.second.role) y l.second.at l.away)) notes.retired) live k.named in
-      let own : IsNamed all me y ticket =
-      (made.1, subst (λ (c : Content). Within (place_messages c.place) all) (sym made.2) (rests_listed variant meaning key barrier y all made.0)) in
+      let own : IsNamed all me y ticket = (
+        made.1,
+        subst (λ (c : Content). Within (place_messages c.place) all) (sym made.2)
+            (rests_listed variant meaning key barrier y all made.0),
+      ) in
       record {
         at = record x { away = x.first.count };
         same = refl;
@@ -142,7 +145,8 @@ module _ (variant : Variant) (meaning : Meaning) (key key' barrier : List ℕ) (
       ∙ cell_cross variant meaning key key barrier l.away own.items in
       let away_named : AllByRecursion (IsNamed all me l.away) notes.retired =
       subst (λ f. AllByRecursion (IsNamed all me (history_at false f own l.second.at l.away)) notes.retired) alone.not_there
-      (subst (λ f. AllByRecursion (IsNamed all me (history_at f (is_live l.second.role) own l.second.at l.away)) notes.retired) alone.not_here k.named) in
+      (subst (λ f. AllByRecursion (IsNamed all me (history_at f (is_live l.second.role) own l.second.at l.away)) notes.retired)
+      alone.not_here k.named) in
       record {
         at = record x { first = digests_move.enters x.first x.away ticket.content };
         same = refl;
@@ -355,7 +359,8 @@ module _ (variant : Variant) (meaning : Meaning) (key key' barrier : List ℕ) (
       let b : Brings y z d = brings y x.first meddles stop found k.this outside listed in
       let l1 : Both History History = record l { first = record l.first { at = z } } in
       let x1 : Twin = record x { first = d } in
-      let k1 : Kept all others asked me them l1 x1 notes = brought_kept variant meaning key key' barrier all others asked clear apart l x notes z d k b.keeps b.alike b.names in
+      let k1 : Kept all others asked me them l1 x1 notes = brought_kept variant meaning key key' barrier all others asked clear apart l x
+      notes z d k b.keeps b.alike b.names in
       let ended = ended_told lists_move pair me (affected_if lists_move l1 effect) stop broken found effect in
       let fine : IsFine l.first.role notes effect = subst (IsFine l.first.role notes) ended.effect_is s.fine in
       let a : Affects l1 x1 notes effect = affects l1 x1 notes effect k1 fine (makes_of y z d x.first fates found b k.this tells) in
@@ -371,14 +376,16 @@ module _ (variant : Variant) (meaning : Meaning) (key key' barrier : List ℕ) (
       → Within (messages_here pair me l act) all → IsGenuineHere me l.first act → IsOursIn pair l.tickets notes act
       → Goes all others asked me them notes (outcome_here lists_move pair me l act) (outcome_here digests_move pair me (twin l x) act)
   here_goes pair l x notes (Plain event) k s outside batches listed genuine ours =
-      plain_goes variant meaning key key' barrier all others asked clear apart l.first.at l.first.issued l.second l.away l.tickets l.committed x notes l.first.role event k outside batches listed genuine
+      plain_goes variant meaning key key' barrier all others asked clear apart l.first.at l.first.issued l.second l.away l.tickets
+      l.committed x notes l.first.role event k outside batches listed genuine
   here_goes pair l x notes (Moves meddles stop command) k s outside batches listed genuine ours =
       let found : Option (Result FoundMove MoveCause) = finding lists_move pair me l command in
       let front = each_left (Contains all) (command_messages me l.first command)
       (moves_messages me l.first.at (found_moves meddles stop found)) listed in
       let back = each_right (Contains all) (command_messages me l.first command)
       (moves_messages me l.first.at (found_moves meddles stop found)) listed in
-      subst (λ (f : Option (Result FoundMove MoveCause)). Goes all others asked me them notes (moved_if lists_move pair me l meddles stop command found)
+      subst (λ (f : Option (Result FoundMove MoveCause)). Goes all others asked me them notes
+      (moved_if lists_move pair me l meddles stop command found)
       (moved_if digests_move pair me (twin l x) meddles stop command f))
       (sym (finding_same variant meaning key barrier all others asked clear apart pair them l x notes command k genuine ours front))
       (moved_goes pair l x notes meddles stop command found k s

@@ -14,7 +14,7 @@ use Rattle.mm_model.proofs.Lists.{each_left, each_right, each_self}
 use Rattle.mm_call.specs.Standing.{instance_by}
 use Rattle.mm_run.specs.Folds.{first_digests}
 use Rattle.mm_run.specs.OneEvent.{Keeps}
-use Rattle.mm_run.specs.Premises.{AreApartIn}
+use Rattle.mm_run.specs.PremisesWords.{AreApartIn}
 use Rattle.mm_run.proofs.BasicRuns as basic_runs
 use Rattle.mm_run.proofs.OptRuns as opt_runs
 use Rattle.mm_sides.specs.Roles.{Notes, no_notes}
@@ -93,7 +93,11 @@ module _ (pair : Pair) (all others : List (List ℕ)) (asked : List Batch) (clea
       let f : BothFollowed History History = both_followed lists_move pair o.both events in
       let Q : BothOutcome Digests ℕ → Type 0 = λ w.
       PairsAgree pair (record { both = f.both; replies = o.reply ∷ f.replies })
-      (record { both = (both_followed digests_move pair w.both events).both; replies = w.reply ∷ (both_followed digests_move pair w.both events).replies }) in
+      (record {
+        both = (both_followed digests_move pair w.both events).both;
+        replies = w.reply
+            ∷ (both_followed digests_move pair w.both events).replies;
+      }) in
       subst Q (sym g.same) (record {
         replies = ap (λ (r : List BothReply). o.reply ∷ r) rest.replies;
         first = rest.first;

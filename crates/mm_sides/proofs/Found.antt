@@ -11,7 +11,7 @@ use Rattle.mm_seal.specs.Snapshot.{Content, Snapshot, tag_of}
 use Rattle.mm_model.specs.declared.refusal.Refusal.{Refusal}
 use Rattle.mm_model.specs.Instance.{Instance}
 use Rattle.mm_call.specs.Levels.{Level}
-use Rattle.mm_call.specs.Order.{weighed}
+use Rattle.mm_call.specs.OrderWords.{weighed}
 use Rattle.mm_call.specs.Courses.{Fate}
 use Rattle.mm_move.specs.Tickets.{TicketContent}
 use Rattle.mm_run.specs.Offered.{offered_bytes}

@@ -14,7 +14,8 @@ use Rattle.mm_seal.specs.Snapshot.{Content}
 use Rattle.mm_model.specs.Instance.{Instance}
 use Rattle.mm_model.specs.History.{History, Move, Foreign, Commit, Placed, Reset, Close, Power as PowerMove, moved}
 use Rattle.mm_model.specs.Long.{is_long}
-use Rattle.mm_model.specs.Messages.{Within, IsClear, moving_messages, move_messages}
+use Rattle.mm_model.specs.Messages.{Within, IsClear, moving_messages}
+use Rattle.mm_model.specs.MessagesWords.{move_messages}
 use Rattle.mm_model.specs.Moves.{Digests, made}
 use Rattle.mm_model.specs.Places.{Names}
 use Rattle.mm_model.specs.Steps.{Reads}
@@ -29,7 +30,8 @@ use Rattle.mm_schedule.specs.Events.{Event, Ask, Checkpoint, Power, Extend}
 use Rattle.mm_run.specs.Offered.{offered_bytes}
 use Rattle.mm_run.specs.Folds.{Outcome, after_stop, course_of, outcome_by, uncalled, reads_only, asked_in_vain, event_in_vain}
 use Rattle.mm_run.specs.OneEvent.{Keeps, EventsAgree, IsSoundIn, EventsKeepNames}
-use Rattle.mm_run.specs.Premises.{AreApartIn, foreign_of}
+use Rattle.mm_run.specs.Premises.{foreign_of}
+use Rattle.mm_run.specs.PremisesWords.{AreApartIn}
 use Rattle.mm_run.proofs.BasicRuns.{basic_events_agree}
 use Rattle.mm_run.proofs.OptRuns.{opt_events_agree}
 use Rattle.mm_run.proofs.KeepingNames.{basic_events_keep_names, opt_events_keep_names}
@@ -176,7 +178,8 @@ module _ (all others : List (List ℕ)) (asked : List Batch) (i : Instance) (agr
   asked_same y d issued meddles stop why None b outside listed k = uncalled_same y d issued _ k
   asked_same y d issued meddles stop why (Some bytes) b outside listed k =
       if_same y (is_long b) _ _ _ _ (uncalled_same y d issued _ k)
-      (λ short. reads_same y d issued meddles stop why outside (unless_long y (is_long b) (read_moves meddles stop (Reads ∷ [])) listed short) k)
+      (λ short. reads_same y d issued meddles stop why outside
+      (unless_long y (is_long b) (read_moves meddles stop (Reads ∷ [])) listed short) k)
 
   pub vain_same : (y : History) (d : Digests) (issued : List (List ℕ)) (why : Refusal) (event : Event)
       → AllByRecursion (Contains others) (foreign_of event)

@@ -20,7 +20,7 @@ use Rattle.mm_model.specs.declared.refusal.Refusal.{Refusal}
 use Rattle.mm_model.proofs.Lists.{each_append}
 use Rattle.mm_call.specs.Courses.{Fate, Walked, walk}
 use Rattle.mm_call.specs.Levels.{by_lists, all_made}
-use Rattle.mm_call.specs.Order.{weighed}
+use Rattle.mm_call.specs.OrderWords.{weighed}
 use Rattle.mm_call.specs.Standing.{instance_by}
 use Rattle.mm_call.proofs.Weighing.{weighed_only, accepting as accepting_verdict}
 use Rattle.mm_move.specs.Tickets.{TicketContent}

@@ -31,7 +31,8 @@ moved_ordered pair i both notes meddles stop command None h may new = record { o
 moved_ordered pair i both notes meddles stop command (Some found) h may new =
     let fates : ℕ → Fate = (course_of stop meddles).fates in
     let effect : Option Effect = effect_of fates found in
-    let here : Both History History = record both { first = record both.first { at = brought_to lists_move i both.first.at meddles stop (move_steps found) } } in
+    let here : Both History History = record both
+    { first = record both.first { at = brought_to lists_move i both.first.at meddles stop (move_steps found) } } in
     let o : BothOutcome History History = moved_by lists_move pair i both meddles stop found in
     let ended : IsEnded lists_move pair i (affected_if lists_move here effect) effect o =
     ended_told lists_move pair i (affected_if lists_move here effect) stop (walk fates 1 (move_steps found)).broken found effect in
@@ -42,7 +43,8 @@ moved_ordered pair i both notes meddles stop command (Some found) h may new =
     record {
       order = subst (λ (e : Option Effect). AreInOrder o.both.first.role o.both.second.role (noted_if e notes)) back
           (subst (λ (r : Role). AreInOrder r o.both.second.role (noted_if effect notes)) (sym ended.tells.role)
-          (subst (λ (s : _). AreInOrder (affected_if lists_move here effect).first.role s.role (noted_if effect notes)) (sym ended.tells.second) order));
+          (subst (λ (s : _). AreInOrder (affected_if lists_move here effect).first.role s.role (noted_if effect notes))
+          (sym ended.tells.second) order));
       alone = subst (EntersSo both.first.role both.second.role notes) back (enters_so both.first.role both.second.role notes effect h fine);
       fine = subst (IsFine both.first.role notes) back fine;
     }

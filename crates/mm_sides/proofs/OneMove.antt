@@ -14,7 +14,8 @@ use Rattle.mm_seal.specs.Parts.{parts_of}
 use Rattle.mm_seal.specs.Snapshot.{Content, IsContent, Snapshot, variant_of, tag_of, sealed_of, offered_of}
 use Rattle.mm_seal.specs.declared.snapshot.PartsFault.{PartsFault}
 use Rattle.mm_seal.proofs.SealLaws.{sealed_parts, sealed_once}
-use Rattle.mm_model.specs.Instance.{Instance, basic, opt}
+use Rattle.mm_model.specs.Instance.{Instance}
+use Rattle.mm_model.specs.InstanceWords.{basic, opt}
 use Rattle.mm_model.specs.History.{History, first_history}
 use Rattle.mm_model.specs.Messages.{IsClear}
 use Rattle.mm_model.specs.Places.{Names, issued}
@@ -25,9 +26,10 @@ use Rattle.mm_model.specs.declared.refusal.Refusal.{Refusal}
 use Rattle.mm_model.specs.declared.refusal.Refusal.TheVariants as refusal
 use Rattle.mm_model.proofs.Segments.{true_not_false}
 use Rattle.mm_call.specs.Asked.{moves_messages}
-use Rattle.mm_call.specs.Found.{content_if_right, right_content}
+use Rattle.mm_call.specs.Found.{right_content}
+use Rattle.mm_call.specs.FoundWords.{content_if_right}
 use Rattle.mm_call.specs.Levels.{by_lists}
-use Rattle.mm_call.specs.Order.{weighed}
+use Rattle.mm_call.specs.OrderWords.{weighed}
 use Rattle.mm_call.specs.Standing.{instance_by}
 use Rattle.mm_call.proofs.Moving.{summary-nil}
 use Rattle.mm_move.specs.Tickets.{place_at, summary_in, TicketContent, IsTicket, TaggedTicket, ticket_tag, ticket_spelling, sealed_ticket, ticket_of, SpellsTicket}
@@ -37,8 +39,8 @@ use Rattle.mm_run.proofs.MetPremises.{anchor_nil}
 use Rattle.mm_run.proofs.FirstBytes.{clear_within}
 use Rattle.mm_run.specs.Laws.{one_ask}
 use Rattle.mm_schedule.specs.declared.event.Offer.TheVariants.{Last}
-use Rattle.mm_run.specs.Held.{world_barrier}
-use Rattle.mm_run.specs.Premises.{run_messages, AreApartIn}
+use Rattle.mm_run.specs.HeldWords.{world_barrier}
+use Rattle.mm_run.specs.PremisesWords.{run_messages, AreApartIn}
 use Rattle.mm_sides.specs.Roles.{Live, Waiting, Retired, Leaves, Enters, Invites, Notes, no_notes, noted}
 use Rattle.mm_sides.specs.Both.{First, Second, Pair, instance_on, Side, Both, lists_move, first_lists, turned}
 use Rattle.mm_sides.specs.Moves.{Invite, Retire, Accept, FoundMove, MoveCause, Nonce, stands_here, verdict_here, left_by, offered_to, ticket_by, ticket_in, entered_as}
@@ -90,7 +92,8 @@ spelled_there Basic key barrier = counter_is_lawful.begins
 spelled_there Opt key barrier = counter_is_lawful.begins
 
 at_anchor : (variant : Variant) (key barrier : List ℕ)
-    → (said variant key barrier).place ≡ place_at (variant_of (said variant key barrier).place) (summary_in (said variant key barrier).place)
+    → (said variant key barrier).place ≡ place_at (variant_of (said variant key barrier).place)
+    (summary_in (said variant key barrier).place)
 at_anchor Basic key barrier = refl
 at_anchor Opt key barrier = refl
 
@@ -138,12 +141,14 @@ clear_start Opt first_key barrier in_basic in_opt =
 
 apart : (variant : Variant) (first_key barrier : List ℕ)
     → (let i = instance_by variant counter first_key barrier in AreApartIn i.variant i [] [])
-apart Basic first_key barrier = tt
-apart Opt first_key barrier = λ d b c among. absurd (none_of d c)
+apart Basic first_key barrier = λ is. cc
+apart Opt first_key barrier = λ is d b c among. absurd (none_of d c)
 
-names : (variant : Variant) (key barrier : List ℕ) → Names (instance_by variant counter key barrier) first_history (said variant key barrier)
+names : (variant : Variant) (key barrier : List ℕ)
+    → Names (instance_by variant counter key barrier) first_history (said variant key barrier)
 names variant key barrier =
-    issued_here variant counter key barrier first_history (first_sound_in variant counter key barrier) (first_lives variant counter key barrier)
+    issued_here variant counter key barrier first_history (first_sound_in variant counter key barrier)
+    (first_lives variant counter key barrier)
 
 module _ (variant : Variant) (first_key second_key barrier link nonce : List ℕ) (long : length nonce ≡ 32) where
   abbrev pair : Pair
@@ -179,10 +184,12 @@ module _ (variant : Variant) (first_key second_key barrier link nonce : List ℕ
   finds =
       ap (offered_to lists_move here first_history false nonce) parts
       ∙ ap (λ (s : Bool). left_by lists_move here first_history false nonce content
-      (weighed s (bytes_eq (tag_of here.key content) (tag_of here.key content)) (verdict_here (stands_here (by_lists here) first_history content)) true)) (spelled variant first_key barrier)
+      (weighed s (bytes_eq (tag_of here.key content) (tag_of here.key content))
+      (verdict_here (stands_here (by_lists here) first_history content)) true)) (spelled variant first_key barrier)
       ∙ ap (λ (t : Bool). left_by lists_move here first_history false nonce content
       (weighed true t (verdict_here (stands_here (by_lists here) first_history content)) true)) tagged
-      ∙ ap (λ (t : Bool). left_by lists_move here first_history false nonce content (weighed true true (verdict_here t) true)) (stands variant first_key barrier)
+      ∙ ap (λ (t : Bool). left_by lists_move here first_history false nonce content (weighed true true (verdict_here t) true))
+      (stands variant first_key barrier)
 
   right : right_content here bytes ≡ Some content
   right =
@@ -220,7 +227,8 @@ module _ (variant : Variant) (first_key second_key barrier link nonce : List ℕ
   right_ticket : ticket_in pair paper ≡ Ok ticket
   right_ticket =
       ap (ticket_by counter link) read_back
-      ∙ if_true (counter.is_spelled content.state) (if bytes_eq (ticket_tag link ticket) (ticket_tag link ticket) then Ok ticket else Err refusal.Tag)
+      ∙ if_true (counter.is_spelled content.state)
+      (if bytes_eq (ticket_tag link ticket) (ticket_tag link ticket) then Ok ticket else Err refusal.Tag)
       (Err refusal.State) (spelled_there variant first_key barrier)
       ∙ if_true (bytes_eq (ticket_tag link ticket) (ticket_tag link ticket)) (Ok ticket) (Err refusal.Tag) same_tag
 
@@ -257,16 +265,20 @@ module _ (variant : Variant) (first_key second_key barrier link nonce : List ℕ
     second = record { role = Live; at = first_history; issued = sealed_of there.key (issued there first_history) ∷ [] };
   }
 
-  invites : both_outcome lists_move pair (first_lists pair) invited ≡ record { both = waiting; reply = Invited; effect = Some (Invites nonce) }
+  invites : both_outcome lists_move pair (first_lists pair)
+      invited ≡ record { both = waiting; reply = Invited; effect = Some (Invites nonce) }
   invites = refl
 
   leaves : both_outcome lists_move pair waiting retired ≡ record { both = gone; reply = Left 0; effect = Some (Leaves ticket) }
   leaves =
-      ap (λ (f : Result FoundMove MoveCause). turned_back First (moved_if lists_move pair here waiting [] Quiet (Retire nonce Last) (Some f))) finds
+      ap (λ (f : Result FoundMove MoveCause). turned_back First
+      (moved_if lists_move pair here waiting [] Quiet (Retire nonce Last) (Some f))) finds
 
-  comes : both_outcome lists_move pair gone accepted ≡ record { both = arrived; reply = Entered (issued there first_history).position; effect = Some (Enters ticket) }
+  comes : both_outcome lists_move pair gone
+      accepted ≡ record { both = arrived; reply = Entered (issued there first_history).position; effect = Some (Enters ticket) }
   comes =
-      ap (λ (f : Result FoundMove MoveCause). turned_back Second (moved_if lists_move pair there (turned gone) [] Quiet (Accept Last) (Some f))) enters
+      ap (λ (f : Result FoundMove MoveCause). turned_back Second
+      (moved_if lists_move pair there (turned gone) [] Quiet (Accept Last) (Some f))) enters
 
   -- the run
   runs : (both_expected pair (one_move nonce)).both ≡ arrived
@@ -280,7 +292,8 @@ module _ (variant : Variant) (first_key second_key barrier link nonce : List ℕ
 
   none_by_retiring : both_event_messages pair waiting retired ≡ []
   none_by_retiring =
-      ap (λ (m : List (List ℕ)). m ++ moves_messages here first_history (found_moves [] Quiet (finding lists_move pair here waiting (Retire nonce Last)))) closed_by
+      ap (λ (m : List (List ℕ)). m
+      ++ moves_messages here first_history (found_moves [] Quiet (finding lists_move pair here waiting (Retire nonce Last)))) closed_by
       ∙ quiet here first_history (finding lists_move pair here waiting (Retire nonce Last))
 
   none_by_accepting : both_event_messages pair gone accepted ≡ []
@@ -288,7 +301,8 @@ module _ (variant : Variant) (first_key second_key barrier link nonce : List ℕ
 
   none_behind : both_messages_from pair waiting (retired ∷ accepted ∷ []) ≡ []
   none_behind =
-      ap (λ (m : List (List ℕ)). m ++ both_messages_from pair (both_outcome lists_move pair waiting retired).both (accepted ∷ [])) none_by_retiring
+      ap (λ (m : List (List ℕ)). m ++ both_messages_from pair (both_outcome lists_move pair waiting retired).both (accepted ∷ []))
+      none_by_retiring
       ∙ ap (λ (o : BothOutcome History History). both_messages_from pair o.both (accepted ∷ [])) leaves
       ∙ ap (λ (m : List (List ℕ)). m ++ []) none_by_accepting
 
@@ -319,7 +333,8 @@ module _ (variant : Variant) (first_key second_key barrier link nonce : List ℕ
       subst (λ (o : BothOutcome History History). IsNew awaited o.effect × IsOursIn pair waiting.tickets awaited retired.act
       × AreFreshFrom pair o.both (noted_if o.effect awaited) (accepted ∷ [])) (sym leaves) (tt, tt, fresh_there)
 
-  pub moves_once : IsClear (run_messages (basic counter first_key) one_ask) → IsClear (run_messages (opt counter first_key world_barrier) one_ask)
+  pub moves_once : IsClear (run_messages (basic counter first_key) one_ask)
+      → IsClear (run_messages (opt counter first_key world_barrier) one_ask)
       → MovesOnce pair nonce
   moves_once in_basic in_opt = record {
     clear = record {

@@ -14,7 +14,8 @@ use Rattle.mm_model.specs.Steps.{Reads}
 use Rattle.mm_model.specs.declared.refusal.Refusal.{Refusal}
 use Rattle.mm_model.specs.declared.refusal.Refusal.TheVariants as refusal
 use Rattle.mm_call.specs.Courses.{End, Done, Fails, Fate, walk, after_step, commits}
-use Rattle.mm_call.specs.Called.{called_by, kept_at}
+use Rattle.mm_call.specs.Called.{called_by}
+use Rattle.mm_call.specs.CalledWords.{kept_at}
 use Rattle.mm_call.specs.Levels.{by_lists}
 use Rattle.mm_call.specs.Standing.{instance_by}
 use Rattle.mm_schedule.specs.Events as events
@@ -23,7 +24,8 @@ use Rattle.mm_schedule.specs.declared.reply.Reply.{Reply}
 use Rattle.mm_schedule.specs.declared.reply.Reply.TheVariants.{Told as ToldReply, No, Kept, Nothing, Closed, Checkpointed, Power, Extended}
 use Rattle.mm_schedule.specs.declared.reply.Way.{Way}
 use Rattle.mm_run.specs.Offered.{offered_bytes}
-use Rattle.mm_run.specs.Folds.{Outcome, way_of, course_of, broken_reply, outcome_by, reads_only, asked_in_vain, event_outcome, event_in_vain}
+use Rattle.mm_run.specs.Folds.{Outcome, way_of, course_of, outcome_by, reads_only, asked_in_vain, event_outcome, event_in_vain}
+use Rattle.mm_run.specs.FoldsWords.{broken_reply}
 use Rattle.mm_run.proofs.Running.{event_steps}
 use Rattle.mm_sides.specs.Roles.{Role, Blank, Live, Waiting, Retired, Effect, Invites, Leaves, Enters, is_live, Notes, no_notes}
 use Rattle.mm_move.specs.Tickets.{TicketContent}
@@ -50,7 +52,8 @@ vain_reply meaning requests b how false e = (refl, refl)
 module _ (i : Instance) (y : History) (r : List (List ℕ)) (issued : List (List ℕ)) (stop : Stop) (why : Refusal) where
   vain_by : (b : Batch) (values : List (List ℕ)) (ends : End)
       → (let o : Outcome History = outcome_by (by_lists i) stop issued
-      (called_by (by_lists i) y y (One []) (Err why) (after_step Reads values ends (record { moves = []; steps = 0; writes = 0; broken = None }))) in
+      (called_by (by_lists i) y y (One []) (Err why)
+      (after_step Reads values ends (record { moves = []; steps = 0; writes = 0; broken = None }))) in
       StepsOn i.meaning r b o.reply r × AsksNone r o.reply r)
   vain_by b values Done = (refl, refl)
   vain_by b values (Fails fault made) =
@@ -82,9 +85,9 @@ event_vain i y r issued why (events.Extend value) = refl
 -- a step runs no request backwards
 
 on_longer : (meaning : Meaning) (r s : List (List ℕ)) (b : Batch) (reply : Reply) → StepsOn meaning r b reply s → length r ≤ length s
-on_longer meaning r s b (ToldReply true before outputs) h = omega (arith, ap length h.same)
+on_longer meaning r s b (ToldReply true before outputs) h = omega (arith, ap length h.2)
 on_longer meaning r s b (ToldReply false before outputs) h = omega (arith, ap length h.grown, length-append r (members_of b))
-on_longer meaning r s b (Kept way position) h = omega (arith, ap length h.grown, length-append r (members_of b))
+on_longer meaning r s b (Kept way position) h = omega (arith, ap length h.0, length-append r (members_of b))
 on_longer meaning r s b (No why) h = omega (arith, ap length h)
 on_longer meaning r s b (Nothing way) h = omega (arith, ap length h)
 on_longer meaning r s b (Closed way) h = omega (arith, ap length h)
@@ -250,7 +253,10 @@ moved_run : (pair : Pair) (i : Instance) (both : Both History History) (notes : 
     → IsOrdered both.first.role both.second.role notes (moved_if lists_move pair i both meddles stop command found)
     → IsRunHere i.meaning both (Moves meddles stop command) (moved_if lists_move pair i both meddles stop command found)
 moved_run pair i both notes meddles stop command None h s =
-    record { runs = silent i.meaning (plain_reply (unissued command)) (requests_now both) (requests_now both) (unissued_none command) refl; count = λ e. e }
+    record {
+      runs = silent i.meaning (plain_reply (unissued command)) (requests_now both) (requests_now both) (unissued_none command) refl;
+      count = λ e. e;
+    }
 moved_run pair i both notes meddles stop command (Some found) h s =
     let fates : ℕ → Fate = (course_of stop meddles).fates in
     let effect : Option Effect = effect_of fates found in

@@ -20,7 +20,8 @@ use Rattle.mm_move.specs.Tickets.{TicketContent}
 use Rattle.mm_schedule.specs.Events.{Event}
 use Rattle.mm_run.specs.Folds.{Outcome, event_outcome, event_in_vain}
 use Rattle.mm_run.specs.OneEvent.{Keeps}
-use Rattle.mm_run.specs.Premises.{AreApartIn, foreign_of, batches_of, event_messages, moves_of}
+use Rattle.mm_run.specs.Premises.{foreign_of, batches_of, event_messages, moves_of}
+use Rattle.mm_run.specs.PremisesWords.{AreApartIn}
 use Rattle.mm_sides.specs.Roles.{Role, Blank, Live, Waiting, Retired, Notes, is_live}
 use Rattle.mm_sides.specs.Both.{Side, Both, lists_move, digests_move}
 use Rattle.mm_sides.specs.Folds.{Plain, Said, plain_outcome}

@@ -14,13 +14,16 @@ use Rattle.mm_module.specs.Meaning.{Meaning, state_after}
 use Rattle.mm_seal.specs.declared.snapshot.Place.{Place}
 use Rattle.mm_seal.specs.declared.snapshot.Place.TheVariants.{Basic as InBasic, Opt as InOpt}
 use Rattle.mm_seal.specs.Snapshot.{Content}
-use Rattle.mm_model.specs.Instance.{Instance, basic, opt}
-use Rattle.mm_model.specs.History.{History, Entry, requests_of, total_of, joined, cell_digest_of, register_value_of}
+use Rattle.mm_model.specs.Instance.{Instance}
+use Rattle.mm_model.specs.InstanceWords.{basic, opt}
+use Rattle.mm_model.specs.History.{History, Entry, requests_of, total_of, joined, register_value_of}
+use Rattle.mm_model.specs.HistoryWords.{cell_digest_of}
 use Rattle.mm_model.specs.Life.{is_empty, are_own, has_value, Life, Live, Spoiled, Lost, life_by, life_of}
 use Rattle.mm_model.specs.Judge.{is_last, judge, judged, verdict_by_digests}
 use Rattle.mm_model.specs.Messages.{Within, IsClear, AreNoGuards, history_messages, values_in, counting}
 use Rattle.mm_model.specs.Moves.{Digests}
-use Rattle.mm_model.specs.Places.{IsPoint, at_anchor, in_closed, in_current, IsPlaceOf, Names, digest_of, anchor_after, issued_place, issued}
+use Rattle.mm_model.specs.Places.{IsPoint, at_anchor, in_closed, in_current, IsPlaceOf, Names, anchor_after, issued_place, issued}
+use Rattle.mm_model.specs.PlacesWords.{digest_of}
 use Rattle.mm_model.specs.StandingHere.{is_new, place_messages}
 use Rattle.mm_model.specs.Standing.{flag_of}
 use Rattle.mm_model.proofs.Batches.{at_the_end}
@@ -34,7 +37,7 @@ use Rattle.mm_call.proofs.OptFinding.{lives}
 use Rattle.mm_call.proofs.OptShut.{within_items}
 use Rattle.mm_move.specs.Tickets.{summary_in, place_at}
 use Rattle.mm_run.specs.OneEvent.{IsSoundIn}
-use Rattle.mm_run.specs.Premises.{AreApartIn}
+use Rattle.mm_run.specs.PremisesWords.{AreApartIn}
 use Rattle.mm_sides.specs.Both.{digests_move}
 use Rattle.mm_sides.specs.Moves.{stands_here}
 
@@ -151,11 +154,6 @@ pub cell_cross : (variant : Variant) (meaning : Meaning) (key key' barrier : Lis
     ≡ cell_digest_of (instance_by variant meaning key' barrier) (instance_by variant meaning key' barrier).variant (holding y items)
 cell_cross Basic meaning key key' barrier y items = refl
 cell_cross Opt meaning key key' barrier y items = refl
-
-pub value_cross : (variant : Variant) (meaning : Meaning) (key barrier : List ℕ) (y z : History)
-    → register_value_of (instance_by variant meaning key barrier) y ≡ register_value_of (instance_by variant meaning key barrier)
-    (holding z y.items)
-value_cross variant meaning key barrier y z = refl
 
 -- a snapshot of rest
 
@@ -319,4 +317,4 @@ pub here_same : (variant : Variant) (meaning : Meaning) (key barrier : List ℕ)
 here_same Basic meaning key barrier all others asked clear apart y d c w a shut listed names =
     basic_here meaning key all others asked y d c clear w a names
 here_same Opt meaning key barrier all others asked clear apart y d c w a shut listed names =
-    opt_here meaning key barrier all others asked y d c clear apart w a shut listed names
+    opt_here meaning key barrier all others asked y d c clear (apart refl) w a shut listed names

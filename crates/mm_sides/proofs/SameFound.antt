@@ -22,7 +22,7 @@ use Rattle.mm_model.specs.StandingHere.{place_messages}
 use Rattle.mm_model.specs.declared.refusal.Refusal.{Refusal}
 use Rattle.mm_call.specs.Found.{right_content}
 use Rattle.mm_call.specs.Levels.{by_lists, by_digests}
-use Rattle.mm_call.specs.Order.{weighed}
+use Rattle.mm_call.specs.OrderWords.{weighed}
 use Rattle.mm_call.specs.Standing.{instance_by}
 use Rattle.mm_call.proofs.Finding.{right_is}
 use Rattle.mm_call.proofs.Reading.{is_right}
@@ -30,7 +30,7 @@ use Rattle.mm_call.proofs.Weighing.{weighed_alike, weighed_only, accepting as ac
 use Rattle.mm_move.specs.Tickets.{TicketContent}
 use Rattle.mm_run.specs.Offered.{offered_bytes}
 use Rattle.mm_run.specs.OneEvent.{Keeps}
-use Rattle.mm_run.specs.Premises.{AreApartIn}
+use Rattle.mm_run.specs.PremisesWords.{AreApartIn}
 use Rattle.mm_sides.specs.Roles.{Role, Blank, Live, Waiting, Retired, Effect, Invites, Leaves, Enters, Notes, is_live}
 use Rattle.mm_sides.specs.Both.{Pair, Side, Both, lists_move, digests_move}
 use Rattle.mm_sides.specs.Moves.{Command, Invite, Retire, Accept, MoveCause, Refused, Open, Gone, Already, FoundMove, stands_here, verdict_here, invited_on, left_by, offered_to, retired_on, ticket_in, entered_as, entered_again, accepted_on}
@@ -269,7 +269,8 @@ module _ (variant : Variant) (meaning : Meaning) (key barrier : List ℕ) (all o
       → IsOursOffered pair notes bytes → accepting digests_move pair me (twin l x).first bytes ≡ accepting lists_move pair me l.first bytes
   accepting_same pair j l x notes None k ours = refl
   accepting_same pair j l x notes (Some bytes) k ours =
-      ap Some (accepted_same l.first.role l.first.at x.first (ticket_in pair bytes) k.this (live_named j l x notes (ticket_in pair bytes) k ours))
+      ap Some (accepted_same l.first.role l.first.at x.first (ticket_in pair bytes) k.this
+      (live_named j l x notes (ticket_in pair bytes) k ours))
 
   accepting_tells : (pair : Pair) (j : Instance) (l : Both History History) (x : Twin) (notes : Notes) (bytes : Option (List ℕ))
       → Kept all others asked me j l x notes

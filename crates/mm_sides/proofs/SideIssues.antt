@@ -20,7 +20,7 @@ use Rattle.mm_model.specs.declared.refusal.Refusal.{Refusal}
 use Rattle.mm_model.proofs.Lists.{each_append}
 use Rattle.mm_call.specs.Courses.{Fate, Walked, walk}
 use Rattle.mm_call.specs.Levels.{by_lists, all_made}
-use Rattle.mm_call.specs.Order.{weighed}
+use Rattle.mm_call.specs.OrderWords.{weighed}
 use Rattle.mm_call.specs.Standing.{instance_by}
 use Rattle.mm_call.proofs.Weighing.{weighed_only, accepting as accepting_verdict}
 use Rattle.mm_move.specs.Tickets.{TicketContent}
@@ -248,8 +248,11 @@ module _ (variant : Variant) (meaning : Meaning) (key key' barrier : List ℕ) w
       (again_told l notes y found.again found.effect k go h))
 
   rests_on : (y z : History) → IsAlike y z → RestsOn me y → RestsOn me z
-  rests_on y z a r =
-      (same_open y z a ∙ r.0, subst (λ w. life_of me.variant w ≡ LiveHistory) (sym a.is) (life_holding variant meaning key barrier y z.items r.0 r.1))
+  rests_on y z a r = (
+    same_open y z a ∙ r.0,
+    subst (λ w. life_of me.variant w ≡ LiveHistory) (sym a.is)
+        (life_holding variant meaning key barrier y z.items r.0 r.1),
+  )
 
   brought_leads : (y : History) (meddles : List Meddle) (stop : Stop) (found : Result FoundMove MoveCause) → IsSoundIn me.variant y
       → Leads variant meaning key key' barrier y (brought_to lists_move me y meddles stop (move_steps found))
@@ -296,7 +299,8 @@ module _ (variant : Variant) (meaning : Meaning) (key key' barrier : List ℕ) w
       → IsOrdered l.first.role l.second.role notes (outcome_here lists_move pair me l act)
       → (let o = outcome_here lists_move pair me l act in Issues me them o.both (noted_if o.effect notes))
   here_issues pair l notes (Plain event) k s =
-      plain_issues variant meaning key key' barrier l.first.at l.first.issued l.second l.away l.tickets l.committed notes l.first.role event k
+      plain_issues variant meaning key key' barrier l.first.at l.first.issued l.second l.away l.tickets l.committed notes l.first.role event
+      k
   here_issues pair l notes (Moves meddles stop command) k s =
       moved_issues pair l notes meddles stop command (finding lists_move pair me l command) k s (finding_lively pair me l command)
 

@@ -28,7 +28,7 @@ use Rattle.mm_model.proofs.Named.{basic_issued, opt_issued}
 use Rattle.mm_call.specs.Called.{called_by}
 use Rattle.mm_call.specs.Courses.{Fate, Walked, walk}
 use Rattle.mm_call.specs.Levels.{by_lists, all_made}
-use Rattle.mm_call.specs.Order.{weighed}
+use Rattle.mm_call.specs.OrderWords.{weighed}
 use Rattle.mm_call.specs.Standing.{instance_by}
 use Rattle.mm_call.proofs.OptFinding.{lives}
 use Rattle.mm_move.specs.Tickets.{TicketContent}
@@ -109,7 +109,8 @@ life_holding Opt meaning key barrier y items shut h = life_shut y items shut ∙
 
 -- the snapshot of a history that goes on names its end
 pub issued_here : (variant : Variant) (meaning : Meaning) (key barrier : List ℕ) (y : History)
-    → (let i = instance_by variant meaning key barrier in IsSoundIn i.variant y → life_of i.variant y ≡ LiveHistory → Names i y (issued i y))
+    → (let i = instance_by variant meaning key barrier in IsSoundIn i.variant y → life_of i.variant y ≡ LiveHistory
+    → Names i y (issued i y))
 issued_here Basic meaning key barrier y sound live = basic_issued meaning key y
 issued_here Opt meaning key barrier y sound live = opt_issued meaning key barrier y sound (lives y live).clean
 
@@ -298,7 +299,8 @@ module _ (variant : Variant) (meaning : Meaning) (key key' barrier : List ℕ) w
     vain_issues role why event committed' dead k =
         let o : Outcome History = event_in_vain (by_lists me) at snapshots why event in
         let v = vain me at snapshots why event in
-        subst (λ xs. Issues me them (record (standing role) { first = record { role = role; at = o.state; issued = xs }; committed = committed' }) notes)
+        subst (λ xs. Issues me them
+        (record (standing role) { first = record { role = role; at = o.state; issued = xs }; committed = committed' }) notes)
         (sym v.issued_is) (brought_issues (standing role) notes o.state committed' k v.alike (λ live. not_dead (sym live ∙ dead)))
 
     pub plain_issues : (role : Role) (event : Event) → Issues me them (standing role) notes

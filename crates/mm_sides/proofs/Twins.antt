@@ -103,6 +103,7 @@ turned_kept variant meaning key key' barrier all others asked l x notes k =
       order = roles_swap l.first.role l.second.role notes k.order;
       named = subst (λ y. AllByRecursion (IsNamed all j y) notes.retired) (sym (turned_history l notes k.order))
           (each_goes (IsNamed all i (history_now l)) (IsNamed all j (history_now l))
-          (λ t h. (names_cross variant meaning key key' barrier (history_now l) (history_now l).items t.content h.0, h.1)) notes.retired k.named);
+          (λ t h. (names_cross variant meaning key key' barrier (history_now l) (history_now l).items t.content h.0, h.1)) notes.retired
+          k.named);
       last = λ gone left ticket is. k.last left gone ticket is ∙ issued_cross variant meaning key key' barrier l.away l.away.items;
     }

@@ -1,4 +1,5 @@
--- Two sides that share a link, what stands on each, and two ways to follow them: by lists and by digests.
+-- Two sides that share a link, what stands on each, and two ways to follow them: by lists and by
+-- digests.
 use Rattle.std.specs.Prelude.{ℕ, false, List, []}
 use Rattle.mm_digest.specs.declared.variant.Variant.{Variant}
 use Rattle.mm_module.specs.Meaning.{Meaning}
@@ -6,7 +7,8 @@ use Rattle.mm_seal.specs.Snapshot.{Content}
 use Rattle.mm_model.specs.Instance.{Instance}
 use Rattle.mm_model.specs.History.{History, first_history}
 use Rattle.mm_model.specs.Moves.{Digests}
-use Rattle.mm_model.specs.Places.{digest_of, issued}
+use Rattle.mm_model.specs.Places.{issued}
+use Rattle.mm_model.specs.PlacesWords.{digest_of}
 use Rattle.mm_call.specs.Levels.{Level, by_lists, by_digests}
 use Rattle.mm_call.specs.Standing.{instance_by}
 use Rattle.mm_run.specs.Folds.{first_issued, first_digests}
@@ -18,8 +20,8 @@ pub data Which : Type 0 where
   First : Which
   Second : Which
 
--- What two sides are set up with: the variant and the module; a key for each side; and the key and the barrier of the link
--- that they share.
+-- What two sides are set up with: the variant and the module; a key for each side; and the key and
+-- the barrier of the link that they share.
 pub record Pair : Type 0 where
   pub variant : Variant
   pub meaning : Meaning
@@ -36,14 +38,15 @@ key_of pair Second = pair.second_key
 abbrev pub instance_on : Pair → Which → Instance
 instance_on pair which = instance_by pair.variant pair.meaning (key_of pair which) pair.barrier
 
--- One side: its role; where it stands, for the sake of its register from the start; and the snapshots that it issued.
+-- One side: its role; where it stands, for the sake of its register from the start; and the
+-- snapshots that it issued.
 pub record Side (S : Type 0) : Type 0 where
   pub role : Role
   pub at : S
   pub issued : List (List ℕ)
 
--- Both sides; what is kept of where the module stood when it left last; the tickets handed out; and how many requests
--- were committed, on either side.
+-- Both sides; what is kept of where the module stood when it left last; the tickets handed out; and
+-- how many requests were committed, on either side.
 pub record Both (S A : Type 0) : Type 0 where
   pub first : Side S
   pub second : Side S
@@ -60,9 +63,10 @@ abbrev pub facing : {S A : Type 0} → Which → Both S A → Both S A
 facing First both = both
 facing Second both = turned both
 
--- A way to follow both sides: one way to follow each; what a ticket or a snapshot says where no segment is open, of an
--- offer that stands there; what is kept of where the module leaves; and where it stands once it has entered, by where
--- its side stood, what was kept, and what the ticket says.
+-- A way to follow both sides: one way to follow each; what a ticket or a snapshot says where no
+-- segment is open, of an offer that stands there; what is kept of where the module leaves; and
+-- where it stands once it has entered, by where its side stood, what was kept, and what the ticket
+-- says.
 pub record Mover (S A : Type 0) : Type 0 where
   pub level : Instance → Level S
   pub says : Instance → S → Content → Content
@@ -78,7 +82,8 @@ lists_move = record {
   enters = λ own away content. record away { items = own.items };
 }
 
--- By digests: of where the module left only the number of its requests is kept; all else comes by the ticket.
+-- By digests: of where the module left only the number of its requests is kept; all else comes by
+-- the ticket.
 abbrev pub digests_move : Mover Digests ℕ
 digests_move = record {
   level = by_digests;
@@ -89,7 +94,9 @@ digests_move = record {
     state = offered.state;
   };
   leaves = λ d. d.count;
-  enters = λ own away content. record own { digest = (summary_in content.place).bytes; flag = false; count = away };
+  enters =
+      λ own away content. record own
+      { digest = (summary_in content.place).bytes; flag = false; count = away };
 }
 
 -- At first the module is on the first side, and the second is blank.
@@ -106,4 +113,5 @@ abbrev pub first_lists : Pair → Both History History
 first_lists pair = begun pair first_history first_history first_history
 
 abbrev pub first_both : Pair → Both Digests ℕ
-first_both pair = begun pair (first_digests (instance_on pair First)) (first_digests (instance_on pair Second)) 0
+first_both pair =
+    begun pair (first_digests (instance_on pair First)) (first_digests (instance_on pair Second)) 0

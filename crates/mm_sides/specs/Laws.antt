@@ -19,22 +19,26 @@ use Rattle.mm_sides.specs.Moves.{Invite, Retire, Accept}
 use Rattle.mm_sides.specs.Folds.{Act, Plain, Moves, BothEvent, BothReply, Said, Invited, Left, Entered, Denied, NoSnapshot, NoTicket, Broken, both_outcome, BothFollowed, both_followed, both_expected, both_by_digests, noted_if}
 use Rattle.mm_sides.specs.Premises.{IsClearPair, IsGenuinePair, IsFreshPair}
 
--- Two ways to follow a side agree: its role, its snapshots, and the digests are those of the history.
-pub record SidesAgree (pair : Pair) (which : Which) (lists : Side History) (digests : Side Digests) : Type 0 where
+-- Two ways to follow a side agree: its role, its snapshots, and the digests are those of the
+-- history.
+pub record SidesAgree (pair : Pair) (which : Which) (lists : Side History)
+    (digests : Side Digests) : Type 0 where
   pub role : digests.role ≡ lists.role
   pub at : Agrees (instance_on pair which) lists.at digests.at
   pub issued : digests.issued ≡ lists.issued
 
--- Both followings give the same replies, the same tickets and the same count of requests, and agree on either side.
-pub record PairsAgree (pair : Pair) (lists : BothFollowed History History) (digests : BothFollowed Digests ℕ) : Type 0 where
+-- Both followings give the same replies, the same tickets and the same count of requests, and agree
+-- on either side.
+pub record PairsAgree (pair : Pair) (lists : BothFollowed History History)
+    (digests : BothFollowed Digests ℕ) : Type 0 where
   pub replies : digests.replies ≡ lists.replies
   pub first : SidesAgree pair First lists.both.first digests.both.first
   pub second : SidesAgree pair Second lists.both.second digests.both.second
   pub tickets : digests.both.tickets ≡ lists.both.tickets
   pub committed : digests.both.committed ≡ lists.both.committed
 
--- Where the digests are clear, the offers genuine, and nonces and tickets fresh, a schedule of both sides gives the same by
--- digests as by lists.
+-- Where the digests are clear, the offers genuine, and nonces and tickets fresh, a schedule of both
+-- sides gives the same by digests as by lists.
 abbrev pub PairsAgreeThroughout : Type 0
 PairsAgreeThroughout = (pair : Pair) (events : List BothEvent) →
     IsClearPair pair events → IsGenuinePair pair events → IsFreshPair pair events
@@ -45,19 +49,23 @@ abbrev pub EntersAlone : Notes → Both History History → Option Effect → Ty
 EntersAlone notes both None = Unit {0}
 EntersAlone notes both (Some (Invites nonce)) = Unit {0}
 EntersAlone notes both (Some (Leaves ticket)) = Unit {0}
-EntersAlone notes both (Some (Enters ticket)) = EntersLast both.first.role both.second.role notes ticket
+EntersAlone notes both (Some (Enters ticket)) =
+    EntersLast both.first.role both.second.role notes ticket
 
--- At each moment at most one side is live; and the module enters a side only where none is, by the ticket that it left by
--- last.
+-- At each moment at most one side is live; and the module enters a side only where none is, by the
+-- ticket that it left by last.
 abbrev pub IsOneFrom : Pair → Both History History → Notes → List BothEvent → Type 0
 IsOneFrom pair both notes [] = AtMostOne both.first.role both.second.role
 IsOneFrom pair both notes (event ∷ events) =
     let o = both_outcome lists_move pair both event in
-    AtMostOne both.first.role both.second.role × EntersAlone notes both o.effect × IsOneFrom pair o.both (noted_if o.effect notes) events
+    AtMostOne both.first.role both.second.role × EntersAlone notes both o.effect
+    × IsOneFrom pair o.both (noted_if o.effect notes) events
 
 -- It takes no premise but that nonces and tickets are fresh.
 abbrev pub OneIsLive : Type 0
-OneIsLive = (pair : Pair) (events : List BothEvent) → IsFreshPair pair events → IsOneFrom pair (first_lists pair) no_notes events
+OneIsLive =
+    (pair : Pair) (events : List BothEvent) → IsFreshPair pair events
+    → IsOneFrom pair (first_lists pair) no_notes events
 
 -- the events of a schedule alone, and the replies to them
 abbrev pub plain_in : Act → List Event
@@ -89,30 +97,41 @@ history_at false true first second away = second
 history_at false false first second away = away
 
 abbrev pub history_now : Both History History → History
-history_now both = history_at (is_live both.first.role) (is_live both.second.role) both.first.at both.second.at both.away
+history_now both =
+    history_at (is_live both.first.role) (is_live both.second.role) both.first.at both.second.at
+    both.away
 
--- The replies to both sides' calls are those of one run of the machine, and as many requests were committed.
-pub record IsOneRun (pair : Pair) (events : List BothEvent) (lists : BothFollowed History History) : Type 0 where
-  pub runs : Runs pair.meaning [] (plain_events events) (plain_replies lists.replies) (requests_of (history_now lists.both).batches)
+-- The replies to both sides' calls are those of one run of the machine, and as many requests were
+-- committed.
+pub record IsOneRun (pair : Pair) (events : List BothEvent)
+    (lists : BothFollowed History History) : Type 0 where
+  pub runs : Runs pair.meaning [] (plain_events events) (plain_replies lists.replies)
+      (requests_of (history_now lists.both).batches)
   pub count : lists.both.committed ≡ length (requests_of (history_now lists.both).batches)
 
 abbrev pub SidesRunAsOne : Type 0
-SidesRunAsOne = (pair : Pair) (events : List BothEvent) → IsFreshPair pair events → IsOneRun pair events (both_expected pair events)
+SidesRunAsOne =
+    (pair : Pair) (events : List BothEvent) → IsFreshPair pair events
+    → IsOneRun pair events (both_expected pair events)
 
 -- what stands after some events and then more
 abbrev pub both_continued : {S A : Type 0} → BothFollowed S A → BothFollowed S A → BothFollowed S A
-both_continued first second = record { both = second.both; replies = first.replies ++ second.replies }
+both_continued first second =
+    record { both = second.both; replies = first.replies ++ second.replies }
 
 -- A front of a schedule: what stands after it and its replies are those of the schedule so far.
 abbrev pub PairsGoOn : Type 0
 PairsGoOn = (pair : Pair) (es fs : List BothEvent) →
     let lists : BothFollowed History History = both_expected pair es in
     let digests : BothFollowed Digests ℕ = both_by_digests pair es in
-    (both_expected pair (es ++ fs) ≡ both_continued lists (both_followed lists_move pair lists.both fs))
-    × (both_by_digests pair (es ++ fs) ≡ both_continued digests (both_followed digests_move pair digests.both fs))
+    (both_expected pair (es ++ fs) ≡ both_continued lists
+    (both_followed lists_move pair lists.both fs))
+    × (both_by_digests pair (es ++ fs) ≡ both_continued digests
+    (both_followed digests_move pair digests.both fs))
 
 -- Each snapshot that a side issued names a position of where it stands, and of the one history.
-pub record SnapshotsName (pair : Pair) (which : Which) (side : Side History) (history : History) : Type 0 where
+pub record SnapshotsName (pair : Pair) (which : Which) (side : Side History)
+    (history : History) : Type 0 where
   pub here : AllByRecursion (IsIssued (instance_on pair which) side.at) side.issued
   pub now : AllByRecursion (IsIssued (instance_on pair which) history) side.issued
 
@@ -123,11 +142,12 @@ SidesIssueNames = (pair : Pair) (events : List BothEvent) → IsFreshPair pair e
     SnapshotsName pair First lists.both.first (history_now lists.both)
     × SnapshotsName pair Second lists.both.second (history_now lists.both)
 
--- The module moves once: the second side is invited under a nonce, the module leaves the first by its snapshot, and enters
--- the second by its ticket.
+-- The module moves once: the second side is invited under a nonce, the module leaves the first by
+-- its snapshot, and enters the second by its ticket.
 abbrev pub one_move : List ℕ → List BothEvent
 one_move nonce =
-    record { which = Second; act = Moves [] Quiet (Invite nonce) } ∷ record { which = First; act = Moves [] Quiet (Retire nonce Last) }
+    record { which = Second; act = Moves [] Quiet (Invite nonce) }
+    ∷ record { which = First; act = Moves [] Quiet (Retire nonce Last) }
     ∷ record { which = Second; act = Moves [] Quiet (Accept Last) } ∷ []
 
 -- a counter on two sides
@@ -151,5 +171,6 @@ pub record MovesOnce (pair : Pair) (nonce : List ℕ) : Type 0 where
 
 -- So the premises can be met, under all keys.
 abbrev pub PremisesAreMet : Type 0
-PremisesAreMet = (variant : Variant) (first_key second_key barrier link nonce : List ℕ) → length nonce ≡ 32
+PremisesAreMet =
+    (variant : Variant) (first_key second_key barrier link nonce : List ℕ) → length nonce ≡ 32
     → MovesOnce (counters variant first_key second_key barrier link) nonce

@@ -14,21 +14,21 @@ use Rattle.mm_model.specs.declared.verdict.Verdict.{Verdict}
 use Rattle.mm_model.specs.declared.verdict.Verdict.TheVariants.{Fresh, Stale}
 use Rattle.mm_model.specs.Instance.{Instance}
 use Rattle.mm_call.specs.Levels.{Level}
-use Rattle.mm_call.specs.Order.{weighed}
+use Rattle.mm_call.specs.OrderWords.{weighed}
 use Rattle.mm_schedule.specs.declared.event.Offer.{Offer}
 use Rattle.mm_move.specs.Tickets.{TicketContent, TaggedTicket, ticket_tag, ticket_of}
 use Rattle.mm_sides.specs.Roles.{Role, Blank, Live, Waiting, Retired, Effect, Invites, Leaves, Enters}
 use Rattle.mm_sides.specs.Both.{Mover, Pair}
 
--- invite the module to a side, under a nonce; let it leave a side for whoever was invited under a nonce, with one of the
--- side's snapshots; let it enter a side, with one of the tickets
+-- invite the module to a side, under a nonce; let it leave a side for whoever was invited under a
+-- nonce, with one of the side's snapshots; let it enter a side, with one of the tickets
 pub data Command : Type 0 where
   Invite : List ℕ → Command
   Retire : List ℕ → Offer → Command
   Accept : Offer → Command
 
--- why a move is refused: as a call may be; or something is awaited or live here already; a segment is open; the module left
--- for another nonce, or left at all; the ticket isn't the awaited one
+-- why a move is refused: as a call may be; or something is awaited or live here already; a segment
+-- is open; the module left for another nonce, or left at all; the ticket isn't the awaited one
 pub data MoveCause : Type 0 where
   Refused : Refusal → MoveCause
   Already : MoveCause
@@ -41,7 +41,8 @@ pub record FoundMove : Type 0 where
   pub again : Bool
   pub effect : Effect
 
--- an offer stands where the module stands: a batch asked with it would be a new one, whichever it is
+-- an offer stands where the module stands: a batch asked with it would be a new one, whichever it
+-- is
 abbrev pub stands_here : {S : Type 0} → Level S → S → Content → Bool
 stands_here level at content = is_new (level.verdict at content (One []))
 
@@ -54,61 +55,81 @@ abbrev pub invited_on : Role → List ℕ → Result FoundMove MoveCause
 invited_on Blank nonce = Ok (record { again = false; effect = Invites nonce })
 invited_on Live nonce = Err Already
 invited_on (Waiting awaited) nonce =
-    if bytes_eq awaited nonce then Ok (record { again = true; effect = Invites nonce }) else Err Already
+    if bytes_eq awaited nonce then Ok (record { again = true; effect = Invites nonce })
+    else Err Already
 invited_on (Retired left) nonce = Ok (record { again = false; effect = Invites nonce })
 
 -- the module leaves by what the offer says, as it stands
-abbrev pub left_by : {S A : Type 0} → Mover S A → Instance → S → Bool → List ℕ → Content → Result Bool Refusal → Result FoundMove MoveCause
+abbrev pub left_by : {S A : Type 0} → Mover S A → Instance → S → Bool → List ℕ → Content
+    → Result Bool Refusal → Result FoundMove MoveCause
 left_by mover i at again nonce offered (Ok fresh) =
-    Ok (record { again = again; effect = Leaves (record { nonce = nonce; content = mover.says i at offered }) })
+    Ok (record {
+      again = again;
+      effect = Leaves
+          (record { nonce = nonce; content = mover.says i at offered });
+    })
 left_by mover i at again nonce offered (Err why) = Err (Refused why)
 
--- the offer is read, and refused as one to a call: Form, Kind, State, Tag, and Stale where it doesn't stand here
-abbrev pub offered_to : {S A : Type 0} → Mover S A → Instance → S → Bool → List ℕ → Result Snapshot PartsFault → Result FoundMove MoveCause
+-- the offer is read, and refused as one to a call: Form, Kind, State, Tag, and Stale where it
+-- doesn't stand here
+abbrev pub offered_to : {S A : Type 0} → Mover S A → Instance → S → Bool → List ℕ
+    → Result Snapshot PartsFault → Result FoundMove MoveCause
 offered_to mover i at again nonce (Ok snapshot) =
     left_by mover i at again nonce snapshot.content
-    (weighed (i.meaning.is_spelled snapshot.content.state) (bytes_eq snapshot.tag (tag_of i.key snapshot.content))
+    (weighed (i.meaning.is_spelled snapshot.content.state)
+    (bytes_eq snapshot.tag (tag_of i.key snapshot.content))
     (verdict_here (stands_here (mover.level i) at snapshot.content)) true)
 offered_to mover i at again nonce (Err Form) = Err (Refused refusal.Form)
 offered_to mover i at again nonce (Err Kind) = Err (Refused refusal.Kind)
 
--- a retirement, by the role of its side. Where the module has left for this nonce, it is the same ticket again.
-abbrev pub retired_on : {S A : Type 0} → Mover S A → Instance → Role → S → List ℕ → List ℕ → Result FoundMove MoveCause
+-- a retirement, by the role of its side. Where the module has left for this nonce, it is the same
+-- ticket again.
+abbrev pub retired_on : {S A : Type 0} → Mover S A → Instance → Role → S → List ℕ → List ℕ
+    → Result FoundMove MoveCause
 retired_on mover i Blank at nonce bytes = Err (Refused refusal.Blank)
 retired_on mover i Live at nonce bytes =
     if (mover.level i).is_open at then Err Open
     else offered_to mover i at false nonce (parts_of i.variant i.meaning.id bytes)
 retired_on mover i (Waiting awaited) at nonce bytes = Err (Refused refusal.Cell)
 retired_on mover i (Retired left) at nonce bytes =
-    if bytes_eq left nonce then offered_to mover i at true nonce (parts_of i.variant i.meaning.id bytes) else Err Gone
+    if bytes_eq left nonce then offered_to mover i at true nonce
+    (parts_of i.variant i.meaning.id bytes) else Err Gone
 
--- what bytes give as a ticket for this module, under the link's key: it is refused as Form, Kind, State or Tag, or right
-abbrev pub ticket_by : Meaning → List ℕ → Result TaggedTicket PartsFault → Result TicketContent Refusal
+-- what bytes give as a ticket for this module, under the link's key: it is refused as Form, Kind,
+-- State or Tag, or right
+abbrev pub ticket_by : Meaning → List ℕ → Result TaggedTicket PartsFault
+    → Result TicketContent Refusal
 ticket_by meaning link (Ok tagged) =
     if meaning.is_spelled tagged.ticket.content.state
-    then (if bytes_eq tagged.tag (ticket_tag link tagged.ticket) then Ok tagged.ticket else Err refusal.Tag)
+    then (if bytes_eq tagged.tag (ticket_tag link tagged.ticket) then Ok tagged.ticket
+    else Err refusal.Tag)
     else Err refusal.State
 ticket_by meaning link (Err Form) = Err refusal.Form
 ticket_by meaning link (Err Kind) = Err refusal.Kind
 
 abbrev pub ticket_in : Pair → List ℕ → Result TicketContent Refusal
-ticket_in pair bytes = ticket_by pair.meaning pair.link (ticket_of pair.variant pair.meaning.id bytes)
+ticket_in pair bytes =
+    ticket_by pair.meaning pair.link (ticket_of pair.variant pair.meaning.id bytes)
 
 -- an awaited ticket is accepted
 abbrev pub entered_as : List ℕ → Result TicketContent Refusal → Result FoundMove MoveCause
 entered_as awaited (Ok ticket) =
-    if bytes_eq awaited ticket.nonce then Ok (record { again = false; effect = Enters ticket }) else Err Nonce
+    if bytes_eq awaited ticket.nonce then Ok (record { again = false; effect = Enters ticket })
+    else Err Nonce
 entered_as awaited (Err why) = Err (Refused why)
 
 -- a ticket that was accepted is answered again, while the module stands where it entered
-abbrev pub entered_again : {S : Type 0} → Level S → S → Result TicketContent Refusal → Result FoundMove MoveCause
+abbrev pub entered_again : {S : Type 0} → Level S → S → Result TicketContent Refusal
+    → Result FoundMove MoveCause
 entered_again level at (Ok ticket) =
     if level.is_open at then Err (Refused refusal.Stale)
-    else (if stands_here level at ticket.content then Ok (record { again = true; effect = Enters ticket }) else Err (Refused refusal.Stale))
+    else (if stands_here level at ticket.content then Ok
+    (record { again = true; effect = Enters ticket }) else Err (Refused refusal.Stale))
 entered_again level at (Err why) = Err (Refused why)
 
 -- an acceptance, by the role of its side
-abbrev pub accepted_on : {S : Type 0} → Level S → Role → S → Result TicketContent Refusal → Result FoundMove MoveCause
+abbrev pub accepted_on : {S : Type 0} → Level S → Role → S → Result TicketContent Refusal
+    → Result FoundMove MoveCause
 accepted_on level Blank at read = Err (Refused refusal.Blank)
 accepted_on level Live at read = entered_again level at read
 accepted_on level (Waiting awaited) at read = entered_as awaited read

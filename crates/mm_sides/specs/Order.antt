@@ -1,5 +1,5 @@
--- The roles of two sides alone: what holds of them, of the nonces that the module was invited under and of the tickets that
--- it left by. Nothing here knows a history or a digest.
+-- The roles of two sides alone: what holds of them, of the nonces that the module was invited under
+-- and of the tickets that it left by. Nothing here knows a history or a digest.
 use Rattle.std.specs.Prelude.{◌≡◌, ◌≢◌, ℕ, true, false, List, [], ◌∷◌, ◌++◌, map}
 use Rattle.std.specs.List.{AllByRecursion, Contains}
 use Rattle.mm_move.specs.Tickets.{TicketContent}
@@ -28,15 +28,20 @@ WaitApart Live other = Unit {0}
 WaitApart (Waiting nonce) other = WaitsElse nonce other
 WaitApart (Retired nonce) other = Unit {0}
 
--- Where the module is: on this side, on the other, or on its way. The nonces of the tickets that were accepted are those of
--- all tickets that it left by; on its way, of all but the last.
-pub data IsSomewhere (this other : Role) (retired : List TicketContent) (spent : List (List ℕ)) : Type 0 where
-  here : is_live this ≡ true → is_live other ≡ false → spent ≡ nonces_of retired → IsSomewhere this other retired spent
-  there : is_live this ≡ false → is_live other ≡ true → spent ≡ nonces_of retired → IsSomewhere this other retired spent
-  away : is_live this ≡ false → is_live other ≡ false → (front : List TicketContent) → (last : TicketContent) → retired ≡ front ++ last ∷ []
+-- Where the module is: on this side, on the other, or on its way. The nonces of the tickets that
+-- were accepted are those of all tickets that it left by; on its way, of all but the last.
+pub data IsSomewhere (this other : Role) (retired : List TicketContent)
+    (spent : List (List ℕ)) : Type 0 where
+  here : is_live this ≡ true → is_live other ≡ false → spent ≡ nonces_of retired
+      → IsSomewhere this other retired spent
+  there : is_live this ≡ false → is_live other ≡ true → spent ≡ nonces_of retired
+      → IsSomewhere this other retired spent
+  away : is_live this ≡ false → is_live other ≡ false → (front : List TicketContent)
+      → (last : TicketContent) → retired ≡ front ++ last ∷ []
       → spent ≡ nonces_of front → IsSomewhere this other retired spent
 
--- What holds of this side and the other at each moment: by the nonces that were spent, those of the tickets accepted.
+-- What holds of this side and the other at each moment: by the nonces that were spent, those of the
+-- tickets accepted.
 pub record AreInOrder (this other : Role) (notes : Notes) : Type 0 where
   pub spent : List (List ℕ)
   pub invited : AllByRecursion (Contains notes.invited) spent
@@ -45,8 +50,8 @@ pub record AreInOrder (this other : Role) (notes : Notes) : Type 0 where
   pub apart : WaitApart this other
   pub place : IsSomewhere this other notes.retired spent
 
--- the effects that a side of this role may take: an invitation where the module isn't and nothing is awaited, a retirement
--- where it is, and an acceptance of a ticket that is awaited
+-- the effects that a side of this role may take: an invitation where the module isn't and nothing
+-- is awaited, a retirement where it is, and an acceptance of a ticket that is awaited
 abbrev pub MayTake : Role → Effect → Type 0
 MayTake Blank (Invites nonce) = Unit {0}
 MayTake Live (Invites nonce) = ⊥
@@ -61,8 +66,8 @@ MayTake Live (Enters ticket) = ⊥
 MayTake (Waiting awaited) (Enters ticket) = awaited ≡ ticket.nonce
 MayTake (Retired left) (Enters ticket) = ⊥
 
--- What is asked of an effect: nobody is invited twice under one nonce, and a ticket that is accepted is one that the module
--- left by, as nobody else made one.
+-- What is asked of an effect: nobody is invited twice under one nonce, and a ticket that is
+-- accepted is one that the module left by, as nobody else made one.
 abbrev pub IsFreshEffect : Notes → Effect → Type 0
 IsFreshEffect notes (Invites nonce) = Contains notes.invited nonce → ⊥
 IsFreshEffect notes (Leaves ticket) = Unit {0}
@@ -79,20 +84,25 @@ pub record EntersLast (this other : Role) (notes : Notes) (ticket : TicketConten
   pub not_there : is_live other ≡ false
   pub last : IsLastTicket notes.retired ticket
 
--- Laws of roles alone: what holds at first; what holds of the other side and this one; what an effect keeps; and how the
--- module enters.
+-- Laws of roles alone: what holds at first; what holds of the other side and this one; what an
+-- effect keeps; and how the module enters.
 abbrev pub RolesBegin : Type 0
 RolesBegin = AreInOrder Live Blank no_notes
 
 abbrev pub RolesSwap : Type 0
-RolesSwap = (this other : Role) (notes : Notes) → AreInOrder this other notes → AreInOrder other this notes
+RolesSwap =
+    (this other : Role) (notes : Notes) → AreInOrder this other notes → AreInOrder other this notes
 
 abbrev pub RolesGoOn : Type 0
-RolesGoOn = (this other : Role) (notes : Notes) (effect : Effect) → AreInOrder this other notes → MayTake this effect
+RolesGoOn =
+    (this other : Role) (notes : Notes) (effect : Effect) → AreInOrder this other notes
+    → MayTake this effect
     → IsFreshEffect notes effect → AreInOrder (role_after effect) other (noted effect notes)
 
 abbrev pub RolesEnterLast : Type 0
-RolesEnterLast = (this other : Role) (notes : Notes) (ticket : TicketContent) → AreInOrder this other notes → MayTake this (Enters ticket)
+RolesEnterLast =
+    (this other : Role) (notes : Notes) (ticket : TicketContent) → AreInOrder this other notes
+    → MayTake this (Enters ticket)
     → IsFreshEffect notes (Enters ticket) → EntersLast this other notes ticket
 
 -- at most one of two sides is live
@@ -100,4 +110,5 @@ abbrev pub AtMostOne : Role → Role → Type 0
 AtMostOne this other = is_live this ≡ true → is_live other ≡ false
 
 abbrev pub RolesAreOne : Type 0
-RolesAreOne = (this other : Role) (notes : Notes) → AreInOrder this other notes → AtMostOne this other
+RolesAreOne =
+    (this other : Role) (notes : Notes) → AreInOrder this other notes → AtMostOne this other

@@ -1,4 +1,5 @@
--- The messages that a run of both sides hashes, as far as a proof looks at them, and what is asked of the run.
+-- The messages that a run of both sides hashes, as far as a proof looks at them, and what is asked
+-- of the run.
 use Rattle.std.specs.Prelude.{ℕ, List, [], ◌∷◌, ◌++◌, Option, None, Some, Result, Ok, Err, map, if◌then◌else◌}
 use Rattle.std.specs.List.{Contains}
 use Rattle.mm_digest.specs.Messages.{start_message}
@@ -20,7 +21,8 @@ use Rattle.mm_move.specs.Tickets.{TicketContent}
 use Rattle.mm_schedule.specs.Events.{Event, Ask, Checkpoint, Power, Extend}
 use Rattle.mm_run.specs.Offered.{offered_bytes}
 use Rattle.mm_run.specs.Folds.{course_of}
-use Rattle.mm_run.specs.Premises.{moves_of, event_messages, foreign_of, batches_of, AreApartIn, IsGenuineOffer, IsGenuineEvent}
+use Rattle.mm_run.specs.Premises.{moves_of, event_messages, foreign_of, batches_of, IsGenuineEvent}
+use Rattle.mm_run.specs.PremisesWords.{AreApartIn, IsGenuineOffer}
 use Rattle.mm_sides.specs.Roles.{Role, Blank, Live, Waiting, Retired, Effect, Invites, Leaves, Enters, Notes, no_notes}
 use Rattle.mm_sides.specs.Both.{First, Pair, instance_on, Side, Both, facing, lists_move, first_lists}
 use Rattle.mm_sides.specs.Moves.{Command, Invite, Retire, Accept, FoundMove, MoveCause, ticket_in}
@@ -33,20 +35,27 @@ read_moves meddles stop steps = (walk (course_of stop meddles).fates 1 steps).mo
 -- what the register of a side takes in during an event where the module isn't
 abbrev pub vain_asked : List Meddle → Stop → Option (List ℕ) → Batch → List Move
 vain_asked meddles stop None b = []
-vain_asked meddles stop (Some bytes) b = if is_long b then [] else read_moves meddles stop (Reads ∷ [])
+vain_asked meddles stop (Some bytes) b =
+    if is_long b then [] else read_moves meddles stop (Reads ∷ [])
 
 abbrev pub vain_moves : List (List ℕ) → Event → List Move
-vain_moves issued (Ask meddles stop offer b) = vain_asked meddles stop (offered_bytes issued offer) b
+vain_moves issued (Ask meddles stop offer b) =
+    vain_asked meddles stop (offered_bytes issued offer) b
 vain_moves issued (Checkpoint meddles stop) = read_moves meddles stop (Reads ∷ [])
 vain_moves issued Power = PowerMove ∷ []
 vain_moves issued (Extend value) = Foreign value ∷ []
 
--- The messages of an event of a schedule: where the module is, those of one platform; elsewhere, what the register takes in.
+-- The messages of an event of a schedule: where the module is, those of one platform; elsewhere,
+-- what the register takes in.
 abbrev pub plain_messages : Instance → Role → Side History → Event → List (List ℕ)
-plain_messages i Live side event = event_messages i side.issued event ++ moves_messages i side.at (moves_of i side.at side.issued event)
+plain_messages i Live side event =
+    event_messages i side.issued event ++ moves_messages i side.at
+    (moves_of i side.at side.issued event)
 plain_messages i Blank side event = moves_messages i side.at (vain_moves side.issued event)
-plain_messages i (Waiting nonce) side event = moves_messages i side.at (vain_moves side.issued event)
-plain_messages i (Retired nonce) side event = moves_messages i side.at (vain_moves side.issued event)
+plain_messages i (Waiting nonce) side event =
+    moves_messages i side.at (vain_moves side.issued event)
+plain_messages i (Retired nonce) side event =
+    moves_messages i side.at (vain_moves side.issued event)
 
 -- of a retirement's right offer: the closing of its segment, where it is inside one
 abbrev pub closing_of : Option Content → List (List ℕ)
@@ -71,22 +80,27 @@ abbrev pub messages_here : Pair → Instance → Both History History → Act �
 messages_here pair i both (Plain event) = plain_messages i both.first.role both.first event
 messages_here pair i both (Moves meddles stop command) =
     command_messages i both.first command
-    ++ moves_messages i both.first.at (found_moves meddles stop (finding lists_move pair i both command))
+    ++ moves_messages i both.first.at
+    (found_moves meddles stop (finding lists_move pair i both command))
 
 abbrev pub both_event_messages : Pair → Both History History → BothEvent → List (List ℕ)
-both_event_messages pair both event = messages_here pair (instance_on pair event.which) (facing event.which both) event.act
+both_event_messages pair both event =
+    messages_here pair (instance_on pair event.which) (facing event.which both) event.act
 
 abbrev pub both_messages_from : Pair → Both History History → List BothEvent → List (List ℕ)
 both_messages_from pair both [] = []
 both_messages_from pair both (event ∷ events) =
-    both_event_messages pair both event ++ both_messages_from pair (both_outcome lists_move pair both event).both events
+    both_event_messages pair both event ++ both_messages_from pair
+    (both_outcome lists_move pair both event).both events
 
 -- the messages of a run: the start message, and then those of each event
 abbrev pub both_messages : Pair → List BothEvent → List (List ℕ)
 both_messages pair events =
-    start_message (instance_on pair First).variant (instance_on pair First).meaning.id ∷ both_messages_from pair (first_lists pair) events
+    start_message (instance_on pair First).variant (instance_on pair First).meaning.id
+    ∷ both_messages_from pair (first_lists pair) events
 
--- the values by which others extend the register of either side, whether the step is reached or not; and the batches asked
+-- the values by which others extend the register of either side, whether the step is reached or
+-- not; and the batches asked
 abbrev pub others_in : Act → List (List ℕ)
 others_in (Plain event) = foreign_of event
 others_in (Moves meddles stop command) = map (λ m. m.value.bytes) meddles
@@ -103,14 +117,15 @@ abbrev pub both_batches : List BothEvent → List Batch
 both_batches [] = []
 both_batches (event ∷ events) = batches_in event.act ++ both_batches events
 
--- What is asked of the digests: no two messages of the run share one, none is zero, and in Opt no value of others is the
--- guard of a batch that is asked.
+-- What is asked of the digests: no two messages of the run share one, none is zero, and in Opt no
+-- value of others is the guard of a batch that is asked.
 pub record IsClearPair (pair : Pair) (events : List BothEvent) : Type 0 where
   pub clear : IsClear (both_messages pair events)
-  pub apart : AreApartIn (instance_on pair First).variant (instance_on pair First) (both_others events) (both_batches events)
+  pub apart : AreApartIn (instance_on pair First).variant (instance_on pair First)
+      (both_others events) (both_batches events)
 
--- What is asked of an offer: where the module is, and where it has left, a right one names a position of the history that
--- the side has. So nobody else sealed it.
+-- What is asked of an offer: where the module is, and where it has left, a right one names a
+-- position of the history that the side has. So nobody else sealed it.
 abbrev pub IsGenuineTo : Role → Instance → History → Option (List ℕ) → Type 0
 IsGenuineTo Blank i y bytes = Unit {0}
 IsGenuineTo Live i y bytes = IsGenuineOffer i y bytes
@@ -125,7 +140,8 @@ IsGenuinePlain (Retired nonce) i side event = Unit {0}
 
 abbrev pub IsGenuineCommand : Instance → Side History → Command → Type 0
 IsGenuineCommand i side (Invite nonce) = Unit {0}
-IsGenuineCommand i side (Retire nonce offer) = IsGenuineTo side.role i side.at (offered_bytes side.issued offer)
+IsGenuineCommand i side (Retire nonce offer) =
+    IsGenuineTo side.role i side.at (offered_bytes side.issued offer)
 IsGenuineCommand i side (Accept offer) = Unit {0}
 
 abbrev pub IsGenuineHere : Instance → Side History → Act → Type 0
@@ -133,15 +149,18 @@ IsGenuineHere i side (Plain event) = IsGenuinePlain side.role i side event
 IsGenuineHere i side (Moves meddles stop command) = IsGenuineCommand i side command
 
 abbrev pub IsGenuineIn : Pair → Both History History → BothEvent → Type 0
-IsGenuineIn pair both event = IsGenuineHere (instance_on pair event.which) (facing event.which both).first event.act
+IsGenuineIn pair both event =
+    IsGenuineHere (instance_on pair event.which) (facing event.which both).first event.act
 
 abbrev pub AreGenuineFrom : Pair → Both History History → List BothEvent → Type 0
 AreGenuineFrom pair both [] = Unit {0}
 AreGenuineFrom pair both (event ∷ events) =
-    IsGenuineIn pair both event × AreGenuineFrom pair (both_outcome lists_move pair both event).both events
+    IsGenuineIn pair both event × AreGenuineFrom pair (both_outcome lists_move pair both event).both
+    events
 
--- What is asked of nonces and tickets: an invitation that has its effect is under a nonce that nobody was invited under
--- before, and each right ticket that is offered is one that the module has left by.
+-- What is asked of nonces and tickets: an invitation that has its effect is under a nonce that
+-- nobody was invited under before, and each right ticket that is offered is one that the module has
+-- left by.
 abbrev pub IsNew : Notes → Option Effect → Type 0
 IsNew notes None = Unit {0}
 IsNew notes (Some (Invites nonce)) = Contains notes.invited nonce → ⊥
@@ -169,7 +188,8 @@ abbrev pub AreFreshFrom : Pair → Both History History → Notes → List BothE
 AreFreshFrom pair both notes [] = Unit {0}
 AreFreshFrom pair both notes (event ∷ events) =
     let o = both_outcome lists_move pair both event in
-    IsNew notes o.effect × IsOursIn pair both.tickets notes event.act × AreFreshFrom pair o.both (noted_if o.effect notes) events
+    IsNew notes o.effect × IsOursIn pair both.tickets notes event.act
+    × AreFreshFrom pair o.both (noted_if o.effect notes) events
 
 abbrev pub IsGenuinePair : Pair → List BothEvent → Type 0
 IsGenuinePair pair events = AreGenuineFrom pair (first_lists pair) events

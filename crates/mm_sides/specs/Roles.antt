@@ -2,7 +2,8 @@
 use Rattle.std.specs.Prelude.{ℕ, Bool, true, false, List, [], ◌∷◌, ◌++◌}
 use Rattle.mm_move.specs.Tickets.{TicketContent}
 
--- Nothing was ever set up here; the module is here; it is awaited by a ticket with this nonce; it left by one.
+-- Nothing was ever set up here; the module is here; it is awaited by a ticket with this nonce; it
+-- left by one.
 pub data Role : Type 0 where
   Blank : Role
   Live : Role
@@ -26,8 +27,8 @@ is_live Live = true
 is_live (Waiting nonce) = false
 is_live (Retired nonce) = false
 
--- What a run has seen of moves that had their effect: the nonces that the module was invited under, and the tickets that
--- it left by, in order of time.
+-- What a run has seen of moves that had their effect: the nonces that the module was invited under,
+-- and the tickets that it left by, in order of time.
 pub record Notes : Type 0 where
   pub invited : List (List ℕ)
   pub retired : List TicketContent

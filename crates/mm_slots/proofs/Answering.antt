@@ -48,7 +48,8 @@ pub over_of : (r : Running) (line : List ℕ) → is_too_much r line ≡ true
     → (most_events ≤ r.events) ⊎ (most_kept < r.read + length line + kept_in r.rows)
 over_of r line h = by_first (nat_le most_events r.events) refl h
   where
-    by_first : (many : Bool) → nat_le most_events r.events ≡ many → (many || nat_lt most_kept (r.read + length line + kept_in r.rows)) ≡ true
+    by_first : (many : Bool) → nat_le most_events r.events ≡ many
+        → (many || nat_lt most_kept (r.read + length line + kept_in r.rows)) ≡ true
         → (most_events ≤ r.events) ⊎ (most_kept < r.read + length line + kept_in r.rows)
     by_first true is h = inl (grind (arith, nat_tests))
     by_first false is h = inr (grind (arith, nat_tests))
@@ -57,7 +58,8 @@ not_over : (r : Running) (line : List ℕ) → is_too_much r line ≡ false
     → (most_events ≤ r.events) ⊎ (most_kept < r.read + length line + kept_in r.rows) → ⊥
 not_over r line h over = by_first (nat_le most_events r.events) refl h
   where
-    by_first : (many : Bool) → nat_le most_events r.events ≡ many → (many || nat_lt most_kept (r.read + length line + kept_in r.rows)) ≡ false → ⊥
+    by_first : (many : Bool) → nat_le most_events r.events ≡ many
+        → (many || nat_lt most_kept (r.read + length line + kept_in r.rows)) ≡ false → ⊥
     by_first true is h = cc
     by_first false is h = elim over [ inl few ↦ grind (arith, nat_tests) | inr few ↦ grind (arith, nat_tests) ]
 
@@ -89,19 +91,24 @@ same_event : (a b : SlotEvent) → Some a ≡ Some b → a ≡ b
 same_event a b h = cc
 
 -- the first line was not one too many, and none behind it
-within_more : (slots : ℕ) (r : Running) (line : List ℕ) (lines : List (List ℕ)) (event : SlotEvent) → event_at slots line ≡ Some event → is_too_much r line ≡ false
+within_more : (slots : ℕ) (r : Running) (line : List ℕ) (lines : List (List ℕ)) (event : SlotEvent) → event_at slots line ≡ Some event
+    → is_too_much r line ≡ false
     → IsWithinFrom slots (after_line r line event) lines → IsWithinFrom slots r (line ∷ lines)
 within_more slots r line lines event is few on [] l after [] split read over =
-    not_over r line few (subst (λ (x : List ℕ). (most_events ≤ r.events) ⊎ (most_kept < r.read + length x + kept_in r.rows)) (sym (same_head line l lines after split))
+    not_over r line few (subst (λ (x : List ℕ). (most_events ≤ r.events) ⊎ (most_kept < r.read + length x + kept_in r.rows))
+    (sym (same_head line l lines after split))
     (elim over [ inl h ↦ inl (omega (arith, h)) | inr h ↦ inr (omega (arith, h)) ]))
 within_more slots r line lines event is few on [] l after (e ∷ events) split read over = cc
 within_more slots r line lines event is few on (first ∷ before) l after [] split read over = cc
 within_more slots r line lines event is few on (first ∷ before) l after (e ∷ events) split read over =
     let head : line ≡ first = same_head line first lines (before ++ l ∷ after) split in
-    let same : e ≡ event = same_event e event (sym (event_head (event_at slots first) (Some e) (map (event_at slots) before) (map Some events) read) ∙ ap (event_at slots) (sym head) ∙ is) in
+    let same : e ≡ event = same_event e event
+    (sym (event_head (event_at slots first) (Some e) (map (event_at slots) before) (map Some events) read)
+    ∙ ap (event_at slots) (sym head) ∙ is) in
     let kept : kept_in (after_events r.rows (e ∷ events)) ≡ kept_in (after_events (after_event r.rows event) events) =
     ap (λ (x : SlotEvent). kept_in (after_events r.rows (x ∷ events))) same in
-    let sums : sum_by length (first ∷ before) ≡ length line + sum_by length before = sums_more first before ∙ ap (λ (x : List ℕ). length x + sum_by length before) (sym head) in
+    let sums : sum_by length (first ∷ before) ≡ length line + sum_by length before = sums_more first before
+    ∙ ap (λ (x : List ℕ). length x + sum_by length before) (sym head) in
     on before l after events (same_tail line first lines (before ++ l ∷ after) split)
     (event_tail (event_at slots first) (Some e) (map (event_at slots) before) (map Some events) read)
     (elim over [
@@ -118,7 +125,8 @@ written_of t u h = ap (λ (x : Told SlotsStage). x.written) h
 outcome_is : (t u : Told SlotsStage) → t ≡ u → t.outcome ≡ u.outcome
 outcome_is t u h = ap (λ (x : Told SlotsStage). x.outcome) h
 
-told_both : (t : Told SlotsStage) (written : List ℕ) (outcome : Result SlotsStage ReplayFault) → t.written ≡ written → t.outcome ≡ outcome → t ≡ told written outcome
+told_both : (t : Told SlotsStage) (written : List ℕ) (outcome : Result SlotsStage ReplayFault) → t.written ≡ written → t.outcome ≡ outcome
+    → t ≡ told written outcome
 told_both t written outcome w o = λ i. told (w i) (o i)
 
 -- one more line was answered in front
@@ -141,14 +149,16 @@ answers_more slots r line lines event written p is few a = record {
 -- what comes behind the line's event
 abbrev Onward : ℕ → Running → List ℕ → List (List ℕ) → ℕ → Type 0
 Onward slots r line lines number =
-    (event : SlotEvent) (written : List ℕ) (p : SlotsStage) → rest_of lines number (InEvents (after_line r line event)) ≡ told written (Ok p)
+    (event : SlotEvent) (written : List ℕ) (p : SlotsStage)
+    → rest_of lines number (InEvents (after_line r line event)) ≡ told written (Ok p)
     → AnswersFrom slots (after_line r line event) lines written p
 
 not_stopped : (why : ReplayFault) (written : List ℕ) (p : SlotsStage) → stopped why ≡ told written (Ok p) → ⊥
 not_stopped why written p h = not_ok why p (outcome_is (stopped why) (told written (Ok p)) h)
 
 -- by whether the event is one too many
-answers_event : (slots : ℕ) (r : Running) (line : List ℕ) (lines : List (List ℕ)) (number : ℕ) (event : SlotEvent) (written : List ℕ) (p : SlotsStage) (much : Bool)
+answers_event : (slots : ℕ) (r : Running) (line : List ℕ) (lines : List (List ℕ)) (number : ℕ) (event : SlotEvent) (written : List ℕ)
+    (p : SlotsStage) (much : Bool)
     → is_too_much r line ≡ much → event_at slots line ≡ Some event → Onward slots r line lines number
     → answered (rest_of lines number) number
     (cond much (Err Much) (Ok (answers_text (answers_to r.rows event), InEvents (after_line r line event)))) ≡ told written (Ok p)
@@ -162,7 +172,8 @@ answers_event slots r line lines number event written p false full is on h =
     (answers_more slots r line lines event t.written p is full (on event t.written p went))
 
 -- by what event the line is
-answers_found : (slots : ℕ) (r : Running) (line : List ℕ) (lines : List (List ℕ)) (number : ℕ) (written : List ℕ) (p : SlotsStage) (found : Option SlotEvent)
+answers_found : (slots : ℕ) (r : Running) (line : List ℕ) (lines : List (List ℕ)) (number : ℕ) (written : List ℕ) (p : SlotsStage)
+    (found : Option SlotEvent)
     → event_at slots line ≡ found → Onward slots r line lines number
     → answered (rest_of lines number) number (event_answer r line found) ≡ told written (Ok p)
     → AnswersFrom slots r (line ∷ lines) written p
@@ -171,14 +182,18 @@ answers_found slots r line lines number written p (Some event) is on h =
     answers_event slots r line lines number event written p (is_too_much r line) refl is on h
 
 -- by whether the line is too long
-answers_line : (slots : ℕ) (r : Running) (line : List ℕ) (lines : List (List ℕ)) (number : ℕ) (written : List ℕ) (p : SlotsStage) (long : Bool)
+answers_line : (slots : ℕ) (r : Running) (line : List ℕ) (lines : List (List ℕ)) (number : ℕ) (written : List ℕ) (p : SlotsStage)
+    (long : Bool)
     → Onward slots r line lines number
-    → cond long (stopped (LineLong number)) (answered (rest_of lines number) number (event_answer r line (event_at slots line))) ≡ told written (Ok p)
+    → cond long (stopped (LineLong number)) (answered (rest_of lines number) number (event_answer r line (event_at slots line))) ≡ told
+    written (Ok p)
     → AnswersFrom slots r (line ∷ lines) written p
 answers_line slots r line lines number written p true on h = absurd (not_stopped (LineLong number) written p h)
-answers_line slots r line lines number written p false on h = answers_found slots r line lines number written p (event_at slots line) refl on h
+answers_line slots r line lines number written p false on h =
+    answers_found slots r line lines number written p (event_at slots line) refl on h
 
-pub answers_from : (slots : ℕ) (lines : List (List ℕ)) (number : ℕ) (r : Running) (written : List ℕ) (p : SlotsStage) → length r.rows ≡ slots
+pub answers_from : (slots : ℕ) (lines : List (List ℕ)) (number : ℕ) (r : Running) (written : List ℕ) (p : SlotsStage)
+    → length r.rows ≡ slots
     → run slots_answer number (InEvents r) lines ≡ told written (Ok p) → AnswersFrom slots r lines written p
 answers_from slots [] number r written p size h = record {
   events = [];

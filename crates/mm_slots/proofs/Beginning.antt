@@ -47,7 +47,8 @@ use Rattle.mm_slots.proofs.Stepping.{flight_of, plan_is, asking_of, closing_of}
 
 -- what is said by whether a call is in flight
 
-pub comes_by : (new : Standing) (slot slot' : CodeSlot) (one other : Turned) (said : Said) → one ≡ other → Comes new slot slot' one said → Comes new slot slot' other said
+pub comes_by : (new : Standing) (slot slot' : CodeSlot) (one other : Turned) (said : Said) → one ≡ other → Comes new slot slot' one said
+    → Comes new slot slot' other said
 comes_by new slot slot' one other said e c = subst (λ (t : Turned). Comes new slot slot' t said) e c
 
 -- with no call in flight
@@ -58,7 +59,8 @@ acts_idle standing slot what none =
 
 -- with one
 pub acts_flying : (standing : Standing) (slot : CodeSlot) (what : Action) (flight : CodeFlight) → slot.flight ≡ Some flight
-    → acted (instance_in slot) (slot_in standing slot) what ≡ acted_by (instance_in slot) (slot_in standing slot) (Some (flight_of standing flight)) what
+    → acted (instance_in slot) (slot_in standing slot) what ≡ acted_by (instance_in slot) (slot_in standing slot)
+    (Some (flight_of standing flight)) what
 acts_flying standing slot what flight some =
     ap (λ (f : Option CodeFlight). acted_by (instance_in slot) (slot_in standing slot) (flight_in (next_plan standing) f) what) some
 
@@ -81,17 +83,21 @@ begins_comes standing slot flight q fits = record {
 }
 
 pub ask_begins : (standing : Standing) (slot : CodeSlot) (asking : Asking) → Fits standing slot → slot.flight ≡ None
-    → offered_bytes slot.issued.items asking.offer ≡ Some asking.bytes → is_long (One asking.request) ≡ false → asking.call ≡ begun_call slot.header.variant
+    → offered_bytes slot.issued.items asking.offer ≡ Some asking.bytes → is_long (One asking.request) ≡ false
+    → asking.call ≡ begun_call slot.header.variant
     → length slot.issued.items < vec_capacity slot.issued
-    → Comes standing slot (flown slot (code.Asks asking)) (acted (instance_in slot) (slot_in standing slot) (action.Begin asking.offer asking.request)) Begun
+    → Comes standing slot (flown slot (code.Asks asking))
+    (acted (instance_in slot) (slot_in standing slot) (action.Begin asking.offer asking.request)) Begun
 ask_begins standing slot asking fits none some short is room =
     let s = slot_in standing slot in
     let i = instance_in slot in
     let at = idle standing slot none fits in
     let key = rising_from slot.number in
     let barrier = rising_from (128 + slot.number) in
-    let begins = asks_begun slot.header.variant (meaning_of slot.header.«module») key barrier (digests_in standing slot) standing asking.call asking.bytes (One asking.request) is at.0 at.1 in
-    let flies = subst (λ (p : Plan). AsksInFlight slot.header.variant (meaning_of slot.header.«module») key barrier (digests_in standing slot) standing
+    let begins = asks_begun slot.header.variant (meaning_of slot.header.«module») key barrier (digests_in standing slot) standing
+    asking.call asking.bytes (One asking.request) is at.0 at.1 in
+    let flies = subst (λ (p : Plan). AsksInFlight slot.header.variant (meaning_of slot.header.«module») key barrier
+    (digests_in standing slot) standing
     asking.call standing p.meddles (p.at + 1) asking.bytes (One asking.request)) (sym (quiet_next standing at.1)) begins in
     let on : Turned = merely (flying s (beginning (Asks asking.offer (One asking.request)))) Begun in
     let opens : begun i s asking.offer (One asking.request) (offered_bytes s.issued asking.offer) ≡ on = rw (some, short) refl in
@@ -101,24 +107,31 @@ ask_begins standing slot asking fits none some short is room =
     (record { flight = record { from = standing; flies = flies; offered = some; short = short; room = room }; kept = fits.kept }))
 
 pub close_begins : (standing : Standing) (slot : CodeSlot) → Fits standing slot → slot.flight ≡ None
-    → Comes standing slot (flown slot (code.Closes (record { call = stage.Begun }))) (acted (instance_in slot) (slot_in standing slot) action.Close) Begun
+    → Comes standing slot (flown slot (code.Closes (record { call = stage.Begun })))
+    (acted (instance_in slot) (slot_in standing slot) action.Close) Begun
 close_begins standing slot fits none =
     let s = slot_in standing slot in
     let at = idle standing slot none fits in
     let key = rising_from slot.number in
     let barrier = rising_from (128 + slot.number) in
     let closing : Closing = record { call = stage.Begun } in
-    let begins = closes_begun slot.header.variant (meaning_of slot.header.«module») key barrier (digests_in standing slot) standing at.0 at.1 in
-    let flies = subst (λ (p : Plan). ClosesInFlight slot.header.variant (meaning_of slot.header.«module») key barrier (digests_in standing slot) standing
+    let begins = closes_begun slot.header.variant (meaning_of slot.header.«module») key barrier (digests_in standing slot) standing at.0
+    at.1 in
+    let flies = subst (λ (p : Plan). ClosesInFlight slot.header.variant (meaning_of slot.header.«module») key barrier
+    (digests_in standing slot) standing
     stage.Begun standing p.meddles (p.at + 1)) (sym (quiet_next standing at.1)) begins in
-    comes_by standing slot (flown slot (code.Closes closing)) (merely (flying s (beginning Closes)) Begun) (acted (instance_in slot) s action.Close) Begun
+    comes_by standing slot (flown slot (code.Closes closing)) (merely (flying s (beginning Closes)) Begun)
+    (acted (instance_in slot) s action.Close) Begun
     (sym (acts_idle standing slot action.Close none))
-    (begins_comes standing slot (code.Closes closing) at.1 (record { flight = record { from = standing; flies = flies }; kept = fits.kept }))
+    (begins_comes standing slot (code.Closes closing) at.1
+    (record { flight = record { from = standing; flies = flies }; kept = fits.kept }))
 
 -- others extend the register
 
-pub extends_now : (old new : Standing) (slot slot' : CodeSlot) (value : Digest) → Fits old slot → slot.flight ≡ None → new ≡ extended_by old value.bytes
-    → slot'.header ≡ slot.header → slot'.number ≡ slot.number → slot'.committed ≡ slot.committed → slot'.flight ≡ slot.flight → slot'.kept ≡ slot.kept
+pub extends_now : (old new : Standing) (slot slot' : CodeSlot) (value : Digest) → Fits old slot → slot.flight ≡ None
+    → new ≡ extended_by old value.bytes
+    → slot'.header ≡ slot.header → slot'.number ≡ slot.number → slot'.committed ≡ slot.committed → slot'.flight ≡ slot.flight
+    → slot'.kept ≡ slot.kept
     → slot'.issued.items ≡ slot.issued.items → HasRegister new slot'
     → Comes new slot slot' (acted (instance_in slot) (slot_in old slot) (action.Extend value)) (Replied reply.Extended)
 extends_now old new slot slot' value fits none e h n c f k issued r =
@@ -136,13 +149,22 @@ extends_now old new slot slot' value fits none e h n c f k issued r =
     comes_by new slot slot' (plays i s (Extend value.bytes)) (acted i s (action.Extend value)) (Replied reply.Extended)
     (sym (acts_idle old slot (action.Extend value) none))
     (record {
-      goes = record { fits = settled new slot' after idle' mine quiet r kept; header = h; number = n; few = omega (arith, c); short = omega (arith, ap length issued) };
+      goes =
+          record {
+            fits = settled new slot' after idle' mine quiet r kept;
+            header = h;
+            number = n;
+            few = omega (arith, c);
+            short = omega
+                (arith, ap length issued);
+          };
       stands = λ j. record { digests = digests j; issued = issued j; flight = ap (flight_in (next_plan new)) idle' j };
       says = refl;
       sayable = tt;
     })
 
-meddled_plan : (old new : Standing) (meddles : List Meddle) (made next : ℕ) (value : Digest) → old.plan ≡ Some (record (plan_by Quiet meddles) { at = made }) → made < 255
+meddled_plan : (old new : Standing) (meddles : List Meddle) (made next : ℕ) (value : Digest)
+    → old.plan ≡ Some (record (plan_by Quiet meddles) { at = made }) → made < 255
     → next ≡ made + 1 → new ≡ record old { plan = option_map (meddling value) old.plan }
     → next_plan new ≡ record (plan_by Quiet (meddled meddles next value)) { at = made }
 meddled_plan old new meddles made next value planned few is e =
@@ -152,14 +174,17 @@ meddled_plan old new meddles made next value planned few is e =
     ∙ ap (λ (n : ℕ). record (plan_by Quiet (meddled meddles n value)) { at = made }) step
 
 -- what a value that comes leaves of a call in flight
-joins_comes : (old new : Standing) (slot : CodeSlot) (flight : CodeFlight) (value : Digest) → slot.flight ≡ Some flight → new.cell ≡ old.cell
-    → next_plan new ≡ record (next_plan old) { stop = Quiet; meddles = meddled (next_plan old).meddles ((next_plan old).at + 1) value } → Fits new slot
+joins_comes : (old new : Standing) (slot : CodeSlot) (flight : CodeFlight) (value : Digest) → slot.flight ≡ Some flight
+    → new.cell ≡ old.cell
+    → next_plan new ≡ record (next_plan old) { stop = Quiet; meddles = meddled (next_plan old).meddles ((next_plan old).at + 1) value }
+    → Fits new slot
     → Comes new slot slot (acted (instance_in slot) (slot_in old slot) (action.Extend value)) (Replied reply.Extended)
 joins_comes old new slot flight value some cell plan fits =
     let s = slot_in old slot in
     let on : Turned = merely (flying s (joined (flight_of old flight) value.bytes)) (Replied reply.Extended) in
     let flies : flight_in (next_plan new) slot.flight ≡ Some (joined (flight_of old flight) value.bytes) =
-    ap (flight_in (next_plan new)) some ∙ (λ j. Some (record { call = call_in flight; meddles = (plan j).meddles; next = (plan j).at + 1 })) in
+    ap (flight_in (next_plan new)) some ∙ (λ j. Some (record { call = call_in flight; meddles = (plan j).meddles; next = (plan j).at + 1 }))
+    in
     comes_by new slot slot on (acted (instance_in slot) s (action.Extend value)) (Replied reply.Extended)
     (sym (acts_flying old slot (action.Extend value) flight some))
     (record {
@@ -174,20 +199,27 @@ joins_comes old new slot flight value some cell plan fits =
     })
 
 -- one call in flight, by which it is
-some_flight : (standing : Standing) (slot : CodeSlot) (flight : CodeFlight) → slot.flight ≡ Some flight → Fits standing slot → Fits standing (flown slot flight)
+some_flight : (standing : Standing) (slot : CodeSlot) (flight : CodeFlight) → slot.flight ≡ Some flight → Fits standing slot
+    → Fits standing (flown slot flight)
 some_flight standing slot flight some fits = record {
-  flight = subst (λ (f : Option CodeFlight). FitsFlight slot.header slot.number (digests_in standing slot) slot.issued.items (vec_capacity slot.issued) standing f) some fits.flight;
+  flight =
+      subst (λ (f : Option CodeFlight). FitsFlight slot.header slot.number (digests_in standing slot) slot.issued.items
+      (vec_capacity slot.issued) standing f) some fits.flight;
   kept = fits.kept;
 }
 
-back_from : (standing : Standing) (slot : CodeSlot) (flight : CodeFlight) → slot.flight ≡ Some flight → Fits standing (flown slot flight) → Fits standing slot
+back_from : (standing : Standing) (slot : CodeSlot) (flight : CodeFlight) → slot.flight ≡ Some flight → Fits standing (flown slot flight)
+    → Fits standing slot
 back_from standing slot flight some fits = record {
-  flight = subst (λ (f : Option CodeFlight). FitsFlight slot.header slot.number (digests_in standing slot) slot.issued.items (vec_capacity slot.issued) standing f) (sym some) fits.flight;
+  flight =
+      subst (λ (f : Option CodeFlight). FitsFlight slot.header slot.number (digests_in standing slot) slot.issued.items
+      (vec_capacity slot.issued) standing f) (sym some) fits.flight;
   kept = fits.kept;
 }
 
 -- there is a next step to plan a value for
-pub may_meddle : (standing : Standing) (slot : CodeSlot) (flight : CodeFlight) → Fits standing slot → slot.flight ≡ Some flight → (next_plan standing).at < 255
+pub may_meddle : (standing : Standing) (slot : CodeSlot) (flight : CodeFlight) → Fits standing slot → slot.flight ≡ Some flight
+    → (next_plan standing).at < 255
 may_meddle standing slot (code.Asks asking) fits some =
     let a = (asking_of standing slot asking (some_flight standing slot (code.Asks asking) some fits)).flies in
     may_take_in standing (plan_by Quiet (next_plan standing).meddles) a.made a.flies.planned a.flies.few
@@ -195,25 +227,30 @@ may_meddle standing slot (code.Closes closing) fits some =
     let a = (closing_of standing slot closing (some_flight standing slot (code.Closes closing) some fits)).flies in
     may_take_in standing (plan_by Quiet (next_plan standing).meddles) a.made a.flies.planned a.flies.few
 
-pub extends_flying : (old new : Standing) (slot : CodeSlot) (flight : CodeFlight) (value : Digest) → Fits old slot → slot.flight ≡ Some flight
+pub extends_flying : (old new : Standing) (slot : CodeSlot) (flight : CodeFlight) (value : Digest) → Fits old slot
+    → slot.flight ≡ Some flight
     → new ≡ record old { plan = option_map (meddling value) old.plan }
     → Comes new slot slot (acted (instance_in slot) (slot_in old slot) (action.Extend value)) (Replied reply.Extended)
 extends_flying old new slot (code.Asks asking) value fits some e =
     let f = asking_of old slot asking (some_flight old slot (code.Asks asking) some fits) in
     let a = f.flies in
     let p = next_plan old in
-    let known : p ≡ record (plan_by Quiet p.meddles) { at = a.made } = plan_is old (record (plan_by Quiet p.meddles) { at = a.made }) a.flies.planned in
+    let known : p ≡ record (plan_by Quiet p.meddles) { at = a.made } = plan_is old (record (plan_by Quiet p.meddles) { at = a.made })
+    a.flies.planned in
     let key = rising_from slot.number in
     let barrier = rising_from (128 + slot.number) in
     let cell : new.cell ≡ old.cell = ap (λ (x : Standing). x.cell) e in
     let plan : next_plan new ≡ record p { stop = Quiet; meddles = meddled p.meddles (p.at + 1) value } =
     meddled_plan old new p.meddles a.made (p.at + 1) value a.flies.planned a.flies.few a.is_next e
     ∙ ap (λ (n : ℕ). record (plan_by Quiet (meddled p.meddles (p.at + 1) value)) { at = n }) (sym (ap (λ (q : Plan). q.at) known)) in
-    let taken = asks_take_in slot.header.variant (meaning_of slot.header.«module») key barrier (digests_in old slot) f.from asking.call old new p.meddles (p.at + 1)
+    let taken = asks_take_in slot.header.variant (meaning_of slot.header.«module») key barrier (digests_in old slot) f.from asking.call old
+    new p.meddles (p.at + 1)
     asking.bytes (One asking.request) value a e in
     let d : digests_in new slot ≡ digests_in old slot =
     (λ j. record { digest = digest_in (cell j); flag = flag_in (cell j); register = slot.register.bytes; count = slot.committed }) in
-    let P : Digests → Plan → Type 0 = λ x q. AsksInFlight slot.header.variant (meaning_of slot.header.«module») key barrier x f.from asking.call new q.meddles (q.at + 1)
+    let P : Digests → Plan
+    → Type 0 = λ x q. AsksInFlight slot.header.variant (meaning_of slot.header.«module») key barrier x f.from asking.call new q.meddles
+    (q.at + 1)
     asking.bytes (One asking.request) in
     let flies = subst (λ (q : Plan). P (digests_in new slot) q) (sym plan)
     (subst (λ (x : Digests). P x (record p { stop = Quiet; meddles = meddled p.meddles (p.at + 1) value })) (sym d) taken) in
@@ -224,17 +261,21 @@ extends_flying old new slot (code.Closes closing) value fits some e =
     let f = closing_of old slot closing (some_flight old slot (code.Closes closing) some fits) in
     let a = f.flies in
     let p = next_plan old in
-    let known : p ≡ record (plan_by Quiet p.meddles) { at = a.made } = plan_is old (record (plan_by Quiet p.meddles) { at = a.made }) a.flies.planned in
+    let known : p ≡ record (plan_by Quiet p.meddles) { at = a.made } = plan_is old (record (plan_by Quiet p.meddles) { at = a.made })
+    a.flies.planned in
     let key = rising_from slot.number in
     let barrier = rising_from (128 + slot.number) in
     let cell : new.cell ≡ old.cell = ap (λ (x : Standing). x.cell) e in
     let plan : next_plan new ≡ record p { stop = Quiet; meddles = meddled p.meddles (p.at + 1) value } =
     meddled_plan old new p.meddles a.made (p.at + 1) value a.flies.planned a.flies.few a.is_next e
     ∙ ap (λ (n : ℕ). record (plan_by Quiet (meddled p.meddles (p.at + 1) value)) { at = n }) (sym (ap (λ (q : Plan). q.at) known)) in
-    let taken = closes_take_in slot.header.variant (meaning_of slot.header.«module») key barrier (digests_in old slot) f.from closing.call old new p.meddles (p.at + 1) value a e in
+    let taken = closes_take_in slot.header.variant (meaning_of slot.header.«module») key barrier (digests_in old slot) f.from closing.call
+    old new p.meddles (p.at + 1) value a e in
     let d : digests_in new slot ≡ digests_in old slot =
     (λ j. record { digest = digest_in (cell j); flag = flag_in (cell j); register = slot.register.bytes; count = slot.committed }) in
-    let P : Digests → Plan → Type 0 = λ x q. ClosesInFlight slot.header.variant (meaning_of slot.header.«module») key barrier x f.from closing.call new q.meddles (q.at + 1) in
+    let P : Digests → Plan
+    → Type 0 = λ x q. ClosesInFlight slot.header.variant (meaning_of slot.header.«module») key barrier x f.from closing.call new
+    q.meddles (q.at + 1) in
     let flies = subst (λ (q : Plan). P (digests_in new slot) q) (sym plan)
     (subst (λ (x : Digests). P x (record p { stop = Quiet; meddles = meddled p.meddles (p.at + 1) value })) (sym d) taken) in
     joins_comes old new slot (code.Closes closing) value some cell plan
@@ -246,7 +287,8 @@ extends_flying old new slot (code.Closes closing) value fits some e =
 abbrev none_left : List Item → List Item
 none_left items = []
 
-emptied : (items : Option (List Item)) (value : List ℕ) → option_map (λ xs. register_after (item_values xs)) (option_map none_left items) ≡ Some value
+emptied : (items : Option (List Item)) (value : List ℕ)
+    → option_map (λ xs. register_after (item_values xs)) (option_map none_left items) ≡ Some value
     → option_map none_left items ≡ Some []
 emptied None value e = cc
 emptied (Some xs) value e = refl
@@ -256,19 +298,23 @@ stood : (standing : Standing) (slot : CodeSlot) (flight : Option CodeFlight) →
     → (from : Standing) × Stands (instance_in slot) from (digests_in standing slot) × (from.cell ≡ standing.cell)
 stood standing slot None none fits = let at = idle standing slot none fits in (standing, at.0, refl)
 stood standing slot (Some (code.Asks asking)) some fits =
-    let f = asking_of standing slot asking (some_flight standing slot (code.Asks asking) some fits) in (f.from, f.flies.stands, sym f.flies.flies.cell)
+    let f = asking_of standing slot asking (some_flight standing slot (code.Asks asking) some fits)
+    in (f.from, f.flies.stands, sym f.flies.flies.cell)
 stood standing slot (Some (code.Closes closing)) some fits =
-    let f = closing_of standing slot closing (some_flight standing slot (code.Closes closing) some fits) in (f.from, f.flies.stands, sym f.flies.flies.cell)
+    let f = closing_of standing slot closing (some_flight standing slot (code.Closes closing) some fits)
+    in (f.from, f.flies.stands, sym f.flies.flies.cell)
 
 items_told : (from : Standing) (value : List ℕ) → register_reads from ≡ Some value → option_map none_left from.items ≡ Some []
 items_told from value e = by_items from.items e
   where
-    by_items : (items : Option (List Item)) → option_map (λ xs. register_after (item_values xs)) items ≡ Some value → option_map none_left items ≡ Some []
+    by_items : (items : Option (List Item)) → option_map (λ xs. register_after (item_values xs)) items ≡ Some value
+        → option_map none_left items ≡ Some []
     by_items None e = cc
     by_items (Some xs) e = refl
 
 pub loses : (old new : Standing) (slot slot' : CodeSlot) → Fits old slot → new ≡ record (cycled old) { plan = Some quiet_plan }
-    → slot'.header ≡ slot.header → slot'.number ≡ slot.number → slot'.committed ≡ slot.committed → slot'.flight ≡ None → slot'.kept ≡ slot.kept
+    → slot'.header ≡ slot.header → slot'.number ≡ slot.number → slot'.committed ≡ slot.committed → slot'.flight ≡ None
+    → slot'.kept ≡ slot.kept
     → slot'.issued.items ≡ slot.issued.items → HasRegister new slot' → Loses old new slot slot'
 loses old new slot slot' fits e h n c none k issued r =
     let i = instance_in slot in
@@ -276,14 +322,24 @@ loses old new slot slot' fits e h n c none k issued r =
     let at = stood old slot slot.flight refl fits in
     let from = at.0 in
     let after = made i d PowerMove in
-    let items : new.items ≡ Some [] = ap (λ (x : Standing). x.items) e ∙ emptied old.items slot'.register.bytes (sym (ap register_reads e) ∙ r) in
-    let there : Stands i new after = stands_settled i d from new true at.1 (ap (λ (x : Standing). x.cell) e ∙ sym at.2) (items ∙ sym (items_told from d.register at.1.register)) in
+    let items : new.items ≡ Some [] = ap (λ (x : Standing). x.items) e
+    ∙ emptied old.items slot'.register.bytes (sym (ap register_reads e) ∙ r) in
+    let there : Stands i new after = stands_settled i d from new true at.1 (ap (λ (x : Standing). x.cell) e ∙ sym at.2)
+    (items ∙ sym (items_told from d.register at.1.register)) in
     let mine = subst (λ (j : Instance). Stands j new after) (λ j. slot_instance (sym h j) (sym n j)) there in
     let quiet : IsQuiet new = subst IsQuiet (sym e) (record { is_on = refl; plan = refl }) in
     let kept = k ∙ fits.kept ∙ ap (λ (x : List (List ℕ)). within_64 (sum_by length x)) (sym issued) in
     let digests : digests_in new slot' ≡ after = mine_are new slot' after mine r ∙ (λ j. record after { count = c j }) in
     record {
-      goes = record { fits = settled new slot' after none mine quiet r kept; header = h; number = n; few = omega (arith, c); short = omega (arith, ap length issued) };
+      goes =
+          record {
+            fits = settled new slot' after none mine quiet r kept;
+            header = h;
+            number = n;
+            few = omega (arith, c);
+            short = omega
+                (arith, ap length issued);
+          };
       stands = λ j. record { digests = digests j; issued = issued j; flight = ap (flight_in (next_plan new)) none j };
       same = c;
     }

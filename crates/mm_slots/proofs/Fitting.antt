@@ -49,13 +49,16 @@ mine_are standing slot d s r =
     }
 
 -- a slot with no call in flight
-pub settled : (standing : Standing) (slot : CodeSlot) (d : Digests) → slot.flight ≡ None → Stands (instance_in slot) standing d → IsQuiet standing
+pub settled : (standing : Standing) (slot : CodeSlot) (d : Digests) → slot.flight ≡ None → Stands (instance_in slot) standing d
+    → IsQuiet standing
     → HasRegister standing slot → slot.kept ≡ within_64 (sum_by length slot.issued.items) → Fits standing slot
 settled standing slot d none s q r kept =
-    let stands = subst (λ (x : Digests). Stands (instance_in slot) standing x) (sym (mine_are standing slot d s r)) (counting (instance_in slot) d standing slot.committed s) in
+    let stands = subst (λ (x : Digests). Stands (instance_in slot) standing x) (sym (mine_are standing slot d s r))
+    (counting (instance_in slot) d standing slot.committed s) in
     record {
       flight = subst
-          (λ (f : Option CodeFlight). FitsFlight slot.header slot.number (digests_in standing slot) slot.issued.items (vec_capacity slot.issued) standing f) (sym none)
+          (λ (f : Option CodeFlight). FitsFlight slot.header slot.number (digests_in standing slot) slot.issued.items
+          (vec_capacity slot.issued) standing f) (sym none)
           (stands, q);
       kept = kept;
     }
@@ -63,13 +66,15 @@ settled standing slot d none s q r kept =
 pub idle : (standing : Standing) (slot : CodeSlot) → slot.flight ≡ None → Fits standing slot
     → Stands (instance_in slot) standing (digests_in standing slot) × IsQuiet standing
 idle standing slot none f =
-    subst (λ (x : Option CodeFlight). FitsFlight slot.header slot.number (digests_in standing slot) slot.issued.items (vec_capacity slot.issued) standing x) none f.flight
+    subst (λ (x : Option CodeFlight). FitsFlight slot.header slot.number (digests_in standing slot) slot.issued.items
+    (vec_capacity slot.issued) standing x) none f.flight
 
 pub same_instance : (slot slot' : CodeSlot) → slot'.header ≡ slot.header → slot'.number ≡ slot.number → instance_in slot' ≡ instance_in slot
 same_instance slot slot' h n = ap (λ (x : Header). slot_instance x slot'.number) h ∙ ap (λ (x : ℕ). slot_instance slot.header x) n
 
 -- the bytes that are kept, with one more snapshot
-sum_more : (issued : List (List ℕ)) (snapshot : Option (List ℕ)) → sum_by length (issued ++ option_to_list snapshot) ≡ sum_by length issued + length_if snapshot
+sum_more : (issued : List (List ℕ)) (snapshot : Option (List ℕ))
+    → sum_by length (issued ++ option_to_list snapshot) ≡ sum_by length issued + length_if snapshot
 sum_more issued None = sum_by-append length issued []
 sum_more issued (Some bytes) =
     let one : sum_by length (bytes ∷ []) ≡ length bytes = omega arith in
@@ -93,7 +98,8 @@ pub printable_in : (slot : CodeSlot) (s : Slot) (event : Event) → IsPrintable 
 printable_in slot s event =
     let key = rising_from slot.number in
     let barrier = rising_from (128 + slot.number) in
-    let lawful = subst IsLawful (sym (meaning_by slot.header.variant (meaning_of slot.header.«module») key barrier)) (any_is_lawful slot.header.«module») in
+    let lawful = subst IsLawful (sym (meaning_by slot.header.variant (meaning_of slot.header.«module») key barrier))
+    (any_is_lawful slot.header.«module») in
     printable (instance_in slot) lawful s.digests s.issued event
 
 -- A call is over: the slot stands as its event says.
@@ -112,8 +118,10 @@ over_comes slot slot' flight old from new event it said none kept few c e =
     let same = same_instance slot slot' e.header e.number in
     let stands = subst (λ (x : Instance). Stands x new o.state) (sym same) c.stands in
     let idle = e.flight ∙ none in
-    let kept' = subst (λ (x : List (List ℕ)). slot'.kept ≡ within_64 (sum_by length x)) (sym e.issued) (kept_more slot.kept slot'.kept slot.issued.items it.snapshot kept e.kept) in
-    let digests : digests_in new slot' ≡ o.state = mine_are new slot' o.state stands e.register ∙ (λ j. record o.state { count = committed j }) in
+    let kept' = subst (λ (x : List (List ℕ)). slot'.kept ≡ within_64 (sum_by length x)) (sym e.issued)
+    (kept_more slot.kept slot'.kept slot.issued.items it.snapshot kept e.kept) in
+    let digests : digests_in new slot' ≡ o.state = mine_are new slot' o.state stands e.register
+    ∙ (λ j. record o.state { count = committed j }) in
     let issued : slot'.issued.items ≡ o.issued = e.issued ∙ c.issues in
     let ends : flight_in (next_plan new) slot'.flight ≡ None = ap (flight_in (next_plan new)) idle in
     record {
@@ -129,26 +137,6 @@ over_comes slot slot' flight old from new event it said none kept few c e =
       sayable = subst IsSayable (sym e.says) (subst IsPrintable (sym c.reply) (printable_in slot s event));
     }
 
--- the same slot: nothing has happened in it, but that something was said
-pub unchanged : (standing : Standing) (slot slot' : CodeSlot) (it : Turned) (said : Said) → Fits standing slot' → KeepsSlot slot slot'
-    → slot'.issued.items ≡ slot.issued.items → it.slot ≡ slot_in standing slot → it.said ≡ said ∷ [] → IsSayable said
-    → Comes standing slot slot' it said
-unchanged standing slot slot' it said fits k issued stands says sayable = record {
-  goes = record { fits = fits; header = k.header; number = k.number; few = omega (arith, k.committed); short = omega (arith, ap length issued) };
-  stands = (λ j. record {
-    digests = record {
-      digest = digest_in standing.cell;
-      flag = flag_in standing.cell;
-      register = ap (λ x. x.bytes) k.register j;
-      count = k.committed j;
-    };
-    issued = issued j;
-    flight = flight_in (next_plan standing) (k.flight j);
-  }) ∙ sym stands;
-  says = says;
-  sayable = sayable;
-}
-
 -- no call is in flight in a slot that is the same but for the room of its snapshots
 pub still_fits : (standing : Standing) (slot slot' : CodeSlot) → slot.flight ≡ None → Fits standing slot → KeepsSlot slot slot'
     → slot'.issued.items ≡ slot.issued.items → slot'.kept ≡ slot.kept → Fits standing slot'
@@ -163,7 +151,8 @@ still_fits standing slot slot' none f k issued kept =
     }) in
     record {
       flight = subst
-          (λ (x : Option CodeFlight). FitsFlight slot'.header slot'.number (digests_in standing slot') slot'.issued.items (vec_capacity slot'.issued) standing x)
+          (λ (x : Option CodeFlight). FitsFlight slot'.header slot'.number (digests_in standing slot') slot'.issued.items
+          (vec_capacity slot'.issued) standing x)
           (sym (k.flight ∙ none)) (
             subst (λ (i : Instance). Stands i standing (digests_in standing slot')) (sym same)
                 (subst (λ (d : Digests). Stands (instance_in slot) standing d) (sym digests) at.0),
@@ -171,16 +160,3 @@ still_fits standing slot slot' none f k issued kept =
           );
       kept = kept ∙ f.kept ∙ ap (λ (x : List (List ℕ)). within_64 (sum_by length x)) (sym issued);
     }
-
-pub same_slot : (slot : CodeSlot) → KeepsSlot slot slot
-same_slot slot = record { header = refl; number = refl; committed = refl; register = refl; flight = refl }
-
-pub goes_on_same : (standing : Standing) (slot slot' : CodeSlot) → slot.flight ≡ None → Fits standing slot → KeepsSlot slot slot'
-    → slot'.issued.items ≡ slot.issued.items → slot'.kept ≡ slot.kept → GoesOn standing slot slot'
-goes_on_same standing slot slot' none f k issued kept = record {
-  fits = still_fits standing slot slot' none f k issued kept;
-  header = k.header;
-  number = k.number;
-  few = omega (arith, k.committed);
-  short = omega (arith, ap length issued);
-}

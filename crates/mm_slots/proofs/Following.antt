@@ -30,12 +30,6 @@ power_follows events n standings standings' slots slots' past fit l =
       fit = all_more events (events + 1) standings' slots' (omega arith) l.fit;
     }
 
--- by whether a call was cut
-pub cut_loses : (events but : ℕ) (standings standings' : List Standing) (slots slots' : List CodeSlot)
-    → LosesAll events but standings standings' slots slots'
-    → LosesIf events but true standings standings' slots slots'
-cut_loses events but standings standings' slots slots' l = record { rows = l.rows; fit = l.fit }
-
 pub uncut_loses : (events but : ℕ) (cuts : Bool) (standings : List Standing) (slots : List CodeSlot) → cuts ≡ false
     → AllFit events standings slots
     → LosesIf events but cuts standings standings slots slots
@@ -81,20 +75,3 @@ cuts_at events number what standings slots dc cuts few fit is =
     is (get_or standings number ds)
     ∙ sym (ap (λ (found : Option Row). option_map_or (λ (r : Row). is_cut r.slot.flight what) found false)
     (get_row number standings slots ds dc there few))
-
--- the answer to an event, as text
-pub answers_power : (events : ℕ) (standings standings' : List Standing) (slots slots' : List CodeSlot) (text : List ℕ)
-    → text ≡ answer_text PowerLost
-    → Follows events Power standings standings' slots slots' → Answers events Power standings standings' slots slots' text
-answers_power events standings standings' slots slots' text is f =
-    record { follows = f; answers = is ∙ sym (append-nil (answer_text PowerLost)) }
-
-pub answers_action : (events number : ℕ) (what : Action) (standings standings' : List Standing) (slots slots' : List CodeSlot)
-    (said : Said) (text : List ℕ)
-    → text ≡ answer_text (Says number said) → Tells events number what standings standings' slots slots' said
-    → Answers events (At number what) standings standings' slots slots' text
-answers_action events number what standings standings' slots slots' said text is t = record {
-  follows = t.follows;
-  answers = is ∙ sym (append-nil (answer_text (Says number said)))
-      ∙ ap (λ (all : List Said). answers_text (map (Says number) all)) (sym t.says);
-}

@@ -23,7 +23,8 @@ pub one_more : (before now : List Standing) (i : ℕ) (n x : Standing) → i < l
 one_more before now i n x few few' is are =
     let both : get_or now i x ∷ drop (i + 1) now ≡ get_or before i x ∷ drop (i + 1) before =
     sym (drop_more now i x few) ∙ are.1 ∙ drop_more before i x few' in
-    let same : get_or now i x ≡ get_or before i x = heads (get_or now i x) (get_or before i x) (drop (i + 1) now) (drop (i + 1) before) both in (
+    let same : get_or now i x ≡ get_or before i x = heads (get_or now i x) (get_or before i x) (drop (i + 1) now) (drop (i + 1) before) both
+    in (
       take_more_set now i n few ∙ ap (λ (front : List Standing). front ++ n ∷ []) are.0
           ∙ ap (λ (y : Standing). map cycled (take i before) ++ y ∷ []) (is ∙ ap cycled same)
           ∙ sym (map-append cycled (take i before) (get_or before i x ∷ [])) ∙ ap (map cycled) (sym (take_more before i x few')),
@@ -52,6 +53,8 @@ cycles old = record {
   told = λ _. refl;
 }
 
-pub cycles_selected : (old new : Slots) → new ≡ all_cycled old → old.selected < length old.slots → Cycles (selected_of old) (selected_of new) None
+pub cycles_selected : (old new : Slots) → new ≡ all_cycled old → old.selected < length old.slots
+    → Cycles (selected_of old) (selected_of new) None
 cycles_selected old new is inside =
-    subst (λ (s : Standing). Cycles (selected_of old) s None) (sym (ap selected_of is ∙ selected_cycled old inside)) (cycles (selected_of old))
+    subst (λ (s : Standing). Cycles (selected_of old) s None) (sym (ap selected_of is ∙ selected_cycled old inside))
+    (cycles (selected_of old))

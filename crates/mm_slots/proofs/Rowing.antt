@@ -42,7 +42,8 @@ pub touched_same : (f g : ℕ → List Met) (rows : List Row) → ((k : ℕ) →
 touched_same f g rows same = same_from f g 0 rows (λ k low high. same k (omega (arith, high)))
 
 -- none meets anything
-untouched_from : (f : ℕ → List Met) (place : ℕ) (rows : List Row) → ((k : ℕ) → place ≤ k → f k ≡ []) → by_place (λ k row. row_after row (f k)) place rows ≡ rows
+untouched_from : (f : ℕ → List Met) (place : ℕ) (rows : List Row) → ((k : ℕ) → place ≤ k → f k ≡ [])
+    → by_place (λ k row. row_after row (f k)) place rows ≡ rows
 untouched_from f place [] none = refl
 untouched_from f place (row ∷ rows) none =
     let here : f place ≡ [] = none place (omega arith) in
@@ -50,7 +51,8 @@ untouched_from f place (row ∷ rows) none =
     λ j. row_after row (here j) ∷ there j
 
 -- one slot is another one, and the rest as before
-set_from : (f : ℕ → List Met) (place n : ℕ) (standings : List Standing) (slots : List CodeSlot) (s : Standing) (c : CodeSlot) (ds : Standing) (dc : CodeSlot)
+set_from : (f : ℕ → List Met) (place n : ℕ) (standings : List Standing) (slots : List CodeSlot) (s : Standing) (c : CodeSlot)
+    (ds : Standing) (dc : CodeSlot)
     → n < length standings → n < length slots
     → row_in s c ≡ row_after (row_in (get_or standings n ds) (get_or slots n dc)) (f (place + n))
     → ((k : ℕ) → place ≤ k → (k ≡ place + n → ⊥) → f k ≡ [])
@@ -59,7 +61,8 @@ set_from f place n [] slots s c ds dc few few' here others = absurd (omega (arit
 set_from f place n (x ∷ standings) [] s c ds dc few few' here others = absurd (omega (arith, few'))
 set_from f place zero (x ∷ standings) (y ∷ slots) s c ds dc few few' here others =
     let at : f (place + 0) ≡ f place = ap f (omega arith) in
-    let rest = untouched_from f (place + 1) (rows_in standings slots) (λ k low. others k (omega (arith, low)) (λ e. omega (arith, low, e))) in
+    let rest = untouched_from f (place + 1) (rows_in standings slots) (λ k low. others k (omega (arith, low)) (λ e. omega (arith, low, e)))
+    in
     λ j. (here ∙ ap (λ ms. row_after (row_in x y) ms) at) j ∷ sym rest j
 set_from f place (suc n) (x ∷ standings) (y ∷ slots) s c ds dc few few' here others =
     let none : f place ≡ [] = others place (omega arith) (λ e. omega (arith, e)) in
@@ -75,7 +78,8 @@ only_there n met k other = rw (ne_eqb k n other) refl
 only_here : (n : ℕ) (met : Met) → only_at n met n ≡ met ∷ []
 only_here n met = rw (eq-eqb n n refl) refl
 
-pub set_rows : (n : ℕ) (met : Met) (standings : List Standing) (slots : List CodeSlot) (s : Standing) (c : CodeSlot) (ds : Standing) (dc : CodeSlot)
+pub set_rows : (n : ℕ) (met : Met) (standings : List Standing) (slots : List CodeSlot) (s : Standing) (c : CodeSlot) (ds : Standing)
+    (dc : CodeSlot)
     → n < length standings → n < length slots → row_in s c ≡ row_after (row_in (get_or standings n ds) (get_or slots n dc)) (met ∷ [])
     → rows_in (slice_set standings n s) (slice_set slots n c) ≡ touched (only_at n met) (rows_in standings slots)
 set_rows n met standings slots s c ds dc few few' here =
@@ -85,17 +89,21 @@ set_rows n met standings slots s c ds dc few few' here =
     (λ k low other. only_there n met k (λ e. other (omega (arith, e))))
 
 -- each slot fits, and so does the one that is new
-within_more : (events more : ℕ) (standing : Standing) (slot : CodeSlot) → events ≤ more → FitsWithin events standing slot → FitsWithin more standing slot
-within_more events more standing slot less f = record { fits = f.fits; few = omega (arith, less, f.few); short = omega (arith, less, f.short) }
+within_more : (events more : ℕ) (standing : Standing) (slot : CodeSlot) → events ≤ more → FitsWithin events standing slot
+    → FitsWithin more standing slot
+within_more events more standing slot less f =
+    record { fits = f.fits; few = omega (arith, less, f.few); short = omega (arith, less, f.short) }
 
-pub all_more : (events more : ℕ) (standings : List Standing) (slots : List CodeSlot) → events ≤ more → AllFit events standings slots → AllFit more standings slots
+pub all_more : (events more : ℕ) (standings : List Standing) (slots : List CodeSlot) → events ≤ more → AllFit events standings slots
+    → AllFit more standings slots
 all_more events more [] [] less fit = tt
 all_more events more [] (slot ∷ slots) less fit = fit
 all_more events more (standing ∷ standings) [] less fit = fit
 all_more events more (standing ∷ standings) (slot ∷ slots) less fit =
     (within_more events more standing slot less fit.0, all_more events more standings slots less fit.1)
 
-pub set_fit : (events more n : ℕ) (standings : List Standing) (slots : List CodeSlot) (s : Standing) (c : CodeSlot) → events ≤ more → AllFit events standings slots → FitsWithin more s c
+pub set_fit : (events more n : ℕ) (standings : List Standing) (slots : List CodeSlot) (s : Standing) (c : CodeSlot) → events ≤ more
+    → AllFit events standings slots → FitsWithin more s c
     → AllFit more (slice_set standings n s) (slice_set slots n c)
 set_fit events more n [] [] s c less fit new = tt
 set_fit events more n [] (slot ∷ slots) s c less fit new = absurd fit
@@ -104,7 +112,8 @@ set_fit events more zero (standing ∷ standings) (slot ∷ slots) s c less fit 
 set_fit events more (suc n) (standing ∷ standings) (slot ∷ slots) s c less fit new =
     (within_more events more standing slot less fit.0, set_fit events more n standings slots s c less fit.1 new)
 
-pub fit_at : (events n : ℕ) (standings : List Standing) (slots : List CodeSlot) (ds : Standing) (dc : CodeSlot) → n < length slots → AllFit events standings slots
+pub fit_at : (events n : ℕ) (standings : List Standing) (slots : List CodeSlot) (ds : Standing) (dc : CodeSlot) → n < length slots
+    → AllFit events standings slots
     → FitsWithin events (get_or standings n ds) (get_or slots n dc)
 fit_at events n [] [] ds dc few fit = absurd (omega (arith, few))
 fit_at events n [] (slot ∷ slots) ds dc few fit = absurd fit
@@ -112,32 +121,38 @@ fit_at events n (standing ∷ standings) [] ds dc few fit = absurd fit
 fit_at events zero (standing ∷ standings) (slot ∷ slots) ds dc few fit = fit.0
 fit_at events (suc n) (standing ∷ standings) (slot ∷ slots) ds dc few fit = fit_at events n standings slots ds dc (omega (arith, few)) fit.1
 
-pub same_length : (events : ℕ) (standings : List Standing) (slots : List CodeSlot) → AllFit events standings slots → length standings ≡ length slots
+pub same_length : (events : ℕ) (standings : List Standing) (slots : List CodeSlot) → AllFit events standings slots
+    → length standings ≡ length slots
 same_length events [] [] fit = refl
 same_length events [] (slot ∷ slots) fit = absurd fit
 same_length events (standing ∷ standings) [] fit = absurd fit
 same_length events (standing ∷ standings) (slot ∷ slots) fit = ap (λ (n : ℕ). suc n) (same_length events standings slots fit.1)
 
 -- the row of a slot
-pub get_row : (n : ℕ) (standings : List Standing) (slots : List CodeSlot) (ds : Standing) (dc : CodeSlot) → n < length standings → n < length slots
+pub get_row : (n : ℕ) (standings : List Standing) (slots : List CodeSlot) (ds : Standing) (dc : CodeSlot) → n < length standings
+    → n < length slots
     → slice_get (rows_in standings slots) n ≡ Some (row_in (get_or standings n ds) (get_or slots n dc))
 get_row n [] slots ds dc few few' = absurd (omega (arith, few))
 get_row n (standing ∷ standings) [] ds dc few few' = absurd (omega (arith, few'))
 get_row zero (standing ∷ standings) (slot ∷ slots) ds dc few few' = refl
-get_row (suc n) (standing ∷ standings) (slot ∷ slots) ds dc few few' = get_row n standings slots ds dc (omega (arith, few)) (omega (arith, few'))
+get_row (suc n) (standing ∷ standings) (slot ∷ slots) ds dc few few' =
+    get_row n standings slots ds dc (omega (arith, few)) (omega (arith, few'))
 
 -- the row of a slot that went on
 row_on : (new : Standing) (slot slot' : CodeSlot) (s t : Slot) → GoesOn new slot slot' → slot_in new slot' ≡ t
     → row_in new slot' ≡ record { header = slot.header; number = slot.number; slot = t }
 row_on new slot slot' s t g stands = λ j. record { header = g.header j; number = g.number j; slot = stands j }
 
-few_on : (events : ℕ) (old new : Standing) (slot slot' : CodeSlot) → FitsWithin events old slot → GoesOn new slot slot' → FitsWithin (events + 1) new slot'
+few_on : (events : ℕ) (old new : Standing) (slot slot' : CodeSlot) → FitsWithin events old slot → GoesOn new slot slot'
+    → FitsWithin (events + 1) new slot'
 few_on events old new slot slot' f g = record { fits = g.fits; few = omega (arith, f.few, g.few); short = omega (arith, f.short, g.short) }
 
 -- something happened in the slot with this number
-pub acts_at : (events number : ℕ) (what : Action) (standings standings' : List Standing) (slots slots' : List CodeSlot) (new : Standing) (slot' : CodeSlot) (said : Said)
+pub acts_at : (events number : ℕ) (what : Action) (standings standings' : List Standing) (slots slots' : List CodeSlot) (new : Standing)
+    (slot' : CodeSlot) (said : Said)
     (ds : Standing) (dc : CodeSlot)
-    → standings' ≡ slice_set standings number new → slots' ≡ slice_set slots number slot' → number < length slots → AllFit events standings slots
+    → standings' ≡ slice_set standings number new → slots' ≡ slice_set slots number slot' → number < length slots
+    → AllFit events standings slots
     → (let s = get_or standings number ds in
     let c = get_or slots number dc in
     Comes new c slot' (acted (instance_in c) (slot_in s c) what) said → ActsAt events number what standings standings' slots slots' said)
@@ -152,23 +167,30 @@ acts_at events number what standings standings' slots slots' new slot' said ds d
       fit = subst (λ (x : List Standing). AllFit (events + 1) x slots') (sym ps)
           (subst (λ (x : List CodeSlot). AllFit (events + 1) (slice_set standings number new) x) (sym cs)
           (set_fit events (events + 1) number standings slots new slot' (omega arith) fit (few_on events s new slot slot' here c.goes)));
-      says = ap (λ (found : Option Row). option_map_or (λ (r : Row). (acted (instance_of r) r.slot what).said) found []) (get_row number standings slots ds dc there few) ∙ c.says;
+      says =
+          ap (λ (found : Option Row). option_map_or (λ (r : Row). (acted (instance_of r) r.slot what).said) found [])
+          (get_row number standings slots ds dc there few) ∙ c.says;
       sayable = c.sayable;
     }
 
 -- or memory was wanting
-pub lacks_at : (events number : ℕ) (standings standings' : List Standing) (slots slots' : List CodeSlot) (new : Standing) (slot' : CodeSlot) (ds : Standing) (dc : CodeSlot)
-    → standings' ≡ slice_set standings number new → slots' ≡ slice_set slots number slot' → number < length slots → AllFit events standings slots
+pub lacks_at : (events number : ℕ) (standings standings' : List Standing) (slots slots' : List CodeSlot) (new : Standing) (slot' : CodeSlot)
+    (ds : Standing) (dc : CodeSlot)
+    → standings' ≡ slice_set standings number new → slots' ≡ slice_set slots number slot' → number < length slots
+    → AllFit events standings slots
     → GoesOn new (get_or slots number dc) slot' → AllFit (events + 1) standings' slots'
 lacks_at events number standings standings' slots slots' new slot' ds dc ps cs few fit g =
     let here = fit_at events number standings slots ds dc few fit in
     subst (λ (x : List Standing). AllFit (events + 1) x slots') (sym ps)
     (subst (λ (x : List CodeSlot). AllFit (events + 1) (slice_set standings number new) x) (sym cs)
-    (set_fit events (events + 1) number standings slots new slot' (omega arith) fit (few_on events (get_or standings number ds) new (get_or slots number dc) slot' here g)))
+    (set_fit events (events + 1) number standings slots new slot' (omega arith) fit
+    (few_on events (get_or standings number ds) new (get_or slots number dc) slot' here g)))
 
 -- the slot with this number lost its power
-pub loses_at : (events number : ℕ) (standings standings' : List Standing) (slots slots' : List CodeSlot) (new : Standing) (slot' : CodeSlot) (ds : Standing) (dc : CodeSlot)
-    → standings' ≡ slice_set standings number new → slots' ≡ slice_set slots number slot' → number < length slots → AllFit events standings slots
+pub loses_at : (events number : ℕ) (standings standings' : List Standing) (slots slots' : List CodeSlot) (new : Standing) (slot' : CodeSlot)
+    (ds : Standing) (dc : CodeSlot)
+    → standings' ≡ slice_set standings number new → slots' ≡ slice_set slots number slot' → number < length slots
+    → AllFit events standings slots
     → Lost (get_or standings number ds) new (get_or slots number dc) slot' → LosesAt events number standings standings' slots slots'
 loses_at events number standings standings' slots slots' new slot' ds dc ps cs few fit l =
     let s = get_or standings number ds in
@@ -181,12 +203,18 @@ loses_at events number standings standings' slots slots' new slot' ds dc ps cs f
       fit = subst (λ (x : List Standing). AllFit events x slots') (sym ps)
           (subst (λ (x : List CodeSlot). AllFit events (slice_set standings number new) x) (sym cs)
           (set_fit events events number standings slots new slot' (omega arith) fit
-          (record { fits = l.goes.fits; few = omega (arith, l.same, here.few); short = omega (arith, ap (λ (x : Slot). length x.issued) l.stands, here.short) })));
+          (record {
+            fits = l.goes.fits;
+            few = omega (arith, l.same, here.few);
+            short = omega
+                (arith, ap (λ (x : Slot). length x.issued) l.stands, here.short);
+          })));
     }
 
 -- all slots but one lose their power, one after another
 
-pub rows_length : (events : ℕ) (standings : List Standing) (slots : List CodeSlot) → AllFit events standings slots → length (rows_in standings slots) ≡ length slots
+pub rows_length : (events : ℕ) (standings : List Standing) (slots : List CodeSlot) → AllFit events standings slots
+    → length (rows_in standings slots) ≡ length slots
 rows_length events [] [] fit = refl
 rows_length events [] (slot ∷ slots) fit = absurd fit
 rows_length events (standing ∷ standings) [] fit = absurd fit
@@ -194,18 +222,6 @@ rows_length events (standing ∷ standings) (slot ∷ slots) fit = ap (λ (n : �
 
 pub untouched : (rows : List Row) → touched (λ _. []) rows ≡ rows
 untouched rows = untouched_from (λ _. []) 0 rows (λ k low. refl)
-
-other_loses : (but number k : ℕ) (here is : Bool) → (number == but) ≡ false → (k == number) ≡ here → only_at number Loses k ≡ cond here (others_lose but number) []
-other_loses but number k true is none own = rw (own, none) refl
-other_loses but number k false is none own = rw own refl
-
-pub loses_other : (events number but : ℕ) (standings standings' : List Standing) (slots slots' : List CodeSlot) → (number ≡ but → ⊥)
-    → LosesAt events number standings standings' slots slots' → LosesUnless events number but standings standings' slots slots'
-loses_other events number but standings standings' slots slots' other l = record {
-  rows = l.rows ∙ touched_same (only_at number Loses) (λ k. cond (k == number) (others_lose but number) []) (rows_in standings slots)
-      (λ k few. other_loses but number k (k == number) true (ne_eqb number but other) refl);
-  fit = l.fit;
-}
 
 none_lost : (but number k : ℕ) (here : Bool) → (number == but) ≡ true → (k == number) ≡ here → cond here (others_lose but number) [] ≡ []
 none_lost but number k true same own = rw same refl
@@ -249,14 +265,16 @@ lost_more events but below first standings standings' slots0 slots slots' b l =
       fit = l.fit;
     }
 
-pub lost_first : (events but : ℕ) (standings : List Standing) (slots : List CodeSlot) → AllFit events standings slots → LostBelow events but 0 standings standings slots slots
+pub lost_first : (events but : ℕ) (standings : List Standing) (slots : List CodeSlot) → AllFit events standings slots
+    → LostBelow events but 0 standings standings slots slots
 lost_first events but standings slots fit = record {
   rows = sym (touched_same (λ k. if nat_lt k 0 then others_lose but k else []) (λ _. []) (rows_in standings slots)
       (λ k few. let none : nat_lt k 0 ≡ false = grind (arith, nat_tests) in rw none refl) ∙ untouched (rows_in standings slots));
   fit = fit;
 }
 
-pub lost_all : (events but : ℕ) (first standings : List Standing) (slots0 slots : List CodeSlot) (n : ℕ) → length slots0 ≤ n → AllFit events first slots0
+pub lost_all : (events but : ℕ) (first standings : List Standing) (slots0 slots : List CodeSlot) (n : ℕ) → length slots0 ≤ n
+    → AllFit events first slots0
     → LostBelow events but n first standings slots0 slots → LosesAll events but first standings slots0 slots
 lost_all events but first standings slots0 slots n size fit b =
     let len = rows_length events first slots0 fit in

@@ -37,11 +37,13 @@ begun_completes : (i : Instance) (slot : Slot) (offer : Offer) (batch : Batch) (
 begun_completes i slot offer batch bytes true is = rw is (record { state = refl; issued = refl; replies = refl })
 begun_completes i slot offer batch bytes false is = rw is (record { state = refl; issued = refl; replies = refl })
 
-asked_completes : (i : Instance) (slot : Slot) (offer : Offer) (batch : Batch) (bytes : Option (List ℕ)) → Completes i slot (begun i slot offer batch bytes)
+asked_completes : (i : Instance) (slot : Slot) (offer : Offer) (batch : Batch) (bytes : Option (List ℕ))
+    → Completes i slot (begun i slot offer batch bytes)
 asked_completes i slot offer batch None = record { state = refl; issued = refl; replies = refl }
 asked_completes i slot offer batch (Some bytes) = begun_completes i slot offer batch bytes (is_long batch) refl
 
-step_completes : (i : Instance) (slot : Slot) (flight : Flight) (nothing : Bool) → is_nothing (outcome_in i slot (so_far flight)).reply ≡ nothing
+step_completes : (i : Instance) (slot : Slot) (flight : Flight) (nothing : Bool)
+    → is_nothing (outcome_in i slot (so_far flight)).reply ≡ nothing
     → Completes i slot (stepped i slot flight)
 step_completes i slot flight true is = rw is (record { state = refl; issued = refl; replies = refl })
 step_completes i slot flight false is = rw is (record { state = refl; issued = refl; replies = refl })
@@ -71,7 +73,8 @@ completes_on law i slot first rest c r =
     let same : followed i (by_digests i) f.state f.issued rest.events ≡ told_from i first.slot rest.events =
     ap (λ (d : Digests). followed i (by_digests i) d f.issued rest.events) c.state
     ∙ ap (λ (s : List (List ℕ)). followed i (by_digests i) first.slot.digests s rest.events) c.issued in
-    let whole : told_from i slot (first.events ++ rest.events) ≡ continued f (told_from i first.slot rest.events) = joins ∙ ap (continued f) same in
+    let whole : told_from i slot (first.events ++ rest.events) ≡ continued f (told_from i first.slot rest.events) = joins
+    ∙ ap (continued f) same in
     record {
       state = ap (λ (t : Followed Digests). t.state) whole ∙ r.state;
       issued = ap (λ (t : Followed Digests). t.issued) whole ∙ r.issued;

@@ -75,7 +75,9 @@ goes_planned old new from meddles made next before now planned is =
     let same : made ≡ next = omega (arith, is) in
     record {
       cell = now ∙ sym before;
-      plan = plan_is new (record (plan_by Quiet meddles) { at = made }) planned ∙ ap (λ (n : ℕ). record (plan_by Quiet meddles) { at = n }) same;
+      plan =
+          plan_is new (record (plan_by Quiet meddles) { at = made }) planned
+          ∙ ap (λ (n : ℕ). record (plan_by Quiet meddles) { at = n }) same;
     }
 
 -- the digests of a slot whose platform has the same cell
@@ -115,7 +117,8 @@ goes_comes slot before after keys old new step same planned fits number nothing 
 
 -- the slot fits the flight of a call that asks
 pub asking_of : (standing : Standing) (slot : CodeSlot) (asking : Asking) → Fits standing (flown slot (code.Asks asking))
-    → FitsAsking slot.header slot.number (digests_in standing (flown slot (code.Asks asking))) slot.issued.items (vec_capacity slot.issued) standing asking
+    → FitsAsking slot.header slot.number (digests_in standing (flown slot (code.Asks asking))) slot.issued.items (vec_capacity slot.issued)
+    standing asking
 asking_of standing slot asking f = f.flight
 
 pub closing_of : (standing : Standing) (slot : CodeSlot) (closing : Closing) → Fits standing (flown slot (code.Closes closing))
@@ -123,7 +126,8 @@ pub closing_of : (standing : Standing) (slot : CodeSlot) (closing : Closing) →
 closing_of standing slot closing f = f.flight
 
 -- a call that asks goes on
-pub ask_goes : (slot : CodeSlot) (asking : Asking) (call : AskCall) (keys : Unit {0}) (old new : Standing) (bytes request : List ℕ) (step : ℕ)
+pub ask_goes : (slot : CodeSlot) (asking : Asking) (call : AskCall) (keys : Unit {0}) (old new : Standing) (bytes request : List ℕ)
+    (step : ℕ)
     → bytes ≡ asking.bytes → request ≡ asking.request
     → Fits old (flown slot (code.Asks asking))
     → StepsAs (meaning_of slot.header.«module») asking.call old new bytes (One request) (Ok (asks.Going call)) → step ≡ ask_number call
@@ -136,8 +140,10 @@ ask_goes slot asking call keys old new bytes request step same-bytes same-reques
     let d = digests_in old (flown slot (code.Asks asking)) in
     let p = next_plan old in
     let there : StepsAs (meaning_of slot.header.«module») asking.call old new asking.bytes (One asking.request) (Ok (asks.Going call)) =
-    subst (λ (x : List ℕ). StepsAs (meaning_of slot.header.«module») asking.call old new x (One asking.request) (Ok (asks.Going call))) same-bytes
-    (subst (λ (x : List ℕ). StepsAs (meaning_of slot.header.«module») asking.call old new bytes (One x) (Ok (asks.Going call))) same-request goes) in
+    subst (λ (x : List ℕ). StepsAs (meaning_of slot.header.«module») asking.call old new x (One asking.request) (Ok (asks.Going call)))
+    same-bytes
+    (subst (λ (x : List ℕ). StepsAs (meaning_of slot.header.«module») asking.call old new bytes (One x) (Ok (asks.Going call))) same-request
+    goes) in
     let t = there slot.header.variant key barrier d f.from slot.issued.items p.meddles (p.at + 1) asking.offer f.flies f.offered in
     let a = t.0 in
     let planned = goes_planned old new f.from p.meddles a.made (p.at + 1) f.flies.flies.cell a.flies.cell a.flies.planned a.is_next in
@@ -145,14 +151,16 @@ ask_goes slot asking call keys old new bytes request step same-bytes same-reques
     let P : Digests → Plan → Type 0 = λ x q. AsksInFlight slot.header.variant (meaning_of slot.header.«module») key barrier x f.from
     call new q.meddles (q.at + 1) asking.bytes (One asking.request) in
     let flies = subst (λ (q : Plan). P (digests_in new slot') q) (sym planned.plan)
-    (subst (λ (x : Digests). P x (record (plan_by Quiet p.meddles) { at = p.at + 1 })) (sym (digests_kept old new slot (Some (code.Asks asking)) slot'.flight keys planned.cell)) a) in
+    (subst (λ (x : Digests). P x (record (plan_by Quiet p.meddles) { at = p.at + 1 }))
+    (sym (digests_kept old new slot (Some (code.Asks asking)) slot'.flight keys planned.cell)) a) in
     goes_comes slot (code.Asks asking) (code.Asks (record asking { call = call })) keys old new step refl planned
     (record { flight = record { from = f.from; flies = flies; offered = f.offered; short = f.short; room = f.room }; kept = fits.kept })
     (number ∙ a.number ∙ sym a.is_next) t.1
 
 -- a checkpoint goes on
 pub close_goes : (slot : CodeSlot) (closing : Closing) (call : CheckpointStage) (old new : Standing) (step : ℕ)
-    → Fits old (flown slot (code.Closes closing)) → StepsClosingAs closing.call old new (closings.Going call) → step ≡ closing_number_of call
+    → Fits old (flown slot (code.Closes closing)) → StepsClosingAs closing.call old new (closings.Going call)
+    → step ≡ closing_number_of call
     → Comes new (flown slot (code.Closes closing)) (record slot { flight = Some (code.Closes (record { call = call })) })
     (stepped (instance_in slot) (slot_in old (flown slot (code.Closes closing))) (flight_of old (code.Closes closing))) (Going step)
 close_goes slot closing call old new step fits goes number =
@@ -161,13 +169,17 @@ close_goes slot closing call old new step fits goes number =
     let barrier = rising_from (128 + slot.number) in
     let d = digests_in old (flown slot (code.Closes closing)) in
     let p = next_plan old in
-    let t = goes slot.header.variant (meaning_of slot.header.«module») key barrier d f.from slot.issued.items p.meddles (p.at + 1) f.flies in
+    let t = goes slot.header.variant (meaning_of slot.header.«module») key barrier d f.from slot.issued.items p.meddles (p.at + 1) f.flies
+    in
     let a = t.0 in
     let planned = goes_planned old new f.from p.meddles a.made (p.at + 1) f.flies.flies.cell a.flies.cell a.flies.planned a.is_next in
     let slot' = record slot { flight = Some (code.Closes (record { call = call })) } in
-    let P : Digests → Plan → Type 0 = λ x q. ClosesInFlight slot.header.variant (meaning_of slot.header.«module») key barrier x f.from call new q.meddles (q.at + 1) in
+    let P : Digests → Plan
+    → Type 0 = λ x q. ClosesInFlight slot.header.variant (meaning_of slot.header.«module») key barrier x f.from call new q.meddles
+    (q.at + 1) in
     let flies = subst (λ (q : Plan). P (digests_in new slot') q) (sym planned.plan)
-    (subst (λ (x : Digests). P x (record (plan_by Quiet p.meddles) { at = p.at + 1 })) (sym (digests_kept old new slot (Some (code.Closes closing)) slot'.flight slot.keys planned.cell)) a) in
+    (subst (λ (x : Digests). P x (record (plan_by Quiet p.meddles) { at = p.at + 1 }))
+    (sym (digests_kept old new slot (Some (code.Closes closing)) slot'.flight slot.keys planned.cell)) a) in
     goes_comes slot (code.Closes closing) (code.Closes (record { call = call })) slot.keys old new step refl planned
     (record { flight = record { from = f.from; flies = flies }; kept = fits.kept })
     (number ∙ a.number ∙ sym a.is_next) t.1
@@ -176,7 +188,8 @@ close_goes slot closing call old new step fits goes number =
 stepped_over : (slot slot' : CodeSlot) (flight : CodeFlight) (old new : Standing) (said : Said)
     → (let i = instance_in slot in
     let s = slot_in old (flown slot flight) in
-    is_nothing (outcome_in i s (so_far (flight_of old flight))).reply ≡ false → Comes new (flown slot flight) slot' (plays i s (so_far (flight_of old flight))) said
+    is_nothing (outcome_in i s (so_far (flight_of old flight))).reply ≡ false
+    → Comes new (flown slot flight) slot' (plays i s (so_far (flight_of old flight))) said
     → Comes new (flown slot flight) slot' (stepped i s (flight_of old flight)) said)
 stepped_over slot slot' flight old new said something c =
     let i = instance_in slot in
@@ -189,30 +202,40 @@ stepped_over slot slot' flight old new said something c =
 pub ask_over : (slot slot' : CodeSlot) (asking : Asking) (old new : Standing) (bytes request : List ℕ) (it : Called) (said : Said)
     → bytes ≡ asking.bytes → request ≡ asking.request → slot.flight ≡ None → slot.committed < 2 ^ 63
     → Fits old (flown slot (code.Asks asking))
-    → StepsAs (meaning_of slot.header.«module») asking.call old new bytes (One request) (Ok (asks.Over it)) → EndsCall new it slot slot' said
-    → Comes new (flown slot (code.Asks asking)) slot' (stepped (instance_in slot) (slot_in old (flown slot (code.Asks asking))) (flight_of old (code.Asks asking))) said
+    → StepsAs (meaning_of slot.header.«module») asking.call old new bytes (One request) (Ok (asks.Over it))
+    → EndsCall new it slot slot' said
+    → Comes new (flown slot (code.Asks asking)) slot'
+    (stepped (instance_in slot) (slot_in old (flown slot (code.Asks asking))) (flight_of old (code.Asks asking))) said
 ask_over slot slot' asking old new bytes request it said same-bytes same-request none few fits goes ends =
     let f = asking_of old slot asking fits in
     let d = digests_in old (flown slot (code.Asks asking)) in
     let p = next_plan old in
     let there : StepsAs (meaning_of slot.header.«module») asking.call old new asking.bytes (One asking.request) (Ok (asks.Over it)) =
-    subst (λ (x : List ℕ). StepsAs (meaning_of slot.header.«module») asking.call old new x (One asking.request) (Ok (asks.Over it))) same-bytes
-    (subst (λ (x : List ℕ). StepsAs (meaning_of slot.header.«module») asking.call old new bytes (One x) (Ok (asks.Over it))) same-request goes) in
-    let t = there slot.header.variant (rising_from slot.number) (rising_from (128 + slot.number)) d f.from slot.issued.items p.meddles (p.at + 1) asking.offer f.flies f.offered in
+    subst (λ (x : List ℕ). StepsAs (meaning_of slot.header.«module») asking.call old new x (One asking.request) (Ok (asks.Over it)))
+    same-bytes
+    (subst (λ (x : List ℕ). StepsAs (meaning_of slot.header.«module») asking.call old new bytes (One x) (Ok (asks.Over it))) same-request
+    goes) in
+    let t = there slot.header.variant (rising_from slot.number) (rising_from (128 + slot.number)) d f.from slot.issued.items p.meddles
+    (p.at + 1) asking.offer f.flies f.offered in
     stepped_over slot slot' (code.Asks asking) old new said t.1
-    (over_comes slot slot' (code.Asks asking) old f.from new (so_far (flight_of old (code.Asks asking))) it said none fits.kept few t.0 ends)
+    (over_comes slot slot' (code.Asks asking) old f.from new (so_far (flight_of old (code.Asks asking))) it said none fits.kept few t.0
+    ends)
 
 pub close_over : (slot slot' : CodeSlot) (closing : Closing) (old new : Standing) (reply : Reply) (said : Said)
     → slot.flight ≡ None → slot.committed < 2 ^ 63
-    → Fits old (flown slot (code.Closes closing)) → StepsClosingAs closing.call old new (closings.Over reply) → EndsCall new (quiet_as reply) slot slot' said
-    → Comes new (flown slot (code.Closes closing)) slot' (stepped (instance_in slot) (slot_in old (flown slot (code.Closes closing))) (flight_of old (code.Closes closing))) said
+    → Fits old (flown slot (code.Closes closing)) → StepsClosingAs closing.call old new (closings.Over reply)
+    → EndsCall new (quiet_as reply) slot slot' said
+    → Comes new (flown slot (code.Closes closing)) slot'
+    (stepped (instance_in slot) (slot_in old (flown slot (code.Closes closing))) (flight_of old (code.Closes closing))) said
 close_over slot slot' closing old new reply said none few fits goes ends =
     let f = closing_of old slot closing fits in
     let d = digests_in old (flown slot (code.Closes closing)) in
     let p = next_plan old in
-    let t = goes slot.header.variant (meaning_of slot.header.«module») (rising_from slot.number) (rising_from (128 + slot.number)) d f.from slot.issued.items p.meddles (p.at + 1) f.flies in
+    let t = goes slot.header.variant (meaning_of slot.header.«module») (rising_from slot.number) (rising_from (128 + slot.number)) d f.from
+    slot.issued.items p.meddles (p.at + 1) f.flies in
     stepped_over slot slot' (code.Closes closing) old new said t.1
-    (over_comes slot slot' (code.Closes closing) old f.from new (so_far (flight_of old (code.Closes closing))) (quiet_as reply) said none fits.kept few t.0 ends)
+    (over_comes slot slot' (code.Closes closing) old f.from new (so_far (flight_of old (code.Closes closing))) (quiet_as reply) said none
+    fits.kept few t.0 ends)
 
 -- a call is broken off
 
@@ -238,45 +261,49 @@ breaks_at how standing meddles made n on planned few is =
       fails = subst (λ (k : ℕ). IsSome (fault_at (stop_at how n) k)) next (fails_at how n);
     }
 
-pub ask_breaks_next : (how : Breaking) (slot : CodeSlot) (asking : Asking) (standing : Standing) (n : ℕ) → Fits standing (flown slot (code.Asks asking))
-    → n ≡ ask_number asking.call → BreaksNext (stop_at how n) standing
-ask_breaks_next how slot asking standing n fits is =
-    let a = (asking_of standing slot asking fits).flies in
-    breaks_at how standing (next_plan standing).meddles a.made n a.flies.is_on a.flies.planned a.flies.few (is ∙ a.number)
-
-pub ask_broken : (how : Breaking) (slot slot' : CodeSlot) (asking : Asking) (old new : Standing) (bytes request : List ℕ) (n : ℕ) (it : Called) (said : Said)
+pub ask_broken : (how : Breaking) (slot slot' : CodeSlot) (asking : Asking) (old new : Standing) (bytes request : List ℕ) (n : ℕ)
+    (it : Called) (said : Said)
     → bytes ≡ asking.bytes → request ≡ asking.request → slot.flight ≡ None → slot.committed < 2 ^ 63
     → Fits old (flown slot (code.Asks asking)) → n ≡ ask_number asking.call
-    → BreaksAs (meaning_of slot.header.«module») asking.call old new bytes (One request) (stop_at how n) it → EndsCall new it slot slot' said
+    → BreaksAs (meaning_of slot.header.«module») asking.call old new bytes (One request) (stop_at how n) it
+    → EndsCall new it slot slot' said
     → Comes new (flown slot (code.Asks asking)) slot'
-    (plays (instance_in slot) (slot_in old (flown slot (code.Asks asking))) (event_by (call_in (code.Asks asking)) (next_plan old).meddles (stop_at how ((next_plan old).at + 1)))) said
+    (plays (instance_in slot) (slot_in old (flown slot (code.Asks asking)))
+    (event_by (call_in (code.Asks asking)) (next_plan old).meddles (stop_at how ((next_plan old).at + 1)))) said
 ask_broken how slot slot' asking old new bytes request n it said same-bytes same-request none few fits is breaks ends =
     let f = asking_of old slot asking fits in
     let d = digests_in old (flown slot (code.Asks asking)) in
     let p = next_plan old in
     let at : n ≡ p.at + 1 = is ∙ f.flies.number ∙ sym f.flies.is_next in
-    let P : List ℕ → List ℕ → ℕ → Type 0 = λ x y k. BreaksAs (meaning_of slot.header.«module») asking.call old new x (One y) (stop_at how k) it in
+    let P : List ℕ → List ℕ → ℕ
+    → Type 0 = λ x y k. BreaksAs (meaning_of slot.header.«module») asking.call old new x (One y) (stop_at how k) it in
     let there : P asking.bytes asking.request (p.at + 1) =
-    subst (λ (k : ℕ). P asking.bytes asking.request k) at (subst (λ (x : List ℕ). P x asking.request n) same-bytes (subst (λ (y : List ℕ). P bytes y n) same-request breaks)) in
-    let t = there slot.header.variant (rising_from slot.number) (rising_from (128 + slot.number)) d f.from slot.issued.items p.meddles (p.at + 1) asking.offer f.flies f.offered
+    subst (λ (k : ℕ). P asking.bytes asking.request k) at
+    (subst (λ (x : List ℕ). P x asking.request n) same-bytes (subst (λ (y : List ℕ). P bytes y n) same-request breaks)) in
+    let t = there slot.header.variant (rising_from slot.number) (rising_from (128 + slot.number)) d f.from slot.issued.items p.meddles
+    (p.at + 1) asking.offer f.flies f.offered
     (stopped_at how (p.at + 1)) in
-    over_comes slot slot' (code.Asks asking) old f.from new (event_by (call_in (code.Asks asking)) p.meddles (stop_at how (p.at + 1))) it said none fits.kept few t ends
+    over_comes slot slot' (code.Asks asking) old f.from new (event_by (call_in (code.Asks asking)) p.meddles (stop_at how (p.at + 1))) it
+    said none fits.kept few t ends
 
 pub close_broken : (how : Breaking) (slot slot' : CodeSlot) (closing : Closing) (old new : Standing) (n : ℕ) (reply : Reply) (said : Said)
     → slot.flight ≡ None → slot.committed < 2 ^ 63
     → Fits old (flown slot (code.Closes closing)) → n ≡ closing_number_of closing.call
     → BreaksClosingAs closing.call old new (stop_at how n) reply → EndsCall new (quiet_as reply) slot slot' said
     → Comes new (flown slot (code.Closes closing)) slot'
-    (plays (instance_in slot) (slot_in old (flown slot (code.Closes closing))) (event_by (call_in (code.Closes closing)) (next_plan old).meddles (stop_at how ((next_plan old).at + 1)))) said
+    (plays (instance_in slot) (slot_in old (flown slot (code.Closes closing)))
+    (event_by (call_in (code.Closes closing)) (next_plan old).meddles (stop_at how ((next_plan old).at + 1)))) said
 close_broken how slot slot' closing old new n reply said none few fits is breaks ends =
     let f = closing_of old slot closing fits in
     let d = digests_in old (flown slot (code.Closes closing)) in
     let p = next_plan old in
     let at : n ≡ p.at + 1 = is ∙ f.flies.number ∙ sym f.flies.is_next in
     let there = subst (λ (k : ℕ). BreaksClosingAs closing.call old new (stop_at how k) reply) at breaks in
-    let t = there slot.header.variant (meaning_of slot.header.«module») (rising_from slot.number) (rising_from (128 + slot.number)) d f.from slot.issued.items p.meddles (p.at + 1) f.flies
+    let t = there slot.header.variant (meaning_of slot.header.«module») (rising_from slot.number) (rising_from (128 + slot.number)) d f.from
+    slot.issued.items p.meddles (p.at + 1) f.flies
     (stopped_at how (p.at + 1)) in
-    over_comes slot slot' (code.Closes closing) old f.from new (event_by (call_in (code.Closes closing)) p.meddles (stop_at how (p.at + 1))) (quiet_as reply) said none fits.kept few t ends
+    over_comes slot slot' (code.Closes closing) old f.from new (event_by (call_in (code.Closes closing)) p.meddles (stop_at how (p.at + 1)))
+    (quiet_as reply) said none fits.kept few t ends
 
 -- The cell is the same behind values of others, and so behind what a call sees.
 brought_cell : (i : Instance) (values : List (List ℕ)) (rest : List Move) (d : Digests)
@@ -313,7 +340,8 @@ lacks_stands slot slot' d meddles stop old new l s h n c r =
     let seen = seen_at i (by_digests i) d (course_of stop meddles) in
     let none : seen.count ≡ d.count = count_none i moves d (seen_none fates (reading_steps i.variant) 1) in
     let at : (x : Digests) → Stands i new x → slot'.committed ≡ x.count → digests_in new slot' ≡ x = λ x s e.
-    mine_are new slot' x (subst (λ (j : Instance). Stands j new x) (sym (same_instance slot slot' h n)) s) r ∙ (λ j. record x { count = e j }) in
+    mine_are new slot' x (subst (λ (j : Instance). Stands j new x) (sym (same_instance slot slot' h n)) s) r
+    ∙ (λ j. record x { count = e j }) in
     elim l.called [
       | inl e ↦ inl (at d (subst (λ (x : Standing). Stands i x d) (sym e) s) c)
       | inr e ↦ inr (at seen e.0 (c ∙ sym none))
@@ -324,7 +352,8 @@ pub ask_lacks : (slot slot' : CodeSlot) (asking : Asking) (old new : Standing) (
     → bytes ≡ asking.bytes → request ≡ asking.request
     → Fits old (flown slot (code.Asks asking))
     → StepsAs (meaning_of slot.header.«module») asking.call old new bytes (One request) (Err memory)
-    → slot'.header ≡ slot.header → slot'.number ≡ slot.number → slot'.committed ≡ slot.committed → slot'.flight ≡ None → slot'.kept ≡ slot.kept
+    → slot'.header ≡ slot.header → slot'.number ≡ slot.number → slot'.committed ≡ slot.committed → slot'.flight ≡ None
+    → slot'.kept ≡ slot.kept
     → slot'.issued.items ≡ slot.issued.items → HasRegister new slot' → Wants old new (flown slot (code.Asks asking)) slot'
 ask_lacks slot slot' asking old new bytes request memory same-bytes same-request fits steps h n c none k issued r =
     let f = asking_of old slot asking fits in
@@ -335,7 +364,8 @@ ask_lacks slot slot' asking old new bytes request memory same-bytes same-request
     subst (λ (x : List ℕ). StepsAs (meaning_of slot.header.«module») asking.call old new x (One asking.request) (Err memory)) same-bytes
     (subst (λ (x : List ℕ). StepsAs (meaning_of slot.header.«module») asking.call old new bytes (One x) (Err memory)) same-request steps) in
     let l : Lacks i d p.meddles (stop_behind (p.at + 1)) f.from new =
-    there slot.header.variant (rising_from slot.number) (rising_from (128 + slot.number)) d f.from slot.issued.items p.meddles (p.at + 1) asking.offer f.flies f.offered in
+    there slot.header.variant (rising_from slot.number) (rising_from (128 + slot.number)) d f.from slot.issued.items p.meddles (p.at + 1)
+    asking.offer f.flies f.offered in
     let kept = k ∙ fits.kept ∙ ap (λ (x : List (List ℕ)). within_64 (sum_by length x)) (sym issued) in
     let at : (x : Digests) → Stands i new x → GoesOn new (flown slot (code.Asks asking)) slot' = λ x s. record {
       fits = settled new slot' x none (subst (λ (j : Instance). Stands j new x) (sym (same_instance slot slot' h n)) s) l.quiet r kept;
@@ -357,7 +387,8 @@ ask_lacks slot slot' asking old new bytes request memory same-bytes same-request
     }
 
 -- the key that a slot keeps is told by nothing
-pub rekeyed : (new : Standing) (it : Called) (slot slot' : CodeSlot) (keys : Unit {0}) (said : Said) → EndsCall new it (record slot { keys = keys }) slot' said
+pub rekeyed : (new : Standing) (it : Called) (slot slot' : CodeSlot) (keys : Unit {0}) (said : Said)
+    → EndsCall new it (record slot { keys = keys }) slot' said
     → EndsCall new it slot slot' said
 rekeyed new it slot slot' keys said e = record {
   header = e.header;

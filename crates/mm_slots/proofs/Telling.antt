@@ -95,7 +95,8 @@ not_stopped : (why : ReplayFault) (written : List ℕ) (p : SlotsStage) → stop
 not_stopped why written p h = not_ok why p (outcome_is (stopped why) (told written (Ok p)) h)
 
 -- one more header in front
-heads_more : (count : ℕ) (before : List Header) (line : List ℕ) (lines : List (List ℕ)) (header : Header) (written : List ℕ) (p : SlotsStage)
+heads_more : (count : ℕ) (before : List Header) (line : List ℕ) (lines : List (List ℕ)) (header : Header) (written : List ℕ)
+    (p : SlotsStage)
     → head_at line ≡ Some header → Headed count (before ++ header ∷ []) lines written p → Headed count before (line ∷ lines) written p
 heads_more count before line lines header written p is (inl h) = inl (record {
   headers = header ∷ h.headers;
@@ -111,7 +112,8 @@ heads_more count before line lines header written p is (inr e) = inr (record {
   split = ap (λ (x : List (List ℕ)). line ∷ x) e.split;
   headed = ap (λ first. first ∷ map head_at e.heads) is ∙ ap (λ others. Some header ∷ others) e.headed;
   full = subst (λ (x : List Header). length x ≡ count) (append_assoc before (header ∷ []) e.headers) e.full;
-  answers = subst (λ (x : List Header). AnswersFrom count (begun x) e.others written p) (append_assoc before (header ∷ []) e.headers) e.answers;
+  answers =
+      subst (λ (x : List Header). AnswersFrom count (begun x) e.others written p) (append_assoc before (header ∷ []) e.headers) e.answers;
 })
 
 -- the last header was the one before the events
@@ -123,14 +125,18 @@ begins_events count all lines number written p full h =
 
 length-push : (before : List Header) (header : Header) → length (before ++ header ∷ []) ≡ length before + 1
 length-push [] header = refl
-length-push (x ∷ before) header = let one : length (before ++ header ∷ []) ≡ length before + 1 = length-push before header in omega (arith, one)
+length-push (x ∷ before) header =
+    let one : length (before ++ header ∷ []) ≡ length before + 1 = length-push before header in omega (arith, one)
 
 -- by whether others are to come
-headed_behind : (count : ℕ) (before : List Header) (line : List ℕ) (lines : List (List ℕ)) (number : ℕ) (header : Header) (written : List ℕ) (p : SlotsStage) (more : Bool)
+headed_behind : (count : ℕ) (before : List Header) (line : List ℕ) (lines : List (List ℕ)) (number : ℕ) (header : Header) (written : List ℕ)
+    (p : SlotsStage) (more : Bool)
     → are_to_come count (before ++ header ∷ []) ≡ more → length before < count → count ≤ 16 → head_at line ≡ Some header
-    → (length (before ++ header ∷ []) < count → run slots_answer (number + 1) (AtHeads count (before ++ header ∷ [])) lines ≡ told written (Ok p)
+    → (length (before ++ header ∷ []) < count
+    → run slots_answer (number + 1) (AtHeads count (before ++ header ∷ [])) lines ≡ told written (Ok p)
     → Headed count (before ++ header ∷ []) lines written p)
-    → rest_of lines number (cond more (AtHeads count (before ++ header ∷ [])) (InEvents (begun (before ++ header ∷ [])))) ≡ told written (Ok p)
+    → rest_of lines number (cond more (AtHeads count (before ++ header ∷ [])) (InEvents (begun (before ++ header ∷ [])))) ≡ told written
+    (Ok p)
     → Headed count before (line ∷ lines) written p
 headed_behind count before line lines number header written p true come room few is on h =
     let all = before ++ header ∷ [] in
@@ -148,12 +154,16 @@ headed_behind count before line lines number header written p false come room fe
       split = refl;
       headed = refl;
       full = ap length (append-nil all) ∙ full;
-      answers = subst (λ (x : List Header). AnswersFrom count (begun x) lines written p) (sym (append-nil all)) (begins_events count all lines (number + 1) written p full h);
+      answers =
+          subst (λ (x : List Header). AnswersFrom count (begun x) lines written p) (sym (append-nil all))
+          (begins_events count all lines (number + 1) written p full h);
     }))
 
-headed_found : (count : ℕ) (before : List Header) (line : List ℕ) (lines : List (List ℕ)) (number : ℕ) (written : List ℕ) (p : SlotsStage) (found : Option Header)
+headed_found : (count : ℕ) (before : List Header) (line : List ℕ) (lines : List (List ℕ)) (number : ℕ) (written : List ℕ) (p : SlotsStage)
+    (found : Option Header)
     → head_at line ≡ found → length before < count → count ≤ 16
-    → ((header : Header) → length (before ++ header ∷ []) < count → run slots_answer (number + 1) (AtHeads count (before ++ header ∷ [])) lines ≡ told written (Ok p)
+    → ((header : Header) → length (before ++ header ∷ []) < count
+    → run slots_answer (number + 1) (AtHeads count (before ++ header ∷ [])) lines ≡ told written (Ok p)
     → Headed count (before ++ header ∷ []) lines written p)
     → answered (rest_of lines number) number (head_answer count before found) ≡ told written (Ok p)
     → Headed count before (line ∷ lines) written p
@@ -162,22 +172,29 @@ headed_found count before line lines number written p (Some header) is room few 
     headed_behind count before line lines number header written p (are_to_come count (before ++ header ∷ [])) refl room few is (on header)
     (said_first (rest_of lines number (behind_heads count (before ++ header ∷ []))) written p h)
 
-headed_line : (count : ℕ) (before : List Header) (line : List ℕ) (lines : List (List ℕ)) (number : ℕ) (written : List ℕ) (p : SlotsStage) (long : Bool)
+headed_line : (count : ℕ) (before : List Header) (line : List ℕ) (lines : List (List ℕ)) (number : ℕ) (written : List ℕ) (p : SlotsStage)
+    (long : Bool)
     → length before < count → count ≤ 16
-    → ((header : Header) → length (before ++ header ∷ []) < count → run slots_answer (number + 1) (AtHeads count (before ++ header ∷ [])) lines ≡ told written (Ok p)
+    → ((header : Header) → length (before ++ header ∷ []) < count
+    → run slots_answer (number + 1) (AtHeads count (before ++ header ∷ [])) lines ≡ told written (Ok p)
     → Headed count (before ++ header ∷ []) lines written p)
-    → cond long (stopped (LineLong number)) (answered (rest_of lines number) number (head_answer count before (head_at line))) ≡ told written (Ok p)
+    → cond long (stopped (LineLong number)) (answered (rest_of lines number) number (head_answer count before (head_at line))) ≡ told
+    written (Ok p)
     → Headed count before (line ∷ lines) written p
 headed_line count before line lines number written p true room few on h = absurd (not_stopped (LineLong number) written p h)
-headed_line count before line lines number written p false room few on h = headed_found count before line lines number written p (head_at line) refl room few on h
+headed_line count before line lines number written p false room few on h =
+    headed_found count before line lines number written p (head_at line) refl room few on h
 
-headed_from : (count : ℕ) (lines : List (List ℕ)) (number : ℕ) (before : List Header) (written : List ℕ) (p : SlotsStage) → length before < count → count ≤ 16
+headed_from : (count : ℕ) (lines : List (List ℕ)) (number : ℕ) (before : List Header) (written : List ℕ) (p : SlotsStage)
+    → length before < count → count ≤ 16
     → run slots_answer number (AtHeads count before) lines ≡ told written (Ok p) → Headed count before lines written p
 headed_from count [] number before written p room few h = inl (record {
   headers = [];
   headed = refl;
   silent = sym (ap (λ (t : Told SlotsStage). t.written) h);
-  stands = sym (ok_same (AtHeads count before) p (outcome_is (told [] (Ok (AtHeads count before))) (told written (Ok p)) h)) ∙ ap (AtHeads count) (sym (append-nil before));
+  stands =
+      sym (ok_same (AtHeads count before) p (outcome_is (told [] (Ok (AtHeads count before))) (told written (Ok p)) h))
+      ∙ ap (AtHeads count) (sym (append-nil before));
   fewer = subst (λ (x : List Header). length x < count) (sym (append-nil before)) room;
 })
 headed_from count (line ∷ lines) number before written p room few h =
@@ -194,7 +211,8 @@ counted_by_test number count false is h =
     let both : (0 < number) × (number ≤ 16) = (grind (arith, nat_tests), grind (arith, nat_tests)) in
     subst (λ (n : ℕ). (0 < n) × (n ≤ 16)) same both
 
-counted_word : (found : Option ℕ) (count : ℕ) → (found >>= λ number. if number == 0 || nat_lt 16 number then None else Some number) ≡ Some count
+counted_word : (found : Option ℕ) (count : ℕ)
+    → (found >>= λ number. if number == 0 || nat_lt 16 number then None else Some number) ≡ Some count
     → (0 < count) × (count ≤ 16)
 counted_word None count h = cc
 counted_word (Some number) count h = counted_by_test number count (number == 0 || nat_lt 16 number) refl h
@@ -236,11 +254,13 @@ opened_found first others written p (Some count) is h =
     })
 
 opened_line : (first : List ℕ) (others : List (List ℕ)) (written : List ℕ) (p : SlotsStage) (long : Bool)
-    → cond long (stopped (LineLong 1)) (answered (rest_of others 1) 1 (first_answer (first_at first))) ≡ told written (Ok p) → Begun (first ∷ others) written p
+    → cond long (stopped (LineLong 1)) (answered (rest_of others 1) 1 (first_answer (first_at first))) ≡ told written (Ok p)
+    → Begun (first ∷ others) written p
 opened_line first others written p true h = absurd (not_stopped (LineLong 1) written p h)
 opened_line first others written p false h = opened_found first others written p (first_at first) refl h
 
-opened : (lines : List (List ℕ)) (written : List ℕ) (p : SlotsStage) → run slots_answer 1 AtFirst lines ≡ told written (Ok p) → Begun lines written p
+opened : (lines : List (List ℕ)) (written : List ℕ) (p : SlotsStage) → run slots_answer 1 AtFirst lines ≡ told written (Ok p)
+    → Begun lines written p
 opened [] written p h = inl (
   refl,
   sym (ap (λ (t : Told SlotsStage). t.written) h),
@@ -255,9 +275,13 @@ within_limits headers others written p a before line after events split read ove
     a.within before line after events split read (elim over [ inl h ↦ inl (omega (arith, h)) | inr h ↦ inr (omega (arith, h)) ])
 
 -- these lines were answered: what was written, and what any last lines add
-answers_slots : SlotsRun → (first : List ℕ) (heads others : List (List ℕ)) (headers : List Header) (lines : List (List ℕ)) (said written : List ℕ) (p : SlotsStage)
-    (last : List Row → List ℕ) → lines ≡ first ∷ heads ++ others → first_at first ≡ Some (length headers) → map head_at heads ≡ map Some headers
-    → (a : AnswersFrom (length headers) (begun headers) others said p) → written ≡ said ++ last a.last.rows → AnswersSlots lines written last
+answers_slots : SlotsRun
+    → (first : List ℕ) (heads others : List (List ℕ)) (headers : List Header) (lines : List (List ℕ)) (said written : List ℕ)
+    (p : SlotsStage)
+    (last : List Row → List ℕ) → lines ≡ first ∷ heads ++ others → first_at first ≡ Some (length headers)
+    → map head_at heads ≡ map Some headers
+    → (a : AnswersFrom (length headers) (begun headers) others said p) → written ≡ said ++ last a.last.rows
+    → AnswersSlots lines written last
 answers_slots law first heads others headers lines said written p last split counted headed a whole = record {
   first = first;
   heads = heads;
@@ -279,17 +303,28 @@ answers_slots law first heads others headers lines said written p last split cou
 abbrev SizedFrom : ℕ → List Header → List (List ℕ) → List ℕ → SlotsStage → Type 0
 SizedFrom count headers others written p = AnswersFrom count (begun headers) others written p
 
-answers_lines : SlotsRun → (lines : List (List ℕ)) (written : List ℕ) → Answered slots_answer AtFirst lines written → AnswersLines lines written
+answers_lines : SlotsRun → (lines : List (List ℕ)) (written : List ℕ) → Answered slots_answer AtFirst lines written
+    → AnswersLines lines written
 answers_lines law lines written a = by_begun (opened lines written a.0 a.1)
   where
     by_headed : (o : Opened lines written a.0) → Headed o.count [] o.others written a.0 → AnswersLines lines written
     by_headed o (inl h) = inl (
-      inr (record { first = o.first; heads = o.others; count = o.count; headers = h.headers; split = o.split; counted = o.counted; headed = h.headed; fewer = h.fewer }),
+      inr (record {
+        first = o.first;
+        heads = o.others;
+        count = o.count;
+        headers = h.headers;
+        split = o.split;
+        counted = o.counted;
+        headed = h.headed;
+        fewer = h.fewer;
+      }),
       h.silent,
     )
     by_headed o (inr e) =
         let answers = subst (λ (n : ℕ). SizedFrom n e.headers e.others written a.0) (sym e.full) e.answers in
-        inr (answers_slots law o.first e.heads e.others e.headers lines written written a.0 unended (o.split ∙ ap (λ (x : List (List ℕ)). o.first ∷ x) e.split)
+        inr (answers_slots law o.first e.heads e.others e.headers lines written written a.0 unended
+        (o.split ∙ ap (λ (x : List (List ℕ)). o.first ∷ x) e.split)
         (o.counted ∙ ap Some (sym e.full)) e.headed answers (sym (append-nil written)))
 
     by_begun : Begun lines written a.0 → AnswersLines lines written
@@ -302,7 +337,8 @@ closes_none AtFirst last is h = cc
 closes_none (AtHeads count headers) last is h = cc
 closes_none (InEvents r) last is h = cc
 
-closes_heads : (p : SlotsStage) (last : List ℕ) (count : ℕ) (headers : List Header) → p ≡ AtHeads count headers → slots_closing p ≡ Some last → ⊥
+closes_heads : (p : SlotsStage) (last : List ℕ) (count : ℕ) (headers : List Header) → p ≡ AtHeads count headers
+    → slots_closing p ≡ Some last → ⊥
 closes_heads AtFirst last count headers is h = cc
 closes_heads (AtHeads n hs) last count headers is h = cc
 closes_heads (InEvents r) last count headers is h = cc
@@ -313,15 +349,18 @@ closes_with r p last is h = some_same (sym h ∙ ap slots_closing is)
     some_same : Some last ≡ Some (end_lines 0 r.rows) → last ≡ end_lines 0 r.rows
     some_same e = cc
 
-answers_all : SlotsRun → (lines : List (List ℕ)) (written : List ℕ) → Finished slots_answer slots_closing AtFirst lines written → AnswersAll lines written
+answers_all : SlotsRun → (lines : List (List ℕ)) (written : List ℕ) → Finished slots_answer slots_closing AtFirst lines written
+    → AnswersAll lines written
 answers_all law lines written f = by_begun (opened lines f.said f.next f.ran)
   where
     by_headed : (o : Opened lines f.said f.next) → Headed o.count [] o.others f.said f.next → AnswersAll lines written
     by_headed o (inl h) = absurd (closes_heads f.next f.last o.count h.headers h.stands f.closed)
     by_headed o (inr e) =
         let answers = subst (λ (n : ℕ). SizedFrom n e.headers e.others f.said f.next) (sym e.full) e.answers in
-        answers_slots law o.first e.heads e.others e.headers lines f.said written f.next (end_lines 0) (o.split ∙ ap (λ (x : List (List ℕ)). o.first ∷ x) e.split)
-        (o.counted ∙ ap Some (sym e.full)) e.headed answers (f.whole ∙ ap (λ (l : List ℕ). f.said ++ l) (closes_with answers.last f.next f.last answers.stands f.closed))
+        answers_slots law o.first e.heads e.others e.headers lines f.said written f.next (end_lines 0)
+        (o.split ∙ ap (λ (x : List (List ℕ)). o.first ∷ x) e.split)
+        (o.counted ∙ ap Some (sym e.full)) e.headed answers
+        (f.whole ∙ ap (λ (l : List ℕ). f.said ++ l) (closes_with answers.last f.next f.last answers.stands f.closed))
 
     by_begun : Begun lines f.said f.next → AnswersAll lines written
     by_begun (inl none) = absurd (closes_none f.next f.last none.2 f.closed)
@@ -337,7 +376,8 @@ head_refuses count headers None h = cc
 head_refuses count headers (Some header) h = cc
 
 full_event : (r : Running) (line : List ℕ) (event : SlotEvent) (much : Bool)
-    → (let a : Result (List ℕ × SlotsStage) Refused = cond much (Err Much) (Ok (answers_text (answers_to r.rows event), InEvents (after_line r line event))) in a ≡ Err Much)
+    → (let a : Result (List ℕ × SlotsStage) Refused = cond much (Err Much)
+    (Ok (answers_text (answers_to r.rows event), InEvents (after_line r line event))) in a ≡ Err Much)
     → much ≡ true
 full_event r line event true h = refl
 full_event r line event false h = cc
@@ -355,7 +395,8 @@ too_much done rest m = by_begun (opened done m.said m.next m.ran)
         absurd (head_refuses o.count h.headers (head_at m.line) (ap (λ (p : SlotsStage). slots_answer p m.line) (sym h.stands) ∙ m.refused))
     by_headed o (inr e) =
         let a = subst (λ (n : ℕ). SizedFrom n e.headers e.others m.said m.next) (sym e.full) e.answers in
-        let full = refuses_event a.last m.line (event_at (length a.last.rows) m.line) (ap (λ (p : SlotsStage). slots_answer p m.line) (sym a.stands) ∙ m.refused) in
+        let full = refuses_event a.last m.line (event_at (length a.last.rows) m.line)
+        (ap (λ (p : SlotsStage). slots_answer p m.line) (sym a.stands) ∙ m.refused) in
         record {
           first = o.first;
           heads = e.heads;
@@ -381,7 +422,8 @@ too_much done rest m = by_begun (opened done m.said m.next m.ran)
 
 -- What is out tells the events.
 pub tells : {T : Type 0} → SlotsRun → (next : SlotsStage) (left : Option (List ℕ)) (taken sent : List ℕ) (result : Result T ReplayFault)
-    → Settles (run slots_answer 1 AtFirst) (run_of slots_answer slots_closing AtFirst) next left taken sent result → IsOut left taken sent result
+    → Settles (run slots_answer 1 AtFirst) (run_of slots_answer slots_closing AtFirst) next left taken sent result
+    → IsOut left taken sent result
 tells law next left taken sent result s =
     tells_more (Answered slots_answer AtFirst) AnswersLines (Finished slots_answer slots_closing AtFirst) AnswersAll
     (RefusesMuch slots_answer AtFirst) IsTooMuch left taken sent result (answers_lines law) (answers_all law) too_much

@@ -16,18 +16,6 @@ use Rattle.mm_slots.specs.Table.{Row}
 use Rattle.mm_slots.specs.Totals.{bytes_in, requests_in, snapshots_in, AreCounted, ends_from}
 use Rattle.mm_slots.proofs.Rowing.{all_more}
 
--- one more is added, up to the most that 64 bits tell
-pub sum_on : (f : CodeSlot → ℕ) (slots : List CodeSlot) (i total next : ℕ) (d : CodeSlot) → i < length slots
-    → total ≡ within_64 (sum_by f (take i slots))
-    → next ≡ within_64 (total + f (get_or slots i d)) → next ≡ within_64 (sum_by f (take (i + 1) slots))
-sum_on f slots i total next d few before is =
-    let here = get_or slots i d in
-    let sums : sum_by f (take (i + 1) slots) ≡ sum_by f (take i slots) + sum_by f (here ∷ []) =
-    ap (sum_by f) (take_more slots i d few) ∙ sum_by-append f (take i slots) (here ∷ []) in
-    let one : sum_by f (here ∷ []) ≡ f here + sum_by f [] = sum_by-cons f here [] in
-    let none : sum_by f [] ≡ 0 = refl in
-    omega (arith, before, is, sums, one, none)
-
 -- the bytes of the snapshots
 bytes_more : (events : ℕ) (standing : Standing) (slot : CodeSlot) (standings : List Standing) (slots : List CodeSlot)
     → FitsWithin events standing slot

@@ -3,7 +3,7 @@ use Rattle.std.specs.Prelude.{ℕ, ◌+◌, List, [], ◌∷◌, ◌++◌, lengt
 use Rattle.std.specs.Fmt.{decimal}
 use Rattle.std.specs.List.{flat_map}
 use Rattle.mm_schedule.specs.Replies.{IsPrintable}
-use Rattle.mm_replay.specs.Text.{text_of_replies}
+use Rattle.mm_replay.specs.TextWords.{text_of_replies}
 use Rattle.mm_slots.specs.declared.said.Said.{Said}
 use Rattle.mm_slots.specs.declared.said.Said.TheVariants.{Busy, Idle, Begun, Going, Replied}
 use Rattle.mm_slots.specs.Table.{Answer, PowerLost, Says, Row}
@@ -34,9 +34,13 @@ answers_text answers = flat_map answer_text answers
 
 -- the line `end I N K`: in slot I so many requests were committed, and so many snapshots issued
 abbrev pub slot_end_line : ℕ → ℕ → ℕ → List ℕ
-slot_end_line number committed issued = codes "end " ++ decimal number ++ 32 ∷ [] ++ decimal committed ++ 32 ∷ [] ++ decimal issued ++ 10 ∷ []
+slot_end_line number committed issued =
+    codes "end " ++ decimal number ++ 32 ∷ [] ++ decimal committed ++ 32 ∷ [] ++ decimal issued
+    ++ 10 ∷ []
 
 -- the last lines, one for each slot, from this number on
 abbrev pub end_lines : ℕ → List Row → List ℕ
 end_lines number [] = []
-end_lines number (row ∷ rows) = slot_end_line number row.slot.digests.count (length row.slot.issued) ++ end_lines (number + 1) rows
+end_lines number (row ∷ rows) =
+    slot_end_line number row.slot.digests.count (length row.slot.issued)
+    ++ end_lines (number + 1) rows

@@ -42,11 +42,13 @@ action_at line =
     if bytes_eq line (codes "close") then Some action.Close
     else if bytes_eq line (codes "step") then Some action.Step
     else option_map_or begin_at (after_prefix (codes "begin ") line)
-    (option_map_or (λ word. value_at word >>= λ value. Some (action.Extend (record { bytes = value }))) (after_prefix (codes "extend ") line)
+    (option_map_or (λ word. value_at word >>= λ value. Some
+    (action.Extend (record { bytes = value }))) (after_prefix (codes "extend ") line)
     (breaking_at line >>= λ how. Some (action.Break how)))
 
 -- the event of a line, on a platform with so many slots
 unfoldable pub event_at : ℕ → List ℕ → Option SlotEvent
 event_at slots line =
     if bytes_eq line (codes "power") then Some Power
-    else (word_at line >>= λ word. index_at slots word.0 >>= λ slot. action_at word.1 >>= λ what. Some (At slot what))
+    else (word_at line >>= λ word. index_at slots word.0 >>= λ slot. action_at word.1
+    >>= λ what. Some (At slot what))

@@ -17,23 +17,27 @@ use Rattle.mm_slots.specs.Slot.{Turned, slot_instance, slot_after}
 use Rattle.mm_slots.specs.Stage.{kept_in}
 use Rattle.mm_slots.specs.Table.{Row, first_rows, after_events, answers, met_by, said_for}
 
--- what a slot comes to over the first of all events: its own fold over what it meets, which knows no other slot
+-- what a slot comes to over the first of all events: its own fold over what it meets, which knows
+-- no other slot
 abbrev pub own_fold : List Header → List SlotEvent → ℕ → Header → Turned
-own_fold headers events number header = slot_after header number (met_by number (first_rows headers) events)
+own_fold headers events number header =
+    slot_after header number (met_by number (first_rows headers) events)
 
 -- what is said for each slot is what its own fold says
 abbrev pub AreOwn : List Header → List SlotEvent → Type 0
 AreOwn headers events = (number : ℕ) (header : Header) → slice_get headers number ≡ Some header
-    → said_for number (answers (first_rows headers) events) ≡ (own_fold headers events number header).said
+    → said_for number (answers (first_rows headers) events) ≡
+    (own_fold headers events number header).said
 
--- The calls of a slot that are over are one run of its module, and what the module promises of a run holds of them.
+-- The calls of a slot that are over are one run of its module, and what the module promises of a
+-- run holds of them.
 pub record IsOneRun (header : Header) (number : ℕ) (it : Turned) : Type 0 where
   pub run : SlotRuns (slot_instance header number) it
   pub promised : Promises header.«module» run.requests it.replies
 
--- The headline: so it is of each slot, and of each first part of the events, where no two different messages of the slot's
--- run share a digest, no digest is zero, no value that others extend its register by is the guard of a batch, and no tag
--- is forged.
+-- The headline: so it is of each slot, and of each first part of the events, where no two different
+-- messages of the slot's run share a digest, no digest is zero, no value that others extend its
+-- register by is the guard of a batch, and no tag is forged.
 abbrev pub AreContinuous : List Header → List SlotEvent → Type 0
 AreContinuous headers events = (number : ℕ) (header : Header) (front rest : List SlotEvent)
     → slice_get headers number ≡ Some header → events ≡ front ++ rest →
@@ -41,21 +45,25 @@ AreContinuous headers events = (number : ℕ) (header : Header) (front rest : Li
     let it = own_fold headers front number header in
     IsClearRun i it.events → IsGenuineRun i it.events → IsOneRun header number it
 
--- Behind these event lines, and their events, the line is one too many: it is event 20,001, or the event lines with it
--- and the snapshots issued before it in all slots have more than 268,435,456 bytes.
+-- Behind these event lines, and their events, the line is one too many: it is event 20,001, or the
+-- event lines with it and the snapshots issued before it in all slots have more than 268,435,456
+-- bytes.
 abbrev pub IsOver : List Header → List (List ℕ) → List SlotEvent → List ℕ → Type 0
 IsOver headers before events line = (most_events ≤ length before)
-    ⊎ (most_kept < sum_by length before + length line + kept_in (after_events (first_rows headers) events))
+    ⊎ (most_kept < sum_by length before + length line + kept_in
+    (after_events (first_rows headers) events))
 
 -- none of these event lines was one too many
 abbrev pub AreWithinLimits : List Header → List (List ℕ) → Type 0
-AreWithinLimits headers lines = (before : List (List ℕ)) (line : List ℕ) (after : List (List ℕ)) (events : List SlotEvent)
+AreWithinLimits headers lines =
+    (before : List (List ℕ)) (line : List ℕ) (after : List (List ℕ)) (events : List SlotEvent)
     → lines ≡ before ++ line ∷ after → map (event_at (length headers)) before ≡ map Some events
     → IsOver headers before events line → ⊥
 
--- The lines are the first one, a header line for each slot, and events. What is written is the answers to the events, and
--- then the last lines.
-pub record AnswersSlots (lines : List (List ℕ)) (written : List ℕ) (last : List Row → List ℕ) : Type 0 where
+-- The lines are the first one, a header line for each slot, and events. What is written is the
+-- answers to the events, and then the last lines.
+pub record AnswersSlots (lines : List (List ℕ)) (written : List ℕ) (last : List Row → List ℕ) : Type
+    0 where
   pub first : List ℕ
   pub heads : List (List ℕ)
   pub others : List (List ℕ)
@@ -65,7 +73,8 @@ pub record AnswersSlots (lines : List (List ℕ)) (written : List ℕ) (last : L
   pub counted : first_at first ≡ Some (length headers)
   pub headed : map head_at heads ≡ map Some headers
   pub read : map (event_at (length headers)) others ≡ map Some events
-  pub told : written ≡ answers_text (answers (first_rows headers) events) ++ last (after_events (first_rows headers) events)
+  pub told : written ≡ answers_text (answers (first_rows headers) events)
+      ++ last (after_events (first_rows headers) events)
   pub within : AreWithinLimits headers others
   -- each slot's answers are its own, without a premise
   pub own : AreOwn headers events
@@ -75,7 +84,8 @@ pub record AnswersSlots (lines : List (List ℕ)) (written : List ℕ) (last : L
 abbrev pub unended : List Row → List ℕ
 unended rows = []
 
--- The lines are the first one and header lines, and some header lines are still to come; or there is none.
+-- The lines are the first one and header lines, and some header lines are still to come; or there
+-- is none.
 pub record IsHeading (lines : List (List ℕ)) : Type 0 where
   pub first : List ℕ
   pub heads : List (List ℕ)
@@ -88,7 +98,8 @@ pub record IsHeading (lines : List (List ℕ)) : Type 0 where
 
 -- No event was answered, or the first lines and events were.
 abbrev pub AnswersLines : List (List ℕ) → List ℕ → Type 0
-AnswersLines lines written = (((lines ≡ []) ⊎ IsHeading lines) × (written ≡ [])) ⊎ AnswersSlots lines written unended
+AnswersLines lines written =
+    (((lines ≡ []) ⊎ IsHeading lines) × (written ≡ [])) ⊎ AnswersSlots lines written unended
 
 -- slots whole, with their last lines
 abbrev pub AnswersAll : List (List ℕ) → List ℕ → Type 0
@@ -110,6 +121,7 @@ pub record IsTooMuch (done rest : List (List ℕ)) : Type 0 where
   pub follows : rest ≡ line ∷ more
   pub over : IsOver headers others events line
 
--- What is out, by how a run of slots ended, where these bytes of the input were taken and those written.
+-- What is out, by how a run of slots ended, where these bytes of the input were taken and those
+-- written.
 abbrev pub IsOut : {T : Type 0} → Option (List ℕ) → List ℕ → List ℕ → Result T ReplayFault → Type 0
 IsOut left taken sent result = TellsBy AnswersLines AnswersAll IsTooMuch left taken sent result

@@ -38,10 +38,11 @@ call_in (code.Closes closing) = Closes
 -- its meddles, and its next step, are those of the platform's plan
 abbrev pub flight_in : Plan → Option CodeFlight → Option Flight
 flight_in plan None = None
-flight_in plan (Some flight) = Some (record { call = call_in flight; meddles = plan.meddles; next = plan.at + 1 })
+flight_in plan (Some flight) =
+    Some (record { call = call_in flight; meddles = plan.meddles; next = plan.at + 1 })
 
--- Where a slot stands by digests: a call in flight has left the cell's as they were, and the slot has the register's as it was
--- before the call.
+-- Where a slot stands by digests: a call in flight has left the cell's as they were, and the slot
+-- has the register's as it was before the call.
 abbrev pub digests_in : Standing → CodeSlot → Digests
 digests_in standing slot = record {
   digest = digest_in standing.cell;
@@ -60,28 +61,37 @@ slot_in standing slot = record {
 abbrev pub instance_in : CodeSlot → Instance
 instance_in slot = slot_instance slot.header slot.number
 
--- A call that asks is in flight: begun over a platform that stood so, with the bytes that its offer names, and with room
--- for the snapshot that it may hand out.
-pub record FitsAsking (header : Header) (number : ℕ) (d : Digests) (issued : List (List ℕ)) (capacity : ℕ) (standing : Standing)
+-- A call that asks is in flight: begun over a platform that stood so, with the bytes that its offer
+-- names, and with room for the snapshot that it may hand out.
+pub record FitsAsking (header : Header) (number : ℕ) (d : Digests) (issued : List (List ℕ))
+    (capacity : ℕ) (standing : Standing)
     (asking : Asking) : Type 0 where
   pub from : Standing
-  pub flies : AsksInFlight header.variant (meaning_of header.«module») (rising_from number) (rising_from (128 + number)) d from
-      asking.call standing (next_plan standing).meddles ((next_plan standing).at + 1) asking.bytes (One asking.request)
+  pub flies : AsksInFlight header.variant (meaning_of header.«module») (rising_from number)
+      (rising_from (128 + number)) d from
+      asking.call standing (next_plan standing).meddles ((next_plan standing).at + 1) asking.bytes
+      (One asking.request)
   pub offered : offered_bytes issued asking.offer ≡ Some asking.bytes
   pub short : is_long (One asking.request) ≡ false
   pub room : length issued < capacity
 
 -- a checkpoint is in flight
-pub record FitsClosing (header : Header) (number : ℕ) (d : Digests) (standing : Standing) (closing : Closing) : Type 0 where
+pub record FitsClosing (header : Header) (number : ℕ) (d : Digests) (standing : Standing)
+    (closing : Closing) : Type 0 where
   pub from : Standing
-  pub flies : ClosesInFlight header.variant (meaning_of header.«module») (rising_from number) (rising_from (128 + number)) d from
+  pub flies : ClosesInFlight header.variant (meaning_of header.«module») (rising_from number)
+      (rising_from (128 + number)) d from
       closing.call standing (next_plan standing).meddles ((next_plan standing).at + 1)
 
 -- the platform stands so that the call in flight, if there is one, goes on
-abbrev pub FitsFlight : Header → ℕ → Digests → List (List ℕ) → ℕ → Standing → Option CodeFlight → Type 0
-FitsFlight header number d issued capacity standing None = Stands (slot_instance header number) standing d × IsQuiet standing
-FitsFlight header number d issued capacity standing (Some (code.Asks asking)) = FitsAsking header number d issued capacity standing asking
-FitsFlight header number d issued capacity standing (Some (code.Closes closing)) = FitsClosing header number d standing closing
+abbrev pub FitsFlight : Header → ℕ → Digests → List (List ℕ) → ℕ → Standing → Option CodeFlight
+    → Type 0
+FitsFlight header number d issued capacity standing None =
+    Stands (slot_instance header number) standing d × IsQuiet standing
+FitsFlight header number d issued capacity standing (Some (code.Asks asking)) =
+    FitsAsking header number d issued capacity standing asking
+FitsFlight header number d issued capacity standing (Some (code.Closes closing)) =
+    FitsClosing header number d standing closing
 
 -- a count of 64 bits stays at the greatest once it is there
 abbrev pub within_64 : ℕ → ℕ
@@ -89,7 +99,8 @@ within_64 n = min n (2 ^ 64 - 1)
 
 -- the slot is over this platform
 pub record Fits (standing : Standing) (slot : CodeSlot) : Type 0 where
-  pub flight : FitsFlight slot.header slot.number (digests_in standing slot) slot.issued.items (vec_capacity slot.issued) standing slot.flight
+  pub flight : FitsFlight slot.header slot.number (digests_in standing slot) slot.issued.items
+      (vec_capacity slot.issued) standing slot.flight
   pub kept : slot.kept ≡ within_64 (sum_by length slot.issued.items)
 
 -- the slot with this call in flight
@@ -101,7 +112,8 @@ abbrev pub HasRegister : Standing → CodeSlot → Type 0
 HasRegister standing slot = register_reads standing ≡ Some slot.register.bytes
 
 -- A call of the slot is over that came to this, and the slot is as it leaves it.
-pub record EndsCall (standing : Standing) (it : Called) (slot slot' : CodeSlot) (said : Said) : Type 0 where
+pub record EndsCall (standing : Standing) (it : Called) (slot slot' : CodeSlot) (said : Said) : Type
+    0 where
   pub header : slot'.header ≡ slot.header
   pub number : slot'.number ≡ slot.number
   pub flight : slot'.flight ≡ slot.flight
@@ -119,13 +131,14 @@ pub record GoesOn (new : Standing) (slot slot' : CodeSlot) : Type 0 where
   pub few : slot'.committed ≤ slot.committed + most_members
   pub short : length slot'.issued.items ≤ length slot.issued.items + 1
 
--- Memory was wanting: the same slot, over which nothing was committed and no snapshot issued; the call in flight may have made
--- its reading steps.
+-- Memory was wanting: the same slot, over which nothing was committed and no snapshot issued; the
+-- call in flight may have made its reading steps.
 pub record Wants (old new : Standing) (slot slot' : CodeSlot) : Type 0 where
   pub goes : GoesOn new slot slot'
   pub cell : new.cell ≡ old.cell
   pub stands : (digests_in new slot' ≡ digests_in old slot)
-      ⊎ (digests_in new slot' ≡ having_read (instance_in slot) (digests_in old slot) (slot_in old slot).flight)
+      ⊎ (digests_in new slot' ≡ having_read (instance_in slot) (digests_in old slot)
+      (slot_in old slot).flight)
   pub committed : slot'.committed ≡ slot.committed
   pub issued : slot'.issued.items ≡ slot.issued.items
 
@@ -151,11 +164,12 @@ pub record KeepsSlot (slot slot' : CodeSlot) : Type 0 where
   pub flight : slot'.flight ≡ slot.flight
 
 -- A slot at first: its first snapshot is issued, and its register is empty.
-pub record IsNewSlot (number : ℕ) (header : Header) (snapshot : List ℕ) (slot : CodeSlot) : Type 0 where
-  pub numbered : slot.number ≡ number
-  pub headed : slot.header ≡ header
-  pub issued : slot.issued.items ≡ snapshot ∷ []
-  pub kept : slot.kept ≡ within_64 (length snapshot)
-  pub committed : slot.committed ≡ 0
-  pub register : slot.register.bytes ≡ zero_bytes
-  pub flight : slot.flight ≡ None
+pub record IsNewSlot (number : ℕ) (header : Header) (snapshot : List ℕ) (slot : CodeSlot) : Type 0
+  where
+    pub numbered : slot.number ≡ number
+    pub headed : slot.header ≡ header
+    pub issued : slot.issued.items ≡ snapshot ∷ []
+    pub kept : slot.kept ≡ within_64 (length snapshot)
+    pub committed : slot.committed ≡ 0
+    pub register : slot.register.bytes ≡ zero_bytes
+    pub flight : slot.flight ≡ None

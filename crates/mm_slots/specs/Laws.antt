@@ -11,18 +11,24 @@ use Rattle.mm_slots.specs.declared.event.SlotEvent.{SlotEvent}
 use Rattle.mm_slots.specs.Slot.{Turned, Met, folded, first_slot}
 use Rattle.mm_slots.specs.Table.{Row, instance_of, row_after, after_events, answers, met_by, said_for}
 
--- A slot of a table is where its own fold leaves it, and what is said for it is what its fold says: over what it meets,
--- and over nothing else.
-pub record IsAlone (number : ℕ) (rows : List Row) (events : List SlotEvent) (row : Row) : Type 0 where
-  pub stands : slice_get (after_events rows events) number ≡ Some (row_after row (met_by number rows events))
-  pub said : said_for number (answers rows events) ≡ (folded (instance_of row) row.slot (met_by number rows events)).said
+-- A slot of a table is where its own fold leaves it, and what is said for it is what its fold says:
+-- over what it meets, and over nothing else.
+pub record IsAlone (number : ℕ) (rows : List Row) (events : List SlotEvent) (row : Row) : Type 0
+  where
+    pub stands : slice_get (after_events rows events) number ≡ Some
+        (row_after row (met_by number rows events))
+    pub said : said_for number
+        (answers rows events) ≡ (folded (instance_of row) row.slot (met_by number rows events)).said
 
 abbrev pub SlotsAreAlone : Type 0
-SlotsAreAlone = (rows : List Row) (events : List SlotEvent) (number : ℕ) (row : Row) → slice_get rows number ≡ Some row
+SlotsAreAlone =
+    (rows : List Row) (events : List SlotEvent) (number : ℕ) (row : Row)
+    → slice_get rows number ≡ Some row
     → IsAlone number rows events row
 
--- The replies that a slot's events come to are those of one run of the module on one list of requests, as the verdict on
--- histories gives them; so many requests were committed, and as many snapshots issued as that verdict issues.
+-- The replies that a slot's events come to are those of one run of the module on one list of
+-- requests, as the verdict on histories gives them; so many requests were committed, and as many
+-- snapshots issued as that verdict issues.
 pub record SlotRuns (i : Instance) (it : Turned) : Type 0 where
   pub requests : List (List ℕ)
   pub runs : Runs i.meaning [] it.events it.replies requests
@@ -30,8 +36,8 @@ pub record SlotRuns (i : Instance) (it : Turned) : Type 0 where
   pub count : it.slot.digests.count ≡ length requests
   pub shown : length it.slot.issued ≡ length (expected i it.events).issued
 
--- So it is of each slot, where no two different messages of its run share a digest, no digest is zero, no value that
--- others extend its register by is the guard of a batch, and no tag is forged.
+-- So it is of each slot, where no two different messages of its run share a digest, no digest is
+-- zero, no value that others extend its register by is the guard of a batch, and no tag is forged.
 abbrev pub SlotsRun : Type 0
 SlotsRun = (variant : Variant) (meaning : Meaning) (key barrier : List ℕ) (mets : List Met) →
     let i = instance_by variant meaning key barrier in

@@ -13,14 +13,16 @@ abbrev pub IsReported : {T : Type 0} → SlotsStage → Result SlotReport T → 
 IsReported next (Ok report) = Reports next report
 IsReported next (Err fault) = Unit {0}
 
--- A run of slots took these bytes of the input and wrote those. They fit the answer line by line; and as a whole they are
--- the answers to the events, each slot's its own, with the headline.
-pub record PlaysSlots (left left' received received' : Option (List ℕ)) (result : Result SlotReport ReplayFault) : Type 0 where
+-- A run of slots took these bytes of the input and wrote those. They fit the answer line by line;
+-- and as a whole they are the answers to the events, each slot's its own, with the headline.
+pub record PlaysSlots (left left' received received' : Option (List ℕ))
+    (result : Result SlotReport ReplayFault) : Type 0 where
   pub taken : List ℕ
   pub sent : List ℕ
   pub next : SlotsStage
   pub consumed : Consumes left left' taken
   pub appended : Appends received received' sent
-  pub settled : Settles (run slots_answer 1 AtFirst) (run_of slots_answer slots_closing AtFirst) next left' taken sent result
+  pub settled : Settles (run slots_answer 1 AtFirst) (run_of slots_answer slots_closing AtFirst)
+      next left' taken sent result
   pub told : IsOut left' taken sent result
   pub reported : IsReported next result

@@ -16,4 +16,5 @@ issued_in (row ∷ rows) = length row.slot.issued + issued_in rows
 abbrev pub Reports : SlotsStage → SlotReport → Type 0
 Reports AtFirst report = (report.committed ≡ 0) × (report.issued ≡ 0)
 Reports (AtHeads count headers) report = (report.committed ≡ 0) × (report.issued ≡ 0)
-Reports (InEvents r) report = (report.committed ≡ committed_in r.rows) × (report.issued ≡ issued_in r.rows)
+Reports (InEvents r) report =
+    (report.committed ≡ committed_in r.rows) × (report.issued ≡ issued_in r.rows)

@@ -13,7 +13,8 @@ use Rattle.mm_slots.specs.Slot.{Met, Acts, Loses}
 use Rattle.mm_slots.specs.Table.{Row, row_after, by_place, after_event, said_at, answers_to}
 
 abbrev pub row_in : Standing → CodeSlot → Row
-row_in standing slot = record { header = slot.header; number = slot.number; slot = slot_in standing slot }
+row_in standing slot =
+    record { header = slot.header; number = slot.number; slot = slot_in standing slot }
 
 -- what stands in each slot, by the platforms and the slots over them
 abbrev pub rows_in : List Standing → List CodeSlot → List Row
@@ -32,7 +33,8 @@ abbrev pub AllFit : ℕ → List Standing → List CodeSlot → Type 0
 AllFit events [] [] = Unit {0}
 AllFit events [] (slot ∷ slots) = ⊥
 AllFit events (standing ∷ standings) [] = ⊥
-AllFit events (standing ∷ standings) (slot ∷ slots) = FitsWithin events standing slot × AllFit events standings slots
+AllFit events (standing ∷ standings) (slot ∷ slots) =
+    FitsWithin events standing slot × AllFit events standings slots
 
 -- each slot after what it meets, by its number
 abbrev pub touched : (ℕ → List Met) → List Row → List Row
@@ -43,43 +45,52 @@ abbrev pub only_at : ℕ → Met → ℕ → List Met
 only_at number met other = if other == number then met ∷ [] else []
 
 -- Something happened in the slot with this number, and this was said.
-pub record ActsAt (events number : ℕ) (what : Action) (standings standings' : List Standing) (slots slots' : List CodeSlot)
+pub record ActsAt (events number : ℕ) (what : Action) (standings standings' : List Standing)
+    (slots slots' : List CodeSlot)
     (said : Said) : Type 0 where
-  pub rows : rows_in standings' slots' ≡ touched (only_at number (Acts what)) (rows_in standings slots)
+  pub rows : rows_in standings' slots' ≡ touched (only_at number (Acts what))
+      (rows_in standings slots)
   pub fit : AllFit (events + 1) standings' slots'
   pub says : said_at (rows_in standings slots) number what ≡ said ∷ []
   pub sayable : IsSayable said
 
 -- the slot with this number lost its power
-pub record LosesAt (events number : ℕ) (standings standings' : List Standing) (slots slots' : List CodeSlot) : Type 0 where
+pub record LosesAt (events number : ℕ) (standings standings' : List Standing)
+    (slots slots' : List CodeSlot) : Type 0 where
   pub rows : rows_in standings' slots' ≡ touched (only_at number Loses) (rows_in standings slots)
   pub fit : AllFit events standings' slots'
 
 -- what the fields of a run among its events keep
-pub record KeepsAll (standings : List Standing) (slots : List CodeSlot) (events read : ℕ) : Type 0 where
-  pub fit : AllFit events standings slots
-  pub some : 1 ≤ length slots
-  pub most : length slots ≤ 16
-  pub few : events ≤ most_events
-  pub short : read ≤ longest_line * events
+pub record KeepsAll (standings : List Standing) (slots : List CodeSlot) (events read : ℕ) : Type 0
+  where
+    pub fit : AllFit events standings slots
+    pub some : 1 ≤ length slots
+    pub most : length slots ≤ 16
+    pub few : events ≤ most_events
+    pub short : read ≤ longest_line * events
 
 -- one slot loses its power, but for the one with this number
 abbrev pub others_lose : ℕ → ℕ → List Met
 others_lose but number = if number == but then [] else Loses ∷ []
 
 -- all slots lost their power but the one with this number, if there is one
-pub record LosesAll (events but : ℕ) (standings standings' : List Standing) (slots slots' : List CodeSlot) : Type 0 where
+pub record LosesAll (events but : ℕ) (standings standings' : List Standing)
+    (slots slots' : List CodeSlot) : Type 0 where
   pub rows : rows_in standings' slots' ≡ touched (others_lose but) (rows_in standings slots)
   pub fit : AllFit events standings' slots'
 
 -- the slot with this number lost its power, if it isn't that one
-pub record LosesUnless (events number but : ℕ) (standings standings' : List Standing) (slots slots' : List CodeSlot) : Type 0 where
-  pub rows : rows_in standings' slots' ≡ touched (λ k. if k == number then others_lose but number else []) (rows_in standings slots)
+pub record LosesUnless (events number but : ℕ) (standings standings' : List Standing)
+    (slots slots' : List CodeSlot) : Type 0 where
+  pub rows : rows_in standings' slots' ≡ touched
+      (λ k. if k == number then others_lose but number else []) (rows_in standings slots)
   pub fit : AllFit events standings' slots'
 
 -- where a call was cut, all slots but the one with this number lost their power
-pub record LosesIf (events but : ℕ) (is_cut : Bool) (standings standings' : List Standing) (slots slots' : List CodeSlot) : Type 0 where
-  pub rows : rows_in standings' slots' ≡ touched (λ k. if is_cut then others_lose but k else []) (rows_in standings slots)
+pub record LosesIf (events but : ℕ) (is_cut : Bool) (standings standings' : List Standing)
+    (slots slots' : List CodeSlot) : Type 0 where
+  pub rows : rows_in standings' slots' ≡ touched (λ k. if is_cut then others_lose but k else [])
+      (rows_in standings slots)
   pub fit : AllFit events standings' slots'
 
 -- the event is in one of so many slots, or in all
@@ -88,19 +99,22 @@ IsInside slots Power = Unit {0}
 IsInside slots (At number what) = number < slots
 
 -- all slots are as this event leaves them
-pub record Follows (events : ℕ) (event : SlotEvent) (standings standings' : List Standing) (slots slots' : List CodeSlot) : Type 0 where
+pub record Follows (events : ℕ) (event : SlotEvent) (standings standings' : List Standing)
+    (slots slots' : List CodeSlot) : Type 0 where
   pub rows : rows_in standings' slots' ≡ after_event (rows_in standings slots) event
   pub fit : AllFit (events + 1) standings' slots'
 
 -- something happened in the slot with this number, and this was said
-pub record Tells (events number : ℕ) (what : Action) (standings standings' : List Standing) (slots slots' : List CodeSlot)
+pub record Tells (events number : ℕ) (what : Action) (standings standings' : List Standing)
+    (slots slots' : List CodeSlot)
     (said : Said) : Type 0 where
   pub follows : Follows events (At number what) standings standings' slots slots'
   pub says : said_at (rows_in standings slots) number what ≡ said ∷ []
   pub sayable : IsSayable said
 
 -- the event was followed, and this is its answer
-pub record Answers (events : ℕ) (event : SlotEvent) (standings standings' : List Standing) (slots slots' : List CodeSlot)
+pub record Answers (events : ℕ) (event : SlotEvent) (standings standings' : List Standing)
+    (slots slots' : List CodeSlot)
     (text : List ℕ) : Type 0 where
   pub follows : Follows events event standings standings' slots slots'
   pub answers : text ≡ answers_text (answers_to (rows_in standings slots) event)

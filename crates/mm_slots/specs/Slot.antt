@@ -1,4 +1,5 @@
--- One slot of a platform, followed event by event. What a call in flight comes to is what the call comes to in one go.
+-- One slot of a platform, followed event by event. What a call in flight comes to is what the call
+-- comes to in one go.
 use Rattle.std.specs.Prelude.{ℕ, ◌+◌, List, [], ◌∷◌, ◌++◌, Option, None, Some, if◌then◌else◌}
 use Rattle.mm_module.specs.Batch.{Batch, One}
 use Rattle.mm_modules.specs.Modules.{meaning_of}
@@ -37,21 +38,22 @@ abbrev pub event_by : Call → List Meddle → Stop → Event
 event_by (Asks offer batch) meddles stop = Ask meddles stop offer batch
 event_by Closes meddles stop = Checkpoint meddles stop
 
--- a call in flight: the values that others brought, each just before a step, and the number of its next step
+-- a call in flight: the values that others brought, each just before a step, and the number of its
+-- next step
 pub record Flight : Type 0 where
   pub call : Call
   pub meddles : List Meddle
   pub next : ℕ
 
--- where a slot stands by digests, its issued snapshots, and its call in flight; while one is, the digests and the
--- snapshots are those at which it was begun
+-- where a slot stands by digests, its issued snapshots, and its call in flight; while one is, the
+-- digests and the snapshots are those at which it was begun
 pub record Slot : Type 0 where
   pub digests : Digests
   pub issued : List (List ℕ)
   pub flight : Option Flight
 
--- What something in a slot comes to: the slot afterwards, and what is said; and the events of a schedule that it
--- completes, with a reply for each. A call is such an event once it is over.
+-- What something in a slot comes to: the slot afterwards, and what is said; and the events of a
+-- schedule that it completes, with a reply for each. A call is such an event once it is over.
 pub record Turned : Type 0 where
   pub slot : Slot
   pub said : List Said
@@ -67,7 +69,12 @@ outcome_in i slot event = event_outcome i (by_digests i) slot.digests slot.issue
 -- an event of a schedule, in one go
 abbrev pub plays : Instance → Slot → Event → Turned
 plays i slot event = record {
-  slot = record { digests = (outcome_in i slot event).state; issued = (outcome_in i slot event).issued; flight = None };
+  slot =
+      record {
+        digests = (outcome_in i slot event).state;
+        issued = (outcome_in i slot event).issued;
+        flight = None;
+      };
   said = Replied (outcome_in i slot event).reply ∷ [];
   events = event ∷ [];
   replies = (outcome_in i slot event).reply ∷ [];
@@ -87,14 +94,16 @@ begun i slot offer batch (Some bytes) =
     if is_long batch then plays i slot (Ask [] stop.Quiet offer batch)
     else merely (flying slot (beginning (Asks offer batch))) Begun
 
--- the call as it was made up to its next step, which it makes, and is stopped at the one behind it without effect
+-- the call as it was made up to its next step, which it makes, and is stopped at the one behind it
+-- without effect
 abbrev pub so_far : Flight → Event
 so_far flight = event_by flight.call flight.meddles (stop_behind flight.next)
 
 -- the digests once the reading steps of the call in flight are made, if there is one
 abbrev pub having_read : Instance → Digests → Option Flight → Digests
 having_read i d None = d
-having_read i d (Some flight) = seen_at i (by_digests i) d (course_of (stop_behind flight.next) flight.meddles)
+having_read i d (Some flight) =
+    seen_at i (by_digests i) d (course_of (stop_behind flight.next) flight.meddles)
 
 -- the call makes its next step, and goes on, or is over
 abbrev pub stepped : Instance → Slot → Flight → Turned
@@ -116,7 +125,8 @@ joined flight value = record flight {
 
 -- what happens in a slot, by the call in flight
 abbrev pub acted_by : Instance → Slot → Option Flight → Action → Turned
-acted_by i slot None (action.Begin offer request) = begun i slot offer (One request) (offered_bytes slot.issued offer)
+acted_by i slot None (action.Begin offer request) =
+    begun i slot offer (One request) (offered_bytes slot.issued offer)
 acted_by i slot None action.Close = merely (flying slot (beginning Closes)) Begun
 acted_by i slot None action.Step = merely slot Idle
 acted_by i slot None (action.Break how) = merely slot Idle
@@ -124,8 +134,10 @@ acted_by i slot None (action.Extend value) = plays i slot (Extend value.bytes)
 acted_by i slot (Some flight) (action.Begin offer request) = merely slot Busy
 acted_by i slot (Some flight) action.Close = merely slot Busy
 acted_by i slot (Some flight) action.Step = stepped i slot flight
-acted_by i slot (Some flight) (action.Break how) = plays i slot (event_by flight.call flight.meddles (stop_at how flight.next))
-acted_by i slot (Some flight) (action.Extend value) = merely (flying slot (joined flight value.bytes)) (Replied reply.Extended)
+acted_by i slot (Some flight) (action.Break how) =
+    plays i slot (event_by flight.call flight.meddles (stop_at how flight.next))
+acted_by i slot (Some flight) (action.Extend value) =
+    merely (flying slot (joined flight value.bytes)) (Replied reply.Extended)
 
 abbrev pub acted : Instance → Slot → Action → Turned
 acted i slot what = acted_by i slot slot.flight what
@@ -154,15 +166,21 @@ followed_by first rest = record {
 -- what a slot comes to that meets these one after another
 abbrev pub folded : Instance → Slot → List Met → Turned
 folded i slot [] = record { slot = slot; said = []; events = []; replies = [] }
-folded i slot (met ∷ more) = followed_by (turned i slot met) (folded i (turned i slot met).slot more)
+folded i slot (met ∷ more) =
+    followed_by (turned i slot met) (folded i (turned i slot met).slot more)
 
--- the instance in the slot with this number: its key begins with this byte, and its barrier 128 bytes higher
+-- the instance in the slot with this number: its key begins with this byte, and its barrier 128
+-- bytes higher
 abbrev pub slot_instance : Header → ℕ → Instance
-slot_instance header number = instance_by header.variant (meaning_of header.«module») (rising_from number) (rising_from (128 + number))
+slot_instance header number =
+    instance_by header.variant (meaning_of header.«module») (rising_from number)
+    (rising_from (128 + number))
 
 abbrev pub first_slot : Instance → Slot
 first_slot i = record { digests = first_digests i; issued = first_issued i; flight = None }
 
--- What the slot with this header and number comes to that meets these from the start. It knows no other slot.
+-- What the slot with this header and number comes to that meets these from the start. It knows no
+-- other slot.
 abbrev pub slot_after : Header → ℕ → List Met → Turned
-slot_after header number mets = folded (slot_instance header number) (first_slot (slot_instance header number)) mets
+slot_after header number mets =
+    folded (slot_instance header number) (first_slot (slot_instance header number)) mets

@@ -24,11 +24,13 @@ with_slot s number standing = record s { slots = slice_set s.slots number standi
 -- others extend the register of the slot with this number by a value
 abbrev pub brought : Slots → ℕ → Digest → Slots
 brought s number value =
-    with_slot s number (record (standing_in s number) { items = beside (value.bytes ∷ []) (standing_in s number).items })
+    with_slot s number (record (standing_in s number)
+    { items = beside (value.bytes ∷ []) (standing_in s number).items })
 
 -- the next step of the slot with this number fails, and nothing else
 abbrev pub failing : Slots → ℕ → Bool → Slots
-failing s number done = with_slot s number (record (standing_in s number) { plan = Some (failing_plan done) })
+failing s number done =
+    with_slot s number (record (standing_in s number) { plan = Some (failing_plan done) })
 
 -- power was lost and came back, for all slots
 abbrev pub all_cycled : Slots → Slots

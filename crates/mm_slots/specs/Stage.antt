@@ -28,10 +28,12 @@ kept_in (row ∷ rows) = sum_by length row.slot.issued + kept_in rows
 
 -- one event more would be too many, or its line too many bytes
 abbrev pub is_too_much : Running → List ℕ → Bool
-is_too_much r line = nat_le most_events r.events || nat_lt most_kept (r.read + length line + kept_in r.rows)
+is_too_much r line =
+    nat_le most_events r.events || nat_lt most_kept (r.read + length line + kept_in r.rows)
 
 abbrev pub after_line : Running → List ℕ → SlotEvent → Running
-after_line r line event = record { rows = after_event r.rows event; events = r.events + 1; read = r.read + length line }
+after_line r line event =
+    record { rows = after_event r.rows event; events = r.events + 1; read = r.read + length line }
 
 -- before the first line, among the header lines of so many slots, or among the events
 pub data SlotsStage : Type 0 where
@@ -49,7 +51,8 @@ abbrev pub are_to_come : ℕ → List Header → Bool
 are_to_come count headers = nat_lt (length headers) (min count 16)
 
 abbrev pub behind_heads : ℕ → List Header → SlotsStage
-behind_heads count headers = if are_to_come count headers then AtHeads count headers else InEvents (begun headers)
+behind_heads count headers =
+    if are_to_come count headers then AtHeads count headers else InEvents (begun headers)
 
 abbrev pub head_answer : ℕ → List Header → Option Header → Result (List ℕ × SlotsStage) Refused
 head_answer count headers None = Err Bad
@@ -58,7 +61,8 @@ head_answer count headers (Some header) = Ok ([], behind_heads count (headers ++
 abbrev pub event_answer : Running → List ℕ → Option SlotEvent → Result (List ℕ × SlotsStage) Refused
 event_answer r line None = Err Bad
 event_answer r line (Some event) =
-    if is_too_much r line then Err Much else Ok (answers_text (answers_to r.rows event), InEvents (after_line r line event))
+    if is_too_much r line then Err Much
+    else Ok (answers_text (answers_to r.rows event), InEvents (after_line r line event))
 
 -- the reply to a line
 abbrev pub slots_answer : SlotsStage → List ℕ → Result (List ℕ × SlotsStage) Refused

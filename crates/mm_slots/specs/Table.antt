@@ -33,7 +33,8 @@ is_cut (Some flight) (action.Extend value) = false
 is_cut None what = false
 
 abbrev pub cuts_all : List Row → ℕ → Action → Bool
-cuts_all rows number what = option_map_or (λ (row : Row). is_cut row.slot.flight what) (slice_get rows number) false
+cuts_all rows number what =
+    option_map_or (λ (row : Row). is_cut row.slot.flight what) (slice_get rows number) false
 
 -- what an event has in it for the slot with this number
 abbrev pub met_in : ℕ → List Row → SlotEvent → List Met
@@ -64,7 +65,9 @@ pub data Answer : Type 0 where
   Says : (number : ℕ) (said : Said) → Answer
 
 abbrev pub said_at : List Row → ℕ → Action → List Said
-said_at rows number what = option_map_or (λ (row : Row). (acted (instance_of row) row.slot what).said) (slice_get rows number) []
+said_at rows number what =
+    option_map_or (λ (row : Row). (acted (instance_of row) row.slot what).said)
+    (slice_get rows number) []
 
 abbrev pub answers_to : List Row → SlotEvent → List Answer
 answers_to rows Power = PowerLost ∷ []
@@ -74,21 +77,24 @@ abbrev pub answers : List Row → List SlotEvent → List Answer
 answers rows [] = []
 answers rows (event ∷ events) = answers_to rows event ++ answers (after_event rows event) events
 
--- What the slot with this number meets: what happens in it, in order, and a loss of power at each that is common and at
--- each cut of another slot's call.
+-- What the slot with this number meets: what happens in it, in order, and a loss of power at each
+-- that is common and at each cut of another slot's call.
 abbrev pub met_by : ℕ → List Row → List SlotEvent → List Met
 met_by number rows [] = []
-met_by number rows (event ∷ events) = met_in number rows event ++ met_by number (after_event rows event) events
+met_by number rows (event ∷ events) =
+    met_in number rows event ++ met_by number (after_event rows event) events
 
 -- what is said for the slot with this number
 abbrev pub said_for : ℕ → List Answer → List Said
 said_for number [] = []
 said_for number (PowerLost ∷ answers) = said_for number answers
-said_for number (Says other said ∷ answers) = (if number == other then said ∷ [] else []) ++ said_for number answers
+said_for number (Says other said ∷ answers) =
+    (if number == other then said ∷ [] else []) ++ said_for number answers
 
 -- the slots at first, by their header lines
 abbrev pub first_row : ℕ → Header → Row
-first_row number header = record { header = header; number = number; slot = first_slot (slot_instance header number) }
+first_row number header =
+    record { header = header; number = number; slot = first_slot (slot_instance header number) }
 
 abbrev pub first_rows : List Header → List Row
 first_rows headers = by_place first_row 0 headers

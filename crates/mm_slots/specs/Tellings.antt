@@ -21,4 +21,5 @@ said_to_call _ = []
 -- The replies to calls that are said for a slot are those that its fold gives, in their order.
 abbrev pub SlotsTellReplies : Type 0
 SlotsTellReplies = (i : Instance) (slot : Slot) (mets : List Met)
-    → flat_map said_to_call (folded i slot mets).said ≡ flat_map to_call (folded i slot mets).replies
+    → flat_map said_to_call (folded i slot mets).said ≡ flat_map to_call
+    (folded i slot mets).replies

@@ -23,4 +23,5 @@ AreCounted slots = All (λ (slot : CodeSlot). length slot.issued.items < 2 ^ 32)
 -- the last lines, one for each slot, from this number on
 abbrev pub ends_from : ℕ → List CodeSlot → List ℕ
 ends_from number [] = []
-ends_from number (slot ∷ slots) = slot_end_line number slot.committed (length slot.issued.items) ++ ends_from (number + 1) slots
+ends_from number (slot ∷ slots) =
+    slot_end_line number slot.committed (length slot.issued.items) ++ ends_from (number + 1) slots

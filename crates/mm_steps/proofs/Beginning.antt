@@ -96,10 +96,3 @@ closes_take_in variant meaning key barrier d from call now new meddles next valu
 -- there is a next step to plan such a value for
 pub may_take_in : (now : Standing) (plan : Plan) (at : ℕ) → now.plan ≡ Some (record plan { at = at }) → at < 255 → (next_plan now).at < 255
 may_take_in now plan at known few = rw known few
-
--- a stop at its next step breaks a call off
-pub asks_break_next : (variant : Variant) (meaning : Meaning) (key barrier : List ℕ) (d : Digests) (from : Standing) (call : AskCall)
-    (now : Standing) (meddles : List Meddle) (next : ℕ) (bytes : List ℕ) (b : Batch) (stop : Stop)
-    → AsksInFlight variant meaning key barrier d from call now meddles next bytes b → stopped_step stop ≡ next → BreaksNext stop now
-asks_break_next variant meaning key barrier d from call now meddles next bytes b stop f at =
-    breaks_at stop now meddles f.made next f.flies.is_on f.flies.planned f.flies.few at f.is_next

@@ -27,7 +27,7 @@ use Rattle.mm_opt.specs.CheckpointTurns.{ClosingTurns}
 use Rattle.mm_opt.specs.ChecksOn.{ChecksOn}
 use Rattle.mm_schedule.specs.declared.reply.Reply.{Reply}
 use Rattle.mm_schedule.specs.declared.reply.Way.TheVariants as way
-use Rattle.mm_run.specs.Folds.{stopped_reply}
+use Rattle.mm_run.specs.FoldsWords.{stopped_reply}
 use Rattle.mm_flight.specs.InFlight.{plan_by, under}
 use Rattle.mm_flight.proofs.ClosingTurning.{closing_replanned, closing_moves, closing_then, closing_done, closing_refused, closing_fails, closing_faultless}
 use Rattle.mm_flight.proofs.Flying.{replans, goes_on}

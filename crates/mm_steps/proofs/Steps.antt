@@ -293,14 +293,16 @@ refuses_to variant meaning key barrier d from issued call now mid meddles next o
 
 -- the room that it takes, if it goes on
 
-pub going_may : (call : AskCall) (turned : AskTurn) (new : Standing) → TurnMayAsk turned new → turned ≡ turn.Going call → MayStepOn (Ok (Going call)) new
+pub going_may : (call : AskCall) (turned : AskTurn) (new : Standing) → TurnMayAsk turned new → turned ≡ turn.Going call
+    → MayStepOn (Ok (Going call)) new
 going_may call turned new m e = subst (λ (x : AskTurn). TurnMayAsk x new) e m
 
 over_room : (called : Result Called Memory) (new : Standing) → MayStepOn (over_in called) new
 over_room (Ok it) new = tt
 over_room (Err memory) new = tt
 
-pub over_may : (result : Result Stepped Memory) (new : Standing) (called : Result Called Memory) → result ≡ over_in called → MayStepOn result new
+pub over_may : (result : Result Stepped Memory) (new : Standing) (called : Result Called Memory) → result ≡ over_in called
+    → MayStepOn result new
 over_may result new called e = subst (λ (r : Result Stepped Memory). MayStepOn r new) (sym e) (over_room called new)
 
 -- a step that breaks it off

@@ -1,4 +1,5 @@
--- A call that asks for a batch, in flight over a platform in memory: its next step, and a step that breaks it off.
+-- A call that asks for a batch, in flight over a platform in memory: its next step, and a step that
+-- breaks it off.
 use Rattle.std.specs.Prelude.{◌≡◌, ℕ, ◌+◌, true, false, List, Some, Result, Ok, Err}
 use Rattle.mm_base.specs.declared.fault.Memory.{Memory}
 use Rattle.mm_digest.specs.declared.variant.Variant.{Variant}
@@ -35,41 +36,57 @@ asks_whole variant meaning bytes b old new ended = CallsTo variant meaning old n
 abbrev pub asks_rest : Meaning → AskCall → List ℕ → Batch → Standing → Standing → Ended → Type 0
 asks_rest meaning call bytes b old new ended = AskFinishes meaning call old new bytes b ended
 
--- A call that offers these bytes and asks for this batch is in flight. It was begun over a platform that stood so, quiet, at
--- these digests; others have extended the register by these meddles since; and its next step has this number.
-pub record AsksInFlight (variant : Variant) (meaning : Meaning) (key barrier : List ℕ) (d : Digests) (from : Standing)
-    (call : AskCall) (now : Standing) (meddles : List Meddle) (next : ℕ) (bytes : List ℕ) (b : Batch) : Type 0 where
+-- A call that offers these bytes and asks for this batch is in flight. It was begun over a platform
+-- that stood so, quiet, at these digests; others have extended the register by these meddles since;
+-- and its next step has this number.
+pub record AsksInFlight (variant : Variant) (meaning : Meaning) (key barrier : List ℕ) (d : Digests)
+    (from : Standing)
+    (call : AskCall) (now : Standing) (meddles : List Meddle) (next : ℕ) (bytes : List ℕ)
+    (b : Batch) : Type 0 where
   pub stands : Stands (instance_by variant meaning key barrier) from d
   pub quiet : IsQuiet from
   pub made : ℕ
-  pub flies : InFlight (asks_whole variant meaning bytes b) (asks_rest meaning call bytes b) from now meddles made
+  pub flies : InFlight (asks_whole variant meaning bytes b) (asks_rest meaning call bytes b) from
+      now meddles made
   pub room : MayAsk call now
   pub number : ask_number call ≡ made + 1
   pub is_next : next ≡ made + 1
 
 -- the event of such a call that is stopped so
-abbrev pub asked_so : Instance → Digests → List (List ℕ) → List Meddle → Stop → Offer → Batch → Outcome Digests
-asked_so i d issued meddles stop offer b = event_outcome i (by_digests i) d issued (Ask meddles stop offer b)
+abbrev pub asked_so : Instance → Digests → List (List ℕ) → List Meddle → Stop → Offer → Batch
+    → Outcome Digests
+asked_so i d issued meddles stop offer b =
+    event_outcome i (by_digests i) d issued (Ask meddles stop offer b)
 
--- What the next step of a call in flight came to: it goes on, where it has come to nothing so far; or it is over, and came
--- to what its event says. Where memory was wanting, the reading steps were made.
-abbrev pub SteppedTo : Variant → Meaning → (key barrier : List ℕ) → Digests → Standing → List (List ℕ) → List Meddle → ℕ → Offer
+-- What the next step of a call in flight came to: it goes on, where it has come to nothing so far;
+-- or it is over, and came to what its event says. Where memory was wanting, the reading steps were
+-- made.
+abbrev pub SteppedTo : Variant → Meaning → (key barrier : List ℕ) → Digests → Standing
+    → List (List ℕ) → List Meddle → ℕ → Offer
     → List ℕ → Batch → Standing → Result Stepped Memory → Type 0
-SteppedTo variant meaning key barrier d from issued meddles next offer bytes b new (Ok (Going call)) =
+SteppedTo variant meaning key barrier d from issued meddles next offer bytes b new
+    (Ok (Going call)) =
     AsksInFlight variant meaning key barrier d from call new meddles (next + 1) bytes b
-    × (is_nothing (asked_so (instance_by variant meaning key barrier) d issued meddles (stop_behind next) offer b).reply ≡ true)
+    × (is_nothing (asked_so (instance_by variant meaning key barrier) d issued meddles
+    (stop_behind next) offer b).reply ≡ true)
 SteppedTo variant meaning key barrier d from issued meddles next offer bytes b new (Ok (Over it)) =
     Came (instance_by variant meaning key barrier)
-    (asked_so (instance_by variant meaning key barrier) d issued meddles (stop_behind next) offer b) d.count issued from new it
-    × (is_nothing (asked_so (instance_by variant meaning key barrier) d issued meddles (stop_behind next) offer b).reply ≡ false)
+    (asked_so (instance_by variant meaning key barrier) d issued meddles (stop_behind next) offer b)
+    d.count issued from new it
+    × (is_nothing (asked_so (instance_by variant meaning key barrier) d issued meddles
+    (stop_behind next) offer b).reply ≡ false)
 SteppedTo variant meaning key barrier d from issued meddles next offer bytes b new (Err memory) =
     Lacks (instance_by variant meaning key barrier) d meddles (stop_behind next) from new
 
--- the next step of a call in flight, from wherever it was begun, whatever was issued there, and by each offer of its bytes
-abbrev pub StepsAs : Meaning → AskCall → Standing → Standing → List ℕ → Batch → Result Stepped Memory → Type 0
+-- the next step of a call in flight, from wherever it was begun, whatever was issued there, and by
+-- each offer of its bytes
+abbrev pub StepsAs : Meaning → AskCall → Standing → Standing → List ℕ → Batch
+    → Result Stepped Memory → Type 0
 StepsAs meaning call old new bytes b result =
-    (variant : Variant) (key barrier : List ℕ) (d : Digests) (from : Standing) (issued : List (List ℕ)) (meddles : List Meddle)
-    (next : ℕ) (offer : Offer) → AsksInFlight variant meaning key barrier d from call old meddles next bytes b
+    (variant : Variant) (key barrier : List ℕ) (d : Digests) (from : Standing)
+    (issued : List (List ℕ)) (meddles : List Meddle)
+    (next : ℕ) (offer : Offer)
+    → AsksInFlight variant meaning key barrier d from call old meddles next bytes b
     → offered_bytes issued offer ≡ Some bytes
     → SteppedTo variant meaning key barrier d from issued meddles next offer bytes b new result
 
@@ -80,13 +97,17 @@ MayStepOn (Ok (Over it)) standing = Unit {0}
 MayStepOn (Err memory) standing = Unit {0}
 
 -- the next step with this stop at it: the call came to what its event says that is stopped so
-abbrev pub BreaksAs : Meaning → AskCall → Standing → Standing → List ℕ → Batch → Stop → Called → Type 0
+abbrev pub BreaksAs : Meaning → AskCall → Standing → Standing → List ℕ → Batch → Stop → Called
+    → Type 0
 BreaksAs meaning call old new bytes b stop it =
-    (variant : Variant) (key barrier : List ℕ) (d : Digests) (from : Standing) (issued : List (List ℕ)) (meddles : List Meddle)
-    (next : ℕ) (offer : Offer) → AsksInFlight variant meaning key barrier d from call old meddles next bytes b
+    (variant : Variant) (key barrier : List ℕ) (d : Digests) (from : Standing)
+    (issued : List (List ℕ)) (meddles : List Meddle)
+    (next : ℕ) (offer : Offer)
+    → AsksInFlight variant meaning key barrier d from call old meddles next bytes b
     → offered_bytes issued offer ≡ Some bytes → stopped_step stop ≡ next
     → Came (instance_by variant meaning key barrier)
-    (asked_so (instance_by variant meaning key barrier) d issued meddles stop offer b) d.count issued from new it
+    (asked_so (instance_by variant meaning key barrier) d issued meddles stop offer b) d.count
+    issued from new it
 
 -- a call that is over, by what it came to
 abbrev pub over_in : Result Called Memory → Result Stepped Memory
@@ -94,7 +115,8 @@ over_in (Ok it) = Ok (Over it)
 over_in (Err memory) = Err memory
 
 -- The plan of a call that ended so is over, and this is what the call came to.
-pub record EndsAs (stop : Stop) (size : ℕ) (ended : Ended) (old new : Standing) (result : Result Stepped Memory) : Type 0 where
+pub record EndsAs (stop : Stop) (size : ℕ) (ended : Ended) (old new : Standing)
+    (result : Result Stepped Memory) : Type 0 where
   pub settles : SettlesPlan stop (is_broken ended) old new
   pub called : Result Called Memory
   pub told : CalledAs stop size ended called

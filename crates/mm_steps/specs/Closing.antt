@@ -29,12 +29,14 @@ use Rattle.mm_steps.specs.Stopping.{is_nothing, stop_behind}
 abbrev pub checks_whole : Standing → Standing → Result Checkpointed CheckpointRefusal → Type 0
 checks_whole old new ended = ChecksOn old new ended
 
-abbrev pub checks_rest : CheckpointStage → Standing → Standing → Result Checkpointed CheckpointRefusal → Type 0
+abbrev pub checks_rest : CheckpointStage → Standing → Standing
+    → Result Checkpointed CheckpointRefusal → Type 0
 checks_rest call old new ended = FinishesClosing call old new ended
 
--- A checkpoint is in flight. It was begun over a platform that stood so, quiet, at these digests; others have extended the
--- register by these meddles since; and its next step has this number.
-pub record ClosesInFlight (variant : Variant) (meaning : Meaning) (key barrier : List ℕ) (d : Digests) (from : Standing)
+-- A checkpoint is in flight. It was begun over a platform that stood so, quiet, at these digests;
+-- others have extended the register by these meddles since; and its next step has this number.
+pub record ClosesInFlight (variant : Variant) (meaning : Meaning) (key barrier : List ℕ)
+    (d : Digests) (from : Standing)
     (call : CheckpointStage) (now : Standing) (meddles : List Meddle) (next : ℕ) : Type 0 where
   pub stands : Stands (instance_by variant meaning key barrier) from d
   pub quiet : IsQuiet from
@@ -45,37 +47,48 @@ pub record ClosesInFlight (variant : Variant) (meaning : Meaning) (key barrier :
 
 -- the event of a checkpoint that is stopped so
 abbrev pub closed_so : Instance → Digests → List (List ℕ) → List Meddle → Stop → Outcome Digests
-closed_so i d issued meddles stop = event_outcome i (by_digests i) d issued (Checkpoint meddles stop)
+closed_so i d issued meddles stop =
+    event_outcome i (by_digests i) d issued (Checkpoint meddles stop)
 
--- What the next step of a checkpoint in flight came to: it goes on, where it has come to nothing so far; or it is over, and
--- came to what its event says.
-abbrev pub SteppedClosingTo : Variant → Meaning → (key barrier : List ℕ) → Digests → Standing → List (List ℕ) → List Meddle → ℕ
+-- What the next step of a checkpoint in flight came to: it goes on, where it has come to nothing so
+-- far; or it is over, and came to what its event says.
+abbrev pub SteppedClosingTo : Variant → Meaning → (key barrier : List ℕ) → Digests → Standing
+    → List (List ℕ) → List Meddle → ℕ
     → Standing → SteppedClosing → Type 0
 SteppedClosingTo variant meaning key barrier d from issued meddles next new (Going call) =
     ClosesInFlight variant meaning key barrier d from call new meddles (next + 1)
-    × (is_nothing (closed_so (instance_by variant meaning key barrier) d issued meddles (stop_behind next)).reply ≡ true)
+    × (is_nothing (closed_so (instance_by variant meaning key barrier) d issued meddles
+    (stop_behind next)).reply ≡ true)
 SteppedClosingTo variant meaning key barrier d from issued meddles next new (Over said) =
     Came (instance_by variant meaning key barrier)
-    (closed_so (instance_by variant meaning key barrier) d issued meddles (stop_behind next)) d.count issued from new (quiet_as said)
-    × (is_nothing (closed_so (instance_by variant meaning key barrier) d issued meddles (stop_behind next)).reply ≡ false)
+    (closed_so (instance_by variant meaning key barrier) d issued meddles (stop_behind next))
+    d.count issued from new (quiet_as said)
+    × (is_nothing (closed_so (instance_by variant meaning key barrier) d issued meddles
+    (stop_behind next)).reply ≡ false)
 
 -- the next step of a checkpoint in flight, from wherever it was begun and whatever was issued there
 abbrev pub StepsClosingAs : CheckpointStage → Standing → Standing → SteppedClosing → Type 0
 StepsClosingAs call old new stepped =
-    (variant : Variant) (meaning : Meaning) (key barrier : List ℕ) (d : Digests) (from : Standing) (issued : List (List ℕ))
-    (meddles : List Meddle) (next : ℕ) → ClosesInFlight variant meaning key barrier d from call old meddles next
+    (variant : Variant) (meaning : Meaning) (key barrier : List ℕ) (d : Digests) (from : Standing)
+    (issued : List (List ℕ))
+    (meddles : List Meddle) (next : ℕ)
+    → ClosesInFlight variant meaning key barrier d from call old meddles next
     → SteppedClosingTo variant meaning key barrier d from issued meddles next new stepped
 
 -- the next step with this stop at it: the checkpoint came to what its event says that is stopped so
 abbrev pub BreaksClosingAs : CheckpointStage → Standing → Standing → Stop → Reply → Type 0
 BreaksClosingAs call old new stop said =
-    (variant : Variant) (meaning : Meaning) (key barrier : List ℕ) (d : Digests) (from : Standing) (issued : List (List ℕ))
-    (meddles : List Meddle) (next : ℕ) → ClosesInFlight variant meaning key barrier d from call old meddles next
+    (variant : Variant) (meaning : Meaning) (key barrier : List ℕ) (d : Digests) (from : Standing)
+    (issued : List (List ℕ))
+    (meddles : List Meddle) (next : ℕ)
+    → ClosesInFlight variant meaning key barrier d from call old meddles next
     → stopped_step stop ≡ next
     → Came (instance_by variant meaning key barrier)
-    (closed_so (instance_by variant meaning key barrier) d issued meddles stop) d.count issued from new (quiet_as said)
+    (closed_so (instance_by variant meaning key barrier) d issued meddles stop) d.count issued from
+    new (quiet_as said)
 
 -- The plan of a checkpoint that ended so is over, and this is what it is told as.
-pub record ClosesAs (stop : Stop) (ended : Result Checkpointed CheckpointRefusal) (old new : Standing) (said : Reply) : Type 0 where
+pub record ClosesAs (stop : Stop) (ended : Result Checkpointed CheckpointRefusal)
+    (old new : Standing) (said : Reply) : Type 0 where
   pub settles : SettlesPlan stop (stops_in ended) old new
   pub told : said ≡ told_closing stop ended

@@ -25,7 +25,7 @@ is_nothing reply.Checkpointed = false
 is_nothing reply.Power = false
 is_nothing reply.Extended = false
 
--- A call in flight is so far the call that is stopped, without effect, at the step behind its next one: it is over with its
--- next step exactly where that call comes to something.
+-- A call in flight is so far the call that is stopped, without effect, at the step behind its next
+-- one: it is over with its next step exactly where that call comes to something.
 abbrev pub stop_behind : ℕ → Stop
 stop_behind next = Fail (next + 1) false

@@ -97,7 +97,8 @@ pending_front-injective : (p q : Pending) (a b : List ℕ) → p.position < 2 ^ 
 unfolding pending_front
 pending_front-injective p q a b hp hq kp kq e =
     let same : SameFields record_word p.position (length p.request) (p.request ++ a) q b =
-    same_fields record_word (p.request ++ a) b p.position (length p.request) q refl kp kq (sym (regrouped record_word (eight_bytes p.position) (four_bytes (length p.request)) p.request a) ∙ e) in
+    same_fields record_word (p.request ++ a) b p.position (length p.request) q refl kp kq
+    (sym (regrouped record_word (eight_bytes p.position) (four_bytes (length p.request)) p.request a) ∙ e) in
     let requests = append-injective p.request q.request a b same.at_size same.at_rest in
     let positions : p.position ≡ q.position = eight_bytes-injective p.position q.position hp hq same.at_position in
     λ i. record { position = positions i; request = requests.0 i }

@@ -9,18 +9,21 @@ use Rattle.mm_store.specs.Slots.{Slots, with_slot, slot_read}
 use Rattle.mm_store.specs.Unsynced.{Unsynced, marking, MarksAlone}
 use Rattle.mm_store.specs.Kept.{StoreStanding}
 
--- the count of faults rose by exactly one where the call failed, and is as before after Ok and where memory was wanting
+-- the count of faults rose by exactly one where the call failed, and is as before after Ok and
+-- where memory was wanting
 abbrev pub CountsFailures : {T : Type 0} → ℕ → ℕ → Result T StoreFault → Type 0
 CountsFailures before now (Ok _) = now ≡ before
 CountsFailures before now (Err Memory) = now ≡ before
 CountsFailures before now (Err Failed) = Rose before now
 
 -- a read changes no slot, and gives the slot's first bytes where the slots are told
-pub record ReadsSlot (slot : ℕ) (old new : StoreStanding) (result : Result (List ℕ) StoreFault) : Type 0 where
+pub record ReadsSlot (slot : ℕ) (old new : StoreStanding)
+    (result : Result (List ℕ) StoreFault) : Type 0 where
   pub slots : new.slots ≡ old.slots
   pub honest : new.is_honest ≡ old.is_honest
   pub counted : CountsFailures old.faults new.faults result
-  pub gives : IfOk result (λ bytes. (slots : Slots) → old.slots ≡ Some slots → bytes ≡ slot_read slots slot)
+  pub gives : IfOk result (λ bytes. (slots : Slots) → old.slots ≡ Some slots
+      → bytes ≡ slot_read slots slot)
   pub short : IfOk result (λ bytes. length bytes ≤ LONGEST_SLOT)
   pub unsynced : new.unsynced ≡ old.unsynced
 
@@ -28,21 +31,23 @@ pub record ReadsSlot (slot : ℕ) (old new : StoreStanding) (result : Result (Li
 abbrev pub putting : ℕ → List ℕ → Option Slots → Option Slots
 putting slot bytes slots = option_map (λ told. with_slot told slot bytes) slots
 
--- what a write to an honest store leaves: its slot holds the bytes after Ok, and any bytes after it failed
+-- what a write to an honest store leaves: its slot holds the bytes after Ok, and any bytes after it
+-- failed
 abbrev pub LeavesInSlot : ℕ → List ℕ → Option Slots → Option Slots → Result Unit StoreFault → Type 0
 LeavesInSlot slot bytes old new (Ok _) = new ≡ putting slot bytes old
 LeavesInSlot slot bytes old new (Err Memory) = new ≡ old
 LeavesInSlot slot bytes old new (Err Failed) = (left : List ℕ) × (new ≡ putting slot left old)
 
--- what waits to be synced after a write to a slot: nothing of the slot after Ok, all as before where memory is wanting,
--- and of the other slots what waited before
+-- what waits to be synced after a write to a slot: nothing of the slot after Ok, all as before
+-- where memory is wanting, and of the other slots what waited before
 abbrev pub SyncsSlot : ℕ → Option Unsynced → Option Unsynced → Result Unit StoreFault → Type 0
 SyncsSlot slot old new (Ok _) = new ≡ marking slot false old
 SyncsSlot slot old new (Err Memory) = new ≡ old
 SyncsSlot slot old new (Err Failed) = MarksAlone slot old new
 
 -- a write changes no other slot of an honest store, and none of any store where memory is wanting
-pub record WritesSlot (slot : ℕ) (bytes : List ℕ) (old new : StoreStanding) (result : Result Unit StoreFault) : Type 0 where
+pub record WritesSlot (slot : ℕ) (bytes : List ℕ) (old new : StoreStanding)
+    (result : Result Unit StoreFault) : Type 0 where
   pub honest : new.is_honest ≡ old.is_honest
   pub counted : CountsFailures old.faults new.faults result
   pub leaves : old.is_honest ≡ true → LeavesInSlot slot bytes old.slots new.slots result

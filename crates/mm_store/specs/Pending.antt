@@ -21,7 +21,8 @@ pub record IsPending (slot : ℕ) (p : Pending) : Type 0 where
 abbrev pub record_word : List ℕ
 record_word = 0x4d ∷ 0x4d ∷ 0x50 ∷ 0x31 ∷ []
 
--- what is hashed: `MMP1`, the position in 8 bytes, the length of the request in 4 bytes, and the request
+-- what is hashed: `MMP1`, the position in 8 bytes, the length of the request in 4 bytes, and the
+-- request
 unfoldable pub pending_front : Pending → List ℕ
 pending_front p =
     record_word ++ (eight_bytes p.position ++ (four_bytes (length p.request) ++ p.request))
@@ -30,7 +31,8 @@ pending_front p =
 unfoldable pub pending_spelling : Pending → List ℕ
 pending_spelling p = pending_front p ++ sha256 (pending_front p)
 
--- what reading a slot's bytes as a record gives: there is one answer for each slot and list of bytes
+-- what reading a slot's bytes as a record gives: there is one answer for each slot and list of
+-- bytes
 abbrev pub ReadsPending : ℕ → List ℕ → Option Pending → Type 0
 ReadsPending slot bytes None = (p : Pending) → IsPending slot p → bytes ≢ pending_spelling p
 ReadsPending slot bytes (Some p) = IsPending slot p × (bytes ≡ pending_spelling p)

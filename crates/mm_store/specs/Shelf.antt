@@ -6,8 +6,8 @@ use Rattle.mm_store.specs.declared.fault.StoreFault.TheVariants.{Memory, Failed}
 use Rattle.mm_store.specs.Slots.{Slots, with_slot}
 use Rattle.mm_store.specs.Kept.{StoreStanding}
 
--- The slots, whether the store is honest, its count of faults, the number of calls up to the one that is
--- to fail (none where 0), and what that call leaves if it is a write.
+-- The slots, whether the store is honest, its count of faults, the number of calls up to the one
+-- that is to fail (none where 0), and what that call leaves if it is a write.
 pub record Shelf : Type 0 where
   pub slots : Slots
   pub is_honest : Bool
@@ -46,7 +46,8 @@ after_read shelf (Err Failed) = record (call_made shelf) { faults = counted shel
 
 -- after a write of these bytes to a slot with this result
 abbrev pub after_write : Shelf → ℕ → List ℕ → Result Unit StoreFault → Shelf
-after_write shelf slot bytes (Ok _) = record (call_made shelf) { slots = with_slot shelf.slots slot bytes }
+after_write shelf slot bytes (Ok _) =
+    record (call_made shelf) { slots = with_slot shelf.slots slot bytes }
 after_write shelf slot bytes (Err Memory) = call_made shelf
 after_write shelf slot bytes (Err Failed) = record (call_made shelf) {
   slots = with_slot shelf.slots slot shelf.leaves;

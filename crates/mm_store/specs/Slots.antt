@@ -15,7 +15,9 @@ longest_slot = LONGEST_SLOT
 
 -- the bytes of the slot with this number, which is below 4
 abbrev pub slot_in : Slots → ℕ → List ℕ
-slot_in slots n = if n == 0 then slots.zero else if n == 1 then slots.one else if n == 2 then slots.two else slots.three
+slot_in slots n =
+    if n == 0 then slots.zero else if n == 1 then slots.one else if n == 2 then slots.two
+    else slots.three
 
 -- the slots, with these bytes in place of those of one
 abbrev pub with_slot : Slots → ℕ → List ℕ → Slots

@@ -11,7 +11,9 @@ pub record Unsynced : Type 0 where
 
 -- whether the slot with this number, which is below 4, has such changes
 abbrev pub unsynced_in : Unsynced → ℕ → Bool
-unsynced_in marks n = if n == 0 then marks.zero else if n == 1 then marks.one else if n == 2 then marks.two else marks.three
+unsynced_in marks n =
+    if n == 0 then marks.zero else if n == 1 then marks.one else if n == 2 then marks.two
+    else marks.three
 
 -- what is known of the slots, with this in place of what was known of one
 abbrev pub with_unsynced : Unsynced → ℕ → Bool → Unsynced

@@ -25,7 +25,7 @@ use Rattle.mm_move.specs.Tickets.{TicketContent, ticket_of, summary_in, place_at
 use Rattle.mm_seal.specs.Snapshot.{Content, IsPlace, sealed_of}
 use Rattle.mm_seal.specs.declared.snapshot.Place.{Place}
 use Rattle.mm_seal.specs.declared.snapshot.Place.TheVariants.{Basic as InBasic, Opt as InOpt}
-use Rattle.mm_model.specs.Places.{digest_of}
+use Rattle.mm_model.specs.PlacesWords.{digest_of}
 use Rattle.mm_sides.specs.Roles.{Role, Effect, Invites, Leaves, Enters, is_live}
 use Rattle.mm_sides.specs.Both.{Which, Pair, key_of, instance_on, Side, Both, digests_move}
 use Rattle.mm_sides.specs.Moves.{MoveCause, FoundMove, Accept, accepted_on, ticket_by, ticket_in}
@@ -111,7 +111,8 @@ turned_if : (live : Bool) (position away : ℕ) → (if not live && true then aw
 turned_if true position away = refl
 turned_if false position away = refl
 
-count_broken : (i : Instance) (role : Role) (d : Digests) (away : ℕ) (live moved : Bool) (found : Result FoundMove MoveCause) (effect : Option Effect)
+count_broken : (i : Instance) (role : Role) (d : Digests) (away : ℕ) (live moved : Bool) (found : Result FoundMove MoveCause)
+    (effect : Option Effect)
     → effect ≡ made_if moved found → is_some effect ≡ moved → AcceptsPlainly i role found → live ≡ is_live role
     → (if not live && moved then away else d.count) ≡ (at_then away d effect).count
 count_broken i role d away live false found effect e some plain l =
@@ -139,7 +140,8 @@ record ToldEntered (pair : Pair) (i : Instance) (d : Digests) (stop : Stop) (bro
   digest : new.digest ≡ old.digest
 
 -- what a side says of a content depends on its digest alone
-said_as : (i : Instance) (x y : Digests) (content : Content) → x.digest ≡ y.digest → digests_move.says i x content ≡ digests_move.says i y content
+said_as : (i : Instance) (x y : Digests) (content : Content) → x.digest ≡ y.digest
+    → digests_move.says i x content ≡ digests_move.says i y content
 said_as i x y content e = λ j. record {
   id = i.meaning.id;
   place = place_at i.variant (digest_of (e j));
@@ -148,12 +150,15 @@ said_as i x y content e = λ j. record {
 }
 
 stood_digest : (d : Digests) (away : ℕ) (again : Bool) (ticket : TicketContent)
-    → (stood d (record { again = again; effect = Enters ticket })).digest ≡ (at_then away d (if again then None else Some (Enters ticket))).digest
+    → (stood d (record { again = again; effect = Enters ticket })).digest ≡
+    (at_then away d (if again then None else Some (Enters ticket))).digest
 stood_digest d away true ticket = refl
 stood_digest d away false ticket = refl
 
-told_entered : (pair : Pair) (i : Instance) (role : Role) (d : Digests) (stop : Stop) (broken : Option StepFault) (found : Result FoundMove MoveCause)
-    (effect : Option Effect) (live : Bool) (away : ℕ) (old new : CodeSide) (came : Result Accepted MoveRefusal) (result : Result MoveReply Memory)
+told_entered : (pair : Pair) (i : Instance) (role : Role) (d : Digests) (stop : Stop) (broken : Option StepFault)
+    (found : Result FoundMove MoveCause)
+    (effect : Option Effect) (live : Bool) (away : ℕ) (old new : CodeSide) (came : Result Accepted MoveRefusal)
+    (result : Result MoveReply Memory)
     → CameAs (GivesEntry i d) broken found came → MovedBy stop broken found effect → AcceptsPlainly i role found → live ≡ is_live role
     → old.position ≡ d.count → old.kept ≡ within_64 (sum_by length old.issued.items) → EnteredAs live away stop came old new result
     → ToldEntered pair i d stop broken found effect away old new result
@@ -180,7 +185,9 @@ told_entered pair i role d stop None (Err cause) effect live away old new came r
         says = λ both h. refl;
         both = λ both h. λ j. record both { first = record both.first { issued = (h.issued_is ∙ sym t.issued) j } };
       };
-      position = t.position ∙ ap (λ b. if not live && b then away else old.position) (never_moved stop cause plain) ∙ stays_there live old.position away ∙ count
+      position =
+          t.position ∙ ap (λ b. if not live && b then away else old.position) (never_moved stop cause plain)
+          ∙ stays_there live old.position away ∙ count
           ∙ sym (ap (λ x. (at_then away d x).count) moved);
       kept = subst (λ (x : List (List ℕ)). new.kept ≡ within_64 (sum_by length x)) (sym t.issued) (t.kept ∙ counted);
       few = omega (arith, ap length t.issued);
@@ -189,9 +196,11 @@ told_entered pair i role d stop None (Err cause) effect live away old new came r
     }
 told_entered pair i role d stop None (Ok found) effect live away old new came result says moved plain l count counted entered =
     let t = subst (λ (c : Result Accepted MoveRefusal). EnteredAs live away stop c old new result) says.1 entered in
-    by_effect found.again found.effect says.0 says.2 plain.effect (l ∙ plain.live) moved t.issued t.kept t.position t.says t.platform t.digest
+    by_effect found.again found.effect says.0 says.2 plain.effect (l ∙ plain.live) moved t.issued t.kept t.position t.says t.platform
+    t.digest
   where
-    by_effect : (again : Bool) (made : Effect) (accepted : Accepted) → GivesEntryBy i (stood d (record { again = again; effect = made })) made accepted
+    by_effect : (again : Bool) (made : Effect) (accepted : Accepted)
+        → GivesEntryBy i (stood d (record { again = again; effect = made })) made accepted
         → EntersFor i made → live ≡ again → effect ≡ (if again then None else Some made)
         → new.issued.items ≡ old.issued.items ++ accepted.snapshot ∷ [] → new.kept ≡ within_64 (old.kept + length accepted.snapshot)
         → new.position ≡ (if live then old.position else away) → result ≡ Ok (reply.Entered accepted.position) → new.platform ≡ old.platform
@@ -200,7 +209,8 @@ told_entered pair i role d stop None (Ok found) effect live away old new came re
     by_effect again (Leaves ticket) accepted gives to lives e issued kept position is platform digest = absurd to
     by_effect again (Enters ticket) accepted gives to lives e issued kept position is platform digest =
         let same : (both : Both Digests ℕ) → StandsThere i (at_then away d effect).digest old.issued.items both
-        → digests_move.says i (stood d (record { again = again; effect = Enters ticket })) ticket.content ≡ digests_move.says i both.first.at ticket.content =
+        → digests_move.says i (stood d (record { again = again; effect = Enters ticket })) ticket.content ≡ digests_move.says i
+        both.first.at ticket.content =
         λ both h. said_as i (stood d (record { again = again; effect = Enters ticket })) both.first.at ticket.content
         (stood_digest d away again ticket ∙ sym (h.at ∙ ap (λ x. (at_then away d x).digest) e)) in
         record {
@@ -227,7 +237,8 @@ told_entered pair i role d stop None (Ok found) effect live away old new came re
 
 -- all together
 
-accepts_pair : (pair : Pair) (which : Which) (role : Role) (d : Digests) (bytes : List ℕ) → FitsCell (instance_on pair which) (link_of pair) role d
+accepts_pair : (pair : Pair) (which : Which) (role : Role) (d : Digests) (bytes : List ℕ)
+    → FitsCell (instance_on pair which) (link_of pair) role d
     → (let i = instance_on pair which in
     Matches (GivesEntry i d) i d (accepts_in pair.meaning pair.variant (link_of pair) bytes (moved_of (cell_of_role i role d)))
     (accepted_on (by_digests i) role d (ticket_in pair bytes)))
@@ -237,7 +248,8 @@ accepts_pair pair which role d bytes fit =
     let m = meaning_by pair.variant pair.meaning (key_of pair which) pair.barrier in
     subst (λ variant. Matches (GivesEntry i d) i d (accepts_in pair.meaning variant (link_of pair) bytes (moved_of (cell_of_role i role d)))
     (accepted_on (by_digests i) role d (ticket_by pair.meaning pair.link (ticket_of variant pair.meaning.id bytes)))) v
-    (subst (λ (meaning : Meaning). Matches (GivesEntry i d) i d (accepts_in meaning i.variant (link_of pair) bytes (moved_of (cell_of_role i role d)))
+    (subst (λ (meaning : Meaning). Matches (GivesEntry i d) i d
+    (accepts_in meaning i.variant (link_of pair) bytes (moved_of (cell_of_role i role d)))
     (accepted_on (by_digests i) role d (ticket_by meaning pair.link (ticket_of i.variant meaning.id bytes)))) m
     (accepts_match i (link_of pair) role d bytes fit))
 
@@ -248,9 +260,11 @@ are_for pair which bytes =
     let v = variant_by pair.variant pair.meaning (key_of pair which) pair.barrier in
     let m = meaning_by pair.variant pair.meaning (key_of pair which) pair.barrier in
     subst (λ variant. AreFor i (ticket_by pair.meaning pair.link (ticket_of variant pair.meaning.id bytes))) v
-    (subst (λ (meaning : Meaning). AreFor i (ticket_by meaning pair.link (ticket_of i.variant meaning.id bytes))) m (ticket_for_side i pair.link bytes))
+    (subst (λ (meaning : Meaning). AreFor i (ticket_by meaning pair.link (ticket_of i.variant meaning.id bytes))) m
+    (ticket_for_side i pair.link bytes))
 
-there : (i : Instance) (role : Role) (at d : Digests) (issued issued' tickets : List (List ℕ)) (other : Side Digests) (away committed : ℕ) (effect : Option Effect)
+there : (i : Instance) (role : Role) (at d : Digests) (issued issued' tickets : List (List ℕ)) (other : Side Digests) (away committed : ℕ)
+    (effect : Option Effect)
     → at.digest ≡ d.digest → issued ≡ issued'
     → StandsThere i (at_then away d effect).digest issued' (affected_if digests_move (record {
       first = record { role = role; at = at; issued = issued };
@@ -271,21 +285,25 @@ count_within i d away most (Some (Enters ticket)) p q is = q
 count_within i d away most (Some (Invites other)) p q is = absurd is
 count_within i d away most (Some (Leaves ticket)) p q is = absurd is
 
-abbrev accepted_by : Pair → Which → CodeSide → Between → List Meddle → Stop → Offer → Option (List ℕ) → Side Digests → ℕ → BothOutcome Digests ℕ
+abbrev accepted_by : Pair → Which → CodeSide → Between → List Meddle → Stop → Offer → Option (List ℕ) → Side Digests → ℕ
+    → BothOutcome Digests ℕ
 accepted_by pair which old between meddles stop offer x other committed =
     let both = both_with old between other committed in
     moved_if digests_move pair (instance_on pair which) both meddles stop (Accept offer)
     (accepting digests_move pair (instance_on pair which) both.first x)
 
-pub entered_done : (pair : Pair) (which : Which) (bytes : List ℕ) (offer : Offer) (stop : Stop) (meddles : List Meddle) (old mid new : CodeSide) (between : Between)
+pub entered_done : (pair : Pair) (which : Which) (bytes : List ℕ) (offer : Offer) (stop : Stop) (meddles : List Meddle)
+    (old mid new : CodeSide) (between : Between)
     (live : Bool) (came : Result Accepted MoveRefusal) (result : Result MoveReply Memory) → IsFormed pair which
     → offered_bytes between.tickets.items offer ≡ Some bytes → live ≡ is_live (role_in old.platform.cell)
-    → MovesPlanned (λ (cell : List ℕ). accepts_in pair.meaning pair.variant (link_of pair) bytes (moved_of cell)) stop meddles old.platform mid.platform came
+    → MovesPlanned (λ (cell : List ℕ). accepts_in pair.meaning pair.variant (link_of pair) bytes (moved_of cell)) stop meddles old.platform
+    mid.platform came
     → mid.digest ≡ old.digest → mid.issued.items ≡ old.issued.items → mid.kept ≡ old.kept → mid.position ≡ old.position
     → EnteredAs live between.away stop came mid new result → FitsSide pair which old → FitsBetween between
     → MatchResult result (CommandDone pair which old new between between (commanded pair which old between meddles stop (Accept offer)))
     (λ _. CommandLacks pair which old new between between)
-entered_done pair which bytes offer stop meddles old mid new between live came result formed names lives planned digest issued kept position entered fits counted =
+entered_done pair which bytes offer stop meddles old mid new between live came result formed names lives planned digest issued kept position
+    entered fits counted =
     let i = instance_on pair which in
     let role = role_in old.platform.cell in
     let d = at_in old in
@@ -296,19 +314,24 @@ entered_done pair which bytes offer stop meddles old mid new between live came r
       | inl made ↦
           let found = accepted_on (by_digests i) role d (ticket_in pair bytes) in
           let fates = (course_of stop meddles).fates in
-          let c = came_by (GivesEntry i d) i role d stop meddles mid.platform came _ found (accepts_pair pair which role d bytes w.0) made in
+          let c = came_by (GivesEntry i d) i role d stop meddles mid.platform came _ found (accepts_pair pair which role d bytes w.0) made
+          in
           let moved = commanding.moved_by stop meddles found in
-          let plain = accepts_plainly i role d pair.meaning pair.link (ticket_of pair.variant pair.meaning.id bytes) (are_for pair which bytes) in
-          let t = told_entered pair i role d stop (walk fates 1 (move_steps found)).broken found (effect_of fates found) live between.away mid new came result
+          let plain = accepts_plainly i role d pair.meaning pair.link (ticket_of pair.variant pair.meaning.id bytes)
+          (are_for pair which bytes) in
+          let t = told_entered pair i role d stop (walk fates 1 (move_steps found)).broken found (effect_of fates found) live between.away
+          mid new came result
           c.says moved plain lives position sum entered in
           let m = made_as stop _ found _ moved in
           let effect = made_if m.moved found in
           let is = entered_made i role found m.moved plain in
           let keeps : KeepsFor pair which role new.digest.bytes d =
-          subst (λ x. KeepsFor pair which role x.bytes d) (sym (t.digest ∙ digest)) (keeps_own pair which role old.platform old.digest.bytes old.position) in
+          subst (λ x. KeepsFor pair which role x.bytes d) (sym (t.digest ∙ digest))
+          (keeps_own pair which role old.platform old.digest.bytes old.position) in
           let kk = entered_keeps pair which i role new.digest.bytes between.away d effect keeps is in
           let c' = subst (λ (s : Standing). Came (GivesEntry i d) i role d stop meddles found s came) (sym t.platform) c in
-          let s = side_then (GivesEntry i d) pair which role d stop meddles found new came between.away effect m.is c' w.0 (entered_fits i d effect is)
+          let s = side_then (GivesEntry i d) pair which role d stop meddles found new came between.away effect m.is c' w.0
+          (entered_fits i d effect is)
           (t.position ∙ ap (λ x. (at_then between.away d x).count) m.is) kk.0 t.kept in
           let brought = brought_to digests_move i d meddles stop (move_steps found) in
           let stands : brought.digest ≡ d.digest = ap (λ (x : Digests). x.digest) (brought_digests i d stop meddles found) in
@@ -332,12 +355,16 @@ entered_done pair which bytes offer stop meddles old mid new between live came r
                   tickets = between.tickets.items;
                   committed = committed;
                 }) e) (sym m.is))
-                ∙ sym (t.told.both _ (there i role brought d old.issued.items mid.issued.items between.tickets.items other between.away committed
+                ∙ sym (t.told.both _
+                (there i role brought d old.issued.items mid.issued.items between.tickets.items other between.away committed
                 (effect_of fates found) stands (sym issued)))
                 ∙ sym (ap (λ (x : Option (List ℕ)). (accepted_by pair which old between meddles stop offer x other committed).both) names);
-            says = λ other committed. t.told.says _ (there i role brought d old.issued.items mid.issued.items between.tickets.items other between.away committed
+            says =
+                λ other committed. t.told.says _
+                (there i role brought d old.issued.items mid.issued.items between.tickets.items other between.away committed
                 (effect_of fates found) stands (sym issued))
-                ∙ sym (ap (λ (x : Option (List ℕ)). reply_said (accepted_by pair which old between meddles stop offer x other committed).reply) names);
+                ∙ sym (ap (λ (x : Option (List ℕ)). reply_said
+                (accepted_by pair which old between meddles stop offer x other committed).reply) names);
             issued = let few = t.few in let same = ap length issued in omega (arith, few, same);
             tickets = omega arith;
             counts = λ most p q. (
@@ -350,35 +377,45 @@ entered_done pair which bytes offer stop meddles old mid new between live came r
           let r = wanted i d stop meddles old.platform mid.platform came w' in
           let t = subst (λ (c : Result Accepted MoveRefusal). EnteredAs live between.away stop c mid new result) w'.says entered in
           let keeps : KeepsFor pair which role new.digest.bytes d =
-          subst (λ x. KeepsFor pair which role x.bytes d) (sym (t.digest ∙ digest)) (keeps_own pair which role old.platform old.digest.bytes old.position) in
+          subst (λ x. KeepsFor pair which role x.bytes d) (sym (t.digest ∙ digest))
+          (keeps_own pair which role old.platform old.digest.bytes old.position) in
           err_match _ _ result t.says
           (lacks_side pair which old new between between r.value formed fits (ap (λ (s : Standing). s.cell) t.platform ∙ w'.cell)
-          (ap register_reads t.platform ∙ r.is) (subst IsQuiet (sym t.platform) w'.quiet) (t.position ∙ stays_there live mid.position between.away ∙ position) keeps
+          (ap register_reads t.platform ∙ r.is) (subst IsQuiet (sym t.platform) w'.quiet)
+          (t.position ∙ stays_there live mid.position between.away ∙ position) keeps
           (t.issued ∙ issued) (t.kept ∙ kept) refl refl refl)
     ]
 
 -- with what the offer named
-pub accepted_done : (pair : Pair) (which : Which) (offer : Offer) (stop : Stop) (meddles : List Meddle) (old mid new : CodeSide) (between : Between) (live : Bool)
-    (cell : List ℕ) (lent : List (List ℕ)) (field : Option (Result Accepted MoveRefusal)) (came : Result Accepted MoveRefusal) (result : Result MoveReply Memory)
+pub accepted_done : (pair : Pair) (which : Which) (offer : Offer) (stop : Stop) (meddles : List Meddle) (old mid new : CodeSide)
+    (between : Between) (live : Bool)
+    (cell : List ℕ) (lent : List (List ℕ)) (field : Option (Result Accepted MoveRefusal)) (came : Result Accepted MoveRefusal)
+    (result : Result MoveReply Memory)
     → IsFormed pair which → lent ≡ between.tickets.items
-    → Tried (λ bytes (cell : List ℕ). accepts_in pair.meaning pair.variant (link_of pair) bytes (moved_of cell)) stop meddles (offered_bytes lent offer)
+    → Tried (λ bytes (cell : List ℕ). accepts_in pair.meaning pair.variant (link_of pair) bytes (moved_of cell)) stop meddles
+    (offered_bytes lent offer)
     old.platform mid.platform (Ok field)
     → field ≡ Some came → live ≡ is_live (role_in (Some cell)) → old.platform.cell ≡ Some cell
     → mid.digest ≡ old.digest → mid.issued.items ≡ old.issued.items → mid.kept ≡ old.kept → mid.position ≡ old.position
     → EnteredAs live between.away stop came mid new result → FitsSide pair which old → FitsBetween between
     → MatchResult result (CommandDone pair which old new between between (commanded pair which old between meddles stop (Accept offer)))
     (λ _. CommandLacks pair which old new between between)
-accepted_done pair which offer stop meddles old mid new between live cell lent field came result formed same tries is lives holds digest issued kept position entered fits counted =
+accepted_done pair which offer stop meddles old mid new between live cell lent field came result formed same tries is lives holds digest
+    issued kept position entered fits counted =
     let finds = λ (bytes cell : List ℕ). accepts_in pair.meaning pair.variant (link_of pair) bytes (moved_of cell) in
     let n = named_by finds stop meddles (offered_bytes lent offer) old.platform mid.platform came
-    (subst (λ (x : Option (Result Accepted MoveRefusal)). Tried finds stop meddles (offered_bytes lent offer) old.platform mid.platform (Ok x)) is tries) in
-    entered_done pair which n.bytes offer stop meddles old mid new between live came result formed (ap (λ (x : List (List ℕ)). offered_bytes x offer) (sym same) ∙ n.names)
+    (subst (λ (x : Option (Result Accepted MoveRefusal)). Tried finds stop meddles (offered_bytes lent offer) old.platform mid.platform
+    (Ok x)) is tries) in
+    entered_done pair which n.bytes offer stop meddles old mid new between live came result formed
+    (ap (λ (x : List (List ℕ)). offered_bytes x offer) (sym same) ∙ n.names)
     (lives ∙ ap (λ x. is_live (role_in x)) (sym holds)) n.planned digest issued kept position entered fits counted
 
 -- a ticket that isn't issued
-pub accepted_unissued : (pair : Pair) (which : Which) (offer : Offer) (stop : Stop) (meddles : List Meddle) (old new : CodeSide) (between : Between)
+pub accepted_unissued : (pair : Pair) (which : Which) (offer : Offer) (stop : Stop) (meddles : List Meddle) (old new : CodeSide)
+    (between : Between)
     (lent : List (List ℕ)) (field : Option (Result Accepted MoveRefusal)) → IsFormed pair which → lent ≡ between.tickets.items
-    → Tried (λ bytes (cell : List ℕ). accepts_in pair.meaning pair.variant (link_of pair) bytes (moved_of cell)) stop meddles (offered_bytes lent offer)
+    → Tried (λ bytes (cell : List ℕ). accepts_in pair.meaning pair.variant (link_of pair) bytes (moved_of cell)) stop meddles
+    (offered_bytes lent offer)
     old.platform new.platform (Ok field) → field ≡ None
     → new.digest ≡ old.digest → new.issued.items ≡ old.issued.items → new.kept ≡ old.kept → new.position ≡ old.position
     → FitsSide pair which old → FitsBetween between
@@ -386,7 +423,9 @@ pub accepted_unissued : (pair : Pair) (which : Which) (offer : Offer) (stop : St
 accepted_unissued pair which offer stop meddles old new between lent field formed same tries is digest issued kept position fits counted =
     let finds = λ (bytes cell : List ℕ). accepts_in pair.meaning pair.variant (link_of pair) bytes (moved_of cell) in
     let n = nothing_named finds stop meddles (offered_bytes lent offer) old.platform new.platform
-    (subst (λ (x : Option (Result Accepted MoveRefusal)). Tried finds stop meddles (offered_bytes lent offer) old.platform new.platform (Ok x)) is tries) in
-    unissued_done pair which stop meddles (Accept offer) reply.NoTicket old new between between formed fits counted n.1 digest issued kept position refl refl refl refl
+    (subst (λ (x : Option (Result Accepted MoveRefusal)). Tried finds stop meddles (offered_bytes lent offer) old.platform new.platform
+    (Ok x)) is tries) in
+    unissued_done pair which stop meddles (Accept offer) reply.NoTicket old new between between formed fits counted n.1 digest issued kept
+    position refl refl refl refl
     (λ other committed. ap (accepting digests_move pair (instance_on pair which) (both_with old between other committed).first)
     (ap (λ (x : List (List ℕ)). offered_bytes x offer) (sym same) ∙ n.0))

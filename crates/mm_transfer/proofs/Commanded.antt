@@ -57,18 +57,11 @@ pub record IsMade (found : Result FoundMove MoveCause) (effect : Option Effect) 
   pub moved : Bool
   pub is : effect ≡ made_if moved found
 
-pub made_as : (stop : Stop) (broken : Option StepFault) (found : Result FoundMove MoveCause) (effect : Option Effect) → MovedBy stop broken found effect
+pub made_as : (stop : Stop) (broken : Option StepFault) (found : Result FoundMove MoveCause) (effect : Option Effect)
+    → MovedBy stop broken found effect
     → IsMade found effect
 made_as stop None found effect e = record { moved = true; is = e }
 made_as stop (Some fault) found effect e = record { moved = moves_at stop; is = e.0 }
-
-pub none_made : (found : Result FoundMove MoveCause) → made_if false found ≡ None
-none_made (Err cause) = refl
-none_made (Ok found) = never found.again
-  where
-    never : (again : Bool) → (if again then None else effect_if false found.effect) ≡ None
-    never true = refl
-    never false = refl
 
 -- want of memory
 
@@ -84,13 +77,15 @@ pub record Reads (new : Standing) : Type 0 where
   pub value : List ℕ
   pub is : register_reads new ≡ Some value
 
-still_cell : (i : Instance) (role : Role) (d : Digests) (register : List ℕ) → cell_of_role i role d ≡ cell_of_role i role (record d { register = register })
+still_cell : (i : Instance) (role : Role) (d : Digests) (register : List ℕ)
+    → cell_of_role i role d ≡ cell_of_role i role (record d { register = register })
 still_cell i Blank d register = refl
 still_cell i Live d register = refl
 still_cell i (Waits nonce) d register = refl
 still_cell i (Left nonce) d register = refl
 
-still_fit : (pair : Pair) (which : Which) (role : Role) (d : Digests) (register : List ℕ) → FitsCell (instance_on pair which) (link_of pair) role d
+still_fit : (pair : Pair) (which : Which) (role : Role) (d : Digests) (register : List ℕ)
+    → FitsCell (instance_on pair which) (link_of pair) role d
     → FitsCell (instance_on pair which) (link_of pair) role (record d { register = register })
 still_fit pair which Blank d register fit = record { key = fit.key; barrier = fit.barrier; linked = fit.linked; fits = fit.fits }
 still_fit pair which Live d register fit = record { key = fit.key; barrier = fit.barrier; linked = fit.linked; fits = fit.fits }
@@ -105,9 +100,11 @@ still_keeps pair which (Waits nonce) d register kept k = k
 still_keeps pair which (Left nonce) d register kept k = k
 
 -- a side whose cell is as it was
-pub lacks_side : (pair : Pair) (which : Which) (old new : CodeSide) (was now : Between) (value : List ℕ) → IsFormed pair which → FitsSide pair which old
+pub lacks_side : (pair : Pair) (which : Which) (old new : CodeSide) (was now : Between) (value : List ℕ) → IsFormed pair which
+    → FitsSide pair which old
     → new.platform.cell ≡ old.platform.cell → register_reads new.platform ≡ Some value → IsQuiet new.platform → new.position ≡ old.position
-    → KeepsFor pair which (role_in old.platform.cell) new.digest.bytes (at_in old) → new.issued.items ≡ old.issued.items → new.kept ≡ old.kept
+    → KeepsFor pair which (role_in old.platform.cell) new.digest.bytes (at_in old) → new.issued.items ≡ old.issued.items
+    → new.kept ≡ old.kept
     → now.tickets.items ≡ was.tickets.items → now.kept ≡ was.kept → now.away ≡ was.away → CommandLacks pair which old new was now
 lacks_side pair which old new was now value formed fits cell register quiet position keeps issued kept tickets counted away =
     let i = instance_on pair which in
@@ -130,7 +127,8 @@ lacks_side pair which old new was now value formed fits cell register quiet posi
       away = away;
     }
 
-pub wanted : {A : Type 0} (i : Instance) (d : Digests) (stop : Stop) (meddles : List Meddle) (old new : Standing) (came : Result A MoveRefusal)
+pub wanted : {A : Type 0} (i : Instance) (d : Digests) (stop : Stop) (meddles : List Meddle) (old new : Standing)
+    (came : Result A MoveRefusal)
     → WantsMemory i d stop meddles old new came → Reads new
 wanted i d stop meddles old new came w = elim w.register [
   | inl e ↦ record { value = d.register; is = e }
@@ -145,12 +143,14 @@ IsInvited nonce d (Some (Invites other)) = (other ≡ nonce) × (d.flag ≡ fals
 IsInvited nonce d (Some (Leaves ticket)) = ⊥
 IsInvited nonce d (Some (Enters ticket)) = ⊥
 
-invited_made : (role : Role) (d : Digests) (nonce : List ℕ) (found : Result FoundMove MoveCause) (moved : Bool) → InvitesPlainly role d nonce found
+invited_made : (role : Role) (d : Digests) (nonce : List ℕ) (found : Result FoundMove MoveCause) (moved : Bool)
+    → InvitesPlainly role d nonce found
     → IsInvited nonce d (made_if moved found)
 invited_made role d nonce (Err cause) moved plain = tt
 invited_made role d nonce (Ok found) moved plain = by_again found.again moved found.effect plain.effect
   where
-    by_again : (again moved : Bool) (effect : Effect) → effect ≡ Invites nonce → IsInvited nonce d (if again then None else effect_if moved effect)
+    by_again : (again moved : Bool) (effect : Effect) → effect ≡ Invites nonce
+        → IsInvited nonce d (if again then None else effect_if moved effect)
     by_again true moved effect e = tt
     by_again false false effect e = tt
     by_again false true effect e = subst (λ x. IsInvited nonce d (Some x)) (sym e) (refl, plain.clear)
@@ -161,8 +161,10 @@ invited_fits nonce d (Some (Invites other)) size is = (is.1, ap length is.0 ∙ 
 invited_fits nonce d (Some (Leaves ticket)) size is = absurd is
 invited_fits nonce d (Some (Enters ticket)) size is = absurd is
 
-invited_keeps : (pair : Pair) (which : Which) (role : Role) (nonce kept : List ℕ) (away : ℕ) (d : Digests) (effect : Option Effect) → kept ≡ d.digest
-    → IsInvited nonce d effect → KeepsFor pair which (role_then role effect) kept (at_then away d effect) × ((at_then away d effect).count ≡ d.count)
+invited_keeps : (pair : Pair) (which : Which) (role : Role) (nonce kept : List ℕ) (away : ℕ) (d : Digests) (effect : Option Effect)
+    → kept ≡ d.digest
+    → IsInvited nonce d effect → KeepsFor pair which (role_then role effect) kept (at_then away d effect)
+    × ((at_then away d effect).count ≡ d.count)
     × ((x : Digests) → away_then away x effect ≡ away)
 invited_keeps pair which role nonce kept away d None e is = (keeps_equal pair which role kept d e, refl, λ x. refl)
 invited_keeps pair which role nonce kept away d (Some (Invites other)) e is = (e, refl, λ x. refl)
@@ -170,14 +172,16 @@ invited_keeps pair which role nonce kept away d (Some (Leaves ticket)) e is = ab
 invited_keeps pair which role nonce kept away d (Some (Enters ticket)) e is = absurd is
 
 -- What is told of a move, and what its end makes of both sides.
-pub record Told (pair : Pair) (i : Instance) (stop : Stop) (broken : Option StepFault) (found : Result FoundMove MoveCause) (effect : Option Effect)
+pub record Told (pair : Pair) (i : Instance) (stop : Stop) (broken : Option StepFault) (found : Result FoundMove MoveCause)
+    (effect : Option Effect)
     (result : Result MoveReply Memory) (ends : Both Digests ℕ → Both Digests ℕ) (fits : Both Digests ℕ → Type 0) : Type 0 where
   pub said : MoveReply
   pub is : result ≡ Ok said
   pub says : (both : Both Digests ℕ) → fits both → said ≡ reply_said (move_ended digests_move pair i both stop broken found effect).reply
   pub both : (both : Both Digests ℕ) → fits both → (move_ended digests_move pair i both stop broken found effect).both ≡ ends both
 
-told_invite : (pair : Pair) (i : Instance) (role : Role) (d : Digests) (nonce : List ℕ) (stop : Stop) (broken : Option StepFault) (found : Result FoundMove MoveCause)
+told_invite : (pair : Pair) (i : Instance) (role : Role) (d : Digests) (nonce : List ℕ) (stop : Stop) (broken : Option StepFault)
+    (found : Result FoundMove MoveCause)
     (effect : Option Effect) (came : Result Invited MoveRefusal) (result : Result MoveReply Memory) → CameAs GivesInvited broken found came
     → MovedBy stop broken found effect → InvitesPlainly role d nonce found → InvitedAs stop came result
     → Told pair i stop broken found effect result (λ both. both) (λ both. Unit {0})
@@ -199,7 +203,8 @@ told_invite pair i role d nonce stop None (Ok found) effect came result says mov
     by_effect : (again : Bool) (made : Effect) → made ≡ Invites nonce
         → Told pair i stop None (Ok (record { again = again; effect = made })) effect result (λ both. both) (λ both. Unit {0})
     by_effect again made e =
-        subst (λ x. Told pair i stop None (Ok (record { again = again; effect = x })) effect result (λ both. both) (λ both. Unit {0})) (sym e) (record {
+        subst (λ x. Told pair i stop None (Ok (record { again = again; effect = x })) effect result (λ both. both) (λ both. Unit {0}))
+        (sym e) (record {
           said = reply.Invited;
           is = subst (λ (c : Result Invited MoveRefusal). InvitedAs stop c result) says.1 told;
           says = λ both h. refl;
@@ -207,14 +212,18 @@ told_invite pair i role d nonce stop None (Ok found) effect came result says mov
         })
 
 -- a side's position and what passes between both stay within any bound of both
-stays_within : (position away new now : ℕ) → new ≡ position → now ≡ away → (most : ℕ) → position ≤ most → away ≤ most → (new ≤ most) × (now ≤ most)
+stays_within : (position away new now : ℕ) → new ≡ position → now ≡ away → (most : ℕ) → position ≤ most → away ≤ most
+    → (new ≤ most) × (now ≤ most)
 stays_within position away new now e f most p q = (omega (arith, e), omega (arith, f))
 
 -- the call of the code, in terms of the side's instance
-pub invites_planned : (pair : Pair) (which : Which) (nonce : List ℕ) (stop : Stop) (meddles : List Meddle) (link : Link) (id : ℕ) (key : List ℕ) (old new : Standing)
+pub invites_planned : (pair : Pair) (which : Which) (nonce : List ℕ) (stop : Stop) (meddles : List Meddle) (link : Link) (id : ℕ)
+    (key : List ℕ) (old new : Standing)
     (came : Result Invited MoveRefusal) → link ≡ link_of pair → id ≡ pair.meaning.id → key ≡ key_of pair which
     → MovesPlanned (λ (bytes : List ℕ). invites_in (waiting_for link pair.variant id nonce key) (moved_of bytes)) stop meddles old new came
-    → MovesPlanned (λ (bytes : List ℕ). invites_in (waiting_for (link_of pair) (instance_on pair which).variant (instance_on pair which).meaning.id nonce (instance_on pair which).key) (moved_of bytes))
+    → MovesPlanned (λ (bytes : List ℕ). invites_in
+    (waiting_for (link_of pair) (instance_on pair which).variant (instance_on pair which).meaning.id nonce (instance_on pair which).key)
+    (moved_of bytes))
     stop meddles old new came
 invites_planned pair which nonce stop meddles link id key old new came el ei ek planned =
     let i = instance_on pair which in
@@ -225,15 +234,20 @@ invites_planned pair which nonce stop meddles link id key old new came el ei ek 
     λ j. waiting_for (el j) (sym v j) ((ei ∙ sym (ap (λ (x : Meaning). x.id) m)) j) nonce ((ek ∙ sym k) j) in
     subst (λ w. MovesPlanned (λ (bytes : List ℕ). invites_in w (moved_of bytes)) stop meddles old new came) same planned
 
-pub invited_done : (pair : Pair) (which : Which) (nonce : List ℕ) (stop : Stop) (meddles : List Meddle) (old mid new : CodeSide) (between : Between)
+pub invited_done : (pair : Pair) (which : Which) (nonce : List ℕ) (stop : Stop) (meddles : List Meddle) (old mid new : CodeSide)
+    (between : Between)
     (came : Result Invited MoveRefusal) (result : Result MoveReply Memory) → IsFormed pair which → length nonce ≡ 32 → KeepsDigest old mid
-    → MovesPlanned (λ (bytes : List ℕ). invites_in (waiting_for (link_of pair) (instance_on pair which).variant (instance_on pair which).meaning.id nonce (instance_on pair which).key) (moved_of bytes))
+    → MovesPlanned (λ (bytes : List ℕ). invites_in
+    (waiting_for (link_of pair) (instance_on pair which).variant (instance_on pair which).meaning.id nonce (instance_on pair which).key)
+    (moved_of bytes))
     stop meddles mid.platform new.platform came
-    → new.digest ≡ mid.digest → new.issued.items ≡ mid.issued.items → new.kept ≡ mid.kept → new.position ≡ mid.position → InvitedAs stop came result
+    → new.digest ≡ mid.digest → new.issued.items ≡ mid.issued.items → new.kept ≡ mid.kept → new.position ≡ mid.position
+    → InvitedAs stop came result
     → FitsSide pair which old → FitsBetween between
     → MatchResult result (CommandDone pair which old new between between (commanded pair which old between meddles stop (Invite nonce)))
     (λ _. CommandLacks pair which old new between between)
-invited_done pair which nonce stop meddles old mid new between came result formed size k planned digest issued kept position told fits counted =
+invited_done pair which nonce stop meddles old mid new between came result formed size k planned digest issued kept position told fits
+    counted =
     let i = instance_on pair which in
     let role = role_in old.platform.cell in
     let d = at_in old in
@@ -248,7 +262,8 @@ invited_done pair which nonce stop meddles old mid new between came result forme
     elim (planned i d (cell_of_role i role d) cell register quiet) [
       | inl made ↦
           let found = invited_on role nonce in
-          let c = came_by GivesInvited i role d stop meddles new.platform came _ found (invites_match i (link_of pair) role d nonce w.0 size) made in
+          let c = came_by GivesInvited i role d stop meddles new.platform came _ found
+          (invites_match i (link_of pair) role d nonce w.0 size) made in
           let moved = moved_by stop meddles found in
           let plain = invites_plainly i role d nonce w.0.fits in
           let t = told_invite pair i role d nonce stop (walk (course_of stop meddles).fates 1 (move_steps found)).broken found
@@ -270,10 +285,12 @@ invited_done pair which nonce stop meddles old mid new between came result forme
                   tickets = between.tickets.items;
                   committed = committed;
                 })
-                ∙ sym (affected_is role (brought_to digests_move i d meddles stop (move_steps found)) old.issued.items between.tickets.items other between.away committed
+                ∙ sym (affected_is role (brought_to digests_move i d meddles stop (move_steps found)) old.issued.items between.tickets.items
+                other between.away committed
                 (made_if m.moved found))
                 ∙ ap (λ e. affected_if digests_move (record {
-                  first = record { role = role; at = brought_to digests_move i d meddles stop (move_steps found); issued = old.issued.items };
+                  first =
+                      record { role = role; at = brought_to digests_move i d meddles stop (move_steps found); issued = old.issued.items };
                   second = other;
                   away = between.away;
                   tickets = between.tickets.items;
@@ -288,6 +305,7 @@ invited_done pair which nonce stop meddles old mid new between came result forme
       | inr w' ↦
           let r = wanted i d stop meddles mid.platform new.platform came w' in
           err_match _ _ result (subst (λ (c : Result Invited MoveRefusal). InvitedAs stop c result) w'.says told)
-          (lacks_side pair which old new between between r.value formed fits (w'.cell ∙ ap (λ (s : Standing). s.cell) k.platform) r.is w'.quiet same_position
+          (lacks_side pair which old new between between r.value formed fits (w'.cell ∙ ap (λ (s : Standing). s.cell) k.platform) r.is
+          w'.quiet same_position
           (keeps_equal pair which role new.digest.bytes d keeps) same_issued same_kept refl refl refl)
     ]

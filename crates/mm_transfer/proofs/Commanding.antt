@@ -15,7 +15,8 @@ use Rattle.mm_model.specs.Moves.{Digests}
 use Rattle.mm_model.specs.Standing.{register_reads}
 use Rattle.mm_model.specs.Steps.{Reads}
 use Rattle.mm_model.specs.declared.refusal.Refusal.TheVariants as core
-use Rattle.mm_call.specs.Courses.{End, Done, Fails, walk, after_step, end_of}
+use Rattle.mm_call.specs.Courses.{End, Done, Fails, walk, after_step}
+use Rattle.mm_call.specs.CoursesWords.{end_of}
 use Rattle.mm_call.specs.Standing.{instance_by}
 use Rattle.mm_run.specs.Folds.{course_of}
 use Rattle.mm_world.specs.Calls.{takes_effect}
@@ -50,15 +51,18 @@ linked_by variants.Basic meaning key barrier link = refl
 linked_by variants.Opt meaning key barrier link = refl
 
 waits_by : (variant : Variant) (meaning : Meaning) (key barrier link nonce : List ℕ)
-    → waiting_for (record { key = link; barrier = barrier }) variant meaning.id nonce key ≡ waiting_at (instance_by variant meaning key barrier) nonce
+    → waiting_for (record { key = link; barrier = barrier }) variant meaning.id nonce key ≡ waiting_at
+    (instance_by variant meaning key barrier) nonce
 waits_by variants.Basic meaning key barrier link nonce = refl
 waits_by variants.Opt meaning key barrier link nonce = refl
 
-pub variant_by : (variant : Variant) (meaning : Meaning) (key barrier : List ℕ) → (instance_by variant meaning key barrier).variant ≡ variant
+pub variant_by : (variant : Variant) (meaning : Meaning) (key barrier : List ℕ)
+    → (instance_by variant meaning key barrier).variant ≡ variant
 variant_by variants.Basic meaning key barrier = refl
 variant_by variants.Opt meaning key barrier = refl
 
-pub meaning_by : (variant : Variant) (meaning : Meaning) (key barrier : List ℕ) → (instance_by variant meaning key barrier).meaning ≡ meaning
+pub meaning_by : (variant : Variant) (meaning : Meaning) (key barrier : List ℕ)
+    → (instance_by variant meaning key barrier).meaning ≡ meaning
 meaning_by variants.Basic meaning key barrier = refl
 meaning_by variants.Opt meaning key barrier = refl
 
@@ -94,7 +98,8 @@ module _ (pair : Pair) (which : Which) where
     fits = fits;
   }
 
-  role_fits : (role : Role) (standing : Standing) (kept : List ℕ) (position : ℕ) → StandsAs pair which role standing (at_by role standing kept position)
+  role_fits : (role : Role) (standing : Standing) (kept : List ℕ) (position : ℕ)
+      → StandsAs pair which role standing (at_by role standing kept position)
       → FitsRole (instance_on pair which) role (at_by role standing kept position)
   role_fits Blank standing kept position s = refl
   role_fits Live standing kept position s = (s.at.spells.variant, s.at.spells.summary)
@@ -108,7 +113,8 @@ module _ (pair : Pair) (which : Which) where
   cell_is (Waits nonce) standing d s = s.1.cell ∙ ap (λ c. Some (waiting_spelling c)) (same_waiting_on pair which nonce)
   cell_is (Left nonce) standing d s = s.1.cell
 
-  register_is : (role : Role) (standing : Standing) (d : Digests) → StandsAs pair which role standing d → register_reads standing ≡ Some d.register
+  register_is : (role : Role) (standing : Standing) (d : Digests) → StandsAs pair which role standing d
+      → register_reads standing ≡ Some d.register
   register_is Blank standing d s = s.register
   register_is Live standing d s = s.register
   register_is (Waits nonce) standing d s = s.1.register
@@ -157,7 +163,8 @@ left_digest i d nonce a b c = (three d.digest i.key nonce a b c).first
 
 at_back : (pair : Pair) (which : Which) (role : Role) (standing : Standing) (kept : List ℕ) (position : ℕ) (d : Digests)
     → FitsCell (instance_on pair which) (link_of pair) role d → standing.cell ≡ Some (cell_of_role (instance_on pair which) role d)
-    → register_reads standing ≡ Some d.register → position ≡ d.count → KeepsFor pair which role kept d → at_by role standing kept position ≡ d
+    → register_reads standing ≡ Some d.register → position ≡ d.count → KeepsFor pair which role kept d
+    → at_by role standing kept position ≡ d
 at_back pair which Blank standing kept position d fit cell register count keeps = λ j. record {
   digest = keeps j;
   flag = sym fit.fits j;
@@ -188,8 +195,10 @@ pub record IsSide (pair : Pair) (which : Which) (role : Role) (d : Digests) (sid
   pub role_is : role_in side.platform.cell ≡ role
   pub at_is : at_in side ≡ d
 
-pub side_is : (pair : Pair) (which : Which) (role : Role) (d : Digests) (side : CodeSide) → FitsCell (instance_on pair which) (link_of pair) role d
-    → side.platform.cell ≡ Some (cell_of_role (instance_on pair which) role d) → register_reads side.platform ≡ Some d.register → IsQuiet side.platform
+pub side_is : (pair : Pair) (which : Which) (role : Role) (d : Digests) (side : CodeSide)
+    → FitsCell (instance_on pair which) (link_of pair) role d
+    → side.platform.cell ≡ Some (cell_of_role (instance_on pair which) role d) → register_reads side.platform ≡ Some d.register
+    → IsQuiet side.platform
     → side.position ≡ d.count → KeepsFor pair which role side.digest.bytes d → side.kept ≡ within_64 (sum_by length side.issued.items)
     → IsSide pair which role d side
 side_is pair which role d side fit cell register quiet count keeps kept =
@@ -201,7 +210,9 @@ side_is pair which role d side fit cell register quiet count keeps kept =
     let stands = stands_as pair which role side.platform d fit cell register in
     record {
       fits = record {
-        stands = subst (λ r. StandsAs pair which r side.platform (at_in side)) (sym is) (subst (λ (x : Digests). StandsAs pair which role side.platform x) (sym at) stands);
+        stands =
+            subst (λ r. StandsAs pair which r side.platform (at_in side)) (sym is)
+            (subst (λ (x : Digests). StandsAs pair which role side.platform x) (sym at) stands);
         quiet = quiet;
         kept = kept;
       };
@@ -236,7 +247,8 @@ abbrev pub Gave : {A : Type 0} → (FoundMove → A → Type 0) → Result Found
 Gave {A} gives (Ok found) = (answer : A) × gives found answer
 Gave gives (Err cause) = Unit {0}
 
-pub record Came {A : Type 0} (gives : FoundMove → A → Type 0) (i : Instance) (role : Role) (d : Digests) (stop : Stop) (meddles : List Meddle)
+pub record Came {A : Type 0} (gives : FoundMove → A → Type 0) (i : Instance) (role : Role) (d : Digests) (stop : Stop)
+    (meddles : List Meddle)
     (found : Result FoundMove MoveCause) (new : Standing) (came : Result A MoveRefusal) : Type 0 where
   pub cell : new.cell ≡ Some (cell_if i role d (effect_of (course_of stop meddles).fates found))
   pub register : register_reads new ≡ Some (brought_to digests_move i d meddles stop (move_steps found)).register
@@ -246,7 +258,8 @@ pub record Came {A : Type 0} (gives : FoundMove → A → Type 0) (i : Instance)
 
 module _ {A : Type 0} (gives : FoundMove → A → Type 0) (i : Instance) (role : Role) (d : Digests) (stop : Stop) (meddles : List Meddle)
     (new : Standing) (came : Result A MoveRefusal) where
-  refused_came : (cause : MoveCause) (broken : Option StepFault) → came ≡ ended_as broken (Err (refusal_of cause)) → CameAs gives broken (Err cause) came
+  refused_came : (cause : MoveCause) (broken : Option StepFault) → came ≡ ended_as broken (Err (refusal_of cause))
+      → CameAs gives broken (Err cause) came
   refused_came cause None e = e
   refused_came cause (Some fault) e = e
 
@@ -266,7 +279,8 @@ module _ {A : Type 0} (gives : FoundMove → A → Type 0) (i : Instance) (role 
       → Came gives i role d stop meddles (Ok (record { again = again; effect = effect })) new came
   found_by true effect next answer is g made =
       let m : MakesMove i d stop meddles (cell_of_role i role d) (Ok (record { next = None; answer = answer })) new came =
-      subst (λ (n : Option (List ℕ)). MakesMove i d stop meddles (cell_of_role i role d) (Ok (record { next = n; answer = answer })) new came) is made in
+      subst (λ (n : Option (List ℕ)). MakesMove i d stop meddles (cell_of_role i role d) (Ok (record { next = n; answer = answer })) new
+      came) is made in
       record {
         cell = m.cell;
         register = m.register;
@@ -278,7 +292,8 @@ module _ {A : Type 0} (gives : FoundMove → A → Type 0) (i : Instance) (role 
       let after : List ℕ = cell_after i d effect in
       let fates = (course_of stop meddles).fates in
       let m : MakesMove i d stop meddles (cell_of_role i role d) (Ok (record { next = Some after; answer = answer })) new came =
-      subst (λ (n : Option (List ℕ)). MakesMove i d stop meddles (cell_of_role i role d) (Ok (record { next = n; answer = answer })) new came) is made in
+      subst (λ (n : Option (List ℕ)). MakesMove i d stop meddles (cell_of_role i role d) (Ok (record { next = n; answer = answer })) new
+      came) is made in
       record {
         cell = m.cell ∙ written_cell (is_moved (fates 1).ends (fates 2).ends) effect;
         register = m.register;
@@ -299,10 +314,12 @@ module _ {A : Type 0} (gives : FoundMove → A → Type 0) (i : Instance) (role 
 
 -- which effect a move had, by how it was stopped
 
-fail_first : (stop : Stop) (fault : StepFault) (made : Bool) → end_of (fault_at stop 1) (is_made_at stop 1) ≡ Fails fault made → false ≡ moves_at stop
+fail_first : (stop : Stop) (fault : StepFault) (made : Bool) → end_of (fault_at stop 1) (is_made_at stop 1) ≡ Fails fault made
+    → false ≡ moves_at stop
 fail_first stop fault made e = sym (ap (λ n. (n == 2) && takes_effect stop) (stopped_at stop 1 fault made e).number)
 
-fail_second : (stop : Stop) (fault : StepFault) (made : Bool) → end_of (fault_at stop 2) (is_made_at stop 2) ≡ Fails fault made → made ≡ moves_at stop
+fail_second : (stop : Stop) (fault : StepFault) (made : Bool) → end_of (fault_at stop 2) (is_made_at stop 2) ≡ Fails fault made
+    → made ≡ moves_at stop
 fail_second stop fault made e =
     let at = stopped_at stop 2 fault made e in at.effect ∙ sym (ap (λ n. (n == 2) && takes_effect stop) at.number)
 
@@ -316,7 +333,8 @@ abbrev pub MovedBy : Stop → Option StepFault → Result FoundMove MoveCause �
 MovedBy stop None found effect = effect ≡ made_if true found
 MovedBy stop (Some fault) found effect = (effect ≡ made_if (moves_at stop) found) × (is_some effect ≡ moves_at stop)
 
-one_moved : (stop : Stop) (values : List (List ℕ)) (e other : End) (found : Result FoundMove MoveCause) → end_of (fault_at stop 1) (is_made_at stop 1) ≡ e
+one_moved : (stop : Stop) (values : List (List ℕ)) (e other : End) (found : Result FoundMove MoveCause)
+    → end_of (fault_at stop 1) (is_made_at stop 1) ≡ e
     → ((moved : Bool) → made_if moved found ≡ None)
     → MovedBy stop (after_step Reads values e (record { moves = []; steps = 0; writes = 0; broken = None })).broken found None
 one_moved stop values Done other found e none = sym (none true)
@@ -343,8 +361,10 @@ moved_by stop meddles (Ok found) = moved_found found.again found.effect
   where
     moved_found : (again : Bool) (effect : Effect)
         → (let found : Result FoundMove MoveCause = Ok (record { again = again; effect = effect }) in
-        MovedBy stop (walk (course_of stop meddles).fates 1 (move_steps found)).broken found (effect_of (course_of stop meddles).fates found))
+        MovedBy stop (walk (course_of stop meddles).fates 1 (move_steps found)).broken found
+        (effect_of (course_of stop meddles).fates found))
     moved_found true effect =
-        one_moved stop _ (end_of (fault_at stop 1) (is_made_at stop 1)) Done (Ok (record { again = true; effect = effect })) refl (λ moved. refl)
+        one_moved stop _ (end_of (fault_at stop 1) (is_made_at stop 1)) Done (Ok (record { again = true; effect = effect })) refl
+        (λ moved. refl)
     moved_found false effect =
         two_moved stop _ _ (end_of (fault_at stop 1) (is_made_at stop 1)) (end_of (fault_at stop 2) (is_made_at stop 2)) effect refl refl

@@ -1,13 +1,14 @@
 -- The keys and the barrier of a header's sides have 32 bytes each.
 use Rattle.std.proofs.Common.{◌≡◌, length, refl}
-use Rattle.mm_run.specs.Held.{rising_from, world_key, world_barrier}
+use Rattle.mm_run.specs.Held.{rising_from}
+use Rattle.mm_run.specs.HeldWords.{world_key, world_barrier}
 use Rattle.mm_schedule.specs.declared.header.Header.{Header}
 use Rattle.mm_sides.specs.Both.{Which, First, Second}
 use Rattle.mm_transfer.specs.Pairs.{pair_of}
 use Rattle.mm_transfer.proofs.Commanding.{IsFormed}
 
 first_key : length world_key ≡ 32
-unfolding world_key rising_from
+unfolding rising_from
 first_key = refl
 
 second_key : length (rising_from 0x40) ≡ 32
@@ -15,7 +16,7 @@ unfolding rising_from
 second_key = refl
 
 barrier : length world_barrier ≡ 32
-unfolding world_barrier rising_from
+unfolding rising_from
 barrier = refl
 
 pub formed_of : (header : Header) (which : Which) → IsFormed (pair_of header) which

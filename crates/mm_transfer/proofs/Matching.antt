@@ -16,18 +16,19 @@ use Rattle.mm_seal.specs.declared.snapshot.PartsFault.TheVariants.{Form, Kind}
 use Rattle.mm_seal.specs.declared.snapshot.Place.{Place}
 use Rattle.mm_seal.specs.declared.snapshot.Place.TheVariants.{Basic as InBasic, Opt as InOpt}
 use Rattle.mm_seal.specs.Cell.{FitsVariant, blank_cell}
-use Rattle.mm_seal.specs.Parts.{parts_of, same_variant}
+use Rattle.mm_seal.specs.Parts.{parts_of}
+use Rattle.mm_seal.specs.PartsWords.{same_variant}
 use Rattle.mm_seal.specs.Snapshot.{Content, Snapshot, tag_of, variant_of}
 use Rattle.mm_seal.proofs.Reading.{spells_read}
 use Rattle.mm_model.specs.Instance.{Instance}
 use Rattle.mm_model.specs.Judge.{verdict_by, verdict_by_digests, fits_fresh}
 use Rattle.mm_model.specs.Moves.{Digests}
-use Rattle.mm_model.specs.Places.{digest_of}
+use Rattle.mm_model.specs.PlacesWords.{digest_of}
 use Rattle.mm_model.specs.StandingHere.{is_new}
 use Rattle.mm_model.specs.declared.refusal.Refusal.{Refusal}
 use Rattle.mm_model.specs.declared.refusal.Refusal.TheVariants as core
 use Rattle.mm_call.specs.Levels.{by_digests}
-use Rattle.mm_call.specs.Order.{weighed}
+use Rattle.mm_call.specs.OrderWords.{weighed}
 use Rattle.mm_call.specs.Standing.{cell_at}
 use Rattle.mm_move.specs.declared.cell.MovedCell.{MovedCell}
 use Rattle.mm_move.specs.declared.cell.MovedCell.TheVariants as moved
@@ -59,16 +60,19 @@ pub fits_linked : (v : Variant) (barrier : List ℕ) (link : Link) → barrier_o
 fits_linked variants.Basic barrier link e = (refl, sym e)
 fits_linked variants.Opt barrier link e = tt
 
-pub is_waiting : (i : Instance) (link : Link) (nonce : List ℕ) → length i.key ≡ 32 → length i.barrier ≡ 32 → barrier_of i.variant link ≡ i.barrier
+pub is_waiting : (i : Instance) (link : Link) (nonce : List ℕ) → length i.key ≡ 32 → length i.barrier ≡ 32
+    → barrier_of i.variant link ≡ i.barrier
     → length nonce ≡ 32 → IsWaiting (waiting_at i nonce)
 is_waiting i link nonce key barrier linked size =
     record { nonce = size; key = key; barrier = barrier; variant = fits_linked i.variant i.barrier link linked }
 
-pub role_read : (i : Instance) (link : Link) (role : Role) (d : Digests) → FitsCell i link role d → moved_of (cell_of_role i role d) ≡ read_as i role d
+pub role_read : (i : Instance) (link : Link) (role : Role) (d : Digests) → FitsCell i link role d
+    → moved_of (cell_of_role i role d) ≡ read_as i role d
 role_read i link Blank d fit = sym (blank_read blank_cell (bytes_are blank_cell blank_cell refl))
 role_read i link Live d fit =
     moved_back (moved.Live (cell_at i d)) (record { summary = fit.fits.1; key = fit.key; barrier = fit.barrier; variant = fit.fits.0 })
-role_read i link (Waits nonce) d fit = moved_back (moved.Waiting (waiting_at i nonce)) (is_waiting i link nonce fit.key fit.barrier fit.linked fit.fits.1)
+role_read i link (Waits nonce) d fit =
+    moved_back (moved.Waiting (waiting_at i nonce)) (is_waiting i link nonce fit.key fit.barrier fit.linked fit.fits.1)
 role_read i link (Left nonce) d fit =
     moved_back (moved.Retired (retired_at i d nonce)) (record { summary = fit.fits.2; key = fit.key; nonce = fit.fits.1 })
 
@@ -93,11 +97,13 @@ same_tests false false p q = refl
 
 pub eq_turned : (xs ys : List ℕ) → bytes_eq xs ys ≡ bytes_eq ys xs
 eq_turned xs ys =
-    same_tests (bytes_eq xs ys) (bytes_eq ys xs) (λ e. bytes_are ys xs (sym (bytes_tell xs ys e))) (λ e. bytes_are xs ys (sym (bytes_tell ys xs e)))
+    same_tests (bytes_eq xs ys) (bytes_eq ys xs) (λ e. bytes_are ys xs (sym (bytes_tell xs ys e)))
+    (λ e. bytes_are xs ys (sym (bytes_tell ys xs e)))
 
 module _ {A : Type 0} (gives : FoundMove → A → Type 0) (i : Instance) (d : Digests) where
   -- one is refused where the other goes on
-  by_not : (one other : Bool) (why : MoveRefusal) (rest : Result (Ready A) MoveRefusal) (found : Result FoundMove MoveCause) (cause : MoveCause)
+  by_not : (one other : Bool) (why : MoveRefusal) (rest : Result (Ready A) MoveRefusal) (found : Result FoundMove MoveCause)
+      (cause : MoveCause)
       → one ≡ other → Matches gives i d rest found → why ≡ refusal_of cause
       → Matches gives i d (refuse_if (not one) why rest) (if other then found else Err cause)
   by_not true true why rest found cause e m r = m
@@ -257,7 +263,8 @@ pub retires_match : (i : Instance) (link : Link) (role : Role) (d : Digests) (no
     → Matches (GivesTicket link.key) i d (retires_in i.meaning i.variant link nonce bytes (moved_of (cell_of_role i role d)))
     (retired_on digests_move i role d nonce bytes)
 retires_match i link role d nonce bytes fit =
-    subst (λ r. Matches (GivesTicket link.key) i d (retires_in i.meaning i.variant link nonce bytes r) (retired_on digests_move i role d nonce bytes))
+    subst (λ r. Matches (GivesTicket link.key) i d (retires_in i.meaning i.variant link nonce bytes r)
+    (retired_on digests_move i role d nonce bytes))
     (sym (role_read i link role d fit)) (retires i link role d nonce bytes fit)
 
 -- acceptances
@@ -316,7 +323,8 @@ said_content : (i : Instance) (digest : List ℕ) (ticket : TicketContent) → I
     }
 said_content i digest ticket is stands =
     let place : ticket.content.place ≡ place_at i.variant (digest_of digest) =
-    is.is.place ∙ ap (λ v. place_at v (summary_in ticket.content.place)) is.variant_is ∙ ap (λ s. place_at i.variant (digest_of s)) stands in
+    is.is.place ∙ ap (λ v. place_at v (summary_in ticket.content.place)) is.variant_is
+    ∙ ap (λ s. place_at i.variant (digest_of s)) stands in
     λ j. record {
       id = is.id_is j;
       place = place j;
@@ -339,7 +347,8 @@ and_or false = refl
 
 one_form : (anchor extension digest : List ℕ) (closed : Bool) → closed ≡ true → bytes_eq extension zero_bytes ≡ true
     → list_any (fits_fresh false digest zero_bytes)
-    (record { anchor = anchor; extension = extension } ∷ (if closed then [] else record { anchor = anchored_of anchor extension; extension = zero_bytes } ∷ []))
+    (record { anchor = anchor; extension = extension }
+    ∷ (if closed then [] else record { anchor = anchored_of anchor extension; extension = zero_bytes } ∷ []))
     ≡ bytes_eq anchor digest
 one_form anchor extension digest false e z = cc
 one_form anchor extension digest true e z =
@@ -349,7 +358,8 @@ anchor_stands : (variant : Variant) (summary : Digest) (digest : List ℕ)
     → stands_at (digest_of digest) (place_at variant summary) ≡ bytes_eq summary.bytes digest
 anchor_stands variants.Basic summary digest = refl
 anchor_stands variants.Opt summary digest =
-    one_form summary.bytes zero_bytes digest (bytes_eq zero_bytes zero_bytes) (bytes_are zero_bytes zero_bytes refl) (bytes_are zero_bytes zero_bytes refl)
+    one_form summary.bytes zero_bytes digest (bytes_eq zero_bytes zero_bytes) (bytes_are zero_bytes zero_bytes refl)
+    (bytes_are zero_bytes zero_bytes refl)
 
 ticket_stands : (i : Instance) (d : Digests) (ticket : TicketContent) → IsFor i ticket → d.flag ≡ false
     → bytes_eq (summary_in ticket.content.place).bytes d.digest ≡ stands_here (by_digests i) d ticket.content
@@ -365,7 +375,11 @@ again_by : (i : Instance) (d : Digests) (ticket : TicketContent) → IsFor i tic
     else (if stands then Ok (record { again = true; effect = Enters ticket }) else Err (Refused core.Stale)))
 again_by i d ticket is true here stands f h s = refl
 again_by i d ticket is false true true f h s =
-    record { next = refl; answer = ap (accepted_as i.key) (said_content i d.digest ticket is (bytes_tell (summary_in ticket.content.place).bytes d.digest h)) }
+    record {
+      next = refl;
+      answer = ap (accepted_as i.key)
+          (said_content i d.digest ticket is (bytes_tell (summary_in ticket.content.place).bytes d.digest h));
+    }
 again_by i d ticket is false false false f h s = refl
 again_by i d ticket is false true false f h s = let e = s refl in cc
 again_by i d ticket is false false true f h s = let e = s refl in cc
@@ -374,7 +388,8 @@ again_match : (i : Instance) (d : Digests) (read : Result TicketContent Refusal)
     → Matches (GivesEntry i d) i d (has_arrived_by (cell_at i d) (refused_core read)) (entered_again (by_digests i) d read)
 again_match i d (Err why) is = refl
 again_match i d (Ok ticket) is =
-    again_by i d ticket is d.flag (bytes_eq (summary_in ticket.content.place).bytes d.digest) (stands_here (by_digests i) d ticket.content) refl refl
+    again_by i d ticket is d.flag (bytes_eq (summary_in ticket.content.place).bytes d.digest) (stands_here (by_digests i) d ticket.content)
+    refl refl
     (ticket_stands i d ticket is)
 
 accepts : (i : Instance) (link : Link) (role : Role) (d : Digests) (bytes : List ℕ) → FitsCell i link role d

@@ -14,7 +14,7 @@ use Rattle.mm_model.specs.Moves.{Digests}
 use Rattle.mm_model.specs.declared.refusal.Refusal.{Refusal}
 use Rattle.mm_model.specs.declared.refusal.Refusal.TheVariants as core
 use Rattle.mm_call.specs.Levels.{by_digests}
-use Rattle.mm_call.specs.Order.{weighed}
+use Rattle.mm_call.specs.OrderWords.{weighed}
 use Rattle.mm_move.specs.Tickets.{TicketContent, TaggedTicket, ticket_tag}
 use Rattle.mm_sides.specs.Both.{digests_move}
 use Rattle.mm_sides.specs.Folds.{Denied}
@@ -36,7 +36,8 @@ IsSaid Open = Unit {0}
 IsSaid Gone = Unit {0}
 IsSaid Nonce = Unit {0}
 
-pub said_cause : (stop : Stop) (cause : MoveCause) (result : Result MoveReply Memory) → IsSaid cause → RefusedAs stop (refusal_of cause) result
+pub said_cause : (stop : Stop) (cause : MoveCause) (result : Result MoveReply Memory) → IsSaid cause
+    → RefusedAs stop (refusal_of cause) result
     → result ≡ Ok (reply_said (Denied cause))
 said_cause stop (Refused core.Memory) result is e = absurd is
 said_cause stop (Refused (core.Device fault)) result is e = absurd is
@@ -88,7 +89,8 @@ waited_plain : (awaited : List ℕ) (d : Digests) (nonce : List ℕ) (same : Boo
 waited_plain awaited d nonce true clear = record { effect = refl; clear = clear }
 waited_plain awaited d nonce false clear = tt
 
-pub invites_plainly : (i : Instance) (role : Role) (d : Digests) (nonce : List ℕ) → FitsRole i role d → InvitesPlainly role d nonce (invited_on role nonce)
+pub invites_plainly : (i : Instance) (role : Role) (d : Digests) (nonce : List ℕ) → FitsRole i role d
+    → InvitesPlainly role d nonce (invited_on role nonce)
 invites_plainly i Blank d nonce fits = record { effect = refl; clear = fits }
 invites_plainly i Live d nonce fits = tt
 invites_plainly i (Waits awaited) d nonce fits = waited_plain awaited d nonce (bytes_eq awaited nonce) fits.0
@@ -141,7 +143,8 @@ retires_plainly i Live d nonce bytes fits =
     if_plain Live d nonce d.flag (Err Open) (offered_to digests_move i d false nonce (parts_of i.variant i.meaning.id bytes)) (λ t. tt)
     (λ clear. offered_plain i Live d false nonce (parts_of i.variant i.meaning.id bytes) refl clear fits.1)
 retires_plainly i (Left left) d nonce bytes fits =
-    if_plain (Left left) d nonce (bytes_eq left nonce) (offered_to digests_move i d true nonce (parts_of i.variant i.meaning.id bytes)) (Err Gone)
+    if_plain (Left left) d nonce (bytes_eq left nonce) (offered_to digests_move i d true nonce (parts_of i.variant i.meaning.id bytes))
+    (Err Gone)
     (λ t. offered_plain i (Left left) d true nonce (parts_of i.variant i.meaning.id bytes) refl fits.0 fits.2) (λ f. tt)
 
 -- an acceptance
@@ -163,7 +166,8 @@ abbrev IsSaidRead : Result TicketContent Refusal → Type 0
 IsSaidRead (Ok ticket) = Unit {0}
 IsSaidRead (Err why) = IsSaid (Refused why)
 
-read_by : (ticket : TicketContent) (spelled tagged : Bool) → IsSaidRead (if spelled then (if tagged then Ok ticket else Err core.Tag) else Err core.State)
+read_by : (ticket : TicketContent) (spelled tagged : Bool)
+    → IsSaidRead (if spelled then (if tagged then Ok ticket else Err core.Tag) else Err core.State)
 read_by ticket true true = tt
 read_by ticket true false = tt
 read_by ticket false tagged = tt
@@ -174,7 +178,8 @@ read_said meaning link (Err Kind) = tt
 read_said meaning link (Ok tagged) =
     read_by tagged.ticket (meaning.is_spelled tagged.ticket.content.state) (bytes_eq tagged.tag (ticket_tag link tagged.ticket))
 
-if_accepted : (i : Instance) (role : Role) (test : Bool) (one other : Result FoundMove MoveCause) → AcceptsPlainly i role one → AcceptsPlainly i role other
+if_accepted : (i : Instance) (role : Role) (test : Bool) (one other : Result FoundMove MoveCause) → AcceptsPlainly i role one
+    → AcceptsPlainly i role other
     → AcceptsPlainly i role (if test then one else other)
 if_accepted i role true one other p q = p
 if_accepted i role false one other p q = q
@@ -189,7 +194,8 @@ again_plain : (i : Instance) (d : Digests) (read : Result TicketContent Refusal)
     → AcceptsPlainly i Live (entered_again (by_digests i) d read)
 again_plain i d (Err why) are said = said
 again_plain i d (Ok ticket) are said =
-    if_accepted i Live d.flag _ _ tt (if_accepted i Live (stands_here (by_digests i) d ticket.content) _ _ (record { effect = are; live = refl }) tt)
+    if_accepted i Live d.flag _ _ tt
+    (if_accepted i Live (stands_here (by_digests i) d ticket.content) _ _ (record { effect = are; live = refl }) tt)
 
 accepts_by : (i : Instance) (role : Role) (d : Digests) (read : Result TicketContent Refusal) → AreFor i read → IsSaidRead read
     → AcceptsPlainly i role (accepted_on (by_digests i) role d read)

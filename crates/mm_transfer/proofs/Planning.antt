@@ -9,7 +9,8 @@ use Rattle.mm_platform.specs.declared.fault.StepFault.TheVariants.{Failed}
 use Rattle.mm_platform.specs.declared.plan.Meddle.{Meddle}
 use Rattle.mm_platform.specs.declared.plan.Stop.{Stop}
 use Rattle.mm_platform.specs.declared.plan.Stop.TheVariants.{Quiet, Cut, Drop, Fail}
-use Rattle.mm_platform.specs.Standing.{Item, foreign_item, Plan, Standing, plan_after, due, item_values, register_after}
+use Rattle.mm_platform.specs.Standing.{Item, foreign_item, Plan, Standing, plan_after, item_values, register_after}
+use Rattle.mm_platform.specs.StandingWords.{due}
 use Rattle.mm_platform.specs.Steps.{Act, ReadCell, WriteCell, Goes, EndsBy, fault_at, is_made_at, is_on_at, cell_after, items_after, items_cycled, will_answer, will_be_made, will_be_on, will_bring}
 use Rattle.mm_model.specs.History.{Move, Foreign}
 use Rattle.mm_model.specs.Instance.{Instance}
@@ -17,12 +18,13 @@ use Rattle.mm_model.specs.Moves.{Digests, made}
 use Rattle.mm_model.specs.Standing.{register_reads}
 use Rattle.mm_model.specs.Steps.{Reads}
 use Rattle.mm_model.specs.declared.refusal.Refusal.TheVariants.{Memory, Device}
-use Rattle.mm_call.specs.Courses.{End, Done, Fails, Walked, walk, after_step, end_of, planned}
+use Rattle.mm_call.specs.Courses.{End, Done, Fails, Walked, walk, after_step, planned}
+use Rattle.mm_call.specs.CoursesWords.{end_of}
 use Rattle.mm_call.specs.Ended.{StaysOn}
 use Rattle.mm_call.specs.Levels.{by_digests, all_made}
 use Rattle.mm_call.specs.Standing.{shown}
 use Rattle.mm_call.proofs.Trails.{all_made-append}
-use Rattle.mm_run.specs.Folds.{plan_of}
+use Rattle.mm_run.specs.FoldsWords.{plan_of}
 use Rattle.mm_world.specs.Calls.{is_cut, SettlesPlan}
 use Rattle.mm_world.specs.Stands.{IsQuiet}
 use Rattle.mm_world.proofs.Asking.{reads_none, power_if, stop_power, on_settled}
@@ -44,13 +46,16 @@ use Rattle.mm_transfer.specs.Planned.{later_steps, written_if, written_by, ended
 
 -- what the register reads after values of others
 
-shown_foreign : (i : Instance) (d : Digests) (values : List (List ℕ)) (items : List Item) → shown i d (map Foreign values) items ≡ items ++ map foreign_item values
+shown_foreign : (i : Instance) (d : Digests) (values : List (List ℕ)) (items : List Item)
+    → shown i d (map Foreign values) items ≡ items ++ map foreign_item values
 shown_foreign i d [] items = sym (append-nil items)
 shown_foreign i d (v ∷ values) items =
-    shown_foreign i (made i d (Foreign v)) values (items ++ foreign_item v ∷ []) ∙ append_assoc items (foreign_item v ∷ []) (map foreign_item values)
+    shown_foreign i (made i d (Foreign v)) values (items ++ foreign_item v ∷ [])
+    ∙ append_assoc items (foreign_item v ∷ []) (map foreign_item values)
 
 reads_on : (i : Instance) (d : Digests) (values : List (List ℕ)) (before after : Option (List Item))
-    → option_map (λ xs. register_after (item_values xs)) before ≡ Some d.register → after ≡ option_map (λ xs. xs ++ map foreign_item values) before
+    → option_map (λ xs. register_after (item_values xs)) before ≡ Some d.register
+    → after ≡ option_map (λ xs. xs ++ map foreign_item values) before
     → option_map (λ xs. register_after (item_values xs)) after ≡ Some (all_made (by_digests i) d (map Foreign values)).register
 reads_on i d values None after e is = cc
 reads_on i d values (Some xs) after e is =
@@ -71,7 +76,8 @@ stays_done (Cut at) new e = e
 stays_done (Drop at) new e = e
 stays_done (Fail at done) new e = e
 
-ends_on : (stop : Stop) (n : ℕ) (fault : Option StepFault) (old new : Standing) (is_made : Bool) → EndsBy fault old new is_made → new.is_on ≡ is_on_at stop n
+ends_on : (stop : Stop) (n : ℕ) (fault : Option StepFault) (old new : Standing) (is_made : Bool) → EndsBy fault old new is_made
+    → new.is_on ≡ is_on_at stop n
     → StaysOn stop (is_some fault) new
 ends_on stop n None old new is_made ends on = stays_done stop new ends.is_on
 ends_on stop n (Some fault) old new is_made ends on = stays_off stop n new on
@@ -105,28 +111,35 @@ module _ (i : Instance) (d : Digests) (stop : Stop) (meddles : List Meddle) wher
         plan = goes.plan ∙ ap (option_map plan_after) plan;
       }
 
-  read_by : (at : ℕ) (old new : Standing) (fault : Option StepFault) → old.is_on ≡ true → old.plan ≡ Some (At at) → register_reads old ≡ Some d.register
+  read_by : (at : ℕ) (old new : Standing) (fault : Option StepFault) → old.is_on ≡ true → old.plan ≡ Some (At at)
+      → register_reads old ≡ Some d.register
       → Goes ReadCell old new fault → StepsBy i d stop meddles (counted at) ReadCell old new fault
   read_by at old new fault on plan register goes = step_by at ReadCell old new fault (λ made items. refl) on plan register goes
 
   write_by : (at : ℕ) (next : List ℕ) (old new : Standing) (fault : Option StepFault) → old.is_on ≡ true → old.plan ≡ Some (At at)
-      → register_reads old ≡ Some d.register → Goes (WriteCell next) old new fault → StepsBy i d stop meddles (counted at) (WriteCell next) old new fault
-  write_by at next old new fault on plan register goes = step_by at (WriteCell next) old new fault (λ made items. refl) on plan register goes
+      → register_reads old ≡ Some d.register → Goes (WriteCell next) old new fault
+      → StepsBy i d stop meddles (counted at) (WriteCell next) old new fault
+  write_by at next old new fault on plan register goes =
+      step_by at (WriteCell next) old new fault (λ made items. refl) on plan register goes
 
 -- a plan that is over, and perhaps power lost and back
-settled_by : (i : Instance) (s : Digests) (stop : Stop) (fault : Option StepFault) (mid new : Standing) → register_reads mid ≡ Some s.register
+settled_by : (i : Instance) (s : Digests) (stop : Stop) (fault : Option StepFault) (mid new : Standing)
+    → register_reads mid ≡ Some s.register
     → SettlesPlan stop (is_some fault) mid new → register_reads new ≡ Some (all_made (by_digests i) s (stopped_moves stop fault)).register
 settled_by i s stop None mid new e settles = ap (λ x. option_map (λ xs. register_after (item_values xs)) x) settles.items ∙ e
 settled_by i s stop (Some fault) mid new e settles =
     subst (λ ms. register_reads new ≡ Some (all_made (by_digests i) s ms).register) (sym (stop_power stop))
     (cut_by (is_cut stop) settles.items)
   where
-    cut_by : (cut : Bool) → new.items ≡ items_cycled cut mid.items → register_reads new ≡ Some (all_made (by_digests i) s (power_if cut)).register
+    cut_by : (cut : Bool) → new.items ≡ items_cycled cut mid.items
+        → register_reads new ≡ Some (all_made (by_digests i) s (power_if cut)).register
     cut_by true items = ap (λ x. option_map (λ xs. register_after (item_values xs)) x) items ∙ reads_none mid.items s.register e
     cut_by false items = ap (λ x. option_map (λ xs. register_after (item_values xs)) x) items ∙ e
 
-quiet_by : (stop : Stop) (fault : Option StepFault) (mid new : Standing) → StaysOn stop (is_some fault) mid → SettlesPlan stop (is_some fault) mid new → IsQuiet new
-quiet_by stop fault mid new stays settles = record { is_on = on_settled stop (is_some fault) mid new stays settles.is_on; plan = settles.plan }
+quiet_by : (stop : Stop) (fault : Option StepFault) (mid new : Standing) → StaysOn stop (is_some fault) mid
+    → SettlesPlan stop (is_some fault) mid new → IsQuiet new
+quiet_by stop fault mid new stays settles =
+    record { is_on = on_settled stop (is_some fault) mid new stays settles.is_on; plan = settles.plan }
 
 -- the walk of one step, and of two, by how they ended
 
@@ -167,7 +180,8 @@ over old stop meddles = record old { plan = Some (plan_of stop meddles) }
 
 module _ {A : Type 0} (i : Instance) (d : Digests) (stop : Stop) (meddles : List Meddle) (bytes : List ℕ) where
   -- broken off at the first step
-  first_failed : (found : Result (Ready A) MoveRefusal) (rest : Walked) (fault : StepFault) (is_made : Bool) (other : End) (old mid new : Standing)
+  first_failed : (found : Result (Ready A) MoveRefusal) (rest : Walked) (fault : StepFault) (is_made : Bool) (other : End)
+      (old mid new : Standing)
       → old.cell ≡ Some bytes → StepsBy i d stop meddles 1 ReadCell old mid (Some fault) → SettlesPlan stop true mid new
       → Ends i d stop bytes found (after_step Reads (due 1 meddles) (Fails fault is_made) rest) (is_moved (Fails fault is_made) other) new
       (Err (Core (Device fault)))
@@ -192,7 +206,8 @@ module _ {A : Type 0} (i : Instance) (d : Digests) (stop : Stop) (meddles : List
 
   -- and a (second_end stop), which writes the cell
   second_done : (next : List ℕ) (answer : A) (old middle mid new : Standing) (fault : Option StepFault) → old.cell ≡ Some bytes
-      → StepsBy i d stop meddles 1 ReadCell old middle None → StepsBy i (seen_first i d meddles) stop meddles 2 (WriteCell next) middle mid fault
+      → StepsBy i d stop meddles 1 ReadCell old middle None
+      → StepsBy i (seen_first i d meddles) stop meddles 2 (WriteCell next) middle mid fault
       → SettlesPlan stop (is_some fault) mid new
       → Ends i d stop bytes (Ok (record { next = Some next; answer = answer }))
       (after_step Reads (due 1 meddles) Done (one_step (due 2 meddles) (end_of fault (is_made_at stop 2))))
@@ -200,7 +215,8 @@ module _ {A : Type 0} (i : Instance) (d : Digests) (stop : Stop) (meddles : List
   second_done next answer old middle mid new None cell s t settles = record {
     cell = settles.cell ∙ t.cell ∙ ap (λ b. cell_after (WriteCell next) b middle.cell) (done_made stop 2 t.fault_is)
         ∙ ap (option_map (λ _. next)) (s.cell ∙ cell);
-    register = settled_by i (all_made (by_digests i) (seen_first i d meddles) (map Foreign (due 2 meddles))) stop None mid new t.register settles
+    register =
+        settled_by i (all_made (by_digests i) (seen_first i d meddles) (map Foreign (due 2 meddles))) stop None mid new t.register settles
         ∙ ap (λ (e : Digests). Some e.register)
         (ap (λ (ms : List Move). all_made (by_digests i) (seen_first i d meddles) ms) (sym (append-nil (map Foreign (due 2 meddles))))
         ∙ sym (all_made-append i d (map Foreign (due 1 meddles)) (map Foreign (due 2 meddles) ++ [])));
@@ -208,15 +224,19 @@ module _ {A : Type 0} (i : Instance) (d : Digests) (stop : Stop) (meddles : List
     says = refl;
   }
   second_done next answer old middle mid new (Some fault) cell s t settles = record {
-    cell = settles.cell ∙ t.cell ∙ ap (cell_after (WriteCell next) (is_made_at stop 2)) (s.cell ∙ cell) ∙ written_at next (is_made_at stop 2);
-    register = settled_by i (all_made (by_digests i) (seen_first i d meddles) (map Foreign (due 2 meddles))) stop (Some fault) mid new t.register settles
+    cell =
+        settles.cell ∙ t.cell ∙ ap (cell_after (WriteCell next) (is_made_at stop 2)) (s.cell ∙ cell) ∙ written_at next (is_made_at stop 2);
+    register =
+        settled_by i (all_made (by_digests i) (seen_first i d meddles) (map Foreign (due 2 meddles))) stop (Some fault) mid new t.register
+        settles
         ∙ ap (λ (e : Digests). Some (all_made (by_digests i) e (stopped_moves stop (Some fault))).register)
         (sym (all_made-append i d (map Foreign (due 1 meddles)) (map Foreign (due 2 meddles))));
     quiet = quiet_by stop (Some fault) mid new t.stays settles;
     says = refl;
   }
     where
-      written_at : (next : List ℕ) (is_made : Bool) → cell_after (WriteCell next) is_made (Some bytes) ≡ Some (written_if (Some next) is_made bytes)
+      written_at : (next : List ℕ) (is_made : Bool)
+          → cell_after (WriteCell next) is_made (Some bytes) ≡ Some (written_if (Some next) is_made bytes)
       written_at next true = refl
       written_at next false = refl
 
@@ -230,25 +250,32 @@ module _ {A : Type 0} (i : Instance) (d : Digests) (stop : Stop) (meddles : List
   abbrev Goal : Result (Ready A) MoveRefusal → Result A MoveRefusal → Type 0
   Goal expected result = MakesMove i d stop meddles bytes expected new result ⊎ WantsMemory i d stop meddles old new result
 
-  failed : (expected : Result (Ready A) MoveRefusal) (result : Result A MoveRefusal) (fault : StepFault) (mid : Standing) → old.cell ≡ Some bytes
-      → StepsBy i d stop meddles 1 ReadCell (over old stop meddles) mid (Some fault) → SettlesPlan stop true mid new → result ≡ Err (Core (Device fault))
+  failed : (expected : Result (Ready A) MoveRefusal) (result : Result A MoveRefusal) (fault : StepFault) (mid : Standing)
+      → old.cell ≡ Some bytes
+      → StepsBy i d stop meddles 1 ReadCell (over old stop meddles) mid (Some fault) → SettlesPlan stop true mid new
+      → result ≡ Err (Core (Device fault))
       → MakesMove i d stop meddles bytes expected new result
   failed expected result fault mid cell s settles e =
       let rest : Walked = walk (planned (plan_of stop meddles)) 2 (later_steps expected) in
       let m : Bool = is_made_at stop 1 in
       let here : MakesMove i d stop meddles bytes expected new (Err (Core (Device fault))) =
-      subst (λ f. Ends i d stop bytes expected (after_step Reads (due 1 meddles) (end_of f m) rest) (is_moved (end_of f m) (second_end stop)) new (Err (Core (Device fault))))
-      s.fault_is (first_failed i d stop meddles bytes expected rest fault m (second_end stop) (over old stop meddles) mid new cell s settles) in
+      subst (λ f. Ends i d stop bytes expected (after_step Reads (due 1 meddles) (end_of f m) rest)
+      (is_moved (end_of f m) (second_end stop)) new (Err (Core (Device fault))))
+      s.fault_is (first_failed i d stop meddles bytes expected rest fault m (second_end stop) (over old stop meddles) mid new cell s
+      settles) in
       subst (λ (r : Result A MoveRefusal). MakesMove i d stop meddles bytes expected new r) (sym e) here
 
-  one_made : (expected : Result (Ready A) MoveRefusal) (mid : Standing) → old.cell ≡ Some bytes → StepsBy i d stop meddles 1 ReadCell (over old stop meddles) mid None
+  one_made : (expected : Result (Ready A) MoveRefusal) (mid : Standing) → old.cell ≡ Some bytes
+      → StepsBy i d stop meddles 1 ReadCell (over old stop meddles) mid None
       → SettlesPlan stop false mid new → ((moved : Bool) → written_by expected moved bytes ≡ bytes)
       → Ends i d stop bytes expected (one_step (due 1 meddles) (end_of (fault_at stop 1) (is_made_at stop 1)))
       (is_moved (end_of (fault_at stop 1) (is_made_at stop 1)) (second_end stop)) new (ended_as None expected)
   one_made expected mid cell s settles same =
       let m : Bool = is_made_at stop 1 in
-      subst (λ f. Ends i d stop bytes expected (one_step (due 1 meddles) (end_of f m)) (is_moved (end_of f m) (second_end stop)) new (ended_as None expected))
-      s.fault_is (first_done i d stop meddles bytes expected (is_written (second_end stop)) (over old stop meddles) mid new cell s settles (same (is_written (second_end stop))))
+      subst (λ f. Ends i d stop bytes expected (one_step (due 1 meddles) (end_of f m)) (is_moved (end_of f m) (second_end stop)) new
+      (ended_as None expected))
+      s.fault_is (first_done i d stop meddles bytes expected (is_written (second_end stop)) (over old stop meddles) mid new cell s settles
+      (same (is_written (second_end stop))))
 
   two_made : (next : List ℕ) (answer : A) (fault : Option StepFault) (middle mid : Standing) → old.cell ≡ Some bytes
       → StepsBy i d stop meddles 1 ReadCell (over old stop meddles) middle None
@@ -259,49 +286,63 @@ module _ {A : Type 0} (i : Instance) (d : Digests) (stop : Stop) (meddles : List
       let found : Result (Ready A) MoveRefusal = Ok (record { next = Some next; answer = answer }) in
       let m : Bool = is_made_at stop 1 in
       let n : Bool = is_made_at stop 2 in
-      subst (λ f. Ends i d stop bytes found (after_step Reads (due 1 meddles) (end_of f m) (one_step (due 2 meddles) (second_end stop))) (is_moved (end_of f m) (second_end stop)) new
+      subst (λ f. Ends i d stop bytes found (after_step Reads (due 1 meddles) (end_of f m) (one_step (due 2 meddles) (second_end stop)))
+      (is_moved (end_of f m) (second_end stop)) new
       (answered answer fault)) s.fault_is
-      (subst (λ f. Ends i d stop bytes found (after_step Reads (due 1 meddles) Done (one_step (due 2 meddles) (end_of f n))) (is_moved Done (end_of f n)) new
-      (answered answer fault)) t.fault_is (second_done i d stop meddles bytes next answer (over old stop meddles) middle mid new fault cell s t settles))
+      (subst (λ f. Ends i d stop bytes found (after_step Reads (due 1 meddles) Done (one_step (due 2 meddles) (end_of f n)))
+      (is_moved Done (end_of f n)) new
+      (answered answer fault)) t.fault_is
+      (second_done i d stop meddles bytes next answer (over old stop meddles) middle mid new fault cell s t settles))
 
-  made_by : (next : Option (List ℕ)) (answer : A) (result : Result A MoveRefusal) (middle mid : Standing) (broken : Bool) → old.cell ≡ Some bytes
+  made_by : (next : Option (List ℕ)) (answer : A) (result : Result A MoveRefusal) (middle mid : Standing) (broken : Bool)
+      → old.cell ≡ Some bytes
       → StepsBy i d stop meddles 1 ReadCell (over old stop meddles) middle None → middle.is_on ≡ true → Makes next answer middle mid result
       → broken ≡ is_some (move_fault_in result) → SettlesPlan stop broken mid new
       → MakesMove i d stop meddles bytes (Ok (record { next = next; answer = answer })) new result
   made_by None answer result middle mid broken cell s on makes is settles =
       let whole : broken ≡ false = is ∙ ap (λ (r : Result A MoveRefusal). is_some (move_fault_in r)) makes.1 in
       let here = subst (λ (m : Standing). SettlesPlan stop false m new) makes.0 (subst (λ b. SettlesPlan stop b mid new) whole settles) in
-      subst (λ (r : Result A MoveRefusal). MakesMove i d stop meddles bytes (Ok (record { next = None; answer = answer })) new r) (sym makes.1)
+      subst (λ (r : Result A MoveRefusal). MakesMove i d stop meddles bytes (Ok (record { next = None; answer = answer })) new r)
+      (sym makes.1)
       (one_made (Ok (record { next = None; answer = answer })) middle cell s here (λ moved. refl))
   made_by (Some next) answer result middle mid broken cell s on makes is settles =
-      let t = write_by i (all_made (by_digests i) d (map Foreign (due 1 meddles))) stop meddles 1 next middle mid makes.fault on s.plan s.register makes.goes in
+      let t = write_by i (all_made (by_digests i) d (map Foreign (due 1 meddles))) stop meddles 1 next middle mid makes.fault on s.plan
+      s.register makes.goes in
       let breaks : broken ≡ is_some makes.fault =
       is ∙ ap (λ (r : Result A MoveRefusal). is_some (move_fault_in r)) makes.gives ∙ ap is_some (answered_fault answer makes.fault) in
-      subst (λ (r : Result A MoveRefusal). MakesMove i d stop meddles bytes (Ok (record { next = Some next; answer = answer })) new r) (sym makes.gives)
+      subst (λ (r : Result A MoveRefusal). MakesMove i d stop meddles bytes (Ok (record { next = Some next; answer = answer })) new r)
+      (sym makes.gives)
       (two_made next answer makes.fault middle mid cell s t (subst (λ b. SettlesPlan stop b mid new) breaks settles))
 
   -- memory was wanting, once the cell was read
-  wants : (result : Result A MoveRefusal) (mid : Standing) → StepsBy i d stop meddles 1 ReadCell (over old stop meddles) mid None → SettlesPlan stop false mid new
+  wants : (result : Result A MoveRefusal) (mid : Standing) → StepsBy i d stop meddles 1 ReadCell (over old stop meddles) mid None
+      → SettlesPlan stop false mid new
       → result ≡ Err (Core Memory) → WantsMemory i d stop meddles old new result
   wants result mid s settles e = record {
     says = e;
     cell = settles.cell ∙ s.cell;
-    register = inr (subst (λ f. register_reads new ≡ Some (all_made (by_digests i) d (one_step (due 1 meddles) (end_of f (is_made_at stop 1))).moves).register)
+    register =
+        inr (subst (λ f. register_reads new ≡ Some
+        (all_made (by_digests i) d (one_step (due 1 meddles) (end_of f (is_made_at stop 1))).moves).register)
         s.fault_is
         (settled_by i (all_made (by_digests i) d (map Foreign (due 1 meddles))) stop None mid new s.register settles
         ∙ ap (λ (ms : List Move). Some (all_made (by_digests i) d ms).register) (sym (append-nil (map Foreign (due 1 meddles))))));
     quiet = quiet_by stop None mid new s.stays settles;
   }
 
-  refused : (expected : Result (Ready A) MoveRefusal) (why : MoveRefusal) (result : Result A MoveRefusal) (middle mid : Standing) (broken : Bool)
-      → move_fault_of why ≡ None → (mid ≡ middle) × (result ≡ Err why) → broken ≡ is_some (move_fault_in result) → SettlesPlan stop broken mid new
+  refused : (expected : Result (Ready A) MoveRefusal) (why : MoveRefusal) (result : Result A MoveRefusal) (middle mid : Standing)
+      (broken : Bool)
+      → move_fault_of why ≡ None → (mid ≡ middle) × (result ≡ Err why) → broken ≡ is_some (move_fault_in result)
+      → SettlesPlan stop broken mid new
       → SettlesPlan stop false middle new
   refused expected why result middle mid broken none goes is settles =
       let whole : broken ≡ false = is ∙ ap (λ (r : Result A MoveRefusal). is_some (move_fault_in r)) goes.1 ∙ ap is_some none in
       subst (λ (m : Standing). SettlesPlan stop false m new) goes.0 (subst (λ b. SettlesPlan stop b mid new) whole settles)
 
-  found_by : (expected found : Result (Ready A) MoveRefusal) (result : Result A MoveRefusal) (middle mid : Standing) (broken : Bool) → old.cell ≡ Some bytes
-      → StepsBy i d stop meddles 1 ReadCell (over old stop meddles) middle None → middle.is_on ≡ true → move_fault_in expected ≡ None → OrNoMemory expected found
+  found_by : (expected found : Result (Ready A) MoveRefusal) (result : Result A MoveRefusal) (middle mid : Standing) (broken : Bool)
+      → old.cell ≡ Some bytes
+      → StepsBy i d stop meddles 1 ReadCell (over old stop meddles) middle None → middle.is_on ≡ true → move_fault_in expected ≡ None
+      → OrNoMemory expected found
       → GoesOn found middle mid result → broken ≡ is_some (move_fault_in result) → SettlesPlan stop broken mid new → Goal expected result
   found_by (Err why) found result middle mid broken cell s on none is goes breaks settles =
       let ends = subst (λ (f : Result (Ready A) MoveRefusal). GoesOn f middle mid result) is goes in
@@ -314,9 +355,11 @@ module _ {A : Type 0} (i : Instance) (d : Digests) (stop : Stop) (meddles : List
       let ends = subst (λ (f : Result (Ready A) MoveRefusal). GoesOn f middle mid result) is goes in
       inr (wants result middle s (refused (Ok ready) (Core Memory) result middle mid broken refl ends breaks settles) ends.1)
 
-  after_read : (finds : List ℕ → Result (Ready A) MoveRefusal) (result : Result A MoveRefusal) (fault : Option StepFault) (middle mid : Standing)
+  after_read : (finds : List ℕ → Result (Ready A) MoveRefusal) (result : Result A MoveRefusal) (fault : Option StepFault)
+      (middle mid : Standing)
       (broken : Bool) → ((xs : List ℕ) → move_fault_in (finds xs) ≡ None) → old.cell ≡ Some bytes → register_reads old ≡ Some d.register
-      → old.is_on ≡ true → Goes ReadCell (over old stop meddles) middle fault → AfterRead finds fault (over old stop meddles) middle mid result
+      → old.is_on ≡ true → Goes ReadCell (over old stop meddles) middle fault
+      → AfterRead finds fault (over old stop meddles) middle mid result
       → broken ≡ is_some (move_fault_in result) → SettlesPlan stop broken mid new → Goal (finds bytes) result
   after_read finds result (Some fault) middle mid broken none cell register on goes after breaks settles =
       let s = read_by i d stop meddles 0 (over old stop meddles) middle (Some fault) on refl register goes in
@@ -330,25 +373,17 @@ module _ {A : Type 0} (i : Instance) (d : Digests) (stop : Stop) (meddles : List
       (subst (λ xs. OrNoMemory (finds xs) after.found) same after.found_is) after.goes_on breaks settles
 
 -- a move over a planned platform, whose plan is over
-pub moves_planned : {A : Type 0} (finds : List ℕ → Result (Ready A) MoveRefusal) (stop : Stop) (meddles : List Meddle) (old at mid new : Standing) (broken : Bool)
-    (result : Result A MoveRefusal) → ((xs : List ℕ) → move_fault_in (finds xs) ≡ None) → at ≡ record old { plan = Some (plan_of stop meddles) }
+pub moves_planned : {A : Type 0} (finds : List ℕ → Result (Ready A) MoveRefusal) (stop : Stop) (meddles : List Meddle)
+    (old at mid new : Standing) (broken : Bool)
+    (result : Result A MoveRefusal) → ((xs : List ℕ) → move_fault_in (finds xs) ≡ None)
+    → at ≡ record old { plan = Some (plan_of stop meddles) }
     → MovedAs finds at mid result → broken ≡ is_some (move_fault_in result) → SettlesPlan stop broken mid new
     → MovesPlanned finds stop meddles old new result
 moves_planned finds stop meddles old at mid new broken result none planned_at moved breaks settles = λ i d bytes cell register quiet.
     let goes = subst (λ (s : Standing). Goes ReadCell s moved.moves.middle moved.moves.fault) planned_at moved.moves.reads in
     let after = subst (λ (s : Standing). AfterRead finds moved.moves.fault s moved.moves.middle mid result) planned_at moved.moves.after in
-    after_read i d stop meddles bytes old new finds result moved.moves.fault moved.moves.middle mid broken none cell register quiet.is_on goes after breaks settles
-
--- no plan was made
-pub never_planned : {A : Type 0} (finds : List ℕ → Result (Ready A) MoveRefusal) (stop : Stop) (meddles : List Meddle) (old new : Standing) → new ≡ old
-    → MovesPlanned finds stop meddles old new (Err (Core Memory))
-never_planned finds stop meddles old new same = λ i d bytes cell register quiet.
-    inr (record {
-      says = refl;
-      cell = ap (λ (s : Standing). s.cell) same;
-      register = inl (ap register_reads same ∙ register);
-      quiet = subst IsQuiet (sym same) quiet;
-    })
+    after_read i d stop meddles bytes old new finds result moved.moves.fault moved.moves.middle mid broken none cell register quiet.is_on
+    goes after breaks settles
 
 -- an invitation hands on no fault by itself
 no_fault_if : (test : Bool) (refused rest : Result (Ready Invited) MoveRefusal) → move_fault_in refused ≡ None → move_fault_in rest ≡ None

@@ -91,7 +91,8 @@ none_grown Live n m e = omega (arith, e)
 none_grown (Waiting nonce) n m e = refl
 none_grown (Retired nonce) n m e = refl
 
-vain_comes : (pair : Pair) (which : Which) (old new : CodeSide) (o : Outcome Digests) (it : Called) → FitsSide pair which old → old.position < 2 ^ 63
+vain_comes : (pair : Pair) (which : Which) (old new : CodeSide) (o : Outcome Digests) (it : Called) → FitsSide pair which old
+    → old.position < 2 ^ 63
     → IsVain (at_in old) old.issued.items o → CameInVain o old.issued.items old.platform new.platform it → Ended old new it
     → Comes pair which old new o it.reply
 vain_comes pair which old new o it f bound v c e =
@@ -122,7 +123,8 @@ abbrev CameBy : Pair → Which → Role → Digests → List (List ℕ) → Stan
 CameBy pair which Blank d issued old new event it =
     CameInVain (event_in_vain (by_digests (instance_on pair which)) d issued refusal.Blank event) issued old new it
 CameBy pair which Live d issued old new event it =
-    Came (instance_on pair which) (event_outcome (instance_on pair which) (by_digests (instance_on pair which)) d issued event) d.count issued old new it
+    Came (instance_on pair which) (event_outcome (instance_on pair which) (by_digests (instance_on pair which)) d issued event) d.count
+    issued old new it
 CameBy pair which (Waiting nonce) d issued old new event it =
     CameInVain (event_in_vain (by_digests (instance_on pair which)) d issued refusal.Cell event) issued old new it
 CameBy pair which (Retired nonce) d issued old new event it =
@@ -137,25 +139,31 @@ few_live : (header : Header) (which : Which) (d : Digests) (issued : List (List 
 few_live header which d issued event =
     let pair = pair_of header in
     let i = instance_on pair which in
-    let lawful = subst IsLawful (sym (meaning_by header.variant (meaning_of header.«module») (key_of pair which) pair.barrier)) (any_is_lawful header.«module») in
+    let lawful = subst IsLawful (sym (meaning_by header.variant (meaning_of header.«module») (key_of pair which) pair.barrier))
+    (any_is_lawful header.«module») in
     record { count = few_committed i d issued event; one = issues_one i d issued event; printable = printable i lawful d issued event }
 
-comes_as : (header : Header) (which : Which) (role : Role) (old new : CodeSide) (event : Event) (it : Called) → role_in old.platform.cell ≡ role
+comes_as : (header : Header) (which : Which) (role : Role) (old new : CodeSide) (event : Event) (it : Called)
+    → role_in old.platform.cell ≡ role
     → FitsSide (pair_of header) which old → old.position < 2 ^ 63
     → CameBy (pair_of header) which role (at_in old) old.issued.items old.platform new.platform event it → Ended old new it
     → Comes (pair_of header) which old new (plain_on digests_move (instance_on (pair_of header) which) role (side_in old) event) it.reply
 comes_as header which Live old new event it is f bound c e =
     live_comes (pair_of header) which old new _ it is f bound (few_live header which (at_in old) old.issued.items event) c e
 comes_as header which Blank old new event it is f bound c e =
-    vain_comes (pair_of header) which old new _ it f bound (event_vain (instance_on (pair_of header) which) (at_in old) old.issued.items refusal.Blank event) c e
+    vain_comes (pair_of header) which old new _ it f bound
+    (event_vain (instance_on (pair_of header) which) (at_in old) old.issued.items refusal.Blank event) c e
 comes_as header which (Waiting nonce) old new event it is f bound c e =
-    vain_comes (pair_of header) which old new _ it f bound (event_vain (instance_on (pair_of header) which) (at_in old) old.issued.items refusal.Cell event) c e
+    vain_comes (pair_of header) which old new _ it f bound
+    (event_vain (instance_on (pair_of header) which) (at_in old) old.issued.items refusal.Cell event) c e
 comes_as header which (Retired nonce) old new event it is f bound c e =
-    vain_comes (pair_of header) which old new _ it f bound (event_vain (instance_on (pair_of header) which) (at_in old) old.issued.items refusal.Cell event) c e
+    vain_comes (pair_of header) which old new _ it f bound
+    (event_vain (instance_on (pair_of header) which) (at_in old) old.issued.items refusal.Cell event) c e
 
 -- a call that asks
 
-asks_by : (pair : Pair) (which : Which) (role : Role) (d : Digests) (old new : Standing) (issued : List (List ℕ)) (meddles : List Meddle) (stop : Stop) (offer : Offer) (b : Batch)
+asks_by : (pair : Pair) (which : Which) (role : Role) (d : Digests) (old new : Standing) (issued : List (List ℕ)) (meddles : List Meddle)
+    (stop : Stop) (offer : Offer) (b : Batch)
     (it : Called) → StandsAs pair which role old d → IsQuiet old
     → AsksPlanned pair.variant pair.meaning old new issued meddles stop (offered_bytes issued offer) b (Ok it)
     → CameBy pair which role d issued old new (Ask meddles stop offer b) it
@@ -170,18 +178,24 @@ asks_by pair which (Retired nonce) d old new issued meddles stop offer b it s q 
     asks.vain (instance_on pair which) d (Err fault.Cell) refusal.Cell
     (retired_reads (retired_on pair which d nonce) old d s.1 q) refl
 
-pub asked_comes : (header : Header) (which : Which) (old mid new : CodeSide) (lent : List (List ℕ)) (meddles : List Meddle) (stop : Stop) (offer : Offer) (b : Batch) (it : Called) (said : Reply)
-    → old.position < 2 ^ 63 → mid.digest ≡ old.digest → mid.kept ≡ old.kept → mid.position ≡ old.position → mid.issued.items ≡ old.issued.items → lent ≡ mid.issued.items
-    → AsksPlanned header.variant (meaning_of header.«module») old.platform mid.platform lent meddles stop (offered_bytes lent offer) b (Ok it)
+pub asked_comes : (header : Header) (which : Which) (old mid new : CodeSide) (lent : List (List ℕ)) (meddles : List Meddle) (stop : Stop)
+    (offer : Offer) (b : Batch) (it : Called) (said : Reply)
+    → old.position < 2 ^ 63 → mid.digest ≡ old.digest → mid.kept ≡ old.kept → mid.position ≡ old.position
+    → mid.issued.items ≡ old.issued.items → lent ≡ mid.issued.items
+    → AsksPlanned header.variant (meaning_of header.«module») old.platform mid.platform lent meddles stop (offered_bytes lent offer) b
+    (Ok it)
     → EndsCall it mid new said → FitsSide (pair_of header) which old
     → Comes (pair_of header) which old new (outcome_on (pair_of header) which old (Ask meddles stop offer b)) said
 asked_comes header which old mid new lent meddles stop offer b it said bound digest kept position issued same asks ends f =
     let pair = pair_of header in
     let role = role_in old.platform.cell in
-    let there : AsksPlanned header.variant (meaning_of header.«module») old.platform new.platform old.issued.items meddles stop (offered_bytes old.issued.items offer) b (Ok it) =
-    subst (λ (s : Standing). AsksPlanned header.variant (meaning_of header.«module») old.platform s old.issued.items meddles stop (offered_bytes old.issued.items offer) b (Ok it))
+    let there : AsksPlanned header.variant (meaning_of header.«module») old.platform new.platform old.issued.items meddles stop
+    (offered_bytes old.issued.items offer) b (Ok it) =
+    subst (λ (s : Standing). AsksPlanned header.variant (meaning_of header.«module») old.platform s old.issued.items meddles stop
+    (offered_bytes old.issued.items offer) b (Ok it))
     (sym ends.keeps.platform)
-    (subst (λ (x : List (List ℕ)). AsksPlanned header.variant (meaning_of header.«module») old.platform mid.platform x meddles stop (offered_bytes x offer) b (Ok it))
+    (subst (λ (x : List (List ℕ)). AsksPlanned header.variant (meaning_of header.«module») old.platform mid.platform x meddles stop
+    (offered_bytes x offer) b (Ok it))
     (same ∙ issued) asks) in
     let e : Ended old new it = record {
       digest = ends.keeps.digest ∙ digest;
@@ -189,7 +203,8 @@ asked_comes header which old mid new lent meddles stop offer b it said bound dig
       kept = ends.keeps.kept ∙ ap (λ (n : ℕ). within_64 (n + length_if it.snapshot)) kept;
       position = ends.position ∙ ap (λ (n : ℕ). within_64 (n + it.committed)) position;
     } in
-    let came = asks_by pair which role (at_in old) old.platform new.platform old.issued.items meddles stop offer b it f.stands f.quiet there in
+    let came = asks_by pair which role (at_in old) old.platform new.platform old.issued.items meddles stop offer b it f.stands f.quiet there
+    in
     subst (λ (r : Reply). Comes pair which old new (outcome_on pair which old (Ask meddles stop offer b)) r) (sym ends.says)
     (comes_as header which role old new (Ask meddles stop offer b) it refl f bound came e)
 
@@ -203,7 +218,8 @@ live_stays i d meddles stop old new s q l = elim l.called [
       let seen = all_made (by_digests i) d (seen_in (course_of stop meddles).fates (reading_steps i.variant) 1) in
       let there : Stands i new seen = e.0 in
       let is : IsRegister d seen =
-      others_made i d (seen_in (course_of stop meddles).fates (reading_steps i.variant) 1) (seen_others (course_of stop meddles).fates (reading_steps i.variant) 1) in
+      others_made i d (seen_in (course_of stop meddles).fates (reading_steps i.variant) 1)
+      (seen_others (course_of stop meddles).fates (reading_steps i.variant) 1) in
       record {
         value = seen.register;
         cell = there.at.cell ∙ ap (λ (x : Digests). Some (cell_spelling (cell_at i x))) is ∙ sym s.at.cell;
@@ -212,8 +228,10 @@ live_stays i d meddles stop old new s q l = elim l.called [
       }
 ]
 
-lacks_by : (pair : Pair) (which : Which) (role : Role) (d : Digests) (old new : Standing) (issued : List (List ℕ)) (meddles : List Meddle) (stop : Stop) (bytes : Option (List ℕ)) (b : Batch)
-    (memory : Memory) → StandsAs pair which role old d → IsQuiet old → AsksPlanned pair.variant pair.meaning old new issued meddles stop bytes b (Err memory) → Stays old new
+lacks_by : (pair : Pair) (which : Which) (role : Role) (d : Digests) (old new : Standing) (issued : List (List ℕ)) (meddles : List Meddle)
+    (stop : Stop) (bytes : Option (List ℕ)) (b : Batch)
+    (memory : Memory) → StandsAs pair which role old d → IsQuiet old
+    → AsksPlanned pair.variant pair.meaning old new issued meddles stop bytes b (Err memory) → Stays old new
 lacks_by pair which Live d old new issued meddles stop bytes b memory s q asks =
     live_stays (instance_on pair which) d meddles stop old new s q (asks.own (key_of pair which) pair.barrier d s q)
 lacks_by pair which Blank d old new issued meddles stop bytes b memory s q asks =
@@ -229,7 +247,8 @@ lacks_by pair which (Retired nonce) d old new issued meddles stop bytes b memory
     (asks.vain (instance_on pair which) d (Err fault.Cell) refusal.Cell
     (retired_reads (retired_on pair which d nonce) old d s.1 q) refl)
 
-lacks_as : (pair : Pair) (which : Which) (old new : CodeSide) → FitsSide pair which old → Stays old.platform new.platform → new.digest ≡ old.digest
+lacks_as : (pair : Pair) (which : Which) (old new : CodeSide) → FitsSide pair which old → Stays old.platform new.platform
+    → new.digest ≡ old.digest
     → new.issued.items ≡ old.issued.items → new.kept ≡ old.kept → new.position ≡ old.position → Lacks pair which old new
 lacks_as pair which old new f s digest issued kept position =
     let sum : new.kept ≡ within_64 (sum_by length new.issued.items) =
@@ -247,37 +266,48 @@ lacks_as pair which old new f s digest issued kept position =
       position = position;
     }
 
-pub asked_lacks : (header : Header) (which : Which) (old new : CodeSide) (lent : List (List ℕ)) (meddles : List Meddle) (stop : Stop) (offer : Offer) (b : Batch) (memory : Memory)
-    → new.digest ≡ old.digest → new.kept ≡ old.kept → new.position ≡ old.position → new.issued.items ≡ old.issued.items → lent ≡ new.issued.items
-    → AsksPlanned header.variant (meaning_of header.«module») old.platform new.platform lent meddles stop (offered_bytes lent offer) b (Err memory)
+pub asked_lacks : (header : Header) (which : Which) (old new : CodeSide) (lent : List (List ℕ)) (meddles : List Meddle) (stop : Stop)
+    (offer : Offer) (b : Batch) (memory : Memory)
+    → new.digest ≡ old.digest → new.kept ≡ old.kept → new.position ≡ old.position → new.issued.items ≡ old.issued.items
+    → lent ≡ new.issued.items
+    → AsksPlanned header.variant (meaning_of header.«module») old.platform new.platform lent meddles stop (offered_bytes lent offer) b
+    (Err memory)
     → FitsSide (pair_of header) which old → Lacks (pair_of header) which old new
 asked_lacks header which old new lent meddles stop offer b memory digest kept position issued same asks f =
     lacks_as (pair_of header) which old new f
-    (lacks_by (pair_of header) which (role_in old.platform.cell) (at_in old) old.platform new.platform lent meddles stop (offered_bytes lent offer) b memory f.stands f.quiet asks)
+    (lacks_by (pair_of header) which (role_in old.platform.cell) (at_in old) old.platform new.platform lent meddles stop
+    (offered_bytes lent offer) b memory f.stands f.quiet asks)
     digest issued kept position
 
 -- a checkpoint
 
-checks_by : (pair : Pair) (which : Which) (role : Role) (d : Digests) (old new : Standing) (issued : List (List ℕ)) (meddles : List Meddle) (stop : Stop) (said : Reply)
+checks_by : (pair : Pair) (which : Which) (role : Role) (d : Digests) (old new : Standing) (issued : List (List ℕ)) (meddles : List Meddle)
+    (stop : Stop) (said : Reply)
     → StandsAs pair which role old d → IsQuiet old → ChecksPlanned old new issued meddles stop (Ok said)
     → CameBy pair which role d issued old new (Checkpoint meddles stop) (quiet_as said)
-checks_by pair which Live d old new issued meddles stop said s q checks = checks.own pair.variant pair.meaning (key_of pair which) pair.barrier d s q
-checks_by pair which Blank d old new issued meddles stop said s q checks = checks.vain (instance_on pair which) d fault.Blank (blank_reads old d s q)
+checks_by pair which Live d old new issued meddles stop said s q checks =
+    checks.own pair.variant pair.meaning (key_of pair which) pair.barrier d s q
+checks_by pair which Blank d old new issued meddles stop said s q checks =
+    checks.vain (instance_on pair which) d fault.Blank (blank_reads old d s q)
 checks_by pair which (Waiting nonce) d old new issued meddles stop said s q checks =
     checks.vain (instance_on pair which) d fault.Cell (waiting_reads (waiting_on pair which nonce) old d s.1 q)
 checks_by pair which (Retired nonce) d old new issued meddles stop said s q checks =
     checks.vain (instance_on pair which) d fault.Cell (retired_reads (retired_on pair which d nonce) old d s.1 q)
 
-checks_want : (pair : Pair) (which : Which) (role : Role) (d : Digests) (old new : Standing) (issued : List (List ℕ)) (meddles : List Meddle) (stop : Stop) (memory : Memory)
+checks_want : (pair : Pair) (which : Which) (role : Role) (d : Digests) (old new : Standing) (issued : List (List ℕ))
+    (meddles : List Meddle) (stop : Stop) (memory : Memory)
     → StandsAs pair which role old d → IsQuiet old → ChecksPlanned old new issued meddles stop (Err memory) → new ≡ old
-checks_want pair which Live d old new issued meddles stop memory s q checks = checks.own pair.variant pair.meaning (key_of pair which) pair.barrier d s q
-checks_want pair which Blank d old new issued meddles stop memory s q checks = checks.vain (instance_on pair which) d fault.Blank (blank_reads old d s q)
+checks_want pair which Live d old new issued meddles stop memory s q checks =
+    checks.own pair.variant pair.meaning (key_of pair which) pair.barrier d s q
+checks_want pair which Blank d old new issued meddles stop memory s q checks =
+    checks.vain (instance_on pair which) d fault.Blank (blank_reads old d s q)
 checks_want pair which (Waiting nonce) d old new issued meddles stop memory s q checks =
     checks.vain (instance_on pair which) d fault.Cell (waiting_reads (waiting_on pair which nonce) old d s.1 q)
 checks_want pair which (Retired nonce) d old new issued meddles stop memory s q checks =
     checks.vain (instance_on pair which) d fault.Cell (retired_reads (retired_on pair which d nonce) old d s.1 q)
 
-ended_quiet : (pair : Pair) (which : Which) (old new : CodeSide) (said : Reply) → FitsSide pair which old → old.position < 2 ^ 63 → new.digest ≡ old.digest
+ended_quiet : (pair : Pair) (which : Which) (old new : CodeSide) (said : Reply) → FitsSide pair which old → old.position < 2 ^ 63
+    → new.digest ≡ old.digest
     → new.kept ≡ old.kept → new.position ≡ old.position → new.issued.items ≡ old.issued.items → Ended old new (quiet_as said)
 ended_quiet pair which old new said f bound digest kept position issued =
     let sum = f.kept in record {
@@ -287,18 +317,22 @@ ended_quiet pair which old new said f bound digest kept position issued =
       position = omega (arith, position, bound);
     }
 
-pub checked : (header : Header) (which : Which) (old new : CodeSide) (meddles : List Meddle) (stop : Stop) (result : Result Reply Memory) → old.position < 2 ^ 63
+pub checked : (header : Header) (which : Which) (old new : CodeSide) (meddles : List Meddle) (stop : Stop) (result : Result Reply Memory)
+    → old.position < 2 ^ 63
     → new.digest ≡ old.digest → new.kept ≡ old.kept → new.position ≡ old.position → new.issued.items ≡ old.issued.items
     → ChecksPlanned old.platform new.platform old.issued.items meddles stop result → FitsSide (pair_of header) which old
-    → MatchResult result (Comes (pair_of header) which old new (outcome_on (pair_of header) which old (Checkpoint meddles stop))) (λ _. Lacks (pair_of header) which old new)
+    → MatchResult result (Comes (pair_of header) which old new (outcome_on (pair_of header) which old (Checkpoint meddles stop)))
+    (λ _. Lacks (pair_of header) which old new)
 checked header which old new meddles stop (Ok said) bound digest kept position issued checks f =
     let pair = pair_of header in
     comes_as header which (role_in old.platform.cell) old new (Checkpoint meddles stop) (quiet_as said) refl f bound
-    (checks_by pair which (role_in old.platform.cell) (at_in old) old.platform new.platform old.issued.items meddles stop said f.stands f.quiet checks)
+    (checks_by pair which (role_in old.platform.cell) (at_in old) old.platform new.platform old.issued.items meddles stop said f.stands
+    f.quiet checks)
     (ended_quiet pair which old new said f bound digest kept position issued)
 checked header which old new meddles stop (Err memory) bound digest kept position issued checks f =
     let pair = pair_of header in
     let role = role_in old.platform.cell in
-    let same = checks_want pair which role (at_in old) old.platform new.platform old.issued.items meddles stop memory f.stands f.quiet checks in
+    let same = checks_want pair which role (at_in old) old.platform new.platform old.issued.items meddles stop memory f.stands f.quiet
+    checks in
     let r = register_as pair which role (at_in old) old.platform f.stands in
     lacks_as pair which old new f (stays_same old.platform new.platform (at_in old).register r f.quiet same) digest issued kept position

@@ -20,7 +20,8 @@ use Rattle.mm_model.specs.Standing.{register_reads, cell_of, issued_bytes}
 use Rattle.mm_call.specs.Standing.{instance_by, cell_at}
 use Rattle.mm_schedule.specs.declared.header.Header.{Header}
 use Rattle.mm_run.specs.Folds.{first_digests}
-use Rattle.mm_run.specs.Held.{rising_from, world_key, world_barrier}
+use Rattle.mm_run.specs.Held.{rising_from}
+use Rattle.mm_run.specs.HeldWords.{world_key, world_barrier}
 use Rattle.mm_world.specs.InVain.{IsRead}
 use Rattle.mm_world.specs.Held.{value_in, digests_in}
 use Rattle.mm_world.specs.Stands.{Stands, IsQuiet}
@@ -74,16 +75,19 @@ above letter more h = omega (arith, more, h)
 
 waiting_unspelled : (cell : WaitingCell) → (waiting_spelling cell ≢ blank_cell) × IsNoCell (waiting_spelling cell)
 waiting_unspelled cell =
-    let b = begins_waiting cell in (no_blank (waiting_spelling cell) b.1, no_cell (waiting_spelling cell) 0x57 b.0 (above 0x57 (omega arith)))
+    let b = begins_waiting cell
+    in (no_blank (waiting_spelling cell) b.1, no_cell (waiting_spelling cell) 0x57 b.0 (above 0x57 (omega arith)))
 
 retired_unspelled : (cell : RetiredCell) → (retired_spelling cell ≢ blank_cell) × IsNoCell (retired_spelling cell)
 retired_unspelled cell =
-    let b = begins_retired cell in (no_blank (retired_spelling cell) b.1, no_cell (retired_spelling cell) 0x58 b.0 (above 0x58 (omega arith)))
+    let b = begins_retired cell
+    in (no_blank (retired_spelling cell) b.1, no_cell (retired_spelling cell) 0x58 b.0 (above 0x58 (omega arith)))
 
 -- a side goes on
 
 -- the cell is as it was, and the register has this value
-pub stays_as : (pair : Pair) (which : Which) (role : Role) (old new : Standing) (d : Digests) (value : List ℕ) → StandsAs pair which role old d
+pub stays_as : (pair : Pair) (which : Which) (role : Role) (old new : Standing) (d : Digests) (value : List ℕ)
+    → StandsAs pair which role old d
     → new.cell ≡ old.cell → register_reads new ≡ Some value → StandsAs pair which role new (record d { register = value })
 stays_as pair which Blank old new d value s e r = record { cell = e ∙ s.cell; register = r }
 stays_as pair which Live old new d value s e r = record {
@@ -98,7 +102,8 @@ stays_as pair which (Waiting nonce) old new d value s e r = (s.0, record { cell 
 stays_as pair which (Retired nonce) old new d value s e r = (s.0, record { cell = e ∙ s.1.cell; register = r })
 
 -- where it stands by digests then
-pub at_same : (old new : CodeSide) (value : List ℕ) → new.platform.cell ≡ old.platform.cell → new.digest ≡ old.digest → new.position ≡ old.position
+pub at_same : (old new : CodeSide) (value : List ℕ) → new.platform.cell ≡ old.platform.cell → new.digest ≡ old.digest
+    → new.position ≡ old.position
     → register_reads new.platform ≡ Some value → at_in new ≡ record (at_in old) { register = value }
 at_same old new value cell digest position register =
     let r : value_in (register_reads new.platform) ≡ value = ap value_in register in
@@ -109,13 +114,15 @@ at_same old new value cell digest position register =
       count = position j;
     }
 
-pub still_fits : (pair : Pair) (which : Which) (old new : CodeSide) (value : List ℕ) → FitsSide pair which old → new.platform.cell ≡ old.platform.cell
+pub still_fits : (pair : Pair) (which : Which) (old new : CodeSide) (value : List ℕ) → FitsSide pair which old
+    → new.platform.cell ≡ old.platform.cell
     → new.digest ≡ old.digest → new.position ≡ old.position → register_reads new.platform ≡ Some value → IsQuiet new.platform
     → new.kept ≡ within_64 (sum_by length new.issued.items) → FitsSide pair which new
 still_fits pair which old new value f cell digest position register quiet kept =
     let stays = stays_as pair which (role_in old.platform.cell) old.platform new.platform (at_in old) value f.stands cell register in
     let there : StandsAs pair which (role_in old.platform.cell) new.platform (at_in new) =
-    subst (λ (d : Digests). StandsAs pair which (role_in old.platform.cell) new.platform d) (sym (at_same old new value cell digest position register)) stays in
+    subst (λ (d : Digests). StandsAs pair which (role_in old.platform.cell) new.platform d)
+    (sym (at_same old new value cell digest position register)) stays in
     record {
       stands = subst (λ (r : Role). StandsAs pair which r new.platform (at_in new)) (sym (ap role_in cell)) there;
       quiet = quiet;
@@ -123,14 +130,16 @@ still_fits pair which old new value f cell digest position register quiet kept =
     }
 
 -- the bytes that are kept, with one more snapshot
-sum_more : (issued : List (List ℕ)) (snapshot : Option (List ℕ)) → sum_by length (issued ++ option_to_list snapshot) ≡ sum_by length issued + length_if snapshot
+sum_more : (issued : List (List ℕ)) (snapshot : Option (List ℕ))
+    → sum_by length (issued ++ option_to_list snapshot) ≡ sum_by length issued + length_if snapshot
 sum_more issued None = sum_by-append length issued []
 sum_more issued (Some bytes) =
     let one : sum_by length (bytes ∷ []) ≡ length bytes = omega arith in
     sum_by-append length issued (bytes ∷ []) ∙ ap (λ (n : ℕ). sum_by length issued + n) one
 
 pub kept_more : (kept kept' : ℕ) (issued issued' : List (List ℕ)) (snapshot : Option (List ℕ)) → kept ≡ within_64 (sum_by length issued)
-    → issued' ≡ issued ++ option_to_list snapshot → kept' ≡ within_64 (kept + length_if snapshot) → kept' ≡ within_64 (sum_by length issued')
+    → issued' ≡ issued ++ option_to_list snapshot → kept' ≡ within_64 (kept + length_if snapshot)
+    → kept' ≡ within_64 (sum_by length issued')
 kept_more kept kept' issued issued' snapshot is more e =
     subst (λ (x : List (List ℕ)). kept' ≡ within_64 (sum_by length x)) (sym more)
     (let sum = sum_more issued snapshot in omega (arith, is, e, sum))
@@ -145,7 +154,11 @@ live_fits pair which new d s q n kept =
     let at : at_in new ≡ d = ap (λ (r : Role). at_by r new.platform new.digest.bytes new.position) live ∙ by_cell in
     let stands : StandsAs pair which (role_in new.platform.cell) new.platform d =
     subst (λ (r : Role). StandsAs pair which r new.platform d) (sym live) s in (
-      record { stands = subst (λ (x : Digests). StandsAs pair which (role_in new.platform.cell) new.platform x) (sym at) stands; quiet = q; kept = kept },
+      record {
+        stands = subst (λ (x : Digests). StandsAs pair which (role_in new.platform.cell) new.platform x) (sym at) stands;
+        quiet = q;
+        kept = kept;
+      },
       at,
     )
 
@@ -156,45 +169,51 @@ pub record Stays (old new : Standing) : Type 0 where
   pub register : register_reads new ≡ Some value
   pub quiet : IsQuiet new
 
-pub register_as : (pair : Pair) (which : Which) (role : Role) (d : Digests) (standing : Standing) → StandsAs pair which role standing d → register_reads standing ≡ Some d.register
+pub register_as : (pair : Pair) (which : Which) (role : Role) (d : Digests) (standing : Standing) → StandsAs pair which role standing d
+    → register_reads standing ≡ Some d.register
 register_as pair which Blank d standing s = s.register
 register_as pair which Live d standing s = s.register
 register_as pair which (Waiting nonce) d standing s = s.1.register
 register_as pair which (Retired nonce) d standing s = s.1.register
 
 pub stays_same : (old new : Standing) (value : List ℕ) → register_reads old ≡ Some value → IsQuiet old → new ≡ old → Stays old new
-stays_same old new value r q e = subst (λ (s : Standing). Stays old s) (sym e) (record { value = value; cell = refl; register = r; quiet = q })
+stays_same old new value r q e =
+    subst (λ (s : Standing). Stays old s) (sym e) (record { value = value; cell = refl; register = r; quiet = q })
 
 -- a cell where the module isn't reads as none
 
 pub blank_reads : (standing : Standing) (d : Digests) → Rests blank_cell standing d → IsQuiet standing → IsRead (Err fault.Blank) d standing
 blank_reads standing d s q = record { bytes = blank_cell; cell = s.cell; reads = refl; register = s.register; quiet = q }
 
-pub waiting_reads : (cell : WaitingCell) (standing : Standing) (d : Digests) → Rests (waiting_spelling cell) standing d → IsQuiet standing → IsRead (Err fault.Cell) d standing
+pub waiting_reads : (cell : WaitingCell) (standing : Standing) (d : Digests) → Rests (waiting_spelling cell) standing d → IsQuiet standing
+    → IsRead (Err fault.Cell) d standing
 waiting_reads cell standing d s q =
     record { bytes = waiting_spelling cell; cell = s.cell; reads = waiting_unspelled cell; register = s.register; quiet = q }
 
-pub retired_reads : (cell : RetiredCell) (standing : Standing) (d : Digests) → Rests (retired_spelling cell) standing d → IsQuiet standing → IsRead (Err fault.Cell) d standing
+pub retired_reads : (cell : RetiredCell) (standing : Standing) (d : Digests) → Rests (retired_spelling cell) standing d → IsQuiet standing
+    → IsRead (Err fault.Cell) d standing
 retired_reads cell standing d s q =
     record { bytes = retired_spelling cell; cell = s.cell; reads = retired_unspelled cell; register = s.register; quiet = q }
 
 -- a side at first
 
 start_on : (variant : Variant) (meaning : Meaning) (key barrier : List ℕ)
-    → start_of (instance_by variant meaning key barrier).variant (instance_by variant meaning key barrier).meaning.id ≡ start_of variant meaning.id
+    → start_of (instance_by variant meaning key barrier).variant (instance_by variant meaning key barrier).meaning.id ≡ start_of variant
+    meaning.id
 start_on Basic meaning key barrier = refl
 start_on Opt meaning key barrier = refl
 
 length-first_key : length world_key ≡ 32
-unfolding world_key rising_from
+unfolding rising_from
 length-first_key = refl
 
 length-barrier : length world_barrier ≡ 32
-unfolding world_barrier rising_from
+unfolding rising_from
 length-barrier = refl
 
 pub live_new : (header : Header) (cell snapshot : List ℕ) (bare new : CodeSide) → IsBare header cell bare
-    → cell ≡ cell_spelling (cell_of (instance_on (pair_of header) First) first_history) → snapshot ≡ issued_bytes (instance_on (pair_of header) First) first_history
+    → cell ≡ cell_spelling (cell_of (instance_on (pair_of header) First) first_history)
+    → snapshot ≡ issued_bytes (instance_on (pair_of header) First) first_history
     → new.platform ≡ bare.platform → new.position ≡ bare.position → new.issued.items ≡ bare.issued.items ++ snapshot ∷ []
     → new.kept ≡ within_64 (bare.kept + length snapshot)
     → IsNew (pair_of header) First (first_both (pair_of header)).first new
@@ -224,19 +243,22 @@ blank_new header cell new is bare =
     let there : new.platform ≡ new_platform blank_cell = bare.platform ∙ ap new_platform is in
     let holds : new.platform.cell ≡ Some blank_cell = ap (λ (s : Standing). s.cell) there in
     let register : register_reads new.platform ≡ Some zero_bytes = ap register_reads there in
-    let role : role_in new.platform.cell ≡ Blank = ap role_in holds ∙ ap role_of (sym (blank_read blank_cell (bytes_are blank_cell blank_cell refl))) in
+    let role : role_in new.platform.cell ≡ Blank = ap role_in holds
+    ∙ ap role_of (sym (blank_read blank_cell (bytes_are blank_cell blank_cell refl))) in
     let digest : new.digest.bytes ≡ (first_digests (instance_on pair Second)).digest =
     bare.digest ∙ sym (start_on pair.variant pair.meaning (key_of pair Second) pair.barrier) in
     let value : value_in (register_reads new.platform) ≡ zero_bytes = ap value_in register in
     let position = bare.position in
-    let by_role : at_in new ≡ at_by Blank new.platform new.digest.bytes new.position = ap (λ (r : Role). at_by r new.platform new.digest.bytes new.position) role in
+    let by_role : at_in new ≡ at_by Blank new.platform new.digest.bytes new.position = ap
+    (λ (r : Role). at_by r new.platform new.digest.bytes new.position) role in
     let at : at_in new ≡ first_digests (instance_on pair Second) =
     by_role ∙ (λ j. record { digest = digest j; flag = false; register = value j; count = position j }) in
     let issued = bare.issued in
     let none = bare.kept in
     let d = first_digests (instance_on pair Second) in
     let stands : StandsAs pair Second Blank new.platform d = record { cell = holds; register = register } in
-    let by_at : StandsAs pair Second Blank new.platform (at_in new) = subst (λ (x : Digests). StandsAs pair Second Blank new.platform x) (sym at) stands in
+    let by_at : StandsAs pair Second Blank new.platform (at_in new) = subst (λ (x : Digests). StandsAs pair Second Blank new.platform x)
+    (sym at) stands in
     let empty : List (List ℕ) = [] in
     let sum : new.kept ≡ within_64 (sum_by length empty) = none in
     record {

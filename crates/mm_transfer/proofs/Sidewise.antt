@@ -65,7 +65,8 @@ away_then away d (Some (Invites nonce)) = away
 away_then away d (Some (Leaves ticket)) = d.count
 away_then away d (Some (Enters ticket)) = away
 
-pub affected_is : (role : Role) (at : Digests) (issued tickets : List (List ℕ)) (other : Side Digests) (away committed : ℕ) (effect : Option Effect)
+pub affected_is : (role : Role) (at : Digests) (issued tickets : List (List ℕ)) (other : Side Digests) (away committed : ℕ)
+    (effect : Option Effect)
     → affected_if digests_move (record {
       first = record { role = role; at = at; issued = issued };
       second = other;
@@ -96,7 +97,8 @@ FitsEffect d (Some (Enters ticket)) = length (summary_in ticket.content.place).b
 abbrev reading : Digests → List ℕ → Digests
 reading d register = record d { register = register }
 
-cell_reading : (i : Instance) (role : Role) (d : Digests) (register : List ℕ) → cell_of_role i role d ≡ cell_of_role i role (reading d register)
+cell_reading : (i : Instance) (role : Role) (d : Digests) (register : List ℕ)
+    → cell_of_role i role d ≡ cell_of_role i role (reading d register)
 cell_reading i Blank d register = refl
 cell_reading i Live d register = refl
 cell_reading i (Waits nonce) d register = refl
@@ -131,13 +133,16 @@ register_then d away (Some (Leaves ticket)) = refl
 register_then d away (Some (Enters ticket)) = refl
 
 -- a side whose move came to this effect
-pub side_then : {A : Type 0} (gives : FoundMove → A → Type 0) (pair : Pair) (which : Which) (role : Role) (d : Digests) (stop : Stop) (meddles : List Meddle)
+pub side_then : {A : Type 0} (gives : FoundMove → A → Type 0) (pair : Pair) (which : Which) (role : Role) (d : Digests) (stop : Stop)
+    (meddles : List Meddle)
     (found : Result FoundMove MoveCause) (new : CodeSide) (came : Result A MoveRefusal) (away : ℕ) (effect : Option Effect)
-    → effect_of (course_of stop meddles).fates found ≡ effect → Came gives (instance_on pair which) role d stop meddles found new.platform came
+    → effect_of (course_of stop meddles).fates found ≡ effect
+    → Came gives (instance_on pair which) role d stop meddles found new.platform came
     → FitsCell (instance_on pair which) (link_of pair) role d → FitsEffect d effect
     → new.position ≡ (at_then away d effect).count → KeepsFor pair which (role_then role effect) new.digest.bytes (at_then away d effect)
     → new.kept ≡ within_64 (sum_by length new.issued.items)
-    → IsSide pair which (role_then role effect) (at_then away (brought_to digests_move (instance_on pair which) d meddles stop (move_steps found)) effect) new
+    → IsSide pair which (role_then role effect)
+    (at_then away (brought_to digests_move (instance_on pair which) d meddles stop (move_steps found)) effect) new
 side_then gives pair which role d stop meddles found new came away effect is c fit fits count keeps kept =
     let i = instance_on pair which in
     let brought : Digests = brought_to digests_move i d meddles stop (move_steps found) in
@@ -147,7 +152,8 @@ side_then gives pair which role d stop meddles found new came away effect is c f
     c.cell ∙ ap (λ e. Some (cell_if i role d e)) is ∙ ap Some (cell_then i role d register away effect) in
     let here : IsSide pair which (role_then role effect) (at_then away (reading d register) effect) new =
     side_is pair which (role_then role effect) (at_then away (reading d register) effect) new
-    (record { key = fit.key; barrier = fit.barrier; linked = fit.linked; fits = fits_then pair which role d register away effect fit fits }) cell
+    (record { key = fit.key; barrier = fit.barrier; linked = fit.linked; fits = fits_then pair which role d register away effect fit fits })
+    cell
     (c.register ∙ ap Some (register_then (reading d register) away effect)) c.quiet (count ∙ count_then d register away effect)
     (keeps_then pair which role d register away effect new.digest.bytes keeps) kept in
     subst (λ (x : Digests). IsSide pair which (role_then role effect) (at_then away x effect) new) to here
@@ -166,7 +172,8 @@ side_then gives pair which role d stop meddles found new came away effect is c f
     keeps_role pair which (Waits nonce) d register kept k = k
     keeps_role pair which (Left nonce) d register kept k = k
 
-    keeps_then : (pair : Pair) (which : Which) (role : Role) (d : Digests) (register : List ℕ) (away : ℕ) (effect : Option Effect) (kept : List ℕ)
+    keeps_then : (pair : Pair) (which : Which) (role : Role) (d : Digests) (register : List ℕ) (away : ℕ) (effect : Option Effect)
+        (kept : List ℕ)
         → KeepsFor pair which (role_then role effect) kept (at_then away d effect)
         → KeepsFor pair which (role_then role effect) kept (at_then away (reading d register) effect)
     keeps_then pair which role d register away None kept k = keeps_role pair which role d register kept k

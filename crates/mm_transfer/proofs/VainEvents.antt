@@ -13,7 +13,8 @@ use Rattle.mm_model.specs.Moves.{Digests, made}
 use Rattle.mm_model.specs.Steps.{Step, Reads}
 use Rattle.mm_model.specs.declared.refusal.Refusal.{Refusal}
 use Rattle.mm_call.specs.Courses.{Walked, End, Done, Fails, Fate, after_step, commits, seen_in}
-use Rattle.mm_call.specs.Called.{called_by, kept_at}
+use Rattle.mm_call.specs.Called.{called_by}
+use Rattle.mm_call.specs.CalledWords.{kept_at}
 use Rattle.mm_call.specs.Levels.{by_digests, all_made}
 use Rattle.mm_schedule.specs.Events.{Event, Ask, Checkpoint, Power, Extend}
 use Rattle.mm_schedule.specs.Replies.{IsPrintable}
@@ -21,7 +22,8 @@ use Rattle.mm_schedule.specs.declared.reply.Reply.{Reply}
 use Rattle.mm_schedule.specs.declared.reply.Reply.TheVariants as reply
 use Rattle.mm_schedule.specs.declared.reply.Cause.TheVariants as cause
 use Rattle.mm_schedule.specs.declared.reply.Way.{Way}
-use Rattle.mm_run.specs.Folds.{Outcome, way_of, after_stop, course_of, uncalled, reads_only, asked_in_vain, event_in_vain, broken_reply, outcome_by}
+use Rattle.mm_run.specs.Folds.{Outcome, way_of, after_stop, course_of, uncalled, reads_only, asked_in_vain, event_in_vain, outcome_by}
+use Rattle.mm_run.specs.FoldsWords.{broken_reply}
 use Rattle.mm_run.specs.Offered.{offered_bytes}
 
 -- values of others and losses of power
@@ -70,7 +72,8 @@ stop_others (stop.Fail step done) = tt
 pub seen_others : (fates : ℕ → Fate) (steps : List Step) (n : ℕ) → AreOthers (seen_in fates steps n)
 seen_others fates [] n = tt
 seen_others fates (step ∷ steps) n =
-    others-append (map Foreign (fates n).brings) (seen_in fates steps (n + 1)) (foreign_others (fates n).brings) (seen_others fates steps (n + 1))
+    others-append (map Foreign (fates n).brings) (seen_in fates steps (n + 1)) (foreign_others (fates n).brings)
+    (seen_others fates steps (n + 1))
 
 -- what an event in vain comes to
 
@@ -80,7 +83,8 @@ pub record IsVain (d : Digests) (before : List (List ℕ)) (o : Outcome Digests)
   pub issued : o.issued ≡ before
   pub printable : IsPrintable o.reply
 
-then_made : (i : Instance) (d mid : Digests) (moves : List Move) → IsRegister d mid → AreOthers moves → IsRegister d (all_made (by_digests i) mid moves)
+then_made : (i : Instance) (d mid : Digests) (moves : List Move) → IsRegister d mid → AreOthers moves
+    → IsRegister d (all_made (by_digests i) mid moves)
 then_made i d mid moves is are =
     let after : Digests = all_made (by_digests i) mid moves in
     others_made i mid moves are ∙ ap (λ (x : Digests). record x { register = after.register }) is
@@ -89,11 +93,15 @@ kept_printed : (how : Way) (kept : Option ℕ) → IsPrintable (broken_reply how
 kept_printed how None = tt
 kept_printed how (Some position) = tt
 
-read_vain : (i : Instance) (d : Digests) (issued : List (List ℕ)) (stop : Stop) (why : Refusal) (fate : Fate) (ends : End) → fate.ends ≡ ends
+read_vain : (i : Instance) (d : Digests) (issued : List (List ℕ)) (stop : Stop) (why : Refusal) (fate : Fate) (ends : End)
+    → fate.ends ≡ ends
     → (let nothing : Walked = record { moves = []; steps = 0; writes = 0; broken = None } in
-    IsVain d issued (outcome_by (by_digests i) stop issued (called_by (by_digests i) d d (One []) (Err why) (after_step Reads fate.brings ends nothing))))
+    IsVain d issued (outcome_by (by_digests i) stop issued
+    (called_by (by_digests i) d d (One []) (Err why) (after_step Reads fate.brings ends nothing))))
 read_vain i d issued stop why fate Done is = record {
-  state = then_made i d _ [] (others_made i d (map Foreign fate.brings ++ []) (others-append (map Foreign fate.brings) [] (foreign_others fate.brings) tt)) tt;
+  state =
+      then_made i d _ [] (others_made i d (map Foreign fate.brings ++ [])
+      (others-append (map Foreign fate.brings) [] (foreign_others fate.brings) tt)) tt;
   issued = append-nil issued;
   printable = tt;
 }
@@ -116,12 +124,14 @@ ask_vain : (i : Instance) (d : Digests) (issued : List (List ℕ)) (meddles : Li
 ask_vain i d issued meddles stop why true = uncalled_vain d issued _ tt
 ask_vain i d issued meddles stop why false = reads_vain i d issued meddles stop why
 
-asked_vain : (i : Instance) (d : Digests) (issued : List (List ℕ)) (meddles : List Meddle) (stop : Stop) (why : Refusal) (bytes : Option (List ℕ)) (b : Batch)
+asked_vain : (i : Instance) (d : Digests) (issued : List (List ℕ)) (meddles : List Meddle) (stop : Stop) (why : Refusal)
+    (bytes : Option (List ℕ)) (b : Batch)
     → IsVain d issued (asked_in_vain (by_digests i) d issued meddles stop why bytes b)
 asked_vain i d issued meddles stop why None b = uncalled_vain d issued _ tt
 asked_vain i d issued meddles stop why (Some bytes) b = ask_vain i d issued meddles stop why (is_long b)
 
-pub event_vain : (i : Instance) (d : Digests) (issued : List (List ℕ)) (why : Refusal) (event : Event) → IsVain d issued (event_in_vain (by_digests i) d issued why event)
+pub event_vain : (i : Instance) (d : Digests) (issued : List (List ℕ)) (why : Refusal) (event : Event)
+    → IsVain d issued (event_in_vain (by_digests i) d issued why event)
 event_vain i d issued why (Ask meddles stop offer b) = asked_vain i d issued meddles stop why (offered_bytes issued offer) b
 event_vain i d issued why (Checkpoint meddles stop) = reads_vain i d issued meddles stop why
 event_vain i d issued why Power = record { state = refl; issued = refl; printable = tt }

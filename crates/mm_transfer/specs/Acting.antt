@@ -13,18 +13,21 @@ use Rattle.mm_transfer.specs.OneSide.{side_in, FitsSide, SameButRegister}
 use Rattle.mm_transfer.specs.Replies.{reply_said, IsSayable}
 
 -- what happens on a side comes to this, whatever the other is
-abbrev pub acted : Pair → Which → CodeSide → Between → ℕ → Act → Side Digests → BothOutcome Digests ℕ
+abbrev pub acted : Pair → Which → CodeSide → Between → ℕ → Act → Side Digests
+    → BothOutcome Digests ℕ
 acted pair which here between committed act other =
-    outcome_here digests_move pair (instance_on pair which) (both_with here between other committed) act
+    outcome_here digests_move pair (instance_on pair which) (both_with here between other committed)
+    act
 
 -- no count is greater than that of the requests committed, on either side
 pub record AreWithin (here : CodeSide) (between : Between) (committed : ℕ) : Type 0 where
   pub position : here.position ≤ committed
   pub away : between.away ≤ committed
 
--- A side with what passes between both, and with how many requests were committed, has come to this outcome, and answers so.
--- No more came than one event may bring.
-pub record ActDone (pair : Pair) (which : Which) (old new : CodeSide) (was now : Between) (before after : ℕ)
+-- A side with what passes between both, and with how many requests were committed, has come to this
+-- outcome, and answers so. No more came than one event may bring.
+pub record ActDone (pair : Pair) (which : Which) (old new : CodeSide) (was now : Between)
+    (before after : ℕ)
     (o : Side Digests → BothOutcome Digests ℕ) (said : MoveReply) : Type 0 where
   pub fits : FitsSide pair which new
   pub between : FitsBetween now
@@ -38,7 +41,8 @@ pub record ActDone (pair : Pair) (which : Which) (old new : CodeSide) (was now :
   pub tickets : length now.tickets.items ≤ length was.tickets.items + 1
 
 -- Memory was wanting: nothing has changed, but that the register may have another value.
-pub record ActLacks (pair : Pair) (which : Which) (old new : CodeSide) (was now : Between) (before after : ℕ) : Type 0 where
+pub record ActLacks (pair : Pair) (which : Which) (old new : CodeSide) (was now : Between)
+    (before after : ℕ) : Type 0 where
   pub fits : FitsSide pair which new
   pub between : FitsBetween now
   pub within : AreWithin new now after
@@ -48,8 +52,10 @@ pub record ActLacks (pair : Pair) (which : Which) (old new : CodeSide) (was now 
   pub same : after ≡ before
 
 -- something happened on a side
-abbrev pub Acts : Pair → Which → Act → CodeSide → CodeSide → Between → Between → ℕ → ℕ → Result MoveReply Memory → Type 0
+abbrev pub Acts : Pair → Which → Act → CodeSide → CodeSide → Between → Between → ℕ → ℕ
+    → Result MoveReply Memory → Type 0
 Acts pair which act old new was now before after result =
     FitsSide pair which old → FitsBetween was → AreWithin old was before → before < 2 ^ 63
-    → MatchResult result (ActDone pair which old new was now before after (acted pair which old was before act))
+    → MatchResult result
+    (ActDone pair which old new was now before after (acted pair which old was before act))
     (λ _. ActLacks pair which old new was now before after)

@@ -2,7 +2,7 @@
 use Rattle.std.specs.Prelude.{ℕ, Bool, true, false, List, [], ◌∷◌, ◌++◌, codes}
 use Rattle.std.specs.Fmt.{decimal}
 use Rattle.mm_schedule.specs.Replies.{cause_text, way_text}
-use Rattle.mm_replay.specs.Text.{text_of_replies}
+use Rattle.mm_replay.specs.TextWords.{text_of_replies}
 use Rattle.mm_sides.specs.Both.{Which, First, Second}
 use Rattle.mm_sides.specs.Folds.{BothEvent, BothReply}
 use Rattle.mm_transfer.specs.declared.reply.MoveCause.{MoveCause}
@@ -49,9 +49,12 @@ answer_text which reply = which_text which ++ 32 ∷ move_text reply
 abbrev pub answers_text : List BothEvent → List BothReply → List ℕ
 answers_text [] replies = []
 answers_text (event ∷ events) [] = []
-answers_text (event ∷ events) (reply ∷ replies) = answer_text event.which (reply_said reply) ++ answers_text events replies
+answers_text (event ∷ events) (reply ∷ replies) =
+    answer_text event.which (reply_said reply) ++ answers_text events replies
 
--- the line `end N K0 K1 T`: so many requests were committed, so many snapshots issued on each side, and so many tickets
+-- the line `end N K0 K1 T`: so many requests were committed, so many snapshots issued on each side,
+-- and so many tickets
 abbrev pub end_line : (committed first second tickets : ℕ) → List ℕ
 end_line committed first second tickets =
-    codes "end " ++ decimal committed ++ 32 ∷ [] ++ decimal first ++ 32 ∷ [] ++ decimal second ++ 32 ∷ [] ++ decimal tickets ++ 10 ∷ []
+    codes "end " ++ decimal committed ++ 32 ∷ [] ++ decimal first ++ 32 ∷ [] ++ decimal second ++ 32
+    ∷ [] ++ decimal tickets ++ 10 ∷ []

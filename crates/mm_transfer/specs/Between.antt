@@ -29,7 +29,8 @@ use Rattle.mm_transfer.specs.Replies.{reply_said}
 -- what is told of a move that was refused, or broken off; want of memory is the caller's
 abbrev pub RefusedFor : Stop → Refusal → Result MoveReply Memory → Type 0
 RefusedFor stop core.Memory result = IsErr result
-RefusedFor stop (core.Device fault) result = result ≡ Ok (reply.Broken (way_of stop) (moves_at stop))
+RefusedFor stop (core.Device fault) result =
+    result ≡ Ok (reply.Broken (way_of stop) (moves_at stop))
 RefusedFor stop why result = result ≡ Ok (reply.Denied (cause.Refused (cause_of why)))
 
 abbrev pub RefusedAs : Stop → MoveRefusal → Result MoveReply Memory → Type 0
@@ -50,25 +51,32 @@ InvitedAs stop (Ok done) result = result ≡ Ok reply.Invited
 InvitedAs stop (Err why) result = RefusedAs stop why result
 
 -- A retirement is told: its ticket is handed out, and the module has left, if it was there.
-pub record TicketKept (was_live : Bool) (position : ℕ) (ticket : List ℕ) (old new : Between) (result : Result MoveReply Memory) : Type 0 where
+pub record TicketKept (was_live : Bool) (position : ℕ) (ticket : List ℕ) (old new : Between)
+    (result : Result MoveReply Memory) : Type 0 where
   pub tickets : new.tickets.items ≡ old.tickets.items ++ ticket ∷ []
   pub kept : new.kept ≡ within_64 (old.kept + length ticket)
   pub away : new.away ≡ (if was_live then position else old.away)
   pub says : result ≡ Ok (reply.Left (length old.tickets.items))
 
-pub record TicketRefused (was_live : Bool) (position : ℕ) (stop : Stop) (why : MoveRefusal) (old new : Between) (result : Result MoveReply Memory)
+pub record TicketRefused (was_live : Bool) (position : ℕ) (stop : Stop) (why : MoveRefusal)
+    (old new : Between) (result : Result MoveReply Memory)
     : Type 0 where
   pub tickets : new.tickets.items ≡ old.tickets.items
   pub kept : new.kept ≡ old.kept
   pub away : new.away ≡ (if was_live && has_moved stop why then position else old.away)
   pub says : RefusedAs stop why result
 
-abbrev pub LeftAs : Bool → ℕ → Stop → Result (List ℕ) MoveRefusal → Between → Between → Result MoveReply Memory → Type 0
-LeftAs was_live position stop (Ok ticket) old new result = TicketKept was_live position ticket old new result
-LeftAs was_live position stop (Err why) old new result = TicketRefused was_live position stop why old new result
+abbrev pub LeftAs : Bool → ℕ → Stop → Result (List ℕ) MoveRefusal → Between → Between
+    → Result MoveReply Memory → Type 0
+LeftAs was_live position stop (Ok ticket) old new result =
+    TicketKept was_live position ticket old new result
+LeftAs was_live position stop (Err why) old new result =
+    TicketRefused was_live position stop why old new result
 
--- An acceptance is told: its snapshot is handed out, and the module has entered, if it wasn't there.
-pub record EntryKept (was_live : Bool) (away : ℕ) (accepted : Accepted) (old new : CodeSide) (result : Result MoveReply Memory) : Type 0 where
+-- An acceptance is told: its snapshot is handed out, and the module has entered, if it wasn't
+-- there.
+pub record EntryKept (was_live : Bool) (away : ℕ) (accepted : Accepted) (old new : CodeSide)
+    (result : Result MoveReply Memory) : Type 0 where
   pub platform : new.platform ≡ old.platform
   pub digest : new.digest ≡ old.digest
   pub issued : new.issued.items ≡ old.issued.items ++ accepted.snapshot ∷ []
@@ -76,7 +84,8 @@ pub record EntryKept (was_live : Bool) (away : ℕ) (accepted : Accepted) (old n
   pub position : new.position ≡ (if was_live then old.position else away)
   pub says : result ≡ Ok (reply.Entered accepted.position)
 
-pub record EntryRefused (was_live : Bool) (away : ℕ) (stop : Stop) (why : MoveRefusal) (old new : CodeSide) (result : Result MoveReply Memory)
+pub record EntryRefused (was_live : Bool) (away : ℕ) (stop : Stop) (why : MoveRefusal)
+    (old new : CodeSide) (result : Result MoveReply Memory)
     : Type 0 where
   pub platform : new.platform ≡ old.platform
   pub digest : new.digest ≡ old.digest
@@ -85,18 +94,23 @@ pub record EntryRefused (was_live : Bool) (away : ℕ) (stop : Stop) (why : Move
   pub position : new.position ≡ (if not was_live && has_moved stop why then away else old.position)
   pub says : RefusedAs stop why result
 
-abbrev pub EnteredAs : Bool → ℕ → Stop → Result Accepted MoveRefusal → CodeSide → CodeSide → Result MoveReply Memory → Type 0
-EnteredAs was_live away stop (Ok accepted) old new result = EntryKept was_live away accepted old new result
-EnteredAs was_live away stop (Err why) old new result = EntryRefused was_live away stop why old new result
+abbrev pub EnteredAs : Bool → ℕ → Stop → Result Accepted MoveRefusal → CodeSide → CodeSide
+    → Result MoveReply Memory → Type 0
+EnteredAs was_live away stop (Ok accepted) old new result =
+    EntryKept was_live away accepted old new result
+EnteredAs was_live away stop (Err why) old new result =
+    EntryRefused was_live away stop why old new result
 
 -- A move with what an offer names, over the platform: none is made where it names nothing.
-abbrev pub Tried : {A : Type 0} → (List ℕ → List ℕ → Result (Ready A) MoveRefusal) → Stop → List Meddle → Option (List ℕ)
+abbrev pub Tried : {A : Type 0} → (List ℕ → List ℕ → Result (Ready A) MoveRefusal) → Stop
+    → List Meddle → Option (List ℕ)
     → Standing → Standing → Result (Option (Result A MoveRefusal)) Memory → Type 0
 Tried finds stop meddles offered old new (Err memory) = new ≡ old
 Tried finds stop meddles None old new (Ok None) = new ≡ old
 Tried finds stop meddles (Some bytes) old new (Ok None) = ⊥
 Tried finds stop meddles None old new (Ok (Some came)) = ⊥
-Tried finds stop meddles (Some bytes) old new (Ok (Some came)) = MovesPlanned (finds bytes) stop meddles old new came
+Tried finds stop meddles (Some bytes) old new (Ok (Some came)) =
+    MovesPlanned (finds bytes) stop meddles old new came
 
 -- The side keeps the digest of its cell, where that has one; and nothing else changes.
 pub record KeepsDigest (old new : CodeSide) : Type 0 where
@@ -117,37 +131,46 @@ both_with here between other committed = record {
 }
 
 -- what a command on this side comes to, whatever the other is
-abbrev pub commanded : Pair → Which → CodeSide → Between → List Meddle → Stop → Command → Side Digests → ℕ → BothOutcome Digests ℕ
+abbrev pub commanded : Pair → Which → CodeSide → Between → List Meddle → Stop → Command
+    → Side Digests → ℕ → BothOutcome Digests ℕ
 commanded pair which here between meddles stop command other committed =
-    move_outcome digests_move pair (instance_on pair which) (both_with here between other committed) meddles stop command
+    move_outcome digests_move pair (instance_on pair which) (both_with here between other committed)
+    meddles stop command
 
 -- the bytes of the tickets are counted
 abbrev pub FitsBetween : Between → Type 0
 FitsBetween between = between.kept ≡ within_64 (sum_by length between.tickets.items)
 
--- A side with what passes between both has come to this outcome, and answers so. At most one snapshot and one ticket came,
--- and no count is greater than the greater of both was.
-pub record CommandDone (pair : Pair) (which : Which) (old new : CodeSide) (was now : Between) (o : Side Digests → ℕ → BothOutcome Digests ℕ)
+-- A side with what passes between both has come to this outcome, and answers so. At most one
+-- snapshot and one ticket came, and no count is greater than the greater of both was.
+pub record CommandDone (pair : Pair) (which : Which) (old new : CodeSide) (was now : Between)
+    (o : Side Digests → ℕ → BothOutcome Digests ℕ)
     (said : MoveReply) : Type 0 where
   pub fits : FitsSide pair which new
   pub between : FitsBetween now
-  pub both : (other : Side Digests) (committed : ℕ) → both_with new now other committed ≡ (o other committed).both
+  pub both : (other : Side Digests) (committed : ℕ)
+      → both_with new now other committed ≡ (o other committed).both
   pub says : (other : Side Digests) (committed : ℕ) → said ≡ reply_said (o other committed).reply
   pub issued : length new.issued.items ≤ length old.issued.items + 1
   pub tickets : length now.tickets.items ≤ length was.tickets.items + 1
-  pub counts : (most : ℕ) → old.position ≤ most → was.away ≤ most → (new.position ≤ most) × (now.away ≤ most)
+  pub counts : (most : ℕ) → old.position ≤ most → was.away ≤ most
+      → (new.position ≤ most) × (now.away ≤ most)
 
 -- Memory was wanting: nothing has changed, but that the first step may have been made.
-pub record CommandLacks (pair : Pair) (which : Which) (old new : CodeSide) (was now : Between) : Type 0 where
+pub record CommandLacks (pair : Pair) (which : Which) (old new : CodeSide)
+    (was now : Between) : Type 0 where
   pub fits : FitsSide pair which new
-  pub side : side_in new ≡ record (side_in old) { at = record (at_in old) { register = (at_in new).register } }
+  pub side : side_in new ≡ record (side_in old)
+      { at = record (at_in old) { register = (at_in new).register } }
   pub tickets : now.tickets.items ≡ was.tickets.items
   pub kept : now.kept ≡ was.kept
   pub away : now.away ≡ was.away
 
 -- a command on a side
-abbrev pub Commands : Pair → Which → List Meddle → Stop → Command → CodeSide → CodeSide → Between → Between → Result MoveReply Memory → Type 0
+abbrev pub Commands : Pair → Which → List Meddle → Stop → Command → CodeSide → CodeSide → Between
+    → Between → Result MoveReply Memory → Type 0
 Commands pair which meddles stop command old new was now result =
     FitsSide pair which old → FitsBetween was
-    → MatchResult result (CommandDone pair which old new was now (commanded pair which old was meddles stop command))
+    → MatchResult result
+    (CommandDone pair which old new was now (commanded pair which old was meddles stop command))
     (λ _. CommandLacks pair which old new was now)

@@ -62,13 +62,16 @@ retire_at line =
 -- a command, behind the meddles and the stop
 unfoldable pub command_at : List ℕ → Option Command
 command_at line =
-    option_map_or (λ word. value_at word >>= λ nonce. Some (Invite nonce)) (after_prefix (codes "invite ") line)
+    option_map_or (λ word. value_at word >>= λ nonce. Some (Invite nonce))
+    (after_prefix (codes "invite ") line)
     (option_map_or retire_at (after_prefix (codes "retire ") line)
-    (option_map_or (λ word. named_at word >>= λ offer. Some (Accept offer)) (after_prefix (codes "accept ") line) None))
+    (option_map_or (λ word. named_at word >>= λ offer. Some (Accept offer))
+    (after_prefix (codes "accept ") line) None))
 
 -- what one request is asked of, behind the meddles and the stop
 unfoldable pub ask_at : List Meddle → Stop → List ℕ → Option Act
-ask_at meddles stop line = offer_at line >>= λ offer. Some (Plain (Ask meddles stop offer.0 (One offer.1)))
+ask_at meddles stop line =
+    offer_at line >>= λ offer. Some (Plain (Ask meddles stop offer.0 (One offer.1)))
 
 -- a call or a command, behind its meddles and its stop
 unfoldable pub call_at : List Meddle → Stop → List ℕ → Option Act
@@ -79,13 +82,15 @@ call_at meddles stop line =
 
 -- the same with what comes before it
 unfoldable pub prefixed_at : List ℕ → Option Act
-prefixed_at line = meddles_at 8 0 line >>= λ meddles. stop_at meddles.1 >>= λ stop. call_at meddles.0 stop.0 stop.1
+prefixed_at line =
+    meddles_at 8 0 line >>= λ meddles. stop_at meddles.1 >>= λ stop. call_at meddles.0 stop.0 stop.1
 
 -- what happens on a side
 unfoldable pub act_at : List ℕ → Option Act
 act_at line =
     if bytes_eq line (codes "power") then Some (Plain Power)
-    else option_map_or (λ word. value_at word >>= λ value. Some (Plain (Extend value))) (after_prefix (codes "extend ") line)
+    else option_map_or (λ word. value_at word >>= λ value. Some (Plain (Extend value)))
+    (after_prefix (codes "extend ") line)
     (prefixed_at line)
 
 -- the event of a line: a side, and what happens there

@@ -12,11 +12,13 @@ use Rattle.mm_sides.specs.Both.{Which, Pair}
 use Rattle.mm_transfer.specs.declared.side.Side.{Side as CodeSide}
 use Rattle.mm_transfer.specs.OneSide.{StandsAs, FitsSide}
 
-pub variant_prop : (variant : Variant) (flag : Bool) (barrier : List ℕ) → IsProp (FitsVariant variant flag barrier)
+pub variant_prop : (variant : Variant) (flag : Bool) (barrier : List ℕ)
+    → IsProp (FitsVariant variant flag barrier)
 variant_prop Basic flag barrier = Prim.hlevel props
 variant_prop Opt flag barrier = Prim.hlevel props
 
-pub register_prop : (variant : Variant) (reads : Option (List ℕ)) (register : List ℕ) → IsProp (RegisterAt variant reads register)
+pub register_prop : (variant : Variant) (reads : Option (List ℕ)) (register : List ℕ)
+    → IsProp (RegisterAt variant reads register)
 register_prop Basic reads register = Prim.hlevel props
 register_prop Opt reads register = Prim.hlevel props
 

@@ -53,8 +53,8 @@ abbrev pub role_in : Option (List ℕ) → Role
 role_in None = Blank
 role_in (Some bytes) = role_of (moved_of bytes)
 
--- The summary or anchor where a side stands or last stood, and its flag: a cell has them where the module is or left, and
--- elsewhere the digest is kept.
+-- The summary or anchor where a side stands or last stood, and its flag: a cell has them where the
+-- module is or left, and elsewhere the digest is kept.
 abbrev pub digest_by : Role → List ℕ → Option (List ℕ) → List ℕ
 digest_by Blank kept cell = kept
 digest_by Live kept cell = digest_in cell
@@ -81,11 +81,14 @@ at_in side = at_by (role_in side.platform.cell) side.platform side.digest.bytes 
 
 -- a side as contracts see it
 abbrev pub side_in : CodeSide → Side Digests
-side_in side = record { role = role_in side.platform.cell; at = at_in side; issued = side.issued.items }
+side_in side =
+    record { role = role_in side.platform.cell; at = at_in side; issued = side.issued.items }
 
--- the cell of a side that waits for a ticket with this nonce, and that of one that the module left for this nonce
+-- the cell of a side that waits for a ticket with this nonce, and that of one that the module left
+-- for this nonce
 abbrev pub waiting_on : Pair → Which → List ℕ → WaitingCell
-waiting_on pair which nonce = waiting_for (link_of pair) pair.variant pair.meaning.id nonce (key_of pair which)
+waiting_on pair which nonce =
+    waiting_for (link_of pair) pair.variant pair.meaning.id nonce (key_of pair which)
 
 abbrev pub retired_on : Pair → Which → Digests → List ℕ → RetiredCell
 retired_on pair which d nonce = retired_from (cell_at (instance_on pair which) d) nonce
@@ -100,9 +103,11 @@ abbrev pub StandsAs : Pair → Which → Role → Standing → Digests → Type 
 StandsAs pair which Blank standing d = Rests blank_cell standing d
 StandsAs pair which Live standing d = Stands (instance_on pair which) standing d
 StandsAs pair which (Waiting nonce) standing d =
-    IsWaiting (waiting_on pair which nonce) × Rests (waiting_spelling (waiting_on pair which nonce)) standing d
+    IsWaiting (waiting_on pair which nonce) × Rests (waiting_spelling (waiting_on pair which nonce))
+    standing d
 StandsAs pair which (Retired nonce) standing d =
-    IsRetired (retired_on pair which d nonce) × Rests (retired_spelling (retired_on pair which d nonce)) standing d
+    IsRetired (retired_on pair which d nonce) × Rests
+    (retired_spelling (retired_on pair which d nonce)) standing d
 
 -- a count of 64 bits stays at the greatest once it is there
 abbrev pub within_64 : ℕ → ℕ
@@ -120,15 +125,19 @@ pub record GoesOn (pair : Pair) (which : Which) (old new : CodeSide) : Type 0 wh
   pub few : new.position ≤ old.position + most_members
   pub one : length new.issued.items ≤ length old.issued.items + 1
 
--- An event of a schedule came to this outcome, and was answered so; the side's position grew by what the event committed.
-pub record Comes (pair : Pair) (which : Which) (old new : CodeSide) (o : Outcome Digests) (said : Reply) : Type 0 where
+-- An event of a schedule came to this outcome, and was answered so; the side's position grew by
+-- what the event committed.
+pub record Comes (pair : Pair) (which : Which) (old new : CodeSide) (o : Outcome Digests)
+    (said : Reply) : Type 0 where
   pub goes : GoesOn pair which old new
   pub stands : side_in new ≡ record (side_in old) { at = o.state; issued = o.issued }
   pub says : said ≡ o.reply
   pub printable : IsPrintable said
-  pub commits : new.position ≡ old.position + grown (side_in old).role (at_in old).count o.state.count
+  pub commits : new.position ≡ old.position + grown (side_in old).role (at_in old).count
+      o.state.count
 
--- The side keeps the snapshot that was handed out, if one was, and nothing else changes but its position.
+-- The side keeps the snapshot that was handed out, if one was, and nothing else changes but its
+-- position.
 pub record Keeps (old new : CodeSide) (snapshot : Option (List ℕ)) : Type 0 where
   pub platform : new.platform ≡ old.platform
   pub digest : new.digest ≡ old.digest
@@ -152,11 +161,14 @@ pub record Lacks (pair : Pair) (which : Which) (old new : CodeSide) : Type 0 whe
 
 -- what an event of a schedule comes to on a side
 abbrev pub outcome_on : Pair → Which → CodeSide → Event → Outcome Digests
-outcome_on pair which side event = plain_on digests_move (instance_on pair which) (side_in side).role (side_in side) event
+outcome_on pair which side event =
+    plain_on digests_move (instance_on pair which) (side_in side).role (side_in side) event
 
--- An event of a schedule happened on a side of a transfer with this header, which is either of the two.
+-- An event of a schedule happened on a side of a transfer with this header, which is either of the
+-- two.
 abbrev pub Follows : Header → Event → CodeSide → CodeSide → Result Reply Memory → Type 0
-Follows header event old new result = (which : Which) → FitsSide (pair_of header) which old → MatchResult result
+Follows header event old new result =
+    (which : Which) → FitsSide (pair_of header) which old → MatchResult result
     (Comes (pair_of header) which old new (outcome_on (pair_of header) which old event))
     (λ _. Lacks (pair_of header) which old new)
 
@@ -169,7 +181,8 @@ pub record IsBare (header : Header) (cell : List ℕ) (side : CodeSide) : Type 0
   pub position : side.position ≡ 0
 
 -- a side at first
-pub record IsNew (pair : Pair) (which : Which) (first : Side Digests) (side : CodeSide) : Type 0 where
-  pub fits : FitsSide pair which side
-  pub stands : side_in side ≡ first
-  pub position : side.position ≡ 0
+pub record IsNew (pair : Pair) (which : Which) (first : Side Digests) (side : CodeSide) : Type 0
+  where
+    pub fits : FitsSide pair which side
+    pub stands : side_in side ≡ first
+    pub position : side.position ≡ 0

@@ -39,43 +39,54 @@ written_by (Ok ready) moved bytes = written_if ready.next moved bytes
 written_by (Err why) moved bytes = bytes
 
 -- what a move answers, by the fault of the step that broke it off, if one did
-abbrev pub ended_as : {A : Type 0} → Option StepFault → Result (Ready A) MoveRefusal → Result A MoveRefusal
+abbrev pub ended_as : {A : Type 0} → Option StepFault → Result (Ready A) MoveRefusal
+    → Result A MoveRefusal
 ended_as (Some fault) found = Err (Core (Device fault))
 ended_as None (Ok ready) = Ok ready.answer
 ended_as None (Err why) = Err why
 
--- The move is over that found this: the cell was written or not, the register took in what others brought, and is empty
--- where power was lost behind.
-pub record Ends {A : Type 0} (i : Instance) (d : Digests) (stop : Stop) (bytes : List ℕ) (found : Result (Ready A) MoveRefusal)
+-- The move is over that found this: the cell was written or not, the register took in what others
+-- brought, and is empty where power was lost behind.
+pub record Ends {A : Type 0} (i : Instance) (d : Digests) (stop : Stop) (bytes : List ℕ)
+    (found : Result (Ready A) MoveRefusal)
     (walked : Walked) (moved : Bool) (new : Standing) (result : Result A MoveRefusal) : Type 0 where
   pub cell : new.cell ≡ Some (written_by found moved bytes)
   pub register : register_reads new
-      ≡ Some (all_made (by_digests i) (all_made (by_digests i) d walked.moves) (stopped_moves stop walked.broken)).register
+      ≡ Some (all_made (by_digests i) (all_made (by_digests i) d walked.moves)
+      (stopped_moves stop walked.broken)).register
   pub quiet : IsQuiet new
   pub says : result ≡ ended_as walked.broken found
 
 -- the move that found this was made under the plan, over a platform with these bytes in its cell
-abbrev pub MakesMove : {A : Type 0} → Instance → Digests → Stop → List Meddle → List ℕ → Result (Ready A) MoveRefusal → Standing
+abbrev pub MakesMove : {A : Type 0} → Instance → Digests → Stop → List Meddle → List ℕ
+    → Result (Ready A) MoveRefusal → Standing
     → Result A MoveRefusal → Type 0
 MakesMove i d stop meddles bytes found new result =
     let fates = (course_of stop meddles).fates in
-    Ends i d stop bytes found (walk fates 1 (Reads ∷ later_steps found)) (is_moved (fates 1).ends (fates 2).ends) new result
+    Ends i d stop bytes found (walk fates 1 (Reads ∷ later_steps found))
+    (is_moved (fates 1).ends (fates 2).ends) new result
 
 -- Memory was wanting: nothing has changed, but that the first step may have been made.
-pub record WantsMemory {A : Type 0} (i : Instance) (d : Digests) (stop : Stop) (meddles : List Meddle) (old new : Standing)
+pub record WantsMemory {A : Type 0} (i : Instance) (d : Digests) (stop : Stop)
+    (meddles : List Meddle) (old new : Standing)
     (result : Result A MoveRefusal) : Type 0 where
   pub says : result ≡ Err (Core Memory)
   pub cell : new.cell ≡ old.cell
   pub register : (register_reads new ≡ Some d.register)
-      ⊎ (register_reads new ≡ Some (all_made (by_digests i) d (walk (course_of stop meddles).fates 1 (Reads ∷ [])).moves).register)
+      ⊎ (register_reads new ≡ Some
+      (all_made (by_digests i) d
+      (walk (course_of stop meddles).fates 1 (Reads ∷ [])).moves).register)
   pub quiet : IsQuiet new
 
 -- A move by what it finds, over a quiet platform that tells its cell and its register.
-abbrev pub MovesPlanned : {A : Type 0} → (List ℕ → Result (Ready A) MoveRefusal) → Stop → List Meddle → Standing → Standing
+abbrev pub MovesPlanned : {A : Type 0} → (List ℕ → Result (Ready A) MoveRefusal) → Stop
+    → List Meddle → Standing → Standing
     → Result A MoveRefusal → Type 0
 MovesPlanned finds stop meddles old new result =
-    (i : Instance) (d : Digests) (bytes : List ℕ) → old.cell ≡ Some bytes → register_reads old ≡ Some d.register → IsQuiet old
-    → MakesMove i d stop meddles bytes (finds bytes) new result ⊎ WantsMemory i d stop meddles old new result
+    (i : Instance) (d : Digests) (bytes : List ℕ) → old.cell ≡ Some bytes
+    → register_reads old ≡ Some d.register → IsQuiet old
+    → MakesMove i d stop meddles bytes (finds bytes) new result
+    ⊎ WantsMemory i d stop meddles old new result
 
 -- whether a move that is stopped so has its effect: its second step has that
 abbrev pub moves_at : Stop → Bool

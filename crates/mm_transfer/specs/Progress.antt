@@ -12,7 +12,8 @@ use Rattle.mm_transfer.specs.Stage.{Running, is_too_much, running_outcome, after
 
 -- what stands, by digests
 abbrev pub running : Progress → Running
-running p = record { header = p.sides.header; both = p.sides.both; events = p.events; read = p.read }
+running p =
+    record { header = p.sides.header; both = p.sides.both; events = p.events; read = p.read }
 
 -- before the first line there is no progress
 abbrev pub transfer_stage : Option Progress → TransferStage
@@ -20,18 +21,22 @@ transfer_stage None = AtHeader
 transfer_stage (Some progress) = InEvents (running progress)
 
 -- The first line was taken, with this answer.
-abbrev pub BeginsTransfer : Result (List ℕ × TransferStage) Refused → Result Progress ReplyFault → Type 0
+abbrev pub BeginsTransfer : Result (List ℕ × TransferStage) Refused → Result Progress ReplyFault
+    → Type 0
 BeginsTransfer answer (Ok progress) = answer ≡ Ok ([], InEvents (running progress))
 BeginsTransfer answer (Err fault.Memory) = Unit {0}
 BeginsTransfer answer (Err (fault.Refused why)) = answer ≡ Err why
 
 -- The event of this line was answered, or it is one too many and nothing has changed.
-abbrev pub AnswersEvent : Running → Running → List ℕ → BothEvent → Result MoveReply ReplyFault → Type 0
+abbrev pub AnswersEvent : Running → Running → List ℕ → BothEvent → Result MoveReply ReplyFault
+    → Type 0
 AnswersEvent old new line event (Ok reply) =
-    (is_too_much old line ≡ false) × (reply ≡ reply_said (running_outcome old event).reply) × (new ≡ after_event old line event)
+    (is_too_much old line ≡ false) × (reply ≡ reply_said (running_outcome old event).reply)
+    × (new ≡ after_event old line event)
 AnswersEvent old new line event (Err fault.Memory) = Unit {0}
 AnswersEvent old new line event (Err (fault.Refused Bad)) = ⊥
-AnswersEvent old new line event (Err (fault.Refused Much)) = (is_too_much old line ≡ true) × (new ≡ old)
+AnswersEvent old new line event (Err (fault.Refused Much)) =
+    (is_too_much old line ≡ true) × (new ≡ old)
 
 -- A line that was refused has changed nothing.
 abbrev pub LeavesIfRefused : {A : Type 0} → Running → Running → Result A ReplyFault → Type 0

@@ -3,7 +3,7 @@ use Rattle.std.specs.Prelude.{◌≡◌, ℕ, Bool, true, false, List, length, O
 use Rattle.mm_seal.specs.Cell.{FitsVariant, cell_spelling, blank_cell}
 use Rattle.mm_model.specs.Instance.{Instance}
 use Rattle.mm_model.specs.Moves.{Digests}
-use Rattle.mm_model.specs.Places.{digest_of}
+use Rattle.mm_model.specs.PlacesWords.{digest_of}
 use Rattle.mm_call.specs.Standing.{cell_at}
 use Rattle.mm_move.specs.declared.accepting.Accepted.{Accepted}
 use Rattle.mm_move.specs.declared.cell.Retired.{Retired}
@@ -40,8 +40,8 @@ retired_at i d nonce = record {
   nonce = nonce;
 }
 
--- the 104 bytes of a side's cell: by its role, and by the digest and the flag where it is live, by the digest where the
--- module has left
+-- the 104 bytes of a side's cell: by its role, and by the digest and the flag where it is live, by
+-- the digest where the module has left
 abbrev pub cell_of_role : Instance → Role → Digests → List ℕ
 cell_of_role i Blank d = blank_cell
 cell_of_role i Live d = cell_spelling (cell_at i d)
@@ -76,8 +76,8 @@ next_if false bytes = Some bytes
 abbrev pub stood : Digests → FoundMove → Digests
 stood d found = if found.again then d else at_after d found.effect
 
--- The answers: an invitation says nothing more; a retirement gives its ticket, sealed under the link's key; an acceptance
--- the snapshot of where the module stands, sealed under the side's.
+-- The answers: an invitation says nothing more; a retirement gives its ticket, sealed under the
+-- link's key; an acceptance the snapshot of where the module stands, sealed under the side's.
 abbrev pub GivesInvited : FoundMove → Invited → Type 0
 GivesInvited found answer = (nonce : List ℕ) × (found.effect ≡ Invites nonce)
 
@@ -92,25 +92,28 @@ GivesTicket link found bytes = GivesTicketBy link found.effect bytes
 abbrev pub GivesEntryBy : Instance → Digests → Effect → Accepted → Type 0
 GivesEntryBy i d (Invites nonce) accepted = ⊥
 GivesEntryBy i d (Leaves ticket) accepted = ⊥
-GivesEntryBy i d (Enters ticket) accepted = accepted ≡ accepted_as i.key (digests_move.says i d ticket.content)
+GivesEntryBy i d (Enters ticket) accepted =
+    accepted ≡ accepted_as i.key (digests_move.says i d ticket.content)
 
 abbrev pub GivesEntry : Instance → Digests → FoundMove → Accepted → Type 0
 GivesEntry i d found accepted = GivesEntryBy i (stood d found) found.effect accepted
 
 -- What is ready is what was found: by the cell that it writes, if any, and by its answer.
-pub record IsReady {A : Type 0} (gives : FoundMove → A → Type 0) (i : Instance) (d : Digests) (ready : Ready A) (found : FoundMove) : Type 0 where
+pub record IsReady {A : Type 0} (gives : FoundMove → A → Type 0) (i : Instance) (d : Digests)
+    (ready : Ready A) (found : FoundMove) : Type 0 where
   pub next : ready.next ≡ next_if found.again (cell_after i d found.effect)
   pub answer : gives found ready.answer
 
 -- what a move finds in the cell is what it finds by the role
-abbrev pub Matches : {A : Type 0} → (FoundMove → A → Type 0) → Instance → Digests → Result (Ready A) MoveRefusal → Result FoundMove MoveCause → Type 0
+abbrev pub Matches : {A : Type 0} → (FoundMove → A → Type 0) → Instance → Digests
+    → Result (Ready A) MoveRefusal → Result FoundMove MoveCause → Type 0
 Matches gives i d (Err why) (Err cause) = why ≡ refusal_of cause
 Matches gives i d (Err why) (Ok found) = ⊥
 Matches gives i d (Ok ready) (Err cause) = ⊥
 Matches gives i d (Ok ready) (Ok found) = IsReady gives i d ready found
 
--- a role with where its side stands: nonces have 32 bytes, and digests where a cell has one; a segment is open on a live side
--- alone, and in Opt
+-- a role with where its side stands: nonces have 32 bytes, and digests where a cell has one; a
+-- segment is open on a live side alone, and in Opt
 abbrev pub FitsRole : Instance → Role → Digests → Type 0
 FitsRole i Blank d = d.flag ≡ false
 FitsRole i Live d = FitsVariant i.variant d.flag i.barrier × (length d.digest ≡ 32)

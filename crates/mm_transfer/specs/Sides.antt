@@ -23,7 +23,8 @@ first_held header = record { header = header; both = first_both (pair_of header)
 abbrev pub outcome_in : BothHeld → BothEvent → BothOutcome Digests ℕ
 outcome_in held event = both_outcome digests_move (pair_of held.header) held.both event
 
--- so few requests, snapshots and tickets that one event more can be counted in 64 bits, and numbered in 32
+-- so few requests, snapshots and tickets that one event more can be counted in 64 bits, and
+-- numbered in 32
 pub record HasRoom (held : BothHeld) : Type 0 where
   pub committed : held.both.committed < 2 ^ 63
   pub first : length held.both.first.issued < 2 ^ 32 - 1

@@ -14,7 +14,8 @@ use Rattle.mm_transfer.specs.Grammar.{first_at, event_at}
 use Rattle.mm_transfer.specs.Pairs.{pair_of}
 use Rattle.mm_transfer.specs.Replies.{reply_said}
 
--- what stands between two events, by digests: the header, both sides, the events answered, and the bytes of their lines
+-- what stands between two events, by digests: the header, both sides, the events answered, and the
+-- bytes of their lines
 pub record Running : Type 0 where
   pub header : Header
   pub both : Both Digests ℕ
@@ -26,11 +27,13 @@ begun header = record { header = header; both = first_both (pair_of header); eve
 
 -- the bytes of the snapshots issued on both sides, and of the tickets
 abbrev pub kept_in : {S A : Type 0} → Both S A → ℕ
-kept_in both = sum_by length both.first.issued + sum_by length both.second.issued + sum_by length both.tickets
+kept_in both =
+    sum_by length both.first.issued + sum_by length both.second.issued + sum_by length both.tickets
 
 -- one event more would be too many, or its line too many bytes
 abbrev pub is_too_much : Running → List ℕ → Bool
-is_too_much r line = nat_le most_events r.events || nat_lt most_kept (r.read + length line + kept_in r.both)
+is_too_much r line =
+    nat_le most_events r.events || nat_lt most_kept (r.read + length line + kept_in r.both)
 
 -- what an event comes to
 abbrev pub running_outcome : Running → BothEvent → BothOutcome Digests ℕ
@@ -38,7 +41,12 @@ running_outcome r event = both_outcome digests_move (pair_of r.header) r.both ev
 
 abbrev pub after_event : Running → List ℕ → BothEvent → Running
 after_event r line event =
-    record r { both = (running_outcome r event).both; events = r.events + 1; read = r.read + length line }
+    record r {
+      both = (running_outcome r event).both;
+      events = r.events + 1;
+      read = r.read + length
+          line;
+    }
 
 -- before the first line, or among the events
 pub data TransferStage : Type 0 where
@@ -55,10 +63,13 @@ abbrev pub running_text : Running → BothEvent → List ℕ
 running_text r event = answer_text event.which (reply_said (running_outcome r event).reply)
 
 -- an event is answered, unless it is one too many
-abbrev pub answered_unless : (much : Bool) → Running → List ℕ → BothEvent → Result (List ℕ × TransferStage) Refused
-answered_unless much r line event = if much then Err Much else Ok (running_text r event, InEvents (after_event r line event))
+abbrev pub answered_unless : (much : Bool) → Running → List ℕ → BothEvent
+    → Result (List ℕ × TransferStage) Refused
+answered_unless much r line event =
+    if much then Err Much else Ok (running_text r event, InEvents (after_event r line event))
 
-abbrev pub event_answer : Running → List ℕ → Option BothEvent → Result (List ℕ × TransferStage) Refused
+abbrev pub event_answer : Running → List ℕ → Option BothEvent
+    → Result (List ℕ × TransferStage) Refused
 event_answer r line None = Err Bad
 event_answer r line (Some event) = answered_unless (is_too_much r line) r line event
 
@@ -69,7 +80,9 @@ transfer_answer (InEvents r) line = event_answer r line (event_at line)
 
 -- the last line, which needs the first one before it
 abbrev pub both_end_line : {S A : Type 0} → Both S A → List ℕ
-both_end_line both = end_line both.committed (length both.first.issued) (length both.second.issued) (length both.tickets)
+both_end_line both =
+    end_line both.committed (length both.first.issued) (length both.second.issued)
+    (length both.tickets)
 
 abbrev pub transfer_closing : TransferStage → Option (List ℕ)
 transfer_closing AtHeader = None

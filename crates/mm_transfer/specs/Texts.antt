@@ -19,7 +19,8 @@ command_in (command.Accept from) = Accept (offer_of from)
 
 -- what happens on a side, by its line
 abbrev pub act_in : ActText → Act
-act_in (text.Ask meddles stop from request) = Plain (Ask (meddles_of meddles) stop (offer_of from) (One request.now))
+act_in (text.Ask meddles stop from request) =
+    Plain (Ask (meddles_of meddles) stop (offer_of from) (One request.now))
 act_in (text.Checkpoint meddles stop) = Plain (Checkpoint (meddles_of meddles) stop)
 act_in text.Power = Plain Power
 act_in (text.Extend value) = Plain (Extend value.bytes)

@@ -50,7 +50,8 @@ in_three size bytes l =
       second = take size after;
       selector = get_or end 0 0;
       whole = sym (take-append-drop size bytes)
-          ∙ ap (λ (r : List ℕ). take size bytes ++ r) (sym (take-append-drop size after) ∙ ap (λ (r : List ℕ). take size after ++ r) (one_item end le));
+          ∙ ap (λ (r : List ℕ). take size bytes ++ r) (sym (take-append-drop size after)
+          ∙ ap (λ (r : List ℕ). take size after ++ r) (one_item end le));
       first_size = length-take-le size bytes (omega (arith, l));
       second_size = length-take-le size after (omega (arith, la));
     }
@@ -90,10 +91,12 @@ put_in_place at front part range rest l m =
 pub put_first : (a b w : List ℕ) (n : ℕ) → length a ≡ cell_length → length w ≡ cell_length → spliced 0 w (three a b n) ≡ three w b n
 put_first a b w n la lw = put_in_place 0 [] w a (b ++ n ∷ []) refl (la ∙ sym lw)
 
-pub put_second : (a b w : List ℕ) (n : ℕ) → length a ≡ cell_length → length b ≡ cell_length → length w ≡ cell_length → spliced cell_length w (three a b n) ≡ three a w n
+pub put_second : (a b w : List ℕ) (n : ℕ) → length a ≡ cell_length → length b ≡ cell_length → length w ≡ cell_length
+    → spliced cell_length w (three a b n) ≡ three a w n
 put_second a b w n la lb lw = put_in_place cell_length a w b (n ∷ []) la (lb ∙ sym lw)
 
-pub put_selector : (a b : List ℕ) (m n : ℕ) → length a ≡ cell_length → length b ≡ cell_length → spliced 208 (m ∷ []) (three a b n) ≡ three a b m
+pub put_selector : (a b : List ℕ) (m n : ℕ) → length a ≡ cell_length → length b ≡ cell_length
+    → spliced 208 (m ∷ []) (three a b n) ≡ three a b m
 put_selector a b m n la lb =
     ap (spliced 208 (m ∷ [])) (sym (append_assoc a b (n ∷ [])))
     ∙ put_in_place 208 (a ++ b) (m ∷ []) (n ∷ []) [] (length-append a b ∙ omega (arith, la, lb)) refl

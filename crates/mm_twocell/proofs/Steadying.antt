@@ -3,7 +3,8 @@ use Rattle.std.proofs.Common.{ℕ, ◌≡◌, Bool, true, List, [], Option, None
 use Rattle.std.specs.Option.{option_map}
 use Rattle.mm_platform.specs.declared.fault.StepFault.{StepFault}
 use Rattle.mm_platform.specs.declared.plan.Stop.TheVariants.{Quiet}
-use Rattle.mm_platform.specs.Standing.{Plan, Standing, next_step, due}
+use Rattle.mm_platform.specs.Standing.{Plan, Standing, next_step}
+use Rattle.mm_platform.specs.StandingWords.{due}
 use Rattle.mm_platform.specs.Steps.{Act, ReadRegister, ResetRegister, ExtendRegister, beside, cell_after, items_after, fault_at, is_made_at, is_on_at, will_answer, will_be_made, will_be_on, will_bring, faults_after, Goes}
 use Rattle.mm_platform.specs.Told.{quiet_plan, next_answer, makes}
 use Rattle.mm_twocell.specs.Torn.{Torn, told_by, whole_bytes, StepsRegister, from_start, IsSteady}
@@ -77,7 +78,8 @@ pub reset_steps : (old new : Standing) (fault : Option StepFault) (bytes : List 
 reset_steps old new fault bytes cycles faults ahead leaves steady g =
     steps_by ResetRegister old new fault bytes cycles faults ahead leaves (λ _ _. refl) steady g
 
-pub extend_steps : (value : List ℕ) (old new : Standing) (fault : Option StepFault) (bytes : List ℕ) (cycles faults ahead : ℕ) (leaves : List ℕ)
+pub extend_steps : (value : List ℕ) (old new : Standing) (fault : Option StepFault) (bytes : List ℕ) (cycles faults ahead : ℕ)
+    (leaves : List ℕ)
     → IsSteady old → Goes (ExtendRegister value) old new fault
     → StepsRegister (ExtendRegister value) (torn_of bytes cycles faults ahead leaves old) (torn_of bytes cycles faults ahead leaves new)
 extend_steps value old new fault bytes cycles faults ahead leaves steady g =

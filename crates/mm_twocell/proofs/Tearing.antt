@@ -37,7 +37,8 @@ part_within : (n : ℕ) (leaves : List ℕ) → length (take n leaves) ≤ n
 part_within n leaves = omega (arith, length-take n leaves)
 
 pub write_fails : (at : ℕ) (bytes : List ℕ) (old mid new : Torn) → at + length bytes ≤ 209 → IsUsable old → will_fail old ≡ true
-    → mid ≡ call_made old → new ≡ put_in at (take (length bytes) mid.leaves) mid → WritesRaw at bytes (told_by old) (told_by new) (Some Failed)
+    → mid ≡ call_made old → new ≡ put_in at (take (length bytes) mid.leaves) mid
+    → WritesRaw at bytes (told_by old) (told_by new) (Some Failed)
 write_fails at bytes old mid new h r w e f =
     let n : ℕ = length bytes in
     let part : List ℕ = take n old.leaves in

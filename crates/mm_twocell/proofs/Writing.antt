@@ -44,25 +44,13 @@ leaves_then old one two a b = record {
 }
 
 -- a read, and another one
-pub reads_then : (old one two : Standing) (fault : Option StepFault) → ReadsRaw old one None → ReadsRaw one two fault → ReadsRaw old two fault
+pub reads_then : (old one two : Standing) (fault : Option StepFault) → ReadsRaw old one None → ReadsRaw one two fault
+    → ReadsRaw old two fault
 reads_then old one two fault a b = record {
   cell = b.cell ∙ a.cell;
   rest = leaves_then old one two a.rest b.rest;
   is_made = b.is_made;
   ends = ends_with fault old one two b.is_made b.is_made a.ends.was_on a.ends.faults (done_made fault one two b.is_made b.ends) b.ends;
-}
-
-unmade : (fault : StepFault) (old new : Standing) (any : Bool) → EndsBy (Some fault) old new any → EndsBy (Some fault) old new false
-unmade Failed old new any e = record { was_on = e.was_on; is_on = e.is_on; faults = e.faults }
-unmade Off old new any e = record { faults = e.faults; still = λ off. (refl, (e.still off).1) }
-
--- the selector could not be read
-pub write_unread : (bytes : List ℕ) (old one : Standing) (fault : StepFault) → ReadsRaw old one (Some fault) → WritesPicked bytes old one (Some fault)
-write_unread bytes old one fault a = record {
-  is_made = false;
-  cell = ap (option_map picked) a.cell;
-  rest = a.rest;
-  ends = unmade fault old one a.is_made a.ends;
 }
 
 -- what was told of the memory and read of its selector
@@ -80,7 +68,8 @@ selector_told : (bytes : List ℕ) (p : InThree cell_length bytes) → slice_ind
 selector_told bytes p =
     ap (λ (b : List ℕ). slice_index b 208) p.whole ∙ selector_of p.first p.second p.selector p.first_size p.second_size
 
-picks : (bytes : List ℕ) (selector other : ℕ) → length bytes ≡ 209 → selector ≡ slice_index bytes 208 → other ≡ 1 - selector % 2 → Picks bytes other
+picks : (bytes : List ℕ) (selector other : ℕ) → length bytes ≡ 209 → selector ≡ slice_index bytes 208 → other ≡ 1 - selector % 2
+    → Picks bytes other
 picks bytes selector other l s o =
     let p = in_three cell_length bytes l in
     let same : selector ≡ p.selector = s ∙ selector_told bytes p in
@@ -94,7 +83,8 @@ picks bytes selector other l s o =
     }
 
 -- a write of the other cell leaves the picked one
-other_left : (bytes w : List ℕ) (other : ℕ) → Picks bytes other → length w ≡ cell_length → picked (spliced (cell_length * other) w bytes) ≡ picked bytes
+other_left : (bytes w : List ℕ) (other : ℕ) → Picks bytes other → length w ≡ cell_length
+    → picked (spliced (cell_length * other) w bytes) ≡ picked bytes
 other_left bytes w other p lw =
     let a : List ℕ = p.parts.first in
     let b : List ℕ = p.parts.second in
@@ -197,7 +187,8 @@ other_below selector other o = elim (parity selector) [
 ]
 
 -- the selector was written, or torn
-pub write_ends : (bytes : List ℕ) (selector other : ℕ) (old one two three : Standing) (fault : Option StepFault) → length bytes ≡ cell_length
+pub write_ends : (bytes : List ℕ) (selector other : ℕ) (old one two three : Standing) (fault : Option StepFault)
+    → length bytes ≡ cell_length
     → IsRead old.cell selector other → ReadsRaw old one None → WritesRaw (cell_length * other) bytes one two None
     → (value : ℕ) → value ≡ other → WritesRaw 208 (value ∷ []) two three fault → WritesPicked bytes old three fault
 write_ends bytes selector other old one two three fault l r a b value same c =
@@ -205,12 +196,14 @@ write_ends bytes selector other old one two three fault l r a b value same c =
     let byte : c.written ≡ m ∷ [] = one_item c.written c.size in
     let cells : three.cell ≡ option_map (spliced 208 (m ∷ [])) (option_map (spliced (cell_length * other) bytes) old.cell) =
     c.cell ∙ ap (λ (w : List ℕ). option_map (spliced 208 w) two.cell) byte
-    ∙ ap (option_map (spliced 208 (m ∷ []))) (b.cell ∙ ap (λ (w : List ℕ). option_map (spliced (cell_length * other) w) one.cell) (b.whole refl)
+    ∙ ap (option_map (spliced 208 (m ∷ [])))
+    (b.cell ∙ ap (λ (w : List ℕ). option_map (spliced (cell_length * other) w) one.cell) (b.whole refl)
     ∙ ap (option_map (spliced (cell_length * other) bytes)) a.cell) in
     record {
       is_made = m % 2 == other;
       cell = ap (option_map picked) cells ∙ told_picks old.cell bytes selector other m r l;
       rest = leaves_then old one three a.rest (leaves_then one two three b.rest c.rest);
       ends = ends_with fault old two three (m % 2 == other) c.is_made a.ends.was_on (b.ends.faults ∙ a.ends.faults)
-          (λ none. ap (λ (w : List ℕ). get_or w 0 0 % 2 == other) (c.whole none) ∙ ap (λ (v : ℕ). v % 2 == other) same ∙ other_below selector other r.other_is) c.ends;
+          (λ none. ap (λ (w : List ℕ). get_or w 0 0 % 2 == other) (c.whole none) ∙ ap (λ (v : ℕ). v % 2 == other) same
+          ∙ other_below selector other r.other_is) c.ends;
     }

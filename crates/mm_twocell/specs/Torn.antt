@@ -7,8 +7,8 @@ use Rattle.mm_platform.specs.Raw.{spliced}
 use Rattle.mm_platform.specs.Steps.{Act}
 use Rattle.mm_platform.specs.Told.{quiet_plan, step_made, AreAlike}
 
--- what stands on it, how many calls of the memory or of power there are up to the one that fails (none at 0), and
--- what that one leaves where it is a write
+-- what stands on it, how many calls of the memory or of power there are up to the one that fails
+-- (none at 0), and what that one leaves where it is a write
 pub record Torn : Type 0 where
   pub standing : Standing
   pub ahead : ℕ
@@ -55,21 +55,33 @@ will_fail it = it.ahead == 1
 -- what stands once such a call was made, before its effect
 abbrev pub call_made : Torn → Torn
 call_made it = record it {
-  standing = record it.standing { faults = if will_fail it then counted it.standing.faults else it.standing.faults };
+  standing =
+      record it.standing {
+        faults = if will_fail it then counted it.standing.faults
+            else it.standing.faults;
+      };
   ahead = it.ahead - 1;
 }
 
 -- what stands once a loss of power was called that fails
 abbrev pub cycle_called : Torn → Torn
-cycle_called it = let now : Torn = call_made it in record now { standing = record now.standing { cycles = counted it.standing.cycles } }
+cycle_called it =
+    let now : Torn = call_made it
+    in record now { standing = record now.standing { cycles = counted it.standing.cycles } }
 
 -- with these bytes in place of those from `at` on
 abbrev pub put_in : ℕ → List ℕ → Torn → Torn
-put_in at part it = record it { standing = record it.standing { cell = option_map (spliced at part) it.standing.cell } }
+put_in at part it =
+    record it {
+      standing = record it.standing
+          { cell = option_map (spliced at part) it.standing.cell };
+    }
 
--- what stands after a write of these bytes: where it fails, what it leaves stands in front of the range, as far as that goes
+-- what stands after a write of these bytes: where it fails, what it leaves stands in front of the
+-- range, as far as that goes
 abbrev pub torn_after : ℕ → List ℕ → Torn → Torn
-torn_after at bytes it = put_in at (if will_fail it then take (length bytes) it.leaves else bytes) (call_made it)
+torn_after at bytes it =
+    put_in at (if will_fail it then take (length bytes) it.leaves else bytes) (call_made it)
 
 -- A step of the register is made: nobody else extends it, and what is to fail stays.
 pub record StepsRegister (act : Act) (old new : Torn) : Type 0 where
@@ -82,4 +94,5 @@ abbrev pub from_start : Plan → Plan
 from_start plan = record plan { at = 0 }
 
 abbrev pub IsSteady : Standing → Type 0
-IsSteady register = (register.is_on ≡ true) × (option_map from_start register.plan ≡ Some quiet_plan)
+IsSteady register =
+    (register.is_on ≡ true) × (option_map from_start register.plan ≡ Some quiet_plan)

@@ -21,9 +21,11 @@ use Rattle.mm_model.specs.declared.answer.BatchAnswer.{BatchAnswer}
 use Rattle.mm_model.specs.declared.refusal.Refusal.{Refusal}
 use Rattle.mm_model.specs.declared.refusal.Refusal.TheVariants as refusal
 use Rattle.mm_call.specs.Levels.{by_digests, all_made}
-use Rattle.mm_call.specs.Found.{Found, found_at, found_unless_wanting, is_fresh}
+use Rattle.mm_call.specs.Found.{Found, found_at}
+use Rattle.mm_call.specs.FoundWords.{found_unless_wanting, is_fresh}
 use Rattle.mm_call.specs.Courses.{End, Done, Fails, Fate, Walked, walk, after_step, commits, seen_in}
-use Rattle.mm_call.specs.Called.{Ending, Answers, Refuses, Breaks, Called, called, called_by, position_of, given_for, ended_by, reading_steps, kept_at}
+use Rattle.mm_call.specs.Called.{Ending, Answers, Refuses, Breaks, Called, called, called_by, position_of, given_for, ended_by, reading_steps}
+use Rattle.mm_call.specs.CalledWords.{kept_at}
 use Rattle.mm_call.specs.Standing.{RegisterAt, StandsAt, shown, counted_by}
 use Rattle.mm_call.specs.Ended.{StaysOn}
 use Rattle.mm_call.specs.Refusals.{fault_of}
@@ -54,7 +56,8 @@ behind variant flag false b = []
 behind Basic flag true b = Writes (Commit b) ∷ []
 behind Opt flag true b = changing flag true b
 
-ask_split : (variant : Variant) (flag fresh : Bool) (b : Batch) → ask_steps variant flag fresh b ≡ reading_steps variant ++ behind variant flag fresh b
+ask_split : (variant : Variant) (flag fresh : Bool) (b : Batch) → ask_steps variant flag fresh b ≡ reading_steps variant
+    ++ behind variant flag fresh b
 ask_split Basic flag false b = refl
 ask_split Basic flag true b = refl
 ask_split Opt true false b = refl
@@ -65,9 +68,11 @@ ask_split Opt false true b = refl
 -- reading steps are all done, or one of them fails: then it doesn't matter what would follow
 data Reading (fates : ℕ → Fate) (n : ℕ) (reads rest : List Step) : Type 0 where
   whole : (walk fates n reads).broken ≡ None → Reading fates n reads rest
-  cut_off : (fault : StepFault) → (walk fates n reads).broken ≡ Some fault → walk fates n (reads ++ rest) ≡ walk fates n reads → Reading fates n reads rest
+  cut_off : (fault : StepFault) → (walk fates n reads).broken ≡ Some fault → walk fates n (reads ++ rest) ≡ walk fates n reads
+      → Reading fates n reads rest
 
-reading_more : (fates : ℕ → Fate) (n : ℕ) (reads rest : List Step) (e : End) → (fates n).ends ≡ e → Reading fates (n + 1) reads rest → Reading fates n (Reads ∷ reads) rest
+reading_more : (fates : ℕ → Fate) (n : ℕ) (reads rest : List Step) (e : End) → (fates n).ends ≡ e → Reading fates (n + 1) reads rest
+    → Reading fates n (Reads ∷ reads) rest
 reading_more fates n reads rest Done e (whole none) =
     whole (ap (λ x. (after_step Reads (fates n).brings x (walk fates (n + 1) reads)).broken) e ∙ none)
 reading_more fates n reads rest Done e (cut_off fault broken same) =
@@ -136,7 +141,8 @@ breaks_more fates n step rest (Fails fault made) f e broken later = record {
   fails = subst (λ k. (fates k).ends ≡ Fails fault made) (omega arith) e;
 }
 
-pub breaks_at : (fates : ℕ → Fate) (n : ℕ) (steps : List Step) (f : StepFault) → (walk fates n steps).broken ≡ Some f → BreaksAt fates n (walk fates n steps)
+pub breaks_at : (fates : ℕ → Fate) (n : ℕ) (steps : List Step) (f : StepFault) → (walk fates n steps).broken ≡ Some f
+    → BreaksAt fates n (walk fates n steps)
 breaks_at fates n [] f broken = cc
 breaks_at fates n (step ∷ steps) f broken =
     breaks_more fates n step (walk fates (n + 1) steps) (fates n).ends f refl broken (λ later. breaks_at fates (n + 1) steps f later)
@@ -144,9 +150,11 @@ breaks_at fates n (step ∷ steps) f broken =
 -- want of memory
 
 -- with nothing left to make but reading steps
-same_broken : (i : Instance) (d seen s : Digests) (b : Batch) (f : Found) (walked : Walked) (fault : StepFault) (broken : Option StepFault) → walked.broken ≡ broken
+same_broken : (i : Instance) (d seen s : Digests) (b : Batch) (f : Found) (walked : Walked) (fault : StepFault) (broken : Option StepFault)
+    → walked.broken ≡ broken
     → broken ≡ Some fault → commits walked.moves ≡ false
-    → ended_by (by_digests i) seen s b (Err refusal.Memory) walked.moves broken ≡ ended_by (by_digests i) seen s b (Ok f) walked.moves broken
+    → ended_by (by_digests i) seen s b (Err refusal.Memory) walked.moves broken ≡ ended_by (by_digests i) seen s b (Ok f) walked.moves
+    broken
 same_broken i d seen s b f walked fault None e known none = cc
 same_broken i d seen s b f walked fault (Some g) e known none =
     ap (λ c. Breaks g (kept_at c 0)) none ∙ sym (ap (λ c. Breaks g (kept_at c (position_of (by_digests i) seen s b (Ok f)))) none)
@@ -158,8 +166,10 @@ pub data Lacking (o o' : Called Digests) : Type 0 where
 abbrev call_of : Instance → Digests → Digests → Batch → Result Found Refusal → Walked → Called Digests
 call_of i d seen b found walked = called_by (by_digests i) d seen b found walked
 
-refuses_by : (i : Instance) (d seen : Digests) (b : Batch) (walked : Walked) (broken : Option StepFault) → walked.broken ≡ broken → broken ≡ None
-    → ended_by (by_digests i) seen (all_made (by_digests i) d walked.moves) b (Err refusal.Memory) walked.moves broken ≡ Refuses refusal.Memory
+refuses_by : (i : Instance) (d seen : Digests) (b : Batch) (walked : Walked) (broken : Option StepFault) → walked.broken ≡ broken
+    → broken ≡ None
+    → ended_by (by_digests i) seen (all_made (by_digests i) d walked.moves) b (Err refusal.Memory) walked.moves broken ≡ Refuses
+    refusal.Memory
 refuses_by i d seen b walked None e none = refl
 refuses_by i d seen b walked (Some f) e none = cc
 
@@ -176,12 +186,15 @@ lacking_found i d seen b fates rest f (cut_off fault broken alike) =
     same ((λ j. record { state = all_made (by_digests i) d w.moves; ending = ends j; moves = w.moves; steps = w.steps; writes = w.writes })
     ∙ ap (call_of i d seen b (Ok f)) (sym alike))
 
-read_only : (variant : Variant) (flag : Bool) (b : Batch) (fates : ℕ → Fate) → walk fates 1 (ask_steps variant flag false b) ≡ walk fates 1 (reading_steps variant)
+read_only : (variant : Variant) (flag : Bool) (b : Batch) (fates : ℕ → Fate)
+    → walk fates 1 (ask_steps variant flag false b) ≡ walk fates 1 (reading_steps variant)
 read_only variant flag b fates = ap (walk fates 1) (ask_split variant flag false b ∙ append-nil (reading_steps variant))
 
 lacking : (i : Instance) (d seen : Digests) (b : Batch) (fates : ℕ → Fate) (found : Result Found Refusal)
-    → Lacking (call_of i d seen b (found_unless_wanting found true) (walk fates 1 (ask_steps i.variant d.flag (is_fresh (found_unless_wanting found true)) b)))
-    (call_of i d seen b (found_unless_wanting found false) (walk fates 1 (ask_steps i.variant d.flag (is_fresh (found_unless_wanting found false)) b)))
+    → Lacking (call_of i d seen b (found_unless_wanting found true)
+    (walk fates 1 (ask_steps i.variant d.flag (is_fresh (found_unless_wanting found true)) b)))
+    (call_of i d seen b (found_unless_wanting found false)
+    (walk fates 1 (ask_steps i.variant d.flag (is_fresh (found_unless_wanting found false)) b)))
 lacking i d seen b fates (Err why) = same refl
 lacking i d seen b fates (Ok f) =
     let fresh = is_fresh (Ok f) in
@@ -193,7 +206,8 @@ lacking i d seen b fates (Ok f) =
 
 -- a call on a course is refused for want of memory, or is the call with memory at hand
 pub lacks_or_same : (i : Instance) (d : Digests) (fates : ℕ → Fate) (lacks : Bool) (bytes : List ℕ) (b : Batch)
-    → Lacking (called i (by_digests i) d (record { fates = fates; lacks = lacks }) bytes b) (called i (by_digests i) d (record { fates = fates; lacks = false }) bytes b)
+    → Lacking (called i (by_digests i) d (record { fates = fates; lacks = lacks }) bytes b)
+    (called i (by_digests i) d (record { fates = fates; lacks = false }) bytes b)
 lacks_or_same i d fates false bytes b = same refl
 lacks_or_same i d fates true bytes b =
     let seen = all_made (by_digests i) d (seen_in fates (reading_steps i.variant) 1) in
@@ -206,7 +220,8 @@ pub record HasRead (i : Instance) (d : Digests) (fates : ℕ → Fate) (o : Call
   pub steps : o.steps ≡ length (reading_steps i.variant)
   pub writes : o.writes ≡ 0
 
-unbroken : (i : Instance) (d seen s : Digests) (b : Batch) (found : Result Found Refusal) (why : Refusal) (moves : List Move) (broken : Option StepFault)
+unbroken : (i : Instance) (d seen s : Digests) (b : Batch) (found : Result Found Refusal) (why : Refusal) (moves : List Move)
+    (broken : Option StepFault)
     → ended_by (by_digests i) seen s b found moves broken ≡ Refuses why → (broken ≡ None) × (is_fresh found ≡ false)
 unbroken i d seen s b (Err w) why moves None e = (refl, refl)
 unbroken i d seen s b (Ok f) why moves None e = cc
@@ -214,11 +229,13 @@ unbroken i d seen s b (Err w) why moves (Some fault) e = cc
 unbroken i d seen s b (Ok f) why moves (Some fault) e = cc
 
 pub refused_read : (i : Instance) (d seen : Digests) (b : Batch) (fates : ℕ → Fate) (found : Result Found Refusal) (why : Refusal)
-    → (let o = call_of i d seen b found (walk fates 1 (ask_steps i.variant d.flag (is_fresh found) b)) in o.ending ≡ Refuses why → HasRead i d fates o)
+    → (let o = call_of i d seen b found (walk fates 1 (ask_steps i.variant d.flag (is_fresh found) b)) in o.ending ≡ Refuses why
+    → HasRead i d fates o)
 refused_read i d seen b fates found why e =
     let w = walk fates 1 (ask_steps i.variant d.flag (is_fresh found) b) in
     let u = unbroken i d seen (all_made (by_digests i) d w.moves) b found why w.moves w.broken e in
-    let is : w ≡ walk fates 1 (reading_steps i.variant) = ap (λ x. walk fates 1 (ask_steps i.variant d.flag x b)) u.1 ∙ read_only i.variant d.flag b fates in
+    let is : w ≡ walk fates 1 (reading_steps i.variant) = ap (λ x. walk fates 1 (ask_steps i.variant d.flag x b)) u.1
+    ∙ read_only i.variant d.flag b fates in
     let r = all_read fates 1 (reading_steps i.variant) (reading_reads i.variant) (ap (λ (x : Walked). x.broken) (sym is) ∙ u.0) in record {
       state = ap (λ (x : Walked). all_made (by_digests i) d x.moves) is ∙ ap (all_made (by_digests i) d) r.moves;
       steps = ap (λ (x : Walked). x.steps) is ∙ r.steps;
@@ -240,7 +257,8 @@ told_err (Breaks fault kept) why e none =
 
 -- the outcome, on the platform
 
-pub register_at : (variant : Variant) (reads : Option (List ℕ)) (register : List ℕ) → reads ≡ Some register → RegisterAt variant reads register
+pub register_at : (variant : Variant) (reads : Option (List ℕ)) (register : List ℕ) → reads ≡ Some register
+    → RegisterAt variant reads register
 register_at Basic reads register e = tt
 register_at Opt reads register e = e
 
@@ -275,12 +293,20 @@ pub stands_settled : (i : Instance) (d : Digests) (mid new : Standing) (lost : B
     → new.items ≡ items_cycled lost mid.items → Stands i new (all_made (by_digests i) d (power_if lost))
 stands_settled i d mid new false s cell items =
     let r : register_reads new ≡ Some d.register = ap (λ x. option_map (λ xs. register_after (item_values xs)) x) items ∙ s.register in
-    record { at = record { spells = s.at.spells; cell = cell ∙ s.at.cell; reads = register_at i.variant (register_reads new) d.register r }; register = r }
+    record {
+      at = record { spells = s.at.spells; cell = cell ∙ s.at.cell; reads = register_at i.variant (register_reads new) d.register r };
+      register = r;
+    }
 stands_settled i d mid new true s cell items =
-    let r : register_reads new ≡ Some zero_bytes = ap (λ x. option_map (λ xs. register_after (item_values xs)) x) items ∙ reads_none mid.items d.register s.register in
-    record { at = record { spells = s.at.spells; cell = cell ∙ s.at.cell; reads = register_at i.variant (register_reads new) zero_bytes r }; register = r }
+    let r : register_reads new ≡ Some zero_bytes = ap (λ x. option_map (λ xs. register_after (item_values xs)) x) items
+    ∙ reads_none mid.items d.register s.register in
+    record {
+      at = record { spells = s.at.spells; cell = cell ∙ s.at.cell; reads = register_at i.variant (register_reads new) zero_bytes r };
+      register = r;
+    }
 
-pub on_settled : (stop : Stop) (broken : Bool) (mid new : Standing) → StaysOn stop broken mid → new.is_on ≡ (if broken && is_cut stop then true else mid.is_on) → new.is_on ≡ true
+pub on_settled : (stop : Stop) (broken : Bool) (mid new : Standing) → StaysOn stop broken mid
+    → new.is_on ≡ (if broken && is_cut stop then true else mid.is_on) → new.is_on ≡ true
 on_settled (Cut n) true mid new stays e = e
 on_settled (Cut n) false mid new stays e = e ∙ stays
 on_settled Quiet true mid new stays e = e ∙ stays
@@ -301,12 +327,15 @@ power_count i d true = refl
 power_count i d false = refl
 
 -- what the register reads after the moves that it showed
-pub came_register : (i : Instance) (d : Digests) (o : Called Digests) (planned_at mid : Standing) → mid.items ≡ option_map (shown i d o.moves) planned_at.items
+pub came_register : (i : Instance) (d : Digests) (o : Called Digests) (planned_at mid : Standing)
+    → mid.items ≡ option_map (shown i d o.moves) planned_at.items
     → o.state ≡ all_made (by_digests i) d o.moves → register_reads planned_at ≡ Some d.register → register_reads mid ≡ Some o.state.register
 came_register i d o planned_at mid items state register =
-    ap (λ x. option_map (λ xs. register_after (item_values xs)) x) items ∙ reads_shown i o.moves d planned_at.items register ∙ ap (λ (e : Digests). Some e.register) (sym state)
+    ap (λ x. option_map (λ xs. register_after (item_values xs)) x) items ∙ reads_shown i o.moves d planned_at.items register
+    ∙ ap (λ (e : Digests). Some e.register) (sym state)
 
-pub came : (i : Instance) (d : Digests) (stop : Stop) (issued : List (List ℕ)) (size : ℕ) (o : Called Digests) (old planned_at mid new : Standing) (it : code.Called)
+pub came : (i : Instance) (d : Digests) (stop : Stop) (issued : List (List ℕ)) (size : ℕ) (o : Called Digests)
+    (old planned_at mid new : Standing) (it : code.Called)
     → StandsAt i mid o.state → mid.items ≡ option_map (shown i d o.moves) planned_at.items → o.state ≡ all_made (by_digests i) d o.moves
     → mid.steps ≡ counted_by o.steps planned_at.steps → mid.writes ≡ counted_by o.writes planned_at.writes
     → planned_at.steps ≡ old.steps → planned_at.writes ≡ old.writes → register_reads planned_at ≡ Some d.register
@@ -322,7 +351,8 @@ came i d stop issued size o old planned_at mid new it stands items state steps w
     record {
       reply = tells.reply;
       issues = ap (λ x. issued ++ x) tells.snapshot;
-      stands = subst P (sym power) (stands_settled i o.state mid new lost (record { at = stands; register = read }) settles.cell settles.items);
+      stands =
+          subst P (sym power) (stands_settled i o.state mid new lost (record { at = stands; register = read }) settles.cell settles.items);
       counts = subst C (sym power) (power_count i o.state lost ∙ counts ∙ ap (λ n. d.count + n) (sym tells.committed));
       quiet = record { is_on = on_settled stop (breaks o.ending) mid new stays settles.is_on; plan = settles.plan };
       steps = settles.steps ∙ steps ∙ ap (counted_by o.steps) s;

@@ -24,14 +24,17 @@ use Rattle.mm_opt.specs.declared.segment.Checkpointed.{Checkpointed as Said}
 use Rattle.mm_opt.specs.declared.segment.CheckpointRefusal.{CheckpointRefusal}
 use Rattle.mm_opt.specs.ChecksOn.{closing_told, ChecksBy, ChecksOn}
 use Rattle.mm_call.specs.Levels.{by_digests, all_made}
-use Rattle.mm_call.specs.Courses.{End, Done, Fails, Fate, Walked, walk, after_step, end_of, planned, made_move, closes}
+use Rattle.mm_call.specs.Courses.{End, Done, Fails, Fate, Walked, walk, after_step, planned, closes}
+use Rattle.mm_call.specs.CoursesWords.{end_of, made_move}
 use Rattle.mm_call.specs.Called.{seen_at}
-use Rattle.mm_call.specs.Checkpoints.{closing_of, closed_by, checkpointed}
+use Rattle.mm_call.specs.Checkpoints.{closing_of, checkpointed}
+use Rattle.mm_call.specs.CheckpointsWords.{closed_by}
 use Rattle.mm_call.specs.Standing.{instance_by, StandsAt}
 use Rattle.mm_call.specs.Ended.{StaysOn}
 use Rattle.mm_call.proofs.Along.{closes-foreign, closes_first, checkpoint_none}
 use Rattle.mm_schedule.specs.declared.reply.Reply.{Reply}
-use Rattle.mm_run.specs.Folds.{way_of, plan_of, course_of, stopped_reply, closing_reply, closing_then, closed_outcome}
+use Rattle.mm_run.specs.Folds.{way_of, course_of, closing_reply, closing_then, closed_outcome}
+use Rattle.mm_run.specs.FoldsWords.{plan_of, stopped_reply}
 use Rattle.mm_world.specs.Stands.{Stands}
 use Rattle.mm_world.specs.Calls.{takes_effect, is_cut, SettlesPlan, stopped_step, closes_at, told_closing, stops_in}
 use Rattle.mm_world.specs.Asks.{Came, ChecksAs, quiet_as}
@@ -43,17 +46,22 @@ pub record StoppedAt (stop : Stop) (n : ℕ) (made : Bool) : Type 0 where
   pub number : stopped_step stop ≡ n
   pub effect : made ≡ takes_effect stop
 
-stopped_off : (stop : Stop) (at n : ℕ) (here : Bool) (fault : StepFault) (made : Bool) → (at == n) ≡ here → stopped_step stop ≡ at → takes_effect stop ≡ true
+stopped_off : (stop : Stop) (at n : ℕ) (here : Bool) (fault : StepFault) (made : Bool) → (at == n) ≡ here → stopped_step stop ≡ at
+    → takes_effect stop ≡ true
     → end_of (if here then Some step.Off else None) true ≡ Fails fault made → StoppedAt stop n made
-stopped_off stop at n true fault made here number effect e = record { number = number ∙ eqb-true at n here; effect = (let x : true ≡ made = cc in sym x ∙ sym effect) }
+stopped_off stop at n true fault made here number effect e =
+    record { number = number ∙ eqb-true at n here; effect = (let x : true ≡ made = cc in sym x ∙ sym effect) }
 stopped_off stop at n false fault made here number effect e = cc
 
-stopped_failed : (stop : Stop) (at n : ℕ) (here done : Bool) (fault : StepFault) (made : Bool) → (at == n) ≡ here → stopped_step stop ≡ at → takes_effect stop ≡ done
+stopped_failed : (stop : Stop) (at n : ℕ) (here done : Bool) (fault : StepFault) (made : Bool) → (at == n) ≡ here → stopped_step stop ≡ at
+    → takes_effect stop ≡ done
     → end_of (if here then Some step.Failed else None) (if here then done else true) ≡ Fails fault made → StoppedAt stop n made
-stopped_failed stop at n true done fault made here number effect e = record { number = number ∙ eqb-true at n here; effect = (let x : done ≡ made = cc in sym x ∙ sym effect) }
+stopped_failed stop at n true done fault made here number effect e =
+    record { number = number ∙ eqb-true at n here; effect = (let x : done ≡ made = cc in sym x ∙ sym effect) }
 stopped_failed stop at n false done fault made here number effect e = cc
 
-pub stopped_at : (stop : Stop) (n : ℕ) (fault : StepFault) (made : Bool) → end_of (fault_at stop n) (is_made_at stop n) ≡ Fails fault made → StoppedAt stop n made
+pub stopped_at : (stop : Stop) (n : ℕ) (fault : StepFault) (made : Bool) → end_of (fault_at stop n) (is_made_at stop n) ≡ Fails fault made
+    → StoppedAt stop n made
 stopped_at Quiet n fault made e = cc
 stopped_at (Cut at) n fault made e = stopped_off (Cut at) at n (at == n) fault made refl refl refl e
 stopped_at (Drop at) n fault made e = stopped_off (Drop at) at n (at == n) fault made refl refl refl e
@@ -69,7 +77,8 @@ abbrev Planned : (ℕ → Fate) → Stop → Type 0
 Planned fates stop = (n : ℕ) → (fates n).ends ≡ end_of (fault_at stop n) (is_made_at stop n)
 
 -- a reading step, before a walk of which this holds
-read_closes : (fates : ℕ → Fate) (stop : Stop) (n : ℕ) (values : List (List ℕ)) (e : End) (rest : Walked) (fault : StepFault) → e ≡ end_of (fault_at stop n) (is_made_at stop n) → (n == 3) ≡ false
+read_closes : (fates : ℕ → Fate) (stop : Stop) (n : ℕ) (values : List (List ℕ)) (e : End) (rest : Walked) (fault : StepFault)
+    → e ≡ end_of (fault_at stop n) (is_made_at stop n) → (n == 3) ≡ false
     → (after_step Reads values e rest).broken ≡ Some fault → (rest.broken ≡ Some fault → closes rest.moves ≡ closes_at stop)
     → closes (after_step Reads values e rest).moves ≡ closes_at stop
 read_closes fates stop n values Done rest fault ends other broken later = closes_first values rest.moves ∙ later broken
@@ -78,8 +87,10 @@ read_closes fates stop n values (Fails f made) rest fault ends other broken late
     closes-foreign values ∙ sym (ap (λ k. (k == 3) && takes_effect stop) at.number ∙ ap (λ x. x && takes_effect stop) other)
 
 -- the step that closes
-write_closes : (stop : Stop) (values : List (List ℕ)) (e : End) (rest : Walked) (fault : StepFault) → e ≡ end_of (fault_at stop 3) (is_made_at stop 3) → rest.broken ≡ None
-    → (after_step (Writes Close) values e rest).broken ≡ Some fault → closes (after_step (Writes Close) values e rest).moves ≡ closes_at stop
+write_closes : (stop : Stop) (values : List (List ℕ)) (e : End) (rest : Walked) (fault : StepFault)
+    → e ≡ end_of (fault_at stop 3) (is_made_at stop 3) → rest.broken ≡ None
+    → (after_step (Writes Close) values e rest).broken ≡ Some fault
+    → closes (after_step (Writes Close) values e rest).moves ≡ closes_at stop
 write_closes stop values Done rest fault ends none broken = cc
 write_closes stop values (Fails f made) rest fault ends none broken =
     let at = stopped_at stop 3 f made (sym ends) in
@@ -92,12 +103,15 @@ closes_planned : (fates : ℕ → Fate) (stop : Stop) (variant : Variant) (is_op
     → (walk fates 1 (checkpoint_steps variant is_open is_lost)).broken ≡ Some fault
     → closes (walk fates 1 (checkpoint_steps variant is_open is_lost)).moves ≡ closes_at stop
 closes_planned fates stop Basic is_open is_lost fault told broken =
-    read_closes fates stop 1 (fates 1).brings (fates 1).ends (walk fates 2 []) fault (told 1) refl broken (nothing_more None fault stop refl)
+    read_closes fates stop 1 (fates 1).brings (fates 1).ends (walk fates 2 []) fault (told 1) refl broken
+    (nothing_more None fault stop refl)
 closes_planned fates stop Opt false is_lost fault told broken =
-    read_closes fates stop 1 (fates 1).brings (fates 1).ends (walk fates 2 []) fault (told 1) refl broken (nothing_more None fault stop refl)
+    read_closes fates stop 1 (fates 1).brings (fates 1).ends (walk fates 2 []) fault (told 1) refl broken
+    (nothing_more None fault stop refl)
 closes_planned fates stop Opt true true fault told broken =
     read_closes fates stop 1 (fates 1).brings (fates 1).ends (walk fates 2 (Reads ∷ [])) fault (told 1) refl broken (λ later.
-    read_closes fates stop 2 (fates 2).brings (fates 2).ends (walk fates 3 []) fault (told 2) refl later (nothing_more None fault stop refl))
+    read_closes fates stop 2 (fates 2).brings (fates 2).ends (walk fates 3 []) fault (told 2) refl later
+    (nothing_more None fault stop refl))
 closes_planned fates stop Opt true false fault told broken =
     read_closes fates stop 1 (fates 1).brings (fates 1).ends (walk fates 2 (Reads ∷ Writes Close ∷ [])) fault (told 1) refl broken (λ later.
     read_closes fates stop 2 (fates 2).brings (fates 2).ends (walk fates 3 (Writes Close ∷ [])) fault (told 2) refl later (λ last.
@@ -105,8 +119,10 @@ closes_planned fates stop Opt true false fault told broken =
 
 -- what is told
 
-closing_said : (stop : Stop) (variant : Variant) (is_open is_lost closed : Bool) (broken : Option StepFault) (result : Result Said CheckpointRefusal)
-    → result ≡ closing_told (closed_by broken closed (closing_of variant is_open is_lost)) → ((fault : StepFault) → broken ≡ Some fault → closed ≡ closes_at stop)
+closing_said : (stop : Stop) (variant : Variant) (is_open is_lost closed : Bool) (broken : Option StepFault)
+    (result : Result Said CheckpointRefusal)
+    → result ≡ closing_told (closed_by broken closed (closing_of variant is_open is_lost))
+    → ((fault : StepFault) → broken ≡ Some fault → closed ≡ closes_at stop)
     → told_closing stop result ≡ closing_reply (way_of stop) (closed_by broken closed (closing_of variant is_open is_lost))
 closing_said stop variant is_open is_lost closed (Some fault) result e known =
     ap (told_closing stop) e ∙ ap (stopped_reply (way_of stop)) (sym (known fault refl))
@@ -118,17 +134,20 @@ closing_said stop Opt true false closed None result e known = ap (told_closing s
 stops_said : (variant : Variant) (is_open is_lost closed : Bool) (broken : Option StepFault) (result : Result Said CheckpointRefusal)
     → result ≡ closing_told (closed_by broken closed (closing_of variant is_open is_lost)) → (stop : Stop)
     → closing_then stop (closed_by broken closed (closing_of variant is_open is_lost)) ≡ power_if (stops_in result && is_cut stop)
-stops_said variant is_open is_lost closed (Some fault) result e stop = stop_power stop ∙ sym (ap (λ x. power_if (stops_in x && is_cut stop)) e)
+stops_said variant is_open is_lost closed (Some fault) result e stop =
+    stop_power stop ∙ sym (ap (λ x. power_if (stops_in x && is_cut stop)) e)
 stops_said Basic is_open is_lost closed None result e stop = sym (ap (λ x. power_if (stops_in x && is_cut stop)) e)
 stops_said Opt false is_lost closed None result e stop = sym (ap (λ x. power_if (stops_in x && is_cut stop)) e)
 stops_said Opt true true closed None result e stop = sym (ap (λ x. power_if (stops_in x && is_cut stop)) e)
 stops_said Opt true false closed None result e stop = sym (ap (λ x. power_if (stops_in x && is_cut stop)) e)
 
 -- a checkpoint on the planned course
-closed_came : (i : Instance) (d : Digests) (stop : Stop) (meddles : List Meddle) (old mid new : Standing) (result : Result Said CheckpointRefusal) (issued : List (List ℕ))
+closed_came : (i : Instance) (d : Digests) (stop : Stop) (meddles : List Meddle) (old mid new : Standing)
+    (result : Result Said CheckpointRefusal) (issued : List (List ℕ))
     → ChecksBy i d (checkpointed i (by_digests i) d (course_of stop meddles)) (record old { plan = Some (plan_of stop meddles) }) mid result
     → register_reads old ≡ Some d.register → SettlesPlan stop (stops_in result) mid new → StaysOn stop (stops_in result) mid
-    → Came i (closed_outcome (by_digests i) stop issued (checkpointed i (by_digests i) d (course_of stop meddles))) d.count issued old new (quiet_as (told_closing stop result))
+    → Came i (closed_outcome (by_digests i) stop issued (checkpointed i (by_digests i) d (course_of stop meddles))) d.count issued old new
+    (quiet_as (told_closing stop result))
 closed_came i d stop meddles old mid new result issued goes register settles stays =
     let c = course_of stop meddles in
     let is_lost = (by_digests i).is_lost (seen_at i (by_digests i) d c) in
@@ -144,8 +163,12 @@ closed_came i d stop meddles old mid new result issued goes register settles sta
       reply = closing_said stop i.variant d.flag is_lost (closes w.moves) w.broken result goes.gives
           (λ fault broken. closes_planned c.fates stop i.variant d.flag is_lost fault (λ n. refl) broken);
       issues = append-nil issued;
-      stands = subst P (sym power) (stands_settled i o.state mid new lost (record { at = goes.stands; register = read }) settles.cell settles.items);
-      counts = subst C (sym power) (power_count i o.state lost ∙ count_none i w.moves d (checkpoint_none i.variant d.flag is_lost c.fates) ∙ omega arith);
+      stands =
+          subst P (sym power) (stands_settled i o.state mid new lost (record { at = goes.stands; register = read }) settles.cell
+          settles.items);
+      counts =
+          subst C (sym power) (power_count i o.state lost ∙ count_none i w.moves d (checkpoint_none i.variant d.flag is_lost c.fates)
+          ∙ omega arith);
       quiet = record { is_on = on_settled stop (stops_in result) mid new stays settles.is_on; plan = settles.plan };
       steps = settles.steps ∙ goes.steps;
       writes = settles.writes ∙ goes.writes;
@@ -154,7 +177,8 @@ closed_came i d stop meddles old mid new result issued goes register settles sta
 -- a checkpoint over a planned platform
 pub checks_planned : (old mid new : Standing) (meddles : List Meddle) (stop : Stop) (result : Result Said CheckpointRefusal)
     → ChecksOn (record old { plan = Some (plan_of stop meddles) }) mid result → SettlesPlan stop (stops_in result) mid new
-    → (variant : Variant) (meaning : Meaning) (issued : List (List ℕ)) → ChecksAs variant meaning old new issued meddles stop (Ok (told_closing stop result))
+    → (variant : Variant) (meaning : Meaning) (issued : List (List ℕ))
+    → ChecksAs variant meaning old new issued meddles stop (Ok (told_closing stop result))
 checks_planned old mid new meddles stop result checks settles variant meaning issued = λ key barrier d s q.
     let i = instance_by variant meaning key barrier in
     let at : Standing = record old { plan = Some (plan_of stop meddles) } in
@@ -162,7 +186,8 @@ checks_planned old mid new meddles stop result checks settles variant meaning is
     let stays = checks.plans (plan_of stop meddles) q.is_on refl refl in
     let told = checks.tells (plan_of stop meddles) q.is_on refl refl in
     let goes : ChecksBy i d (checkpointed i (by_digests i) d (course_of stop meddles)) at mid result =
-    subst (λ (f : ℕ → Fate). ChecksBy i d (checkpointed i (by_digests i) d (record { fates = f; lacks = false })) at mid result) (λ j. λ n. told n j)
+    subst (λ (f : ℕ → Fate). ChecksBy i d (checkpointed i (by_digests i) d (record { fates = f; lacks = false })) at mid result)
+    (λ j. λ n. told n j)
     (checks.goes variant meaning key barrier d stands) in
     closed_came i d stop meddles old mid new result issued goes s.register settles stays.0
 
@@ -171,7 +196,8 @@ pub checks_wanting : (old new : Standing) (meddles : List Meddle) (stop : Stop) 
 checks_wanting old new meddles stop memory e variant meaning issued = λ key barrier d s q. e
 
 -- the same, in the words of the code
-pub checks_over : (old planned_at mid new : Standing) (meddles : List Meddle) (stop : Stop) (broken : Bool) (said : Reply) (result : Result Said CheckpointRefusal)
+pub checks_over : (old planned_at mid new : Standing) (meddles : List Meddle) (stop : Stop) (broken : Bool) (said : Reply)
+    (result : Result Said CheckpointRefusal)
     → planned_at ≡ record old { plan = Some (plan_of stop meddles) } → ChecksOn planned_at mid result → broken ≡ stops_in result
     → SettlesPlan stop broken mid new → said ≡ told_closing stop result
     → (variant : Variant) (meaning : Meaning) (issued : List (List ℕ)) → ChecksAs variant meaning old new issued meddles stop (Ok said)

@@ -18,9 +18,11 @@ use Rattle.mm_model.specs.History.{Move, Commit, Foreign, Placed, Reset, Close, 
 use Rattle.mm_model.specs.Moves.{Digests, made, committing}
 use Rattle.mm_model.specs.declared.refusal.Refusal.{Refusal}
 use Rattle.mm_call.specs.Levels.{by_digests, all_made}
-use Rattle.mm_call.specs.Found.{Found, is_fresh}
+use Rattle.mm_call.specs.Found.{Found}
+use Rattle.mm_call.specs.FoundWords.{is_fresh}
 use Rattle.mm_call.specs.Courses.{Walked, commits}
-use Rattle.mm_call.specs.Called.{Ending, Answers, Refuses, Breaks, position_of, kept_at, ended_by}
+use Rattle.mm_call.specs.Called.{Ending, Answers, Refuses, Breaks, position_of, ended_by}
+use Rattle.mm_call.specs.CalledWords.{kept_at}
 use Rattle.mm_call.specs.Standing.{shown_by, shown}
 use Rattle.mm_call.proofs.Endings.{again_of, fresh_of}
 use Rattle.mm_call.proofs.Moving.{committed_in}
@@ -32,12 +34,14 @@ abbrev sizes : List Batch → ℕ
 sizes [] = 0
 sizes (b ∷ bs) = size_of b + sizes bs
 
-committing_count : (variant : Variant) (flag : Bool) (i : Instance) (d : Digests) (b : Batch) → (committing variant flag i d b).count ≡ d.count + size_of b
+committing_count : (variant : Variant) (flag : Bool) (i : Instance) (d : Digests) (b : Batch)
+    → (committing variant flag i d b).count ≡ d.count + size_of b
 committing_count Basic flag i d b = refl
 committing_count Opt true i d b = refl
 committing_count Opt false i d b = refl
 
-counted_moves : (i : Instance) (moves : List Move) (d : Digests) → (all_made (by_digests i) d moves).count ≡ d.count + sizes (committed_in moves)
+counted_moves : (i : Instance) (moves : List Move) (d : Digests)
+    → (all_made (by_digests i) d moves).count ≡ d.count + sizes (committed_in moves)
 counted_moves i [] d = omega arith
 counted_moves i (Commit b ∷ moves) d = omega (arith, counted_moves i moves (made i d (Commit b)), committing_count i.variant d.flag i d b)
 counted_moves i (Foreign v ∷ moves) d = counted_moves i moves (made i d (Foreign v))
@@ -46,10 +50,12 @@ counted_moves i (Reset ∷ moves) d = counted_moves i moves (made i d Reset)
 counted_moves i (Close ∷ moves) d = counted_moves i moves (made i d Close)
 counted_moves i (Power ∷ moves) d = counted_moves i moves (made i d Power)
 
-pub count_none : (i : Instance) (moves : List Move) (d : Digests) → committed_in moves ≡ [] → (all_made (by_digests i) d moves).count ≡ d.count
+pub count_none : (i : Instance) (moves : List Move) (d : Digests) → committed_in moves ≡ []
+    → (all_made (by_digests i) d moves).count ≡ d.count
 count_none i moves d e = counted_moves i moves d ∙ ap (λ bs. d.count + sizes bs) e ∙ omega arith
 
-pub count_one : (i : Instance) (moves : List Move) (d : Digests) (b : Batch) → committed_in moves ≡ b ∷ [] → (all_made (by_digests i) d moves).count ≡ d.count + size_of b
+pub count_one : (i : Instance) (moves : List Move) (d : Digests) (b : Batch) → committed_in moves ≡ b ∷ []
+    → (all_made (by_digests i) d moves).count ≡ d.count + size_of b
 count_one i moves d b e = counted_moves i moves d ∙ ap (λ bs. d.count + sizes bs) e ∙ omega arith
 
 -- how many requests a call commits, by how it ended
@@ -75,18 +81,22 @@ told_again : (again : Bool) (n : ℕ) → again ≡ true → (if again then 0 el
 told_again true n e = refl
 told_again false n e = cc
 
-pub counted_end : (i : Instance) (d seen : Digests) (b : Batch) (found : Result Found Refusal) (walked : Walked) (broken : Option StepFault) → walked.broken ≡ broken
+pub counted_end : (i : Instance) (d seen : Digests) (b : Batch) (found : Result Found Refusal) (walked : Walked) (broken : Option StepFault)
+    → walked.broken ≡ broken
     → Commits b (is_fresh found) walked
     → (all_made (by_digests i) d walked.moves).count
     ≡ d.count + committed_by (ended_by (by_digests i) seen (all_made (by_digests i) d walked.moves) b found walked.moves broken) (size_of b)
 counted_end i d seen b (Err why) walked (Some fault) e (nothing none unless) =
-    let k = kept_none (commits walked.moves) 0 (size_of b) (commits-none walked.moves none) in omega (arith, count_none i walked.moves d none, k)
+    let k = kept_none (commits walked.moves) 0 (size_of b) (commits-none walked.moves none)
+    in omega (arith, count_none i walked.moves d none, k)
 counted_end i d seen b (Err why) walked None e (nothing none unless) = omega (arith, count_none i walked.moves d none)
 counted_end i d seen b (Err why) walked broken e (batch one fresh) = cc
 counted_end i d seen b (Ok f) walked (Some fault) e (nothing none unless) =
-    let k = kept_none (commits walked.moves) (position_of (by_digests i) seen (all_made (by_digests i) d walked.moves) b (Ok f)) (size_of b) (commits-none walked.moves none) in omega (arith, count_none i walked.moves d none, k)
+    let k = kept_none (commits walked.moves) (position_of (by_digests i) seen (all_made (by_digests i) d walked.moves) b (Ok f)) (size_of b)
+    (commits-none walked.moves none) in omega (arith, count_none i walked.moves d none, k)
 counted_end i d seen b (Ok f) walked (Some fault) e (batch one fresh) =
-    let k = kept_some (commits walked.moves) (position_of (by_digests i) seen (all_made (by_digests i) d walked.moves) b (Ok f)) (size_of b) (commits_batch walked.moves b one) in omega (arith, count_one i walked.moves d b one, k)
+    let k = kept_some (commits walked.moves) (position_of (by_digests i) seen (all_made (by_digests i) d walked.moves) b (Ok f)) (size_of b)
+    (commits_batch walked.moves b one) in omega (arith, count_one i walked.moves d b one, k)
 counted_end i d seen b (Ok f) walked None e (nothing none unless) =
     let k = told_again f.again (length (outputs_from i.meaning f.offered.state (members_of b))) (again_of f.again (unless e)) in
     omega (arith, count_none i walked.moves d none, k)
@@ -95,17 +105,22 @@ counted_end i d seen b (Ok f) walked None e (batch one fresh) =
 
 -- the register reads what its items show of moves
 
-read_push : (items : List Item) (item : Item) → register_after (item_values (items ++ item ∷ [])) ≡ extended_of (register_after (item_values items)) item.value
+read_push : (items : List Item) (item : Item)
+    → register_after (item_values (items ++ item ∷ [])) ≡ extended_of (register_after (item_values items)) item.value
 read_push items item =
-    ap register_after (map-append (λ (it : Item). it.value) items (item ∷ [])) ∙ fold-append extended_of zero_bytes (item_values items) (item.value ∷ [])
+    ap register_after (map-append (λ (it : Item). it.value) items (item ∷ []))
+    ∙ fold-append extended_of zero_bytes (item_values items) (item.value ∷ [])
 
-shown_reads : (variant : Variant) (flag : Bool) (i : Instance) (d : Digests) (m : Move) (items : List Item) → i.variant ≡ variant → d.flag ≡ flag
-    → register_after (item_values items) ≡ d.register → register_after (item_values (shown_by variant flag i m items)) ≡ (made i d m).register
+shown_reads : (variant : Variant) (flag : Bool) (i : Instance) (d : Digests) (m : Move) (items : List Item) → i.variant ≡ variant
+    → d.flag ≡ flag
+    → register_after (item_values items) ≡ d.register
+    → register_after (item_values (shown_by variant flag i m items)) ≡ (made i d m).register
 shown_reads Basic flag i d (Commit b) items v f e = e ∙ rw v refl
 shown_reads Opt true i d (Commit b) items v f e = read_push items (own_item (guard i.barrier b)) ∙ rw (e, v, f) refl
 shown_reads Opt false i d (Commit b) items v f e = e ∙ rw (v, f) refl
 shown_reads variant flag i d (Foreign x) items v f e = read_push items (foreign_item x) ∙ ap (λ r. extended_of r x) e
-shown_reads variant flag i d (Placed b) items v f e = read_push items (own_item (guard i.barrier b)) ∙ ap (λ r. extended_of r (guard i.barrier b)) e
+shown_reads variant flag i d (Placed b) items v f e =
+    read_push items (own_item (guard i.barrier b)) ∙ ap (λ r. extended_of r (guard i.barrier b)) e
 shown_reads variant flag i d Reset items v f e = refl
 shown_reads variant flag i d Close items v f e = e
 shown_reads variant flag i d Power items v f e = refl
@@ -118,7 +133,8 @@ shown_all i (m ∷ moves) d items e =
 
 pub reads_shown : (i : Instance) (moves : List Move) (d : Digests) (items : Option (List Item))
     → option_map (λ xs. register_after (item_values xs)) items ≡ Some d.register
-    → option_map (λ xs. register_after (item_values xs)) (option_map (shown i d moves) items) ≡ Some (all_made (by_digests i) d moves).register
+    → option_map (λ xs. register_after (item_values xs)) (option_map (shown i d moves) items) ≡ Some
+    (all_made (by_digests i) d moves).register
 reads_shown i moves d None e = cc
 reads_shown i moves d (Some xs) e =
     let f : register_after (item_values xs) ≡ d.register = cc in ap Some (shown_all i moves d xs f)

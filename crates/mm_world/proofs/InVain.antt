@@ -11,13 +11,14 @@ use Rattle.mm_module.specs.Batch.{Batch, One, size_of}
 use Rattle.mm_platform.specs.declared.fault.StepFault.{StepFault}
 use Rattle.mm_platform.specs.declared.plan.Meddle.{Meddle}
 use Rattle.mm_platform.specs.declared.plan.Stop.{Stop}
-use Rattle.mm_platform.specs.Standing.{Item, foreign_item, Standing, due, item_values, register_after}
+use Rattle.mm_platform.specs.Standing.{Item, foreign_item, Standing, item_values, register_after}
+use Rattle.mm_platform.specs.StandingWords.{due}
 use Rattle.mm_platform.specs.Steps.{ReadCell, Goes, fault_at, is_made_at, items_cycled, will_answer, will_bring}
 use Rattle.mm_seal.specs.declared.cell.Cell.{Cell}
 use Rattle.mm_seal.specs.declared.cell.CellFault.{CellFault}
 use Rattle.mm_seal.specs.declared.cell.CellFault.TheVariants.{Blank, Cell as Unspelled}
 use Rattle.mm_seal.specs.Cell.{ReadsCell}
-use Rattle.mm_seal.specs.Parts.{same_variant}
+use Rattle.mm_seal.specs.PartsWords.{same_variant}
 use Rattle.mm_model.specs.Instance.{Instance}
 use Rattle.mm_model.specs.History.{Move, Foreign}
 use Rattle.mm_model.specs.Long.{is_long}
@@ -27,9 +28,11 @@ use Rattle.mm_model.specs.declared.refusal.Refusal.{Refusal}
 use Rattle.mm_model.specs.declared.refusal.Refusal.TheVariants as refusal
 use Rattle.mm_call.specs.declared.ended.Ended.{Ended}
 use Rattle.mm_call.specs.Levels.{by_digests, all_made}
-use Rattle.mm_call.specs.Courses.{Walked, after_step, end_of, commits}
+use Rattle.mm_call.specs.Courses.{Walked, after_step, commits}
+use Rattle.mm_call.specs.CoursesWords.{end_of}
 use Rattle.mm_model.specs.Steps.{Reads}
-use Rattle.mm_call.specs.Called.{called_by, kept_at}
+use Rattle.mm_call.specs.Called.{called_by}
+use Rattle.mm_call.specs.CalledWords.{kept_at}
 use Rattle.mm_call.specs.Standing.{shown}
 use Rattle.mm_call.specs.Ended.{ended_with, is_broken, StaysOn, StaysPlanned, CallsTo}
 use Rattle.mm_opt.specs.declared.segment.Checkpointed.{Checkpointed as Said}
@@ -43,7 +46,8 @@ use Rattle.mm_schedule.specs.declared.reply.Cause.{Cause}
 use Rattle.mm_schedule.specs.declared.reply.Cause.TheVariants as cause
 use Rattle.mm_schedule.specs.declared.reply.Reply.{Reply}
 use Rattle.mm_schedule.specs.declared.reply.Reply.TheVariants as reply
-use Rattle.mm_run.specs.Folds.{Outcome, way_of, plan_of, cause_of, outcome_by, uncalled, reads_only, broken_reply, stopped_reply}
+use Rattle.mm_run.specs.Folds.{Outcome, way_of, cause_of, outcome_by, uncalled, reads_only}
+use Rattle.mm_run.specs.FoldsWords.{plan_of, broken_reply, stopped_reply}
 use Rattle.mm_world.specs.declared.call.Called as code
 use Rattle.mm_world.specs.Stands.{IsQuiet}
 use Rattle.mm_world.specs.Asks.{quiet_as}
@@ -62,29 +66,36 @@ nothing = record { moves = []; steps = 0; writes = 0; broken = None }
 
 abbrev read_by : Instance → Digests → List (List ℕ) → Stop → Refusal → List (List ℕ) → Option StepFault → Bool → Outcome Digests
 read_by i d issued stop why values fault made =
-    outcome_by (by_digests i) stop issued (called_by (by_digests i) d d (One []) (Err why) (after_step Reads values (end_of fault made) nothing))
+    outcome_by (by_digests i) stop issued
+    (called_by (by_digests i) d d (One []) (Err why) (after_step Reads values (end_of fault made) nothing))
 
 foreign_commits : (values : List (List ℕ)) → commits (map Foreign values) ≡ false
 foreign_commits [] = refl
 foreign_commits (v ∷ values) = foreign_commits values
 
-foreign_shown : (i : Instance) (d : Digests) (values : List (List ℕ)) (items : List Item) → shown i d (map Foreign values) items ≡ items ++ map foreign_item values
+foreign_shown : (i : Instance) (d : Digests) (values : List (List ℕ)) (items : List Item)
+    → shown i d (map Foreign values) items ≡ items ++ map foreign_item values
 foreign_shown i d [] items = sym (append-nil items)
 foreign_shown i d (v ∷ values) items =
-    foreign_shown i (made i d (Foreign v)) values (items ++ foreign_item v ∷ []) ∙ append_assoc items (foreign_item v ∷ []) (map foreign_item values)
+    foreign_shown i (made i d (Foreign v)) values (items ++ foreign_item v ∷ [])
+    ∙ append_assoc items (foreign_item v ∷ []) (map foreign_item values)
 
 -- what the register reads after values of others, and then perhaps a loss of power
 read_mid : (i : Instance) (d : Digests) (values : List (List ℕ)) (before after : Option (List Item))
-    → option_map (λ xs. register_after (item_values xs)) before ≡ Some d.register → after ≡ option_map (λ xs. xs ++ map foreign_item values) before
+    → option_map (λ xs. register_after (item_values xs)) before ≡ Some d.register
+    → after ≡ option_map (λ xs. xs ++ map foreign_item values) before
     → option_map (λ xs. register_after (item_values xs)) after ≡ Some (all_made (by_digests i) d (map Foreign values)).register
 read_mid i d values None after e is = cc
 read_mid i d values (Some xs) after e is =
-    ap (λ x. option_map (λ ys. register_after (item_values ys)) x) (is ∙ ap Some (sym (foreign_shown i d values xs))) ∙ reads_shown i (map Foreign values) d (Some xs) e
+    ap (λ x. option_map (λ ys. register_after (item_values ys)) x) (is ∙ ap Some (sym (foreign_shown i d values xs)))
+    ∙ reads_shown i (map Foreign values) d (Some xs) e
 
-settled_reads : (i : Instance) (s : Digests) (mid new : Standing) (lost : Bool) → register_reads mid ≡ Some s.register → new.items ≡ items_cycled lost mid.items
+settled_reads : (i : Instance) (s : Digests) (mid new : Standing) (lost : Bool) → register_reads mid ≡ Some s.register
+    → new.items ≡ items_cycled lost mid.items
     → register_reads new ≡ Some (all_made (by_digests i) s (power_if lost)).register
 settled_reads i s mid new false e items = ap (λ x. option_map (λ xs. register_after (item_values xs)) x) items ∙ e
-settled_reads i s mid new true e items = ap (λ x. option_map (λ xs. register_after (item_values xs)) x) items ∙ reads_none mid.items s.register e
+settled_reads i s mid new true e items =
+    ap (λ x. option_map (λ xs. register_after (item_values xs)) x) items ∙ reads_none mid.items s.register e
 
 none_kept : (effect : Bool) → (let x : Option ℕ = (if effect then None else None) in x ≡ None)
 none_kept true = refl
@@ -107,8 +118,10 @@ record Settled (stop : Stop) (broken : Bool) (old mid new : Standing) : Type 0 w
   pub steps : mid.steps ≡ counted old.steps
   pub writes : mid.writes ≡ old.writes
 
-came_by : (i : Instance) (d : Digests) (stop : Stop) (issued values : List (List ℕ)) (why : Refusal) (fault : Option StepFault) (made : Bool) (old mid new : Standing) (it : code.Called)
-    → Settled stop (is_some fault) old mid new → register_reads mid ≡ Some (all_made (by_digests i) d (map Foreign values)).register → TellsVain stop why fault it
+came_by : (i : Instance) (d : Digests) (stop : Stop) (issued values : List (List ℕ)) (why : Refusal) (fault : Option StepFault)
+    (made : Bool) (old mid new : Standing) (it : code.Called)
+    → Settled stop (is_some fault) old mid new → register_reads mid ≡ Some (all_made (by_digests i) d (map Foreign values)).register
+    → TellsVain stop why fault it
     → CameInVain (read_by i d issued stop why values fault made) issued old new it
 came_by i d stop issued values why None made old mid new it s register t = record {
   reply = t.reply;
@@ -135,9 +148,11 @@ came_by i d stop issued values why (Some fault) made old mid new it s register t
     }
 
 -- the step over a planned platform
-stopped_came : (i : Instance) (d : Digests) (stop : Stop) (meddles : List Meddle) (issued : List (List ℕ)) (why : Refusal) (old mid new : Standing) (it : code.Called)
+stopped_came : (i : Instance) (d : Digests) (stop : Stop) (meddles : List Meddle) (issued : List (List ℕ)) (why : Refusal)
+    (old mid new : Standing) (it : code.Called)
     (fault : Option StepFault) → IsQuiet old → register_reads old ≡ Some d.register
-    → Goes ReadCell (record old { plan = Some (plan_of stop meddles) }) mid fault → SettlesPlan stop (is_some fault) mid new → StaysOn stop (is_some fault) mid
+    → Goes ReadCell (record old { plan = Some (plan_of stop meddles) }) mid fault → SettlesPlan stop (is_some fault) mid new
+    → StaysOn stop (is_some fault) mid
     → TellsVain stop why fault it
     → CameInVain (reads_only (by_digests i) d issued meddles stop why) issued old new it
 stopped_came i d stop meddles issued why old mid new it fault q register goes settles stays tells =
@@ -145,14 +160,16 @@ stopped_came i d stop meddles issued why old mid new it fault q register goes se
     let is : fault ≡ fault_at stop 1 = told.answers ∙ ap (λ on. will_answer on (plan_of stop meddles)) q.is_on in
     let brings : goes.others ≡ due 1 meddles = told.brings ∙ ap (λ on. will_bring on (plan_of stop meddles)) q.is_on in
     let read : register_reads mid ≡ Some (all_made (by_digests i) d (map Foreign (due 1 meddles))).register =
-    read_mid i d (due 1 meddles) old.items mid.items register (goes.items ∙ ap (λ vs. option_map (λ xs. xs ++ map foreign_item vs) old.items) brings) in
+    read_mid i d (due 1 meddles) old.items mid.items register (goes.items
+    ∙ ap (λ vs. option_map (λ xs. xs ++ map foreign_item vs) old.items) brings) in
     subst (λ f. CameInVain (read_by i d issued stop why (due 1 meddles) f (is_made_at stop 1)) issued old new it) is
     (came_by i d stop issued (due 1 meddles) why fault (is_made_at stop 1) old mid new it
     (record { settles = settles; stays = stays; cell = goes.cell; steps = goes.steps; writes = goes.writes }) read tells)
 
 -- what is told of a call that ended so
 
-refused_why : (why : Refusal) (result : Result code.Called Memory) → (why ≡ refusal.Memory → ⊥) → RefusedAs why result → result ≡ Ok (refused_call (cause_of why))
+refused_why : (why : Refusal) (result : Result code.Called Memory) → (why ≡ refusal.Memory → ⊥) → RefusedAs why result
+    → result ≡ Ok (refused_call (cause_of why))
 refused_why refusal.Memory result never e = absurd (never refl)
 refused_why refusal.Lost result never e = e
 refused_why refusal.Form result never e = e
@@ -190,56 +207,45 @@ vain_told stop size (Some fault) why = record {
   committed = ap (λ kept. size_if kept size) (none_kept (takes_effect stop));
 }
 
-vain_result : (stop : Stop) (size : ℕ) (fault : Option StepFault) (why : Refusal) (result : Result code.Called Memory) → (why ≡ refusal.Memory → ⊥)
+vain_result : (stop : Stop) (size : ℕ) (fault : Option StepFault) (why : Refusal) (result : Result code.Called Memory)
+    → (why ≡ refusal.Memory → ⊥)
     → CalledAs stop size (ended_with fault why) result → result ≡ Ok (vain_call stop size fault why)
 vain_result stop size None why result never e = refused_why why result never e
 vain_result stop size (Some fault) why result never e = e
 
 -- a call that isn't too long, over a planned platform
-pub asks_in_vain : (variant : Variant) (meaning : Meaning) (old planned_at mid new : Standing) (meddles : List Meddle) (stop : Stop) (offer : List ℕ) (b : Batch) (size : ℕ)
-    (broken : Bool) (ended : Ended) (result : Result code.Called Memory) → is_long b ≡ false → planned_at ≡ record old { plan = Some (plan_of stop meddles) }
-    → ((bytes : List ℕ) (read : Result Cell CellFault) (why : Refusal) → planned_at.cell ≡ Some bytes → ReadsCell bytes read → why_vain variant meaning.id read ≡ Some why
+pub asks_in_vain : (variant : Variant) (meaning : Meaning) (old planned_at mid new : Standing) (meddles : List Meddle) (stop : Stop)
+    (offer : List ℕ) (b : Batch) (size : ℕ)
+    (broken : Bool) (ended : Ended) (result : Result code.Called Memory) → is_long b ≡ false
+    → planned_at ≡ record old { plan = Some (plan_of stop meddles) }
+    → ((bytes : List ℕ) (read : Result Cell CellFault) (why : Refusal) → planned_at.cell ≡ Some bytes → ReadsCell bytes read
+    → why_vain variant meaning.id read ≡ Some why
     → StopsReading planned_at mid why ended)
-    → StaysPlanned planned_at mid (is_broken ended) → broken ≡ is_broken ended → SettlesPlan stop broken mid new → CalledAs stop size ended result
+    → StaysPlanned planned_at mid (is_broken ended) → broken ≡ is_broken ended → SettlesPlan stop broken mid new
+    → CalledAs stop size ended result
     → (issued : List (List ℕ)) → AsksInVain variant meaning old new issued meddles stop (Some offer) b result
-asks_in_vain variant meaning old planned_at mid new meddles stop offer b size broken ended result short planned stops plans is settles told issued = λ i d read why at vain.
+asks_in_vain variant meaning old planned_at mid new meddles stop offer b size broken ended result short planned stops plans is settles told
+    issued = λ i d read why at vain.
     let r = stops at.bytes read why (ap (λ (s : Standing). s.cell) planned ∙ at.cell) at.reads vain in
-    let p = plans (plan_of stop meddles) (ap (λ (s : Standing). s.is_on) planned ∙ at.quiet.is_on) (ap (λ (s : Standing). s.plan) planned) refl in
+    let p = plans (plan_of stop meddles) (ap (λ (s : Standing). s.is_on) planned ∙ at.quiet.is_on) (ap (λ (s : Standing). s.plan) planned)
+    refl in
     let breaks : is_broken ended ≡ is_some r.fault = ap is_broken r.ends ∙ broken_with r.fault why in
     let it : code.Called = vain_call stop size r.fault why in
     let came : CameInVain (reads_only (by_digests i) d issued meddles stop why) issued old new it =
-    stopped_came i d stop meddles issued why old mid new it r.fault at.quiet at.register (subst (λ (s : Standing). Goes ReadCell s mid r.fault) planned r.goes)
-    (subst (λ x. SettlesPlan stop x mid new) (is ∙ breaks) settles) (subst (λ x. StaysOn stop x mid) breaks p.0) (vain_told stop size r.fault why) in
+    stopped_came i d stop meddles issued why old mid new it r.fault at.quiet at.register
+    (subst (λ (s : Standing). Goes ReadCell s mid r.fault) planned r.goes)
+    (subst (λ x. SettlesPlan stop x mid new) (is ∙ breaks) settles) (subst (λ x. StaysOn stop x mid) breaks p.0)
+    (vain_told stop size r.fault why) in
     let gives : result ≡ Ok it = vain_result stop size r.fault why result (λ e. never_memory variant meaning.id read (vain ∙ ap Some e))
     (subst (λ (x : Ended). CalledAs stop size x result) r.ends told) in
     subst (λ (x : Result code.Called Memory). MatchResult x
-    (CameInVain (if is_long b then uncalled d issued (reply.No cause.Long) else reads_only (by_digests i) d issued meddles stop why) issued old new) (λ _. new ≡ old)) (sym gives)
-    (subst (λ (long : Bool). CameInVain (if long then uncalled d issued (reply.No cause.Long) else reads_only (by_digests i) d issued meddles stop why) issued old new it) (sym short) came)
+    (CameInVain (if is_long b then uncalled d issued (reply.No cause.Long) else reads_only (by_digests i) d issued meddles stop why) issued
+    old new) (λ _. new ≡ old)) (sym gives)
+    (subst (λ (long : Bool). CameInVain
+    (if long then uncalled d issued (reply.No cause.Long) else reads_only (by_digests i) d issued meddles stop why) issued old new it)
+    (sym short) came)
 
 -- nothing was called
-
-pub uncalled_in_vain : (d : Digests) (issued : List (List ℕ)) (old : Standing) (why : Cause) → IsQuiet old → register_reads old ≡ Some d.register
-    → CameInVain (uncalled d issued (reply.No why)) issued old old (refused_call why)
-uncalled_in_vain d issued old why q register = record {
-  reply = refl;
-  issues = append-nil issued;
-  committed = refl;
-  cell = refl;
-  register = register;
-  quiet = q;
-  steps = refl;
-  writes = refl;
-}
-
-pub long_in_vain : (variant : Variant) (meaning : Meaning) (old : Standing) (meddles : List Meddle) (stop : Stop) (offer : List ℕ) (b : Batch) → is_long b ≡ true
-    → (issued : List (List ℕ)) → AsksInVain variant meaning old old issued meddles stop (Some offer) b (Ok (refused_call cause.Long))
-long_in_vain variant meaning old meddles stop offer b long issued = λ i d read why at vain.
-    subst (λ (x : Bool). CameInVain (if x then uncalled d issued (reply.No cause.Long) else reads_only (by_digests i) d issued meddles stop why) issued old old (refused_call cause.Long))
-    (sym long) (uncalled_in_vain d issued old cause.Long at.quiet at.register)
-
-pub none_in_vain : (variant : Variant) (meaning : Meaning) (old : Standing) (meddles : List Meddle) (stop : Stop) (b : Batch) (issued : List (List ℕ))
-    → AsksInVain variant meaning old old issued meddles stop None b (Ok (refused_call cause.Snapshot))
-none_in_vain variant meaning old meddles stop b issued = λ i d read why at vain. uncalled_in_vain d issued old cause.Snapshot at.quiet at.register
 
 -- a checkpoint
 
@@ -260,63 +266,57 @@ closing_told_vain stop missed (Some fault) e =
     }
 
 -- a checkpoint over a planned platform
-pub checks_in_vain : (old planned_at mid new : Standing) (meddles : List Meddle) (stop : Stop) (broken : Bool) (said : Reply) (result : Result Said CheckpointRefusal)
-    → planned_at ≡ record old { plan = Some (plan_of stop meddles) } → ClosesSegment planned_at mid result → ChecksOn planned_at mid result → broken ≡ stops_in result
+pub checks_in_vain : (old planned_at mid new : Standing) (meddles : List Meddle) (stop : Stop) (broken : Bool) (said : Reply)
+    (result : Result Said CheckpointRefusal)
+    → planned_at ≡ record old { plan = Some (plan_of stop meddles) } → ClosesSegment planned_at mid result → ChecksOn planned_at mid result
+    → broken ≡ stops_in result
     → SettlesPlan stop broken mid new → said ≡ told_closing stop result
     → (issued : List (List ℕ)) → ChecksInVain old new issued meddles stop (Ok said)
 checks_in_vain old planned_at mid new meddles stop broken said result planned closes checks is settles told issued = λ i d missed at.
-    let r = stops_looking planned_at closes.middle mid at.bytes missed closes.found result (ap (λ (s : Standing). s.cell) planned ∙ at.cell) at.reads closes.looks closes.ends in
-    let p = checks.plans (plan_of stop meddles) (ap (λ (s : Standing). s.is_on) planned ∙ at.quiet.is_on) (ap (λ (s : Standing). s.plan) planned) refl in
+    let r = stops_looking planned_at closes.middle mid at.bytes missed closes.found result (ap (λ (s : Standing). s.cell) planned ∙ at.cell)
+    at.reads closes.looks closes.ends in
+    let p = checks.plans (plan_of stop meddles) (ap (λ (s : Standing). s.is_on) planned ∙ at.quiet.is_on)
+    (ap (λ (s : Standing). s.plan) planned) refl in
     let breaks : stops_in result ≡ is_some r.fault = ap stops_in r.ends ∙ stopped_ended r.fault missed in
     let goes = subst (λ (s : Standing). Goes ReadCell s mid r.fault) planned r.goes in
-    let fault_is : r.fault ≡ fault_at stop 1 = (goes.told (plan_of stop meddles) refl).answers ∙ ap (λ on. will_answer on (plan_of stop meddles)) at.quiet.is_on in
+    let fault_is : r.fault ≡ fault_at stop 1 = (goes.told (plan_of stop meddles) refl).answers
+    ∙ ap (λ on. will_answer on (plan_of stop meddles)) at.quiet.is_on in
     let it : code.Called = quiet_as (told_closing stop (closing_ended r.fault missed)) in
     let came : CameInVain (reads_only (by_digests i) d issued meddles stop (missing missed)) issued old new it =
     stopped_came i d stop meddles issued (missing missed) old mid new it r.fault at.quiet at.register goes
-    (subst (λ x. SettlesPlan stop x mid new) (is ∙ breaks) settles) (subst (λ x. StaysOn stop x mid) breaks p.0) (closing_told_vain stop missed r.fault fault_is) in
+    (subst (λ x. SettlesPlan stop x mid new) (is ∙ breaks) settles) (subst (λ x. StaysOn stop x mid) breaks p.0)
+    (closing_told_vain stop missed r.fault fault_is) in
     subst (λ (x : Reply). CameInVain (reads_only (by_digests i) d issued meddles stop (missing missed)) issued old new (quiet_as x))
     (sym (told ∙ ap (told_closing stop) r.ends)) came
 
 -- either way
 
-pub asks_either : (variant : Variant) (meaning : Meaning) (old planned_at mid new : Standing) (meddles : List Meddle) (stop : Stop) (offer : List ℕ) (b : Batch) (size : ℕ)
-    (broken : Bool) (call : AskCall) (ended : Ended) (result : Result code.Called Memory) → is_long b ≡ false → size ≡ size_of b → planned_at ≡ record old { plan = Some (plan_of stop meddles) }
-    → call ≡ begun variant → FinishedAsk meaning call planned_at mid offer b ended → broken ≡ is_broken ended → SettlesPlan stop broken mid new → CalledAs stop size ended result
+pub asks_either : (variant : Variant) (meaning : Meaning) (old planned_at mid new : Standing) (meddles : List Meddle) (stop : Stop)
+    (offer : List ℕ) (b : Batch) (size : ℕ)
+    (broken : Bool) (call : AskCall) (ended : Ended) (result : Result code.Called Memory) → is_long b ≡ false → size ≡ size_of b
+    → planned_at ≡ record old { plan = Some (plan_of stop meddles) }
+    → call ≡ begun variant → FinishedAsk meaning call planned_at mid offer b ended → broken ≡ is_broken ended
+    → SettlesPlan stop broken mid new → CalledAs stop size ended result
     → (issued : List (List ℕ)) → AsksPlanned variant meaning old new issued meddles stop (Some offer) b result
-asks_either variant meaning old planned_at mid new meddles stop offer b size broken call ended result short n planned is finished breaks settles told issued =
+asks_either variant meaning old planned_at mid new meddles stop offer b size broken call ended result short n planned is finished breaks
+    settles told issued =
     let calls : CallsTo variant meaning planned_at mid offer b ended = finished.ends variant is in record {
-      own = asks_over variant meaning old planned_at mid new meddles stop offer b size broken ended result short n planned calls breaks settles told issued;
+      own =
+          asks_over variant meaning old planned_at mid new meddles stop offer b size broken ended result short n planned calls breaks
+          settles told issued;
       vain = asks_in_vain variant meaning old planned_at mid new meddles stop offer b size broken ended result short planned
           (ask_stops variant meaning call planned_at mid offer b ended is finished.finishes) calls.plans breaks settles told issued;
     }
 
-pub long_either : (variant : Variant) (meaning : Meaning) (old : Standing) (meddles : List Meddle) (stop : Stop) (offer : List ℕ) (b : Batch) → is_long b ≡ true
-    → (issued : List (List ℕ)) → AsksPlanned variant meaning old old issued meddles stop (Some offer) b (Ok (refused_call cause.Long))
-long_either variant meaning old meddles stop offer b long issued = record {
-  own = asks_long variant meaning old meddles stop offer b long issued;
-  vain = long_in_vain variant meaning old meddles stop offer b long issued;
-}
-
-pub none_either : (variant : Variant) (meaning : Meaning) (old : Standing) (meddles : List Meddle) (stop : Stop) (b : Batch) (issued : List (List ℕ))
-    → AsksPlanned variant meaning old old issued meddles stop None b (Ok (refused_call cause.Snapshot))
-none_either variant meaning old meddles stop b issued = record {
-  own = asks_none variant meaning old meddles stop b issued;
-  vain = none_in_vain variant meaning old meddles stop b issued;
-}
-
-pub wanting_either : (variant : Variant) (meaning : Meaning) (old new : Standing) (meddles : List Meddle) (stop : Stop) (bytes : Option (List ℕ)) (b : Batch) (memory : Memory) → new ≡ old
-    → (issued : List (List ℕ)) → AsksPlanned variant meaning old new issued meddles stop bytes b (Err memory)
-wanting_either variant meaning old new meddles stop bytes b memory e issued = record {
-  own = asks_wanting variant meaning old new meddles stop bytes b memory e issued;
-  vain = λ i d read why at vain. e;
-}
-
-pub checks_either : (old planned_at mid new : Standing) (meddles : List Meddle) (stop : Stop) (broken : Bool) (said : Reply) (result : Result Said CheckpointRefusal)
+pub checks_either : (old planned_at mid new : Standing) (meddles : List Meddle) (stop : Stop) (broken : Bool) (said : Reply)
+    (result : Result Said CheckpointRefusal)
     → planned_at ≡ record old { plan = Some (plan_of stop meddles) } → ClosedInOpt planned_at mid result → broken ≡ stops_in result
     → SettlesPlan stop broken mid new → said ≡ told_closing stop result
     → (issued : List (List ℕ)) → ChecksPlanned old new issued meddles stop (Ok said)
 checks_either old planned_at mid new meddles stop broken said result planned closed is settles told issued = record {
-  own = λ variant meaning. checks_over old planned_at mid new meddles stop broken said result planned closed.goes is settles told variant meaning issued;
+  own =
+      λ variant meaning. checks_over old planned_at mid new meddles stop broken said result planned closed.goes is settles told variant
+      meaning issued;
   vain = checks_in_vain old planned_at mid new meddles stop broken said result planned closed.closes closed.goes is settles told issued;
 }
 

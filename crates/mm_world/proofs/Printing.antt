@@ -7,7 +7,8 @@ use Rattle.mm_schedule.specs.Replies.{IsPrintable}
 use Rattle.mm_run.specs.Held.{Held, outcome_in, Follows, Wants}
 use Rattle.mm_run.proofs.Counting.{printed, grown}
 
-pub printed_event : (old new : Held) (event : Event) (result : Result Reply Memory) → IfOk result (Follows (outcome_in old event) old new) → IfOk result IsPrintable
+pub printed_event : (old new : Held) (event : Event) (result : Result Reply Memory) → IfOk result (Follows (outcome_in old event) old new)
+    → IfOk result IsPrintable
 printed_event old new event (Err memory) f = tt
 printed_event old new event (Ok said) f = subst (λ (r : Reply). IsPrintable r) (sym f.reply) (printed old event)
 
@@ -18,7 +19,8 @@ same_issued (Checkpoint meddles stop) old new e = ap (λ (h : Held). h.issued) e
 same_issued Power old new e = absurd e
 same_issued (Extend value) old new e = ap (λ (h : Held). h.issued) e
 
-pub grown_event : (old new : Held) (event : Event) (result : Result Reply Memory) → IfOk result (Follows (outcome_in old event) old new) → OnErr result (Wants event old new)
+pub grown_event : (old new : Held) (event : Event) (result : Result Reply Memory) → IfOk result (Follows (outcome_in old event) old new)
+    → OnErr result (Wants event old new)
     → length new.issued ≤ length old.issued + 1
 grown_event old new event (Err memory) f w = omega (arith, ap (λ (x : List (List ℕ)). length x) (same_issued event old new w))
 grown_event old new event (Ok said) f w = omega (arith, ap (λ (x : List (List ℕ)). length x) f.issued, grown old event)

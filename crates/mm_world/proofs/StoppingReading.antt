@@ -13,7 +13,7 @@ use Rattle.mm_seal.specs.declared.cell.Cell.{Cell}
 use Rattle.mm_seal.specs.declared.cell.CellFault.{CellFault}
 use Rattle.mm_seal.specs.declared.cell.CellFault.TheVariants.{Blank, Cell as Unspelled}
 use Rattle.mm_seal.specs.Cell.{ReadsCell}
-use Rattle.mm_seal.specs.Parts.{same_variant}
+use Rattle.mm_seal.specs.PartsWords.{same_variant}
 use Rattle.mm_seal.proofs.CellLaws.{reads_cell-same}
 use Rattle.mm_model.specs.declared.refusal.Refusal.{Refusal}
 use Rattle.mm_model.specs.declared.refusal.Refusal.TheVariants as refusal
@@ -50,17 +50,20 @@ pub record StopsReading (old new : Standing) (why : Refusal) (ended : Ended) : T
 
 -- what is found in the cell
 
-pub unless_own : (own : Bool) (why : Refusal) → (let x : Option Refusal = (if own then None else Some refusal.Cell) in x ≡ Some why) → (own ≡ false) × (refusal.Cell ≡ why)
+pub unless_own : (own : Bool) (why : Refusal) → (let x : Option Refusal = (if own then None else Some refusal.Cell) in x ≡ Some why)
+    → (own ≡ false) × (refusal.Cell ≡ why)
 unless_own true why e = cc
 unless_own false why e = (refl, cc)
 
 own_basic : (id : ℕ) (cell : Cell) → seen.IsCellOf id cell → (same_variant cell.variant Basic && (cell.module == id)) ≡ true
 own_basic id cell is = rw (is.0, is.1) (eq-eqb id id refl)
 
-same_cell : (bytes : List ℕ) (read : Result Cell CellFault) (cell : Cell) → ReadsCell bytes read → ReadsCell bytes (Ok cell) → read ≡ Ok cell
+same_cell : (bytes : List ℕ) (read : Result Cell CellFault) (cell : Cell) → ReadsCell bytes read → ReadsCell bytes (Ok cell)
+    → read ≡ Ok cell
 same_cell bytes read cell h k = reads_cell-same bytes read (Ok cell) h k
 
-never_own : (id : ℕ) (why : Refusal) (bytes : List ℕ) (read : Result Cell CellFault) (cell : Cell) → ReadsCell bytes read → ReadsCell bytes (Ok cell)
+never_own : (id : ℕ) (why : Refusal) (bytes : List ℕ) (read : Result Cell CellFault) (cell : Cell) → ReadsCell bytes read
+    → ReadsCell bytes (Ok cell)
     → seen.IsCellOf id cell → why_vain Basic id read ≡ Some why → ⊥
 never_own id why bytes read cell h k own vain =
     let at : why_vain Basic id (Ok cell) ≡ Some why = ap (why_vain Basic id) (sym (same_cell bytes read cell h k)) ∙ vain in
@@ -68,7 +71,8 @@ never_own id why bytes read cell h k own vain =
     let clash : true ≡ false = sym (own_basic id cell own) ∙ u.0 in absurd (cc)
 
 -- a refusal at the step, or its fault
-stops_by : (old middle new : Standing) (why w : Refusal) (ended : Ended) (fault : Option StepFault) → fault_of w ≡ fault → Goes ReadCell old middle (fault_of w)
+stops_by : (old middle new : Standing) (why w : Refusal) (ended : Ended) (fault : Option StepFault) → fault_of w ≡ fault
+    → Goes ReadCell old middle (fault_of w)
     → (new ≡ middle) × (ended ≡ ended_with (fault_of w) w) → (fault_of w ≡ None → w ≡ why) → StopsReading old new why ended
 stops_by old middle new why w ended None e goes ends known = record {
   fault = None;
@@ -83,17 +87,21 @@ stops_by old middle new why w ended (Some fault) e goes ends known = record {
 
 -- Basic
 
-basic_in : (meaning : Meaning) (bytes offer : List ℕ) (b : Batch) (read : Result Cell CellFault) (why : Refusal) (found : Result basic_found.Found Refusal)
+basic_in : (meaning : Meaning) (bytes offer : List ℕ) (b : Batch) (read : Result Cell CellFault) (why : Refusal)
+    (found : Result basic_found.Found Refusal)
     (it : seen.Seen) → ReadsCell bytes read → why_vain Basic meaning.id read ≡ Some why → seen.IsSeen meaning.id bytes offer it
     → OrMemory (basic_answers.found_in meaning it b) found → found ≡ Err why
 basic_in meaning bytes offer b read why found (seen.NoCell Blank) h vain is or =
-    let at : why_vain Basic meaning.id (Err Blank) ≡ Some why = ap (why_vain Basic meaning.id) (sym (reads_cell-same bytes read (Err Blank) h is)) ∙ vain in
+    let at : why_vain Basic meaning.id (Err Blank) ≡ Some why = ap (why_vain Basic meaning.id)
+    (sym (reads_cell-same bytes read (Err Blank) h is)) ∙ vain in
     let e : refusal.Blank ≡ why = cc in or ∙ ap (λ w. Err w) e
 basic_in meaning bytes offer b read why found (seen.NoCell Unspelled) h vain is or =
-    let at : why_vain Basic meaning.id (Err Unspelled) ≡ Some why = ap (why_vain Basic meaning.id) (sym (reads_cell-same bytes read (Err Unspelled) h is)) ∙ vain in
+    let at : why_vain Basic meaning.id (Err Unspelled) ≡ Some why = ap (why_vain Basic meaning.id)
+    (sym (reads_cell-same bytes read (Err Unspelled) h is)) ∙ vain in
     let e : refusal.Cell ≡ why = cc in or ∙ ap (λ w. Err w) e
 basic_in meaning bytes offer b read why found seen.OtherCell h vain is or =
-    let at : why_vain Basic meaning.id (Ok is.0) ≡ Some why = ap (why_vain Basic meaning.id) (sym (same_cell bytes read is.0 h is.1)) ∙ vain in
+    let at : why_vain Basic meaning.id (Ok is.0) ≡ Some why = ap (why_vain Basic meaning.id) (sym (same_cell bytes read is.0 h is.1))
+    ∙ vain in
     let u = unless_own (same_variant is.0.variant Basic && (is.0.module == meaning.id)) why at in or ∙ ap (λ w. Err w) u.1
 basic_in meaning bytes offer b read why found (seen.NoOffer fault) h vain is or =
     absurd (never_own meaning.id why bytes read is.0 h is.1 is.2 vain)
@@ -101,13 +109,15 @@ basic_in meaning bytes offer b read why found (seen.Both cell offered) h vain is
     absurd (never_own meaning.id why bytes read cell h is.0 is.1 vain)
 
 -- what a call found that is refused so, by the fault of its step
-basic_ends : (meaning : Meaning) (old middle new : Standing) (bytes offer : List ℕ) (b : Batch) (read : Result Cell CellFault) (why : Refusal) (ended : Ended)
+basic_ends : (meaning : Meaning) (old middle new : Standing) (bytes offer : List ℕ) (b : Batch) (read : Result Cell CellFault)
+    (why : Refusal) (ended : Ended)
     (found : Result basic_found.Found Refusal) → old.cell ≡ Some bytes → ReadsCell bytes read → why_vain Basic meaning.id read ≡ Some why
     → basic.Reads meaning old middle offer b found → basic_asks.EndsTo found middle new ended → StopsReading old new why ended
 basic_ends meaning old middle new bytes offer b read why ended (Ok found) cell h vain reads ends =
     let f = reads.finds refl in
     let clash : Ok found ≡ Err why = basic_in meaning bytes offer b read why (Ok found) f.finds.seen h vain
-    (subst (λ (x : List ℕ). seen.IsSeen meaning.id x offer f.finds.seen) (f.told bytes cell) f.finds.is_seen) f.finds.found_is in absurd (cc)
+    (subst (λ (x : List ℕ). seen.IsSeen meaning.id x offer f.finds.seen) (f.told bytes cell) f.finds.is_seen) f.finds.found_is
+    in absurd (cc)
 basic_ends meaning old middle new bytes offer b read why ended (Err w) cell h vain reads ends =
     let known : fault_of w ≡ None → w ≡ why = λ none.
     let f = reads.finds none in
@@ -115,8 +125,10 @@ basic_ends meaning old middle new bytes offer b read why ended (Err w) cell h va
     (subst (λ (x : List ℕ). seen.IsSeen meaning.id x offer f.finds.seen) (f.told bytes cell) f.finds.is_seen) f.finds.found_is in cc in
     stops_by old middle new why w ended (fault_of w) refl reads.goes ends known
 
-basic_stops : (meaning : Meaning) (old new : Standing) (bytes offer : List ℕ) (b : Batch) (read : Result Cell CellFault) (why : Refusal) (ended : Ended)
-    → old.cell ≡ Some bytes → ReadsCell bytes read → why_vain Basic meaning.id read ≡ Some why → basic_asks.Finishes meaning None old new offer b ended
+basic_stops : (meaning : Meaning) (old new : Standing) (bytes offer : List ℕ) (b : Batch) (read : Result Cell CellFault) (why : Refusal)
+    (ended : Ended)
+    → old.cell ≡ Some bytes → ReadsCell bytes read → why_vain Basic meaning.id read ≡ Some why
+    → basic_asks.Finishes meaning None old new offer b ended
     → StopsReading old new why ended
 basic_stops meaning old new bytes offer b read why ended cell h vain asks =
     basic_ends meaning old asks.middle new bytes offer b read why ended asks.found cell h vain asks.reads asks.ends
@@ -127,26 +139,33 @@ own_opt : (variant : Variant) (id m : ℕ) → (same_variant variant Opt && (m =
 own_opt Basic id m = refl
 own_opt Opt id m = refl
 
-opt_own : (own : Bool) (cell : Cell) (why : Refusal) (found : Result Cell Refusal) → (let x : Option Refusal = (if own then None else Some refusal.Cell) in x ≡ Some why)
+opt_own : (own : Bool) (cell : Cell) (why : Refusal) (found : Result Cell Refusal)
+    → (let x : Option Refusal = (if own then None else Some refusal.Cell) in x ≡ Some why)
     → found ≡ own_cell own cell → found ≡ Err why
 opt_own true cell why found vain e = cc
 opt_own false cell why found vain e = let w : refusal.Cell ≡ why = cc in e ∙ ap (λ x. Err x) w
 
-opt_in : (id : ℕ) (read : Result Cell CellFault) (why : Refusal) (found : Result Cell Refusal) → why_vain Opt id read ≡ Some why → found ≡ cell_in id read → found ≡ Err why
+opt_in : (id : ℕ) (read : Result Cell CellFault) (why : Refusal) (found : Result Cell Refusal) → why_vain Opt id read ≡ Some why
+    → found ≡ cell_in id read → found ≡ Err why
 opt_in id (Err Blank) why found vain e = let w : refusal.Blank ≡ why = cc in e ∙ ap (λ x. Err x) w
 opt_in id (Err Unspelled) why found vain e = let w : refusal.Cell ≡ why = cc in e ∙ ap (λ x. Err x) w
 opt_in id (Ok cell) why found vain e =
     opt_own (is_cell_of id cell) cell why found
-    (subst (λ (x : Bool). (let y : Option Refusal = (if x then None else Some refusal.Cell) in y ≡ Some why)) (own_opt cell.variant id cell.module) vain) e
+    (subst (λ (x : Bool). (let y : Option Refusal = (if x then None else Some refusal.Cell) in y ≡ Some why))
+    (own_opt cell.variant id cell.module) vain) e
 
-opt_seen : (id : ℕ) (bytes : List ℕ) (read : Result Cell CellFault) (why : Refusal) (found : Result Cell Refusal) → ReadsCell bytes read → why_vain Opt id read ≡ Some why
+opt_seen : (id : ℕ) (bytes : List ℕ) (read : Result Cell CellFault) (why : Refusal) (found : Result Cell Refusal) → ReadsCell bytes read
+    → why_vain Opt id read ≡ Some why
     → SeesCell id bytes found → found ≡ Err why
 opt_seen id bytes read why found h vain sees =
     opt_in id read why found vain (sees.found_is ∙ ap (cell_in id) (reads_cell-same bytes sees.read read sees.reads h))
 
-opt_ends : (meaning : Meaning) (old first middle new : Standing) (bytes offer : List ℕ) (b : Batch) (read : Result Cell CellFault) (why : Refusal) (ended : Ended)
-    (cell : Result Cell Refusal) (found : Result opt_found.Found Refusal) → old.cell ≡ Some bytes → ReadsCell bytes read → why_vain Opt meaning.id read ≡ Some why
-    → opt_steps.ReadsOwnCell meaning.id old first cell → opt_asks.ReadsOn meaning cell first middle offer b found → opt_finishes.EndsTo found middle new ended
+opt_ends : (meaning : Meaning) (old first middle new : Standing) (bytes offer : List ℕ) (b : Batch) (read : Result Cell CellFault)
+    (why : Refusal) (ended : Ended)
+    (cell : Result Cell Refusal) (found : Result opt_found.Found Refusal) → old.cell ≡ Some bytes → ReadsCell bytes read
+    → why_vain Opt meaning.id read ≡ Some why
+    → opt_steps.ReadsOwnCell meaning.id old first cell → opt_asks.ReadsOn meaning cell first middle offer b found
+    → opt_finishes.EndsTo found middle new ended
     → StopsReading old new why ended
 opt_ends meaning old first middle new bytes offer b read why ended (Ok it) found cell h vain reads on ends =
     let f = reads.finds refl in
@@ -161,15 +180,19 @@ opt_ends meaning old first middle new bytes offer b read why ended (Err w) found
     subst (λ (x : Result opt_found.Found Refusal). opt_finishes.EndsTo x middle new ended) on.1 ends in
     stops_by old first new why w ended (fault_of w) refl reads.goes (last.0 ∙ on.0, last.1) known
 
-opt_stops : (meaning : Meaning) (old new : Standing) (bytes offer : List ℕ) (b : Batch) (read : Result Cell CellFault) (why : Refusal) (ended : Ended)
-    → old.cell ≡ Some bytes → ReadsCell bytes read → why_vain Opt meaning.id read ≡ Some why → opt_finishes.Finishes meaning stage.Begun old new offer b ended
+opt_stops : (meaning : Meaning) (old new : Standing) (bytes offer : List ℕ) (b : Batch) (read : Result Cell CellFault) (why : Refusal)
+    (ended : Ended)
+    → old.cell ≡ Some bytes → ReadsCell bytes read → why_vain Opt meaning.id read ≡ Some why
+    → opt_finishes.Finishes meaning stage.Begun old new offer b ended
     → StopsReading old new why ended
 opt_stops meaning old new bytes offer b read why ended cell h vain asks =
-    opt_ends meaning old asks.reads.middle asks.middle new bytes offer b read why ended asks.reads.cell asks.found cell h vain asks.reads.reads asks.reads.on asks.ends
+    opt_ends meaning old asks.reads.middle asks.middle new bytes offer b read why ended asks.reads.cell asks.found cell h vain
+    asks.reads.reads asks.reads.on asks.ends
 
 -- a checkpoint
 
-closing_found : (bytes : List ℕ) (fault : CellFault) (found : Result Segment CheckpointRefusal) → ReadsCell bytes (Err fault) → SeesSegment bytes found
+closing_found : (bytes : List ℕ) (fault : CellFault) (found : Result Segment CheckpointRefusal) → ReadsCell bytes (Err fault)
+    → SeesSegment bytes found
     → found ≡ segment_in (Err fault)
 closing_found bytes fault found h sees = sees.found_is ∙ ap segment_in (reads_cell-same bytes sees.read (Err fault) sees.reads h)
 
@@ -198,7 +221,8 @@ missing_in : (missed : CellFault) → segment_in (Err missed) ≡ Err (missing_s
 missing_in Blank = refl
 missing_in Unspelled = refl
 
-stops_looking_by : (old middle new : Standing) (missed : CellFault) (w : CheckpointRefusal) (result : Result Said CheckpointRefusal) (fault : Option StepFault)
+stops_looking_by : (old middle new : Standing) (missed : CellFault) (w : CheckpointRefusal) (result : Result Said CheckpointRefusal)
+    (fault : Option StepFault)
     → closing_fault_of w ≡ fault → Goes ReadCell old middle (closing_fault_of w) → (new ≡ middle) × (result ≡ Err w)
     → (closing_fault_of w ≡ None → w ≡ missing_segment missed) → StopsLooking old new missed result
 stops_looking_by old middle new missed w result None e goes ends known = record {
@@ -212,29 +236,40 @@ stops_looking_by old middle new missed w result (Some fault) e goes ends known =
   ends = ends.1 ∙ ap (λ x. Err x) (device_of w fault e);
 }
 
-pub stops_looking : (old middle new : Standing) (bytes : List ℕ) (missed : CellFault) (found : Result Segment CheckpointRefusal) (result : Result Said CheckpointRefusal)
-    → old.cell ≡ Some bytes → ReadsCell bytes (Err missed) → Looks old middle found → EndsLooking found middle new result → StopsLooking old new missed result
+pub stops_looking : (old middle new : Standing) (bytes : List ℕ) (missed : CellFault) (found : Result Segment CheckpointRefusal)
+    (result : Result Said CheckpointRefusal)
+    → old.cell ≡ Some bytes → ReadsCell bytes (Err missed) → Looks old middle found → EndsLooking found middle new result
+    → StopsLooking old new missed result
 stops_looking old middle new bytes missed (Ok it) result cell h looks ends =
     let f = looks.finds refl in
     let clash : Ok it ≡ Err (missing_segment missed) =
-    closing_found bytes missed (Ok it) h (subst (λ (x : List ℕ). SeesSegment x (Ok it)) (f.told bytes cell) f.sees) ∙ missing_in missed in absurd (cc)
+    closing_found bytes missed (Ok it) h (subst (λ (x : List ℕ). SeesSegment x (Ok it)) (f.told bytes cell) f.sees)
+    ∙ missing_in missed in absurd (cc)
 stops_looking old middle new bytes missed (Err w) result cell h looks ends =
     let known : closing_fault_of w ≡ None → w ≡ missing_segment missed = λ none.
     let f = looks.finds none in
     let same : Err w ≡ Err (missing_segment missed) =
-    closing_found bytes missed (Err w) h (subst (λ (x : List ℕ). SeesSegment x (Err w)) (f.told bytes cell) f.sees) ∙ missing_in missed in cc in
+    closing_found bytes missed (Err w) h (subst (λ (x : List ℕ). SeesSegment x (Err w)) (f.told bytes cell) f.sees)
+    ∙ missing_in missed in cc in
     stops_looking_by old middle new missed w result (closing_fault_of w) refl looks.goes ends known
 
 -- either variant
-begun_stops : (variant : Variant) (meaning : Meaning) (old new : Standing) (offer : List ℕ) (b : Batch) (ended : Ended) → AskFinishes meaning (begun variant) old new offer b ended
-    → (bytes : List ℕ) (read : Result Cell CellFault) (why : Refusal) → old.cell ≡ Some bytes → ReadsCell bytes read → why_vain variant meaning.id read ≡ Some why
+begun_stops : (variant : Variant) (meaning : Meaning) (old new : Standing) (offer : List ℕ) (b : Batch) (ended : Ended)
+    → AskFinishes meaning (begun variant) old new offer b ended
+    → (bytes : List ℕ) (read : Result Cell CellFault) (why : Refusal) → old.cell ≡ Some bytes → ReadsCell bytes read
+    → why_vain variant meaning.id read ≡ Some why
     → StopsReading old new why ended
-begun_stops Basic meaning old new offer b ended finishes bytes read why cell h vain = basic_stops meaning old new bytes offer b read why ended cell h vain finishes
-begun_stops Opt meaning old new offer b ended finishes bytes read why cell h vain = opt_stops meaning old new bytes offer b read why ended cell h vain finishes
+begun_stops Basic meaning old new offer b ended finishes bytes read why cell h vain =
+    basic_stops meaning old new bytes offer b read why ended cell h vain finishes
+begun_stops Opt meaning old new offer b ended finishes bytes read why cell h vain =
+    opt_stops meaning old new bytes offer b read why ended cell h vain finishes
 
-pub ask_stops : (variant : Variant) (meaning : Meaning) (call : AskCall) (old new : Standing) (offer : List ℕ) (b : Batch) (ended : Ended) → call ≡ begun variant
+pub ask_stops : (variant : Variant) (meaning : Meaning) (call : AskCall) (old new : Standing) (offer : List ℕ) (b : Batch) (ended : Ended)
+    → call ≡ begun variant
     → AskFinishes meaning call old new offer b ended
-    → (bytes : List ℕ) (read : Result Cell CellFault) (why : Refusal) → old.cell ≡ Some bytes → ReadsCell bytes read → why_vain variant meaning.id read ≡ Some why
+    → (bytes : List ℕ) (read : Result Cell CellFault) (why : Refusal) → old.cell ≡ Some bytes → ReadsCell bytes read
+    → why_vain variant meaning.id read ≡ Some why
     → StopsReading old new why ended
 ask_stops variant meaning call old new offer b ended is finishes bytes read why cell h vain =
-    begun_stops variant meaning old new offer b ended (subst (λ (c : AskCall). AskFinishes meaning c old new offer b ended) is finishes) bytes read why cell h vain
+    begun_stops variant meaning old new offer b ended (subst (λ (c : AskCall). AskFinishes meaning c old new offer b ended) is finishes)
+    bytes read why cell h vain

@@ -35,7 +35,8 @@ use Rattle.mm_schedule.specs.declared.reply.Reply.{Reply}
 use Rattle.mm_schedule.specs.declared.reply.Reply.TheVariants as reply
 use Rattle.mm_schedule.specs.Events.{Ask, Checkpoint, Power, Extend}
 use Rattle.mm_run.specs.Folds.{Outcome, course_of, first_issued, first_digests}
-use Rattle.mm_run.specs.Held.{Held, rising_from, world_key, world_barrier, world_of, first_held, outcome_in, Follows, having_read, Wants}
+use Rattle.mm_run.specs.Held.{Held, rising_from, world_of, first_held, outcome_in, Follows, having_read, Wants}
+use Rattle.mm_run.specs.HeldWords.{world_key, world_barrier}
 use Rattle.mm_run.specs.Offered.{offered_bytes}
 use Rattle.mm_world.specs.declared.call.Called.{Called}
 use Rattle.mm_world.specs.Stands.{Stands, IsQuiet}
@@ -58,7 +59,8 @@ flag_spelled : (c : Cell) → (slice_index (cell_spelling c) 6 == 1) ≡ c.flag
 unfolding cell_spelling
 flag_spelled c = flag_told c.flag
 
-pub digests_are : (i : Instance) (d : Digests) (s : Standing) (committed : ℕ) → Stands i s d → digests_in s committed ≡ record d { count = committed }
+pub digests_are : (i : Instance) (d : Digests) (s : Standing) (committed : ℕ) → Stands i s d
+    → digests_in s committed ≡ record d { count = committed }
 digests_are i d s committed a =
     let cell = cell_at i d in
     let digest : digest_in s.cell ≡ d.digest = ap digest_in a.at.cell ∙ digest_spelled cell a.at.spells.summary in
@@ -78,7 +80,8 @@ settles h s d issued committed a q few fits = record {
   fits = fits;
 }
 
-few_more : (issued : List (List ℕ)) (snapshot : Option (List ℕ)) → length issued < 2 ^ 32 - 1 → length (issued ++ option_to_list snapshot) ≤ 2 ^ 32 - 1
+few_more : (issued : List (List ℕ)) (snapshot : Option (List ℕ)) → length issued < 2 ^ 32 - 1
+    → length (issued ++ option_to_list snapshot) ≤ 2 ^ 32 - 1
 few_more issued None h = omega (arith, length-append issued [])
 few_more issued (Some s) h = omega (arith, length-append issued (s ∷ []))
 
@@ -112,35 +115,43 @@ wants h old new issued issued' committed meddles stop l i =
       | inl e ↦ inl (λ j. held_in h (e j) (i j) committed)
       | inr e ↦
           let seen = seen_at (world_of h) (by_digests (world_of h)) d c in
-          let n : seen.count ≡ committed = count_none (world_of h) (seen_in c.fates (reading_steps (world_of h).variant) 1) d (seen_none c.fates (reading_steps (world_of h).variant) 1) in
-          let there : digests_in new committed ≡ seen = digests_are (world_of h) seen new committed e.0 ∙ (λ j. record seen { count = sym n j }) in
+          let n : seen.count ≡ committed = count_none (world_of h) (seen_in c.fates (reading_steps (world_of h).variant) 1) d
+          (seen_none c.fates (reading_steps (world_of h).variant) 1) in
+          let there : digests_in new committed ≡ seen = digests_are (world_of h) seen new committed e.0
+          ∙ (λ j. record seen { count = sym n j }) in
           let steps = e.1 in
           inr (λ j. record { header = h; digests = there j; issued = i j; steps = steps j; writes = w j })
     ]
 
 -- an ask that is answered, over the fields of a world
-pub follows_ask : (h : Header) (old new : Standing) (issued lent issued' : List (List ℕ)) (committed committed' : ℕ) (meddles : List Meddle) (stop : Stop) (offer : Offer) (b : Batch) (it : Called) (world : Held)
+pub follows_ask : (h : Header) (old new : Standing) (issued lent issued' : List (List ℕ)) (committed committed' : ℕ) (meddles : List Meddle)
+    (stop : Stop) (offer : Offer) (b : Batch) (it : Called) (world : Held)
     → held_in h old issued committed ≡ world → KeepsWorld h old issued committed → lent ≡ issued
     → AsksAs h.variant (meaning_of h.«module») old new lent meddles stop (offered_bytes lent offer) b (Ok it)
     → issued' ≡ issued ++ option_to_list it.snapshot → committed' ≡ min (committed + it.committed) (2 ^ 64 - 1)
     → Follows (outcome_in world (Ask meddles stop offer b)) world (held_in h new issued' committed') it.reply
 follows_ask h old new issued lent issued' committed committed' meddles stop offer b it world is s same asks i n =
     let there : AsksAs h.variant (meaning_of h.«module») old new issued meddles stop (offered_bytes issued offer) b (Ok it) =
-    subst (λ (x : List (List ℕ)). AsksAs h.variant (meaning_of h.«module») old new x meddles stop (offered_bytes x offer) b (Ok it)) same asks in
+    subst (λ (x : List (List ℕ)). AsksAs h.variant (meaning_of h.«module») old new x meddles stop (offered_bytes x offer) b (Ok it)) same
+    asks in
     subst (λ (w : Held). Follows (outcome_in w (Ask meddles stop offer b)) w (held_in h new issued' committed') it.reply) is
     (follows h (outcome_in (held_in h old issued committed) (Ask meddles stop offer b)) old new issued issued' committed committed' it
     (there world_key world_barrier (digests_in old committed) s.stands s.quiet) i n)
 
-pub settled_ask : (h : Header) (old new : Standing) (issued lent issued' : List (List ℕ)) (committed committed' : ℕ) (meddles : List Meddle) (stop : Stop) (offer : Offer) (b : Batch) (it : Called)
-    → KeepsWorld h old issued committed → AsksAs h.variant (meaning_of h.«module») old new lent meddles stop (offered_bytes lent offer) b (Ok it)
+pub settled_ask : (h : Header) (old new : Standing) (issued lent issued' : List (List ℕ)) (committed committed' : ℕ) (meddles : List Meddle)
+    (stop : Stop) (offer : Offer) (b : Batch) (it : Called)
+    → KeepsWorld h old issued committed
+    → AsksAs h.variant (meaning_of h.«module») old new lent meddles stop (offered_bytes lent offer) b (Ok it)
     → issued' ≡ issued ++ option_to_list it.snapshot → committed' ≡ min (committed + it.committed) (2 ^ 64 - 1) → length issued < 2 ^ 32 - 1
     → KeepsWorld h new issued' committed'
 settled_ask h old new issued lent issued' committed committed' meddles stop offer b it s asks i n room =
     let c = asks world_key world_barrier (digests_in old committed) s.stands s.quiet in
     subst (λ (x : List (List ℕ)). KeepsWorld h new x committed') (sym i)
-    (settles h new _ (issued ++ option_to_list it.snapshot) committed' c.stands c.quiet (few_more issued it.snapshot room) (omega (arith, n)))
+    (settles h new _ (issued ++ option_to_list it.snapshot) committed' c.stands c.quiet (few_more issued it.snapshot room)
+    (omega (arith, n)))
 
-pub wants_ask : (h : Header) (old new : Standing) (issued lent issued' : List (List ℕ)) (committed : ℕ) (meddles : List Meddle) (stop : Stop) (offer : Offer) (b : Batch) (memory : Memory) (world : Held)
+pub wants_ask : (h : Header) (old new : Standing) (issued lent issued' : List (List ℕ)) (committed : ℕ) (meddles : List Meddle)
+    (stop : Stop) (offer : Offer) (b : Batch) (memory : Memory) (world : Held)
     → held_in h old issued committed ≡ world → KeepsWorld h old issued committed
     → AsksAs h.variant (meaning_of h.«module») old new lent meddles stop (offered_bytes lent offer) b (Err memory) → issued' ≡ issued
     → Wants (Ask meddles stop offer b) world (held_in h new issued' committed)
@@ -148,29 +159,37 @@ wants_ask h old new issued lent issued' committed meddles stop offer b memory wo
     subst (λ (w : Held). Wants (Ask meddles stop offer b) w (held_in h new issued' committed)) is
     (wants h old new issued issued' committed meddles stop (asks world_key world_barrier (digests_in old committed) s.stands s.quiet) i)
 
-settled_wanting : (h : Header) (old new : Standing) (issued : List (List ℕ)) (committed : ℕ) (meddles : List Meddle) (stop : Stop) → KeepsWorld h old issued committed
+settled_wanting : (h : Header) (old new : Standing) (issued : List (List ℕ)) (committed : ℕ) (meddles : List Meddle) (stop : Stop)
+    → KeepsWorld h old issued committed
     → Lacks (world_of h) (digests_in old committed) meddles stop old new → KeepsWorld h new issued committed
 settled_wanting h old new issued committed meddles stop s l = elim l.called [
   | inl e ↦ subst (λ (x : Standing). KeepsWorld h x issued committed) (sym e) s
   | inr e ↦ settles h new _ issued committed e.0 l.quiet s.few s.fits
 ]
 
-pub settled_lacking : (h : Header) (old new : Standing) (issued lent issued' : List (List ℕ)) (committed : ℕ) (meddles : List Meddle) (stop : Stop) (offer : Offer) (b : Batch) (memory : Memory)
+pub settled_lacking : (h : Header) (old new : Standing) (issued lent issued' : List (List ℕ)) (committed : ℕ) (meddles : List Meddle)
+    (stop : Stop) (offer : Offer) (b : Batch) (memory : Memory)
     → KeepsWorld h old issued committed
-    → AsksAs h.variant (meaning_of h.«module») old new lent meddles stop (offered_bytes lent offer) b (Err memory) → issued' ≡ issued → KeepsWorld h new issued' committed
+    → AsksAs h.variant (meaning_of h.«module») old new lent meddles stop (offered_bytes lent offer) b (Err memory) → issued' ≡ issued
+    → KeepsWorld h new issued' committed
 settled_lacking h old new issued lent issued' committed meddles stop offer b memory s asks i =
     subst (λ (x : List (List ℕ)). KeepsWorld h new x committed) (sym i)
     (settled_wanting h old new issued committed meddles stop s (asks world_key world_barrier (digests_in old committed) s.stands s.quiet))
 
 -- a checkpoint, over the fields of a world
-pub settled_checked : (h : Header) (old new : Standing) (issued : List (List ℕ)) (committed : ℕ) (meddles : List Meddle) (stop : Stop) (result : Result Reply Memory)
-    → KeepsWorld h old issued committed → ChecksAs h.variant (meaning_of h.«module») old new issued meddles stop result → KeepsWorld h new issued committed
+pub settled_checked : (h : Header) (old new : Standing) (issued : List (List ℕ)) (committed : ℕ) (meddles : List Meddle) (stop : Stop)
+    (result : Result Reply Memory)
+    → KeepsWorld h old issued committed → ChecksAs h.variant (meaning_of h.«module») old new issued meddles stop result
+    → KeepsWorld h new issued committed
 settled_checked h old new issued committed meddles stop (Ok said) s checks =
-    let c = checks world_key world_barrier (digests_in old committed) s.stands s.quiet in settles h new _ issued committed c.stands c.quiet s.few s.fits
+    let c = checks world_key world_barrier (digests_in old committed) s.stands s.quiet
+    in settles h new _ issued committed c.stands c.quiet s.few s.fits
 settled_checked h old new issued committed meddles stop (Err memory) s checks =
-    let e : new ≡ old = checks world_key world_barrier (digests_in old committed) s.stands s.quiet in subst (λ (x : Standing). KeepsWorld h x issued committed) (sym e) s
+    let e : new ≡ old = checks world_key world_barrier (digests_in old committed) s.stands s.quiet
+    in subst (λ (x : Standing). KeepsWorld h x issued committed) (sym e) s
 
-pub follows_checked : (h : Header) (old new : Standing) (issued : List (List ℕ)) (committed : ℕ) (meddles : List Meddle) (stop : Stop) (result : Result Reply Memory) (world : Held)
+pub follows_checked : (h : Header) (old new : Standing) (issued : List (List ℕ)) (committed : ℕ) (meddles : List Meddle) (stop : Stop)
+    (result : Result Reply Memory) (world : Held)
     → held_in h old issued committed ≡ world → KeepsWorld h old issued committed
     → ChecksAs h.variant (meaning_of h.«module») old new issued meddles stop result
     → IfOk result (Follows (outcome_in world (Checkpoint meddles stop)) world (held_in h new issued committed))
@@ -183,106 +202,49 @@ follows_checked h old new issued committed meddles stop (Ok said) world is s che
     (record { reply = f.reply; header = refl; digests = f.digests; issued = refl; steps = f.steps; writes = f.writes })
 follows_checked h old new issued committed meddles stop (Err memory) world is s checks = tt
 
-pub same_checked : (h : Header) (old new : Standing) (issued : List (List ℕ)) (committed : ℕ) (meddles : List Meddle) (stop : Stop) (result : Result Reply Memory) (world : Held)
+pub same_checked : (h : Header) (old new : Standing) (issued : List (List ℕ)) (committed : ℕ) (meddles : List Meddle) (stop : Stop)
+    (result : Result Reply Memory) (world : Held)
     → held_in h old issued committed ≡ world → KeepsWorld h old issued committed
     → ChecksAs h.variant (meaning_of h.«module») old new issued meddles stop result → OnErr result (held_in h new issued committed ≡ world)
 same_checked h old new issued committed meddles stop (Ok said) world is s checks = tt
 same_checked h old new issued committed meddles stop (Err memory) world is s checks =
-    let e : new ≡ old = checks world_key world_barrier (digests_in old committed) s.stands s.quiet in ap (λ (x : Standing). held_in h x issued committed) e ∙ is
-
--- power
-cycled_all : (fault : Option StepFault) (old new : Standing) (emptied : Bool) → fault ≡ None → EndsCycle fault old new emptied → (emptied ≡ true) × (new.is_on ≡ true)
-cycled_all None old new emptied e c = (c.0, c.1)
-cycled_all (Some f) old new emptied e c = absurd (cc)
-
-pub stands_cycled : (i : Instance) (d : Digests) (old new : Standing) (fault : Option StepFault) → Stands i old d → IsQuiet old
-    → Cycles old new fault → Stands i new (made i d PowerMove) × IsQuiet new
-stands_cycled i d old new fault s q c =
-    let none : fault ≡ None = c.told (ap (λ p. is_some p) q.plan) in
-    let all = cycled_all fault old new c.is_emptied none c.ends in (
-      stands_settled i d old new true s c.cell (c.items ∙ ap (λ (x : Bool). items_cycled x old.items) all.0),
-      record { is_on = all.1; plan = c.plan ∙ q.plan },
-    )
-
-pub settled_power : (h : Header) (old new : Standing) (issued : List (List ℕ)) (committed : ℕ) (fault : Option StepFault) → KeepsWorld h old issued committed → Cycles old new fault
-    → KeepsWorld h new issued committed
-settled_power h old new issued committed fault s c =
-    let t = stands_cycled (world_of h) (digests_in old committed) old new fault s.stands s.quiet c in settles h new _ issued committed t.0 t.1 s.few s.fits
-
-pub follows_power : (h : Header) (old new : Standing) (issued : List (List ℕ)) (committed : ℕ) (fault : Option StepFault) (world : Held)
-    → held_in h old issued committed ≡ world → KeepsWorld h old issued committed → Cycles old new fault
-    → Follows (outcome_in world Power) world (held_in h new issued committed) reply.Power
-follows_power h old new issued committed fault world is s c =
-    let d = digests_in old committed in
-    let t = stands_cycled (world_of h) d old new fault s.stands s.quiet c in
-    let n : committed ≡ min committed (2 ^ 64 - 1) = (let fits = s.fits in omega (arith, fits)) in
-    let after = made (world_of h) d PowerMove in
-    subst (λ (w : Held). Follows (outcome_in w Power) w (held_in h new issued committed) reply.Power) is
-    (record {
-      reply = refl;
-      header = refl;
-      digests = digests_are (world_of h) after new committed t.0 ∙ (λ j. record after { count = n j });
-      issued = refl;
-      steps = c.steps;
-      writes = c.writes;
-    })
+    let e : new ≡ old = checks world_key world_barrier (digests_in old committed) s.stands s.quiet
+    in ap (λ (x : Standing). held_in h x issued committed) e ∙ is
 
 -- others extend the register
 abbrev pub extended_by : Standing → List ℕ → Standing
 extended_by old value = record old { items = beside (value ∷ []) old.items }
 
-beside_shown : (i : Instance) (d : Digests) (value : List ℕ) (items : Option (List Item)) → beside (value ∷ []) items ≡ option_map (shown i d (Foreign value ∷ [])) items
+beside_shown : (i : Instance) (d : Digests) (value : List ℕ) (items : Option (List Item))
+    → beside (value ∷ []) items ≡ option_map (shown i d (Foreign value ∷ [])) items
 beside_shown i d value None = refl
 beside_shown i d value (Some items) = refl
 
-pub stands_extended : (i : Instance) (d : Digests) (value : List ℕ) (old : Standing) → Stands i old d → Stands i (extended_by old value) (made i d (Foreign value))
+pub stands_extended : (i : Instance) (d : Digests) (value : List ℕ) (old : Standing) → Stands i old d
+    → Stands i (extended_by old value) (made i d (Foreign value))
 stands_extended i d value old s =
     let r : register_reads (extended_by old value) ≡ Some (made i d (Foreign value)).register =
-    ap (λ x. option_map (λ xs. register_after (item_values xs)) x) (beside_shown i d value old.items) ∙ reads_shown i (Foreign value ∷ []) d old.items s.register in
+    ap (λ x. option_map (λ xs. register_after (item_values xs)) x) (beside_shown i d value old.items)
+    ∙ reads_shown i (Foreign value ∷ []) d old.items s.register in
     record {
-      at = record { spells = s.at.spells; cell = s.at.cell; reads = register_at i.variant (register_reads (extended_by old value)) (made i d (Foreign value)).register r };
+      at =
+          record {
+            spells = s.at.spells;
+            cell = s.at.cell;
+            reads = register_at i.variant (register_reads (extended_by old value))
+                (made i d (Foreign value)).register r;
+          };
       register = r;
     }
-
-pub settled_extend : (h : Header) (old new : Standing) (issued : List (List ℕ)) (committed : ℕ) (value : List ℕ) → KeepsWorld h old issued committed → new ≡ extended_by old value
-    → KeepsWorld h new issued committed
-settled_extend h old new issued committed value s e =
-    subst (λ (x : Standing). KeepsWorld h x issued committed) (sym e)
-    (settles h (extended_by old value) _ issued committed (stands_extended (world_of h) (digests_in old committed) value old s.stands)
-    (record { is_on = s.quiet.is_on; plan = s.quiet.plan }) s.few s.fits)
-
-follows_extended : (h : Header) (old : Standing) (issued : List (List ℕ)) (committed : ℕ) (value : List ℕ) → KeepsWorld h old issued committed
-    → Follows (outcome_in (held_in h old issued committed) (Extend value)) (held_in h old issued committed) (held_in h (extended_by old value) issued committed) reply.Extended
-follows_extended h old issued committed value s =
-    let d = digests_in old committed in
-    let after = made (world_of h) d (Foreign value) in
-    let t = stands_extended (world_of h) d value old s.stands in
-    let n : committed ≡ min committed (2 ^ 64 - 1) = (let fits = s.fits in omega (arith, fits)) in
-    record {
-      reply = refl;
-      header = refl;
-      digests = digests_are (world_of h) after (extended_by old value) committed t ∙ (λ j. record after { count = n j });
-      issued = refl;
-      steps = refl;
-      writes = refl;
-    }
-
-pub follows_extend : (h : Header) (old new : Standing) (issued : List (List ℕ)) (committed : ℕ) (value : List ℕ) (world : Held)
-    → held_in h old issued committed ≡ world → KeepsWorld h old issued committed → new ≡ extended_by old value
-    → Follows (outcome_in world (Extend value)) world (held_in h new issued committed) reply.Extended
-follows_extend h old new issued committed value world is s e =
-    subst (λ (w : Held). Follows (outcome_in w (Extend value)) w (held_in h new issued committed) reply.Extended) is
-    (subst (λ (x : Standing). Follows (outcome_in (held_in h old issued committed) (Extend value)) (held_in h old issued committed) (held_in h x issued committed) reply.Extended)
-    (sym e) (follows_extended h old issued committed value s))
 
 -- a new world
 
 length-world_key : length world_key ≡ 32
-unfolding world_key rising_from
+unfolding rising_from
 length-world_key = refl
 
 length-world_barrier : length world_barrier ≡ 32
-unfolding world_barrier rising_from
+unfolding rising_from
 length-world_barrier = refl
 
 pub stands_new : (variant : Variant) (meaning : Meaning) (key barrier cell : List ℕ) → length key ≡ 32 → length barrier ≡ 32
@@ -292,8 +254,11 @@ stands_new Basic meaning key barrier cell length-key length-barrier e =
     let i = instance_by Basic meaning key barrier in
     record {
       at = record {
-        spells = record { summary = length-start_of Basic meaning.id; key = length-key; barrier = length-zero_bytes; variant = (refl, refl) };
-        cell = ap Some (e ∙ ap (λ (s : List ℕ). cell_spelling (cell_at i (record { digest = s; flag = false; register = zero_bytes; count = 0 }))) (sym (summary-nil meaning.id)));
+        spells =
+            record { summary = length-start_of Basic meaning.id; key = length-key; barrier = length-zero_bytes; variant = (refl, refl) };
+        cell =
+            ap Some (e ∙ ap (λ (s : List ℕ). cell_spelling
+            (cell_at i (record { digest = s; flag = false; register = zero_bytes; count = 0 }))) (sym (summary-nil meaning.id)));
         reads = tt;
       };
       register = refl;
@@ -303,28 +268,35 @@ stands_new Opt meaning key barrier cell length-key length-barrier e =
     record {
       at = record {
         spells = record { summary = length-start_of Opt meaning.id; key = length-key; barrier = length-barrier; variant = tt };
-        cell = ap Some (e ∙ ap (λ (s : List ℕ). cell_spelling (cell_at i (record { digest = s; flag = false; register = zero_bytes; count = 0 }))) (sym (anchor-nil meaning.id)));
+        cell =
+            ap Some (e ∙ ap (λ (s : List ℕ). cell_spelling
+            (cell_at i (record { digest = s; flag = false; register = zero_bytes; count = 0 }))) (sym (anchor-nil meaning.id)));
         reads = refl;
       };
       register = refl;
     }
 
-pub stands_first : (h : Header) (cell : List ℕ) → cell ≡ cell_spelling (cell_of (world_of h) first_history) → Stands (world_of h) (new_platform cell) (first_digests (world_of h))
+pub stands_first : (h : Header) (cell : List ℕ) → cell ≡ cell_spelling (cell_of (world_of h) first_history)
+    → Stands (world_of h) (new_platform cell) (first_digests (world_of h))
 stands_first h cell e = stands_new h.variant (meaning_of h.«module») world_key world_barrier cell length-world_key length-world_barrier e
 
-settled_first : (h : Header) (cell : List ℕ) (standing : Standing) (issued : List (List ℕ)) → cell ≡ cell_spelling (cell_of (world_of h) first_history)
+settled_first : (h : Header) (cell : List ℕ) (standing : Standing) (issued : List (List ℕ))
+    → cell ≡ cell_spelling (cell_of (world_of h) first_history)
     → standing ≡ new_platform cell → length issued ≤ 2 ^ 32 - 1 → KeepsWorld h standing issued 0
 settled_first h cell standing issued e f few =
     subst (λ (x : Standing). KeepsWorld h x issued 0) (sym f)
-    (settles h (new_platform cell) (first_digests (world_of h)) issued 0 (stands_first h cell e) (record { is_on = refl; plan = refl }) few (omega arith))
+    (settles h (new_platform cell) (first_digests (world_of h)) issued 0 (stands_first h cell e) (record { is_on = refl; plan = refl }) few
+    (omega arith))
 
 first_there : (h : Header) (cell : List ℕ) (issued : List (List ℕ)) → cell ≡ cell_spelling (cell_of (world_of h) first_history)
     → issued ≡ first_issued (world_of h) → held_in h (new_platform cell) issued 0 ≡ first_held h
 first_there h cell issued e i =
-    let there : digests_in (new_platform cell) 0 ≡ first_digests (world_of h) = digests_are (world_of h) (first_digests (world_of h)) (new_platform cell) 0 (stands_first h cell e) in
+    let there : digests_in (new_platform cell) 0 ≡ first_digests (world_of h) = digests_are (world_of h) (first_digests (world_of h))
+    (new_platform cell) 0 (stands_first h cell e) in
     λ j. record { header = h; digests = there j; issued = i j; steps = 0; writes = 0 }
 
-first_world : (h : Header) (cell : List ℕ) (standing : Standing) (issued : List (List ℕ)) → cell ≡ cell_spelling (cell_of (world_of h) first_history)
+first_world : (h : Header) (cell : List ℕ) (standing : Standing) (issued : List (List ℕ))
+    → cell ≡ cell_spelling (cell_of (world_of h) first_history)
     → standing ≡ new_platform cell → issued ≡ first_issued (world_of h) → held_in h standing issued 0 ≡ first_held h
 first_world h cell standing issued e f i = ap (λ (x : Standing). held_in h x issued 0) f ∙ first_there h cell issued e i
 
@@ -337,11 +309,14 @@ few_first : (issued : List (List ℕ)) (snapshot : List ℕ) → issued ≡ snap
 few_first issued snapshot e = omega (arith, ap (λ (x : List (List ℕ)). length x) e)
 
 -- a world that was provisioned
-pub settled_provisioned : (h : Header) (cell snapshot : List ℕ) (standing : Standing) (issued : List (List ℕ)) → cell ≡ cell_spelling (cell_of (world_of h) first_history)
+pub settled_provisioned : (h : Header) (cell snapshot : List ℕ) (standing : Standing) (issued : List (List ℕ))
+    → cell ≡ cell_spelling (cell_of (world_of h) first_history)
     → standing ≡ new_platform cell → issued ≡ snapshot ∷ [] → KeepsWorld h standing issued 0
 settled_provisioned h cell snapshot standing issued e f i = settled_first h cell standing issued e f (few_first issued snapshot i)
 
-pub world_provisioned : (h : Header) (cell snapshot : List ℕ) (standing : Standing) (issued : List (List ℕ)) → cell ≡ cell_spelling (cell_of (world_of h) first_history)
-    → snapshot ≡ issued_bytes (world_of h) first_history → standing ≡ new_platform cell → issued ≡ snapshot ∷ [] → held_in h standing issued 0 ≡ first_held h
+pub world_provisioned : (h : Header) (cell snapshot : List ℕ) (standing : Standing) (issued : List (List ℕ))
+    → cell ≡ cell_spelling (cell_of (world_of h) first_history)
+    → snapshot ≡ issued_bytes (world_of h) first_history → standing ≡ new_platform cell → issued ≡ snapshot ∷ []
+    → held_in h standing issued 0 ≡ first_held h
 world_provisioned h cell snapshot standing issued e s f i =
     first_world h cell standing issued e f (i ∙ ap (λ (x : List ℕ). x ∷ []) s)

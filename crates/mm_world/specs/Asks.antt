@@ -20,7 +20,8 @@ use Rattle.mm_world.specs.declared.call.Called.{Called}
 use Rattle.mm_world.specs.Stands.{Stands, IsQuiet}
 
 -- The call came to this outcome, after these snapshots, and its plan is over.
-pub record Came (i : Instance) (o : Outcome Digests) (count : ℕ) (issued : List (List ℕ)) (old new : Standing) (it : Called) : Type 0 where
+pub record Came (i : Instance) (o : Outcome Digests) (count : ℕ) (issued : List (List ℕ))
+    (old new : Standing) (it : Called) : Type 0 where
   pub reply : it.reply ≡ o.reply
   pub issues : issued ++ option_to_list it.snapshot ≡ o.issued
   pub stands : Stands i new o.state
@@ -30,7 +31,8 @@ pub record Came (i : Instance) (o : Outcome Digests) (count : ℕ) (issued : Lis
   pub writes : new.writes ≡ counted_by o.writes old.writes
 
 -- Memory was wanting: nothing has changed, but that the reading steps may have been made.
-pub record Lacks (i : Instance) (d : Digests) (meddles : List Meddle) (stop : Stop) (old new : Standing) : Type 0 where
+pub record Lacks (i : Instance) (d : Digests) (meddles : List Meddle) (stop : Stop)
+    (old new : Standing) : Type 0 where
   pub quiet : IsQuiet new
   pub writes : new.writes ≡ old.writes
   pub called : (new ≡ old)
@@ -38,13 +40,16 @@ pub record Lacks (i : Instance) (d : Digests) (meddles : List Meddle) (stop : St
       × (new.steps ≡ counted_by (length (reading_steps i.variant)) old.steps))
 
 -- the batch is asked of these bytes, if any are offered, over a quiet platform
-abbrev pub AsksAs : Variant → Meaning → Standing → Standing → List (List ℕ) → List Meddle → Stop → Option (List ℕ) → Batch
+abbrev pub AsksAs : Variant → Meaning → Standing → Standing → List (List ℕ) → List Meddle → Stop
+    → Option (List ℕ) → Batch
     → Result Called Memory → Type 0
 AsksAs variant meaning old new issued meddles stop bytes b result =
-    (key barrier : List ℕ) (d : Digests) → Stands (instance_by variant meaning key barrier) old d → IsQuiet old
+    (key barrier : List ℕ) (d : Digests) → Stands (instance_by variant meaning key barrier) old d
+    → IsQuiet old
     → MatchResult result
     (Came (instance_by variant meaning key barrier)
-    (asked (instance_by variant meaning key barrier) (by_digests (instance_by variant meaning key barrier)) d issued meddles stop bytes b)
+    (asked (instance_by variant meaning key barrier)
+    (by_digests (instance_by variant meaning key barrier)) d issued meddles stop bytes b)
     d.count issued old new)
     (λ _. Lacks (instance_by variant meaning key barrier) d meddles stop old new)
 
@@ -53,13 +58,16 @@ abbrev pub quiet_as : Reply → Called
 quiet_as said = record { reply = said; snapshot = None; committed = 0 }
 
 -- a checkpoint over a quiet platform
-abbrev pub ChecksAs : Variant → Meaning → Standing → Standing → List (List ℕ) → List Meddle → Stop → Result Reply Memory → Type 0
+abbrev pub ChecksAs : Variant → Meaning → Standing → Standing → List (List ℕ) → List Meddle → Stop
+    → Result Reply Memory → Type 0
 ChecksAs variant meaning old new issued meddles stop result =
-    (key barrier : List ℕ) (d : Digests) → Stands (instance_by variant meaning key barrier) old d → IsQuiet old
+    (key barrier : List ℕ) (d : Digests) → Stands (instance_by variant meaning key barrier) old d
+    → IsQuiet old
     → MatchResult result
     (λ said. Came (instance_by variant meaning key barrier)
     (closed_outcome (by_digests (instance_by variant meaning key barrier)) stop issued
-    (checkpointed (instance_by variant meaning key barrier) (by_digests (instance_by variant meaning key barrier)) d
+    (checkpointed (instance_by variant meaning key barrier)
+    (by_digests (instance_by variant meaning key barrier)) d
     (course_of stop meddles)))
     d.count issued old new (quiet_as said))
     (λ _. new ≡ old)

@@ -20,7 +20,8 @@ use Rattle.mm_schedule.specs.declared.reply.Cause.{Cause}
 use Rattle.mm_schedule.specs.declared.reply.Cause.TheVariants as cause
 use Rattle.mm_schedule.specs.declared.reply.Reply.{Reply}
 use Rattle.mm_schedule.specs.declared.reply.Reply.TheVariants as reply
-use Rattle.mm_run.specs.Folds.{way_of, cause_of, told_reply, broken_reply, stopped_reply}
+use Rattle.mm_run.specs.Folds.{way_of, cause_of}
+use Rattle.mm_run.specs.FoldsWords.{told_reply, broken_reply, stopped_reply}
 use Rattle.mm_world.specs.declared.call.Called.{Called}
 
 -- a call that was refused
@@ -64,7 +65,8 @@ RefusedAs why result = result ≡ Ok (refused_call (cause_of why))
 abbrev pub CalledAs : Stop → ℕ → Ended → Result Called Memory → Type 0
 CalledAs stop size (Answered answer) result = result ≡ Ok (answered_call answer)
 CalledAs stop size (Refused why) result = RefusedAs why result
-CalledAs stop size (Broken fault commits) result = result ≡ Ok (broken_as stop (if takes_effect stop then commits else None) size)
+CalledAs stop size (Broken fault commits) result =
+    result ≡ Ok (broken_as stop (if takes_effect stop then commits else None) size)
 
 -- a cut call leaves power off, which then comes back
 abbrev pub is_cut : Stop → Bool
@@ -97,7 +99,8 @@ stopped_step (stop.Cut step) = step
 stopped_step (stop.Drop step) = step
 stopped_step (stop.Fail step done) = step
 
--- whether a checkpoint that is stopped so has closed its segment: its third step does that, by writing the cell
+-- whether a checkpoint that is stopped so has closed its segment: its third step does that, by
+-- writing the cell
 abbrev pub closes_at : Stop → Bool
 closes_at stop = (stopped_step stop == 3) && takes_effect stop
 

@@ -46,7 +46,8 @@ pub record HoldsWorld (world : Held) (standing : Standing) : Type 0 where
   pub writes : world.writes ≡ standing.writes
 
 -- what the fields of a world keep
-pub record KeepsWorld (header : Header) (standing : Standing) (issued : List (List ℕ)) (committed : ℕ) : Type 0 where
+pub record KeepsWorld (header : Header) (standing : Standing) (issued : List (List ℕ))
+    (committed : ℕ) : Type 0 where
   pub stands : Stands (world_of header) standing (digests_in standing committed)
   pub quiet : IsQuiet standing
   pub few : length issued ≤ 2 ^ 32 - 1

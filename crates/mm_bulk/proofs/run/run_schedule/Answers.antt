@@ -10,7 +10,8 @@ use Rattle.mm_bulk.proofs.run.run_schedule.Goals as goal
 
 pub lines-init : goal.lines-init
 lines-init c =
-    let found = ap line_at (c.as_slice.ensures.value ∙ c.in_ok-schedule.ensures) ∙ behind_first c.args.number c.args.count c.args.header.now in
+    let found = ap line_at (c.as_slice.ensures.value ∙ c.in_ok-schedule.ensures)
+    ∙ behind_first c.args.number c.args.count c.args.header.now in
     let rest = c.behind_header-rest.ensures _ _ found in
     record {
       going = starts c.args.number c.args.count c.args.header.now _ (running c.in_ok-progress.progress) _ _ c.requires.count rest
@@ -19,16 +20,19 @@ lines-init c =
     }
 
 pub answered-requires-clause-short : goal.answered-requires-clause-short
-answered-requires-clause-short c = (next _ _ _ _ _ c.in-Some.line.now c.in-Some.behind.now c.lines.invariant.going (sym c.in-Some.ensures)).short
+answered-requires-clause-short c =
+    (next _ _ _ _ _ c.in-Some.line.now c.in-Some.behind.now c.lines.invariant.going (sym c.in-Some.ensures)).short
 
 pub answered-requires-clause-known : goal.answered-requires-clause-known
-answered-requires-clause-known c = (next _ _ _ _ _ c.in-Some.line.now c.in-Some.behind.now c.lines.invariant.going (sym c.in-Some.ensures)).known
+answered-requires-clause-known c =
+    (next _ _ _ _ _ c.in-Some.line.now c.in-Some.behind.now c.lines.invariant.going (sym c.in-Some.ensures)).known
 
 pub count-requires : goal.count-requires
 count-requires c = (next _ _ _ _ _ c.in-Some.line.now c.in-Some.behind.now c.lines.invariant.going (sym c.in-Some.ensures)).room
 
 pub lines-smaller-in_ok-put_reply : goal.lines-smaller-in_ok-put_reply
-lines-smaller-in_ok-put_reply c = (next _ _ _ _ _ c.in-Some.line.now c.in-Some.behind.now c.lines.invariant.going (sym c.in-Some.ensures)).less
+lines-smaller-in_ok-put_reply c =
+    (next _ _ _ _ _ c.in-Some.line.now c.in-Some.behind.now c.lines.invariant.going (sym c.in-Some.ensures)).less
 
 pub lines-smaller : goal.lines-smaller
 lines-smaller c = (next _ _ _ _ _ c.in-Some.line.now c.in-Some.behind.now c.lines.invariant.going (sym c.in-Some.ensures)).less
@@ -63,7 +67,8 @@ pub returns-in_err-reply-clause-limit : goal.returns-in_err-reply-clause-limit
 returns-in_err-reply-clause-limit c =
     let p = err_from_is_err_and c.from_residual-in_err-reply.result c.from_residual-in_err-reply.ensures.1 in
     let step = next _ _ _ _ _ c.in-Some.line.now c.in-Some.behind.now c.lines.invariant.going (sym c.in-Some.ensures) in
-    rw (p.1, p.2) (stops _ _ _ _ _ _ _ _ c.in_err-reply.field-0.0 step c.lines.invariant.header (λ much. c.in_err-reply.ensures.limit (ap Err much)))
+    rw (p.1, p.2) (stops _ _ _ _ _ _ _ _ c.in_err-reply.field-0.0 step c.lines.invariant.header
+    (λ much. c.in_err-reply.ensures.limit (ap Err much)))
 
 pub returns-clause-limit : goal.returns-clause-limit
 returns-clause-limit c = within _ _ _ _ _ _ c.lines.invariant.going c.lines.invariant.header (sym c.in_default.ensures)

@@ -15,25 +15,32 @@ returns-in-Ok-clause-again g c =
 
 pub returns-in-Ok-clause-counts : goal.returns-in-Ok-clause-counts
 returns-in-Ok-clause-counts g c =
-    at_once refl (basic_counts (g.M.Module.meaning c.args.module.now) (g.P.Device.standing c.args.platform.now) (g.P.Device.standing c.ask.new.platform)
+    at_once refl (basic_counts (g.M.Module.meaning c.args.module.now) (g.P.Device.standing c.args.platform.now)
+    (g.P.Device.standing c.ask.new.platform)
     c.args.offer.now c.args.request.now (Ok c.in-Ok.answer) c.in-Ok.ensures.calls c.in-Ok.ensures.steps c.in-Ok.ensures.faults)
 
 pub returns-in-Err-Device-clause-again : goal.returns-in-Err-Device-clause-again
 returns-in-Err-Device-clause-again g c =
     asked_again (g.M.Module.meaning c.args.module.now) (g.P.Device.standing c.args.platform.now) (g.P.Device.standing c.ask.new.platform)
-    (g.P.Device.standing c.ask-in-Err-Device.new.platform) c.args.offer.now c.args.request.now c.in-Err-Device.field-0 c.in-Err-Device.field-0-0
-    c.ask-in-Err-Device.result c.in-Err-Device.field-0-is c.in-Err-Device.ensures.faults c.in-Err-Device.ensures.calls c.in-Err-Device.ensures.goes
+    (g.P.Device.standing c.ask-in-Err-Device.new.platform) c.args.offer.now c.args.request.now c.in-Err-Device.field-0
+    c.in-Err-Device.field-0-0
+    c.ask-in-Err-Device.result c.in-Err-Device.field-0-is c.in-Err-Device.ensures.faults c.in-Err-Device.ensures.calls
+    c.in-Err-Device.ensures.goes
     c.ask-in-Err-Device.ensures.faults c.ask-in-Err-Device.ensures.calls c.ask-in-Err-Device.ensures.goes
 
 pub returns-in-Err-Device-clause-counts : goal.returns-in-Err-Device-clause-counts
 returns-in-Err-Device-clause-counts g c =
     counted_again Basic (One c.args.request.now) (g.P.Device.standing c.args.platform.now) (g.P.Device.standing c.ask.new.platform)
-    (g.P.Device.standing c.ask-in-Err-Device.new.platform) c.in-Err-Device.field-0 c.in-Err-Device.field-0-0 (whole_in c.ask-in-Err-Device.result)
+    (g.P.Device.standing c.ask-in-Err-Device.new.platform) c.in-Err-Device.field-0 c.in-Err-Device.field-0-0
+    (whole_in c.ask-in-Err-Device.result)
     c.in-Err-Device.field-0-is
     (basic_counts (g.M.Module.meaning c.args.module.now) (g.P.Device.standing c.args.platform.now) (g.P.Device.standing c.ask.new.platform)
-    c.args.offer.now c.args.request.now (Err c.in-Err-Device.field-0) c.in-Err-Device.ensures.calls c.in-Err-Device.ensures.steps c.in-Err-Device.ensures.faults)
-    (basic_counts (g.M.Module.meaning c.args.module.now) (g.P.Device.standing c.ask.new.platform) (g.P.Device.standing c.ask-in-Err-Device.new.platform)
-    c.args.offer.now c.args.request.now c.ask-in-Err-Device.result c.ask-in-Err-Device.ensures.calls c.ask-in-Err-Device.ensures.steps c.ask-in-Err-Device.ensures.faults)
+    c.args.offer.now c.args.request.now (Err c.in-Err-Device.field-0) c.in-Err-Device.ensures.calls c.in-Err-Device.ensures.steps
+    c.in-Err-Device.ensures.faults)
+    (basic_counts (g.M.Module.meaning c.args.module.now) (g.P.Device.standing c.ask.new.platform)
+    (g.P.Device.standing c.ask-in-Err-Device.new.platform)
+    c.args.offer.now c.args.request.now c.ask-in-Err-Device.result c.ask-in-Err-Device.ensures.calls c.ask-in-Err-Device.ensures.steps
+    c.ask-in-Err-Device.ensures.faults)
 
 pub returns-in-Err-clause-again : goal.returns-in-Err-clause-again
 returns-in-Err-clause-again g c =

@@ -7,7 +7,8 @@ use Rattle.mm_callers.proofs.basic.ask_twice.Goals as goal
 
 pub returns-in-Ok-clause-twice : goal.returns-in-Ok-clause-twice
 returns-in-Ok-clause-twice g c =
-    asked_twice (g.M.Module.meaning c.args.module.now) (g.met.M.Module.is_lawful c.args.module.now) (g.P.Device.standing c.args.platform.now)
+    asked_twice (g.M.Module.meaning c.args.module.now) (g.met.M.Module.is_lawful c.args.module.now)
+    (g.P.Device.standing c.args.platform.now)
     (g.P.Device.standing c.ask.new.platform) (g.P.Device.standing c.ask-in-Ok.new.platform) c.args.offer.now c.as_slice-newest.result.now
     c.args.first.now c.args.second.now c.in-Ok.answer c.ask-in-Ok.result c.in-Ok.ensures.faults c.in-Ok.ensures.calls c.in-Ok.ensures.goes
     c.in-Ok.ensures.fits c.as_slice-newest.ensures.value c.ask-in-Ok.ensures.faults c.ask-in-Ok.ensures.calls c.ask-in-Ok.ensures.goes
@@ -17,15 +18,20 @@ returns-in-Ok-clause-counts g c =
     both (g.P.Device.standing c.ask.new.platform) (whole c.in-Ok.answer)
     (basic_counts (g.M.Module.meaning c.args.module.now) (g.P.Device.standing c.args.platform.now) (g.P.Device.standing c.ask.new.platform)
     c.args.offer.now c.args.first.now (Ok c.in-Ok.answer) c.in-Ok.ensures.calls c.in-Ok.ensures.steps c.in-Ok.ensures.faults)
-    (basic_counts (g.M.Module.meaning c.args.module.now) (g.P.Device.standing c.ask.new.platform) (g.P.Device.standing c.ask-in-Ok.new.platform)
-    c.as_slice-newest.result.now c.args.second.now c.ask-in-Ok.result c.ask-in-Ok.ensures.calls c.ask-in-Ok.ensures.steps c.ask-in-Ok.ensures.faults)
+    (basic_counts (g.M.Module.meaning c.args.module.now) (g.P.Device.standing c.ask.new.platform)
+    (g.P.Device.standing c.ask-in-Ok.new.platform)
+    c.as_slice-newest.result.now c.args.second.now c.ask-in-Ok.result c.ask-in-Ok.ensures.calls c.ask-in-Ok.ensures.steps
+    c.ask-in-Ok.ensures.faults)
 
 pub returns-in-Err-clause-twice : goal.returns-in-Err-clause-twice
 returns-in-Err-clause-twice g c =
     refused_first (g.M.Module.meaning c.args.module.now) (g.P.Device.standing c.args.platform.now) (g.P.Device.standing c.ask.new.platform)
-    c.args.offer.now c.args.first.now c.args.second.now c.in-Err.refusal c.in-Err.ensures.faults c.in-Err.ensures.calls c.in-Err.ensures.goes
+    c.args.offer.now c.args.first.now c.args.second.now c.in-Err.refusal c.in-Err.ensures.faults c.in-Err.ensures.calls
+    c.in-Err.ensures.goes
 
 pub returns-in-Err-clause-counts : goal.returns-in-Err-clause-counts
 returns-in-Err-clause-counts g c =
-    alone c.in-Err.refusal refl (basic_counts (g.M.Module.meaning c.args.module.now) (g.P.Device.standing c.args.platform.now) (g.P.Device.standing c.ask.new.platform)
+    alone c.in-Err.refusal refl
+    (basic_counts (g.M.Module.meaning c.args.module.now) (g.P.Device.standing c.args.platform.now)
+    (g.P.Device.standing c.ask.new.platform)
     c.args.offer.now c.args.first.now (Err c.in-Err.refusal) c.in-Err.ensures.calls c.in-Err.ensures.steps c.in-Err.ensures.faults)

@@ -20,25 +20,34 @@ returns-in-Ok-clause-complete g c =
 
 pub returns-in-Err-Device-clause-once : goal.returns-in-Err-Device-clause-once
 returns-in-Err-Device-clause-once g c =
-    asked_after_fault (g.M.Module.meaning c.args.module.now) (g.P.Device.standing c.args.platform.now) (g.P.Device.standing c.ask.new.platform)
-    (g.P.Device.standing c.ask-in-Err-Device.new.platform) c.args.offer.now c.args.request.now c.in-Err-Device.field-0 c.in-Err-Device.field-0-0
-    c.ask-in-Err-Device.result c.in-Err-Device.field-0-is c.in-Err-Device.ensures.faults c.in-Err-Device.ensures.calls c.in-Err-Device.ensures.goes
+    asked_after_fault (g.M.Module.meaning c.args.module.now) (g.P.Device.standing c.args.platform.now)
+    (g.P.Device.standing c.ask.new.platform)
+    (g.P.Device.standing c.ask-in-Err-Device.new.platform) c.args.offer.now c.args.request.now c.in-Err-Device.field-0
+    c.in-Err-Device.field-0-0
+    c.ask-in-Err-Device.result c.in-Err-Device.field-0-is c.in-Err-Device.ensures.faults c.in-Err-Device.ensures.calls
+    c.in-Err-Device.ensures.goes
     c.ask-in-Err-Device.ensures.faults c.ask-in-Err-Device.ensures.calls c.ask-in-Err-Device.ensures.goes
 
 pub returns-in-Err-Device-clause-counts : goal.returns-in-Err-Device-clause-counts
 returns-in-Err-Device-clause-counts g c =
     counted_again Opt (One c.args.request.now) (g.P.Device.standing c.args.platform.now) (g.P.Device.standing c.ask.new.platform)
-    (g.P.Device.standing c.ask-in-Err-Device.new.platform) c.in-Err-Device.field-0 c.in-Err-Device.field-0-0 (whole_in c.ask-in-Err-Device.result)
+    (g.P.Device.standing c.ask-in-Err-Device.new.platform) c.in-Err-Device.field-0 c.in-Err-Device.field-0-0
+    (whole_in c.ask-in-Err-Device.result)
     c.in-Err-Device.field-0-is
     (opt_counts (g.M.Module.meaning c.args.module.now) (g.P.Device.standing c.args.platform.now) (g.P.Device.standing c.ask.new.platform)
-    c.args.offer.now c.args.request.now (Err c.in-Err-Device.field-0) c.in-Err-Device.ensures.calls c.in-Err-Device.ensures.steps c.in-Err-Device.ensures.faults)
-    (opt_counts (g.M.Module.meaning c.args.module.now) (g.P.Device.standing c.ask.new.platform) (g.P.Device.standing c.ask-in-Err-Device.new.platform)
-    c.args.offer.now c.args.request.now c.ask-in-Err-Device.result c.ask-in-Err-Device.ensures.calls c.ask-in-Err-Device.ensures.steps c.ask-in-Err-Device.ensures.faults)
+    c.args.offer.now c.args.request.now (Err c.in-Err-Device.field-0) c.in-Err-Device.ensures.calls c.in-Err-Device.ensures.steps
+    c.in-Err-Device.ensures.faults)
+    (opt_counts (g.M.Module.meaning c.args.module.now) (g.P.Device.standing c.ask.new.platform)
+    (g.P.Device.standing c.ask-in-Err-Device.new.platform)
+    c.args.offer.now c.args.request.now c.ask-in-Err-Device.result c.ask-in-Err-Device.ensures.calls c.ask-in-Err-Device.ensures.steps
+    c.ask-in-Err-Device.ensures.faults)
 
 pub returns-in-Err-Device-clause-complete : goal.returns-in-Err-Device-clause-complete
 returns-in-Err-Device-clause-complete g c =
-    asked_faultless (g.M.Module.meaning c.args.module.now) (g.P.Device.standing c.args.platform.now) (g.P.Device.standing c.ask.new.platform)
-    (g.P.Device.standing c.ask-in-Err-Device.new.platform) c.args.offer.now c.args.request.now c.in-Err-Device.field-0 c.in-Err-Device.field-0-0
+    asked_faultless (g.M.Module.meaning c.args.module.now) (g.P.Device.standing c.args.platform.now)
+    (g.P.Device.standing c.ask.new.platform)
+    (g.P.Device.standing c.ask-in-Err-Device.new.platform) c.args.offer.now c.args.request.now c.in-Err-Device.field-0
+    c.in-Err-Device.field-0-0
     c.in-Err-Device.field-0-is c.ask-in-Err-Device.result
     (asked_quietly (g.M.Module.meaning c.args.module.now) (g.P.Device.standing c.args.platform.now) (g.P.Device.standing c.ask.new.platform)
     c.args.offer.now c.args.request.now (Err c.in-Err-Device.field-0) c.in-Err-Device.ensures.goes)

@@ -9,4 +9,5 @@ returns-clause-complete g c =
 
 pub returns-clause-counts : goal.returns-clause-counts
 returns-clause-counts g c =
-    counts_ended c.args.request.now c.args.platform.now c.end_plan.new.self c.ask_once.new.platform c.ask_once.result c.end_plan.ensures c.ask_once.ensures.counts
+    counts_ended c.args.request.now c.args.platform.now c.end_plan.new.self c.ask_once.new.platform c.ask_once.result c.end_plan.ensures
+    c.ask_once.ensures.counts

@@ -17,7 +17,8 @@ returns-clause-named g c =
 
 pub returns-clause-recovers : goal.returns-clause-recovers
 returns-clause-recovers g c =
-    recovers c.args.variant (g.M.Module.meaning c.args.module.now) (g.met.M.Module.is_lawful c.args.module.now) (g.P.Device.standing c.args.platform.now)
+    recovers c.args.variant (g.M.Module.meaning c.args.module.now) (g.met.M.Module.is_lawful c.args.module.now)
+    (g.P.Device.standing c.args.platform.now)
     (g.P.Device.standing c.resume_by_steps.new.platform) (g.T.Store.kept c.args.store.now)
     (g.T.Store.kept c.resume_by_steps.new.store) c.resume_by_steps.result c.resume_by_steps.ensures
 

@@ -7,7 +7,8 @@ pub returns-in_err-next-clause-serves : goal.returns-in_err-next-clause-serves
 returns-in_err-next-clause-serves g c =
     let p = err_from_is_err_and c.from_residual.result c.from_residual.ensures.1 in
     rw (p.1, p.2) (serves_stopped c.args.variant (g.M.Module.meaning c.args.module.now) _ _ c.lines.number _ _
-    _ _ _ _ _ _ c.lines.reader c.serve_next.new.reader c.serve_next.result _ c.lines.invariant.stands c.serve_next.ensures.turns c.in_err-next.was)
+    _ _ _ _ _ _ c.lines.reader c.serve_next.new.reader c.serve_next.result _ c.lines.invariant.stands c.serve_next.ensures.turns
+    c.in_err-next.was)
 
 pub lines-preserved : goal.lines-preserved
 lines-preserved g c =
@@ -23,4 +24,5 @@ lines-preserved g c =
 pub returns-clause-serves : goal.returns-clause-serves
 returns-clause-serves g c =
     serves_ended c.args.variant (g.M.Module.meaning c.args.module.now) _ _ c.lines.number _ _
-    _ _ _ _ _ _ c.lines.reader c.serve_next.new.reader c.serve_next.result _ c.lines.invariant.stands c.serve_next.ensures.turns (c.in_ok-next.was ∙ ap Ok c.in_default.is)
+    _ _ _ _ _ _ c.lines.reader c.serve_next.new.reader c.serve_next.result _ c.lines.invariant.stands c.serve_next.ensures.turns
+    (c.in_ok-next.was ∙ ap Ok c.in_default.is)

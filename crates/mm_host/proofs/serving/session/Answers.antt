@@ -15,7 +15,8 @@ returns-clause-named g c = (session_told _ _ _ _ _ _ _ _ _ _ _ c.session_by_step
 
 pub returns-clause-continues : goal.returns-clause-continues
 returns-clause-continues g c =
-    continues c.args.variant (g.M.Module.meaning c.args.module.now) (g.met.M.Module.is_lawful c.args.module.now) _ _ _ _ _ _ _ _ c.session_by_steps.result
+    continues c.args.variant (g.M.Module.meaning c.args.module.now) (g.met.M.Module.is_lawful c.args.module.now) _ _ _ _ _ _ _ _
+    c.session_by_steps.result
 
 pub returns-clause-lines : goal.returns-clause-lines
 returns-clause-lines g c = spares_lines _ _ _ _ _ _ _ _ _ _ _ c.session_by_steps.ensures.sessions

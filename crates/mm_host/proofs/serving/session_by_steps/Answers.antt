@@ -14,5 +14,6 @@ returns-in-Err-clause-sessions g c =
 
 pub returns-in-Ok-clause-sessions : goal.returns-in-Ok-clause-sessions
 returns-in-Ok-clause-sessions g c =
-    goes_on c.args.variant (g.M.Module.meaning c.args.module.now) _ _ _ _ _ _ _ _ _ _ _ c.resume-begun.result c.tell.result c.in-Ok.first c.serve_lines.result
+    goes_on c.args.variant (g.M.Module.meaning c.args.module.now) _ _ _ _ _ _ _ _ _ _ _ c.resume-begun.result c.tell.result c.in-Ok.first
+    c.serve_lines.result
     c.resume-begun.ensures.resumes c.tell.ensures.tells c.in-Ok.is c.serve_lines.ensures.serves

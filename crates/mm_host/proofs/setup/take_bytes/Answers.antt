@@ -6,7 +6,9 @@ pub takes-preserved : goal.takes-preserved
 takes-preserved g c = record {
   most = c.in_ok-count.ensures.within;
   size = search rules;
-  consumed = consumes_more _ _ _ _ _ c.takes.got c.in_ok-count.count c.in_ok-count.ensures.front c.takes.invariant.consumed c.in_ok-count.ensures.taken.0;
+  consumed =
+      consumes_more _ _ _ _ _ c.takes.got c.in_ok-count.count c.in_ok-count.ensures.front c.takes.invariant.consumed
+      c.in_ok-count.ensures.taken.0;
   kept = c.in_ok-count.ensures.counted.kept ∙ c.takes.invariant.kept;
 }
 

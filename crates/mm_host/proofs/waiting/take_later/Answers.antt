@@ -26,5 +26,7 @@ returns-clause-takes c = record {
     reads_three = c.read_pending-2.ensures.reads;
     is = c.in-Some.ensures;
   };
-  gives = inl (ap (λ (request : List ℕ). Ok (Some (record { position = c.in-Some.pending.position; request = request }))) c.in_ok-request.ensures);
+  gives =
+      inl (ap (λ (request : List ℕ). Ok (Some (record { position = c.in-Some.pending.position; request = request })))
+      c.in_ok-request.ensures);
 }

@@ -11,5 +11,6 @@ returns g c =
     (λ (bytes : List ℕ).
     retires_in (g.M.Module.meaning c.args.module.now) c.args.variant c.args.link.now c.args.nonce.now c.args.offer.now (moved_of bytes))
     (λ (bytes : List ℕ).
-    retires_no_fault (g.M.Module.meaning c.args.module.now) c.args.variant c.args.link.now c.args.nonce.now c.args.offer.now (moved_of bytes))
+    retires_no_fault (g.M.Module.meaning c.args.module.now) c.args.variant c.args.link.now c.args.nonce.now c.args.offer.now
+    (moved_of bytes))
     (g.P.Device.standing c.args.platform.now) (g.P.Device.standing c.retire_by.new.platform) c.retire_by.result c.retire_by.ensures

@@ -8,19 +8,24 @@ use Rattle.mm_opt.proofs.whole.commit_found.Goals as goal
 
 pub returns-in-Answered : goal.returns-in-Answered
 returns-in-Answered g c =
-    let made : CommitsFound c.args.found (g.P.Device.standing c.args.platform.now) (g.P.Device.standing c.finish_found.new.platform) (Ok c.in-Answered.answer) =
-    commits_as c.args.found (g.P.Device.standing c.args.platform.now) (g.P.Device.standing c.finish_found.new.platform) c.finish_found.result
+    let made : CommitsFound c.args.found (g.P.Device.standing c.args.platform.now) (g.P.Device.standing c.finish_found.new.platform)
+    (Ok c.in-Answered.answer) =
+    commits_as c.args.found (g.P.Device.standing c.args.platform.now) (g.P.Device.standing c.finish_found.new.platform)
+    c.finish_found.result
     (Ok c.in-Answered.answer) c.finish_found.ensures (ap (λ (v : Ended). result_of v) c.in-Answered.is) in
     record { commits = made; goes = commits_on c.args.found _ _ _ made }
 
 pub returns-in-Broken : goal.returns-in-Broken
 returns-in-Broken g c =
-    let made : CommitsFound c.args.found (g.P.Device.standing c.args.platform.now) (g.P.Device.standing c.finish_found.new.platform) (Err c.in-Broken.fault) =
-    commits_as c.args.found (g.P.Device.standing c.args.platform.now) (g.P.Device.standing c.finish_found.new.platform) c.finish_found.result
+    let made : CommitsFound c.args.found (g.P.Device.standing c.args.platform.now) (g.P.Device.standing c.finish_found.new.platform)
+    (Err c.in-Broken.fault) =
+    commits_as c.args.found (g.P.Device.standing c.args.platform.now) (g.P.Device.standing c.finish_found.new.platform)
+    c.finish_found.result
     (Err c.in-Broken.fault) c.finish_found.ensures (ap (λ (v : Ended). result_of v) c.in-Broken.is) in
     record { commits = made; goes = commits_on c.args.found _ _ _ made }
 
 pub unreachable-requires : goal.unreachable-requires
 unreachable-requires g c =
-    not_refused c.args.found (g.P.Device.standing c.args.platform.now) (g.P.Device.standing c.finish_found.new.platform) c.in-Refused.field-0
+    not_refused c.args.found (g.P.Device.standing c.args.platform.now) (g.P.Device.standing c.finish_found.new.platform)
+    c.in-Refused.field-0
     c.in-Refused.ensures

@@ -20,5 +20,6 @@ pub returns : goal.returns
 returns g c =
     ends_by c.args.slot c.args.bytes.now _ _ _ c.args.digests.now c.put_pages.new.digests c.cut.new.self
     c.fit_and_sync.result c.in_ok-put_pages.ensures
-    (c.cut.ensures ∙ ap (λ n. with_row c.put_pages.new.digests c.args.slot (take n (row_in c.put_pages.new.digests c.args.slot))) c.page_count.ensures)
+    (c.cut.ensures ∙ ap (λ n. with_row c.put_pages.new.digests c.args.slot (take n (row_in c.put_pages.new.digests c.args.slot)))
+    c.page_count.ensures)
     c.fit_and_sync.ensures

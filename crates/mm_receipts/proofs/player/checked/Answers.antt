@@ -6,4 +6,5 @@ use Rattle.mm_receipts.proofs.player.checked.Goals as goal
 pub returns-clause-checks : goal.returns-clause-checks
 returns-clause-checks g c =
     let at_first : Tally → Checking = λ t. record { tally = t; asked = None } in
-    checks-err c.args.key.now _ (ap at_first c.new.ensures) _ _ _ _ c.play.new.player c.play.result c.in-Err.fault c.play.ensures.plays c.in-Err.is
+    checks-err c.args.key.now _ (ap at_first c.new.ensures) _ _ _ _ c.play.new.player c.play.result c.in-Err.fault c.play.ensures.plays
+    c.in-Err.is

@@ -13,23 +13,29 @@ slot-requires c = omega (arith, c.requires.inside, same_length (2 ^ 32 - 1) c.ar
 pub act-requires-clause-fits : goal.act-requires-clause-fits
 act-requires-clause-fits c =
     subst (λ (s : Standing). Fits s (get_or c.args.slots.now c.args.number c.index-slots-number.result)) (sym c.slot.ensures.value)
-    (fit_at (2 ^ 32 - 1) c.args.number c.args.platform.now.slots c.args.slots.now (new_platform []) c.index-slots-number.result c.requires.inside c.requires.fit).fits
+    (fit_at (2 ^ 32 - 1) c.args.number c.args.platform.now.slots c.args.slots.now (new_platform []) c.index-slots-number.result
+    c.requires.inside c.requires.fit).fits
 
 pub act-requires-clause-few : goal.act-requires-clause-few
 act-requires-clause-few c =
-    let few = (fit_at (2 ^ 32 - 1) c.args.number c.args.platform.now.slots c.args.slots.now (new_platform []) c.index-slots-number.result c.requires.inside c.requires.fit).few in
+    let few = (fit_at (2 ^ 32 - 1) c.args.number c.args.platform.now.slots c.args.slots.now (new_platform []) c.index-slots-number.result
+    c.requires.inside c.requires.fit).few in
     omega (arith, few)
 
 pub returns-clause-ok : goal.returns-clause-ok
 returns-clause-ok c =
     let slot = get_or c.args.slots.now c.args.number c.index-slots-number.result in
-    on_ok c.act.result (λ said. Comes c.act.new.platform slot c.act.new.self (acted (instance_in slot) (slot_in c.slot.result.now slot) c.args.action) said)
+    on_ok c.act.result (λ said. Comes c.act.new.platform slot c.act.new.self
+    (acted (instance_in slot) (slot_in c.slot.result.now slot) c.args.action) said)
     (λ said. (events : ℕ) → AllFit events c.args.platform.now.slots c.args.slots.now
-    → ActsAt events c.args.number c.args.action c.args.platform.now.slots (slice_set c.args.platform.now.slots c.args.number c.act.new.platform)
+    → ActsAt events c.args.number c.args.action c.args.platform.now.slots
+    (slice_set c.args.platform.now.slots c.args.number c.act.new.platform)
     c.args.slots.now (slice_set c.args.slots.now c.args.number c.act.new.self) said)
-    (λ said d events fit. acts_at events c.args.number c.args.action c.args.platform.now.slots _ c.args.slots.now _ c.act.new.platform c.act.new.self said (new_platform [])
+    (λ said d events fit. acts_at events c.args.number c.args.action c.args.platform.now.slots _ c.args.slots.now _ c.act.new.platform
+    c.act.new.self said (new_platform [])
     c.index-slots-number.result refl refl c.requires.inside fit
-    (subst (λ (s : Standing). Comes c.act.new.platform slot c.act.new.self (acted (instance_in slot) (slot_in s slot) c.args.action) said) c.slot.ensures.value d))
+    (subst (λ (s : Standing). Comes c.act.new.platform slot c.act.new.self (acted (instance_in slot) (slot_in s slot) c.args.action) said)
+    c.slot.ensures.value d))
     c.act.ensures.ok
 
 pub returns-clause-err : goal.returns-clause-err
@@ -37,7 +43,9 @@ returns-clause-err c =
     let slot = get_or c.args.slots.now c.args.number c.index-slots-number.result in
     on_err c.act.result (Wants c.slot.result.now c.act.new.platform slot c.act.new.self)
     ((events : ℕ) → AllFit events c.args.platform.now.slots c.args.slots.now
-    → AllFit (events + 1) (slice_set c.args.platform.now.slots c.args.number c.act.new.platform) (slice_set c.args.slots.now c.args.number c.act.new.self))
-    (λ w events fit. lacks_at events c.args.number c.args.platform.now.slots _ c.args.slots.now _ c.act.new.platform c.act.new.self (new_platform [])
+    → AllFit (events + 1) (slice_set c.args.platform.now.slots c.args.number c.act.new.platform)
+    (slice_set c.args.slots.now c.args.number c.act.new.self))
+    (λ w events fit. lacks_at events c.args.number c.args.platform.now.slots _ c.args.slots.now _ c.act.new.platform c.act.new.self
+    (new_platform [])
     c.index-slots-number.result refl refl c.requires.inside fit w.goes)
     c.act.ensures.err

@@ -11,11 +11,14 @@ slot-requires c = omega (arith, c.requires.inside, same_length (2 ^ 32) c.args.p
 pub lose_power-requires : goal.lose_power-requires
 lose_power-requires c =
     subst (λ (s : Standing). Fits s (get_or c.args.slots.now c.args.number c.index-slots-number.result)) (sym c.slot.ensures.value)
-    (fit_at (2 ^ 32) c.args.number c.args.platform.now.slots c.args.slots.now (new_platform []) c.index-slots-number.result c.requires.inside c.requires.fit).fits
+    (fit_at (2 ^ 32) c.args.number c.args.platform.now.slots c.args.slots.now (new_platform []) c.index-slots-number.result
+    c.requires.inside c.requires.fit).fits
 
 pub returns : goal.returns
 returns c = λ events fit.
-    loses_at events c.args.number c.args.platform.now.slots _ c.args.slots.now _ c.lose_power.new.platform c.lose_power.new.self (new_platform []) c.index-slots-number.result
+    loses_at events c.args.number c.args.platform.now.slots _ c.args.slots.now _ c.lose_power.new.platform c.lose_power.new.self
+    (new_platform []) c.index-slots-number.result
     refl refl c.requires.inside fit
-    (subst (λ (s : Standing). Loses s c.lose_power.new.platform (get_or c.args.slots.now c.args.number c.index-slots-number.result) c.lose_power.new.self)
+    (subst (λ (s : Standing). Loses s c.lose_power.new.platform (get_or c.args.slots.now c.args.number c.index-slots-number.result)
+    c.lose_power.new.self)
     c.slot.ensures.value c.lose_power.ensures)

@@ -5,22 +5,28 @@ use Rattle.mm_steps.proofs.asks.step.Goals as goal
 pub returns-in-Going-clause-steps : goal.returns-in-Going-clause-steps
 returns-in-Going-clause-steps g c =
     λ variant key barrier d from issued meddles next offer f offered.
-    going_to variant (g.M.Module.meaning c.args.module.now) key barrier d from issued c.args.call c.args.platform.now c.advance.new.platform meddles next offer
+    going_to variant (g.M.Module.meaning c.args.module.now) key barrier d from issued c.args.call c.args.platform.now c.advance.new.platform
+    meddles next offer
     c.args.offer.now (batch_of c.args.batch) c.in-Going.call c.advance.result f c.requires.short offered c.advance.ensures c.in-Going.is
 
 pub returns-in-Done-clause-steps : goal.returns-in-Done-clause-steps
 returns-in-Done-clause-steps g c =
     λ variant key barrier d from issued meddles next offer f offered.
-    answers_to variant (g.M.Module.meaning c.args.module.now) key barrier d from issued c.args.call c.args.platform.now c.advance.new.platform meddles next offer
-    c.args.offer.now (batch_of c.args.batch) c.over.new.platform c.len-size.result c.next_step.result c.in-Done.answer c.advance.result c.over.result
+    answers_to variant (g.M.Module.meaning c.args.module.now) key barrier d from issued c.args.call c.args.platform.now
+    c.advance.new.platform meddles next offer
+    c.args.offer.now (batch_of c.args.batch) c.over.new.platform c.len-size.result c.next_step.result c.in-Done.answer c.advance.result
+    c.over.result
     f c.requires.short c.len-size.ensures c.next_step.ensures.number offered c.advance.ensures c.in-Done.is c.over.ensures
 
 pub returns-in-Refused-clause-steps : goal.returns-in-Refused-clause-steps
 returns-in-Refused-clause-steps g c =
     λ variant key barrier d from issued meddles next offer f offered.
-    refuses_to variant (g.M.Module.meaning c.args.module.now) key barrier d from issued c.args.call c.args.platform.now c.advance.new.platform meddles next offer
-    c.args.offer.now (batch_of c.args.batch) c.over-in-Refused.new.platform c.len-size.result c.next_step.result c.in-Refused.refusal c.advance.result c.refused.result c.over-in-Refused.result
-    f c.requires.short c.len-size.ensures c.next_step.ensures.number offered c.advance.ensures c.in-Refused.is c.refused.ensures c.over-in-Refused.ensures
+    refuses_to variant (g.M.Module.meaning c.args.module.now) key barrier d from issued c.args.call c.args.platform.now
+    c.advance.new.platform meddles next offer
+    c.args.offer.now (batch_of c.args.batch) c.over-in-Refused.new.platform c.len-size.result c.next_step.result c.in-Refused.refusal
+    c.advance.result c.refused.result c.over-in-Refused.result
+    f c.requires.short c.len-size.ensures c.next_step.ensures.number offered c.advance.ensures c.in-Refused.is c.refused.ensures
+    c.over-in-Refused.ensures
 
 pub returns-in-Going-clause-room : goal.returns-in-Going-clause-room
 returns-in-Going-clause-room g c = going_may c.in-Going.call c.advance.result c.advance.new.platform c.advance.ensures.room c.in-Going.is
@@ -29,4 +35,5 @@ pub returns-in-Done-clause-room : goal.returns-in-Done-clause-room
 returns-in-Done-clause-room g c = over_may c.over.result c.over.new.platform c.over.ensures.called c.over.ensures.gives
 
 pub returns-in-Refused-clause-room : goal.returns-in-Refused-clause-room
-returns-in-Refused-clause-room g c = over_may c.over-in-Refused.result c.over-in-Refused.new.platform c.over-in-Refused.ensures.called c.over-in-Refused.ensures.gives
+returns-in-Refused-clause-room g c =
+    over_may c.over-in-Refused.result c.over-in-Refused.new.platform c.over-in-Refused.ensures.called c.over-in-Refused.ensures.gives

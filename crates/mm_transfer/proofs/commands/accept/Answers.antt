@@ -11,22 +11,28 @@ pub returns-in-Err : goal.returns-in-Err
 returns-in-Err c = λ fits counted.
     let pair = pair_of c.args.header.now in
     let which = which_of c.args.which in
-    still_lacks pair which c.args.here.now _ c.args.between.now _ (formed_of c.args.header.now which) fits (c.in-Err.ensures (link_of pair) refl) refl
+    still_lacks pair which c.args.here.now _ c.args.between.now _ (formed_of c.args.header.now which) fits
+    (c.in-Err.ensures (link_of pair) refl) refl
     c.reserve.ensures.items refl refl refl refl refl
 
 pub returns-in-Ok-None : goal.returns-in-Ok-None
 returns-in-Ok-None c = λ fits counted.
     let pair = pair_of c.args.header.now in
     let which = which_of c.args.which in
-    accepted_unissued pair which c.args.offer.now c.args.stop c.args.meddles.now c.args.here.now _ c.args.between.now c.as_slice.result.now c.in-Ok-None.field-0
-    (formed_of c.args.header.now which) c.as_slice.ensures.value (c.in-Ok-None.ensures (link_of pair) refl) c.in-Ok-None.field-0-is refl c.reserve.ensures.items refl
+    accepted_unissued pair which c.args.offer.now c.args.stop c.args.meddles.now c.args.here.now _ c.args.between.now c.as_slice.result.now
+    c.in-Ok-None.field-0
+    (formed_of c.args.header.now which) c.as_slice.ensures.value (c.in-Ok-None.ensures (link_of pair) refl) c.in-Ok-None.field-0-is refl
+    c.reserve.ensures.items refl
     refl fits counted
 
 pub returns-in-Ok-Some : goal.returns-in-Ok-Some
 returns-in-Ok-Some c = λ fits counted.
     let pair = pair_of c.args.header.now in
     let which = which_of c.args.which in
-    accepted_done pair which c.args.offer.now c.args.stop c.args.meddles.now c.args.here.now _ c.enter.new.here c.args.between.now c.is_live-was_live.result
-    c.cell.result.now c.as_slice.result.now c.in-Ok-Some.field-0 c.in-Ok-Some.came c.enter.result (formed_of c.args.header.now which) c.as_slice.ensures.value
-    (c.in-Ok-Some.ensures (link_of pair) refl) c.in-Ok-Some.field-0-is c.is_live-was_live.ensures c.cell.ensures refl c.reserve.ensures.items refl refl
+    accepted_done pair which c.args.offer.now c.args.stop c.args.meddles.now c.args.here.now _ c.enter.new.here c.args.between.now
+    c.is_live-was_live.result
+    c.cell.result.now c.as_slice.result.now c.in-Ok-Some.field-0 c.in-Ok-Some.came c.enter.result (formed_of c.args.header.now which)
+    c.as_slice.ensures.value
+    (c.in-Ok-Some.ensures (link_of pair) refl) c.in-Ok-Some.field-0-is c.is_live-was_live.ensures c.cell.ensures refl
+    c.reserve.ensures.items refl refl
     c.enter.ensures fits counted

@@ -8,7 +8,9 @@ use Rattle.mm_transfer.proofs.moving.planned_accept.Goals as goal
 pub returns-in-Ok : goal.returns-in-Ok
 returns-in-Ok g c =
     let meaning = g.M.Module.meaning c.args.module.now in
-    moves_planned (λ (bytes : List ℕ). accepts_in meaning c.args.variant c.args.link.now c.args.ticket.now (moved_of bytes)) c.args.stop c.args.meddles.now
+    moves_planned (λ (bytes : List ℕ). accepts_in meaning c.args.variant c.args.link.now c.args.ticket.now (moved_of bytes)) c.args.stop
+    c.args.meddles.now
     c.args.platform.now c.plan.new.self c.accept-came.new.platform c.settle.new.platform c.is_broken.result c.accept-came.result
-    (λ bytes. accepts_no_fault meaning c.args.variant c.args.link.now c.args.ticket.now (moved_of bytes)) c.in-Ok.ensures.ok c.accept-came.ensures
+    (λ bytes. accepts_no_fault meaning c.args.variant c.args.link.now c.args.ticket.now (moved_of bytes)) c.in-Ok.ensures.ok
+    c.accept-came.ensures
     c.is_broken.ensures c.settle.ensures

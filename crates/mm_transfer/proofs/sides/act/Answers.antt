@@ -6,5 +6,6 @@ use Rattle.mm_transfer.proofs.sides.act.Goals as goal
 pub returns-in-Moves : goal.returns-in-Moves
 returns-in-Moves c =
     moves_acts (pair_of c.args.header.now) (which_of c.args.which) c.args.act.now c.in-Moves.meddles
-    c.listed-meddles.result.now c.in-Moves.stop c.in-Moves.command c.args.here.now _ c.args.between.now _ c.args.committed.now c.command.result
+    c.listed-meddles.result.now c.in-Moves.stop c.in-Moves.command c.args.here.now _ c.args.between.now _ c.args.committed.now
+    c.command.result
     c.in-Moves.is c.listed-meddles.ensures c.command.ensures

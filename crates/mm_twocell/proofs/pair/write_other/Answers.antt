@@ -14,7 +14,8 @@ returns-in_err-raw_write g c =
       other_is = c.from.ensures;
     } in
     let failed : result_err c.from_residual-in_err-raw_write.result ≡ Some c.in_err-raw_write.field-0.0 = search rules in
-    subst (λ (fault : Option StepFault). WritesPicked c.args.bytes.now (g.R.Device.standing c.args.raw.now) (g.R.Device.standing c.raw_write.new.self) fault)
+    subst (λ (fault : Option StepFault). WritesPicked c.args.bytes.now (g.R.Device.standing c.args.raw.now)
+    (g.R.Device.standing c.raw_write.new.self) fault)
     (sym failed)
     (write_torn c.args.bytes.now c.in_ok-selector.selector c.from.result (g.R.Device.standing c.args.raw.now)
     (g.R.Device.standing c.read_selector.new.raw) (g.R.Device.standing c.raw_write.new.self) c.in_err-raw_write.field-0.0

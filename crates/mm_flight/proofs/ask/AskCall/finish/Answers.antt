@@ -4,10 +4,12 @@ use Rattle.mm_flight.proofs.ask.AskCall.finish.Goals as goal
 
 pub returns-in-Basic : goal.returns-in-Basic
 returns-in-Basic g c =
-    basic_finished (g.M.Module.meaning c.args.module.now) c.in-Basic.call c.args.self (g.P.Device.standing c.args.platform.now) (g.P.Device.standing c.finish_keeping.new.platform)
+    basic_finished (g.M.Module.meaning c.args.module.now) c.in-Basic.call c.args.self (g.P.Device.standing c.args.platform.now)
+    (g.P.Device.standing c.finish_keeping.new.platform)
     c.args.offer.now (batch_of c.args.batch) c.finish_keeping.result c.in-Basic.is c.finish_keeping.ensures
 
 pub returns-in-Opt : goal.returns-in-Opt
 returns-in-Opt g c =
-    opt_finished (g.M.Module.meaning c.args.module.now) c.in-Opt.call c.args.self (g.P.Device.standing c.args.platform.now) (g.P.Device.standing c.finish_keeping-in-Opt.new.platform)
+    opt_finished (g.M.Module.meaning c.args.module.now) c.in-Opt.call c.args.self (g.P.Device.standing c.args.platform.now)
+    (g.P.Device.standing c.finish_keeping-in-Opt.new.platform)
     c.args.offer.now (batch_of c.args.batch) c.finish_keeping-in-Opt.result c.in-Opt.is c.finish_keeping-in-Opt.ensures

@@ -6,6 +6,7 @@ use Rattle.mm_slots.proofs.slot.Slot.begin_asking.Goals as goal
 
 pub returns-in-Ok : goal.returns-in-Ok
 returns-in-Ok c =
-    ask_begins c.args.platform.now c.args.self.now (record { call = c.in-Ok.call; offer = c.args.offer; bytes = c.args.bytes; request = c.args.request })
+    ask_begins c.args.platform.now c.args.self.now
+    (record { call = c.in-Ok.call; offer = c.args.offer; bytes = c.args.bytes; request = c.args.request })
     c.requires.fits c.requires.idle c.requires.offered
     (subst (λ (x : List ℕ). is_long (One x) ≡ false) c.as_slice.ensures.value c.in-Ok.ensures.ok.1) c.in-Ok.ensures.ok.0 (search rules)

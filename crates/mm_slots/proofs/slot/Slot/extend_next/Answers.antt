@@ -6,4 +6,5 @@ meddle_next-requires c = may_meddle_some c.args.platform.now c.args.self.now c.r
 
 pub returns-clause-ok : goal.returns-clause-ok
 returns-clause-ok c =
-    extends_some c.args.platform.now c.meddle_next.new.self c.args.self.now c.args.value.now c.requires.fits c.requires.flies c.in_ok-meddle_next.ensures.ok
+    extends_some c.args.platform.now c.meddle_next.new.self c.args.self.now c.args.value.now c.requires.fits c.requires.flies
+    c.in_ok-meddle_next.ensures.ok
