@@ -9,16 +9,18 @@ use Rattle.mm_module.specs.Batch.{Batch, One}
 use Rattle.mm_seal.specs.Snapshot.{Content}
 use Rattle.mm_model.specs.Instance.{Instance}
 use Rattle.mm_model.specs.InstanceWords.{basic, opt}
-use Rattle.mm_model.specs.History.{History, Move, Commit, Foreign, moved}
+use Rattle.mm_model.specs.History.{History, Commit, Foreign, moved}
 use Rattle.mm_model.specs.Life.{Lost as LostLife, life_of}
 use Rattle.mm_model.specs.Moves.{digests_of}
 use Rattle.mm_model.specs.Places.{Names}
 use Rattle.mm_model.specs.Standing.{StandsFor}
 use Rattle.mm_model.specs.declared.answer.BatchAnswer.{BatchAnswer}
 use Rattle.mm_model.specs.declared.refusal.Refusal.{Refusal}
+use Rattle.mm_model.specs.declared.refusal.Refusal.TheVariants.{Memory}
 use Rattle.mm_call.specs.Asked.{IsAsked, IsWithin}
 use Rattle.mm_call.specs.Called.{called, given_for}
 use Rattle.mm_call.specs.CallsOn.{CallsOn}
+use Rattle.mm_call.specs.Found.{found_at}
 use Rattle.mm_call.specs.Levels.{by_lists, by_digests, all_made}
 use Rattle.mm_call.specs.Leaving.{whole_in}
 use Rattle.mm_call.specs.Premises.{AreAsked, AreShown, IsIdle}
@@ -27,9 +29,8 @@ use Rattle.mm_call.specs.Tied.{standing_items}
 use Rattle.mm_call.proofs.Continuing.{stands_at}
 use Rattle.mm_call.proofs.Moving.{same_batches}
 use Rattle.mm_call.proofs.OptLaw.{before as seen_before}
-use Rattle.mm_call.proofs.Tied.{opt_tied}
 use Rattle.mm_call.proofs.OptShut.{bare}
-use Rattle.mm_call.proofs.Idle.{asked_for}
+use Rattle.mm_call.proofs.Idle.{asked_for, asked_idle}
 use Rattle.mm_call.proofs.Walks.{foreign_first}
 use Rattle.mm_callers.proofs.Calls.{is_asked as basic_asked, names_made, Comes, comes as basic_comes}
 use Rattle.mm_callers.proofs.OptAlike.{Alike, still, grown_by}
@@ -45,7 +46,7 @@ use Rattle.mm_host.specs.Resumes.{Resumes}
 use Rattle.mm_host.proofs.Awaited.{grows}
 use Rattle.mm_host.proofs.Machining.{IsIssued, issued_in_basic, issued_in_opt}
 use Rattle.mm_host.proofs.OptMoves.{alike_after, answered_clean, named_after, stays_powered}
-use Rattle.mm_host.proofs.Refusing.{MayRefuse, IsOffered, offered_then, waiting_most, basic_keeps, opt_keeps, basic_refused, opt_refused}
+use Rattle.mm_host.proofs.Refusing.{MayRefuse, IsOffered, offered_then, waiting_most, basic_keeps, opt_keeps, basic_judged, opt_judged, basic_refused, opt_refused}
 use Rattle.mm_host.proofs.Recovering.{Left, LeadsOn, asked_of, recovers_by}
 
 -- Two histories are the same but for others' values.
@@ -69,7 +70,22 @@ pub opt_grown : (meaning : Meaning) (key barrier : List ℕ) (y after : History)
 opt_grown meaning key barrier y after p (still e) = inl e
 opt_grown meaning key barrier y after p (grown_by e) = inr (p, refl, e)
 
--- what one call for the request that waits comes to by lists
+-- what one call for a request comes to by lists, whatever is offered that names a position where it is right
+pub record Met (all others : List (List ℕ)) (asked : List Batch) (i : Instance) (y : History) (standing : Standing) (offer : List ℕ)
+    (p : Pending) (gives : Result BatchAnswer Refusal) : Type 0 where
+  pub after : History
+  pub stands : StandsFor i standing after
+  pub within : IsWithin all others asked i after
+  pub names : (content : Content) → Names i y content → Names i after content
+  pub comes : Comes i y offer (One p.request) after gives
+  pub only : (why : Refusal) → gives ≡ Err why → fault_of why ≡ None → after.batches ≡ y.batches
+  pub judged : (why : Refusal) → gives ≡ Err why → fault_of why ≡ None
+      → (why ≡ Memory) ⊎ (found_at i (by_lists i) after (One p.request) offer ≡ Err why)
+  pub issues : (answer : BatchAnswer) → gives ≡ Ok answer → IsIssued i after
+  pub grown : IsGrownBy i y (Some p) after
+  pub powered : life_of i.variant y ≢ LostLife → life_of i.variant after ≢ LostLife
+
+-- and where the request that waits is awaited, and the snapshot before it is offered
 pub record Called (all others : List (List ℕ)) (asked : List Batch) (i : Instance) (y : History) (standing : Standing) (offer : List ℕ)
     (p : Pending) (gives : Result BatchAnswer Refusal) : Type 0 where
   pub after : History
@@ -83,17 +99,32 @@ pub record Called (all others : List (List ℕ)) (asked : List Batch) (i : Insta
   pub grown : IsGrownBy i y (Some p) after
   pub powered : life_of i.variant y ≢ LostLife → life_of i.variant after ≢ LostLife
 
-pub basic_called : (meaning : Meaning) → IsLawful meaning
+abbrev pub called_of : (all others : List (List ℕ)) (asked : List Batch) (i : Instance) (y : History) (standing : Standing) (offer : List ℕ)
+    (p : Pending) (gives : Result BatchAnswer Refusal) (m : Met all others asked i y standing offer p gives)
+    → ((why : Refusal) → gives ≡ Err why → MayRefuse why (life_of i.variant m.after)) → Called all others asked i y standing offer p gives
+called_of all others asked i y standing offer p gives m refuses = record {
+  after = m.after;
+  stands = m.stands;
+  within = m.within;
+  names = m.names;
+  comes = m.comes;
+  only = m.only;
+  refuses = refuses;
+  issues = m.issues;
+  grown = m.grown;
+  powered = m.powered;
+}
+
+pub basic_met : (meaning : Meaning) → IsLawful meaning
     → (key : List ℕ) (all others : List (List ℕ)) (asked : List Batch) (y : History) (old new : Standing) (offer : List ℕ) (p : Pending)
     (gives : Result BatchAnswer Refusal)
     → CallsOn Basic meaning old new offer (One p.request) gives → StandsFor (basic meaning key) old y
     → AreAsked all others asked (basic meaning key) y offer (One p.request)
-    → IsOffered (basic meaning key) y p offer → Called all others asked (basic meaning key) y new offer p gives
-basic_called meaning lawful key all others asked y old new offer p gives c s a f =
+    → Met all others asked (basic meaning key) y new offer p gives
+basic_met meaning lawful key all others asked y old new offer p gives c s a =
     let i : Instance = basic meaning key in
     let o = called i (by_lists i) y c.course offer (One p.request) in
     let k = c.continues key key y all others asked s (basic_asked meaning key all others asked y c.course offer (One p.request) a) in
-    let values : List (List ℕ) = (c.course.fates 1).brings in
     record {
       after = o.state;
       stands = k.stands;
@@ -103,10 +134,8 @@ basic_called meaning lawful key all others asked y old new offer p gives c s a f
           (basic_comes meaning key all others asked y c.course offer (One p.request) a);
       only = λ (why : Refusal) (e : gives ≡ Err why) (none : fault_of why ≡ None).
           basic_keeps meaning key y c.course (One p.request) offer why (sym k.gives ∙ e) none;
-      refuses = λ (why : Refusal) (e : gives ≡ Err why).
-          basic_refused meaning key y c.course p offer why
-          (offered_then i y (all_made (by_lists i) y (map Foreign values ++ [])) p offer
-          (same_batches i (map Foreign values ++ []) y (foreign_first values [])) f) (sym k.gives ∙ e);
+      judged = λ (why : Refusal) (e : gives ≡ Err why) (none : fault_of why ≡ None).
+          basic_judged meaning key y c.course (One p.request) offer why (sym k.gives ∙ e) none;
       issues = λ (answer : BatchAnswer) (e : gives ≡ Ok answer). issued_in_basic meaning lawful key o.state;
       grown =
           basic_grown meaning key y o.state p
@@ -114,46 +143,88 @@ basic_called meaning lawful key all others asked y old new offer p gives c s a f
       powered = λ h e. cc;
     }
 
-pub opt_called : (meaning : Meaning) → IsLawful meaning
-    → (key barrier : List ℕ) (all others : List (List ℕ)) (asked : List Batch) (y : History) (old new : Standing) (offer : List ℕ)
-    (p : Pending) (gives : Result BatchAnswer Refusal) (items more : List Item)
-    → CallsOn Opt meaning old new offer (One p.request) gives → StandsFor (opt meaning key barrier) old y
-    → AreAsked all others asked (opt meaning key barrier) y offer (One p.request)
-    → old.items ≡ Some items → new.items ≡ Some (standing_items y.is_open items ++ more)
-    → ((IsIdle (opt meaning key barrier) y offer (One p.request) → ⊥) → AreShown all others (opt meaning key barrier) y more)
-    → IsOffered (opt meaning key barrier) y p offer → Called all others asked (opt meaning key barrier) y new offer p gives
-opt_called meaning lawful key barrier all others asked y old new offer p gives items more c s a known ends shown_so f =
-    let i : Instance = opt meaning key barrier in
-    let o = called i (by_lists i) y c.course offer (One p.request) in
-    let moves : List Move = (called i (by_digests i) (digests_of i y) c.course offer (One p.request)).moves in
-    let g = c.goes key barrier (digests_of i y) (stands_at i old y s) in
-    let is_asked : IsAsked all others asked i y moves offer (One p.request) =
-    asked_for meaning key barrier all others asked y c.course offer (One p.request) old new items more a shown_so known g.items ends in
-    let k = c.continues key barrier y all others asked s is_asked in
-    let v : List (List ℕ) = (c.course.fates 1).brings in
-    let w : List (List ℕ) = (c.course.fates 2).brings in
-    record {
-      after = o.state;
-      stands = k.stands;
-      within = k.within;
-      names =
-          λ (content : Content) (n : Names i y content). named_after meaning key barrier y c.course offer (One p.request) content
-          a.within.sound n;
-      comes = subst (λ (r : Result BatchAnswer Refusal). Comes i y offer (One p.request) o.state r) (sym k.gives)
-          (comes meaning key barrier all others asked y c.course offer (One p.request) a);
-      only = λ (why : Refusal) (e : gives ≡ Err why) (none : fault_of why ≡ None).
-          opt_keeps meaning key barrier y c.course (One p.request) offer why (sym k.gives ∙ e) none;
-      refuses = λ (why : Refusal) (e : gives ≡ Err why).
-          opt_refused meaning key barrier y c.course p offer why
-          (offered_then i y (all_made (by_lists i) y (seen_before c.course)) p offer
-          (same_batches i (map Foreign v ++ (map Foreign w ++ [])) y (foreign_first v (map Foreign w ++ []) ∙ foreign_first w [])) f)
-          (sym k.gives ∙ e);
-      issues = λ (answer : BatchAnswer) (e : gives ≡ Ok answer).
-          issued_in_opt meaning lawful key barrier o.state k.within.sound
-          (answered_clean meaning key barrier y c.course offer (One p.request) answer (sym k.gives ∙ e));
-      grown = opt_grown meaning key barrier y o.state p (alike_after meaning key barrier y c.course offer (One p.request));
-      powered = λ h. stays_powered meaning key barrier y c.course offer (One p.request) h;
-    }
+pub basic_called : (meaning : Meaning) → IsLawful meaning
+    → (key : List ℕ) (all others : List (List ℕ)) (asked : List Batch) (y : History) (old new : Standing) (offer : List ℕ) (p : Pending)
+    (gives : Result BatchAnswer Refusal)
+    → CallsOn Basic meaning old new offer (One p.request) gives → StandsFor (basic meaning key) old y
+    → AreAsked all others asked (basic meaning key) y offer (One p.request)
+    → IsOffered (basic meaning key) y p offer → Called all others asked (basic meaning key) y new offer p gives
+unfolding basic_met
+basic_called meaning lawful key all others asked y old new offer p gives c s a f =
+    let i : Instance = basic meaning key in
+    let k = c.continues key key y all others asked s (basic_asked meaning key all others asked y c.course offer (One p.request) a) in
+    let values : List (List ℕ) = (c.course.fates 1).brings in
+    called_of all others asked i y new offer p gives (basic_met meaning lawful key all others asked y old new offer p gives c s a)
+    (λ (why : Refusal) (e : gives ≡ Err why).
+    basic_refused meaning key y c.course p offer why
+    (offered_then i y (all_made (by_lists i) y (map Foreign values ++ [])) p offer
+    (same_batches i (map Foreign values ++ []) y (foreign_first values [])) f) (sym k.gives ∙ e))
+
+-- what is asked of the moves of a call is known by the register's items, or the call is idle
+module _ (meaning : Meaning) (lawful : IsLawful meaning) (key barrier : List ℕ) (all others : List (List ℕ)) (asked : List Batch)
+    (y : History) (old new : Standing) (offer : List ℕ) (p : Pending) (gives : Result BatchAnswer Refusal)
+    (c : CallsOn Opt meaning old new offer (One p.request) gives) (s : StandsFor (opt meaning key barrier) old y)
+    (a : AreAsked all others asked (opt meaning key barrier) y offer (One p.request)) where
+  pub opt_met_by : IsAsked all others asked (opt meaning key barrier) y
+      (called (opt meaning key barrier) (by_digests (opt meaning key barrier)) (digests_of (opt meaning key barrier) y) c.course offer
+      (One p.request)).moves offer (One p.request)
+      → Met all others asked (opt meaning key barrier) y new offer p gives
+  opt_met_by is_asked =
+      let i : Instance = opt meaning key barrier in
+      let o = called i (by_lists i) y c.course offer (One p.request) in
+      let k = c.continues key barrier y all others asked s is_asked in
+      record {
+        after = o.state;
+        stands = k.stands;
+        within = k.within;
+        names =
+            λ (content : Content) (n : Names i y content). named_after meaning key barrier y c.course offer (One p.request) content
+            a.within.sound n;
+        comes = subst (λ (r : Result BatchAnswer Refusal). Comes i y offer (One p.request) o.state r) (sym k.gives)
+            (comes meaning key barrier all others asked y c.course offer (One p.request) a);
+        only = λ (why : Refusal) (e : gives ≡ Err why) (none : fault_of why ≡ None).
+            opt_keeps meaning key barrier y c.course (One p.request) offer why (sym k.gives ∙ e) none;
+        judged = λ (why : Refusal) (e : gives ≡ Err why) (none : fault_of why ≡ None).
+            opt_judged meaning key barrier y c.course (One p.request) offer why (sym k.gives ∙ e) none;
+        issues = λ (answer : BatchAnswer) (e : gives ≡ Ok answer).
+            issued_in_opt meaning lawful key barrier o.state k.within.sound
+            (answered_clean meaning key barrier y c.course offer (One p.request) answer (sym k.gives ∙ e));
+        grown = opt_grown meaning key barrier y o.state p (alike_after meaning key barrier y c.course offer (One p.request));
+        powered = λ h. stays_powered meaning key barrier y c.course offer (One p.request) h;
+      }
+
+  pub opt_met : (items more : List Item) → old.items ≡ Some items → new.items ≡ Some (standing_items y.is_open items ++ more)
+      → ((IsIdle (opt meaning key barrier) y offer (One p.request) → ⊥) → AreShown all others (opt meaning key barrier) y more)
+      → Met all others asked (opt meaning key barrier) y new offer p gives
+  opt_met items more known ends shown_so =
+      let i : Instance = opt meaning key barrier in
+      let g = c.goes key barrier (digests_of i y) (stands_at i old y s) in
+      opt_met_by (asked_for meaning key barrier all others asked y c.course offer (One p.request) old new items more a shown_so known g.items
+      ends)
+
+  pub opt_met_idle : IsIdle (opt meaning key barrier) y offer (One p.request)
+      → Met all others asked (opt meaning key barrier) y new offer p gives
+  opt_met_idle idle = opt_met_by (asked_idle meaning key barrier all others asked y c.course offer (One p.request) a idle)
+
+  pub opt_called : (items more : List Item) → old.items ≡ Some items → new.items ≡ Some (standing_items y.is_open items ++ more)
+      → ((IsIdle (opt meaning key barrier) y offer (One p.request) → ⊥) → AreShown all others (opt meaning key barrier) y more)
+      → IsOffered (opt meaning key barrier) y p offer → Called all others asked (opt meaning key barrier) y new offer p gives
+  unfolding opt_met_by opt_met
+  opt_called items more known ends shown_so f =
+      let i : Instance = opt meaning key barrier in
+      let g = c.goes key barrier (digests_of i y) (stands_at i old y s) in
+      let is_asked : IsAsked all others asked i y
+      (called i (by_digests i) (digests_of i y) c.course offer (One p.request)).moves offer (One p.request) =
+      asked_for meaning key barrier all others asked y c.course offer (One p.request) old new items more a shown_so known g.items ends in
+      let k = c.continues key barrier y all others asked s is_asked in
+      let v : List (List ℕ) = (c.course.fates 1).brings in
+      let w : List (List ℕ) = (c.course.fates 2).brings in
+      called_of all others asked i y new offer p gives (opt_met items more known ends shown_so)
+      (λ (why : Refusal) (e : gives ≡ Err why).
+      opt_refused meaning key barrier y c.course p offer why
+      (offered_then i y (all_made (by_lists i) y (seen_before c.course)) p offer
+      (same_batches i (map Foreign v ++ (map Foreign w ++ [])) y (foreign_first v (map Foreign w ++ []) ∙ foreign_first w [])) f)
+      (sym k.gives ∙ e))
 
 -- it leads on from slots that fit
 module _ (all others : List (List ℕ)) (asked : List Batch) (i : Instance) (y : History) (slots : Slots) (before : Standing)
@@ -222,9 +293,9 @@ opt_leads meaning lawful key barrier all others asked y slots before after old i
     λ p call e given_for c.
     let i : Instance = opt meaning key barrier in
     left_by all others asked i y slots before old can NoMore after p (whole_in call) e
-    (opt_called meaning lawful key barrier all others asked y before after (slot_read slots (offer_slot p)) p (whole_in call) items more
+    (opt_called meaning lawful key barrier all others asked y before after (slot_read slots (offer_slot p)) p (whole_in call)
     c.goes can.stands
-    (asked_at all others asked i y slots before old can p e) known ends
+    (asked_at all others asked i y slots before old can p e) items more known ends
     (λ busy. shown_so (λ k. busy (subst (λ (w : Option Pending). AsksIdly i y slots w) e k)))
     (offered_at all others asked i y slots before old can p e)) tt
 

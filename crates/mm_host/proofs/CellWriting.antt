@@ -1,6 +1,5 @@
 -- How often one call of either core is to write the cell, and what flag it leaves.
 use Rattle.std.proofs.Common.{◌≡◌, ◌∙◌, ◌+◌, ◌≤◌, ℕ, Bool, true, false, List, Option, None, Some, Result, Ok, Err, refl, sym, ap, subst, inl, inr, arith}
-use Rattle.std.specs.Prelude.{◌⊎◌}
 use Rattle.std.specs.Option.{option_map}
 use Rattle.mm_base.specs.Faults.{counted}
 use Rattle.mm_digest.specs.declared.variant.Variant.TheVariants.{Basic, Opt}

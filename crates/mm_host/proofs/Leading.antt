@@ -37,7 +37,7 @@ use Rattle.mm_call.specs.Courses.{walk, closes}
 use Rattle.mm_call.specs.Found.{found_at}
 use Rattle.mm_call.specs.FoundWords.{found_unless_wanting, is_fresh}
 use Rattle.mm_call.specs.Levels.{by_digests, all_made}
-use Rattle.mm_call.specs.Premises.{AreAsked, AreShown}
+use Rattle.mm_call.specs.Premises.{AreAsked, AreShown, IsIdle}
 use Rattle.mm_call.specs.Standing.{StandsAt, shown}
 use Rattle.mm_call.specs.Tied.{standing_items}
 use Rattle.mm_call.proofs.OptShut.{bare, counted_open}
@@ -50,7 +50,7 @@ use Rattle.mm_callers.proofs.OptShown.{flag_kept, pushed_open, shown_front}
 use Rattle.mm_callers.proofs.Twice.{answered_at}
 use Rattle.mm_store.specs.Pending.{Pending}
 use Rattle.mm_host.proofs.Awaited.{one_more}
-use Rattle.mm_host.proofs.BothRecovering.{Called, IsGrownBy, IsSame, basic_called, opt_called, opt_grown}
+use Rattle.mm_host.proofs.BothRecovering.{Called, Met, IsGrownBy, IsSame, basic_called, basic_met, called_of, opt_called, opt_met, opt_met_idle, opt_grown}
 use Rattle.mm_host.proofs.Machining.{basic_content, issued_in_opt}
 use Rattle.mm_host.proofs.Refusing.{IsOffered}
 
@@ -139,7 +139,24 @@ IsBetween all others i y waiting standing final after =
 -- What a session takes from its variant, where `final` is what stands when it is over.
 pub record Laws (all others : List (List ℕ)) (asked : List Batch) (i : Instance) (final : Standing) : Type 0 where
   pub lawful : IsLawful i.meaning
-  -- a call that was answered, with others behind it; and the last call
+  -- a call, whatever is offered: one that was answered, with others behind it; and the last one
+  pub met : (y : History) (old middle : Standing) (offer : List ℕ) (p : Pending) (gives : Result BatchAnswer Refusal)
+      → CallsOn i.variant i.meaning old middle offer (One p.request) gives
+      → StandsFor i old y → AreAsked all others asked i y offer (One p.request)
+      → Shows i.variant all others i y old final → Reaches i.variant i middle final
+      → ((why : Refusal) → gives ≡ Err why → ⊥)
+      → (o : Met all others asked i y middle offer p gives) × IsBetween all others i y (Some p) middle final o.after
+  pub met_last : (y : History) (old : Standing) (offer : List ℕ) (p : Pending) (gives : Result BatchAnswer Refusal)
+      → CallsOn i.variant i.meaning old final offer (One p.request) gives
+      → StandsFor i old y → AreAsked all others asked i y offer (One p.request)
+      → Shows i.variant all others i y old final
+      → Met all others asked i y final offer p gives
+  -- one that minds no register
+  pub idle : (y : History) (old middle : Standing) (offer : List ℕ) (p : Pending) (gives : Result BatchAnswer Refusal)
+      → CallsOn i.variant i.meaning old middle offer (One p.request) gives
+      → StandsFor i old y → AreAsked all others asked i y offer (One p.request) → IsIdle i y offer (One p.request)
+      → Met all others asked i y middle offer p gives
+  -- the same for what is awaited
   pub between : (y : History) (old middle : Standing) (offer : List ℕ) (p : Pending) (gives : Result BatchAnswer Refusal)
       → CallsOn i.variant i.meaning old middle offer (One p.request) gives
       → StandsFor i old y → AreAsked all others asked i y offer (One p.request) → IsOffered i y p offer
@@ -187,6 +204,11 @@ pub basic_laws : (meaning : Meaning) → IsLawful meaning
     → (key : List ℕ) (all others : List (List ℕ)) (asked : List Batch) (final : Standing) → Laws all others asked (basic meaning key) final
 basic_laws meaning lawful key all others asked final = record {
   lawful = lawful;
+  met = λ y old middle offer p gives c s a shows reaches ok.
+      let o = basic_met meaning lawful key all others asked y old middle offer p gives c s a in
+      (o, (tt, o.grown));
+  met_last = λ y old offer p gives c s a shows. basic_met meaning lawful key all others asked y old final offer p gives c s a;
+  idle = λ y old middle offer p gives c s a idle. basic_met meaning lawful key all others asked y old middle offer p gives c s a;
   between = λ y old middle offer p gives c s a f shows reaches ok.
       let o = basic_called meaning lawful key all others asked y old middle offer p gives c s a f in
       (o, (tt, o.grown));
@@ -315,12 +337,12 @@ shut_powered y e = shut_by y.is_open (is_empty y.items) (are_own y.items y.curre
 module _ (meaning : Meaning) (lawful : IsLawful meaning) (key barrier : List ℕ) (all others : List (List ℕ)) (asked : List Batch)
     (final : Standing) (y : History) (old middle : Standing) (offer : List ℕ) (p : Pending) (answer : BatchAnswer)
     (c : CallsOn Opt meaning old middle offer (One p.request) (Ok answer)) (s : StandsFor (opt meaning key barrier) old y)
-    (a : AreAsked all others asked (opt meaning key barrier) y offer (One p.request)) (f : IsOffered (opt meaning key barrier) y p offer)
+    (a : AreAsked all others asked (opt meaning key barrier) y offer (One p.request))
     (shows : ShowsAt all others (opt meaning key barrier) y old final) where
   -- a call that was answered, with others behind it
   abbrev Between : Type 0
   Between =
-      (o : Called all others asked (opt meaning key barrier) y middle offer p (Ok answer))
+      (o : Met all others asked (opt meaning key barrier) y middle offer p (Ok answer))
       × IsBetween all others (opt meaning key barrier) y (Some p) middle final o.after
 
   abbrev Handed : Type 0
@@ -338,7 +360,7 @@ module _ (meaning : Meaning) (lawful : IsLawful meaning) (key barrier : List ℕ
           h.left.alike n;
       comes = h.left.comes;
       only = λ why e. absurd (cc);
-      refuses = λ why e. absurd (cc);
+      judged = λ why e. absurd (cc);
       issues = λ answer e. issued_in_opt meaning lawful key barrier h.left.after h.left.within.sound (h.left.clean answer e);
       grown = opt_grown meaning key barrier y h.left.after p h.left.alike;
       powered = λ w. shut_powered h.left.after e;
@@ -373,11 +395,11 @@ module _ (meaning : Meaning) (lawful : IsLawful meaning) (key barrier : List ℕ
       ∙ sym (append_assoc (standing_items y.is_open shows.items) pushed.front h.more) in
       let items : h.items ≡ standing_items y.is_open shows.items ++ pushed.front = append_cancel_right h.items
       (standing_items y.is_open shows.items ++ pushed.front) h.more reach in
-      let o = opt_called meaning lawful key barrier all others asked y old middle offer p (Ok answer) shows.items pushed.front c s a
+      let o = opt_met meaning lawful key barrier all others asked y old middle offer p (Ok answer) c s a shows.items pushed.front
       shows.known
       (h.known ∙ ap (λ (xs : List Item). Some xs) items)
       (λ busy. shown_front all others i y pushed.front h.more
-      (subst (λ (xs : List Item). AreShown all others i y xs) (sym pushed.whole) shows.shown_are)) f in
+      (subst (λ (xs : List Item). AreShown all others i y xs) (sym pushed.whole) shows.shown_are)) in
       let total : total_of h.left.after.batches ≡ total_of o.after.batches =
       sym (answered_at i y h.left.after offer (One p.request) answer h.left.comes).0
       ∙ (answered_at i y o.after offer (One p.request) answer o.comes).0 in
@@ -418,13 +440,13 @@ opt_between : (meaning : Meaning) → IsLawful meaning
     (offer : List ℕ) (p : Pending) (gives : Result BatchAnswer Refusal)
     → CallsOn Opt meaning old middle offer (One p.request) gives → StandsFor (opt meaning key barrier) old y
     → AreAsked all others asked (opt meaning key barrier) y offer (One p.request)
-    → IsOffered (opt meaning key barrier) y p offer → ShowsAt all others (opt meaning key barrier) y old final
+    → ShowsAt all others (opt meaning key barrier) y old final
     → Reaches Opt (opt meaning key barrier) middle final → ((why : Refusal) → gives ≡ Err why → ⊥)
-    → (o : Called all others asked (opt meaning key barrier) y middle offer p gives)
+    → (o : Met all others asked (opt meaning key barrier) y middle offer p gives)
     × IsBetween all others (opt meaning key barrier) y (Some p) middle final o.after
-opt_between meaning lawful key barrier all others asked final y old middle offer p (Ok answer) c s a f shows reaches ok =
-    between meaning lawful key barrier all others asked final y old middle offer p answer c s a f shows reaches
-opt_between meaning lawful key barrier all others asked final y old middle offer p (Err why) c s a f shows reaches ok = absurd (ok why refl)
+opt_between meaning lawful key barrier all others asked final y old middle offer p (Ok answer) c s a shows reaches ok =
+    between meaning lawful key barrier all others asked final y old middle offer p answer c s a shows reaches
+opt_between meaning lawful key barrier all others asked final y old middle offer p (Err why) c s a shows reaches ok = absurd (ok why refl)
 
 opt_grow : (meaning : Meaning) (key barrier : List ℕ) (y z after : History) (b : Batch) → IsSound after
     → (has_value (joined y.closed) ≡ false → bare y ≡ bare z)
@@ -440,10 +462,22 @@ pub opt_laws : (meaning : Meaning) → IsLawful meaning
     → Laws all others asked (opt meaning key barrier) final
 opt_laws meaning lawful key barrier all others asked final = record {
   lawful = lawful;
+  met = λ y old middle offer p gives c s a shows reaches ok.
+      opt_between meaning lawful key barrier all others asked final y old middle offer p gives c s a shows reaches ok;
+  met_last = λ y old offer p gives c s a shows.
+      opt_met meaning lawful key barrier all others asked y old final offer p gives c s a shows.items shows.more shows.known shows.ends
+      (λ busy. shows.shown_are);
+  idle = λ y old middle offer p gives c s a idle.
+      opt_met_idle meaning lawful key barrier all others asked y old middle offer p gives c s a idle;
   between = λ y old middle offer p gives c s a f shows reaches ok.
-      opt_between meaning lawful key barrier all others asked final y old middle offer p gives c s a f shows reaches ok;
+      let o = opt_between meaning lawful key barrier all others asked final y old middle offer p gives c s a shows reaches ok in
+      (
+        called_of all others asked (opt meaning key barrier) y middle offer p gives o.0
+            (λ (why : Refusal) (e : gives ≡ Err why). absurd (ok why e)),
+        o.1,
+      );
   last = λ y old offer p gives c s a f shows.
-      opt_called meaning lawful key barrier all others asked y old final offer p gives shows.items shows.more c s a shows.known shows.ends
+      opt_called meaning lawful key barrier all others asked y old final offer p gives c s a shows.items shows.more shows.known shows.ends
       (λ busy. shows.shown_are) f;
   reach = λ old new offer request gives c. opt_reach meaning key barrier old new offer request gives c;
   formed = λ y most. issued_content meaning lawful key barrier y most;

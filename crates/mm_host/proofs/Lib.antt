@@ -25,3 +25,6 @@ mod Keeping
 mod CellWriting
 mod OneCall
 mod SessionWriting
+mod CallsMade
+mod InTurn
+mod RunningOnce

@@ -55,10 +55,10 @@ one_waiting two three v w a b =
     a.is ∙ ap (λ (x : Option Pending). later x a.in_three) in_two ∙ ap (λ (x : Option Pending). later b.in_two x) in_three ∙ sym b.is
 
 -- what a finding saw, over a store that tells its slots
-record Saw (slots : Slots) (old new : StoreStanding) (result : Result (Option Pending) StoreFault) : Type 0 where
-  told : new.slots ≡ Some slots
-  honest : new.is_honest ≡ old.is_honest
-  waiting : (w : Option Pending) → result ≡ Ok w → IsWaiting (slot_read slots 2) (slot_read slots 3) w
+pub record Saw (slots : Slots) (old new : StoreStanding) (result : Result (Option Pending) StoreFault) : Type 0 where
+  pub told : new.slots ≡ Some slots
+  pub honest : new.is_honest ≡ old.is_honest
+  pub waiting : (w : Option Pending) → result ≡ Ok w → IsWaiting (slot_read slots 2) (slot_read slots 3) w
 
 took : (two three : List ℕ) (result : Result (Option Pending) StoreFault) (taken w : Option Pending) → IsWaiting two three taken
     → (result ≡ Ok taken) ⊎ (result ≡ Err fault.Memory) → result ≡ Ok w → IsWaiting two three w
@@ -83,7 +83,7 @@ saw_three slots two (Ok three) old new result t e r g = record {
       (subst (λ (x : List ℕ). IsWaiting two x w) (r.gives slots t) (took two three result g.waiting w g.is_waiting g.gives f));
 }
 
-saw_two : (slots : Slots) (two : Result (List ℕ) StoreFault) (old middle new : StoreStanding) (result : Result (Option Pending) StoreFault)
+pub saw_two : (slots : Slots) (two : Result (List ℕ) StoreFault) (old middle new : StoreStanding) (result : Result (Option Pending) StoreFault)
     → old.slots ≡ Some slots → ReadsSlot 2 old middle two → AfterTwo two middle new result → Saw slots old new result
 saw_two slots (Err why) old middle new result t r g = record {
   told = ap (λ (k : StoreStanding). k.slots) g.0 ∙ r.slots ∙ t;
@@ -259,7 +259,7 @@ answers all others asked i y slots waiting p standing answer l =
     )
 
 -- a refusal that hands on no device's fault committed nothing
-may_commit : (why : Refusal) (broken : StepFault) → fault_of why ≡ Some broken → MayHaveCommitted {T = Resumed} (Err (refusal_fault why))
+pub may_commit : (why : Refusal) (broken : StepFault) → fault_of why ≡ Some broken → MayHaveCommitted {T = Resumed} (Err (refusal_fault why))
 may_commit (refusal.Device fault) broken e = refl
 may_commit refusal.Memory broken e = absurd (cc)
 may_commit refusal.Long broken e = absurd (cc)

@@ -35,7 +35,7 @@ use Rattle.mm_call.specs.OrderWords.{weighed}
 use Rattle.mm_call.proofs.OptLaw.{before, sight_is}
 use Rattle.mm_call.proofs.OptWalks.{path_is}
 use Rattle.mm_call.proofs.Moving.{same_batches}
-use Rattle.mm_call.proofs.Walks.{taking, Commits, nothing, batch, asks, basic_commits, opt_commits}
+use Rattle.mm_call.proofs.Walks.{taking, foreign_made, Commits, nothing, batch, asks, basic_commits, opt_commits}
 use Rattle.mm_call.specs.Refusals.{fault_of}
 use Rattle.mm_callers.specs.Basic.{EndsWith}
 use Rattle.mm_store.specs.Pending.{Pending, ReadsPending}
@@ -250,6 +250,22 @@ opt_keeps meaning key barrier y c b offer why e none =
     (subst (λ (steps : List Step). Commits b (is_fresh found) (walk c.fates 1 steps)) (sym (asks y.is_open (is_fresh found) b))
     (opt_commits c.fates y.is_open (is_fresh found) b))
 
+-- such a refusal is what was found, and no step failed
+ended_found : (i : Instance) (seen end : History) (b : Batch) (found : Result Found Refusal) (moves : List Move) (broken : Option StepFault)
+    (why : Refusal)
+    → given_for (ended_by (by_lists i) seen end b found moves broken) ≡ Err why → fault_of why ≡ None → (found ≡ Err why) × (broken ≡ None)
+ended_found i seen end b found moves (Some fault) why e none =
+    let same : Device fault ≡ why = cc in
+    let some : fault_of (Device fault) ≡ None = subst (λ (w : Refusal). fault_of w ≡ None) (sym same) none in absurd (cc)
+ended_found i seen end b (Err w) moves None why e none = let same : w ≡ why = cc in (ap (λ (x : Refusal). Err x) same, refl)
+ended_found i seen end b (Ok found) moves None why e none = absurd (cc)
+
+lacking_or : (found : Result Found Refusal) (lacks : Bool) (why : Refusal) → found_unless_wanting found lacks ≡ Err why
+    → (why ≡ Memory) ⊎ (found ≡ Err why)
+lacking_or (Err w) lacks why e = let same : w ≡ why = cc in inr (ap (λ (x : Refusal). Err x) same)
+lacking_or (Ok found) false why e = absurd (cc)
+lacking_or (Ok found) true why e = let same : Memory ≡ why = cc in inl (sym same)
+
 -- Basic: its life never ends
 pub basic_refused : (meaning : Meaning) (key : List ℕ) (y : History) (c : Course) (p : Pending) (offer : List ℕ) (why : Refusal)
     → IsOffered (basic meaning key) (all_made (by_lists (basic meaning key)) y (map Foreign (c.fates 1).brings ++ [])) p offer
@@ -291,3 +307,45 @@ opt_refused meaning key barrier y c p offer why o e =
     subst (λ (z : History). MayRefuse why (life_of Opt z)) (sym same)
     (lacking (found_at i (by_lists i) seen (One p.request) offer) c.lacks why (life_of Opt seen) (λ x g. found_refused i seen p offer o x g)
     f)) e
+
+-- so a refusal is what the offer gets at the history where the call ends
+
+basic_alone : (i : Instance) (fates : ℕ → Fate) (y : History) (flag fresh : Bool) (b : Batch) → fresh ≡ false
+    → (walk fates 1 (ask_steps Basic flag fresh b)).broken ≡ None
+    → all_made (by_lists i) y (walk fates 1 (ask_steps Basic flag fresh b)).moves ≡ taking y (fates 1).brings
+basic_alone i fates y flag true b e whole = absurd (cc)
+basic_alone i fates y flag false b e whole = path_is i fates (ask_steps Basic flag false b) 1 y whole
+
+pub basic_judged : (meaning : Meaning) (key : List ℕ) (y : History) (c : Course) (b : Batch) (offer : List ℕ) (why : Refusal)
+    → given_for (called (basic meaning key) (by_lists (basic meaning key)) y c offer b).ending ≡ Err why → fault_of why ≡ None
+    → (why ≡ Memory)
+    ⊎ (found_at (basic meaning key) (by_lists (basic meaning key))
+    (called (basic meaning key) (by_lists (basic meaning key)) y c offer b).state b offer ≡ Err why)
+basic_judged meaning key y c b offer why e none =
+    let i : Instance = basic meaning key in
+    let seen : History = all_made (by_lists i) y (map Foreign (c.fates 1).brings ++ []) in
+    let found : Result Found Refusal = found_unless_wanting (found_at i (by_lists i) seen b offer) c.lacks in
+    let w : Walked = walk c.fates 1 (ask_steps Basic y.is_open (is_fresh found) b) in
+    let end : History = all_made (by_lists i) y w.moves in
+    let f = ended_found i seen end b found w.moves w.broken why e none in
+    let same : seen ≡ end = foreign_made i (c.fates 1).brings [] y
+    ∙ sym (basic_alone i c.fates y y.is_open (is_fresh found) b (fresh_none found why f.0) f.1) in
+    subst (λ (z : History). (why ≡ Memory) ⊎ (found_at i (by_lists i) z b offer ≡ Err why)) same
+    (lacking_or (found_at i (by_lists i) seen b offer) c.lacks why f.0)
+
+pub opt_judged : (meaning : Meaning) (key barrier : List ℕ) (y : History) (c : Course) (b : Batch) (offer : List ℕ) (why : Refusal)
+    → given_for (called (opt meaning key barrier) (by_lists (opt meaning key barrier)) y c offer b).ending ≡ Err why → fault_of why ≡ None
+    → (why ≡ Memory)
+    ⊎ (found_at (opt meaning key barrier) (by_lists (opt meaning key barrier))
+    (called (opt meaning key barrier) (by_lists (opt meaning key barrier)) y c offer b).state b offer ≡ Err why)
+opt_judged meaning key barrier y c b offer why e none =
+    let i : Instance = opt meaning key barrier in
+    let seen : History = all_made (by_lists i) y (before c) in
+    let found : Result Found Refusal = found_unless_wanting (found_at i (by_lists i) seen b offer) c.lacks in
+    let w : Walked = walk c.fates 1 (ask_steps Opt y.is_open (is_fresh found) b) in
+    let end : History = all_made (by_lists i) y w.moves in
+    let f = ended_found i seen end b found w.moves w.broken why e none in
+    let same : seen ≡ end = sight_is i y c
+    ∙ sym (read_alone i c.fates y y.is_open (is_fresh found) b (fresh_none found why f.0) f.1) in
+    subst (λ (z : History). (why ≡ Memory) ⊎ (found_at i (by_lists i) z b offer ≡ Err why)) same
+    (lacking_or (found_at i (by_lists i) seen b offer) c.lacks why f.0)

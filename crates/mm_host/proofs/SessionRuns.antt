@@ -100,7 +100,7 @@ fits_none : (i : Instance) (y : History) (slots : Slots) (f : FitsHistory i slot
 fits_none i y slots f e = subst (λ (w : Option Pending). FitsBy i slots y w) e f.fits
 
 -- what a batch adds to the batches
-push_batches : (variant : Variant) (flag : Bool) (y : History) (b : Batch) → (committed variant flag y b).batches ≡ y.batches ++ b ∷ []
+pub push_batches : (variant : Variant) (flag : Bool) (y : History) (b : Batch) → (committed variant flag y b).batches ≡ y.batches ++ b ∷ []
 push_batches Basic flag y b = refl
 push_batches Opt true y b = refl
 push_batches Opt false y b = refl
@@ -163,7 +163,7 @@ store_came came sent fault (inl s) e =
     sym (same_fault fault Store (Err fault) refl (s.1 ∙ ap comes_as e))
 store_came came sent fault (inr s) e = absurd (s.1 (ap reply_text e))
 
-line_committed : (z after : History) (line : List ℕ) (came : Result Resumed HostFault) (sent : List ℕ) (fault : SessionFault)
+pub line_committed : (z after : History) (line : List ℕ) (came : Result Resumed HostFault) (sent : List ℕ) (fault : SessionFault)
     (hand : List ℕ → Type 0) → hand line → SendsReply came sent (Err fault) → (after.batches ≡ z.batches) ⊎ MayHaveCommitted came
     → (after.batches ≡ z.batches) ⊎ (after.batches ≡ z.batches ++ One line ∷ [])
     → (requests_of after.batches ≡ requests_of z.batches) ⊎ HasUntold hand (Err fault) (requests_of z.batches) (requests_of after.batches)

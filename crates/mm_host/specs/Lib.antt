@@ -18,3 +18,4 @@ pub mod SessionLines
 pub mod SlotLaws
 pub mod CellWrites
 pub mod SessionWrites
+pub mod AnySlots

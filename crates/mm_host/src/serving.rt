@@ -6,6 +6,7 @@ ghost use Rattle.mm_base.specs.Limits.{last_position, longest_request};
 ghost use Rattle.mm_play.specs.Plays.{IsBlamed};
 ghost use Rattle.mm_store.specs.Calls.{WritesSlot};
 ghost use Rattle.mm_store.specs.Pending.{pending_spelling};
+ghost use Rattle.mm_host.specs.AnySlots.{SessionRunsOnce};
 ghost use Rattle.mm_host.specs.Continuing.{SessionContinues};
 ghost use Rattle.mm_host.specs.Saying.{IsSized, TellsReply, position_at, snapshot_at};
 ghost use Rattle.mm_host.specs.Serving.{AsksLine};
@@ -55,6 +56,9 @@ pub fn session<M: Module, P: Platform, T: Store, S: Source, K: Sink>(
     ensures named { IsRefusalNamed result }
     ensures lines { SparesLines (S.left input.old) result }
     ensures continues { SessionContinues variant (M.meaning «module».now) (P.standing platform.old)
+        (P.standing platform.new) (T.kept store.old) (T.kept store.new) (S.left input.old)
+        (S.left input.new) (K.received out.old) (K.received out.new) result }
+    ensures once { SessionRunsOnce variant (M.meaning «module».now) (P.standing platform.old)
         (P.standing platform.new) (T.kept store.old) (T.kept store.new) (S.left input.old)
         (S.left input.new) (K.received out.old) (K.received out.new) result }
     ensures writes { SessionWrites variant (M.meaning «module».now) (P.standing platform.old)

@@ -1,3 +1,4 @@
+use Rattle.mm_host.proofs.RunningOnce.{session_runs_once}
 use Rattle.mm_host.proofs.SessionBlaming.{session_told}
 use Rattle.mm_host.proofs.SessionRuns.{continues}
 use Rattle.mm_host.proofs.SessionWriting.{session_writes}
@@ -23,3 +24,8 @@ returns-clause-lines g c = spares_lines _ _ _ _ _ _ _ _ _ _ _ c.session_by_steps
 
 pub returns-clause-writes : goal.returns-clause-writes
 returns-clause-writes g c = session_writes _ _ _ _ _ _ _ _ _ _ _ c.session_by_steps.ensures.sessions
+
+pub returns-clause-once : goal.returns-clause-once
+returns-clause-once g c =
+    session_runs_once c.args.variant (g.M.Module.meaning c.args.module.now) (g.met.M.Module.is_lawful c.args.module.now) _ _ _ _ _ _ _ _
+    c.session_by_steps.result
