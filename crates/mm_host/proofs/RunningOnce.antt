@@ -2,6 +2,7 @@
 use Rattle.std.proofs.Common.{◌≡◌, ◌≢◌, ◌∙◌, ℕ, List, [], ◌∷◌, ◌++◌, Option, None, Some, Result, Ok, Err, IsSome, refl, sym, ap, subst, inl, inr, append_assoc}
 use Rattle.std.specs.Prelude.{◌⊎◌}
 use Rattle.std.proofs.lemmas.List.{append_cancel_left}
+use Rattle.mm_base.specs.Input.{lines_of}
 use Rattle.mm_digest.specs.declared.variant.Variant.{Variant}
 use Rattle.mm_digest.specs.declared.variant.Variant.TheVariants.{Basic, Opt}
 use Rattle.mm_platform.specs.declared.fault.StepFault.{StepFault}
@@ -26,13 +27,15 @@ use Rattle.mm_call.proofs.Idle.{unless_idle}
 use Rattle.mm_store.specs.declared.fault.StoreFault.{StoreFault}
 use Rattle.mm_store.specs.declared.fault.StoreFault.TheVariants as fault
 use Rattle.mm_store.specs.Kept.{StoreStanding}
+use Rattle.mm_store.specs.Pending.{Pending}
+use Rattle.mm_store.specs.Slots.{Slots}
 use Rattle.mm_host.specs.declared.fault.HostFault.{HostFault}
 use Rattle.mm_host.specs.declared.fault.HostFault.TheVariants as host
 use Rattle.mm_host.specs.declared.fault.SessionFault.{SessionFault}
 use Rattle.mm_host.specs.declared.fault.SessionFault.TheVariants.{Refused, WriteFault}
 use Rattle.mm_host.specs.declared.resuming.Resumed.{Resumed}
 use Rattle.mm_host.specs.declared.resuming.Resumed.TheVariants.{Answered}
-use Rattle.mm_host.specs.AnySlots.{AreAmong, AreAskedInTurn, AreFirstOf, AsksNothingNew, EndsRun, IsRefusedFor, RunsOnce, SessionRunsOnce, first_offer, offered_after}
+use Rattle.mm_host.specs.AnySlots.{AreAmong, AreAskedInTurn, AreFirstOf, AsksNothingNew, EndsRun, IsRefusedFor, RunsOnce, SessionRunsOnce, first_offer, offered_after, requests_with}
 use Rattle.mm_host.specs.Asking.{IsCall}
 use Rattle.mm_host.specs.Continuing.{IsInHand, RunsOver, told_in}
 use Rattle.mm_host.specs.Faults.{store_fault_as, refusal_fault}
@@ -41,7 +44,7 @@ use Rattle.mm_host.specs.Saying.{SendsReply, comes_as}
 use Rattle.mm_host.specs.Serving.{Served, lines_served}
 use Rattle.mm_host.proofs.Awaited.{grows}
 use Rattle.mm_host.proofs.BothRecovering.{Met}
-use Rattle.mm_host.proofs.CallsMade.{CallsInTurn, Chain, Ends, TellsCall, Tries, asks, calls_split, chain_of, fails, never_refused, rests, stops}
+use Rattle.mm_host.proofs.CallsMade.{CallsInTurn, Chain, Ends, TellsCall, Tries, asks, among_input, calls_split, chain_of, fails, never_refused, rests, stops}
 use Rattle.mm_host.proofs.InTurn.{AfterTurns, May, StandsIn, calls_reach, met_last, pending_for, turns}
 use Rattle.mm_host.proofs.Leading.{Laws, Reaches, basic_laws, opt_laws, reach_same}
 use Rattle.mm_host.proofs.Recovering.{may_commit}
@@ -234,11 +237,16 @@ module _ (all others : List (List ℕ)) (asked : List Batch) (i : Instance) (fin
   in_hand_next xs request rest requests e f =
       append_cancel_left xs rest (request ∷ f.0) (e ∙ sym f.1 ∙ append_assoc xs (request ∷ []) f.0)
 
-  module _ (y : History) (first : List ℕ) (before : Standing) (told : List Served) (hand : List ℕ → Type 0)
+  module _ (y : History) (slots : Slots) (waiting : Option Pending) (left : Option (List ℕ)) (before : Standing) (told : List Served)
+      (hand : List ℕ → Type 0)
       (requests : List (List ℕ)) (result : Result Unit SessionFault) (clear : IsClear all) (apart : AreNoGuards i.barrier others asked)
-      (s : StandsIn all others asked i y y before first) (may : May all others asked i final laws y before first requests)
-      (f : AreAskedInTurn all asked i y first requests)
-      (chain : Chain i.variant i.meaning first before final told hand result) where
+      (s : StandsIn all others asked i y y before (first_offer slots waiting)) (may : May all others asked i final laws y before (first_offer slots waiting) requests)
+      (f : AreAskedInTurn all asked i y (first_offer slots waiting) requests)
+      (chain : Chain i.variant i.meaning (first_offer slots waiting) before final told hand result)
+      (made : (input : List ℕ) → left ≡ Some input → AreAmong told hand (requests_with waiting (lines_of input))) where
+    abbrev first : List ℕ
+    first = first_offer slots waiting
+
     reaches_end : Reaches i.variant i chain.at final
     reaches_end = ends_reach chain.at (offered_after first told) hand result chain.ends
 
@@ -259,7 +267,7 @@ module _ (all others : List (List ℕ)) (asked : List Batch) (i : Instance) (fin
         (calls_reach all others asked i final laws (offered_after first front) c.0 chain.at behind c.2 reaches_end) c.1 in
         (requests_of t.after.batches, t.run)
 
-    runs_once : RunsOnce all others asked i y first final told hand requests result
+    runs_once : RunsOnce all others asked i y slots waiting left final told hand requests result
     runs_once = record {
       fronts = fronts_run;
       ends = λ (among : AreAmong told hand requests).
@@ -274,6 +282,7 @@ module _ (all others : List (List ℕ)) (asked : List Batch) (i : Instance) (fin
           (subst (λ (rs : List (List ℕ)). AreAskedInTurn all asked i t.then_is (offered_after first told) rs) is t.asked_in_turn)
           (subst (λ (rs : List (List ℕ)). May all others asked i final laws t.after chain.at (offered_after first told) rs) is t.may) c)
           chain.ends;
+      made = made;
     }
 
 -- something new is asked, or nothing
@@ -289,10 +298,11 @@ pub session_runs_once : (variant : Variant) (meaning : Meaning) → IsLawful mea
 session_runs_once Basic meaning lawful before after old new left left' received received' result =
     λ s key y slots all others asked requests may f.
     let i : Instance = basic meaning key in
-    runs_once all others asked i after (basic_laws meaning lawful key all others asked after) y (first_offer slots may.waiting) before
+    runs_once all others asked i after (basic_laws meaning lawful key all others asked after) y slots may.waiting left before
     (told_in may.waiting s.goes) (IsInHand may.waiting s.goes) requests result may.clear may.apart
     (record { stands = may.stands; within = may.within; genuine = may.genuine; same = refl }) (inl tt) f
     (chain_of Basic meaning before after old new left left' received received' result slots may.waiting may.told may.is_waiting s)
+    (among_input Basic meaning before after old new left left' received received' result slots may.waiting may.told may.is_waiting s)
 session_runs_once Opt meaning lawful before after old new left left' received received' result =
     λ s key barrier y slots all others asked requests items more may f known ends shown_so.
     let i : Instance = opt meaning key barrier in
@@ -303,7 +313,8 @@ session_runs_once Opt meaning lawful before after old new left left' received re
       | inl are ↦ inl (record { items = items; known = known; more = more; ends = ends; shown_are = are })
       | inr none ↦ inr none
     ] in
-    runs_once all others asked i after laws y first before (told_in may.waiting s.goes) (IsInHand may.waiting s.goes) requests result
+    runs_once all others asked i after laws y slots may.waiting left before (told_in may.waiting s.goes) (IsInHand may.waiting s.goes) requests result
     may.clear may.apart
     (record { stands = may.stands; within = may.within; genuine = may.genuine; same = refl }) shown f
     (chain_of Opt meaning before after old new left left' received received' result slots may.waiting may.told may.is_waiting s)
+    (among_input Opt meaning before after old new left left' received received' result slots may.waiting may.told may.is_waiting s)

@@ -185,18 +185,18 @@ waiting_committed y after None begun sent fault hand h s o g = inl (ap requests_
 waiting_committed y after (Some p) begun sent fault hand h s o g = line_committed y after p.request begun sent fault hand (h p refl) s o g
 
 -- what is told of an input is what was taken of it and what is left
-record IsRead (input taken : List ℕ) : Type 0 where
-  rest : List ℕ
-  is : input ≡ taken ++ rest
+pub record IsRead (input taken : List ℕ) : Type 0 where
+  pub rest : List ℕ
+  pub is : input ≡ taken ++ rest
 
-read_of : (left left' : Option (List ℕ)) (input taken : List ℕ) → left ≡ Some input → Consumes left left' taken → IsRead input taken
+pub read_of : (left left' : Option (List ℕ)) (input taken : List ℕ) → left ≡ Some input → Consumes left left' taken → IsRead input taken
 read_of None left' input taken e c = absurd (cc)
 read_of (Some xs) None input taken e c = absurd c
 read_of (Some xs) (Some ys) input taken e c =
     let same : xs ≡ input = cc in
     record { rest = ys; is = sym same ∙ c }
 
-unbroken_served : (variant : Variant) (meaning : Meaning) (from to : Place) (calls : List Served) → Serves variant meaning from calls to
+pub unbroken_served : (variant : Variant) (meaning : Meaning) (from to : Place) (calls : List Served) → Serves variant meaning from calls to
     → AllByRecursion IsUnbroken (lines_served calls)
 unbroken_served variant meaning from to [] s = tt
 unbroken_served variant meaning from to (c ∷ calls) s = (

@@ -3,6 +3,7 @@
 -- the module from the history that the platform stands for; a refusal is by the verdict.
 use Rattle.std.specs.Prelude.{◌≡◌, ◌≢◌, ℕ, Bool, false, List, [], ◌∷◌, ◌++◌, Option, None, Some, Result, Err, IsSome, nat_eq, if◌then◌else◌, ◌⊎◌}
 use Rattle.std.specs.List.{Contains}
+use Rattle.mm_base.specs.Input.{lines_of}
 use Rattle.mm_digest.specs.declared.variant.Variant.{Variant}
 use Rattle.mm_digest.specs.declared.variant.Variant.TheVariants.{Basic, Opt}
 use Rattle.mm_platform.specs.Standing.{Item, Standing}
@@ -88,6 +89,11 @@ pub record MayStart (all others : List (List ℕ)) (asked : List Batch) (i : Ins
   pub within : IsWithin all others asked i y
   pub genuine : IsGenuine i y (first_offer slots waiting)
 
+-- what waits, and then the lines
+abbrev pub requests_with : Option Pending → List (List ℕ) → List (List ℕ)
+requests_with None lines = lines
+requests_with (Some p) lines = p.request ∷ lines
+
 -- these are the first of those
 abbrev pub AreFirstOf : List (List ℕ) → List (List ℕ) → Type 0
 AreFirstOf first requests = (rest : List (List ℕ)) × (first ++ rest ≡ requests)
@@ -128,15 +134,19 @@ pub record EndsRun (all others : List (List ℕ)) (asked : List Batch) (i : Inst
   pub powered : life_of i.variant y ≢ LostLife → life_of i.variant after ≢ LostLife
 
 -- Where these requests are what is asked of: each first part of what was told that is among them is
--- one run; and where all that were made are among them, so the session ends.
+-- one run; and where all that were made are among them, so the session ends. All that were made are
+-- among what waited and the lines of the input, where that tells its bytes.
 pub record RunsOnce (all others : List (List ℕ)) (asked : List Batch) (i : Instance) (y : History)
-    (offer : List ℕ) (standing : Standing) (told : List Served) (hand : List ℕ → Type 0)
+    (slots : Slots) (waiting : Option Pending) (left : Option (List ℕ)) (standing : Standing)
+    (told : List Served) (hand : List ℕ → Type 0)
     (requests : List (List ℕ)) (result : Result Unit SessionFault) : Type 0 where
   pub fronts : (front behind : List Served) → told ≡ front ++ behind →
       AreFirstOf (lines_served front) requests →
       (after : List (List ℕ)) × RunsOver i.meaning (requests_of y.batches) front after
   pub ends : AreAmong told hand requests →
-      EndsRun all others asked i y offer standing told hand result
+      EndsRun all others asked i y (first_offer slots waiting) standing told hand result
+  pub made : (input : List ℕ) → left ≡ Some input →
+      AreAmong told hand (requests_with waiting (lines_of input))
 
 -- By whatever steps the session went, from every history, over any store that tells its slots where
 -- it starts, honest or not. The premises are asked of some first requests alone: so a line whose
@@ -154,7 +164,7 @@ SessionRunsOnce Basic meaning before after old new left left' received received'
     (requests : List (List ℕ)) →
     (may : MayStart all others asked (basic meaning key) y slots before old) →
     AreAskedInTurn all asked (basic meaning key) y (first_offer slots may.waiting) requests →
-    RunsOnce all others asked (basic meaning key) y (first_offer slots may.waiting) after
+    RunsOnce all others asked (basic meaning key) y slots may.waiting left after
     (told_in may.waiting s.goes) (IsInHand may.waiting s.goes) requests result
 SessionRunsOnce Opt meaning before after old new left left' received received' result =
     (s : Sessions Opt meaning before after old new left left' received received' result)
@@ -165,5 +175,5 @@ SessionRunsOnce Opt meaning before after old new left left' received received' r
     before.items ≡ Some items → after.items ≡ Some (standing_items y.is_open items ++ more) →
     ((AsksNothingNew (opt meaning key barrier) y (first_offer slots may.waiting) requests → ⊥) →
     AreShown all others (opt meaning key barrier) y more) →
-    RunsOnce all others asked (opt meaning key barrier) y (first_offer slots may.waiting) after
+    RunsOnce all others asked (opt meaning key barrier) y slots may.waiting left after
     (told_in may.waiting s.goes) (IsInHand may.waiting s.goes) requests result
