@@ -381,8 +381,7 @@ among_by variant meaning before platform final slots waiting begun store new lef
       in_hand = λ (request : List ℕ) h.
           let next : lines_of (l.more ++ read.rest) ≡ request ∷ lines_of (h.0 ++ read.rest) =
           ap (λ (x : List ℕ). lines_of (x ++ read.rest)) h.1.cut ∙ ap lines_of (append_assoc request (10 ∷ h.0) read.rest)
-          ∙ lines_of-line request (h.0 ++ read.rest) h.1.within.unbroken in
-          (
+          ∙ lines_of-line request (h.0 ++ read.rest) h.1.within.unbroken in (
             lines_of (h.0 ++ read.rest),
             append_assoc (lines_served (told ++ l.calls)) (request ∷ []) (lines_of (h.0 ++ read.rest))
                 ∙ ap (λ (x : List (List ℕ)). lines_served (told ++ l.calls) ++ x) (sym next) ∙ all_lines,

@@ -470,8 +470,7 @@ opt_laws meaning lawful key barrier all others asked final = record {
   idle = λ y old middle offer p gives c s a idle.
       opt_met_idle meaning lawful key barrier all others asked y old middle offer p gives c s a idle;
   between = λ y old middle offer p gives c s a f shows reaches ok.
-      let o = opt_between meaning lawful key barrier all others asked final y old middle offer p gives c s a shows reaches ok in
-      (
+      let o = opt_between meaning lawful key barrier all others asked final y old middle offer p gives c s a shows reaches ok in (
         called_of all others asked (opt meaning key barrier) y middle offer p gives o.0
             (λ (why : Refusal) (e : gives ≡ Err why). absurd (ok why e)),
         o.1,

@@ -2,3 +2,4 @@ pub mod Devices
 pub mod Recovering
 pub mod Starting
 pub mod FirstSession
+pub mod OldCopy

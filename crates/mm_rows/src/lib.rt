@@ -7,7 +7,7 @@ mod calls;
 mod sessions;
 
 pub use calls::{ask_basic, ask_opt, close_segment};
-pub use sessions::{go_on, serve, start, start_and_serve};
+pub use sessions::{go_on, serve, serve_copy, start, start_and_serve};
 
 #[cfg(test)]
 mod limits;

@@ -1,12 +1,14 @@
 //! The host program over two cells and pages in memory.
 
 ghost use Rattle.std.specs.Prelude.{◌≡◌, ℕ, List, Some, IfOk, OnOk, length};
+ghost use Rattle.mm_host.specs.AnySlots.{SessionRunsOnce};
 ghost use Rattle.mm_host.specs.Continuing.{SessionContinues};
 ghost use Rattle.mm_host.specs.Begins.{Leaves};
 ghost use Rattle.mm_host.specs.Sessions.{Sessions};
 ghost use Rattle.mm_host.specs.SessionWrites.{SessionWrites};
 ghost use Rattle.mm_rows.specs.Devices.{first_devices, kept_in_pages, two_cells};
 ghost use Rattle.mm_rows.specs.FirstSession.{BeginsAndServes};
+ghost use Rattle.mm_rows.specs.OldCopy.{ServesCopy};
 ghost use Rattle.mm_rows.specs.Recovering.{RecoversInMemory};
 ghost use Rattle.mm_rows.specs.Starting.{StartsInMemory};
 
@@ -85,12 +87,34 @@ pub fn serve<M: Module>(
         (two_cells platform.new) (kept_in_pages store.old) (kept_in_pages store.new)
         (Some input.old.left) (Some input.new.left) (Some out.old.received) (Some out.new.received)
         result }
+    ensures once { SessionRunsOnce variant (M.meaning «module».now) (two_cells platform.old)
+        (two_cells platform.new) (kept_in_pages store.old) (kept_in_pages store.new)
+        (Some input.old.left) (Some input.new.left) (Some out.old.received) (Some out.new.received)
+        result }
     ensures writes { SessionWrites variant (M.meaning «module».now) (two_cells platform.old)
         (two_cells platform.new) (kept_in_pages store.old) (kept_in_pages store.new)
         (Some input.old.left) (Some input.new.left) (Some out.old.received) (Some out.new.received)
         result }
 {
     session(alloc, variant, module, platform, store, input, out)
+}
+
+/// Puts a copy of the pages in their place, however old it is, and holds a session over it.
+pub fn serve_copy<M: Module>(
+    alloc: Global,
+    variant: Variant,
+    module: &M,
+    platform: &mut TwoCell<MemRaw>,
+    store: &mut PageStore<MemPages>,
+    copy: PageStore<MemPages>,
+    input: &mut MemSource,
+    out: &mut MemSink,
+) -> Result<(), SessionFault>
+    ensures { ServesCopy variant (M.meaning «module».now) platform.old platform.new copy store.new
+        input.old.left input.new.left out.old.received out.new.received result }
+{
+    *store = copy;
+    serve(alloc, variant, module, platform, store, input, out)
 }
 
 /// A first start of an instance of Basic, and then a session on the lines of an input.
