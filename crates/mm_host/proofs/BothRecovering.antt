@@ -199,8 +199,8 @@ module _ (meaning : Meaning) (lawful : IsLawful meaning) (key barrier : List ℕ
   opt_met items more known ends shown_so =
       let i : Instance = opt meaning key barrier in
       let g = c.goes key barrier (digests_of i y) (stands_at i old y s) in
-      opt_met_by (asked_for meaning key barrier all others asked y c.course offer (One p.request) old new items more a shown_so known g.items
-      ends)
+      opt_met_by
+      (asked_for meaning key barrier all others asked y c.course offer (One p.request) old new items more a shown_so known g.items ends)
 
   pub opt_met_idle : IsIdle (opt meaning key barrier) y offer (One p.request)
       → Met all others asked (opt meaning key barrier) y new offer p gives

@@ -70,7 +70,8 @@ line_tries variant meaning before after old new last line came a =
 
 -- what is answered was called
 answered_call : (variant : Variant) (meaning : Meaning) (before after : Standing) (offer request : List ℕ) (answer : Answer)
-    → Tries variant meaning before after offer request (Ok (Answered answer)) → IsCall variant meaning before after offer request (Ok answer)
+    → Tries variant meaning before after offer request (Ok (Answered answer))
+    → IsCall variant meaning before after offer request (Ok answer)
 answered_call variant meaning before after offer request answer (fails same why e) = absurd (cc)
 answered_call variant meaning before after offer request answer (asks (Err why) c e) = absurd (cc)
 answered_call variant meaning before after offer request answer (asks (Ok it) c (inl e)) =

@@ -12,17 +12,20 @@ use Rattle.mm_model.specs.Instance.{Instance}
 use Rattle.mm_model.specs.InstanceWords.{basic, opt}
 use Rattle.mm_model.specs.History.{History, Move, Commit, Foreign, Placed, Reset, Close, Power, moved, total_of}
 use Rattle.mm_model.specs.Places.{Names}
+use Rattle.mm_model.specs.Standing.{IsGenuine}
 use Rattle.mm_model.proofs.Named.{basic_names, opt_names}
 use Rattle.mm_call.specs.Courses.{commits}
 use Rattle.mm_call.specs.Standing.{instance_by}
+use Rattle.mm_callers.proofs.Calls.{one_content}
 use Rattle.mm_callers.specs.Basic.{EndsWith}
 use Rattle.mm_store.specs.Pending.{Pending}
 use Rattle.mm_store.specs.Slots.{Slots, slot_read}
+use Rattle.mm_host.specs.AnySlots.{first_offer}
 use Rattle.mm_host.specs.Fitting.{offer_slot, Holds, FitsBy}
 use Rattle.mm_host.specs.Init.{instance_from}
 use Rattle.mm_host.specs.Begins.{first_on, first_slots, IsFirstStore}
 use Rattle.mm_host.specs.Recovery.{IsAskedFor}
-use Rattle.mm_host.specs.SlotLaws.{FitsWith, BasicKeepsFitting, OptKeepsFitting, FirstStartsCanGoOn}
+use Rattle.mm_host.specs.SlotLaws.{FitsWith, BasicKeepsFitting, OptKeepsFitting, FittingAreGenuine, BasicStaysGenuine, OptStaysGenuine, FirstStartsCanGoOn}
 
 same_batches : (i : Instance) (y : History) (m : Move) → commits (m ∷ []) ≡ false → (moved i y m).batches ≡ y.batches
 same_batches i y (Commit b) e = absurd (cc)
@@ -62,6 +65,27 @@ opt_keeps_fitting meaning key barrier y m slots waiting sound may none f =
     let i : Instance = opt meaning key barrier in
     fits_with i slots y (moved i y m) waiting (same_batches i y m none) (λ content n. opt_names meaning key barrier y m content sound may n)
     f
+
+-- what is offered first
+
+genuine_by : (i : Instance) (y : History) (bytes : List ℕ) (position : ℕ) → Holds i y bytes position → IsGenuine i y bytes
+genuine_by i y bytes position h =
+    λ content right. subst (λ (x : Content). Names i y x) (one_content i bytes h.content content h.right right) h.names
+
+first_genuine : (i : Instance) (y : History) (slots : Slots) (waiting : Option Pending) → FitsBy i slots y waiting
+    → IsGenuine i y (first_offer slots waiting)
+first_genuine i y slots None f = genuine_by i y (slot_read slots 0) 0 f.1
+first_genuine i y slots (Some p) f = genuine_by i y (slot_read slots (offer_slot p)) _ f.1
+
+pub fitting_are_genuine : FittingAreGenuine
+fitting_are_genuine i y slots fits = first_genuine i y slots fits.waiting fits.fits
+
+pub basic_stays_genuine : BasicStaysGenuine
+basic_stays_genuine meaning key y m offer genuine = λ content right. basic_names meaning key y m content (genuine content right)
+
+pub opt_stays_genuine : OptStaysGenuine
+opt_stays_genuine meaning key barrier y m offer sound may genuine =
+    λ content right. opt_names meaning key barrier y m content sound may (genuine content right)
 
 -- the start message of an instance
 of_instance : (variant : Variant) (meaning : Meaning) (key barrier : List ℕ) (all : List (List ℕ))

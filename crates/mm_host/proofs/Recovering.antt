@@ -83,8 +83,8 @@ saw_three slots two (Ok three) old new result t e r g = record {
       (subst (λ (x : List ℕ). IsWaiting two x w) (r.gives slots t) (took two three result g.waiting w g.is_waiting g.gives f));
 }
 
-pub saw_two : (slots : Slots) (two : Result (List ℕ) StoreFault) (old middle new : StoreStanding) (result : Result (Option Pending) StoreFault)
-    → old.slots ≡ Some slots → ReadsSlot 2 old middle two → AfterTwo two middle new result → Saw slots old new result
+pub saw_two : (slots : Slots) (two : Result (List ℕ) StoreFault) (old middle new : StoreStanding)
+    (result : Result (Option Pending) StoreFault) → old.slots ≡ Some slots → ReadsSlot 2 old middle two → AfterTwo two middle new result → Saw slots old new result
 saw_two slots (Err why) old middle new result t r g = record {
   told = ap (λ (k : StoreStanding). k.slots) g.0 ∙ r.slots ∙ t;
   honest = ap (λ (k : StoreStanding). k.is_honest) g.0 ∙ r.honest;
@@ -259,7 +259,8 @@ answers all others asked i y slots waiting p standing answer l =
     )
 
 -- a refusal that hands on no device's fault committed nothing
-pub may_commit : (why : Refusal) (broken : StepFault) → fault_of why ≡ Some broken → MayHaveCommitted {T = Resumed} (Err (refusal_fault why))
+pub may_commit : (why : Refusal) (broken : StepFault) → fault_of why ≡ Some broken
+    → MayHaveCommitted {T = Resumed} (Err (refusal_fault why))
 may_commit (refusal.Device fault) broken e = refl
 may_commit refusal.Memory broken e = absurd (cc)
 may_commit refusal.Long broken e = absurd (cc)

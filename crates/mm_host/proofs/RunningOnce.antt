@@ -238,9 +238,10 @@ module _ (all others : List (List ℕ)) (asked : List Batch) (i : Instance) (fin
       append_cancel_left xs rest (request ∷ f.0) (e ∙ sym f.1 ∙ append_assoc xs (request ∷ []) f.0)
 
   module _ (y : History) (slots : Slots) (waiting : Option Pending) (left : Option (List ℕ)) (before : Standing) (told : List Served)
-      (hand : List ℕ → Type 0)
-      (requests : List (List ℕ)) (result : Result Unit SessionFault) (clear : IsClear all) (apart : AreNoGuards i.barrier others asked)
-      (s : StandsIn all others asked i y y before (first_offer slots waiting)) (may : May all others asked i final laws y before (first_offer slots waiting) requests)
+      (hand : List ℕ → Type 0) (requests : List (List ℕ)) (result : Result Unit SessionFault)
+      (clear : IsClear all) (apart : AreNoGuards i.barrier others asked)
+      (s : StandsIn all others asked i y y before (first_offer slots waiting))
+      (may : May all others asked i final laws y before (first_offer slots waiting) requests)
       (f : AreAskedInTurn all asked i y (first_offer slots waiting) requests)
       (chain : Chain i.variant i.meaning (first_offer slots waiting) before final told hand result)
       (made : (input : List ℕ) → left ≡ Some input → AreAmong told hand (requests_with waiting (lines_of input))) where
@@ -313,8 +314,8 @@ session_runs_once Opt meaning lawful before after old new left left' received re
       | inl are ↦ inl (record { items = items; known = known; more = more; ends = ends; shown_are = are })
       | inr none ↦ inr none
     ] in
-    runs_once all others asked i after laws y slots may.waiting left before (told_in may.waiting s.goes) (IsInHand may.waiting s.goes) requests result
-    may.clear may.apart
+    runs_once all others asked i after laws y slots may.waiting left before (told_in may.waiting s.goes) (IsInHand may.waiting s.goes)
+    requests result may.clear may.apart
     (record { stands = may.stands; within = may.within; genuine = may.genuine; same = refl }) shown f
     (chain_of Opt meaning before after old new left left' received received' result slots may.waiting may.told may.is_waiting s)
     (among_input Opt meaning before after old new left left' received received' result slots may.waiting may.told may.is_waiting s)

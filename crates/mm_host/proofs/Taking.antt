@@ -1,11 +1,9 @@
 -- Bytes that several calls take.
-use Rattle.std.proofs.Common.{◌≡◌, ℕ, ◌+◌, ◌<◌, ◌≤◌, List, ◌++◌, length, take, drop, Option, Ok, Err, sym, ap, ◌∙◌, subst, arith}
+use Rattle.std.proofs.Common.{◌≡◌, ℕ, ◌+◌, ◌<◌, ◌≤◌, List, ◌++◌, length, take, drop, Option, Ok, sym, ap, ◌∙◌, subst, arith}
 use Rattle.std.proofs.Math.Seq.{take-add}
 use Rattle.std.proofs.lemmas.List.{length-take}
-use Rattle.std.specs.Io.KnownBytes.{Consumes, IsAtEnd, Keeps}
-use Rattle.mm_base.specs.declared.fault.Failed.{Failed}
-use Rattle.mm_base.specs.Faults.{CountsFaults}
-use Rattle.mm_base.proofs.StreamLemmas.{Consumes-both, Consumes-kept}
+use Rattle.std.specs.Io.KnownBytes.{Consumes, IsAtEnd}
+use Rattle.mm_base.proofs.StreamLemmas.{Consumes-both}
 use Rattle.mm_host.specs.Init.{TakesBytes}
 
 pub consumes_more : (old middle new : Option (List ℕ)) (xs ys : List ℕ) (got count : ℕ) → take got ys ≡ take got xs

@@ -11,9 +11,11 @@ use Rattle.mm_model.specs.History.{History, Move, moved}
 use Rattle.mm_model.specs.Messages.{IsClear, AreNoGuards}
 use Rattle.mm_model.specs.Moves.{MayMove}
 use Rattle.mm_model.specs.Sound.{IsSound}
+use Rattle.mm_model.specs.Standing.{IsGenuine}
 use Rattle.mm_call.specs.Courses.{commits}
 use Rattle.mm_store.specs.Pending.{Pending}
 use Rattle.mm_store.specs.Slots.{Slots}
+use Rattle.mm_host.specs.AnySlots.{first_offer}
 use Rattle.mm_host.specs.Fitting.{FitsHistory}
 use Rattle.mm_host.specs.Init.{Devices, instance_from}
 use Rattle.mm_host.specs.Begins.{first_on, first_slots, ShowsValues, Begins}
@@ -41,6 +43,26 @@ OptKeepsFitting =
     IsSound y → MayMove (opt meaning key barrier) y m →
     commits (m ∷ []) ≡ false → FitsWith (opt meaning key barrier) slots y waiting →
     FitsWith (opt meaning key barrier) slots (moved (opt meaning key barrier) y m) waiting
+
+-- Slots that fit a history offer first what is genuine for it: it names a position, if it is right.
+abbrev pub FittingAreGenuine : Type 0
+FittingAreGenuine =
+    (i : Instance) (y : History) (slots : Slots) (fits : FitsHistory i slots y) →
+    IsGenuine i y (first_offer slots fits.waiting)
+
+-- And that stays genuine at each history that moves lead to, commits among them: so what is offered
+-- first by an old copy is genuine for whatever the platform stands for now.
+abbrev pub BasicStaysGenuine : Type 0
+BasicStaysGenuine =
+    (meaning : Meaning) (key : List ℕ) (y : History) (m : Move) (offer : List ℕ) →
+    IsGenuine (basic meaning key) y offer →
+    IsGenuine (basic meaning key) (moved (basic meaning key) y m) offer
+
+abbrev pub OptStaysGenuine : Type 0
+OptStaysGenuine =
+    (meaning : Meaning) (key barrier : List ℕ) (y : History) (m : Move) (offer : List ℕ) →
+    IsSound y → MayMove (opt meaning key barrier) y m → IsGenuine (opt meaning key barrier) y offer →
+    IsGenuine (opt meaning key barrier) (moved (opt meaning key barrier) y m) offer
 
 -- From what a first start leaves over an honest store a recovery can go on, and nothing waits.
 pub record CanStart (all others : List (List ℕ)) (asked : List Batch) (i : Instance) (y : History)

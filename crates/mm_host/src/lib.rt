@@ -20,7 +20,7 @@ pub use init_fault::InitFault;
 pub use resuming::{Resumed, resume};
 pub use serving::session;
 pub use setup::init;
-pub use slot_laws::{first_starts_can_go_on, slots_keep_fitting};
+pub use slot_laws::{first_starts_can_go_on, old_slots_stay_genuine, slots_keep_fitting};
 
 #[cfg(test)]
 mod setup_tests;
