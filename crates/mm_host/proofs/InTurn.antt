@@ -25,12 +25,12 @@ use Rattle.mm_call.specs.Answers.{answer_on}
 use Rattle.mm_call.specs.Asked.{IsWithin}
 use Rattle.mm_call.specs.Found.{right_content}
 use Rattle.mm_call.specs.Leaving.{whole, whole_in}
-use Rattle.mm_call.specs.Premises.{AreAsked}
+use Rattle.mm_call.specs.Premises.{AreAsked, IsIdle}
 use Rattle.mm_call.proofs.Finding.{right_is}
 use Rattle.mm_callers.proofs.Calls.{Comes, kept, grown, one_content}
 use Rattle.mm_schedule.specs.Machine.{StepsOn}
 use Rattle.mm_store.specs.Pending.{Pending}
-use Rattle.mm_host.specs.AnySlots.{AreAskedInTurn, AsksNothingNew, answered_to, offered_after, says_last}
+use Rattle.mm_host.specs.AnySlots.{AreAskedInTurn, answered_to, offered_after, says_last}
 use Rattle.mm_host.specs.Asking.{IsCall}
 use Rattle.mm_host.specs.Continuing.{RunsOver, answer_reply}
 use Rattle.mm_host.specs.Fitting.{Holds}
@@ -65,6 +65,12 @@ pending_for request = record { position = 1; request = request }
 same_then : (variant : Variant) (x y z : History) → IsSame variant x y → IsSame variant y z → IsSame variant x z
 same_then Basic x y z a b = a ∙ b
 same_then Opt x y z a b = a ∙ b
+
+-- no call is made, or one that minds no register
+abbrev pub MindsNothing : Instance → History → List ℕ → List (List ℕ) → Type 0
+MindsNothing i y offer [] = Unit {0}
+MindsNothing i y offer (request ∷ []) = IsIdle i y offer (One request)
+MindsNothing i y offer (request ∷ next ∷ requests) = ⊥
 
 -- Where a session stands: for a history, which is the same as this one but for others' values; and what it offers next, where
 -- that is right, names a position of it.
@@ -173,9 +179,9 @@ module _ (all others : List (List ℕ)) (asked : List Batch) (i : Instance) (fin
         step = steps_fresh i y m.after line answer is more;
       }
 
-  -- What is asked of what others do: the register's items at the very end are known, or nothing new is asked.
+  -- What is asked of what others do: the register's items at the very end are known, or no call minds them.
   abbrev pub May : History → Standing → List ℕ → List (List ℕ) → Type 0
-  May y standing offer requests = Shows i.variant all others i y standing final ⊎ AsksNothingNew i y offer requests
+  May y standing offer requests = Shows i.variant all others i y standing final ⊎ MindsNothing i y offer requests
 
   asked_here : (y z : History) (standing : Standing) (offer line : List ℕ) (rest : List (List ℕ)) → IsClear all
       → AreNoGuards i.barrier others asked → StandsIn all others asked i y z standing offer

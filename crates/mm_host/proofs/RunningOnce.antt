@@ -1,5 +1,5 @@
 -- A session is one run whatever the slots hold: each first part of what was told, and how it ends.
-use Rattle.std.proofs.Common.{◌≡◌, ◌≢◌, ◌∙◌, ℕ, List, [], ◌∷◌, ◌++◌, Option, None, Some, Result, Ok, Err, IsSome, refl, sym, ap, subst, inl, inr, append_assoc}
+use Rattle.std.proofs.Common.{◌≡◌, ◌≢◌, ◌∙◌, ℕ, Bool, true, false, List, [], ◌∷◌, ◌++◌, Option, None, Some, Result, Ok, Err, IsSome, refl, sym, ap, subst, inl, inr, append_assoc}
 use Rattle.std.specs.Prelude.{◌⊎◌}
 use Rattle.std.proofs.lemmas.List.{append_cancel_left}
 use Rattle.mm_base.specs.Input.{lines_of}
@@ -45,7 +45,7 @@ use Rattle.mm_host.specs.Serving.{Served, lines_served}
 use Rattle.mm_host.proofs.Awaited.{grows}
 use Rattle.mm_host.proofs.BothRecovering.{Met}
 use Rattle.mm_host.proofs.CallsMade.{CallsInTurn, Chain, Ends, TellsCall, Tries, asks, among_input, calls_split, chain_of, fails, never_refused, rests, stops}
-use Rattle.mm_host.proofs.InTurn.{AfterTurns, May, StandsIn, calls_reach, met_last, pending_for, turns}
+use Rattle.mm_host.proofs.InTurn.{AfterTurns, May, MindsNothing, StandsIn, calls_reach, met_last, pending_for, turns}
 use Rattle.mm_host.proofs.Leading.{Laws, Reaches, basic_laws, opt_laws, reach_same}
 use Rattle.mm_host.proofs.Recovering.{may_commit}
 use Rattle.mm_host.proofs.SessionRuns.{line_committed}
@@ -287,11 +287,22 @@ module _ (all others : List (List ℕ)) (asked : List Batch) (i : Instance) (fin
     }
 
 -- something new is asked, or nothing
-unless_nothing : {A : Type 0} (i : Instance) (y : History) (offer : List ℕ) (requests : List (List ℕ))
+
+unless_open : {A : Type 0} (y : History) (flag : Bool) → y.is_open ≡ flag → ((y.is_open ≡ false → ⊥) → A) → A ⊎ (y.is_open ≡ false)
+unless_open y true e unless = inl (unless (λ k. let clash : true ≡ false = sym e ∙ k in absurd (cc)))
+unless_open y false e unless = inr e
+
+pub unless_nothing : {A : Type 0} (i : Instance) (y : History) (offer : List ℕ) (requests : List (List ℕ))
     → ((AsksNothingNew i y offer requests → ⊥) → A) → A ⊎ AsksNothingNew i y offer requests
-unless_nothing i y offer [] unless = inr tt
+unless_nothing i y offer [] unless = unless_open y y.is_open refl unless
 unless_nothing i y offer (request ∷ []) unless = unless_idle i y offer (One request) unless
 unless_nothing i y offer (request ∷ next ∷ requests) unless = inl (unless (λ k. k))
+
+minds_nothing : (i : Instance) (y : History) (offer : List ℕ) (requests : List (List ℕ)) → AsksNothingNew i y offer requests
+    → MindsNothing i y offer requests
+minds_nothing i y offer [] k = tt
+minds_nothing i y offer (request ∷ []) k = k
+minds_nothing i y offer (request ∷ next ∷ requests) k = k
 
 pub session_runs_once : (variant : Variant) (meaning : Meaning) → IsLawful meaning
     → (before after : Standing) (old new : StoreStanding) (left left' received received' : Option (List ℕ))
@@ -312,7 +323,7 @@ session_runs_once Opt meaning lawful before after old new left left' received re
     let shown : May all others asked i after laws y before first requests =
     elim (unless_nothing i y first requests shown_so) [
       | inl are ↦ inl (record { items = items; known = known; more = more; ends = ends; shown_are = are })
-      | inr none ↦ inr none
+      | inr none ↦ inr (minds_nothing i y first requests none)
     ] in
     runs_once all others asked i after laws y slots may.waiting left before (told_in may.waiting s.goes) (IsInHand may.waiting s.goes)
     requests result may.clear may.apart

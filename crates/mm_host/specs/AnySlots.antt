@@ -67,9 +67,9 @@ AreAskedInTurn all asked i y offer (request ∷ requests) =
     × AreAskedInTurn all asked i (answered_to i y offer request)
     (issued_bytes i (answered_to i y offer request)) requests
 
--- Nothing is asked; or one request is, with no segment open, and it isn't taken for new.
+-- No segment is open, and nothing is asked, or one request that isn't taken for new.
 abbrev pub AsksNothingNew : Instance → History → List ℕ → List (List ℕ) → Type 0
-AsksNothingNew i y offer [] = Unit {0}
+AsksNothingNew i y offer [] = y.is_open ≡ false
 AsksNothingNew i y offer (request ∷ []) = IsIdle i y offer (One request)
 AsksNothingNew i y offer (request ∷ next ∷ requests) = ⊥
 
@@ -148,32 +148,40 @@ pub record RunsOnce (all others : List (List ℕ)) (asked : List Batch) (i : Ins
   pub made : (input : List ℕ) → left ≡ Some input →
       AreAmong told hand (requests_with waiting (lines_of input))
 
--- By whatever steps the session went, from every history, over any store that tells its slots where
--- it starts, honest or not. The premises are asked of some first requests alone: so a line whose
--- messages clash costs nothing of those before it. Over a platform of Basic under every key; over
--- one of Opt under every key and barrier, where what others did is known by the items that the
--- register shows at the session's end, so that this is asked for the whole session, unless nothing
--- new is asked.
-abbrev pub SessionRunsOnce : Variant → Meaning → Standing → Standing → StoreStanding
+-- By whatever steps the session went, from every history that the platform stood for at entry, over
+-- any store that tells its slots where the session starts, honest or not. The premises are asked of
+-- some first requests alone: so a line whose messages clash costs nothing of those before it. Over
+-- a platform of Basic under every key; over one of Opt under every key and barrier, where what
+-- others did is known by the items that the register shows at the session's end, so that this is
+-- asked for the whole session, unless nothing new is asked.
+abbrev pub RunsOnceFrom : Variant → Meaning → Standing → Standing → Standing → StoreStanding
     → StoreStanding → Option (List ℕ) → Option (List ℕ)
     → Option (List ℕ)
     → Option (List ℕ) → Result Unit SessionFault → Type 0
-SessionRunsOnce Basic meaning before after old new left left' received received' result =
+RunsOnceFrom Basic meaning entry before after old new left left' received received' result =
     (s : Sessions Basic meaning before after old new left left' received received' result)
     (key : List ℕ) (y : History) (slots : Slots) (all others : List (List ℕ)) (asked : List Batch)
     (requests : List (List ℕ)) →
-    (may : MayStart all others asked (basic meaning key) y slots before old) →
+    (may : MayStart all others asked (basic meaning key) y slots entry old) →
     AreAskedInTurn all asked (basic meaning key) y (first_offer slots may.waiting) requests →
     RunsOnce all others asked (basic meaning key) y slots may.waiting left after
     (told_in may.waiting s.goes) (IsInHand may.waiting s.goes) requests result
-SessionRunsOnce Opt meaning before after old new left left' received received' result =
+RunsOnceFrom Opt meaning entry before after old new left left' received received' result =
     (s : Sessions Opt meaning before after old new left left' received received' result)
     (key barrier : List ℕ) (y : History) (slots : Slots) (all others : List (List ℕ))
     (asked : List Batch) (requests : List (List ℕ)) (items more : List Item) →
-    (may : MayStart all others asked (opt meaning key barrier) y slots before old) →
+    (may : MayStart all others asked (opt meaning key barrier) y slots entry old) →
     AreAskedInTurn all asked (opt meaning key barrier) y (first_offer slots may.waiting) requests →
-    before.items ≡ Some items → after.items ≡ Some (standing_items y.is_open items ++ more) →
+    entry.items ≡ Some items → after.items ≡ Some (standing_items y.is_open items ++ more) →
     ((AsksNothingNew (opt meaning key barrier) y (first_offer slots may.waiting) requests → ⊥) →
     AreShown all others (opt meaning key barrier) y more) →
     RunsOnce all others asked (opt meaning key barrier) y slots may.waiting left after
     (told_in may.waiting s.goes) (IsInHand may.waiting s.goes) requests result
+
+-- a session is entered where it starts
+abbrev pub SessionRunsOnce : Variant → Meaning → Standing → Standing → StoreStanding
+    → StoreStanding → Option (List ℕ) → Option (List ℕ)
+    → Option (List ℕ)
+    → Option (List ℕ) → Result Unit SessionFault → Type 0
+SessionRunsOnce variant meaning before after old new left left' received received' result =
+    RunsOnceFrom variant meaning before before after old new left left' received received' result
