@@ -7,3 +7,4 @@ pub mod Moving
 pub mod OneRun
 pub mod Played
 pub mod Sending
+mod RunningOnce

@@ -1,7 +1,7 @@
 -- What the command `run` does.
 use Rattle.std.specs.Prelude.{◌≡◌, ℕ, List, Option, None, Some, Result, Ok, Err}
 use Rattle.mm_digest.specs.declared.variant.Variant.{Variant}
-use Rattle.mm_host.specs.AnySlots.{SessionRunsOnce}
+use Rattle.mm_host.specs.AnySlots.{RunsOnceFrom}
 use Rattle.mm_host.specs.Continuing.{SessionContinues}
 use Rattle.mm_host.specs.SessionWrites.{SessionWrites}
 use Rattle.mm_host.specs.SessionBlame.{IsRefusalNamed, is_platform_fault, is_read_fault, is_store_fault, is_write_fault}
@@ -82,9 +82,9 @@ pub record LooksAtInstance (before after : Standing) (found : Result Header Stat
   pub finds : FindsInstance fault before found
 
 -- A session over the instance, which ended with an answer of this status: its steps; that lines
--- within the limits aren't to blame; from which history to which it went, by one run of the module,
--- with slots to go on from; that it told one run whatever the slots held; and how often the cell
--- was to be written. Each count of faults rose exactly where its object is to blame.
+-- within the limits aren't to blame; and from which history to which it went, by one run of the
+-- module, with slots to go on from; and how often the cell was to be written. Each count of faults
+-- rose exactly where its object is to blame.
 pub record ServedInstance (header : Header) (before after : Standing) (old new : StoreStanding)
     (left left' received received' : Option (List ℕ))
     (reads reads' writes writes' : ℕ) (status : Status) : Type 0 where
@@ -94,8 +94,6 @@ pub record ServedInstance (header : Header) (before after : Standing) (old new :
   pub lines : SparesLines left answer
   pub continues : SessionContinues header.variant (meaning_of header.module) before after old new
       left left' received received' answer
-  pub once : SessionRunsOnce header.variant (meaning_of header.module) before after old new left
-      left' received received' answer
   pub cell : SessionWrites header.variant (meaning_of header.module) before after old new left left'
       received received' answer
   pub platform : IsBlamed (is_platform_fault answer) before.faults after.faults
@@ -140,6 +138,17 @@ ServesIfFound (Ok header) before after old new left left' received received' rea
     ServesAndStops header before after old new left left' received received' reads reads' writes
     writes' status
 
+-- Whatever the slots held, a session over the instance that was found told one run of its module
+-- from the history that the platform stood for before the cell was read.
+abbrev pub RunsOnceIfFound : Result Header Status → (entry before after : Standing)
+    (old new : StoreStanding)
+    (left left' received : Option (List ℕ)) → Type 0
+RunsOnceIfFound (Err end) entry before after old new left left' received = Unit {0}
+RunsOnceIfFound (Ok header) entry before after old new left left' received =
+    (between : Option (List ℕ)) (answer : Result (Unit {0}) SessionFault) →
+    RunsOnceFrom header.variant (meaning_of header.module) entry before after old new left left'
+    received between answer
+
 -- The platform's cell was read, and a session served over the instance that it holds.
 pub record RunsInstance (before after : Standing) (old new : StoreStanding)
     (left left' received received' : Option (List ℕ))
@@ -149,3 +158,4 @@ pub record RunsInstance (before after : Standing) (old new : StoreStanding)
   pub looks : LooksAtInstance before middle found
   pub goes : ServesIfFound found middle after old new left left' received received' reads reads'
       writes writes' status
+  pub once : RunsOnceIfFound found before middle after old new left left' received

@@ -28,3 +28,4 @@ mod SessionWriting
 mod CallsMade
 mod InTurn
 mod RunningOnce
+pub mod Looking

@@ -148,7 +148,7 @@ powered_made meaning key barrier (Close ∷ moves) y e may h =
     (λ is. let clash : false ≡ true = is in absurd (cc))
 powered_made meaning key barrier (Power ∷ moves) y e may h = absurd (cc)
 
-not_lost : (flag bare own marred : Bool) → (flag ≡ true → bare ≡ false) → life_by flag bare own marred ≢ LostLife
+pub not_lost : (flag bare own marred : Bool) → (flag ≡ true → bare ≡ false) → life_by flag bare own marred ≢ LostLife
 not_lost true true own marred h = let clash : true ≡ false = h refl in absurd (cc)
 not_lost true false true false h = λ e. cc
 not_lost true false true true h = λ e. cc
@@ -156,7 +156,7 @@ not_lost true false false marred h = λ e. cc
 not_lost false bare own false h = λ e. cc
 not_lost false bare own true h = λ e. cc
 
-was_powered : (flag bare own marred : Bool) → life_by flag bare own marred ≢ LostLife → flag ≡ true → bare ≡ false
+pub was_powered : (flag bare own marred : Bool) → life_by flag bare own marred ≢ LostLife → flag ≡ true → bare ≡ false
 was_powered true true own marred h e = absurd (h refl)
 was_powered true false own marred h e = refl
 was_powered false bare own marred h e = absurd (cc)

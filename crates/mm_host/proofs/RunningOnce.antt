@@ -231,6 +231,12 @@ module _ (all others : List (List ℕ)) (asked : List Batch) (i : Instance) (fin
   ends_reach at offer hand result (rests same none) = reach_same i.variant i at final same
   ends_reach at offer hand result (stops request h came t sent fault says is) = tried_reach at offer request came t
 
+  pub chain_reaches : (offer : List ℕ) (before : Standing) (told : List Served) (hand : List ℕ → Type 0)
+      (result : Result Unit SessionFault) → Chain i.variant i.meaning offer before final told hand result → Reaches i.variant i before final
+  chain_reaches offer before told hand result c =
+      calls_reach all others asked i final laws offer before c.at told c.calls
+      (ends_reach c.at (offered_after offer told) hand result c.ends)
+
   -- where all that were made are among those that were asked of
   in_hand_next : (xs : List (List ℕ)) (request : List ℕ) (rest requests : List (List ℕ)) → xs ++ rest ≡ requests
       → (f : AreFirstOf (xs ++ request ∷ []) requests) → rest ≡ request ∷ f.0
