@@ -1,5 +1,6 @@
 pub mod Flipping
 pub mod GoingOn
+pub mod FrontRuns
 pub mod Following
 pub mod BasicRuns
 pub mod OptRuns

@@ -4,6 +4,7 @@ pub mod Folds
 pub mod Premises
 pub mod Held
 pub mod Laws
+pub mod OneRun
 pub mod OneEvent
 pub mod HeldWords
 pub mod PremisesWords

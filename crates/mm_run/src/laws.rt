@@ -8,6 +8,8 @@ ghost use Rattle.mm_run.specs.HeldWords.{world_barrier};
 ghost use Rattle.mm_run.specs.Folds.{expected};
 ghost use Rattle.mm_run.specs.Premises.{IsClearRun, IsGenuineRun};
 ghost use Rattle.mm_run.specs.Laws.{BasicIsExpected, OptIsExpected, ExpectedRuns, SchedulesGoOn, IssuedNamePositions, one_ask, two_segments, after_two_segments};
+ghost use Rattle.mm_run.specs.OneRun.{FrontsAreOneRun};
+ghost use Rattle.mm_schedule.specs.Events.{Event};
 ghost use Rattle.mm_run.specs.OneEvent.{EventsAgree, EventsStep, EventsKeepNames};
 
 /// A schedule of Basic is told as expected, where no two messages of the run share a digest and each right offer
@@ -24,6 +26,15 @@ pub fn opt_is_expected()
 /// What is expected of a schedule is one run of the machine on one list of requests.
 pub fn expected_runs()
     ensures { ExpectedRuns }
+{}
+
+/// Each first part of a schedule comes to what it does in the whole; and where no two messages of that part share a digest
+/// and each right offer in it names a position, it is one run of the module on one list of requests.
+pub fn fronts_are_one_run()
+    ensures basic { (meaning : Meaning) (key : List ℕ) (events : List Event)
+        → FrontsAreOneRun (basic meaning key) events }
+    ensures opt { (meaning : Meaning) (key barrier : List ℕ) (events : List Event)
+        → FrontsAreOneRun (opt meaning key barrier) events }
 {}
 
 /// A schedule goes on from what stands after its first events.

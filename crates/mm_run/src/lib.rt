@@ -12,6 +12,7 @@ mod offer;
 pub use keys::{rising, world_barrier, world_key};
 pub use laws::{
     basic_is_expected, events_agree, events_keep_names, events_step, expected_runs,
-    issued_snapshots_name_positions, opt_is_expected, premises_are_met, schedules_go_on,
+    fronts_are_one_run, issued_snapshots_name_positions, opt_is_expected, premises_are_met,
+    schedules_go_on,
 };
 pub use offer::{OfferedBytes, offered};

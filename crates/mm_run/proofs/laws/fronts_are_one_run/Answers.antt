@@ -1,0 +1,8 @@
+use Rattle.mm_run.proofs.FrontRuns.{basic_fronts_run, opt_fronts_run}
+use Rattle.mm_run.proofs.laws.fronts_are_one_run.Goals as goal
+
+pub returns-clause-basic : goal.returns-clause-basic
+returns-clause-basic c = basic_fronts_run
+
+pub returns-clause-opt : goal.returns-clause-opt
+returns-clause-opt c = opt_fronts_run

@@ -1,0 +1,31 @@
+-- One run of the module, of all events and of each first part of them.
+use Rattle.std.specs.Prelude.{◌≡◌, ℕ, List, [], ◌++◌, length}
+use Rattle.mm_call.specs.Levels.{by_digests}
+use Rattle.mm_model.specs.Instance.{Instance}
+use Rattle.mm_model.specs.Moves.{Digests}
+use Rattle.mm_schedule.specs.Events.{Event}
+use Rattle.mm_schedule.specs.Machine.{Runs}
+use Rattle.mm_schedule.specs.declared.reply.Reply.{Reply}
+use Rattle.mm_run.specs.Folds.{Followed, followed, expected, replies_by_digests}
+use Rattle.mm_run.specs.Laws.{continued}
+use Rattle.mm_run.specs.Premises.{IsClearRun, IsGenuineRun}
+
+-- The replies to the events are those of one run of the module on one list of requests, as the
+-- verdict on histories gives them; so many requests were committed, and the snapshots issued are
+-- those that the verdict issues.
+pub record IsOneRun (i : Instance) (events : List Event) (replies : List Reply) (committed : ℕ)
+    (issued : List (List ℕ)) : Type 0 where
+  pub requests : List (List ℕ)
+  pub runs : Runs i.meaning [] events replies requests
+  pub judged : replies ≡ (expected i events).replies
+  pub count : committed ≡ length requests
+  pub shown : issued ≡ (expected i events).issued
+
+-- The whole run is that of each first part of the events, and then of the rest. And of each first
+-- part that meets the premises it is one run: a premise that breaks later costs nothing of it.
+abbrev pub FrontsAreOneRun : Instance → List Event → Type 0
+FrontsAreOneRun i events = (front rest : List Event) → events ≡ front ++ rest →
+    let it : Followed Digests = replies_by_digests i front in
+    (replies_by_digests i events ≡ continued it (followed i (by_digests i) it.state it.issued rest))
+    × (IsClearRun i front → IsGenuineRun i front
+    → IsOneRun i front it.replies it.state.count it.issued)
