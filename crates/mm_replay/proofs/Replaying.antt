@@ -1,7 +1,6 @@
 -- A replay of a whole schedule, from what the loop over its lines did.
 use Rattle.std.proofs.Common.{◌≡◌, ℕ, List, Option, Some, Result, Ok, Err, subst}
 use Rattle.mm_base.specs.declared.replay_fault.ReplayFault.{ReplayFault}
-use Rattle.mm_run.specs.Laws.{BasicIsExpected, OptIsExpected, ExpectedRuns}
 use Rattle.mm_replay.specs.declared.report.Report.{Report}
 use Rattle.mm_play.specs.Play.{Told, run, run_of}
 use Rattle.mm_play.specs.Plays.{IsUnrefused, Settles, Plays}
@@ -9,7 +8,7 @@ use Rattle.mm_replay.specs.Schedule.{ReplayStage, AtHeader, schedule_answer, sch
 use Rattle.mm_schedule.specs.Headers.{header_at}
 use Rattle.mm_replay.specs.Replays.{Reports, Replays}
 use Rattle.mm_play.proofs.Completing.{completed, settles_err}
-use Rattle.mm_replay.proofs.Telling.{tells}
+use Rattle.mm_replay.proofs.Telling.{FrontsRun, tells}
 
 abbrev lines_run : List (List ℕ) → Told ReplayStage
 lines_run lines = run (schedule_answer header_at) 1 AtHeader lines
@@ -17,12 +16,12 @@ lines_run lines = run (schedule_answer header_at) 1 AtHeader lines
 abbrev whole_run : List ℕ → Told ReplayStage
 whole_run input = run_of (schedule_answer header_at) schedule_closing AtHeader input
 
-pub replays_ok : (law : BasicIsExpected × OptIsExpected) (runs : ExpectedRuns) (first : ReplayStage) → first ≡ AtHeader
+pub replays_ok : (law : FrontsRun) (first : ReplayStage) → first ≡ AtHeader
     → (left left' received received' : Option (List ℕ)) (next : ReplayStage) (report : Report)
     (result : Result (Unit {0}) ReplayFault) (done : Unit {0})
     → Plays (schedule_answer header_at) schedule_closing first next left left' received received' result → result ≡ Ok done
     → Reports next report → Replays left left' received received' (Ok report)
-replays_ok law runs first is_first left left' received received' next report result done played is reported =
+replays_ok law first is_first left left' received received' next report result done played is reported =
     let p = subst (λ (it : ReplayStage). Plays (schedule_answer header_at) schedule_closing it next left left' received received' result)
     is_first played in
     let s = subst (λ (r : Result (Unit {0}) ReplayFault). Settles lines_run whole_run next left' p.taken p.sent r) is p.settled in
@@ -34,16 +33,16 @@ replays_ok law runs first is_first left left' received received' next report res
       consumed = p.consumed;
       appended = p.appended;
       settled = s;
-      told = tells law runs header_at next left' p.taken p.sent answer s;
+      told = tells law header_at next left' p.taken p.sent answer s;
       reported = reported;
     }
 
-pub replays_err : (law : BasicIsExpected × OptIsExpected) (runs : ExpectedRuns) (first : ReplayStage) → first ≡ AtHeader
+pub replays_err : (law : FrontsRun) (first : ReplayStage) → first ≡ AtHeader
     → (left left' received received' : Option (List ℕ)) (next : ReplayStage)
     (result : Result (Unit {0}) ReplayFault) (fault : ReplayFault)
     → Plays (schedule_answer header_at) schedule_closing first next left left' received received' result → result ≡ Err fault
     → Replays left left' received received' (Err fault)
-replays_err law runs first is_first left left' received received' next result fault played is =
+replays_err law first is_first left left' received received' next result fault played is =
     let p = subst (λ (it : ReplayStage). Plays (schedule_answer header_at) schedule_closing it next left left' received received' result)
     is_first played in
     let s = subst (λ (r : Result (Unit {0}) ReplayFault). Settles lines_run whole_run next left' p.taken p.sent r) is p.settled in
@@ -56,7 +55,7 @@ replays_err law runs first is_first left left' received received' next result fa
       consumed = p.consumed;
       appended = p.appended;
       settled = t;
-      told = tells law runs header_at next left' p.taken p.sent answer t;
+      told = tells law header_at next left' p.taken p.sent answer t;
       reported = tt;
     }
 

@@ -9,7 +9,7 @@ use Rattle.mm_digest.specs.declared.variant.Variant.{Variant}
 use Rattle.mm_digest.specs.declared.variant.Variant.TheVariants.{Basic, Opt}
 use Rattle.mm_module.specs.Meaning.{Meaning}
 use Rattle.mm_modules.specs.Modules.{meaning_of}
-use Rattle.mm_model.specs.History.{requests_of}
+use Rattle.mm_model.specs.InstanceWords as words
 use Rattle.mm_play.specs.declared.player.Refused.{Refused}
 use Rattle.mm_play.specs.declared.player.Refused.TheVariants.{Bad, Much}
 use Rattle.mm_play.specs.Play.{Told, told, stopped, refusal_at, answered, run, run_of}
@@ -21,46 +21,49 @@ use Rattle.mm_schedule.specs.Events.{Event}
 use Rattle.mm_schedule.specs.Grammar.{event_at}
 use Rattle.mm_schedule.specs.Machine.{Runs}
 use Rattle.mm_schedule.specs.Replies.{end_line}
+use Rattle.mm_schedule.specs.declared.reply.Reply.{Reply}
 use Rattle.mm_schedule.proofs.PromiseLaws.{promises-kept}
-use Rattle.mm_run.specs.Folds.{expected, replies_by_digests}
+use Rattle.mm_run.specs.Folds.{replies_by_digests}
 use Rattle.mm_run.specs.Held.{world_of}
 use Rattle.mm_run.specs.HeldWords.{world_key, world_barrier}
-use Rattle.mm_run.specs.Premises.{IsClearRun, IsGenuineRun}
-use Rattle.mm_run.specs.Laws.{AgreesThroughout, BasicIsExpected, OptIsExpected, ExpectedRuns}
+use Rattle.mm_run.specs.OneRun.{IsOneRun, FrontsAreOneRun}
 use Rattle.mm_call.specs.Standing.{instance_by}
 use Rattle.mm_replay.specs.Schedule.{Running, begun, is_too_much, running_outcome, after_event, ReplayStage, AtHeader, InEvents, event_answer, header_answer, schedule_answer, schedule_closing}
 use Rattle.mm_replay.specs.Text.{texts_of}
 use Rattle.mm_replay.specs.TextWords.{text_of_replies}
-use Rattle.mm_replay.specs.Headline.{IsContinuous, IsWithinLimits, AnswersEvents, AnswersLines, AnswersAll, IsTooMuch, IsOut, unended}
+use Rattle.mm_replay.specs.Headline.{IsContinuous, IsPromisedRun, IsWithinLimits, AnswersEvents, AnswersLines, AnswersAll, IsTooMuch, IsOut, unended}
 use Rattle.mm_replay.proofs.Answering.{AnswersFrom, answers_from, over_of}
 
--- by digests a world is told as expected, in either variant
-agrees : BasicIsExpected × OptIsExpected → (variant : Variant) (meaning : Meaning) (events : List Event)
-    → (let i = instance_by variant meaning world_key world_barrier in
-    IsClearRun i events → IsGenuineRun i events → AgreesThroughout i (expected i events) (replies_by_digests i events))
-agrees law Basic meaning events clear genuine = law.0 meaning world_key events clear genuine
-agrees law Opt meaning events clear genuine = law.1 meaning world_key world_barrier events clear genuine
+-- each first part of the events is one run, in either variant
+pub record FrontsRun : Type 0 where
+  pub basic : (meaning : Meaning) (key : List ℕ) (events : List Event) → FrontsAreOneRun (words.basic meaning key) events
+  pub opt : (meaning : Meaning) (key barrier : List ℕ) (events : List Event) → FrontsAreOneRun (words.opt meaning key barrier) events
+
+fronts_run : FrontsRun → (variant : Variant) (meaning : Meaning) (events : List Event)
+    → FrontsAreOneRun (instance_by variant meaning world_key world_barrier) events
+fronts_run law Basic meaning events = law.basic meaning world_key events
+fronts_run law Opt meaning events = law.opt meaning world_key world_barrier events
 
 meaning_is : (variant : Variant) (meaning : Meaning) → (instance_by variant meaning world_key world_barrier).meaning ≡ meaning
 meaning_is Basic meaning = refl
 meaning_is Opt meaning = refl
 
--- the laws of whole runs give the headline
-continuous : BasicIsExpected × OptIsExpected → ExpectedRuns → (header : Header) (events : List Event) → IsContinuous header events
-continuous law runs header events = λ clear genuine.
-    let a = agrees law header.variant (meaning_of header.«module») events clear genuine in
-    let requests = requests_of (expected (world_of header) events).state.batches in
-    let told = subst (λ rs. Runs (world_of header).meaning [] events rs requests) (sym a.replies) (runs (world_of header) events) in
-    let ran = subst (λ m. Runs m [] events (replies_by_digests (world_of header) events).replies requests)
-    (meaning_is header.variant (meaning_of header.«module»)) told in
-    record {
-      requests = requests;
-      runs = ran;
-      judged = a.replies;
-      count = a.stands.count;
-      shown = ap length a.issued;
-      promised = promises-kept header.«module» events (replies_by_digests (world_of header) events).replies requests ran;
-    }
+-- the module's promises hold of one run
+promised_run : (header : Header) (events : List Event) (replies : List Reply) (committed : ℕ) (issued : List (List ℕ))
+    → IsOneRun (world_of header) events replies committed issued → IsPromisedRun header events replies committed issued
+promised_run header events replies committed issued one = record {
+  run = one;
+  promised = promises-kept header.«module» events replies one.requests
+      (subst (λ m. Runs m [] events replies one.requests) (meaning_is header.variant (meaning_of header.«module»)) one.runs);
+}
+
+-- the law of whole runs gives the headline
+continuous : FrontsRun → (header : Header) (events : List Event) → IsContinuous header events
+continuous law header events front rest is =
+    let own = fronts_run law header.variant (meaning_of header.«module») events front rest is in (
+      own.0,
+      λ clear genuine. promised_run header front _ _ _ (own.1 clear genuine),
+    )
 
 -- The header was answered, and the lines behind it.
 record HeadedFrom (heading : List ℕ → Option Header) (lines : List (List ℕ)) (written : List ℕ) (p : ReplayStage) : Type 0 where
@@ -118,12 +121,12 @@ within_limits header others written p a before line after events split read over
     a.within before line after events split read (elim over [ inl h ↦ inl (omega (arith, h)) | inr h ↦ inr (omega (arith, h)) ])
 
 -- these lines were answered: what was written, and what any last line adds
-answers_events : (law : BasicIsExpected × OptIsExpected) (runs : ExpectedRuns) (heading : List ℕ → Option Header) (lines : List (List ℕ))
+answers_events : (law : FrontsRun) (heading : List ℕ → Option Header) (lines : List (List ℕ))
     (said written : List ℕ) (p : ReplayStage) (last : ℕ → ℕ → List ℕ)
     (h : HeadedFrom heading lines said p)
     → written ≡ said ++ last h.answers.last.digests.count (length h.answers.last.issued)
     → AnswersEvents heading lines written last
-answers_events law runs heading lines said written p last h whole =
+answers_events law heading lines said written p last h whole =
     let a = h.answers in
     let r = replies_by_digests (world_of h.header) a.events in
     record {
@@ -139,15 +142,15 @@ answers_events law runs heading lines said written p last h whole =
           (ap (λ (n : ℕ). last n (length a.last.issued)) (ap (λ d. d.count) a.state)
           ∙ ap (λ (ss : List (List ℕ)). last r.state.count (length ss)) a.issued);
       within = within_limits h.header h.others said p a;
-      headline = continuous law runs h.header a.events;
+      headline = continuous law h.header a.events;
     }
 
-answers_lines : (law : BasicIsExpected × OptIsExpected) (runs : ExpectedRuns) (heading : List ℕ → Option Header) (lines : List (List ℕ))
+answers_lines : (law : FrontsRun) (heading : List ℕ → Option Header) (lines : List (List ℕ))
     (written : List ℕ)
     → Answered (schedule_answer heading) AtHeader lines written → AnswersLines heading lines written
-answers_lines law runs heading lines written a = elim (headed heading lines written a.0 a.1) [
+answers_lines law heading lines written a = elim (headed heading lines written a.0 a.1) [
   | inl none ↦ inl (none.0, none.1)
-  | inr h ↦ inr (answers_events law runs heading lines written written a.0 unended h (sym (append-nil written)))
+  | inr h ↦ inr (answers_events law heading lines written written a.0 unended h (sym (append-nil written)))
 ]
 
 -- the last line needs a header
@@ -162,12 +165,12 @@ closes_with r p last is h = some_same (sym h ∙ ap schedule_closing is)
     some_same : Some last ≡ Some (end_line r.digests.count (length r.issued)) → last ≡ end_line r.digests.count (length r.issued)
     some_same e = cc
 
-answers_all : (law : BasicIsExpected × OptIsExpected) (runs : ExpectedRuns) (heading : List ℕ → Option Header) (lines : List (List ℕ))
+answers_all : (law : FrontsRun) (heading : List ℕ → Option Header) (lines : List (List ℕ))
     (written : List ℕ)
     → Finished (schedule_answer heading) schedule_closing AtHeader lines written → AnswersAll heading lines written
-answers_all law runs heading lines written f = elim (headed heading lines f.said f.next f.ran) [
+answers_all law heading lines written f = elim (headed heading lines f.said f.next f.ran) [
   | inl none ↦ absurd (closes_none f.next f.last none.2 f.closed)
-  | inr h ↦ answers_events law runs heading lines f.said written f.next end_line h
+  | inr h ↦ answers_events law heading lines f.said written f.next end_line h
       (f.whole ∙ ap (λ (l : List ℕ). f.said ++ l) (closes_with h.answers.last f.next f.last h.answers.stands f.closed))
 ]
 
@@ -219,14 +222,14 @@ too_much heading done rest m = elim (headed heading done m.said m.next m.ran) [
         }
 
 -- What is out tells the events.
-pub tells : {T : Type 0} (law : BasicIsExpected × OptIsExpected) (runs : ExpectedRuns) (heading : List ℕ → Option Header)
+pub tells : {T : Type 0} (law : FrontsRun) (heading : List ℕ → Option Header)
     (next : ReplayStage) (left : Option (List ℕ)) (taken sent : List ℕ) (result : Result T ReplayFault)
     → Settles (run (schedule_answer heading) 1 AtHeader) (run_of (schedule_answer heading) schedule_closing AtHeader) next left taken sent
     result
     → IsOut heading left taken sent result
-tells law runs heading next left taken sent result s =
+tells law heading next left taken sent result s =
     tells_more (Answered (schedule_answer heading) AtHeader) (AnswersLines heading)
     (Finished (schedule_answer heading) schedule_closing AtHeader) (AnswersAll heading)
     (RefusesMuch (schedule_answer heading) AtHeader) (IsTooMuch heading) left taken sent result
-    (answers_lines law runs heading) (answers_all law runs heading) (too_much heading)
+    (answers_lines law heading) (answers_all law heading) (too_much heading)
     (tells_by (schedule_answer heading) schedule_closing AtHeader next left taken sent result s)

@@ -3,43 +3,41 @@ use Rattle.std.specs.Prelude.{◌≡◌, ◌≤◌, ◌<◌, ◌+◌, ℕ, List,
 use Rattle.std.specs.List.{sum_by}
 use Rattle.mm_base.specs.declared.replay_fault.ReplayFault.{ReplayFault}
 use Rattle.mm_base.specs.Limits.{most_events}
-use Rattle.mm_modules.specs.Modules.{meaning_of}
 use Rattle.mm_schedule.specs.declared.header.Header.{Header}
 use Rattle.mm_play.specs.Tells.{TellsBy}
 use Rattle.mm_schedule.specs.Events.{Event}
 use Rattle.mm_schedule.specs.Grammar.{event_at}
-use Rattle.mm_schedule.specs.Machine.{Runs}
 use Rattle.mm_schedule.specs.Promises.{Promises}
 use Rattle.mm_schedule.specs.Replies.{end_line}
 use Rattle.mm_schedule.specs.declared.reply.Reply.{Reply}
-use Rattle.mm_run.specs.Folds.{expected, replies_by_digests}
+use Rattle.mm_call.specs.Levels.{by_digests}
+use Rattle.mm_model.specs.Moves.{Digests}
+use Rattle.mm_run.specs.Folds.{Followed, followed, replies_by_digests}
 use Rattle.mm_run.specs.Held.{world_of}
+use Rattle.mm_run.specs.Laws.{continued}
+use Rattle.mm_run.specs.OneRun.{IsOneRun}
 use Rattle.mm_run.specs.Premises.{IsClearRun, IsGenuineRun}
 use Rattle.mm_replay.specs.Schedule.{most_kept}
 use Rattle.mm_replay.specs.Text.{texts_of}
 
--- The replies to the events are those of one run of the module on one list of requests, as the
--- verdict on histories gives them; so many requests were committed, and as many snapshots issued as
--- that verdict issues. And what the module promises of a run holds of the requests and of the
--- replies.
-pub record IsOneRun (header : Header) (events : List Event) (replies : List Reply)
-    (committed issued : ℕ) : Type 0 where
-  pub requests : List (List ℕ)
-  pub runs : Runs (meaning_of header.«module») [] events replies requests
-  pub judged : replies ≡ (expected (world_of header) events).replies
-  pub count : committed ≡ length requests
-  pub shown : issued ≡ length (expected (world_of header) events).issued
-  pub promised : Promises header.«module» requests replies
+-- One run of the header's module; and what the module promises of a run holds of the requests and
+-- of the replies.
+pub record IsPromisedRun (header : Header) (events : List Event) (replies : List Reply)
+    (committed : ℕ)
+    (issued : List (List ℕ)) : Type 0 where
+  pub run : IsOneRun (world_of header) events replies committed issued
+  pub promised : Promises header.«module» run.requests replies
 
--- The headline: so it is where no two different messages of the run share a digest, no digest is
+-- The headline. The whole run is that of each first part of the events, and then of the rest. And
+-- so it is of each first part where no two different messages of it share a digest, no digest is
 -- zero, no value that others extend the register by is the guard of a batch, and no tag is forged.
 abbrev pub IsContinuous : Header → List Event → Type 0
-IsContinuous header events =
+IsContinuous header events = (front rest : List Event) → events ≡ front ++ rest →
     let i = world_of header in
-    IsClearRun i events → IsGenuineRun i events →
-    IsOneRun header events (replies_by_digests i events).replies
-    (replies_by_digests i events).state.count
-    (length (replies_by_digests i events).issued)
+    let it : Followed Digests = replies_by_digests i front in
+    (replies_by_digests i events ≡ continued it (followed i (by_digests i) it.state it.issued rest))
+    × (IsClearRun i front → IsGenuineRun i front
+    → IsPromisedRun header front it.replies it.state.count it.issued)
 
 -- Behind these event lines, and their events, the line is one too many: it is event 20,001, or the
 -- event lines with it and the snapshots issued before it have more than 268,435,456 bytes.

@@ -13,7 +13,7 @@ use crate::progress::Progress;
 use crate::report::Report;
 use mm_base::{Bytes, Memory, ReplayFault, Sink, Source};
 use mm_play::{Player, Refused, ReplyFault, play};
-use mm_run::{basic_is_expected, expected_runs, opt_is_expected};
+use mm_run::fronts_are_one_run;
 use mm_schedule::read_header;
 use std::alloc::Global;
 use std::marker::Model;
@@ -120,9 +120,7 @@ pub fn replay<S: Source, K: Sink>(
         → (run_of (schedule_answer header_at) schedule_closing AtHeader bytes).outcome ≡ Ok next
         → IsUnrefused result }
 {
-    basic_is_expected();
-    opt_is_expected();
-    expected_runs();
+    fronts_are_one_run();
     let mut player = SchedulePlayer::new();
     match play(alloc, &mut player, input, out) {
         Ok(()) => Ok(player.report()),
