@@ -1,5 +1,6 @@
 pub mod Blame
 pub mod Completing
+pub mod Ended
 pub mod Ending
 pub mod Fronts
 pub mod Interleaving

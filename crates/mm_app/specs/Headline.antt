@@ -1,24 +1,26 @@
 -- The headline: what is written for a schedule is one run of the module on one list of requests.
-use Rattle.std.specs.Prelude.{◌≡◌, ℕ, List, [], ◌∷◌, ◌++◌, map, Option, Some, ◌⊎◌}
-use Rattle.std.specs.Io.KnownBytes.{Appends, Consumes}
+use Rattle.std.specs.Prelude.{◌≡◌, ◌≤◌, ◌<◌, ◌+◌, ℕ, List, [], ◌∷◌, ◌++◌, length, map, take, Option, Some, ◌⊎◌}
+use Rattle.std.specs.Io.KnownBytes.{Appends, Consumes, IsAtEnd}
+use Rattle.std.specs.List.{sum_by}
 use Rattle.mm_base.specs.Input.{lines_of}
-use Rattle.mm_modules.specs.Modules.{meaning_of}
+use Rattle.mm_base.specs.Limits.{most_events}
 use Rattle.mm_play.specs.Takes.{IsFrontOf}
+use Rattle.mm_replay.specs.Schedule.{most_kept}
 use Rattle.mm_replay.specs.Text.{texts_of}
 use Rattle.mm_run.specs.Held.{world_of}
+use Rattle.mm_run.specs.OneRun.{IsOneRun}
 use Rattle.mm_run.specs.Premises.{IsClearRun, IsGenuineRun}
 use Rattle.mm_schedule.specs.Events.{Event}
 use Rattle.mm_schedule.specs.Grammar.{event_at}
 use Rattle.mm_schedule.specs.Headers.{header_at}
-use Rattle.mm_schedule.specs.Machine.{Runs}
 use Rattle.mm_schedule.specs.Replies.{end_line}
 use Rattle.mm_schedule.specs.declared.header.Header.{Header}
 use Rattle.mm_schedule.specs.declared.reply.Reply.{Reply}
 use Rattle.mm_app.specs.Status.{stop_line}
 use Rattle.mm_app.specs.declared.status.Status.{Status}
-use Rattle.mm_app.specs.declared.status.Status.TheVariants.{Done}
+use Rattle.mm_app.specs.declared.status.Status.TheVariants.{Done, ReadFault, WriteFault, Memory, BadLine, LineLong, TooMuch}
 
--- The lines begin with a header, and with these events, one in each line.
+-- The lines begin with a header, and with these events, one in each line; the rest is left.
 pub record BeginWith (lines : List (List ℕ)) (header : Header) (events : List Event) : Type 0 where
   pub first : List ℕ
   pub others : List (List ℕ)
@@ -27,44 +29,78 @@ pub record BeginWith (lines : List (List ℕ)) (header : Header) (events : List 
   pub headed : header_at first ≡ Some header
   pub read : map event_at others ≡ map Some events
 
--- The text is that of replies to the events, and these are one run of the module on one list of
--- requests, from the empty one.
-pub record IsOneRunsText (header : Header) (events : List Event) (text : List ℕ) : Type 0 where
-  pub replies : List Reply
-  pub requests : List (List ℕ)
-  pub told : text ≡ texts_of replies
-  pub runs : Runs (meaning_of header.«module») [] events replies requests
+-- Behind these event lines, and the snapshots issued by then, the line is one too many: it is event
+-- 20,001, or all of them have more than 268,435,456 bytes.
+abbrev pub IsOver : (before issued : List (List ℕ)) → List ℕ → Type 0
+IsOver before issued line = (most_events ≤ length before)
+    ⊎ (most_kept < sum_by length before + length line + sum_by length issued)
 
--- what comes behind the replies: the line of the counts, or the stop line
-abbrev pub IsLast : Status → List ℕ → Type 0
-IsLast status last =
-    ((committed issued : ℕ) × (last ≡ end_line committed issued)) ⊎ (last ≡ stop_line status)
+-- By the status, the lines that are left where so many were answered. After Done and a failed input
+-- there is none; a bad or a long line is the first, by its number; after "too much" the first is
+-- one too many. After want of memory and a failed output there may be any. A replay has no other
+-- status.
+abbrev pub AreLeft : Status → ℕ → List (List ℕ) → (List ℕ → Type 0) → Type 0
+AreLeft Done answered rest over = rest ≡ []
+AreLeft ReadFault answered rest over = rest ≡ []
+AreLeft (BadLine number) answered rest over = number ≡ answered + 1
+AreLeft (LineLong number) answered rest over = number ≡ answered + 1
+AreLeft TooMuch answered rest over =
+    (line : List ℕ) × (more : List (List ℕ)) × (rest ≡ line ∷ more) × over line
+AreLeft Memory answered rest over = Unit {0}
+AreLeft WriteFault answered rest over = Unit {0}
+AreLeft _ answered rest over = ⊥
 
--- What went out is the text of the replies to events that these lines begin with, and what comes
--- behind it, or a front of both. Where no two different messages of the run share a digest, none is
--- zero and no value of others is a secured request, and where no tag is forged, the replies are one
--- run.
+-- By the status, what went out of the text of the replies and the closing line. After Done it is
+-- both; after a failed output a front of the text, or of both where no line is left; else the text,
+-- and behind it the stop line or a front of that.
+abbrev pub IsSent : Status → (rest : List (List ℕ)) → (text closing sent : List ℕ) → Type 0
+IsSent Done rest text closing sent = sent ≡ text ++ closing
+IsSent WriteFault rest text closing sent =
+    IsFrontOf sent text ⊎ ((rest ≡ []) × IsFrontOf sent (text ++ closing))
+IsSent status rest text closing sent =
+    (stop : List ℕ) × IsFrontOf stop (stop_line status) × (sent ≡ text ++ stop)
+
+-- Of the lines a header and events were answered, with a reply to each event and, at the end, the
+-- counts of the requests committed and of the snapshots issued. And of each first part of the
+-- events the replies and the counts are those of one run of the module on one list of requests,
+-- where no two different messages of it share a digest, none is zero, no value of others is a
+-- secured request, and no tag is forged.
 pub record TellsOneRun (lines : List (List ℕ)) (sent : List ℕ) (status : Status) : Type 0 where
   pub header : Header
   pub events : List Event
-  pub text : List ℕ
-  pub last : List ℕ
+  pub replies : List Reply
+  -- after these first events, how many requests were committed, and the snapshots issued
+  pub committed : List Event → ℕ
+  pub issued : List Event → List (List ℕ)
   pub begins : BeginWith lines header events
-  pub closes : IsLast status last
-  pub written : IsFrontOf sent (text ++ last)
-  pub whole : status ≡ Done → sent ≡ text ++ last
-  pub one_run : IsClearRun (world_of header) events → IsGenuineRun (world_of header) events
-      → IsOneRunsText header events text
+  pub each : length replies ≡ length events
+  pub left : AreLeft status (length (begins.first ∷ begins.others)) begins.rest
+      (IsOver begins.others (issued events))
+  -- none of the event lines is one too many
+  pub within : (before : List (List ℕ)) (line : List ℕ) (after : List (List ℕ))
+      (front : List Event) → begins.others ≡ before ++ line ∷ after
+      → map event_at before ≡ map Some front → IsOver before (issued front) line → ⊥
+  pub went : IsSent status begins.rest (texts_of replies)
+      (end_line (committed events) (length (issued events))) sent
+  pub one_run : (front later : List Event) → events ≡ front ++ later
+      → IsClearRun (world_of header) front → IsGenuineRun (world_of header) front
+      → IsOneRun (world_of header) front (take (length front) replies) (committed front)
+      (issued front)
 
--- no header was answered: at most the stop line went out
-abbrev pub IsUnbegun : List ℕ → Status → Type 0
-IsUnbegun sent status = IsFrontOf sent (stop_line status)
+-- Not even a header was answered: nothing went out but the stop line or a front of it.
+pub record IsUnbegun (lines : List (List ℕ)) (sent : List ℕ) (status : Status) : Type 0 where
+  pub undone : status ≡ Done → ⊥
+  pub left : AreLeft status 0 lines (λ line. ⊥)
+  pub went : IsSent status lines [] [] sent
 
--- The headline of a replay, by what is left of the input and what the output received.
+-- The headline of a replay, by what is left of the input and what the output received. After Done
+-- the input was taken to its end, which is the end of a line.
 pub record ReplaysOneRun (left left' received received' : Option (List ℕ)) (status : Status)
     : Type 0 where
   pub taken : List ℕ
   pub sent : List ℕ
   pub consumed : Consumes left left' taken
   pub appended : Appends received received' sent
-  pub continues : IsUnbegun sent status ⊎ TellsOneRun (lines_of taken) sent status
+  pub ended : status ≡ Done
+      → IsAtEnd left' × ((before : List ℕ) × (taken ≡ before ++ 10 ∷ []))
+  pub continues : IsUnbegun (lines_of taken) sent status ⊎ TellsOneRun (lines_of taken) sent status

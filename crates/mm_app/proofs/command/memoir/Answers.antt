@@ -1,5 +1,4 @@
 use Rattle.std.proofs.Common.{ap, refl, subst, sym}
-use Rattle.mm_base.specs.Streams.{Sends}
 use Rattle.mm_play.specs.Plays.{IsBlamed}
 use Rattle.mm_words.specs.declared.command.Command.{Command}
 use Rattle.mm_words.specs.declared.command.Command.TheVariants.{Check, Receipts, Replay, Slots, Transfer}
@@ -8,7 +7,7 @@ use Rattle.mm_app.specs.Blame.{BlamesSource, tells_platform_fault, tells_store_f
 use Rattle.mm_app.specs.Commands.{DoesOrLacks}
 use Rattle.mm_app.specs.Completeness.{IsDoneOrFailed}
 use Rattle.mm_app.specs.Outside.{outside}
-use Rattle.mm_app.specs.Status.{EndsUnrefused, stop_line}
+use Rattle.mm_app.specs.Status.{EndsUnrefused}
 use Rattle.mm_app.specs.declared.status.Status.{Status}
 use Rattle.mm_app.proofs.Blame.{Frames, blamed, memory_alike, no_memory, no_usage, output_blamed, output_stopped, stopped_blamed}
 use Rattle.mm_app.proofs.Completing.{may_be_done}
@@ -139,10 +138,7 @@ returns-in-Err-Memory-clause-receipts g c key spells bytes next left run =
 
 pub returns-in-Err-Memory-clause-headline : goal.returns-in-Err-Memory-clause-headline
 returns-in-Err-Memory-clause-headline g c spells =
-    lacks_one_run _ _ _ _ _
-    (subst (λ (s : Status). Sends (g.K.Sink.received c.args.out.now) (g.K.Sink.received c.stopped-in-Err-Memory.new.out) (stop_line s)
-    c.stopped-in-Err-Memory.ensures.told.stops.result)
-    (sym c.stopped-in-Err-Memory.ensures.status) c.stopped-in-Err-Memory.ensures.told.stops.sends)
+    lacks_one_run _ _ _ _ _ c.stopped-in-Err-Memory.ensures.status c.stopped-in-Err-Memory.ensures.told.stops.sends
 
 pub returns-in-Err-Memory-clause-source : goal.returns-in-Err-Memory-clause-source
 returns-in-Err-Memory-clause-source g c command spells =
