@@ -1,8 +1,9 @@
 //! The laws of whole runs, each the contract of a function that does nothing.
 
-ghost use Rattle.std.specs.Prelude.{◌≡◌, ℕ, List};
+ghost use Rattle.std.specs.Prelude.{◌≡◌, ◌++◌, ℕ, List};
 ghost use Rattle.mm_module.specs.Meaning.{Meaning};
 ghost use Rattle.mm_module.specs.CounterTable.{counter};
+ghost use Rattle.mm_model.specs.Instance.{Instance};
 ghost use Rattle.mm_model.specs.InstanceWords.{basic, opt};
 ghost use Rattle.mm_run.specs.HeldWords.{world_barrier};
 ghost use Rattle.mm_run.specs.Folds.{expected};
@@ -29,12 +30,17 @@ pub fn expected_runs()
 {}
 
 /// Each first part of a schedule comes to what it does in the whole; and where no two messages of that part share a digest
-/// and each right offer in it names a position, it is one run of the module on one list of requests.
+/// and each right offer in it names a position, it is one run of the module on one list of requests. So it is of each first
+/// part of a schedule of which that holds.
 pub fn fronts_are_one_run()
     ensures basic { (meaning : Meaning) (key : List ℕ) (events : List Event)
         → FrontsAreOneRun (basic meaning key) events }
     ensures opt { (meaning : Meaning) (key barrier : List ℕ) (events : List Event)
         → FrontsAreOneRun (opt meaning key barrier) events }
+    ensures clear { (i : Instance) (front later : List Event)
+        → IsClearRun i (front ++ later) → IsClearRun i front }
+    ensures genuine { (i : Instance) (front later : List Event)
+        → IsGenuineRun i (front ++ later) → IsGenuineRun i front }
 {}
 
 /// A schedule goes on from what stands after its first events.
