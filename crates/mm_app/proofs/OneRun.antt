@@ -1,8 +1,7 @@
 -- The headline drawn from a replay and its stop line.
-use Rattle.std.proofs.Common.{◌≡◌, ◌∙◌, ◌+◌, ℕ, suc, List, [], ◌∷◌, ◌++◌, length, map, take, Option, Some, Result, Ok, Err, refl, sym, ap, subst, append-nil, arith, inl, inr, ◌⊎◌}
+use Rattle.std.proofs.Common.{◌≡◌, ◌∙◌, ℕ, suc, List, [], ◌∷◌, ◌++◌, length, map, take, Option, Some, Result, Ok, Err, refl, sym, ap, subst, append-nil, inl, inr, ◌⊎◌}
 use Rattle.std.proofs.KnownBytes.{Appends-trans, Consumes-nil}
 use Rattle.std.proofs.Math.Seq.{take-append_seam}
-use Rattle.std.specs.Io.KnownBytes.{IsAtEnd}
 use Rattle.mm_base.specs.Input.{lines_of}
 use Rattle.mm_base.specs.Streams.{Sends}
 use Rattle.mm_base.specs.declared.fault.WriteFault as write
@@ -19,7 +18,6 @@ use Rattle.mm_replay.specs.Replays.{Replays}
 use Rattle.mm_replay.specs.Text.{texts_of}
 use Rattle.mm_run.specs.Folds.{Followed, event_outcome, followed, replies_by_digests}
 use Rattle.mm_run.specs.Held.{world_of}
-use Rattle.mm_run.specs.Laws.{continued}
 use Rattle.mm_run.specs.OneRun.{IsOneRun}
 use Rattle.mm_schedule.specs.Events.{Event}
 use Rattle.mm_schedule.specs.Grammar.{event_at}

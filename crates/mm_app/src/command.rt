@@ -174,7 +174,8 @@ pub fn memoir<P: Platform, T: Store, S: Source, E: Source, K: Sink>(
         (command : Told) → SpellsCommand command (map (λ s. s.now) words.now)
         → CanBeDone command old new → IsDoneOrFailed result }
 
-    // The headline: what is written for a schedule is one run of the module on one list of requests.
+    // The headline: which lines of a schedule are answered, by the status, and what is written; it is one run of the
+    // module on one list of requests, as far as the premises hold.
     ensures headline { SpellsCommand Replay (map (λ s. s.now) words.now)
         → ReplaysOneRun (S.left input.old) (S.left input.new) (K.received out.old)
         (K.received out.new) result }
