@@ -21,15 +21,18 @@ offer_of offer_text.Last = offer.Last
 offer_of (offer_text.Flip number byte) = offer.Flip number byte
 offer_of (offer_text.Raw word) = offer.Raw (unwrap_or (bytes_at word.now) [])
 
--- the event that stands in a line
-abbrev pub event_in : EventText → Event
-event_in (text.Ask meddles stop from request) =
-    Ask (meddles_of meddles) stop (offer_of from) (One request.now)
-event_in (text.Batch meddles stop from members) =
-    Ask (meddles_of meddles) stop (offer_of from) (Many members.now)
-event_in (text.Checkpoint meddles stop) = Checkpoint (meddles_of meddles) stop
-event_in text.Power = Power
-event_in (text.Extend value) = Extend value.bytes
+-- the event that stands in a line, with its meddles
+abbrev pub event_in : List Meddle → EventText → Event
+event_in meddles (text.Ask stop from request) = Ask meddles stop (offer_of from) (One request.now)
+event_in meddles (text.Batch stop from members) =
+    Ask meddles stop (offer_of from) (Many members.now)
+event_in meddles (text.Checkpoint stop) = Checkpoint meddles stop
+event_in meddles text.Power = Power
+event_in meddles (text.Extend value) = Extend value.bytes
+
+-- meddles that were read into a place, and what follows them
+abbrev pub put_in : Meddles → Bor (List ℕ) → List Meddle × List ℕ
+put_in meddles rest = (meddles_of meddles, rest.now)
 
 -- meddles that were read, and what follows them
 abbrev pub read_of : Meddles × Bor (List ℕ) → List Meddle × List ℕ

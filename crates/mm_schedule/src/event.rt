@@ -3,7 +3,7 @@
 ghost use Rattle.std.specs.Prelude.{◌≡◌, ◌+◌, ◌<◌, ◌≤◌, [], ◌∷◌, ◌++◌};
 
 use mm_base::Bytes;
-use mm_digest::Digest;
+use mm_digest::{Digest, zero};
 use mm_platform::{Meddle, Stop};
 
 /// The snapshot that a call offers.
@@ -31,15 +31,28 @@ pub struct Meddles {
 impl Meddles {
     ghost use Rattle.mm_schedule.specs.Events.{meddles_of};
 
-    /// These and one more.
-    pub(crate) fn with(mut self, meddle: Meddle) -> Meddles
-        requires { self.count < 8 }
-        ensures count { result.count ≡ self.count + 1 }
-        ensures items { meddles_of result ≡ meddles_of self ++ meddle ∷ [] }
+    /// None.
+    pub(crate) fn none() -> Meddles
+        ensures { meddles_of result ≡ [] }
+    {
+        let nothing = Meddle {
+            step: 0,
+            value: zero(),
+        };
+        Meddles {
+            count: 0,
+            items: [nothing; 8],
+        }
+    }
+
+    /// Puts one more at the end.
+    pub(crate) fn push(&mut self, meddle: Meddle)
+        requires { self.old.count < 8 }
+        ensures count { self.new.count ≡ self.old.count + 1 }
+        ensures items { meddles_of self.new ≡ meddles_of self.old ++ meddle ∷ [] }
     {
         self.items[self.count as usize] = meddle;
         self.count += 1;
-        self
     }
 }
 

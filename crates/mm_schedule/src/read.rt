@@ -5,7 +5,7 @@ ghost use Rattle.mm_schedule.specs.Events.{event_of};
 ghost use Rattle.mm_schedule.specs.Grammar.{event_at};
 ghost use Rattle.mm_schedule.specs.Spelling.{SpellsEvent};
 
-use crate::event::Event;
+use crate::event::{Event, Meddles};
 use crate::fault::EventFault;
 use crate::text::{event_in, owned};
 use std::alloc::Global;
@@ -17,9 +17,9 @@ pub fn read_event(alloc: Global, line: &[u8]) -> Result<Event, EventFault>
     ensures read { IfOk result (λ event. event_at line.now ≡ Some (event_of event)) }
     ensures bad { IsErrOf result EventFault.Bad ↔ (event_at line.now ≡ None) }
 {
-    let Some(event) = event_in(line) else {
-        return Err(EventFault::Bad);
-    };
-    let event = owned(alloc, event)?;
-    Ok(event)
+    let mut meddles = Meddles::none();
+    match event_in(line, &mut meddles) {
+        None => Err(EventFault::Bad),
+        Some(event) => owned(alloc, &meddles, event),
+    }
 }

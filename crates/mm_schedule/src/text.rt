@@ -1,7 +1,9 @@
 //! Events as they lie in their lines.
 
-ghost use Rattle.std.specs.Prelude.{◌≡◌, ◌+◌, ◌-◌, ◌<◌, ◌≤◌, ℕ, List, [], ◌∷◌, ◌++◌, Some, IfOk, unwrap_or};
+ghost use Rattle.std.specs.Prelude.{◌≡◌, ◌+◌, ◌-◌, ◌<◌, ◌≤◌, ℕ, List, [], ◌∷◌, ◌++◌, Some, IfOk, IfErr, unwrap_or};
 ghost use Rattle.std.specs.Option.{option_map};
+ghost use Rattle.mm_platform.specs.declared.plan.Meddle.{Meddle};
+ghost use Rattle.mm_schedule.specs.declared.fault.EventFault.{EventFault};
 ghost use Rattle.mm_schedule.specs.Events.{event_of, meddles_of};
 ghost use Rattle.mm_schedule.specs.Grammar.{call_at, event_at, failing_at, meddle_at, meddles_at, offer_at, prefixed_at, raw_at, stop_at, stop_step_at};
 ghost use Rattle.mm_schedule.specs.GrammarWords.{flip_at};
@@ -9,9 +11,10 @@ ghost use Rattle.mm_schedule.specs.Texts as texts;
 ghost use Rattle.mm_schedule.specs.Words.{bytes_at};
 
 use crate::event::{Event, Meddles, Offer};
+use crate::fault::EventFault;
 use crate::words::{after, is_text, number_in, spells_bytes, step_in, value_in, word_in};
 use mm_base::{Bytes, Memory};
-use mm_digest::{Digest, zero};
+use mm_digest::Digest;
 use mm_platform::{Meddle, Stop};
 use std::alloc::Global;
 
@@ -23,22 +26,19 @@ pub enum OfferText<'a> {
     Raw(&'a [u8]),
 }
 
-/// An event as it lies in its line.
+/// An event as it lies in its line, but for its meddles.
 pub enum EventText<'a> {
     Ask {
-        meddles: Meddles,
         stop: Stop,
         from: OfferText<'a>,
         request: &'a [u8],
     },
     Batch {
-        meddles: Meddles,
         stop: Stop,
         from: OfferText<'a>,
         members: &'a [u8],
     },
     Checkpoint {
-        meddles: Meddles,
         stop: Stop,
     },
     Power,
@@ -47,16 +47,16 @@ pub enum EventText<'a> {
     },
 }
 
-/// The event of a line.
+/// The event of a line, with its meddles put into `meddles`.
 #[tactic(auto, unfolding(crate::specs::Grammar::event_at))]
-pub fn event_in(line: &[u8]) -> Option<EventText<'_>>
-    ensures { option_map texts.event_in result ≡ event_at line.now }
+pub fn event_in<'a>(line: &'a [u8], meddles: &mut Meddles) -> Option<EventText<'a>>
+    ensures { option_map (texts.event_in (meddles_of meddles.new)) result ≡ event_at line.now }
 {
     if is_text(line, b"power") {
         return Some(EventText::Power);
     }
     let Some(word) = after(b"extend ", line) else {
-        return prefixed_in(line);
+        return prefixed_in(line, meddles);
     };
     let value = value_in(word)?;
     Some(EventText::Extend { value })
@@ -64,26 +64,26 @@ pub fn event_in(line: &[u8]) -> Option<EventText<'_>>
 
 /// A call with what comes before it.
 #[tactic(auto, unfolding(crate::specs::Grammar::prefixed_at))]
-fn prefixed_in(line: &[u8]) -> Option<EventText<'_>>
-    ensures { option_map texts.event_in result ≡ prefixed_at line.now }
+fn prefixed_in<'a>(line: &'a [u8], meddles: &mut Meddles) -> Option<EventText<'a>>
+    ensures { option_map (texts.event_in (meddles_of meddles.new)) result ≡ prefixed_at line.now }
 {
-    let (meddles, line) = meddles_in(line)?;
+    let line = read_meddles(meddles, line)?;
     let (stop, line) = stop_in(line)?;
-    call_in(meddles, stop, line)
+    call_in(stop, line)
 }
 
 /// The call behind its meddles and its stop.
 #[tactic(auto, unfolding(crate::specs::Grammar::call_at))]
-fn call_in(meddles: Meddles, stop: Stop, line: &[u8]) -> Option<EventText<'_>>
-    ensures { option_map texts.event_in result ≡ call_at (meddles_of meddles) stop line.now }
+fn call_in(stop: Stop, line: &[u8]) -> Option<EventText<'_>>
+    ensures { (meddles : List Meddle)
+        → option_map (texts.event_in meddles) result ≡ call_at meddles stop line.now }
 {
     if is_text(line, b"checkpoint") {
-        return Some(EventText::Checkpoint { meddles, stop });
+        return Some(EventText::Checkpoint { stop });
     }
     if let Some(line) = after(b"ask ", line) {
         let (from, request) = offer_in(line)?;
         return Some(EventText::Ask {
-            meddles,
             stop,
             from,
             request,
@@ -92,7 +92,6 @@ fn call_in(meddles: Meddles, stop: Stop, line: &[u8]) -> Option<EventText<'_>>
     let line = after(b"batch ", line)?;
     let (from, members) = offer_in(line)?;
     Some(EventText::Batch {
-        meddles,
         stop,
         from,
         members,
@@ -192,34 +191,35 @@ fn failing_in(line: &[u8]) -> Option<(Stop, &[u8])>
 pub fn meddles_in(line: &[u8]) -> Option<(Meddles, &[u8])>
     ensures { option_map texts.read_of result ≡ meddles_at 8 0 line.now }
 {
-    let none = Meddle {
-        step: 0,
-        value: zero(),
-    };
-    more_meddles(
-        Meddles {
-            count: 0,
-            items: [none; 8],
-        },
-        0,
-        line,
-    )
+    let mut meddles = Meddles::none();
+    let line = read_meddles(&mut meddles, line)?;
+    Some((meddles, line))
 }
 
-/// These meddles and those of a line, from a step on, and what follows them.
+/// Puts the meddles that a line begins with in place of these, and answers what follows them.
+fn read_meddles<'a>(meddles: &mut Meddles, line: &'a [u8]) -> Option<&'a [u8]>
+    ensures { option_map (texts.put_in meddles.new) result ≡ meddles_at 8 0 line.now }
+{
+    meddles.count = 0;
+    more_meddles(meddles, 0, line)
+}
+
+/// Puts the meddles of a line, from a step on, behind these, and answers what follows them.
 #[tactic(auto, unfolding(crate::specs::Grammar::meddles_at))]
-fn more_meddles(meddles: Meddles, least: u8, line: &[u8]) -> Option<(Meddles, &[u8])>
-    ensures { option_map texts.read_of result
-        ≡ texts.behind (meddles_of meddles) (meddles_at (8 - meddles.count) least line.now) }
+fn more_meddles<'a>(meddles: &mut Meddles, least: u8, line: &'a [u8]) -> Option<&'a [u8]>
+    ensures { option_map (texts.put_in meddles.new) result
+        ≡ texts.behind (meddles_of meddles.old)
+        (meddles_at (8 - meddles.old.count) least line.now) }
 {
     if meddles.count == 8 {
-        return Some((meddles, line));
+        return Some(line);
     }
     let Some(words) = after(b"meddle ", line) else {
-        return Some((meddles, line));
+        return Some(line);
     };
     let (meddle, line) = meddle_in(words, least)?;
-    more_meddles(meddles.with(meddle), meddle.step, line)
+    meddles.push(meddle);
+    more_meddles(meddles, meddle.step, line)
 }
 
 /// A meddle behind its first word: a step that is no lower than the one before, and a value.
@@ -237,13 +237,18 @@ fn meddle_in(line: &[u8], least: u8) -> Option<(Meddle, &[u8])>
     Some((Meddle { step, value }, line))
 }
 
-/// The event with bytes of its own.
-pub fn owned(alloc: Global, event: EventText<'_>) -> Result<Event, Memory>
-    ensures { IfOk result (λ own. event_of own ≡ texts.event_in event.entry) }
+/// The event with these meddles and bytes of its own.
+pub fn owned(
+    alloc: Global,
+    meddles: &Meddles,
+    event: EventText<'_>,
+) -> Result<Event, EventFault>
+    ensures own { IfOk result
+        (λ own. event_of own ≡ texts.event_in (meddles_of meddles.now) event.entry) }
+    ensures memory { IfErr result (λ fault. fault ≡ EventFault.Memory) }
 {
     match event {
         EventText::Ask {
-            meddles,
             stop,
             from,
             request,
@@ -251,14 +256,13 @@ pub fn owned(alloc: Global, event: EventText<'_>) -> Result<Event, Memory>
             let offer = owned_offer(alloc, from)?;
             let request = Bytes::copy_of(alloc, request)?;
             Ok(Event::Ask {
-                meddles,
+                meddles: *meddles,
                 stop,
                 offer,
                 request,
             })
         }
         EventText::Batch {
-            meddles,
             stop,
             from,
             members,
@@ -266,13 +270,16 @@ pub fn owned(alloc: Global, event: EventText<'_>) -> Result<Event, Memory>
             let offer = owned_offer(alloc, from)?;
             let text = Bytes::copy_of(alloc, members)?;
             Ok(Event::Batch {
-                meddles,
+                meddles: *meddles,
                 stop,
                 offer,
                 text,
             })
         }
-        EventText::Checkpoint { meddles, stop } => Ok(Event::Checkpoint { meddles, stop }),
+        EventText::Checkpoint { stop } => Ok(Event::Checkpoint {
+            meddles: *meddles,
+            stop,
+        }),
         EventText::Power => Ok(Event::Power),
         EventText::Extend { value } => Ok(Event::Extend { value }),
     }
