@@ -1,6 +1,6 @@
 //! The absorbed key that is kept between calls.
 
-ghost use Rattle.std.specs.Prelude.{◌≡◌, IsTrue};
+ghost use Rattle.std.specs.Prelude.{◌≡◌, IsTrue, IsSome, IfSome};
 
 use mm_digest::HmacKey;
 use std::marker::Model;
@@ -37,27 +37,43 @@ impl KeptKey {
     pub fn under(&mut self, key: &[u8; 32]) -> &HmacKey
         ensures { result.now ≡ key.now }
     {
-        let absorbed = kept_or_absorbed(self.kept.take(), key);
-        &self.kept.insert(absorbed).key
+        keep(&mut self.kept, key);
+        key_in(&self.kept)
     }
 }
 
-// The key with what absorbing it gives, which is what was kept where that is of this key.
-fn kept_or_absorbed(kept: Option<Absorbed>, key: &[u8; 32]) -> Absorbed
-    ensures { result.bytes ≡ key.now }
+// Sees to it that this key is kept, absorbed.
+fn keep(kept: &mut Option<Absorbed>, key: &[u8; 32])
+    ensures some { IsSome kept.new }
+    ensures same { IfSome kept.new (λ absorbed. absorbed.bytes ≡ key.now) }
+{
+    if is_kept(kept, key) {
+        return;
+    }
+    *kept = Some(Absorbed {
+        bytes: *key,
+        key: HmacKey::new(key),
+    });
+}
+
+// Whether this key is kept.
+fn is_kept(kept: &Option<Absorbed>, key: &[u8; 32]) -> bool
+    ensures some { IsTrue result → IsSome kept.now }
+    ensures same { IsTrue result → IfSome kept.now (λ absorbed. absorbed.bytes ≡ key.now) }
 {
     match kept {
-        Some(absorbed) if is_of(&absorbed, key) => absorbed,
-        _ => Absorbed {
-            bytes: *key,
-            key: HmacKey::new(key),
-        },
+        Some(absorbed) => absorbed.bytes == *key,
+        None => false,
     }
 }
 
-// Whether these are the bytes of the key that was absorbed.
-fn is_of(absorbed: &Absorbed, key: &[u8; 32]) -> bool
-    ensures { IsTrue result → absorbed.now.bytes ≡ key.now }
+// The key that is kept.
+fn key_in(kept: &Option<Absorbed>) -> &HmacKey
+    requires { IsSome kept.now }
+    ensures { IfSome kept.now (λ absorbed. result.now ≡ absorbed.bytes) }
 {
-    absorbed.bytes == *key
+    match kept {
+        Some(absorbed) => &absorbed.key,
+        None => unreachable!(),
+    }
 }
