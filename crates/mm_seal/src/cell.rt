@@ -80,11 +80,9 @@ pub fn cell_bytes(cell: &Cell) -> [u8; CELL_LENGTH]
 pub fn read_cell(bytes: &[u8; CELL_LENGTH]) -> Result<Cell, CellFault>
     ensures { ReadsCell bytes.now result }
 {
-    if *bytes == [0; CELL_LENGTH] {
-        return Err(CellFault::Blank);
-    }
     match cell_of(bytes) {
         Some(cell) => Ok(cell),
+        None if *bytes == [0; CELL_LENGTH] => Err(CellFault::Blank),
         None => Err(CellFault::Cell),
     }
 }
