@@ -15,6 +15,9 @@ use std::alloc::Global;
 /// The most bytes of event lines and issued snapshots together.
 const MOST_KEPT: u64 = 268_435_456;
 
+/// The bytes that are reserved for a reply: most have no more.
+const USUAL_REPLY: usize = 48;
+
 // The bytes of the issued snapshot with this number. None where it isn't issued.
 fn snapshot_length(world: &World, number: u32) -> u64
     ensures some { (snapshot : List ℕ) → slice_get world.now.issued number ≡ Some snapshot
@@ -122,16 +125,27 @@ impl Progress {
         ensures { GivesReply (event_answer (running self.old) line.now (event_at line.now))
             (InEvents (running self.new)) result }
     {
-        let event = match read_event(alloc, line) {
-            Ok(event) => event,
-            Err(EventFault::Memory) => return Err(ReplyFault::Memory),
-            Err(EventFault::Bad) => return Err(ReplyFault::Refused(Refused::Bad)),
-        };
-        let reply = match self.reply_to_event(line, &event) {
+        match &read_event(alloc, line) {
+            Ok(event) => self.reply_text(alloc, line, event),
+            Err(EventFault::Memory) => Err(ReplyFault::Memory),
+            Err(EventFault::Bad) => Err(ReplyFault::Refused(Refused::Bad)),
+        }
+    }
+
+    // The reply to an event, which this line spells, as text.
+    fn reply_text(&mut self, alloc: Global, line: &[u8], event: &Event) -> Result<Bytes, ReplyFault>
+        requires { length line.now ≤ longest_line }
+        ensures { GivesReply (event_answer (running self.old) line.now (Some (event_of event.now)))
+            (InEvents (running self.new)) result }
+    {
+        let reply = match self.reply_to_event(line, event) {
             Ok(reply) => reply,
             Err(fault) => return Err(fault),
         };
-        let mut text = Bytes::new(alloc);
+        let mut text = match Bytes::with_capacity(alloc, USUAL_REPLY) {
+            Ok(text) => text,
+            Err(_) => return Err(ReplyFault::Memory),
+        };
         match put_reply(&reply, &mut text) {
             Ok(()) => Ok(text),
             Err(_) => Err(ReplyFault::Memory),
