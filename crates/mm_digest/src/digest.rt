@@ -82,12 +82,20 @@ pub fn secured_batch(barrier: &[u8; 32], text: &[u8]) -> Digest
 pub fn extended(old: &Digest, value: &Digest) -> Digest
     ensures { result.bytes ≡ extended_of old.now.bytes value.now.bytes }
 {
-    let mut hasher = Sha256::new();
-    hasher.update(&old.bytes);
-    hasher.update(&value.bytes);
     Digest {
-        bytes: hasher.finalize(),
+        bytes: Sha256::digest(&joined(&old.bytes, &value.bytes)),
     }
+}
+
+// The bytes of both, one behind the other: a whole block.
+fn joined(first: &[u8; 32], second: &[u8; 32]) -> [u8; 64]
+    ensures { result ≡ first.now ++ second.now }
+{
+    let mut block = [0; 64];
+    let (front, back) = block.split_at_mut(32);
+    front.copy_from_slice(first);
+    back.copy_from_slice(second);
+    block
 }
 
 // SHA-256 of the tag, the 32 bytes and the rest.
@@ -95,10 +103,19 @@ fn tagged(tag: u8, fixed: &[u8; 32], rest: &[u8]) -> Digest
     ensures { result.bytes ≡ sha256 (tag ∷ (fixed.now ++ rest.now)) }
 {
     let mut hasher = Sha256::new();
-    hasher.update(&[tag]);
-    hasher.update(fixed);
+    hasher.update(&front_of(tag, fixed));
     hasher.update(rest);
     Digest {
         bytes: hasher.finalize(),
     }
+}
+
+// The tag and the 32 bytes.
+fn front_of(tag: u8, fixed: &[u8; 32]) -> [u8; 33]
+    ensures { result ≡ tag ∷ fixed.now }
+{
+    let mut front = [tag; 33];
+    let (_, behind) = front.split_at_mut(1);
+    behind.copy_from_slice(fixed);
+    front
 }
