@@ -27,6 +27,7 @@ use mm_seal::{Cell, CellFault, Offered, PartsFault, Place, cell_bytes, parts, re
 use std::alloc::Global;
 
 /// What is found in the cell's bytes and the offered ones, in the order of the refusals.
+#[inline(always)]
 pub fn find<M: Module>(
     alloc: Global,
     module: &M,

@@ -16,6 +16,7 @@ use mm_platform::{Platform, StepFault};
 use std::alloc::Global;
 
 /// The first step: reads the cell, and runs the batch in memory.
+#[inline(always)]
 pub fn read<M: Module, P: Platform>(
     alloc: Global,
     module: &M,
@@ -36,6 +37,7 @@ pub fn read<M: Module, P: Platform>(
 }
 
 /// The last step: writes the cell, which commits the batch. It has no allocator, so it takes no memory.
+#[inline(always)]
 pub fn write<P: Platform>(ready: Ready, platform: &mut P) -> Result<BatchAnswer, StepFault>
     ensures { Writes ready (P.standing platform.old) (P.standing platform.new) result }
 {
@@ -47,6 +49,7 @@ pub fn write<P: Platform>(ready: Ready, platform: &mut P) -> Result<BatchAnswer,
 }
 
 /// The last step, as the end of its call.
+#[inline(always)]
 pub fn write_last<P: Platform>(ready: Ready, platform: &mut P) -> Ended
     ensures { WritesTo ready (P.standing platform.old) (P.standing platform.new) result }
 {

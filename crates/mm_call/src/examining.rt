@@ -15,6 +15,7 @@ use mm_seal::Offered;
 
 /// Whether an offer is accepted, and as a repeat, by the verdict on it. State, Tag, Stale and Full come in this order.
 /// Takes no memory.
+#[inline(always)]
 pub fn examine<M: Module>(
     module: &M,
     key: &HmacKey,

@@ -19,6 +19,7 @@ use mm_seal::{Body, Place, seal_under};
 use std::alloc::Global;
 
 /// The answer to a batch that runs from an offered state, with the place that it leads to.
+#[inline(always)]
 pub fn answer<M: Module>(
     alloc: Global,
     module: &M,
@@ -59,6 +60,7 @@ pub struct Ran {
 }
 
 /// Runs the requests of a batch one after another, from a state.
+#[inline(always)]
 pub fn run_batch<M: Module>(
     alloc: Global,
     module: &M,
@@ -85,6 +87,7 @@ pub fn run_batch<M: Module>(
 }
 
 // Runs the first member of a batch.
+#[inline(always)]
 fn run_first<M: Module>(
     alloc: Global,
     module: &M,
@@ -105,6 +108,7 @@ fn run_first<M: Module>(
 }
 
 // The request at this index.
+#[inline(always)]
 fn request_at<'a>(batch: Batch<'a>, i: usize) -> &'a [u8]
     requires within { i < size_of (batch_of batch) }
     requires short { is_long (batch_of batch) ≡ false }

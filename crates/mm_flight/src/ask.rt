@@ -34,6 +34,7 @@ impl AskCall {
     ghost use Rattle.mm_flight.specs.Asks.{begun, ask_number, MayAsk, AdvancedAsk, FinishedAsk};
 
     /// Begins a call of this variant. Long exactly where the batch is too long to be asked. Takes no memory.
+    #[inline(always)]
     pub fn begin(variant: Variant, batch: Batch<'_>) -> Result<AskCall, Refusal>
         ensures ok { IfOk result
             (λ call. (call ≡ begun variant) × (is_long (batch_of batch.entry) ≡ false)) }
@@ -91,6 +92,7 @@ impl AskCall {
     }
 
     /// Moves the call to its end: what `advance` does, over and over. After the reading steps it has no allocator.
+    #[inline(always)]
     pub fn finish<M: Module, P: Platform>(
         self,
         alloc: Global,

@@ -45,6 +45,7 @@ pub enum Turn {
 }
 
 /// Begins a call. Long exactly where the batch is too long to be asked. Takes no memory.
+#[inline(always)]
 pub fn begin(batch: Batch<'_>) -> Result<Call, Refusal>
     ensures ok { IfOk result (λ call. (call ≡ Begun) × (is_long (batch_of batch.entry) ≡ false)) }
     ensures long { IfErr result (λ refusal. (refusal ≡ Refusal.Long)

@@ -58,6 +58,7 @@ fn is_of(cell: &Cell, id: u8) -> bool
 }
 
 /// What is found in the cell, the register's value and the offered bytes, in the order of the refusals.
+#[inline(always)]
 pub fn find<M: Module>(
     alloc: Global,
     module: &M,

@@ -19,6 +19,7 @@ use mm_seal::Cell;
 use std::alloc::Global;
 
 /// A call from its first step on.
+#[inline(always)]
 pub fn read_and_change<M: Module, P: Platform>(
     alloc: Global,
     module: &M,
@@ -36,6 +37,7 @@ pub fn read_and_change<M: Module, P: Platform>(
 }
 
 /// A call from its second step on.
+#[inline(always)]
 pub fn read_register_and_change<M: Module, P: Platform>(
     alloc: Global,
     module: &M,
@@ -53,6 +55,7 @@ pub fn read_register_and_change<M: Module, P: Platform>(
     finish_found(found, platform)
 }
 
+#[inline(always)]
 fn found_in<M: Module, P: Platform>(
     alloc: Global,
     module: &M,
@@ -71,6 +74,7 @@ fn found_in<M: Module, P: Platform>(
 }
 
 /// What is left of a call that found this. It is handed no allocator.
+#[inline(always)]
 pub fn finish_found<P: Platform>(found: Result<Found, Refusal>, platform: &mut P) -> Ended
     requires { LeavesRoom found (P.standing platform.old) }
     ensures { EndsTo found (P.standing platform.old) (P.standing platform.new) result }
@@ -84,6 +88,7 @@ pub fn finish_found<P: Platform>(found: Result<Found, Refusal>, platform: &mut P
 }
 
 /// The step that commits a batch in the open segment.
+#[inline(always)]
 pub fn extend_last<P: Platform>(ready: Ready, platform: &mut P) -> Ended
     requires { IsReady (P.standing platform.old) }
     ensures { ExtendsTo ready (P.standing platform.old) (P.standing platform.new) result }
@@ -93,6 +98,7 @@ pub fn extend_last<P: Platform>(ready: Ready, platform: &mut P) -> Ended
 }
 
 /// The steps that open a segment.
+#[inline(always)]
 pub fn open<P: Platform>(opening: Opening, platform: &mut P) -> Ended
     requires { IsReady (P.standing platform.old) }
     ensures { OpensTo opening (P.standing platform.old) (P.standing platform.new) result }
@@ -107,6 +113,7 @@ pub fn open<P: Platform>(opening: Opening, platform: &mut P) -> Ended
 }
 
 /// The steps of an opening that come after the reset.
+#[inline(always)]
 pub fn place_on<P: Platform>(opening: Opening, platform: &mut P) -> Ended
     requires { IsReady (P.standing platform.old) }
     ensures { PlacesTo opening (P.standing platform.old) (P.standing platform.new) result }
@@ -121,6 +128,7 @@ pub fn place_on<P: Platform>(opening: Opening, platform: &mut P) -> Ended
 }
 
 /// The last step of an opening, which commits the batch.
+#[inline(always)]
 pub fn write_last<P: Platform>(opening: Opening, platform: &mut P) -> Ended
     ensures { WritesTo opening (P.standing platform.old) (P.standing platform.new) result }
 {
@@ -129,6 +137,7 @@ pub fn write_last<P: Platform>(opening: Opening, platform: &mut P) -> Ended
 }
 
 // How a call ended at the step that commits its batch, up to this position.
+#[inline(always)]
 fn committed(position: u64, written: Result<BatchAnswer, StepFault>) -> Ended
     ensures { result ≡ committed_as (Some position) written }
 {

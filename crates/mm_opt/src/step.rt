@@ -17,6 +17,7 @@ use mm_seal::Cell;
 use std::alloc::Global;
 
 /// The first step: reads the cell.
+#[inline(always)]
 pub fn read_cell<P: Platform>(id: u8, platform: &mut P) -> Result<Cell, Refusal>
     ensures { ReadsOwnCell id (P.standing platform.old) (P.standing platform.new) result }
 {
@@ -28,6 +29,7 @@ pub fn read_cell<P: Platform>(id: u8, platform: &mut P) -> Result<Cell, Refusal>
 }
 
 /// The second step: reads the register, runs the batch in memory, and makes room for what is to be recorded.
+#[inline(always)]
 pub fn read_register<M: Module, P: Platform>(
     alloc: Global,
     module: &M,
@@ -52,6 +54,7 @@ pub fn read_register<M: Module, P: Platform>(
 }
 
 // Makes room for the extension of the register, where there is to be one.
+#[inline(always)]
 fn make_room<P: Platform>(found: Found, platform: &mut P) -> Result<Found, Refusal>
     ensures found { OrMemory (Ok found) result }
     ensures room { MakesRoom result (P.standing platform.old) (P.standing platform.new) }
@@ -66,6 +69,7 @@ fn make_room<P: Platform>(found: Found, platform: &mut P) -> Result<Found, Refus
 }
 
 /// The step that commits a batch in the open segment: extends the register. Takes no memory.
+#[inline(always)]
 pub fn extend<P: Platform>(ready: Ready, platform: &mut P) -> Result<BatchAnswer, StepFault>
     requires { IsReady (P.standing platform.old) }
     ensures { Extends ready (P.standing platform.old) (P.standing platform.new) result }
@@ -78,6 +82,7 @@ pub fn extend<P: Platform>(ready: Ready, platform: &mut P) -> Result<BatchAnswer
 }
 
 /// The first step of an opening: resets the register. Takes no memory.
+#[inline(always)]
 pub fn empty<P: Platform>(opening: Opening, platform: &mut P) -> Result<Opening, StepFault>
     ensures { Empties opening (P.standing platform.old) (P.standing platform.new) result }
 {
@@ -88,6 +93,7 @@ pub fn empty<P: Platform>(opening: Opening, platform: &mut P) -> Result<Opening,
 }
 
 /// The second step of an opening: extends the register. Takes no memory.
+#[inline(always)]
 pub fn place<P: Platform>(opening: Opening, platform: &mut P) -> Result<Opening, StepFault>
     requires { IsReady (P.standing platform.old) }
     ensures { Places opening (P.standing platform.old) (P.standing platform.new) result }
@@ -99,6 +105,7 @@ pub fn place<P: Platform>(opening: Opening, platform: &mut P) -> Result<Opening,
 }
 
 /// The last step of an opening: writes the cell with the flag set, which commits the batch. Takes no memory.
+#[inline(always)]
 pub fn write<P: Platform>(opening: Opening, platform: &mut P) -> Result<BatchAnswer, StepFault>
     ensures { Writes opening (P.standing platform.old) (P.standing platform.new) result }
 {

@@ -34,6 +34,7 @@ impl Extensions {
     }
 
     /// Makes room for that many more.
+    #[inline(always)]
     pub fn reserve(&mut self, additional: usize) -> Result<(), Memory>
         ensures entries { self.new.entries.items ≡ self.old.entries.items }
         ensures len { vec_len self.new.entries ≡ vec_len self.old.entries }
@@ -45,6 +46,7 @@ impl Extensions {
         Ok(())
     }
 
+    #[inline(always)]
     pub fn push(&mut self, entry: Entry)
         requires { vec_len self.old.entries < vec_capacity self.old.entries }
         ensures entries { self.new.entries.items ≡ self.old.entries.items ++ entry ∷ [] }
@@ -55,6 +57,7 @@ impl Extensions {
         self.entries.push_reserved(entry);
     }
 
+    #[inline(always)]
     pub fn clear(&mut self)
         ensures entries { self.new.entries.items ≡ [] }
         ensures len { vec_len self.new.entries ≡ 0 }

@@ -77,6 +77,7 @@ impl MemPlatform {
 
     /// Plans what the coming steps will meet, counted from 1 from now on. After want of memory nothing
     /// has changed.
+    #[inline(always)]
     pub fn plan(&mut self, stop: Stop, meddles: &[Meddle]) -> Result<(), Memory>
         ensures ok { OnOk result (self.new ≡ record self.old {
           plan = Some (record { stop = stop; meddles = meddles.now; at = 0 });
@@ -92,6 +93,7 @@ impl MemPlatform {
     }
 
     /// Ends the plan: what of it was not reached lapses.
+    #[inline(always)]
     pub fn end_plan(&mut self)
         ensures { self.new ≡ record self.old { plan = Some quiet_plan } }
     {
@@ -195,6 +197,7 @@ impl MemPlatform {
     }
 
     // Calls a step: counts it, and lets in what is due before it.
+    #[inline(always)]
     fn begin_step(&mut self) -> Fate
         ensures after { self.new ≡ step_begun self.old }
         ensures made { result.is_made ≡ makes self.old }
@@ -210,6 +213,7 @@ impl MemPlatform {
     }
 
     // Goes on to this step, and lets in what is due before it.
+    #[inline(always)]
     fn let_in(&mut self, step: u64)
         requires { option_map next_step self.old.plan ≡ Some step }
         ensures { self.new ≡ record self.old {
@@ -226,6 +230,7 @@ impl MemPlatform {
 }
 
 // Lets in those of the meddles that are due at this step, where `before` steps are over.
+#[inline(always)]
 fn let_in_due(register: &mut Extensions, meddles: &[Meddle], before: u64, step: u64)
     requires next { step ≡ counted before }
     requires room { vec_len register.old.entries + ahead before meddles.now
@@ -251,6 +256,7 @@ impl Device for MemPlatform {
 }
 
 impl Nv for MemPlatform {
+    #[inline(always)]
     fn nv_read(&mut self, into: &mut [u8; CELL_LENGTH]) -> Result<(), StepFault> {
         let fate = self.begin_step();
         if let Some(fault) = fate.fault {
@@ -260,6 +266,7 @@ impl Nv for MemPlatform {
         Ok(())
     }
 
+    #[inline(always)]
     fn nv_write(&mut self, bytes: &[u8; CELL_LENGTH]) -> Result<(), StepFault> {
         let fate = self.begin_step();
         self.writes = self.writes.saturating_add(1);
@@ -272,6 +279,7 @@ impl Nv for MemPlatform {
 }
 
 impl Register for MemPlatform {
+    #[inline(always)]
     fn reg_ready(&mut self) -> Result<(), Memory> {
         if self.spare > 0 {
             return Ok(());
@@ -281,6 +289,7 @@ impl Register for MemPlatform {
         Ok(())
     }
 
+    #[inline(always)]
     fn reg_read(&mut self) -> Result<Digest, StepFault> {
         let fate = self.begin_step();
         if let Some(fault) = fate.fault {
@@ -289,6 +298,7 @@ impl Register for MemPlatform {
         Ok(self.register.value)
     }
 
+    #[inline(always)]
     fn reg_reset(&mut self) -> Result<(), StepFault> {
         let fate = self.begin_step();
         if !fate.is_made {
@@ -298,6 +308,7 @@ impl Register for MemPlatform {
         fate.answer()
     }
 
+    #[inline(always)]
     fn reg_extend(&mut self, value: &Digest) -> Result<(), StepFault> {
         let fate = self.begin_step();
         if !fate.is_made {

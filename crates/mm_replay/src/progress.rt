@@ -84,6 +84,7 @@ impl Progress {
     }
 
     // Plays an event in the world, and counts it and its line.
+    #[inline(always)]
     fn play_event(&mut self, line: &[u8], event: &Event) -> Result<Reply, Memory>
         requires line { length line.now ≤ longest_line }
         requires room { is_too_much (running self.old) line.now ≡ false }
@@ -104,6 +105,7 @@ impl Progress {
     /// The reply to an event, which this line of at most 8,400 bytes spells. `Refused::Much` comes
     /// exactly where it is event 20,001, or where the event lines and the snapshots issued have more
     /// than 268,435,456 bytes; it isn't run then.
+    #[inline(always)]
     pub fn reply_to_event(&mut self, line: &[u8], event: &Event) -> Result<Reply, ReplyFault>
         requires { length line.now ≤ longest_line }
         ensures answers { AnswersEvent (running self.old) (running self.new) line.now

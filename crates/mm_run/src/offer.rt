@@ -28,6 +28,7 @@ impl OfferedBytes<'_> {
 }
 
 /// The bytes that are offered, by the issued snapshots. None exactly where the number isn't issued.
+#[inline(always)]
 pub fn offered<'a>(
     alloc: Global,
     issued: &'a [Bytes],
@@ -45,6 +46,7 @@ pub fn offered<'a>(
 }
 
 // The issued snapshot with this number.
+#[inline(always)]
 fn issued_at(issued: &[Bytes], number: usize) -> Option<&[u8]>
     ensures { option_copied result ≡ slice_get issued.now number }
 {
@@ -54,6 +56,7 @@ fn issued_at(issued: &[Bytes], number: usize) -> Option<&[u8]>
     }
 }
 
+#[inline(always)]
 fn lent(issued: &[Bytes], number: usize) -> Option<OfferedBytes<'_>>
     ensures { option_map bytes_in result ≡ slice_get issued.now number }
 {

@@ -10,6 +10,7 @@ use crate::reply::{Reply, Way};
 use mm_base::{Bytes, Memory, put_decimal};
 
 /// Puts one line of a reply with its LF at the end.
+#[inline(always)]
 pub fn put_line(reply: &Reply, index: usize, into: &mut Bytes) -> Result<(), Memory>
     requires index { index < length (lines_of_reply reply.now) }
     requires printable { IsPrintable reply.now }
@@ -48,6 +49,7 @@ pub fn put_end(committed: u64, issued: u32, into: &mut Bytes) -> Result<(), Memo
 }
 
 /// Puts two words and an LF at the end.
+#[inline(always)]
 fn put_words(first: &[u8], second: &[u8], into: &mut Bytes) -> Result<(), Memory>
     ensures { OnOk result (into.new ≡ into.old ++ (first.now ++ second.now ++ 10 ∷ [])) }
 {
@@ -67,6 +69,7 @@ fn put_kept(way: Way, position: u64, into: &mut Bytes) -> Result<(), Memory>
 }
 
 /// Puts the line of a position and its output.
+#[inline(always)]
 fn put_told(again: bool, position: u64, output: &[u8], into: &mut Bytes) -> Result<(), Memory>
     ensures { OnOk result (into.new ≡ into.old ++ told_line again position output.now) }
 {

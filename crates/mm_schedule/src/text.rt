@@ -100,6 +100,7 @@ fn call_in(stop: Stop, line: &[u8]) -> Option<EventText<'_>>
 
 /// The offer that a line begins with, and what follows the space behind it. None where it begins with none.
 #[tactic(auto, unfolding(crate::specs::Grammar::offer_at, crate::specs::GrammarWords::flip_at))]
+#[inline(always)]
 pub fn offer_in(line: &[u8]) -> Option<(OfferText<'_>, &[u8])>
     ensures { option_map (λ (x : _). (texts.offer_of x.0, x.1.now)) result ≡ offer_at line.now }
 {
@@ -144,6 +145,7 @@ fn raw_in(line: &[u8]) -> Option<(OfferText<'_>, &[u8])>
 /// At most one stop, and what follows it; quiet where the line begins with none of their words. None where such a
 /// word has no right step behind it.
 #[tactic(auto, unfolding(crate::specs::Grammar::stop_at))]
+#[inline(always)]
 pub fn stop_in(line: &[u8]) -> Option<(Stop, &[u8])>
     ensures { option_map (λ (x : _). (x.0, x.1.now)) result ≡ stop_at line.now }
 {
@@ -238,11 +240,7 @@ fn meddle_in(line: &[u8], least: u8) -> Option<(Meddle, &[u8])>
 }
 
 /// The event with these meddles and bytes of its own.
-pub fn owned(
-    alloc: Global,
-    meddles: &Meddles,
-    event: EventText<'_>,
-) -> Result<Event, EventFault>
+pub fn owned(alloc: Global, meddles: &Meddles, event: EventText<'_>) -> Result<Event, EventFault>
     ensures own { IfOk result
         (λ own. event_of own ≡ texts.event_in (meddles_of meddles.now) event.entry) }
     ensures memory { IfErr result (λ fault. fault ≡ EventFault.Memory) }
@@ -286,6 +284,7 @@ pub fn owned(
 }
 
 /// The offer with bytes of its own.
+#[inline(always)]
 pub fn owned_offer(alloc: Global, offer: OfferText<'_>) -> Result<Offer, Memory>
     ensures { IfOk result (λ own. own ≡ texts.offer_of offer.entry) }
 {

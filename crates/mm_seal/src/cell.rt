@@ -77,6 +77,7 @@ pub fn cell_bytes(cell: &Cell) -> [u8; CELL_LENGTH]
 /// The cell that these bytes are. Blank exactly on 104 zero bytes, Cell exactly on bytes that are
 /// neither blank nor a cell's.
 #[tactic(auto, unfolding(crate::specs::Cell::blank_cell))]
+#[inline(always)]
 pub fn read_cell(bytes: &[u8; CELL_LENGTH]) -> Result<Cell, CellFault>
     ensures { ReadsCell bytes.now result }
 {

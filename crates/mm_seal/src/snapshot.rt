@@ -132,6 +132,7 @@ pub fn seal(alloc: Global, key: &[u8; 32], body: &Body<'_>) -> Result<Bytes, Mem
 
 /// The same, under a key that is absorbed.
 #[tactic(auto, unfolding(crate::specs::Snapshot::sealed_of))]
+#[inline(always)]
 pub fn seal_under(alloc: Global, key: &HmacKey, body: &Body<'_>) -> Result<Bytes, Memory>
     requires position { body.now.position ≤ last_position }
     requires state { length body.now.state.now ≤ limit_of body.now.module }
@@ -199,6 +200,7 @@ fn head_of(body: &Body<'_>) -> [u8; 6]
 /// Takes an offer apart, and borrows its state. Form exactly where the bytes are no snapshot's, Kind
 /// exactly where they are one of another variant or module. Takes no memory.
 #[tactic(auto, using(crate::proofs::SnapshotLaws::one_spelling))]
+#[inline(always)]
 pub fn parts(bytes: &[u8], variant: Variant, id: u8) -> Result<Offered<'_>, PartsFault>
     ensures reads { ReadsParts bytes.now variant id result }
     ensures parts { result ≡ parts_of variant id bytes.now }
@@ -249,6 +251,7 @@ fn is_of_kind(offered: &Offered<'_>, variant: Variant, id: u8) -> bool
 }
 
 // The snapshot that these bytes spell.
+#[inline(always)]
 fn offered_in(bytes: &[u8]) -> Option<Offered<'_>>
     ensures { MatchOption result (IsNoSnapshot bytes.now) (Spells bytes.now) }
 {
@@ -262,6 +265,7 @@ fn offered_in(bytes: &[u8]) -> Option<Offered<'_>>
 }
 
 // The content that these bytes are the front of.
+#[inline(always)]
 fn body_of(front: &[u8]) -> Option<Body<'_>>
     ensures { MatchOption result (SpellsNoContent front.now)
         (λ body. SpellsContent front.now (content_of body)) }

@@ -181,6 +181,7 @@ impl World {
     }
 
     // Follows an event that asks for a batch.
+    #[inline(always)]
     fn follow_ask(
         &mut self,
         meddles: &[Meddle],
