@@ -32,7 +32,7 @@ impl Meddles {
     ghost use Rattle.mm_schedule.specs.Events.{meddles_of};
 
     /// None.
-    pub(crate) fn none() -> Meddles
+    pub fn none() -> Meddles
         ensures { meddles_of result ≡ [] }
     {
         let nothing = Meddle {

@@ -21,5 +21,5 @@ pub use print::{print_line, print_told, reply_lines};
 pub use put::{put_end, put_line};
 pub use read::read_event;
 pub use reply::{Cause, Reply, Way};
-pub use text::{OfferText, meddles_in, offer_in, owned_offer, stop_in};
+pub use text::{EventText, OfferText, event_in, meddles_in, offer_in, owned_offer, stop_in};
 pub use words::{after, is_text, number_in, spells_bytes, value_in, word_in};

@@ -14,7 +14,7 @@ use mm_digest::{Digest, Variant};
 use mm_module::Batch;
 use mm_platform::{Meddle, MemPlatform, Stop};
 use mm_run::{world_barrier, world_key};
-use mm_schedule::{Event, Header, Offer, Reply};
+use mm_schedule::{Event, EventText, Header, Meddles, Offer, OfferText, Reply, owned_offer};
 use std::alloc::Global;
 use std::marker::Model;
 
@@ -62,7 +62,8 @@ impl World {
     ghost use Rattle.std.specs.Prelude.{◌≡◌, ◌<◌, ◌≤◌, ◌+◌, ◌-◌, ◌^◌, IfOk, OnErr, length, slice_get, option_copied};
     ghost use Rattle.mm_base.specs.Limits.{most_members};
     ghost use Rattle.mm_module.specs.Batches.{batch_of};
-    ghost use Rattle.mm_schedule.specs.Events.{Ask, Checkpoint, Power, Extend, event_of};
+    ghost use Rattle.mm_schedule.specs.Events.{Ask, Checkpoint, Power, Extend, event_of, meddles_of};
+    ghost use Rattle.mm_schedule.specs.Texts as texts;
     ghost use Rattle.mm_schedule.specs.Replies.{IsPrintable};
     ghost use Rattle.mm_seal.specs.Cell.{cell_spelling};
     ghost use Rattle.mm_model.specs.History.{first_history};
@@ -114,6 +115,72 @@ impl World {
             ≤ self.old.digests.count + most_members }
     {
         self.follow(event)
+    }
+
+    /// Follows one event as it lies in its line, with its meddles, and answers it, as `event` does.
+    pub fn event_in_line(&mut self, meddles: &Meddles, text: EventText<'_>) -> Result<Reply, Memory>
+        requires { length self.old.issued < 2 ^ 32 - 1 }
+        ensures ok { IfOk result (Follows
+            (outcome_in self.old (texts.event_in (meddles_of meddles.now) text.entry))
+            self.old self.new) }
+        ensures wants { OnErr result
+            (Wants (texts.event_in (meddles_of meddles.now) text.entry) self.old self.new) }
+        ensures printable { IfOk result IsPrintable }
+        ensures grows { length self.new.issued ≤ length self.old.issued + 1 }
+        ensures few { (outcome_in self.old
+            (texts.event_in (meddles_of meddles.now) text.entry)).state.count
+            ≤ self.old.digests.count + most_members }
+    {
+        self.follow_in_line(meddles, text)
+    }
+
+    // Follows one event as it lies in its line, by its kind.
+    fn follow_in_line(&mut self, meddles: &Meddles, text: EventText<'_>) -> Result<Reply, Memory>
+        requires { length self.old.issued < 2 ^ 32 - 1 }
+        ensures ok { IfOk result (Follows
+            (outcome_in self.old (texts.event_in (meddles_of meddles.now) text.entry))
+            self.old self.new) }
+        ensures memory { OnErr result
+            (Wants (texts.event_in (meddles_of meddles.now) text.entry) self.old self.new) }
+    {
+        match text {
+            EventText::Ask {
+                stop,
+                from,
+                request,
+            } => self.follow_offer(listed(meddles), stop, from, Batch::One(request)),
+            EventText::Batch {
+                stop,
+                from,
+                members,
+            } => self.follow_offer(listed(meddles), stop, from, Batch::Many(members)),
+            EventText::Checkpoint { stop } => self.follow_checkpoint(listed(meddles), stop),
+            EventText::Power => Ok(self.follow_power()),
+            EventText::Extend { value } => self.follow_extend(&value),
+        }
+    }
+
+    // Follows an event that asks for a batch, with the offer that lies in its line.
+    fn follow_offer(
+        &mut self,
+        meddles: &[Meddle],
+        stop: Stop,
+        from: OfferText<'_>,
+        batch: Batch<'_>,
+    ) -> Result<Reply, Memory>
+        requires { length self.old.issued < 2 ^ 32 - 1 }
+        ensures ok { IfOk result (Follows (outcome_in self.old
+            (Ask meddles.now stop (texts.offer_of from.entry) (batch_of batch.entry)))
+            self.old self.new) }
+        ensures memory { OnErr result
+            (Wants (Ask meddles.now stop (texts.offer_of from.entry) (batch_of batch.entry))
+            self.old self.new) }
+    {
+        let alloc = *self.issued.allocator();
+        match owned_offer(alloc, from) {
+            Err(memory) => Err(memory),
+            Ok(offer) => self.follow_ask(meddles, stop, &offer, batch),
+        }
     }
 
     // Follows one event, by its kind.
