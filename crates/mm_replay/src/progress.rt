@@ -8,7 +8,7 @@ use crate::put::put_reply;
 use crate::report::Report;
 use mm_base::{Bytes, MOST_EVENTS, Memory};
 use mm_play::{Refused, ReplyFault};
-use mm_schedule::{Event, EventFault, Header, Reply, put_end, read_event};
+use mm_schedule::{Event, EventText, Header, Meddles, Reply, event_in, put_end};
 use mm_world::World;
 use std::alloc::Global;
 
@@ -52,7 +52,8 @@ pub struct Progress {
 impl Progress {
     ghost use Rattle.mm_replay.specs.Progress.{running, AnswersEvent};
     ghost use Rattle.mm_replay.specs.Schedule.{begun, is_too_much, event_answer, InEvents, after_event, running_outcome};
-    ghost use Rattle.mm_schedule.specs.Events.{event_of};
+    ghost use Rattle.mm_schedule.specs.Events.{event_of, meddles_of};
+    ghost use Rattle.mm_schedule.specs.Texts as texts;
     ghost use Rattle.mm_schedule.specs.Grammar.{event_at};
     ghost use Rattle.mm_schedule.specs.Replies.{IsPrintable, end_line};
     ghost use Rattle.mm_play.specs.Takes.{GivesReply};
@@ -102,6 +103,31 @@ impl Progress {
         Ok(reply)
     }
 
+    // Plays an event as it lies in this line, with its meddles, and counts it and its line.
+    #[inline(always)]
+    fn play_in_line(
+        &mut self,
+        line: &[u8],
+        meddles: &Meddles,
+        text: EventText<'_>,
+    ) -> Result<Reply, Memory>
+        requires line { length line.now ≤ longest_line }
+        requires room { is_too_much (running self.old) line.now ≡ false }
+        ensures reply { IfOk result (λ reply. reply ≡ (running_outcome (running self.old)
+            (texts.event_in (meddles_of meddles.now) text.entry)).reply) }
+        ensures printable { IfOk result IsPrintable }
+        ensures after { OnOk result (running self.new ≡ after_event (running self.old) line.now
+            (texts.event_in (meddles_of meddles.now) text.entry)) }
+    {
+        let size = line.len() as u64;
+        let before = self.world.issued();
+        let reply = self.world.event_in_line(meddles, text)?;
+        self.issued += snapshot_length(&self.world, before);
+        self.events += 1;
+        self.read += size;
+        Ok(reply)
+    }
+
     /// The reply to an event, which this line of at most 8,400 bytes spells. `Refused::Much` comes
     /// exactly where it is event 20,001, or where the event lines and the snapshots issued have more
     /// than 268,435,456 bytes; it isn't run then.
@@ -127,29 +153,56 @@ impl Progress {
         ensures { GivesReply (event_answer (running self.old) line.now (event_at line.now))
             (InEvents (running self.new)) result }
     {
-        match &read_event(alloc, line) {
-            Ok(event) => self.reply_text(alloc, line, event),
-            Err(EventFault::Memory) => Err(ReplyFault::Memory),
-            Err(EventFault::Bad) => Err(ReplyFault::Refused(Refused::Bad)),
+        let mut meddles = Meddles::none();
+        match event_in(line, &mut meddles) {
+            Some(text) => self.reply_in_line(alloc, line, &meddles, text),
+            None => Err(ReplyFault::Refused(Refused::Bad)),
         }
     }
 
-    // The reply to an event, which this line spells, as text.
-    fn reply_text(&mut self, alloc: Global, line: &[u8], event: &Event) -> Result<Bytes, ReplyFault>
+    // The reply to an event as it lies in this line, with its meddles, as text.
+    fn reply_in_line(
+        &mut self,
+        alloc: Global,
+        line: &[u8],
+        meddles: &Meddles,
+        text: EventText<'_>,
+    ) -> Result<Bytes, ReplyFault>
         requires { length line.now ≤ longest_line }
-        ensures { GivesReply (event_answer (running self.old) line.now (Some (event_of event.now)))
+        ensures { GivesReply (event_answer (running self.old) line.now
+            (Some (texts.event_in (meddles_of meddles.now) text.entry)))
             (InEvents (running self.new)) result }
     {
-        let reply = match self.reply_to_event(line, event) {
+        if !self.is_full(line) {
+            return self.written_reply(alloc, line, meddles, text);
+        }
+        Err(ReplyFault::Refused(Refused::Much))
+    }
+
+    // The same, where there is room for the event.
+    fn written_reply(
+        &mut self,
+        alloc: Global,
+        line: &[u8],
+        meddles: &Meddles,
+        text: EventText<'_>,
+    ) -> Result<Bytes, ReplyFault>
+        requires line { length line.now ≤ longest_line }
+        requires room { is_too_much (running self.old) line.now ≡ false }
+        ensures { GivesReply (event_answer (running self.old) line.now
+            (Some (texts.event_in (meddles_of meddles.now) text.entry)))
+            (InEvents (running self.new)) result }
+    {
+        let reply = match self.play_in_line(line, meddles, text) {
             Ok(reply) => reply,
-            Err(fault) => return Err(fault),
-        };
-        let mut text = match Bytes::with_capacity(alloc, USUAL_REPLY) {
-            Ok(text) => text,
             Err(_) => return Err(ReplyFault::Memory),
         };
-        match put_reply(&reply, &mut text) {
-            Ok(()) => Ok(text),
+        let mut written = match Bytes::with_capacity(alloc, USUAL_REPLY) {
+            Ok(written) => written,
+            Err(_) => return Err(ReplyFault::Memory),
+        };
+        match put_reply(&reply, &mut written) {
+            Ok(()) => Ok(written),
             Err(_) => Err(ReplyFault::Memory),
         }
     }

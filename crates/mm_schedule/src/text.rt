@@ -19,6 +19,7 @@ use mm_platform::{Meddle, Stop};
 use std::alloc::Global;
 
 /// An offer as it lies in its line; the word of `Raw` spells bytes.
+#[derive(Drop)]
 pub enum OfferText<'a> {
     Number(u32),
     Last,
@@ -27,6 +28,7 @@ pub enum OfferText<'a> {
 }
 
 /// An event as it lies in its line, but for its meddles.
+#[derive(Drop)]
 pub enum EventText<'a> {
     Ask {
         stop: Stop,
