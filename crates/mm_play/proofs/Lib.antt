@@ -4,3 +4,4 @@ pub mod Turning
 pub mod Stands
 pub mod Telling
 pub mod Completing
+pub mod Events

@@ -22,7 +22,7 @@ not_ok fault player clash = cc
 pub ok_same : {P : Type 0} (a b : P) → (let r : Result P ReplayFault = Ok a in r ≡ Ok b) → a ≡ b
 ok_same a b same = cc
 
-told_is : {P : Type 0} (t : Told P) (written : List ℕ) (outcome : Result P ReplayFault) → t.written ≡ written → t.outcome ≡ outcome
+pub told_is : {P : Type 0} (t : Told P) (written : List ℕ) (outcome : Result P ReplayFault) → t.written ≡ written → t.outcome ≡ outcome
     → t ≡ told written outcome
 told_is t written outcome w o = λ i. told (w i) (o i)
 

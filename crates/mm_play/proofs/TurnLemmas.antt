@@ -1,19 +1,18 @@
 -- A line is answered, or the input ends, by what the reader read and what the player did.
 use Rattle.std.proofs.Common.{◌≡◌, ◌∙◌, ◌<◌, ◌+◌, ℕ, Bool, true, false, List, [], ◌∷◌, ◌++◌, length, take, drop, Result, Ok, Err, Option, refl, sym, ap, subst, append_assoc, arith, inl, inr, length-take, take-append-drop}
-use Rattle.std.specs.Io.KnownBytes.{IsAtEnd}
 use Rattle.mm_base.specs.Lines.{MayGrow}
 use Rattle.mm_base.specs.Next.{NextLine}
 use Rattle.mm_base.specs.declared.lines.LineFault.{LineFault}
 use Rattle.mm_base.specs.declared.lines.LineFault.TheVariants as fault
 use Rattle.mm_base.specs.declared.lines.Read.{Read}
-use Rattle.mm_base.specs.declared.lines.Read.TheVariants.{Line, Tail, End}
+use Rattle.mm_base.specs.declared.lines.Read.TheVariants.{Line, Tail}
 use Rattle.mm_base.specs.declared.replay_fault.ReplayFault.{ReplayFault}
 use Rattle.mm_base.specs.declared.replay_fault.ReplayFault.TheVariants.{Memory, ReadFault, WriteFault, BadLine, LineLong, TooMuch}
 use Rattle.mm_base.specs.Limits.{longest_line}
 use Rattle.mm_play.specs.declared.player.Refused.{Refused}
-use Rattle.mm_play.specs.Play.{stopped, closed, run_from}
-use Rattle.mm_play.specs.Turns.{Answers, EndsInput, PlayedOn, Advances}
-use Rattle.mm_play.proofs.Runs.{run_from-refused, run_from-long, run_from-end, run_from-tail}
+use Rattle.mm_play.specs.Play.{stopped, run_from}
+use Rattle.mm_play.specs.Turns.{Answers, PlayedOn, Advances}
+use Rattle.mm_play.proofs.Runs.{run_from-refused, run_from-long, run_from-tail}
 
 -- a line and what follows it, in one grouping
 line_first : (held taken line held' : List ℕ) → held ++ taken ≡ (line ++ 10 ∷ []) ++ held' → held ++ taken ≡ line ++ 10 ∷ held'

@@ -4,3 +4,4 @@ pub mod Plays
 pub mod Turns
 pub mod Tells
 pub mod Counting
+pub mod Events

@@ -43,7 +43,7 @@ use Rattle.mm_slots.specs.declared.slot.Slot.{Slot as CodeSlot}
 use Rattle.mm_slots.specs.Slot.{Turned, Asks, Closes, slot_instance, plays, merely, flying, beginning, begun, acted, acted_by, joined}
 use Rattle.mm_slots.specs.Held.{digests_in, slot_in, flight_in, call_in, instance_in, FitsFlight, Fits, Comes, Loses, flown, HasRegister, within_64}
 use Rattle.mm_slots.proofs.Fitting.{settled, idle, mine_are}
-use Rattle.mm_slots.proofs.Stepping.{flight_of, plan_is, asking_of, closing_of}
+use Rattle.mm_slots.proofs.Planned.{flight_of, plan_is, asking_of, closing_of}
 
 -- what is said by whether a call is in flight
 

@@ -2,6 +2,7 @@ pub mod Powering
 pub mod Alone
 pub mod Running
 pub mod Fitting
+pub mod Planned
 pub mod Stepping
 pub mod Beginning
 pub mod Rowing

@@ -1,7 +1,5 @@
 -- The call in flight of a slot: its next step, a step that breaks it off, a value that comes, a loss of power.
-use Rattle.std.proofs.Common.{◌≡◌, ◌∙◌, ◌+◌, ◌^◌, ◌<◌, ℕ, Bool, true, false, cond, List, [], ◌∷◌, ◌++◌, map, length, Option, None, Some, IsSome, Ok, Err, refl, sym, ap, subst, arith, ◌⊎◌, inl, inr}
-use Rattle.std.specs.Prelude.{vec_capacity}
-use Rattle.std.specs.Option.{option_map_or}
+use Rattle.std.proofs.Common.{◌≡◌, ◌∙◌, ◌+◌, ◌^◌, ◌<◌, ℕ, Bool, true, false, cond, List, [], ◌∷◌, ◌++◌, map, length, None, Some, IsSome, Ok, Err, refl, sym, ap, subst, arith, ◌⊎◌, inl, inr}
 use Rattle.std.specs.List.{sum_by}
 use Rattle.std.proofs.lemmas.Bool.{eq-eqb}
 use Rattle.mm_base.specs.declared.fault.Memory.{Memory}
@@ -12,7 +10,7 @@ use Rattle.mm_platform.specs.declared.plan.Stop.{Stop}
 use Rattle.mm_platform.specs.declared.plan.Stop.TheVariants.{Quiet}
 use Rattle.mm_platform.specs.Standing.{Plan, Standing, next_step}
 use Rattle.mm_platform.specs.Steps.{fault_at}
-use Rattle.mm_platform.specs.Told.{next_plan, quiet_plan}
+use Rattle.mm_platform.specs.Told.{next_plan}
 use Rattle.mm_seal.specs.declared.cell.Cell.{Cell}
 use Rattle.mm_seal.specs.Cell.{cell_spelling}
 use Rattle.mm_model.specs.Instance.{Instance}
@@ -34,7 +32,6 @@ use Rattle.mm_world.specs.declared.call.Called.{Called}
 use Rattle.mm_world.specs.Asks.{Lacks, quiet_as}
 use Rattle.mm_schedule.specs.declared.reply.Reply.{Reply}
 use Rattle.mm_world.specs.Calls.{stopped_step}
-use Rattle.mm_world.specs.Held.{digest_in, flag_in}
 use Rattle.mm_world.specs.Stands.{Stands}
 use Rattle.mm_steps.specs.Stopping.{BreaksNext, is_nothing, stop_behind}
 use Rattle.mm_steps.specs.Asking.{AsksInFlight, StepsAs, BreaksAs}
@@ -50,80 +47,12 @@ use Rattle.mm_slots.specs.declared.flight.Flight.TheVariants as code
 use Rattle.mm_slots.specs.declared.said.Said.{Said}
 use Rattle.mm_slots.specs.declared.said.Said.TheVariants.{Going}
 use Rattle.mm_slots.specs.declared.slot.Slot.{Slot as CodeSlot}
-use Rattle.mm_slots.specs.Slot.{Flight, Turned, outcome_in, plays, merely, flying, so_far, stepped, event_by, stop_at}
-use Rattle.mm_slots.specs.Held.{digests_in, slot_in, call_in, instance_in, FitsAsking, FitsClosing, Fits, GoesOn, Wants, Comes, flown, HasRegister, within_64, EndsCall}
+use Rattle.mm_slots.specs.Slot.{Turned, outcome_in, plays, merely, flying, so_far, stepped, event_by, stop_at}
+use Rattle.mm_slots.specs.Held.{digests_in, slot_in, call_in, instance_in, Fits, GoesOn, Wants, Comes, flown, HasRegister, within_64, EndsCall}
 use Rattle.mm_call.proofs.Walks.{seen_none}
 use Rattle.mm_world.proofs.Committing.{count_none}
 use Rattle.mm_slots.proofs.Fitting.{mine_are, settled, over_comes, same_instance}
-
--- the flight of a slot in the words of its fold
-abbrev pub flight_of : Standing → CodeFlight → Flight
-flight_of standing flight = record { call = call_in flight; meddles = (next_plan standing).meddles; next = (next_plan standing).at + 1 }
-
--- what the platform plans behind steps that were made
-pub plan_is : (standing : Standing) (plan : Plan) → standing.plan ≡ Some plan → next_plan standing ≡ plan
-plan_is standing plan e = ap (λ (p : Option Plan). option_map_or (λ x. x) p quiet_plan) e
-
--- a call that goes on has left the cell as it was, and is planned as before
-record GoesPlanned (old new : Standing) (meddles : List Meddle) (next : ℕ) : Type 0 where
-  cell : new.cell ≡ old.cell
-  plan : next_plan new ≡ record (plan_by Quiet meddles) { at = next }
-
-goes_planned : (old new from : Standing) (meddles : List Meddle) (made next : ℕ) → old.cell ≡ from.cell → new.cell ≡ from.cell
-    → new.plan ≡ Some (record (plan_by Quiet meddles) { at = made }) → next + 1 ≡ made + 1 → GoesPlanned old new meddles next
-goes_planned old new from meddles made next before now planned is =
-    let same : made ≡ next = omega (arith, is) in
-    record {
-      cell = now ∙ sym before;
-      plan =
-          plan_is new (record (plan_by Quiet meddles) { at = made }) planned
-          ∙ ap (λ (n : ℕ). record (plan_by Quiet meddles) { at = n }) same;
-    }
-
--- the digests of a slot whose platform has the same cell
-digests_kept : (old new : Standing) (slot : CodeSlot) (before after : Option CodeFlight) (keys : Unit {0}) → new.cell ≡ old.cell
-    → digests_in new (record slot { flight = after; keys = keys }) ≡ digests_in old (record slot { flight = before })
-digests_kept old new slot before after keys e = λ j. record {
-  digest = digest_in (e j);
-  flag = flag_in (e j);
-  register = slot.register.bytes;
-  count = slot.committed;
-}
-
--- a call that goes on stands as its fold says
-goes_comes : (slot : CodeSlot) (before after : CodeFlight) (keys : Unit {0}) (old new : Standing) (step : ℕ)
-    → call_in after ≡ call_in before → GoesPlanned old new (next_plan old).meddles ((next_plan old).at + 1)
-    → Fits new (record slot { flight = Some after; keys = keys }) → step ≡ (next_plan old).at + 1 + 1
-    → is_nothing (outcome_in (instance_in slot) (slot_in old (flown slot before)) (so_far (flight_of old before))).reply ≡ true
-    → Comes new (flown slot before) (record slot { flight = Some after; keys = keys })
-    (stepped (instance_in slot) (slot_in old (flown slot before)) (flight_of old before)) (Going step)
-goes_comes slot before after keys old new step same planned fits number nothing =
-    let s = slot_in old (flown slot before) in
-    let f = flight_of old before in
-    let i = instance_in slot in
-    let on : Turned = merely (flying s (record f { next = f.next + 1 })) (Going (f.next + 1)) in
-    let slot' = record slot { flight = Some after; keys = keys } in
-    let P : Bool → Type 0 = λ b. Comes new (flown slot before) slot' (cond b on (plays i s (so_far f))) (Going step) in
-    subst P (sym nothing) (record {
-      goes = record { fits = fits; header = refl; number = refl; few = omega arith; short = omega arith };
-      stands = λ j. record {
-        digests = digests_kept old new slot (Some before) (Some after) keys planned.cell j;
-        issued = slot.issued.items;
-        flight = Some (record { call = same j; meddles = (planned.plan j).meddles; next = (planned.plan j).at + 1 });
-      };
-      says = ap (λ (n : ℕ). Going n ∷ []) (sym number);
-      sayable = tt;
-    })
-
--- the slot fits the flight of a call that asks
-pub asking_of : (standing : Standing) (slot : CodeSlot) (asking : Asking) → Fits standing (flown slot (code.Asks asking))
-    → FitsAsking slot.header slot.number (digests_in standing (flown slot (code.Asks asking))) slot.issued.items (vec_capacity slot.issued)
-    standing asking
-asking_of standing slot asking f = f.flight
-
-pub closing_of : (standing : Standing) (slot : CodeSlot) (closing : Closing) → Fits standing (flown slot (code.Closes closing))
-    → FitsClosing slot.header slot.number (digests_in standing (flown slot (code.Closes closing))) standing closing
-closing_of standing slot closing f = f.flight
+use Rattle.mm_slots.proofs.Planned.{flight_of, goes_planned, digests_kept, goes_comes, asking_of, closing_of}
 
 -- a call that asks goes on
 pub ask_goes : (slot : CodeSlot) (asking : Asking) (call : AskCall) (keys : Unit {0}) (old new : Standing) (bytes request : List ℕ)

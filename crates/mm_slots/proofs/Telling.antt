@@ -6,8 +6,6 @@ use Rattle.std.specs.Option.{option_map}
 use Rattle.std.proofs.lemmas.Bool.Decides.{nat_tests}
 use Rattle.std.proofs.lemmas.List.{append_assoc}
 use Rattle.mm_base.specs.declared.replay_fault.ReplayFault.{ReplayFault}
-use Rattle.mm_base.specs.declared.replay_fault.ReplayFault.TheVariants.{LineLong}
-use Rattle.mm_base.specs.Limits.{longest_line}
 use Rattle.mm_modules.specs.Modules.{meaning_of}
 use Rattle.mm_digest.specs.declared.variant.Variant.{Variant}
 use Rattle.mm_digest.specs.declared.variant.Variant.TheVariants.{Basic, Opt}
@@ -18,23 +16,23 @@ use Rattle.mm_schedule.specs.Headers.{head_at}
 use Rattle.mm_schedule.specs.Words.{◌>>=◌, after_prefix, number_at}
 use Rattle.mm_schedule.specs.Machine.{Runs}
 use Rattle.mm_schedule.proofs.PromiseLaws.{promises-kept}
-use Rattle.mm_play.specs.declared.player.Refused.{Refused}
-use Rattle.mm_play.specs.declared.player.Refused.TheVariants.{Bad, Much}
-use Rattle.mm_play.specs.Play.{Told, told, stopped, refusal_at, answered, run, run_of, after_writing}
+use Rattle.mm_play.specs.declared.player.Refused.TheVariants.{Much}
+use Rattle.mm_play.specs.Events.{header_answer, behind, NoneIsOver, AreEvents}
+use Rattle.mm_play.specs.Play.{told, run, run_of}
 use Rattle.mm_play.specs.Plays.{Settles}
 use Rattle.mm_play.specs.Tells.{Answered, Finished, RefusesMuch}
-use Rattle.mm_play.proofs.Runs.{not_ok, ok_same}
+use Rattle.mm_play.proofs.Events.{none_answered, header_first, events_from, refused_over, ends_with}
 use Rattle.mm_play.proofs.Telling.{tells_by, tells_more}
 use Rattle.mm_run.specs.Held.{rising_from}
 use Rattle.mm_slots.specs.declared.event.SlotEvent.{SlotEvent}
 use Rattle.mm_slots.specs.Answers.{answers_text, end_lines}
 use Rattle.mm_slots.specs.Grammar.{first_at, event_at}
 use Rattle.mm_slots.specs.Laws.{SlotsRun}
-use Rattle.mm_slots.specs.Stage.{Running, begun, is_too_much, after_line, kept_in, SlotsStage, AtFirst, AtHeads, InEvents, first_answer, head_answer, are_to_come, behind_heads, event_answer, slots_answer, slots_closing}
-use Rattle.mm_slots.specs.Table.{Row, first_row, first_rows, answers, answers_to, met_by}
+use Rattle.mm_slots.specs.Stage.{begun, kept_in, SlotsStage, AtFirst, AtHeads, InEvents, first_answer, head_answer, are_to_come, behind_heads, slots_answer, slots_closing}
+use Rattle.mm_slots.specs.Table.{Row, first_row, first_rows, answers, met_by, after_events}
 use Rattle.mm_slots.specs.Headline.{own_fold, AreOwn, AreContinuous, AreWithinLimits, AnswersSlots, unended, AnswersLines, AnswersAll, IsTooMuch, IsOut}
 use Rattle.mm_slots.proofs.Alone.{alone, by_place_get}
-use Rattle.mm_slots.proofs.Answering.{AnswersFrom, answers_from, over_of, length-by_place}
+use Rattle.mm_slots.proofs.Answering.{playing, length-by_place, takes, follows}
 
 -- each slot's row at first
 first_at_place : (headers : List Header) (number : ℕ) (header : Header) → slice_get headers number ≡ Some header
@@ -62,9 +60,6 @@ continuous law headers events = λ number header front rest is split clear genui
     let ran = subst (λ m. Runs m [] it.events it.replies run.requests) (meaning_is header.variant meaning key barrier) run.runs in
     record { run = run; promised = promises-kept header.«module» it.events it.replies run.requests ran }
 
-outcome_is : (t u : Told SlotsStage) → t ≡ u → t.outcome ≡ u.outcome
-outcome_is t u h = ap (λ (x : Told SlotsStage). x.outcome) h
-
 -- The header lines were answered, from some headers on: and others are still to come, or the lines behind them are events.
 record HeadsFrom (count : ℕ) (before : List Header) (lines : List (List ℕ)) (written : List ℕ) (p : SlotsStage) : Type 0 where
   headers : List Header
@@ -80,19 +75,10 @@ record EventsFrom (count : ℕ) (before : List Header) (lines : List (List ℕ))
   split : lines ≡ heads ++ others
   headed : map head_at heads ≡ map Some headers
   full : length (before ++ headers) ≡ count
-  answers : AnswersFrom count (begun (before ++ headers)) others written p
+  answers : AreEvents playing (begun (before ++ headers)) others written p
 
 abbrev Headed : ℕ → List Header → List (List ℕ) → List ℕ → SlotsStage → Type 0
 Headed count before lines written p = HeadsFrom count before lines written p ⊎ EventsFrom count before lines written p
-
-abbrev rest_of : List (List ℕ) → ℕ → SlotsStage → Told SlotsStage
-rest_of lines number next = run slots_answer (number + 1) next lines
-
-said_first : (t : Told SlotsStage) (written : List ℕ) (p : SlotsStage) → after_writing [] t ≡ told written (Ok p) → t ≡ told written (Ok p)
-said_first t written p h = h
-
-not_stopped : (why : ReplayFault) (written : List ℕ) (p : SlotsStage) → stopped why ≡ told written (Ok p) → ⊥
-not_stopped why written p h = not_ok why p (outcome_is (stopped why) (told written (Ok p)) h)
 
 -- one more header in front
 heads_more : (count : ℕ) (before : List Header) (line : List ℕ) (lines : List (List ℕ)) (header : Header) (written : List ℕ)
@@ -113,15 +99,8 @@ heads_more count before line lines header written p is (inr e) = inr (record {
   headed = ap (λ first. first ∷ map head_at e.heads) is ∙ ap (λ others. Some header ∷ others) e.headed;
   full = subst (λ (x : List Header). length x ≡ count) (append_assoc before (header ∷ []) e.headers) e.full;
   answers =
-      subst (λ (x : List Header). AnswersFrom count (begun x) e.others written p) (append_assoc before (header ∷ []) e.headers) e.answers;
+      subst (λ (x : List Header). AreEvents playing (begun x) e.others written p) (append_assoc before (header ∷ []) e.headers) e.answers;
 })
-
--- the last header was the one before the events
-begins_events : (count : ℕ) (all : List Header) (lines : List (List ℕ)) (number : ℕ) (written : List ℕ) (p : SlotsStage)
-    → length all ≡ count → run slots_answer number (InEvents (begun all)) lines ≡ told written (Ok p)
-    → AnswersFrom count (begun all) lines written p
-begins_events count all lines number written p full h =
-    answers_from count lines number (begun all) written p (length-by_place first_row 0 all ∙ full) h
 
 length-push : (before : List Header) (header : Header) → length (before ++ header ∷ []) ≡ length before + 1
 length-push [] header = refl
@@ -135,8 +114,7 @@ headed_behind : (count : ℕ) (before : List Header) (line : List ℕ) (lines : 
     → (length (before ++ header ∷ []) < count
     → run slots_answer (number + 1) (AtHeads count (before ++ header ∷ [])) lines ≡ told written (Ok p)
     → Headed count (before ++ header ∷ []) lines written p)
-    → rest_of lines number (cond more (AtHeads count (before ++ header ∷ [])) (InEvents (begun (before ++ header ∷ [])))) ≡ told written
-    (Ok p)
+    → run slots_answer (number + 1) (cond more (AtHeads count (before ++ header ∷ [])) (InEvents (begun (before ++ header ∷ [])))) lines ≡ told written (Ok p)
     → Headed count before (line ∷ lines) written p
 headed_behind count before line lines number header written p true come room few is on h =
     let all = before ++ header ∷ [] in
@@ -155,51 +133,33 @@ headed_behind count before line lines number header written p false come room fe
       headed = refl;
       full = ap length (append-nil all) ∙ full;
       answers =
-          subst (λ (x : List Header). AnswersFrom count (begun x) lines written p) (sym (append-nil all))
-          (begins_events count all lines (number + 1) written p full h);
+          subst (λ (x : List Header). AreEvents playing (begun x) lines written p) (sym (append-nil all))
+          (events_from playing takes lines (number + 1) (begun all) written p h);
     }))
 
-headed_found : (count : ℕ) (before : List Header) (line : List ℕ) (lines : List (List ℕ)) (number : ℕ) (written : List ℕ) (p : SlotsStage)
-    (found : Option Header)
-    → head_at line ≡ found → length before < count → count ≤ 16
-    → ((header : Header) → length (before ++ header ∷ []) < count
-    → run slots_answer (number + 1) (AtHeads count (before ++ header ∷ [])) lines ≡ told written (Ok p)
-    → Headed count (before ++ header ∷ []) lines written p)
-    → answered (rest_of lines number) number (head_answer count before found) ≡ told written (Ok p)
-    → Headed count before (line ∷ lines) written p
-headed_found count before line lines number written p None is room few on h = absurd (not_stopped (refusal_at number Bad) written p h)
-headed_found count before line lines number written p (Some header) is room few on h =
-    headed_behind count before line lines number header written p (are_to_come count (before ++ header ∷ [])) refl room few is (on header)
-    (said_first (rest_of lines number (behind_heads count (before ++ header ∷ []))) written p h)
-
-headed_line : (count : ℕ) (before : List Header) (line : List ℕ) (lines : List (List ℕ)) (number : ℕ) (written : List ℕ) (p : SlotsStage)
-    (long : Bool)
-    → length before < count → count ≤ 16
-    → ((header : Header) → length (before ++ header ∷ []) < count
-    → run slots_answer (number + 1) (AtHeads count (before ++ header ∷ [])) lines ≡ told written (Ok p)
-    → Headed count (before ++ header ∷ []) lines written p)
-    → cond long (stopped (LineLong number)) (answered (rest_of lines number) number (head_answer count before (head_at line))) ≡ told
-    written (Ok p)
-    → Headed count before (line ∷ lines) written p
-headed_line count before line lines number written p true room few on h = absurd (not_stopped (LineLong number) written p h)
-headed_line count before line lines number written p false room few on h =
-    headed_found count before line lines number written p (head_at line) refl room few on h
+heads_by : (count : ℕ) (before : List Header) (found : Option Header)
+    → head_answer count before found ≡ header_answer (λ header. before ++ header ∷ []) (behind_heads count) found
+heads_by count before None = refl
+heads_by count before (Some header) = refl
 
 headed_from : (count : ℕ) (lines : List (List ℕ)) (number : ℕ) (before : List Header) (written : List ℕ) (p : SlotsStage)
     → length before < count → count ≤ 16
     → run slots_answer number (AtHeads count before) lines ≡ told written (Ok p) → Headed count before lines written p
-headed_from count [] number before written p room few h = inl (record {
-  headers = [];
-  headed = refl;
-  silent = sym (ap (λ (t : Told SlotsStage). t.written) h);
-  stands =
-      sym (ok_same (AtHeads count before) p (outcome_is (told [] (Ok (AtHeads count before))) (told written (Ok p)) h))
-      ∙ ap (AtHeads count) (sym (append-nil before));
-  fewer = subst (λ (x : List Header). length x < count) (sym (append-nil before)) room;
-})
+headed_from count [] number before written p room few h =
+    let none = none_answered slots_answer number (AtHeads count before) written p h in
+    inl (record {
+      headers = [];
+      headed = refl;
+      silent = none.0;
+      stands = none.1 ∙ ap (AtHeads count) (sym (append-nil before));
+      fewer = subst (λ (x : List Header). length x < count) (sym (append-nil before)) room;
+    })
 headed_from count (line ∷ lines) number before written p room few h =
-    headed_line count before line lines number written p (nat_lt longest_line (length line)) room few
-    (λ header fewer on. headed_from count lines (number + 1) (before ++ header ∷ []) written p fewer few on) h
+    let one = header_first slots_answer number (AtHeads count before) line lines written p (λ header. before ++ header ∷ [])
+    (behind_heads count) (head_at line) (heads_by count before (head_at line)) h in
+    let all = before ++ one.0 ∷ [] in
+    headed_behind count before line lines number one.0 written p (are_to_come count all) refl room few one.1
+    (λ fewer on. headed_from count lines (number + 1) all written p fewer few on) one.2
 
 -- the first line names 1 to 16 slots
 
@@ -239,40 +199,42 @@ record Opened (lines : List (List ℕ)) (written : List ℕ) (p : SlotsStage) : 
 abbrev Begun : List (List ℕ) → List ℕ → SlotsStage → Type 0
 Begun lines written p = ((lines ≡ []) × (written ≡ []) × (p ≡ AtFirst)) ⊎ Opened lines written p
 
-opened_found : (first : List ℕ) (others : List (List ℕ)) (written : List ℕ) (p : SlotsStage) (found : Option ℕ) → first_at first ≡ found
-    → answered (rest_of others 1) 1 (first_answer found) ≡ told written (Ok p) → Begun (first ∷ others) written p
-opened_found first others written p None is h = absurd (not_stopped (refusal_at 1 Bad) written p h)
-opened_found first others written p (Some count) is h =
-    let few = few_slots first count is in
-    inr (record {
-      first = first;
-      others = others;
-      count = count;
-      split = refl;
-      counted = is;
-      headed = headed_from count others (1 + 1) [] written p few.0 few.1 (said_first (rest_of others 1 (AtHeads count [])) written p h);
-    })
-
-opened_line : (first : List ℕ) (others : List (List ℕ)) (written : List ℕ) (p : SlotsStage) (long : Bool)
-    → cond long (stopped (LineLong 1)) (answered (rest_of others 1) 1 (first_answer (first_at first))) ≡ told written (Ok p)
-    → Begun (first ∷ others) written p
-opened_line first others written p true h = absurd (not_stopped (LineLong 1) written p h)
-opened_line first others written p false h = opened_found first others written p (first_at first) refl h
+first_by : (found : Option ℕ) → first_answer found ≡ header_answer (λ count. count) (λ count. AtHeads count []) found
+first_by None = refl
+first_by (Some count) = refl
 
 opened : (lines : List (List ℕ)) (written : List ℕ) (p : SlotsStage) → run slots_answer 1 AtFirst lines ≡ told written (Ok p)
     → Begun lines written p
-opened [] written p h = inl (
-  refl,
-  sym (ap (λ (t : Told SlotsStage). t.written) h),
-  sym (ok_same AtFirst p (outcome_is (told [] (Ok AtFirst)) (told written (Ok p)) h)),
-)
-opened (first ∷ others) written p h = opened_line first others written p (nat_lt longest_line (length first)) h
+opened [] written p h = let none = none_answered slots_answer 1 AtFirst written p h in inl (refl, none.0, none.1)
+opened (first ∷ others) written p h =
+    let one = header_first slots_answer 1 AtFirst first others written p (λ count. count) (λ count. AtHeads count []) (first_at first)
+    (first_by (first_at first)) h in
+    let few = few_slots first one.0 one.1 in
+    inr (record {
+      first = first;
+      others = others;
+      count = one.0;
+      split = refl;
+      counted = one.1;
+      headed = headed_from one.0 others (1 + 1) [] written p few.0 few.1 one.2;
+    })
 
 -- the limits, from the first event on
-within_limits : (headers : List Header) (others : List (List ℕ)) (written : List ℕ) (p : SlotsStage)
-    → AnswersFrom (length headers) (begun headers) others written p → AreWithinLimits headers others
-within_limits headers others written p a before line after events split read over =
-    a.within before line after events split read (elim over [ inl h ↦ inl (omega (arith, h)) | inr h ↦ inr (omega (arith, h)) ])
+sized : (headers : List Header) (lines : List (List ℕ))
+    → map (event_at (length headers)) lines ≡ map (event_at (length (first_rows headers))) lines
+sized headers lines = ap (λ (n : ℕ). map (event_at n) lines) (sym (length-by_place first_row 0 headers))
+
+kept_behind : (headers : List Header) (lines : List (List ℕ)) (events : List SlotEvent)
+    → map (event_at (length headers)) lines ≡ map Some events
+    → kept_in (behind playing (begun headers) lines events).rows ≡ kept_in (after_events (first_rows headers) events)
+kept_behind headers lines events read = ap kept_in (follows (event_at (length headers)) (begun headers) lines events read).rows
+
+within_limits : (headers : List Header) (others : List (List ℕ)) → NoneIsOver playing (begun headers) others
+    → AreWithinLimits headers others
+within_limits headers others within before line after events split read over =
+    let kept = kept_behind headers before events read in
+    within before line after events split (sym (sized headers before) ∙ read)
+    (elim over [ inl h ↦ inl (omega (arith, h)) | inr h ↦ inr (omega (arith, h, kept)) ])
 
 -- these lines were answered: what was written, and what any last lines add
 answers_slots : SlotsRun
@@ -280,28 +242,27 @@ answers_slots : SlotsRun
     (p : SlotsStage)
     (last : List Row → List ℕ) → lines ≡ first ∷ heads ++ others → first_at first ≡ Some (length headers)
     → map head_at heads ≡ map Some headers
-    → (a : AnswersFrom (length headers) (begun headers) others said p) → written ≡ said ++ last a.last.rows
+    → (a : AreEvents playing (begun headers) others said p)
+    → written ≡ said ++ last (behind playing (begun headers) others a.events).rows
     → AnswersSlots lines written last
-answers_slots law first heads others headers lines said written p last split counted headed a whole = record {
-  first = first;
-  heads = heads;
-  others = others;
-  headers = headers;
-  events = a.events;
-  split = split;
-  counted = counted;
-  headed = headed;
-  read = a.read;
-  told = whole ∙ ap (λ (w : List ℕ). w ++ last a.last.rows) a.sent
-      ∙ ap (λ (rows : List Row). answers_text (answers (first_rows headers) a.events) ++ last rows) a.rows;
-  within = within_limits headers others said p a;
-  own = own headers a.events;
-  headline = continuous law headers a.events;
-}
-
--- the same, by the number of slots
-abbrev SizedFrom : ℕ → List Header → List (List ℕ) → List ℕ → SlotsStage → Type 0
-SizedFrom count headers others written p = AnswersFrom count (begun headers) others written p
+answers_slots law first heads others headers lines said written p last split counted headed a whole =
+    let f = follows (event_at (length (first_rows headers))) (begun headers) others a.events a.read in
+    record {
+      first = first;
+      heads = heads;
+      others = others;
+      headers = headers;
+      events = a.events;
+      split = split;
+      counted = counted;
+      headed = headed;
+      read = sized headers others ∙ a.read;
+      told = whole ∙ ap (λ (w : List ℕ). w ++ last (behind playing (begun headers) others a.events).rows) (a.sent ∙ f.sent)
+          ∙ ap (λ (rows : List Row). answers_text (answers (first_rows headers) a.events) ++ last rows) f.rows;
+      within = within_limits headers others a.within;
+      own = own headers a.events;
+      headline = continuous law headers a.events;
+    }
 
 answers_lines : SlotsRun → (lines : List (List ℕ)) (written : List ℕ) → Answered slots_answer AtFirst lines written
     → AnswersLines lines written
@@ -322,10 +283,9 @@ answers_lines law lines written a = by_begun (opened lines written a.0 a.1)
       h.silent,
     )
     by_headed o (inr e) =
-        let answers = subst (λ (n : ℕ). SizedFrom n e.headers e.others written a.0) (sym e.full) e.answers in
         inr (answers_slots law o.first e.heads e.others e.headers lines written written a.0 unended
         (o.split ∙ ap (λ (x : List (List ℕ)). o.first ∷ x) e.split)
-        (o.counted ∙ ap Some (sym e.full)) e.headed answers (sym (append-nil written)))
+        (o.counted ∙ ap Some (sym e.full)) e.headed e.answers (sym (append-nil written)))
 
     by_begun : Begun lines written a.0 → AnswersLines lines written
     by_begun (inl none) = inl (inl none.0, none.1)
@@ -343,12 +303,6 @@ closes_heads AtFirst last count headers is h = cc
 closes_heads (AtHeads n hs) last count headers is h = cc
 closes_heads (InEvents r) last count headers is h = cc
 
-closes_with : (r : Running) (p : SlotsStage) (last : List ℕ) → p ≡ InEvents r → slots_closing p ≡ Some last → last ≡ end_lines 0 r.rows
-closes_with r p last is h = some_same (sym h ∙ ap slots_closing is)
-  where
-    some_same : Some last ≡ Some (end_lines 0 r.rows) → last ≡ end_lines 0 r.rows
-    some_same e = cc
-
 answers_all : SlotsRun → (lines : List (List ℕ)) (written : List ℕ) → Finished slots_answer slots_closing AtFirst lines written
     → AnswersAll lines written
 answers_all law lines written f = by_begun (opened lines f.said f.next f.ran)
@@ -356,11 +310,12 @@ answers_all law lines written f = by_begun (opened lines f.said f.next f.ran)
     by_headed : (o : Opened lines f.said f.next) → Headed o.count [] o.others f.said f.next → AnswersAll lines written
     by_headed o (inl h) = absurd (closes_heads f.next f.last o.count h.headers h.stands f.closed)
     by_headed o (inr e) =
-        let answers = subst (λ (n : ℕ). SizedFrom n e.headers e.others f.said f.next) (sym e.full) e.answers in
+        let stands = behind playing (begun e.headers) e.others e.answers.events in
         answers_slots law o.first e.heads e.others e.headers lines f.said written f.next (end_lines 0)
         (o.split ∙ ap (λ (x : List (List ℕ)). o.first ∷ x) e.split)
-        (o.counted ∙ ap Some (sym e.full)) e.headed answers
-        (f.whole ∙ ap (λ (l : List ℕ). f.said ++ l) (closes_with answers.last f.next f.last answers.stands f.closed))
+        (o.counted ∙ ap Some (sym e.full)) e.headed e.answers
+        (f.whole ∙ ap (λ (l : List ℕ). f.said ++ l)
+        (ends_with playing.among slots_closing (λ r. end_lines 0 r.rows) stands f.next f.last refl e.answers.stands f.closed))
 
     by_begun : Begun lines f.said f.next → AnswersAll lines written
     by_begun (inl none) = absurd (closes_none f.next f.last none.2 f.closed)
@@ -375,17 +330,6 @@ head_refuses : (count : ℕ) (headers : List Header) (found : Option Header) →
 head_refuses count headers None h = cc
 head_refuses count headers (Some header) h = cc
 
-full_event : (r : Running) (line : List ℕ) (event : SlotEvent) (much : Bool)
-    → (let a : Result (List ℕ × SlotsStage) Refused = cond much (Err Much)
-    (Ok (answers_text (answers_to r.rows event), InEvents (after_line r line event))) in a ≡ Err Much)
-    → much ≡ true
-full_event r line event true h = refl
-full_event r line event false h = cc
-
-refuses_event : (r : Running) (line : List ℕ) (found : Option SlotEvent) → event_answer r line found ≡ Err Much → is_too_much r line ≡ true
-refuses_event r line None h = cc
-refuses_event r line (Some event) h = full_event r line event (is_too_much r line) h
-
 -- the next event is one too many
 too_much : (done rest : List (List ℕ)) → RefusesMuch slots_answer AtFirst done rest → IsTooMuch done rest
 too_much done rest m = by_begun (opened done m.said m.next m.ran)
@@ -394,9 +338,9 @@ too_much done rest m = by_begun (opened done m.said m.next m.ran)
     by_headed o (inl h) =
         absurd (head_refuses o.count h.headers (head_at m.line) (ap (λ (p : SlotsStage). slots_answer p m.line) (sym h.stands) ∙ m.refused))
     by_headed o (inr e) =
-        let a = subst (λ (n : ℕ). SizedFrom n e.headers e.others m.said m.next) (sym e.full) e.answers in
-        let full = refuses_event a.last m.line (event_at (length a.last.rows) m.line)
-        (ap (λ (p : SlotsStage). slots_answer p m.line) (sym a.stands) ∙ m.refused) in
+        let a = e.answers in
+        let read = sized e.headers e.others ∙ a.read in
+        let kept = kept_behind e.headers e.others a.events read in
         record {
           first = o.first;
           heads = e.heads;
@@ -408,11 +352,11 @@ too_much done rest m = by_begun (opened done m.said m.next m.ran)
           split = o.split ∙ ap (λ (x : List (List ℕ)). o.first ∷ x) e.split;
           counted = o.counted ∙ ap Some (sym e.full);
           headed = e.headed;
-          read = a.read;
+          read = read;
           follows = m.follows;
-          over = elim (over_of a.last m.line full) [
-            | inl over ↦ inl (omega (arith, over, a.counted))
-            | inr over ↦ inr (omega (arith, over, a.bytes, ap kept_in a.rows))
+          over = elim (refused_over playing takes (begun e.headers) e.others m.said m.next m.line a m.refused) [
+            | inl many ↦ inl (omega (arith, many))
+            | inr large ↦ inr (omega (arith, large, kept))
           ];
         }
 

@@ -62,8 +62,8 @@ AreWithinLimits headers lines =
 
 -- The lines are the first one, a header line for each slot, and events. What is written is the
 -- answers to the events, and then the last lines.
-pub record AnswersSlots (lines : List (List ℕ)) (written : List ℕ) (last : List Row → List ℕ) : Type
-    0 where
+pub record AnswersSlots (lines : List (List ℕ)) (written : List ℕ)
+    (last : List Row → List ℕ) : Type 0 where
   pub first : List ℕ
   pub heads : List (List ℕ)
   pub others : List (List ℕ)

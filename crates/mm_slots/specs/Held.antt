@@ -112,8 +112,8 @@ abbrev pub HasRegister : Standing → CodeSlot → Type 0
 HasRegister standing slot = register_reads standing ≡ Some slot.register.bytes
 
 -- A call of the slot is over that came to this, and the slot is as it leaves it.
-pub record EndsCall (standing : Standing) (it : Called) (slot slot' : CodeSlot) (said : Said) : Type
-    0 where
+pub record EndsCall (standing : Standing) (it : Called) (slot slot' : CodeSlot)
+    (said : Said) : Type 0 where
   pub header : slot'.header ≡ slot.header
   pub number : slot'.number ≡ slot.number
   pub flight : slot'.flight ≡ slot.flight

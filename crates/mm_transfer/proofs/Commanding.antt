@@ -40,7 +40,7 @@ use Rattle.mm_transfer.specs.declared.side.Side.{Side as CodeSide}
 use Rattle.mm_transfer.specs.OneSide.{link_of, role_of, role_in, at_by, at_in, waiting_on, StandsAs, within_64, FitsSide}
 use Rattle.mm_transfer.specs.Planned.{written_if, ended_as, MakesMove, moves_at}
 use Rattle.mm_transfer.specs.RoleCells.{waiting_at, retired_at, cell_of_role, cell_after, refusal_of, next_if, Matches, FitsRole, FitsCell}
-use Rattle.mm_transfer.proofs.Matching.{read_as, role_read, is_waiting}
+use Rattle.mm_transfer.proofs.SideCells.{read_as, role_read, is_waiting}
 
 -- an instance by its variant
 

@@ -4,6 +4,7 @@ pub mod SideEvents
 pub mod Answering
 pub mod Telling
 pub mod Playing
+pub mod SideCells
 pub mod Matching
 pub mod Planning
 pub mod Commanding
@@ -12,5 +13,7 @@ pub mod Plainly
 pub mod Sidewise
 pub mod Commanded
 pub mod Formed
+pub mod Leaving
 pub mod Retiring
+pub mod Entering
 pub mod Accepting

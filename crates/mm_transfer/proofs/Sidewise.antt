@@ -20,7 +20,7 @@ use Rattle.mm_transfer.specs.declared.side.Side.{Side as CodeSide}
 use Rattle.mm_transfer.specs.OneSide.{link_of, within_64}
 use Rattle.mm_transfer.specs.RoleCells.{cell_of_role, FitsRole, FitsCell}
 use Rattle.mm_transfer.proofs.Commanding.{cell_if, Came, KeepsFor, IsSide, side_is}
-use Rattle.mm_transfer.proofs.Matching.{fits_linked}
+use Rattle.mm_transfer.proofs.SideCells.{fits_linked}
 
 -- others change the register alone
 

@@ -1,15 +1,13 @@
 -- From a run over lines to what the lines of two sides are answered.
-use Rattle.std.proofs.Common.{◌≡◌, ◌∙◌, ◌+◌, ℕ, Bool, true, false, cond, List, [], ◌∷◌, ◌++◌, length, nat_lt, Result, Ok, Err, Option, None, Some, refl, sym, ap, subst, append-nil, arith, inl, inr, ◌⊎◌}
+use Rattle.std.proofs.Common.{◌≡◌, ◌∙◌, ℕ, List, [], ◌∷◌, ◌++◌, Result, Option, refl, sym, ap, subst, append-nil, arith, inl, inr}
 use Rattle.mm_base.specs.declared.replay_fault.ReplayFault.{ReplayFault}
-use Rattle.mm_base.specs.declared.replay_fault.ReplayFault.TheVariants.{LineLong}
-use Rattle.mm_base.specs.Limits.{longest_line}
 use Rattle.mm_model.specs.History.{History, requests_of}
 use Rattle.mm_model.specs.Moves.{Digests}
-use Rattle.mm_play.specs.declared.player.Refused.TheVariants.{Bad, Much}
-use Rattle.mm_play.specs.Play.{Told, told, stopped, refusal_at, answered, run, run_of}
+use Rattle.mm_play.specs.Events.{behind, NoneIsOver, AreHeaded}
+use Rattle.mm_play.specs.Play.{run, run_of}
 use Rattle.mm_play.specs.Plays.{Settles}
 use Rattle.mm_play.specs.Tells.{Answered, Finished, RefusesMuch}
-use Rattle.mm_play.proofs.Runs.{not_ok, ok_same}
+use Rattle.mm_play.proofs.Events.{answered_headed, finished_headed, much_headed, ends_with}
 use Rattle.mm_play.proofs.Telling.{tells_by, tells_more}
 use Rattle.mm_schedule.specs.declared.header.Header.{Header}
 use Rattle.mm_schedule.specs.Machine.{Runs}
@@ -23,9 +21,9 @@ use Rattle.mm_sides.specs.Premises.{IsClearPair, IsGenuinePair, IsFreshPair}
 use Rattle.mm_transfer.specs.Answers.{answers_text}
 use Rattle.mm_transfer.specs.Grammar.{first_at, event_at}
 use Rattle.mm_transfer.specs.Pairs.{pair_of}
-use Rattle.mm_transfer.specs.Stage.{Running, begun, kept_in, is_too_much, TransferStage, AtHeader, InEvents, first_answer, answered_unless, event_answer, transfer_answer, both_end_line, transfer_closing}
+use Rattle.mm_transfer.specs.Stage.{begun, kept_in, TransferStage, AtHeader, transfer_answer, both_end_line, transfer_closing}
 use Rattle.mm_transfer.specs.Headline.{IsOneTransfer, IsContinuous, IsWithinLimits, AnswersEvents, unended, AnswersLines, AnswersAll, IsTooMuch, IsOut}
-use Rattle.mm_transfer.proofs.Answering.{AnswersFrom, answers_from, over_of}
+use Rattle.mm_transfer.proofs.Answering.{playing, takes, begins, follows}
 
 -- the laws of both sides
 pub record SideLaws : Type 0 where
@@ -76,65 +74,22 @@ continuous laws header events front rest split =
     )
 
 -- The first line was answered, and the lines behind it.
-record HeadedFrom (lines : List (List ℕ)) (written : List ℕ) (p : TransferStage) : Type 0 where
-  first : List ℕ
-  others : List (List ℕ)
-  header : Header
-  split : lines ≡ first ∷ others
-  headed : first_at first ≡ Some header
-  answers : AnswersFrom (begun header) others written p
-
--- a run over lines that were all answered: there is none, or the first names a header
 abbrev Headed : List (List ℕ) → List ℕ → TransferStage → Type 0
-Headed lines written p = ((lines ≡ []) × (written ≡ []) × (p ≡ AtHeader)) ⊎ HeadedFrom lines written p
-
-outcome_is : (t u : Told TransferStage) → t ≡ u → t.outcome ≡ u.outcome
-outcome_is t u h = ap (λ (x : Told TransferStage). x.outcome) h
-
-headed_found : (first : List ℕ) (others : List (List ℕ)) (written : List ℕ) (p : TransferStage) (found : Option Header)
-    → first_at first ≡ found
-    → answered (λ next. run transfer_answer (1 + 1) next others) 1 (first_answer found) ≡ told written (Ok p)
-    → Headed (first ∷ others) written p
-headed_found first others written p None is h =
-    absurd (not_ok (refusal_at 1 Bad) p (outcome_is (stopped (refusal_at 1 Bad)) (told written (Ok p)) h))
-headed_found first others written p (Some header) is h = inr (record {
-  first = first;
-  others = others;
-  header = header;
-  split = refl;
-  headed = is;
-  answers = answers_from others (1 + 1) (begun header) written p h;
-})
-
-headed_line : (first : List ℕ) (others : List (List ℕ)) (written : List ℕ) (p : TransferStage) (long : Bool)
-    → cond long (stopped (LineLong 1)) (answered (λ next. run transfer_answer (1 + 1) next others) 1
-    (first_answer (first_at first))) ≡ told written (Ok p)
-    → Headed (first ∷ others) written p
-headed_line first others written p true h =
-    absurd (not_ok (LineLong 1) p (outcome_is (stopped (LineLong 1)) (told written (Ok p)) h))
-headed_line first others written p false h = headed_found first others written p (first_at first) refl h
-
-headed : (lines : List (List ℕ)) (written : List ℕ) (p : TransferStage)
-    → run transfer_answer 1 AtHeader lines ≡ told written (Ok p) → Headed lines written p
-headed [] written p h = inl (
-  refl,
-  sym (ap (λ (t : Told TransferStage). t.written) h),
-  sym (ok_same AtHeader p (outcome_is (told [] (Ok AtHeader)) (told written (Ok p)) h)),
-)
-headed (first ∷ others) written p h = headed_line first others written p (nat_lt longest_line (length first)) h
+Headed lines written p = AreHeaded playing first_at begun lines written p
 
 -- the limits, from the first line on
-within_limits : (header : Header) (others : List (List ℕ)) (written : List ℕ) (p : TransferStage)
-    → AnswersFrom (begun header) others written p → IsWithinLimits header others
-within_limits header others written p a before line after events split read over =
-    a.within before line after events split read (elim over [ inl h ↦ inl (omega (arith, h)) | inr h ↦ inr (omega (arith, h)) ])
+within_limits : (header : Header) (others : List (List ℕ)) → NoneIsOver playing (begun header) others → IsWithinLimits header others
+within_limits header others within before line after events split read over =
+    let kept = ap kept_in (follows (begun header) before events read).both in
+    within before line after events split read (elim over [ inl h ↦ inl (omega (arith, h)) | inr h ↦ inr (omega (arith, h, kept)) ])
 
 -- these lines were answered: what was written, and what any last line adds
 answers_events : (laws : SideLaws) (lines : List (List ℕ)) (said written : List ℕ) (p : TransferStage) (last : Both Digests ℕ → List ℕ)
-    (h : HeadedFrom lines said p)
-    → written ≡ said ++ last h.answers.last.both → AnswersEvents lines written last
+    (h : Headed lines said p)
+    → written ≡ said ++ last (behind playing (begun h.header) h.others h.answers.events).both → AnswersEvents lines written last
 answers_events laws lines said written p last h whole =
     let a = h.answers in
+    let f = follows (begun h.header) h.others a.events a.read in
     let it : BothFollowed Digests ℕ = both_by_digests (pair_of h.header) a.events in
     record {
       first = h.first;
@@ -144,81 +99,47 @@ answers_events laws lines said written p last h whole =
       split = h.split;
       headed = h.headed;
       read = a.read;
-      told = whole ∙ ap (λ (w : List ℕ). w ++ last a.last.both) a.sent
-          ∙ ap (λ (both : Both Digests ℕ). answers_text a.events it.replies ++ last both) a.both;
-      within = within_limits h.header h.others said p a;
+      told = whole ∙ ap (λ (w : List ℕ). w ++ last (behind playing (begun h.header) h.others a.events).both) (a.sent ∙ f.sent)
+          ∙ ap (λ (both : Both Digests ℕ). answers_text a.events it.replies ++ last both) f.both;
+      within = within_limits h.header h.others a.within;
       headline = continuous laws h.header a.events;
     }
 
 answers_lines : (laws : SideLaws) (lines : List (List ℕ)) (written : List ℕ)
     → Answered transfer_answer AtHeader lines written → AnswersLines lines written
-answers_lines laws lines written a = elim (headed lines written a.0 a.1) [
-  | inl none ↦ inl (none.0, none.1)
+answers_lines laws lines written a = elim (answered_headed playing takes first_at begun AtHeader begins lines written a) [
+  | inl none ↦ inl none
   | inr h ↦ inr (answers_events laws lines written written a.0 unended h (sym (append-nil written)))
 ]
 
--- the last line needs the first one
-closes_none : (p : TransferStage) (last : List ℕ) → p ≡ AtHeader → transfer_closing p ≡ Some last → ⊥
-closes_none AtHeader last is h = cc
-closes_none (InEvents r) last is h = cc
-
-closes_with : (r : Running) (p : TransferStage) (last : List ℕ) → p ≡ InEvents r → transfer_closing p ≡ Some last
-    → last ≡ both_end_line r.both
-closes_with r p last is h = some_same (sym h ∙ ap transfer_closing is)
-  where
-    some_same : Some last ≡ Some (both_end_line r.both) → last ≡ both_end_line r.both
-    some_same e = cc
-
 answers_all : (laws : SideLaws) (lines : List (List ℕ)) (written : List ℕ)
     → Finished transfer_answer transfer_closing AtHeader lines written → AnswersAll lines written
-answers_all laws lines written f = elim (headed lines f.said f.next f.ran) [
-  | inl none ↦ absurd (closes_none f.next f.last none.2 f.closed)
-  | inr h ↦ answers_events laws lines f.said written f.next both_end_line h
-      (f.whole ∙ ap (λ (l : List ℕ). f.said ++ l) (closes_with h.answers.last f.next f.last h.answers.stands f.closed))
-]
-
--- the first line is no event too many
-header_refuses : (found : Option Header) → first_answer found ≡ Err Much → ⊥
-header_refuses None h = cc
-header_refuses (Some header) h = cc
-
-full_event : (r : Running) (line : List ℕ) (event : BothEvent) (much : Bool) → answered_unless much r line event ≡ Err Much
-    → much ≡ true
-full_event r line event true h = refl
-full_event r line event false h = cc
-
-refuses_event : (r : Running) (line : List ℕ) (found : Option BothEvent) → event_answer r line found ≡ Err Much → is_too_much r line ≡ true
-refuses_event r line None h = cc
-refuses_event r line (Some event) h = full_event r line event (is_too_much r line) h
+answers_all laws lines written f =
+    let h = finished_headed playing takes first_at begun AtHeader begins transfer_closing refl lines written f in
+    let stands = behind playing (begun h.header) h.others h.answers.events in
+    answers_events laws lines f.said written f.next both_end_line h
+    (f.whole ∙ ap (λ (l : List ℕ). f.said ++ l)
+    (ends_with playing.among transfer_closing (λ r. both_end_line r.both) stands f.next f.last refl h.answers.stands f.closed))
 
 -- the next event is one too many
 too_much : (done rest : List (List ℕ)) → RefusesMuch transfer_answer AtHeader done rest → IsTooMuch done rest
-too_much done rest m = elim (headed done m.said m.next m.ran) [
-  | inl none ↦ absurd (header_refuses (first_at m.line) (ap (λ (p : TransferStage). transfer_answer p m.line) (sym none.2) ∙ m.refused))
-  | inr h ↦ behind h
-]
-  where
-    behind : HeadedFrom done m.said m.next → IsTooMuch done rest
-    behind h =
-        let a = h.answers in
-        let full = refuses_event a.last m.line (event_at m.line)
-        (ap (λ (p : TransferStage). transfer_answer p m.line) (sym a.stands) ∙ m.refused) in
-        record {
-          first = h.first;
-          others = h.others;
-          header = h.header;
-          events = a.events;
-          line = m.line;
-          more = m.more;
-          split = h.split;
-          headed = h.headed;
-          read = a.read;
-          follows = m.follows;
-          over = elim (over_of a.last m.line full) [
-            | inl over ↦ inl (omega (arith, over, a.counted))
-            | inr over ↦ inr (omega (arith, over, a.bytes, ap kept_in a.both))
-          ];
-        }
+too_much done rest m =
+    let much = much_headed playing takes first_at begun AtHeader begins done rest m in
+    let h = much.headed in
+    let kept = ap kept_in (follows (begun h.header) h.others h.answers.events h.answers.read).both in
+    record {
+      first = h.first;
+      others = h.others;
+      header = h.header;
+      events = h.answers.events;
+      line = much.line;
+      more = much.more;
+      split = h.split;
+      headed = h.headed;
+      read = h.answers.read;
+      follows = much.follows;
+      over = elim much.over [ inl many ↦ inl (omega (arith, many)) | inr large ↦ inr (omega (arith, large, kept)) ];
+    }
 
 -- What is out tells the events.
 pub tells : {T : Type 0} (laws : SideLaws) (next : TransferStage) (left : Option (List ℕ)) (taken sent : List ℕ)

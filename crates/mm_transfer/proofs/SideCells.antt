@@ -1,0 +1,108 @@
+-- What a side's cell reads as, by its role.
+use Rattle.std.proofs.Common.{◌≡◌, ℕ, Bool, true, false, List, length, Result, Ok, Err, refl, sym, ap, ◌∙◌}
+use Rattle.std.specs.Prelude.{◌==◌, ◌&&◌, not, if◌then◌else◌}
+use Rattle.std.specs.Str.{bytes_eq}
+use Rattle.mm_digest.specs.declared.variant.Variant.{Variant}
+use Rattle.mm_digest.specs.declared.variant.Variant.TheVariants as variants
+use Rattle.mm_seal.specs.declared.cell.CellFault.{CellFault}
+use Rattle.mm_seal.specs.declared.cell.CellFault.TheVariants as fault
+use Rattle.mm_seal.specs.Cell.{FitsVariant, blank_cell}
+use Rattle.mm_seal.specs.PartsWords.{same_variant}
+use Rattle.mm_model.specs.Instance.{Instance}
+use Rattle.mm_model.specs.Moves.{Digests}
+use Rattle.mm_model.specs.declared.refusal.Refusal.TheVariants as core
+use Rattle.mm_call.specs.Standing.{cell_at}
+use Rattle.mm_move.specs.declared.cell.MovedCell.{MovedCell}
+use Rattle.mm_move.specs.declared.cell.MovedCell.TheVariants as moved
+use Rattle.mm_move.specs.declared.link.Link.{Link}
+use Rattle.mm_move.specs.declared.ready.Ready.{Ready}
+use Rattle.mm_move.specs.declared.refusal.MoveRefusal.{MoveRefusal}
+use Rattle.mm_move.specs.declared.refusal.MoveRefusal.TheVariants as refusal
+use Rattle.mm_move.specs.Cells.{IsWaiting, moved_of}
+use Rattle.mm_move.specs.Orders.{barrier_of, is_barred, is_other}
+use Rattle.mm_move.specs.Orders as orders
+use Rattle.mm_move.specs.Refusals.{refuse_if}
+use Rattle.mm_move.proofs.Parts.{bytes_are, bytes_tell, eq_is}
+use Rattle.mm_move.proofs.CellLaws.{moved_back, blank_read}
+use Rattle.mm_sides.specs.Roles.{Role, Blank, Live, Waiting as Waits, Retired as Left}
+use Rattle.mm_sides.specs.Moves.{MoveCause, FoundMove}
+use Rattle.mm_transfer.specs.RoleCells.{waiting_at, retired_at, cell_of_role, refusal_of, Matches, FitsCell}
+
+-- what a side's cell reads as
+abbrev pub read_as : Instance → Role → Digests → Result MovedCell CellFault
+read_as i Blank d = Err fault.Blank
+read_as i Live d = Ok (moved.Live (cell_at i d))
+read_as i (Waits nonce) d = Ok (moved.Waiting (waiting_at i nonce))
+read_as i (Left nonce) d = Ok (moved.Retired (retired_at i d nonce))
+
+pub fits_linked : (v : Variant) (barrier : List ℕ) (link : Link) → barrier_of v link ≡ barrier → FitsVariant v false barrier
+fits_linked variants.Basic barrier link e = (refl, sym e)
+fits_linked variants.Opt barrier link e = tt
+
+pub is_waiting : (i : Instance) (link : Link) (nonce : List ℕ) → length i.key ≡ 32 → length i.barrier ≡ 32
+    → barrier_of i.variant link ≡ i.barrier
+    → length nonce ≡ 32 → IsWaiting (waiting_at i nonce)
+is_waiting i link nonce key barrier linked size =
+    record { nonce = size; key = key; barrier = barrier; variant = fits_linked i.variant i.barrier link linked }
+
+pub role_read : (i : Instance) (link : Link) (role : Role) (d : Digests) → FitsCell i link role d
+    → moved_of (cell_of_role i role d) ≡ read_as i role d
+role_read i link Blank d fit = sym (blank_read blank_cell (bytes_are blank_cell blank_cell refl))
+role_read i link Live d fit =
+    moved_back (moved.Live (cell_at i d)) (record { summary = fit.fits.1; key = fit.key; barrier = fit.barrier; variant = fit.fits.0 })
+role_read i link (Waits nonce) d fit =
+    moved_back (moved.Waiting (waiting_at i nonce)) (is_waiting i link nonce fit.key fit.barrier fit.linked fit.fits.1)
+role_read i link (Left nonce) d fit =
+    moved_back (moved.Retired (retired_at i d nonce)) (record { summary = fit.fits.2; key = fit.key; nonce = fit.fits.1 })
+
+-- tests that come out one way, and two choices by one test
+
+pub same_is : (v : Variant) → same_variant v v ≡ true
+same_is variants.Basic = refl
+same_is variants.Opt = refl
+
+pub no_other : (v : Variant) (id : ℕ) → is_other v id v id ≡ false
+no_other v id = ap (λ (x : Bool). not (x && (id == id))) (same_is v) ∙ ap not (eq_is id id refl)
+
+pub not_barred : (v : Variant) (barrier : List ℕ) (link : Link) → barrier_of v link ≡ barrier → is_barred v barrier link ≡ false
+not_barred variants.Basic barrier link e = refl
+not_barred variants.Opt barrier link e = ap not (bytes_are barrier link.barrier (sym e))
+
+pub same_tests : (a b : Bool) → (a ≡ true → b ≡ true) → (b ≡ true → a ≡ true) → a ≡ b
+same_tests true true p q = refl
+same_tests true false p q = sym (p refl)
+same_tests false true p q = q refl
+same_tests false false p q = refl
+
+pub eq_turned : (xs ys : List ℕ) → bytes_eq xs ys ≡ bytes_eq ys xs
+eq_turned xs ys =
+    same_tests (bytes_eq xs ys) (bytes_eq ys xs) (λ e. bytes_are ys xs (sym (bytes_tell xs ys e)))
+    (λ e. bytes_are xs ys (sym (bytes_tell ys xs e)))
+
+module _ {A : Type 0} (gives : FoundMove → A → Type 0) (i : Instance) (d : Digests) where
+  -- one is refused where the other goes on
+  pub by_not : (one other : Bool) (why : MoveRefusal) (rest : Result (Ready A) MoveRefusal) (found : Result FoundMove MoveCause)
+      (cause : MoveCause)
+      → one ≡ other → Matches gives i d rest found → why ≡ refusal_of cause
+      → Matches gives i d (refuse_if (not one) why rest) (if other then found else Err cause)
+  by_not true true why rest found cause e m r = m
+  by_not true false why rest found cause e m r = cc
+  by_not false true why rest found cause e m r = cc
+  by_not false false why rest found cause e m r = r
+
+  pub by_both : (one : Bool) (why : MoveRefusal) (rest : Result (Ready A) MoveRefusal) (found : Result FoundMove MoveCause) (cause : MoveCause)
+      → why ≡ refusal_of cause → (one ≡ false → Matches gives i d rest found)
+      → Matches gives i d (refuse_if one why rest) (if one then Err cause else found)
+  by_both true why rest found cause r m = r
+  by_both false why rest found cause r m = m refl
+
+  -- no other module's cell, and no other barrier
+  pub past : (one : Bool) (why : MoveRefusal) (rest : Result (Ready A) MoveRefusal) (found : Result FoundMove MoveCause) → one ≡ false
+      → Matches gives i d rest found → Matches gives i d (refuse_if one why rest) found
+  past true why rest found e m = cc
+  past false why rest found e m = m
+
+  pub is_refused : (one : Bool) (why : MoveRefusal) (rest : Result (Ready A) MoveRefusal) (cause : MoveCause) → one ≡ false
+      → why ≡ refusal_of cause → Matches gives i d (refuse_if (not one) why rest) (Err cause)
+  is_refused true why rest cause e r = cc
+  is_refused false why rest cause e r = r
