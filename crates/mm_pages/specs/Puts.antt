@@ -88,8 +88,8 @@ pub record FillsSlot (slot count : ℕ) (bytes : List ℕ) (old new : Option Slo
   pub fills : (told : Slots) → old ≡ Some told → IsFilled count bytes (slot_in told slot) left
 
 -- the first pages of a write
-pub record PutsFirst (slot count : ℕ) (bytes : List ℕ) (old new : Paged) (rows after : Rows) : Type
-    0 where
+pub record PutsFirst (slot count : ℕ) (bytes : List ℕ) (old new : Paged)
+    (rows after : Rows) : Type 0 where
   pub honest : new.is_honest ≡ old.is_honest
   pub faults : new.faults ≡ old.faults
   pub lengths : new.length_writes ≡ old.length_writes

@@ -1,7 +1,7 @@
 use Rattle.std.proofs.Common.{arith, true, false, Ok}
 use Rattle.std.proofs.lemmas.Result.{err_from_is_err_and}
 use Rattle.mm_pages.specs.Puts.{HoldsPage}
-use Rattle.mm_pages.proofs.WritingLaws.{look_failed, put_held, put_written}
+use Rattle.mm_pages.proofs.PageLaws.{look_failed, put_held, put_written}
 use Rattle.mm_pages.proofs.writing.put_page.Goals as goal
 
 pub returns-in_err-holds_page : goal.returns-in_err-holds_page
