@@ -1,5 +1,5 @@
 -- A transfer takes events line by line; what stands behind them is what both sides come to.
-use Rattle.std.proofs.Common.{◌≡◌, ◌∙◌, ℕ, List, [], ◌∷◌, ◌++◌, map, Option, None, Some, refl, ap, arith}
+use Rattle.std.proofs.Common.{◌≡◌, ℕ, List, [], ◌∷◌, ◌++◌, map, Option, None, Some, refl, ap, arith}
 use Rattle.mm_model.specs.Moves.{Digests}
 use Rattle.mm_play.specs.Events.{EventPlayer, TakesEvents, event_answer as answer_by, header_answer, behind, replies}
 use Rattle.mm_replay.specs.Schedule.{most_kept}

@@ -11,9 +11,7 @@ use Rattle.mm_sides.specs.Roles.{Role, Effect, Invites, Leaves, Enters, is_live}
 use Rattle.mm_sides.specs.Both.{Which, Pair}
 use Rattle.mm_sides.specs.Moves.{MoveCause, FoundMove}
 use Rattle.mm_sides.specs.Folds.{effect_if}
-use Rattle.mm_transfer.specs.declared.reply.MoveReply.TheVariants as reply
 use Rattle.mm_transfer.proofs.Commanding.{KeepsFor, made_if}
-use Rattle.mm_transfer.proofs.Commanding as commanding
 use Rattle.mm_transfer.proofs.Matching.{IsFor}
 use Rattle.mm_transfer.proofs.Plainly.{AcceptsPlainly, EntersFor}
 use Rattle.mm_transfer.proofs.Sidewise.{role_then, at_then, away_then, FitsEffect}

@@ -10,17 +10,14 @@ use Rattle.mm_seal.specs.Cell.{FitsVariant, blank_cell}
 use Rattle.mm_seal.specs.PartsWords.{same_variant}
 use Rattle.mm_model.specs.Instance.{Instance}
 use Rattle.mm_model.specs.Moves.{Digests}
-use Rattle.mm_model.specs.declared.refusal.Refusal.TheVariants as core
 use Rattle.mm_call.specs.Standing.{cell_at}
 use Rattle.mm_move.specs.declared.cell.MovedCell.{MovedCell}
 use Rattle.mm_move.specs.declared.cell.MovedCell.TheVariants as moved
 use Rattle.mm_move.specs.declared.link.Link.{Link}
 use Rattle.mm_move.specs.declared.ready.Ready.{Ready}
 use Rattle.mm_move.specs.declared.refusal.MoveRefusal.{MoveRefusal}
-use Rattle.mm_move.specs.declared.refusal.MoveRefusal.TheVariants as refusal
 use Rattle.mm_move.specs.Cells.{IsWaiting, moved_of}
 use Rattle.mm_move.specs.Orders.{barrier_of, is_barred, is_other}
-use Rattle.mm_move.specs.Orders as orders
 use Rattle.mm_move.specs.Refusals.{refuse_if}
 use Rattle.mm_move.proofs.Parts.{bytes_are, bytes_tell, eq_is}
 use Rattle.mm_move.proofs.CellLaws.{moved_back, blank_read}

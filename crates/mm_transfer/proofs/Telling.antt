@@ -19,7 +19,7 @@ use Rattle.mm_sides.specs.Folds.{BothEvent, BothReply, BothFollowed, both_outcom
 use Rattle.mm_sides.specs.Laws.{IsOneFrom, PairsAgreeThroughout, OneIsLive, SidesRunAsOne, PairsGoOn, plain_events, plain_replies, history_now}
 use Rattle.mm_sides.specs.Premises.{IsClearPair, IsGenuinePair, IsFreshPair}
 use Rattle.mm_transfer.specs.Answers.{answers_text}
-use Rattle.mm_transfer.specs.Grammar.{first_at, event_at}
+use Rattle.mm_transfer.specs.Grammar.{first_at}
 use Rattle.mm_transfer.specs.Pairs.{pair_of}
 use Rattle.mm_transfer.specs.Stage.{begun, kept_in, TransferStage, AtHeader, transfer_answer, both_end_line, transfer_closing}
 use Rattle.mm_transfer.specs.Headline.{IsOneTransfer, IsContinuous, IsWithinLimits, AnswersEvents, unended, AnswersLines, AnswersAll, IsTooMuch, IsOut}

@@ -8,6 +8,7 @@ ghost use Rattle.mm_run.specs.Offered.{offered_bytes};
 ghost use Rattle.mm_schedule.specs.declared.header.Header.{Header};
 ghost use Rattle.mm_move.specs.declared.link.Link.{Link};
 ghost use Rattle.mm_sides.specs.Both.{key_of};
+ghost use Rattle.mm_sides.specs.Both as both;
 ghost use Rattle.mm_sides.specs.Moves.{Invite, Retire, Accept};
 ghost use Rattle.mm_sides.specs.Roles.{is_live};
 ghost use Rattle.mm_transfer.specs.declared.between.Between.{Between};
@@ -18,14 +19,14 @@ ghost use Rattle.mm_transfer.specs.Pairs.{pair_of};
 
 use crate::between::{Between, either};
 use crate::event::{Command, Which};
-use crate::moving::{has_moved, planned_accept, planned_invite, planned_retire, refused};
+use crate::moving::{Course, has_moved, planned_accept, planned_invite, planned_retire, refused};
 use crate::reply::MoveReply;
 use crate::side::Side;
 use mm_base::{Bytes, CELL_LENGTH, Memory};
 use mm_digest::Digest;
 use mm_module::Module;
 use mm_move::{Accepted, Invited, Link, MoveRefusal, MovedCell, read_moved};
-use mm_platform::{Meddle, MemPlatform, Stop};
+use mm_platform::{MemPlatform, Stop};
 use mm_run::{offered, rising, world_barrier, world_key};
 use mm_schedule::{Header, Offer};
 use std::alloc::Global;
@@ -101,10 +102,9 @@ fn invite(
     which: Which,
     here: &mut Side,
     nonce: &[u8; 32],
-    meddles: &[Meddle],
-    stop: Stop,
+    course: &Course<'_>,
 ) -> Result<MoveReply, Memory>
-    ensures { (between : Between) → Commands (pair_of header.now) (which_of which) meddles.now stop
+    ensures { (between : Between) → Commands (pair_of header.now) (which_of which) course.now.meddles.now course.now.stop
         (Invite nonce.now) here.old here.new between between result }
 {
     keep_digest(here);
@@ -115,10 +115,9 @@ fn invite(
         header.module.id(),
         nonce,
         &key_on(which),
-        meddles,
-        stop,
+        course,
     );
-    invited(stop, came)
+    invited(course.stop, came)
 }
 
 // Retires the platform with the snapshot that the offer names.
@@ -129,26 +128,23 @@ fn try_retire(
     issued: &[Bytes],
     nonce: &[u8; 32],
     offer: &Offer,
-    meddles: &[Meddle],
-    stop: Stop,
+    course: &Course<'_>,
 ) -> Result<Option<Result<Bytes, MoveRefusal>>, Memory>
     ensures { (link : Link) → link ≡ link_of (pair_of header.now) → Tried (λ bytes cell.
-        retires_in (meaning_of header.now.«module») header.now.variant link nonce.now bytes (moved_of cell)) stop meddles.now
-        (offered_bytes issued.now offer.now) platform.old platform.new result }
+        retires_in (meaning_of header.now.«module») header.now.variant link nonce.now bytes (moved_of cell)) course.now.stop
+        course.now.meddles.now (offered_bytes issued.now offer.now) platform.old platform.new result }
 {
     match offered(alloc, issued, offer) {
         Err(memory) => Err(memory),
         Ok(None) => Ok(None),
         Ok(Some(offered)) => Ok(Some(planned_retire(
             alloc,
-            &header.module,
-            header.variant,
+            header,
             platform,
             &link(),
             nonce,
             offered.bytes(),
-            meddles,
-            stop,
+            course,
         ))),
     }
 }
@@ -157,16 +153,14 @@ fn try_retire(
 fn retire(
     alloc: Global,
     header: &Header,
-    which: Which,
     here: &mut Side,
     between: &mut Between,
     nonce: &[u8; 32],
     offer: &Offer,
-    meddles: &[Meddle],
-    stop: Stop,
+    course: &Course<'_>,
 ) -> Result<MoveReply, Memory>
     requires { vec_len between.old.tickets < 2 ^ 32 }
-    ensures { Commands (pair_of header.now) (which_of which) meddles.now stop
+    ensures { (which : both.Which) → Commands (pair_of header.now) which course.now.meddles.now course.now.stop
         (Retire nonce.now offer.now) here.old here.new between.old between.new result }
 {
     between.tickets.reserve(1)?;
@@ -178,12 +172,11 @@ fn retire(
         here.issued.as_slice(),
         nonce,
         offer,
-        meddles,
-        stop,
+        course,
     ) {
         Err(memory) => Err(memory),
         Ok(None) => Ok(MoveReply::NoSnapshot),
-        Ok(Some(came)) => between.leave(was_live, here.position, stop, came),
+        Ok(Some(came)) => between.leave(was_live, here.position, course.stop, came),
     }
 }
 
@@ -194,25 +187,22 @@ fn try_accept(
     platform: &mut MemPlatform,
     tickets: &[Bytes],
     offer: &Offer,
-    meddles: &[Meddle],
-    stop: Stop,
+    course: &Course<'_>,
 ) -> Result<Option<Result<Accepted, MoveRefusal>>, Memory>
     ensures { (link : Link) → link ≡ link_of (pair_of header.now) → Tried (λ bytes cell.
-        accepts_in (meaning_of header.now.«module») header.now.variant link bytes (moved_of cell)) stop meddles.now
-        (offered_bytes tickets.now offer.now) platform.old platform.new result }
+        accepts_in (meaning_of header.now.«module») header.now.variant link bytes (moved_of cell)) course.now.stop
+        course.now.meddles.now (offered_bytes tickets.now offer.now) platform.old platform.new result }
 {
     match offered(alloc, tickets, offer) {
         Err(memory) => Err(memory),
         Ok(None) => Ok(None),
         Ok(Some(offered)) => Ok(Some(planned_accept(
             alloc,
-            &header.module,
-            header.variant,
+            header,
             platform,
             &link(),
             offered.bytes(),
-            meddles,
-            stop,
+            course,
         ))),
     }
 }
@@ -246,14 +236,12 @@ fn enter(
 fn accept(
     alloc: Global,
     header: &Header,
-    which: Which,
     here: &mut Side,
     between: &Between,
     offer: &Offer,
-    meddles: &[Meddle],
-    stop: Stop,
+    course: &Course<'_>,
 ) -> Result<MoveReply, Memory>
-    ensures { Commands (pair_of header.now) (which_of which) meddles.now stop (Accept offer.now)
+    ensures { (which : both.Which) → Commands (pair_of header.now) which course.now.meddles.now course.now.stop (Accept offer.now)
         here.old here.new between.now between.now result }
 {
     here.issued.reserve(1)?;
@@ -264,12 +252,11 @@ fn accept(
         &mut here.platform,
         between.tickets.as_slice(),
         offer,
-        meddles,
-        stop,
+        course,
     ) {
         Err(memory) => Err(memory),
         Ok(None) => Ok(MoveReply::NoTicket),
-        Ok(Some(came)) => enter(here, was_live, between.away, stop, came),
+        Ok(Some(came)) => enter(here, was_live, between.away, course.stop, came),
     }
 }
 
@@ -281,23 +268,18 @@ pub fn command(
     which: Which,
     here: &mut Side,
     between: &mut Between,
-    meddles: &[Meddle],
-    stop: Stop,
+    course: &Course<'_>,
     command: &Command,
 ) -> Result<MoveReply, Memory>
     requires { vec_len between.old.tickets < 2 ^ 32 }
-    ensures { Commands (pair_of header.now) (which_of which) meddles.now stop
+    ensures { Commands (pair_of header.now) (which_of which) course.now.meddles.now course.now.stop
         (command_of command.now) here.old here.new between.old between.new result }
 {
     match command {
-        Command::Invite { nonce } => invite(header, which, here, nonce, meddles, stop),
-        Command::Retire { nonce, offer } => {
-            retire(
-                alloc, header, which, here, between, nonce, offer, meddles, stop,
-            )
-        }
-        Command::Accept { offer } => {
-            accept(alloc, header, which, here, between, offer, meddles, stop)
-        }
+        Command::Invite { nonce } => invite(header, which, here, nonce, course),
+        Command::Retire { nonce, offer } => retire(
+            alloc, header, here, between, nonce, offer, course,
+        ),
+        Command::Accept { offer } => accept(alloc, header, here, between, offer, course),
     }
 }

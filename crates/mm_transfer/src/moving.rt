@@ -1,6 +1,7 @@
 //! Moves under the plan of an event.
 
 ghost use Rattle.std.specs.Prelude.{◌≡◌, is_some};
+ghost use Rattle.mm_modules.specs.Modules.{meaning_of};
 ghost use Rattle.mm_move.specs.Cells.{moved_of};
 ghost use Rattle.mm_move.specs.Orders.{waiting_for, invites_in, retires_in, accepts_in};
 ghost use Rattle.mm_move.specs.Refusals.{move_fault_in};
@@ -12,10 +13,9 @@ use crate::reply::{MoveCause, MoveReply};
 use mm_base::{Bytes, Memory};
 use mm_digest::Variant;
 use mm_model::Refusal;
-use mm_module::Module;
 use mm_move::{Accepted, Invited, Link, MoveRefusal};
 use mm_platform::{Meddle, MemPlatform, Stop};
-use mm_schedule::Cause;
+use mm_schedule::{Cause, Header};
 use mm_world::{settle, way};
 use std::alloc::Global;
 
@@ -86,7 +86,14 @@ pub fn refused(stop: Stop, why: MoveRefusal) -> Result<MoveReply, Memory>
     }
 }
 
-/// Invites the platform under the plan of these meddles and this stop.
+/// Where a move is stopped, and what others put into the register before its steps.
+#[derive(Clone, Copy)]
+pub struct Course<'a> {
+    pub stop: Stop,
+    pub meddles: &'a [Meddle],
+}
+
+/// Invites the platform under this plan.
 pub fn planned_invite(
     platform: &mut MemPlatform,
     link: &Link,
@@ -94,69 +101,79 @@ pub fn planned_invite(
     module: u8,
     nonce: &[u8; 32],
     key: &[u8; 32],
-    meddles: &[Meddle],
-    stop: Stop,
+    course: &Course<'_>,
 ) -> Result<Invited, MoveRefusal>
     ensures { MovesPlanned (λ bytes.
         invites_in (waiting_for link.now variant «module» nonce.now key.now) (moved_of bytes))
-        stop meddles.now platform.old platform.new result }
+        course.now.stop course.now.meddles.now platform.old platform.new result }
 {
-    match platform.plan(stop, meddles) {
+    match platform.plan(course.stop, course.meddles) {
         Err(_) => Err(NO_MEMORY),
         Ok(()) => {
             let came = mm_move::invite(platform, link, variant, module, nonce, key);
-            settle(platform, stop, is_broken(&came));
+            settle(platform, course.stop, is_broken(&came));
             came
         }
     }
 }
 
 /// Retires the platform under such a plan.
-pub fn planned_retire<M: Module>(
+pub fn planned_retire(
     alloc: Global,
-    module: &M,
-    variant: Variant,
+    header: &Header,
     platform: &mut MemPlatform,
     link: &Link,
     nonce: &[u8; 32],
     offer: &[u8],
-    meddles: &[Meddle],
-    stop: Stop,
+    course: &Course<'_>,
 ) -> Result<Bytes, MoveRefusal>
     ensures { MovesPlanned (λ bytes.
-        retires_in (M.meaning «module».now) variant link.now nonce.now offer.now (moved_of bytes))
-        stop meddles.now platform.old platform.new result }
+        retires_in (meaning_of header.now.«module») header.now.variant link.now nonce.now offer.now (moved_of bytes))
+        course.now.stop course.now.meddles.now platform.old platform.new result }
 {
-    match platform.plan(stop, meddles) {
+    match platform.plan(course.stop, course.meddles) {
         Err(_) => Err(NO_MEMORY),
         Ok(()) => {
-            let came = mm_move::retire(alloc, module, variant, platform, link, nonce, offer);
-            settle(platform, stop, is_broken(&came));
+            let came = mm_move::retire(
+                alloc,
+                &header.module,
+                header.variant,
+                platform,
+                link,
+                nonce,
+                offer,
+            );
+            settle(platform, course.stop, is_broken(&came));
             came
         }
     }
 }
 
 /// Accepts a ticket on the platform under such a plan.
-pub fn planned_accept<M: Module>(
+pub fn planned_accept(
     alloc: Global,
-    module: &M,
-    variant: Variant,
+    header: &Header,
     platform: &mut MemPlatform,
     link: &Link,
     ticket: &[u8],
-    meddles: &[Meddle],
-    stop: Stop,
+    course: &Course<'_>,
 ) -> Result<Accepted, MoveRefusal>
     ensures { MovesPlanned (λ bytes.
-        accepts_in (M.meaning «module».now) variant link.now ticket.now (moved_of bytes))
-        stop meddles.now platform.old platform.new result }
+        accepts_in (meaning_of header.now.«module») header.now.variant link.now ticket.now (moved_of bytes))
+        course.now.stop course.now.meddles.now platform.old platform.new result }
 {
-    match platform.plan(stop, meddles) {
+    match platform.plan(course.stop, course.meddles) {
         Err(_) => Err(NO_MEMORY),
         Ok(()) => {
-            let came = mm_move::accept(alloc, module, variant, platform, link, ticket);
-            settle(platform, stop, is_broken(&came));
+            let came = mm_move::accept(
+                alloc,
+                &header.module,
+                header.variant,
+                platform,
+                link,
+                ticket,
+            );
+            settle(platform, course.stop, is_broken(&came));
             came
         }
     }

@@ -16,6 +16,7 @@ ghost use Rattle.mm_transfer.specs.Pairs.{pair_of};
 use crate::between::Between;
 use crate::commands;
 use crate::event::{Act, SideEvent, Which};
+use crate::moving::Course;
 use crate::reply::MoveReply;
 use crate::side::Side;
 use mm_base::Memory;
@@ -97,7 +98,11 @@ fn act(
             command,
         } => {
             let meddles = listed(meddles);
-            commands::command(alloc, header, which, here, between, meddles, *stop, command)
+            let course = Course {
+                stop: *stop,
+                meddles,
+            };
+            commands::command(alloc, header, which, here, between, &course, command)
         }
     }
 }

@@ -9,10 +9,10 @@ pub returns : goal.returns
 returns c = λ between fits counted.
     let pair = pair_of c.args.header.now in
     let which = which_of c.args.which in
-    invited_done pair which c.args.nonce.now c.args.stop c.args.meddles.now c.args.here.now c.keep_digest.new.here _ between
+    invited_done pair which c.args.nonce.now c.args.course.now.stop c.args.course.now.meddles.now c.args.here.now c.keep_digest.new.here _ between
     c.planned_invite-came.result
     c.invited.result (formed_of c.args.header.now which) c.told-nonce c.keep_digest.ensures
-    (invites_planned pair which c.args.nonce.now c.args.stop c.args.meddles.now c.link.result c.id.result c.key_on.result
+    (invites_planned pair which c.args.nonce.now c.args.course.now.stop c.args.course.now.meddles.now c.link.result c.id.result c.key_on.result
     c.keep_digest.new.here.platform
     c.planned_invite-came.new.platform c.planned_invite-came.result (c.link.ensures c.args.header.now) c.id.ensures
     (c.key_on.ensures c.args.header.now)
