@@ -10,16 +10,14 @@ use Rattle.std.specs.Str.{bytes_eq}
 use Rattle.std.proofs.lemmas.Bool.Decides.{nat_tests}
 use Rattle.std.proofs.lemmas.Slice.Eq.{bytes_eq-Decides}
 use Rattle.mm_base.specs.Decimals.{decimal_number}
-use Rattle.mm_base.specs.declared.replay_fault.ReplayFault.{ReplayFault}
-use Rattle.mm_base.specs.declared.replay_fault.ReplayFault.TheVariants.{LineLong}
-use Rattle.mm_base.specs.Limits.{last_position, longest_line, longest_request}
+use Rattle.mm_base.specs.Limits.{last_position, longest_request}
 use Rattle.mm_module.specs.Meaning.{Meaning}
 use Rattle.mm_module.specs.WordsWords.{is_space}
 use Rattle.mm_module.specs.LineLaws.{and-true}
 use Rattle.mm_play.specs.declared.player.Refused.{Refused}
 use Rattle.mm_play.specs.declared.player.Refused.TheVariants.{Bad, Much}
-use Rattle.mm_play.specs.Play.{Told, told, stopped, refusal_at, answered, run}
-use Rattle.mm_play.proofs.Runs.{not_ok}
+use Rattle.mm_play.specs.Play.{Told, told, run}
+use Rattle.mm_play.proofs.Events.{first_answered}
 use Rattle.mm_receipt.specs.declared.receipt.NotReceipt.{NotReceipt}
 use Rattle.mm_receipt.specs.declared.receipt.NotReceipt.TheVariants.{Form, Tag}
 use Rattle.mm_receipt.specs.Receipts.{verified}
@@ -38,39 +36,6 @@ alone-text : (position : ℕ) (request output : List ℕ) (answer : Result (Unit
 alone-text position request output (Err Form) = refl
 alone-text position request output (Err Tag) = refl
 alone-text position request output (Ok done) = refl
-
--- one line of a run that was answered
-record StepOf (it : Checking) (line : List ℕ) (number : ℕ) (lines : List (List ℕ)) (written : List ℕ) (next : Checking) : Type 0 where
-  reply : List ℕ
-  mid : Checking
-  rest : List ℕ
-  answer : receipts_answer it line ≡ Ok (reply, mid)
-  ran : run receipts_answer (number + 1) mid lines ≡ told rest (Ok next)
-  parts : written ≡ reply ++ rest
-
-answered-step : (it : Checking) (line : List ℕ) (number : ℕ) (lines : List (List ℕ)) (written : List ℕ) (next : Checking)
-    (answer : Result (List ℕ × Checking) Refused)
-    → receipts_answer it line ≡ answer → answered (λ mid. run receipts_answer (number + 1) mid lines) number answer ≡ told written (Ok next)
-    → StepOf it line number lines written next
-answered-step it line number lines written next (Err why) is ran =
-    absurd (not_ok (refusal_at number why) next (ap (λ (t : Told Checking). t.outcome) ran))
-answered-step it line number lines written next (Ok reply) is ran =
-    let more = run receipts_answer (number + 1) reply.1 lines in
-    record {
-      reply = reply.0;
-      mid = reply.1;
-      rest = more.written;
-      answer = is;
-      ran = ap (λ (r : Result Checking ReplayFault). told more.written r) (ap (λ (t : Told Checking). t.outcome) ran);
-      parts = sym (ap (λ (t : Told Checking). t.written) ran);
-    }
-
-turn-step : (it : Checking) (line : List ℕ) (number : ℕ) (lines : List (List ℕ)) (written : List ℕ) (next : Checking) (long : Bool)
-    → (let t : Told Checking = if long then stopped (LineLong number) else answered (λ mid. run receipts_answer (number + 1) mid lines)
-    number (receipts_answer it line) in t ≡ told written (Ok next))
-    → StepOf it line number lines written next
-turn-step it line number lines written next true ran = absurd (not_ok (LineLong number) next (ap (λ (t : Told Checking). t.outcome) ran))
-turn-step it line number lines written next false ran = answered-step it line number lines written next (receipts_answer it line) refl ran
 
 -- what a first line keeps
 record IsFormed (asked : Asked) : Type 0 where
@@ -252,23 +217,21 @@ module _ (inner : Meaning) (requests : List (List ℕ)) (counted : AllByRecursio
   honest-from [] number tally asked written next s ran genuine =
       record { plain = sym (ap (λ (t : Told Checking). t.written) ran); right = tt }
   honest-from (line ∷ lines) number tally None written next s ran genuine =
-      let step = turn-step (record { tally = tally; asked = None }) line number lines written next (nat_lt longest_line (length line)) ran
-      in
-      let w = first-waits tally line (pair_at line) (is_too_much tally line) step.reply step.mid refl refl step.answer in
-      let mid : record { tally = step.mid.tally; asked = pair_at line } ≡ step.mid = ap
-      (λ (a : Option Asked). record { tally = step.mid.tally; asked = a }) (sym w.asked) in
-      let stands : Stands step.mid.tally (pair_at line) = record {
+      let step = first_answered receipts_answer number (record { tally = tally; asked = None }) line lines written next ran in
+      let w = first-waits tally line (pair_at line) (is_too_much tally line) step.reply.0 step.reply.1 refl refl step.replied in
+      let mid : record { tally = step.reply.1.tally; asked = pair_at line } ≡ step.reply.1 = ap
+      (λ (a : Option Asked). record { tally = step.reply.1.tally; asked = a }) (sym w.asked) in
+      let stands : Stands step.reply.1.tally (pair_at line) = record {
         keyed = w.same_key ∙ s.keyed;
         sound = subst AreSound (sym w.known) s.sound;
         formed = parted-formed line (position is_space line);
       } in
-      let rest = honest-from lines (number + 1) step.mid.tally (pair_at line) step.rest next stands
+      let rest = honest-from lines (number + 1) step.reply.1.tally (pair_at line) step.more next stands
       (ap (λ (c : Checking). run receipts_answer (number + 1) c lines) mid ∙ step.ran) genuine in
-      record { plain = step.parts ∙ ap (λ (l : List ℕ). l ++ step.rest) w.silent ∙ rest.plain; right = rest.right }
+      record { plain = step.whole ∙ ap (λ (l : List ℕ). l ++ step.more) w.silent ∙ rest.plain; right = rest.right }
   honest-from (line ∷ lines) number tally (Some asked) written next s ran genuine =
-      let step = turn-step (record { tally = tally; asked = Some asked }) line number lines written next (nat_lt longest_line (length line))
-      ran in
-      let w = second-settles tally asked line (is_too_much tally line) step.reply step.mid refl step.answer in
+      let step = first_answered receipts_answer number (record { tally = tally; asked = Some asked }) line lines written next ran in
+      let w = second-settles tally asked line (is_too_much tally line) step.reply.0 step.reply.1 refl step.replied in
       let answer = verified key asked.position asked.request line in
       let new : answer ≡ Ok tt → IsUnforged inner requests key asked.position asked.request line = unforged asked line s.formed genuine.0 in
       let plain : pair_verdict tally asked line ≡ receipt_verdict answer None asked.request line =
@@ -283,11 +246,11 @@ module _ (inner : Meaning) (requests : List (List ℕ)) (counted : AllByRecursio
             (after-sound tally asked line answer new s.sound);
         formed = tt;
       } in
-      let rest = honest-from lines (number + 1) after None step.rest next stands
+      let rest = honest-from lines (number + 1) after None step.more next stands
       (ap (λ (c : Checking). run receipts_answer (number + 1) c lines) (sym w.next) ∙ step.ran) genuine.1 in
       record {
         plain =
-            step.parts ∙ ap (λ (l : List ℕ). l ++ step.rest) (w.told ∙ ap (λ (v : Verdict). verdict_text asked.position v) plain
+            step.whole ∙ ap (λ (l : List ℕ). l ++ step.more) (w.told ∙ ap (λ (v : Verdict). verdict_text asked.position v) plain
             ∙ alone-text asked.position asked.request line answer)
             ∙ ap (λ (l : List ℕ). alone key (record { asked = asked; output = line }) ++ l) rest.plain;
         right = (true-pair asked line s.formed genuine.0, rest.right);
