@@ -27,7 +27,7 @@ use Rattle.mm_words.specs.declared.command.Command.{Command}
 use Rattle.mm_words.specs.declared.command.Command.TheVariants.{Init, Run, Checkpoint, Power, Replay, Check, Gen, Bulk, Slots, Receipts, Transfer, Help}
 use Rattle.mm_words.specs.declared.command.Generated.{Generated}
 use Rattle.mm_words.proofs.Kept.{IsPlainWord, key_kept, name_kept, number_kept, plain_word, variant_kept}
-use Rattle.mm_words.proofs.Taken.{Given, IsTaken, alone, bulk_taken, check_taken, checkpoint_taken, gen_taken, generating, given_in, init_taken, power_taken, receipts_taken, replay_taken, run_taken, slots_taken, transfer_taken, with_header, with_key}
+use Rattle.mm_words.proofs.Taken.{AreGeneratedTaken, Given, IsTaken, alone, bulk_taken, check_taken, checkpoint_taken, gen_taken, generating, given_in, init_taken, power_taken, receipts_taken, replay_taken, run_taken, slots_taken, transfer_taken, with_header, with_key}
 
 pub variant-read : (variant : Variant) → variant_at (variant_text variant) ≡ Some variant
 variant-read Basic = refl
@@ -116,60 +116,13 @@ init_brings header =
       matched = λ name found same. let read = given_header (codes "init") header name found same in rw (read.0, read.1) refl;
     }
 
-run_brings : Brings Run (codes "run" ∷ [])
-unfolding command_in
-run_brings = record {
-  given = alone (codes "run");
-  is = run_taken;
-  matched = λ name found same. rw (ap (λ (g : Given). g.name) same) refl;
-}
-
-checkpoint_brings : Brings Checkpoint (codes "checkpoint" ∷ [])
-unfolding command_in
-checkpoint_brings = record {
-  given = alone (codes "checkpoint");
-  is = checkpoint_taken;
-  matched = λ name found same. rw (ap (λ (g : Given). g.name) same) refl;
-}
-
-power_brings : Brings Power (codes "power" ∷ [])
-unfolding command_in
-power_brings = record {
-  given = alone (codes "power");
-  is = power_taken;
-  matched = λ name found same. rw (ap (λ (g : Given). g.name) same) refl;
-}
-
-replay_brings : Brings Replay (codes "replay" ∷ [])
-unfolding command_in
-replay_brings = record {
-  given = alone (codes "replay");
-  is = replay_taken;
-  matched = λ name found same. rw (ap (λ (g : Given). g.name) same) refl;
-}
-
-check_brings : Brings Check (codes "check" ∷ [])
-unfolding command_in
-check_brings = record {
-  given = alone (codes "check");
-  is = check_taken;
-  matched = λ name found same. rw (ap (λ (g : Given). g.name) same) refl;
-}
-
-slots_brings : Brings Slots (codes "slots" ∷ [])
-unfolding command_in
-slots_brings = record {
-  given = alone (codes "slots");
-  is = slots_taken;
-  matched = λ name found same. rw (ap (λ (g : Given). g.name) same) refl;
-}
-
-transfer_brings : Brings Transfer (codes "transfer" ∷ [])
-unfolding command_in
-transfer_brings = record {
-  given = alone (codes "transfer");
-  is = transfer_taken;
-  matched = λ name found same. rw (ap (λ (g : Given). g.name) same) refl;
+-- a command of one word
+alone_brings : (command : Command) (name : Text) → IsTaken (name ∷ []) (alone name) → ((found : Found) → command_in name found ≡ Some command)
+    → Brings command (name ∷ [])
+alone_brings command name taken is = record {
+  given = alone name;
+  is = taken;
+  matched = λ other found same. ap (λ (n : Text). command_in n found) (ap (λ (g : Given). g.name) same) ∙ is found;
 }
 
 number_plain : (it : Generated) → IsGenerated it → IsPlainWord (decimal it.number)
@@ -184,22 +137,17 @@ variant_plain it = plain_word (variant_text it.header.variant) (variant_kept it.
 name_plain : (it : Generated) → IsPlainWord (name_of it.header.module)
 name_plain it = plain_word (name_of it.header.module) (name_kept it.header.module)
 
-gen_brings : (it : Generated) → IsGenerated it → Brings (Gen it) (codes "gen" ∷ generated_words it)
-unfolding command_in
-gen_brings it allowed = record {
-  given = generating (codes "gen") (decimal it.number) (decimal it.count) (variant_text it.header.variant) (name_of it.header.module);
-  is = gen_taken (decimal it.number) (decimal it.count) (variant_text it.header.variant) (name_of it.header.module)
+-- a command on a schedule that is made from a number
+generated_brings : (command : Command) (name : Text) (it : Generated) → IsGenerated it → AreGeneratedTaken name
+    → ((found : Found) → generated_in found ≡ Some it → command_in name found ≡ Some command)
+    → Brings command (name ∷ generated_words it)
+generated_brings command name it allowed taken is = record {
+  given = generating name (decimal it.number) (decimal it.count) (variant_text it.header.variant) (name_of it.header.module);
+  is = taken (decimal it.number) (decimal it.count) (variant_text it.header.variant) (name_of it.header.module)
       (number_plain it allowed) (count_plain it allowed) (variant_plain it) (name_plain it);
-  matched = λ name found same. let read = given_generated (codes "gen") it name found allowed same in rw (read.0, read.1) refl;
-}
-
-bulk_brings : (it : Generated) → IsGenerated it → Brings (Bulk it) (codes "bulk" ∷ generated_words it)
-unfolding command_in
-bulk_brings it allowed = record {
-  given = generating (codes "bulk") (decimal it.number) (decimal it.count) (variant_text it.header.variant) (name_of it.header.module);
-  is = bulk_taken (decimal it.number) (decimal it.count) (variant_text it.header.variant) (name_of it.header.module)
-      (number_plain it allowed) (count_plain it allowed) (variant_plain it) (name_plain it);
-  matched = λ name found same. let read = given_generated (codes "bulk") it name found allowed same in rw (read.0, read.1) refl;
+  matched = λ other found same.
+      let read = given_generated name it other found allowed same in
+      ap (λ (n : Text). command_in n found) read.0 ∙ is found read.1;
 }
 
 receipts_brings : (digits key : List ℕ) → value_at digits ≡ Some key → Brings (Receipts key) (codes "receipts" ∷ digits ∷ [])
@@ -214,18 +162,23 @@ brings_as : (command : Command) (words others : List (List ℕ)) → words ≡ o
 brings_as command words others same brings = let P : List (List ℕ) → Type 0 = λ w. Brings command w in subst P (sym same) brings
 
 pub brings : (command : Command) (words : List (List ℕ)) → SpellsCommand command words → IsMatched command → Brings command words
+unfolding command_in
 brings (Init header) words spells matched = brings_as (Init header) words _ spells.spelled (init_brings header)
-brings Run words spells matched = brings_as Run words _ spells.spelled run_brings
-brings Checkpoint words spells matched = brings_as Checkpoint words _ spells.spelled checkpoint_brings
-brings Power words spells matched = brings_as Power words _ spells.spelled power_brings
-brings Replay words spells matched = brings_as Replay words _ spells.spelled replay_brings
-brings Check words spells matched = brings_as Check words _ spells.spelled check_brings
-brings (Gen it) words spells matched = brings_as (Gen it) words _ spells.spelled (gen_brings it spells.allowed)
-brings (Bulk it) words spells matched = brings_as (Bulk it) words _ spells.spelled (bulk_brings it spells.allowed)
-brings Slots words spells matched = brings_as Slots words _ spells.spelled slots_brings
+brings Run words spells matched = brings_as Run words _ spells.spelled (alone_brings Run (codes "run") run_taken (λ found. refl))
+brings Checkpoint words spells matched = brings_as Checkpoint words _ spells.spelled (alone_brings Checkpoint (codes "checkpoint") checkpoint_taken (λ found. refl))
+brings Power words spells matched = brings_as Power words _ spells.spelled (alone_brings Power (codes "power") power_taken (λ found. refl))
+brings Replay words spells matched = brings_as Replay words _ spells.spelled (alone_brings Replay (codes "replay") replay_taken (λ found. refl))
+brings Check words spells matched = brings_as Check words _ spells.spelled (alone_brings Check (codes "check") check_taken (λ found. refl))
+brings (Gen it) words spells matched =
+    brings_as (Gen it) words _ spells.spelled
+    (generated_brings (Gen it) (codes "gen") it spells.allowed gen_taken (λ found read. rw read refl))
+brings (Bulk it) words spells matched =
+    brings_as (Bulk it) words _ spells.spelled
+    (generated_brings (Bulk it) (codes "bulk") it spells.allowed bulk_taken (λ found read. rw read refl))
+brings Slots words spells matched = brings_as Slots words _ spells.spelled (alone_brings Slots (codes "slots") slots_taken (λ found. refl))
 brings (Receipts key) words spells matched =
     let given = spells.spelled in brings_as (Receipts key) words _ given.2 (receipts_brings given.0 key given.1)
-brings Transfer words spells matched = brings_as Transfer words _ spells.spelled transfer_brings
+brings Transfer words spells matched = brings_as Transfer words _ spells.spelled (alone_brings Transfer (codes "transfer") transfer_taken (λ found. refl))
 brings Help words spells matched = absurd matched
 
 pub is_taken : (command : Command) (words : List (List ℕ)) → SpellsCommand command words → IsMatched command → takes the_app words ≡ true

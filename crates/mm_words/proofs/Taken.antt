@@ -48,12 +48,15 @@ pub record IsTaken (words : List Text) (given : Given) : Type 0 where
   pub taken : takes the_app words ≡ true
   pub met : option_map given_in (subcommand_of the_app words) ≡ Some given
 
+taken_by : (words : List Text) (given : Given)
+    → (takes the_app words ≡ true) × (option_map given_in (subcommand_of the_app words) ≡ Some given) → IsTaken words given
+taken_by words given both = record { taken = both.0; met = both.1 }
+
 pub init_taken : (v m : Text) → IsPlainWord v → IsPlainWord m → IsTaken (codes "init" ∷ v ∷ m ∷ []) (with_header (codes "init") v m)
 unfolding clap_on_literals
-init_taken v m one two = record {
-  taken = rw (one.dashes, one.long, one.short, two.dashes, two.long, two.short) refl;
-  met = rw (one.dashes, one.long, one.short, two.dashes, two.long, two.short) refl;
-}
+init_taken v m one two =
+    taken_by (codes "init" ∷ v ∷ m ∷ []) (with_header (codes "init") v m)
+    (rw (one.dashes, one.long, one.short, two.dashes, two.long, two.short) (refl, refl))
 
 pub run_taken : IsTaken (codes "run" ∷ []) (alone (codes "run"))
 unfolding clap_on_literals
@@ -75,77 +78,46 @@ pub check_taken : IsTaken (codes "check" ∷ []) (alone (codes "check"))
 unfolding clap_on_literals
 check_taken = record { taken = refl; met = refl }
 
-pub gen_taken : (n c v m : Text) → IsPlainWord n → IsPlainWord c → IsPlainWord v → IsPlainWord m
-    → IsTaken (codes "gen" ∷ n ∷ c ∷ v ∷ m ∷ []) (generating (codes "gen") n c v m)
-unfolding clap_on_literals
-gen_taken n c v m one two three four = record {
-  taken =
-      rw (
-        one.dashes,
-        one.long,
-        one.short,
-        two.dashes,
-        two.long,
-        two.short,
-        three.dashes,
-        three.long,
-        three.short,
-        four.dashes,
-        four.long,
-        four.short,
-      ) refl;
-  met =
-      rw (
-        one.dashes,
-        one.long,
-        one.short,
-        two.dashes,
-        two.long,
-        two.short,
-        three.dashes,
-        three.long,
-        three.short,
-        four.dashes,
-        four.long,
-        four.short,
-      ) refl;
-}
+-- the words of a schedule that is made from a number, behind this name
+abbrev pub AreGeneratedTaken : Text → Type 0
+AreGeneratedTaken name = (n c v m : Text) → IsPlainWord n → IsPlainWord c → IsPlainWord v → IsPlainWord m
+    → IsTaken (name ∷ n ∷ c ∷ v ∷ m ∷ []) (generating name n c v m)
 
-pub bulk_taken : (n c v m : Text) → IsPlainWord n → IsPlainWord c → IsPlainWord v → IsPlainWord m
-    → IsTaken (codes "bulk" ∷ n ∷ c ∷ v ∷ m ∷ []) (generating (codes "bulk") n c v m)
+pub gen_taken : AreGeneratedTaken (codes "gen")
 unfolding clap_on_literals
-bulk_taken n c v m one two three four = record {
-  taken =
-      rw (
-        one.dashes,
-        one.long,
-        one.short,
-        two.dashes,
-        two.long,
-        two.short,
-        three.dashes,
-        three.long,
-        three.short,
-        four.dashes,
-        four.long,
-        four.short,
-      ) refl;
-  met =
-      rw (
-        one.dashes,
-        one.long,
-        one.short,
-        two.dashes,
-        two.long,
-        two.short,
-        three.dashes,
-        three.long,
-        three.short,
-        four.dashes,
-        four.long,
-        four.short,
-      ) refl;
-}
+gen_taken n c v m one two three four =
+    taken_by (codes "gen" ∷ n ∷ c ∷ v ∷ m ∷ []) (generating (codes "gen") n c v m) (rw (
+      one.dashes,
+      one.long,
+      one.short,
+      two.dashes,
+      two.long,
+      two.short,
+      three.dashes,
+      three.long,
+      three.short,
+      four.dashes,
+      four.long,
+      four.short,
+    ) (refl, refl))
+
+pub bulk_taken : AreGeneratedTaken (codes "bulk")
+unfolding clap_on_literals
+bulk_taken n c v m one two three four =
+    taken_by (codes "bulk" ∷ n ∷ c ∷ v ∷ m ∷ []) (generating (codes "bulk") n c v m) (rw (
+      one.dashes,
+      one.long,
+      one.short,
+      two.dashes,
+      two.long,
+      two.short,
+      three.dashes,
+      three.long,
+      three.short,
+      four.dashes,
+      four.long,
+      four.short,
+    ) (refl, refl))
 
 pub slots_taken : IsTaken (codes "slots" ∷ []) (alone (codes "slots"))
 unfolding clap_on_literals
