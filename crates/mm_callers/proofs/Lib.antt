@@ -13,7 +13,9 @@ pub mod OptAsking
 pub mod OptRefusing
 pub mod Completing
 pub mod OptComplete
+pub mod OptClosed
 pub mod OptClosing
+pub mod OptRepeats
 pub mod OptRepeating
 pub mod OptCheckRefusing
 pub mod OptRepeatRefusing

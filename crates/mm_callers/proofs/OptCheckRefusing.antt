@@ -45,7 +45,8 @@ use Rattle.mm_callers.specs.Closing.{MayClose, SaysClosing}
 use Rattle.mm_callers.proofs.OptAlike.{alike_still, names_alike}
 use Rattle.mm_callers.proofs.OptShown.{none_counted}
 use Rattle.mm_callers.proofs.OptLeaves.{GoesOn}
-use Rattle.mm_callers.proofs.OptClosing.{Closed, foreign_of-items, foreign_trail, shown_values, shown_closing, closing_asked, names_closed}
+use Rattle.mm_callers.proofs.OptClosing.{foreign_trail, shown_values, shown_closing, closing_asked, names_closed}
+use Rattle.mm_callers.proofs.OptClosed.{Closed, foreign_of-items}
 use Rattle.mm_callers.proofs.OptRefusing.{reads_both}
 
 -- The moves of a checkpoint, however it ends: others' values, and the closing among them or not.

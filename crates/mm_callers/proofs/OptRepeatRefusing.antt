@@ -47,9 +47,10 @@ use Rattle.mm_callers.proofs.OptCalls.{answered_short}
 use Rattle.mm_callers.proofs.OptAlike.{names_after}
 use Rattle.mm_callers.proofs.OptShown.{none_counted}
 use Rattle.mm_callers.proofs.OptLeaves.{Left, DigestMoves, hands, left_idle}
-use Rattle.mm_callers.proofs.OptClosing.{may_close_back}
+use Rattle.mm_callers.proofs.OptClosed.{may_close_back}
 use Rattle.mm_callers.proofs.OptRefusing.{refused_once, fell_short}
-use Rattle.mm_callers.proofs.OptRepeating.{closed_same, once_then, asked_behind, Fresh, reads_alone, reads_show, reached, behind_seen}
+use Rattle.mm_callers.proofs.OptRepeating.{asked_behind, Fresh, reads_alone, reads_show, reached, behind_seen}
+use Rattle.mm_callers.proofs.OptRepeats.{closed_same, once_then}
 use Rattle.mm_callers.proofs.OptCheckRefusing.{CheckFell, refused_goes_on, check_fell}
 
 -- the call was refused

@@ -28,8 +28,8 @@ IsOfferedAt true batches position b = (ends : EndsWith batches b) × (position �
 
 -- An offer is welcome to a history, by whether it is a repeat's: the history is live; the offer is
 -- right, and at such a position; and there are positions left.
-pub record IsWelcome (i : Instance) (y : History) (offer : List ℕ) (b : Batch) (again : Bool) : Type
-    0 where
+pub record IsWelcome (i : Instance) (y : History) (offer : List ℕ) (b : Batch)
+    (again : Bool) : Type 0 where
   pub live : life_of i.variant y ≡ Live
   pub content : Content
   pub right : IsRight i offer content
