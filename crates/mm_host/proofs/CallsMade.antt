@@ -249,11 +249,7 @@ tried_first : (variant : Variant) (meaning : Meaning) (before after : Standing) 
 tried_first variant meaning before after slots p (Start bytes) t =
     absurd (never_starts variant meaning before after (slot_read slots (offer_slot p)) p.request bytes t)
 tried_first variant meaning before after slots p (Answered answer) t = record {
-  calls = (
-    after,
-    answered_call variant meaning before after (slot_read slots (offer_slot p)) p.request answer t,
-    refl,
-  );
+  calls = (after, answered_call variant meaning before after (slot_read slots (offer_slot p)) p.request answer t, refl);
   offers = refl;
 }
 

@@ -1,5 +1,5 @@
 -- Where the cell is read before a session, what was asked of the standing then is asked of where the session starts.
-use Rattle.std.proofs.Common.{◌≡◌, ◌≢◌, ◌∙◌, ℕ, Bool, true, false, List, [], ◌∷◌, ◌++◌, map, Option, None, Some, Result, refl, sym, ap, subst, inl, inr, append_assoc}
+use Rattle.std.proofs.Common.{◌≡◌, ◌≢◌, ◌∙◌, ℕ, Bool, true, false, List, [], ◌∷◌, ◌++◌, map, Option, None, Some, Result, refl, sym, ap, subst, append_assoc}
 use Rattle.std.specs.Prelude.{if◌then◌else◌, nat_eq}
 use Rattle.std.specs.List.{AllByRecursion, Contains, fold}
 use Rattle.std.proofs.lemmas.List.{append_cancel_left}
@@ -7,15 +7,15 @@ use Rattle.mm_digest.specs.Messages.{extended_message, extended_of}
 use Rattle.mm_digest.specs.declared.variant.Variant.{Variant}
 use Rattle.mm_digest.specs.declared.variant.Variant.TheVariants.{Basic, Opt}
 use Rattle.mm_platform.specs.declared.fault.StepFault.{StepFault}
-use Rattle.mm_platform.specs.Standing.{Item, Standing, foreign_item, item_values}
+use Rattle.mm_platform.specs.Standing.{Item, Standing, foreign_item}
 use Rattle.mm_platform.specs.Steps.{Goes, ReadCell, beside}
 use Rattle.mm_module.specs.Batch.{Batch, One}
 use Rattle.mm_module.specs.Meaning.{Meaning, IsLawful}
 use Rattle.mm_seal.specs.Snapshot.{Content, sealed_of}
 use Rattle.mm_model.specs.Chains.{after, trail}
 use Rattle.mm_model.specs.Instance.{Instance}
-use Rattle.mm_model.specs.InstanceWords.{basic, opt}
-use Rattle.mm_model.specs.History.{Entry, Value, History, Move, Commit, Foreign, joined, moved, register_value_of, total_of}
+use Rattle.mm_model.specs.InstanceWords.{opt}
+use Rattle.mm_model.specs.History.{Entry, Value, History, Commit, Foreign, joined, moved, register_value_of, total_of}
 use Rattle.mm_model.specs.Life.{Lost as LostLife, are_own, has_value, is_empty, life_of}
 use Rattle.mm_model.specs.Messages.{Within}
 use Rattle.mm_model.specs.Moves.{Digests, digests_of}
@@ -41,14 +41,14 @@ use Rattle.mm_store.specs.Kept.{StoreStanding}
 use Rattle.mm_store.specs.Pending.{Pending}
 use Rattle.mm_store.specs.Slots.{Slots}
 use Rattle.mm_host.specs.declared.fault.SessionFault.{SessionFault}
-use Rattle.mm_host.specs.AnySlots.{AreAmong, AreAskedInTurn, AsksNothingNew, EndsRun, MayStart, RunsOnce, RunsOnceFrom, answered_to, first_offer, says_last}
+use Rattle.mm_host.specs.AnySlots.{AreAmong, AreAskedInTurn, AsksNothingNew, MayStart, RunsOnce, RunsOnceFrom, answered_to, first_offer, says_last}
 use Rattle.mm_host.specs.Continuing.{IsInHand, told_in}
 use Rattle.mm_host.specs.Serving.{Served}
 use Rattle.mm_host.specs.Sessions.{Sessions}
 use Rattle.mm_host.proofs.CallsMade.{chain_of}
 use Rattle.mm_host.proofs.Leading.{Reaches, opt_laws}
 use Rattle.mm_host.proofs.OptMoves.{not_lost, was_powered}
-use Rattle.mm_host.proofs.RunningOnce.{chain_reaches, session_runs_once, unless_nothing}
+use Rattle.mm_host.proofs.RunningOnce.{chain_reaches, session_runs_once}
 
 -- what others put into the register meanwhile
 
@@ -164,8 +164,7 @@ module _ (meaning : Meaning) (key barrier : List ℕ) where
         ∙ ap (λ (flag : Bool). bare (if flag then moved i z (Commit (One r)) else z)) flags in
         let bytes : issued_bytes i (answered_to i y offer r) ≡ issued_bytes i (answered_to i z offer r) =
         ap (λ (c : Content). sealed_of i.key c)
-        (issued_alike meaning key barrier (answered_to i y offer r) (answered_to i z offer r) same) in
-        (
+        (issued_alike meaning key barrier (answered_to i y offer r) (answered_to i z offer r) same) in (
           f.0,
           f.1,
           subst (λ (x : List ℕ). AreAskedInTurn all asked i (answered_to i z offer r) x requests) bytes
@@ -250,9 +249,12 @@ module _ (meaning : Meaning) (lawful : IsLawful meaning) (entry before after : S
   }
 
   abbrev Ran : Type 0
-  Ran = RunsOnce all others asked i y slots may.waiting left after (told_in may.waiting s.goes) (IsInHand may.waiting s.goes) requests result
+  Ran =
+      RunsOnce all others asked i y slots may.waiting left after (told_in may.waiting s.goes) (IsInHand may.waiting s.goes) requests
+      result
 
-  ran_from : (later : List Item) → IsWithin all others asked i z → after.items ≡ Some (standing_items y.is_open (items ++ map foreign_item g.others) ++ later)
+  ran_from : (later : List Item) → IsWithin all others asked i z
+      → after.items ≡ Some (standing_items y.is_open (items ++ map foreign_item g.others) ++ later)
       → ((AsksNothingNew i z (first_offer slots may.waiting) requests → ⊥) → AreShown all others i z later) → Ran
   unfolding there_starts
   ran_from later w shows shown_so =
@@ -266,7 +268,8 @@ module _ (meaning : Meaning) (lawful : IsLawful meaning) (entry before after : S
   ran_open e shown_are =
       let laws = opt_laws meaning lawful key barrier all others asked after in
       let first : List ℕ = first_offer slots may.waiting in
-      let chain = chain_of Opt meaning before after old new left left' received received' result slots may.waiting may.told may.is_waiting s in
+      let chain = chain_of Opt meaning before after old new left left' received received' result slots may.waiting may.told
+      may.is_waiting s in
       let reaches : Reaches Opt i before after =
       chain_reaches all others asked i after laws first before (told_in may.waiting s.goes) (IsInHand may.waiting s.goes) result chain in
       let stands : StandsFor i before z = stands_looked meaning key barrier y entry before fault g may.stands in

@@ -84,7 +84,8 @@ saw_three slots two (Ok three) old new result t e r g = record {
 }
 
 pub saw_two : (slots : Slots) (two : Result (List ℕ) StoreFault) (old middle new : StoreStanding)
-    (result : Result (Option Pending) StoreFault) → old.slots ≡ Some slots → ReadsSlot 2 old middle two → AfterTwo two middle new result → Saw slots old new result
+    (result : Result (Option Pending) StoreFault) → old.slots ≡ Some slots → ReadsSlot 2 old middle two
+    → AfterTwo two middle new result → Saw slots old new result
 saw_two slots (Err why) old middle new result t r g = record {
   told = ap (λ (k : StoreStanding). k.slots) g.0 ∙ r.slots ∙ t;
   honest = ap (λ (k : StoreStanding). k.is_honest) g.0 ∙ r.honest;

@@ -61,7 +61,8 @@ BasicStaysGenuine =
 abbrev pub OptStaysGenuine : Type 0
 OptStaysGenuine =
     (meaning : Meaning) (key barrier : List ℕ) (y : History) (m : Move) (offer : List ℕ) →
-    IsSound y → MayMove (opt meaning key barrier) y m → IsGenuine (opt meaning key barrier) y offer →
+    IsSound y → MayMove (opt meaning key barrier) y m →
+    IsGenuine (opt meaning key barrier) y offer →
     IsGenuine (opt meaning key barrier) (moved (opt meaning key barrier) y m) offer
 
 -- From what a first start leaves over an honest store a recovery can go on, and nothing waits.
