@@ -1,5 +1,5 @@
 -- A session goes on from a first start.
-use Rattle.std.specs.Prelude.{◌≡◌, ℕ, List, [], None, Some, Option, Result, take, refl}
+use Rattle.std.specs.Prelude.{ℕ, List, [], None, Some, Option, Result, take, refl}
 use Rattle.std.proofs.Common.{ap, subst, sym}
 use Rattle.mm_base.specs.Input.{lines_of}
 use Rattle.mm_digest.specs.declared.variant.Variant.TheVariants.{Basic}
