@@ -43,7 +43,8 @@ one_each i level (event ∷ events) s issued =
     let o = event_outcome i level s issued event in ap suc (one_each i level events o.state o.issued)
 
 -- the replies to the first events are the first replies
-first_replies : (front : List Event) (all it later : List Reply) → all ≡ it ++ later → length it ≡ length front → it ≡ take (length front) all
+first_replies : (front : List Event) (all it later : List Reply) → all ≡ it ++ later → length it ≡ length front
+    → it ≡ take (length front) all
 first_replies front all it later is size =
     sym (ap (λ n. take n all) (sym size) ∙ ap (λ (rs : List Reply). take (length it) rs) is ∙ take-append_seam it later)
 
@@ -83,7 +84,8 @@ continues lines rest all written sent ends status is answers left went =
         read = answers.read;
       };
       each = one_each i (by_digests i) answers.events _ _;
-      left = subst (λ (ls : List (List ℕ)). AreLeft status (length ls) rest (IsOver answers.others (issued_after answers.header answers.events)))
+      left = subst
+          (λ (ls : List (List ℕ)). AreLeft status (length ls) rest (IsOver answers.others (issued_after answers.header answers.events)))
           answers.split left;
       within = answers.within;
       went = went;
@@ -91,7 +93,8 @@ continues lines rest all written sent ends status is answers left went =
           let it : Followed Digests = replies_by_digests i front in
           let own = answers.headline front later so in
           subst (λ (rs : List Reply). IsOneRun i front rs it.state.count it.issued)
-          (first_replies front run.replies it.replies _ (ap (λ (f : Followed Digests). f.replies) own.0) (one_each i (by_digests i) front _ _))
+          (first_replies front run.replies it.replies _ (ap (λ (f : Followed Digests). f.replies) own.0)
+          (one_each i (by_digests i) front _ _))
           (own.1 clear genuine).run;
     }
 
@@ -119,7 +122,8 @@ stopped_behind lines rest all written stop status is (inl none) unfinished left 
 })
 stopped_behind lines rest all written stop status is (inr answers) unfinished left went =
     inr (continues lines rest all written (written ++ stop) unended status is answers (left _)
-    (subst (λ (w : List ℕ). IsSent status rest (text_after answers.header answers.events) (closing_after answers.header answers.events) (w ++ stop))
+    (subst (λ (w : List ℕ). IsSent status rest (text_after answers.header answers.events)
+    (closing_after answers.header answers.events) (w ++ stop))
     (sym (answers.told ∙ append-nil (text_after answers.header answers.events))) (went rest _ _)))
 
 -- a front of what was answered went out, and no stop line
