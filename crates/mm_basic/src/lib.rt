@@ -13,6 +13,3 @@ pub use call::{Call, Turn, begin};
 pub use first::provision;
 pub use mm_call::Provisioned;
 pub use whole::{Committed, Prepared, ask, ask_batch, prepare};
-
-#[cfg(test)]
-mod tests;

@@ -20,6 +20,3 @@ pub use first::provision;
 pub use mm_call::{Ended, Provisioned};
 pub use segment::{CheckpointRefusal, Checkpointed};
 pub use whole::{Committed, Prepared, ask, ask_batch, prepare};
-
-#[cfg(test)]
-mod tests;

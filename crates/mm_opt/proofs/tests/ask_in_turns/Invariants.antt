@@ -1,6 +1,0 @@
-use Rattle.mm_opt.specs.Steps.{MayGoOn}
-use Rattle.mm_opt.proofs.tests.ask_in_turns.Given as goal
-
--- the next step may be made
-abbrev pub invariant-loop : goal.invariant-loop
-invariant-loop l = MayGoOn l.call l.platform
