@@ -16,6 +16,3 @@ mod offers;
 mod replies;
 
 pub use expecting::{Expecting, Heard};
-
-#[cfg(test)]
-mod tests;
