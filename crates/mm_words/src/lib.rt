@@ -7,8 +7,6 @@ mod fault;
 mod form;
 mod help;
 mod read;
-#[cfg(test)]
-mod tests;
 
 pub use command::{Command, Generated};
 pub use fault::WordsFault;
