@@ -11,6 +11,3 @@ pub use call::{
 };
 pub use parts::{keep, listed};
 pub use world::World;
-
-#[cfg(test)]
-mod tests;
