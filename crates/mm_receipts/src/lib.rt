@@ -10,6 +10,3 @@ mod text;
 
 pub use player::receipts;
 pub use report::ReceiptReport;
-
-#[cfg(test)]
-mod tests;
