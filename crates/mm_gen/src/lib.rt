@@ -4,8 +4,6 @@
 pub mod laws;
 mod line;
 mod schedule;
-#[cfg(test)]
-mod tests;
 mod turn;
 mod words;
 
