@@ -6,8 +6,6 @@ mod fault;
 mod lines;
 mod run;
 mod summary;
-#[cfg(test)]
-mod tests;
 
 pub use counts::Counts;
 pub use fault::BulkFault;
