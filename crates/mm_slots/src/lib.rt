@@ -15,8 +15,6 @@ mod rows;
 mod said;
 mod slot;
 mod stage;
-#[cfg(test)]
-mod tests;
 mod totals;
 mod whole;
 
