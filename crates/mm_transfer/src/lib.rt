@@ -13,8 +13,6 @@ mod reply;
 mod report;
 mod side;
 mod sides;
-#[cfg(test)]
-mod tests;
 mod whole;
 
 pub use event::{Act, Command, SideEvent, Which};
