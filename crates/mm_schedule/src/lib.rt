@@ -9,8 +9,6 @@ mod print;
 mod put;
 mod read;
 mod reply;
-#[cfg(test)]
-mod tests;
 mod text;
 mod words;
 
