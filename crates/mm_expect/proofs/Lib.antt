@@ -4,11 +4,13 @@ pub mod Settling
 pub mod Walking
 pub mod FindLaws
 pub mod Asking
+pub mod FirstLaws
 pub mod NameLaws
 pub mod GenuineLaws
 pub mod CheckLaws
 pub mod AfterLaws
 pub mod PrintLaws
+pub mod TakenLaws
 pub mod PlaceLaws
 pub mod FewLaws
 pub mod JudgeLaws

@@ -1,8 +1,7 @@
 -- The test whether a content names a position of a history decides it.
-use Rattle.std.proofs.Common.{◌≡◌, ℕ, ◌+◌, ◌-◌, ◌<◌, ◌≤◌, Bool, true, false, ◌&&◌, ◌||◌, List, [], ◌∷◌, ◌++◌, length, drop, take, Option, None, Some, refl, sym, ap, ◌∙◌, subst, inl, inr, ◌⊎◌, arith, append_assoc, length-append, le-leb}
-use Rattle.std.specs.Prelude.{if◌then◌else◌, not, ◌==◌, nat_le, nat_lt}
+use Rattle.std.proofs.Common.{◌≡◌, ℕ, ◌+◌, ◌-◌, ◌<◌, ◌≤◌, Bool, true, false, ◌&&◌, ◌||◌, List, [], ◌∷◌, ◌++◌, length, drop, take, Option, None, Some, refl, sym, ap, ◌∙◌, subst, inl, inr, ◌⊎◌, arith, append_assoc, length-append}
+use Rattle.std.specs.Prelude.{not, ◌==◌, nat_le, nat_lt}
 use Rattle.std.specs.Str.{bytes_eq}
-use Rattle.std.specs.Option.{option_map}
 use Rattle.std.specs.Bool.{Decides}
 use Rattle.std.proofs.lemmas.Bool.Decides.{Decides-eqb, Decides-and, Decides-or, Decides-like, Decides-ltb}
 use Rattle.std.proofs.lemmas.List.{append-nil, take-append-drop, length-take, drop-append-le, take-append-le}
@@ -17,106 +16,25 @@ use Rattle.mm_modules.specs.Modules.{meaning_of}
 use Rattle.mm_run.specs.HeldWords.{world_key, world_barrier}
 use Rattle.mm_expect.specs.Recorded.{instance_with}
 use Rattle.mm_digest.specs.Messages.{zero_bytes}
-use Rattle.mm_module.specs.Batch.{Batch, size_of}
+use Rattle.mm_module.specs.Batch.{Batch}
 use Rattle.mm_module.specs.Meaning.{Meaning, state_after}
-use Rattle.mm_module.proofs.BatchLaws.{size_of-pos}
 use Rattle.mm_seal.specs.declared.snapshot.Place.{Place}
 use Rattle.mm_seal.specs.declared.snapshot.Place.TheVariants.{Basic as InBasic, Opt as InOpt}
 use Rattle.mm_seal.specs.Snapshot.{Content}
-use Rattle.mm_seal.proofs.Reading.{le_tells}
 use Rattle.mm_model.specs.Chains.{summary_of, register_of}
 use Rattle.mm_model.specs.ChainsWords.{own_values}
 use Rattle.mm_model.specs.Instance.{Instance}
 use Rattle.mm_model.specs.InstanceWords.{basic, opt}
 use Rattle.mm_model.specs.History.{Entry, History, requests_of, total_of, joined}
-use Rattle.mm_model.specs.Life.{is_empty, has_value, same_batch}
+use Rattle.mm_model.specs.Life.{is_empty, has_value}
 use Rattle.mm_model.specs.Places.{IsPoint, at_anchor, in_closed, in_current, IsPlaceOf, Names, anchor_after}
-use Rattle.mm_model.proofs.Batches.{same_batch-Decides, total-cons, same_fronts}
+use Rattle.mm_model.proofs.Batches.{same_fronts}
 use Rattle.mm_expect.specs.Naming.{IsDecided, first_with, same_batches, is_at, is_behind, is_within, is_inside_at, some_place, is_place, is_named_at, is_named, same_summary, BasicNamesAreDecided, OptNamesAreDecided}
+use Rattle.mm_expect.proofs.FirstLaws.{le-Decides, first_tells, first_is, same-Decides, empty-Decides, some_taken, not-Decides}
 
 pub decided : {P : Type 0} (r : Bool) → Decides r P → IsDecided r P
 decided true d = d.0 refl
 decided false d = λ p. let clash : false ≡ true = d.1 p in absurd (cc)
-
-le-Decides : (m n : ℕ) → Decides (nat_le m n) (m ≤ n)
-le-Decides m n = (le_tells m n, le-leb m n)
-
-not_zero : (t : Bool) (p : ℕ) → 0 < p → (p == 0) ≡ t → t ≡ false
-not_zero false p lt e = refl
-not_zero true p lt e = absurd (omega (arith, lt, (Decides-eqb p 0).0 e))
-
--- The first batches with so many requests.
-
-first_then : (zero fits : Bool) (position : ℕ) (b : Batch) (batches named : List Batch) → (position == 0) ≡ zero
-    → nat_le (size_of b) position ≡ fits
-    → (more : Option (List Batch)) → first_with (position - size_of b) batches ≡ more
-    → ((front : List Batch) → first_with (position - size_of b) batches ≡ Some front
-    → (rest : List Batch) × ((batches ≡ front ++ rest) × (position - size_of b ≡ total_of front)))
-    → (if zero then Some [] else if fits then option_map (λ (front : List Batch). b ∷ front) more else None) ≡ Some named
-    → (rest : List Batch) × ((b ∷ batches ≡ named ++ rest) × (position ≡ total_of named))
-first_then true fits position b batches named z f more m tells e =
-    let none : [] ≡ named = cc
-    in (b ∷ batches, (ap (λ (bs : List Batch). bs ++ b ∷ batches) none, (Decides-eqb position 0).0 z ∙ ap total_of none))
-first_then false false position b batches named z f more m tells e = absurd (cc)
-first_then false true position b batches named z f None m tells e = absurd (cc)
-first_then false true position b batches named z f (Some front) m tells e =
-    let t = tells front m in
-    let same : b ∷ front ≡ named = cc in
-    let fits : size_of b ≤ position = (le-Decides (size_of b) position).0 f in
-    let whole : position ≡ total_of (b ∷ front) = omega (arith, t.1.1, fits, total-cons b front) in
-    (t.0, (ap (λ (bs : List Batch). b ∷ bs) t.1.0 ∙ ap (λ (bs : List Batch). bs ++ t.0) same, whole ∙ ap total_of same))
-
-first_tells : (position : ℕ) (batches named : List Batch) → first_with position batches ≡ Some named
-    → (rest : List Batch) × ((batches ≡ named ++ rest) × (position ≡ total_of named))
-first_tells position [] named e =
-    elim (position == 0) as (λ t. (position == 0) ≡ t → (if t then Some [] else None) ≡ Some named
-    → (rest : List Batch) × (([] ≡ named ++ rest) × (position ≡ total_of named))) [
-      | true ↦ λ z f. let none : [] ≡ named = cc in ([], (none ∙ sym (append-nil named), (Decides-eqb position 0).0 z ∙ ap total_of none))
-      | false ↦ λ z f. absurd (cc)
-    ] refl e
-first_tells position (b ∷ batches) named e =
-    first_then (position == 0) (nat_le (size_of b) position) position b batches named refl refl (first_with (position - size_of b) batches)
-    refl (first_tells (position - size_of b) batches) e
-
-first_is : (named rest : List Batch) → first_with (total_of named) (named ++ rest) ≡ Some named
-first_is [] [] = refl
-first_is [] (b ∷ rest) = refl
-first_is (b ∷ named) rest =
-    let p : ℕ = total_of (b ∷ named) in
-    let cons = total-cons b named in
-    let some : (p == 0) ≡ false = not_zero (p == 0) p (omega (arith, cons, size_of-pos b)) refl in
-    let fits : nat_le (size_of b) p ≡ true = (le-Decides (size_of b) p).1 (omega (arith, cons)) in
-    let left : p - size_of b ≡ total_of named = omega (arith, cons) in
-    ap (λ (z : Bool). if z then Some [] else if nat_le (size_of b) p then option_map (λ (front : List Batch). b ∷ front)
-    (first_with (p - size_of b) (named ++ rest)) else None) some
-    ∙ ap (λ (f : Bool). if f then option_map (λ (front : List Batch). b ∷ front) (first_with (p - size_of b) (named ++ rest)) else None)
-    fits
-    ∙ ap (λ (q : ℕ). option_map (λ (front : List Batch). b ∷ front) (first_with q (named ++ rest))) left
-    ∙ ap (option_map (λ (front : List Batch). b ∷ front)) (first_is named rest)
-
--- Lists of batches.
-
-pub same-Decides : (bs cs : List Batch) → Decides (same_batches bs cs) (bs ≡ cs)
-same-Decides [] [] = (λ e. refl, λ e. refl)
-same-Decides [] (c ∷ cs) = (λ e. absurd (cc), λ e. absurd (cc))
-same-Decides (b ∷ bs) [] = (λ e. absurd (cc), λ e. absurd (cc))
-same-Decides (b ∷ bs) (c ∷ cs) =
-    Decides-like (same_batch b c && same_batches bs cs)
-    (λ (p : (b ≡ c) × (bs ≡ cs)). let h : b ≡ c = p.0 in let t : bs ≡ cs = p.1 in cc)
-    (λ (e : b ∷ bs ≡ c ∷ cs). let h : b ≡ c = cc in let t : bs ≡ cs = cc in (h, t))
-    (Decides-and (same_batch b c) (same_batches bs cs) (same_batch-Decides b c) (same-Decides bs cs))
-
-empty-Decides : {A : Type 0} (xs : List A) → Decides (is_empty xs) (xs ≡ [])
-empty-Decides [] = (λ e. refl, λ e. refl)
-empty-Decides (x ∷ xs) = (λ e. absurd (cc), λ e. absurd (cc))
-
-some_taken : {A : Type 0} (xs : List A) → 0 < length xs → is_empty xs ≡ false
-some_taken [] lt = absurd (omega (arith, lt))
-some_taken (x ∷ xs) lt = refl
-
-not-Decides : (b : Bool) → Decides (not b) (b ≡ false)
-not-Decides true = (λ e. absurd (cc), λ e. absurd (cc))
-not-Decides false = (λ e. refl, λ e. refl)
 
 -- A place, from some segments on, as a statement by the same recursion.
 

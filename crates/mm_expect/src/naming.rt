@@ -125,62 +125,52 @@ fn is_zero(digest: &Digest) -> bool
     *digest == zero()
 }
 
+// A place that is looked for: behind these first batches, at an anchor and what extends it.
+#[derive(Clone, Copy)]
+struct Sought<'a> {
+    named: &'a [KeptBatch],
+    anchor: &'a Digest,
+    extension: &'a Digest,
+}
+
 // Whether the place is at this anchor, behind so many entries.
-fn is_at(
-    is_clean: bool,
-    here: &Digest,
-    start: usize,
-    named: &[KeptBatch],
-    anchor: &Digest,
-    extension: &Digest,
-) -> bool
-    ensures { result ≡ is_at is_clean here.now.bytes start (kept_batches named.now) anchor.now.bytes
-        extension.now.bytes }
+fn is_at(is_clean: bool, here: &Digest, start: usize, sought: &Sought<'_>) -> bool
+    ensures { result ≡ is_at is_clean here.now.bytes start (kept_batches sought.now.named.now) sought.now.anchor.now.bytes
+        sought.now.extension.now.bytes }
 {
     if !is_clean {
         return false;
     }
-    if named.len() != start {
+    if sought.named.len() != start {
         return false;
     }
-    if !same_digest(anchor, here) {
+    if !same_digest(sought.anchor, here) {
         return false;
     }
-    is_zero(extension)
+    is_zero(sought.extension)
 }
 
 // Whether the place is behind this anchor, in a segment that starts behind so many entries.
-fn is_behind(
-    barrier: &[u8; 32],
-    here: &Digest,
-    start: usize,
-    named: &[KeptBatch],
-    anchor: &Digest,
-    extension: &Digest,
-) -> bool
-    ensures { result ≡ is_behind barrier.now here.now.bytes start (kept_batches named.now)
-        anchor.now.bytes extension.now.bytes }
+fn is_behind(barrier: &[u8; 32], here: &Digest, start: usize, sought: &Sought<'_>) -> bool
+    ensures { result ≡ is_behind barrier.now here.now.bytes start (kept_batches sought.now.named.now)
+        sought.now.anchor.now.bytes sought.now.extension.now.bytes }
 {
-    if start >= named.len() {
+    if start >= sought.named.len() {
         return false;
     }
-    if !same_digest(anchor, here) {
+    if !same_digest(sought.anchor, here) {
         return false;
     }
-    same_digest(extension, &own_register(barrier, &named[start..]))
+    same_digest(
+        sought.extension,
+        &own_register(barrier, &sought.named[start..]),
+    )
 }
 
 // Whether the place is inside the open segment, whose batches are the last of all.
-fn is_inside(
-    lists: &Lists,
-    barrier: &[u8; 32],
-    last: &Digest,
-    named: &[KeptBatch],
-    anchor: &Digest,
-    extension: &Digest,
-) -> bool
-    ensures { result ≡ is_inside_at barrier.now last.now.bytes lists.now (kept_batches named.now)
-        anchor.now.bytes extension.now.bytes }
+fn is_inside(lists: &Lists, barrier: &[u8; 32], last: &Digest, sought: &Sought<'_>) -> bool
+    ensures { result ≡ is_inside_at barrier.now last.now.bytes lists.now (kept_batches sought.now.named.now)
+        sought.now.anchor.now.bytes sought.now.extension.now.bytes }
 {
     let batches = lists.batches();
     let current = lists.current();
@@ -188,7 +178,7 @@ fn is_inside(
     if !same_batches(&batches[start..], current) {
         return false;
     }
-    is_behind(barrier, last, start, named, anchor, extension)
+    is_behind(barrier, last, start, sought)
 }
 
 // The anchor after these segments.
@@ -208,22 +198,20 @@ fn is_here(
     barrier: &[u8; 32],
     here: &Digest,
     start: usize,
-    named: &[KeptBatch],
+    sought: &Sought<'_>,
     size: usize,
     ends: bool,
-    anchor: &Digest,
-    extension: &Digest,
 ) -> bool
-    ensures { result ≡ is_here is_clean barrier.now here.now.bytes start (kept_batches named.now)
-        size ends anchor.now.bytes extension.now.bytes }
+    ensures { result ≡ is_here is_clean barrier.now here.now.bytes start (kept_batches sought.now.named.now)
+        size ends sought.now.anchor.now.bytes sought.now.extension.now.bytes }
 {
-    if is_at(is_clean, here, start, named, anchor, extension) {
+    if is_at(is_clean, here, start, sought) {
         return true;
     }
-    if !is_behind(barrier, here, start, named, anchor, extension) {
+    if !is_behind(barrier, here, start, sought) {
         return false;
     }
-    if named.len().saturating_sub(start) <= size {
+    if sought.named.len().saturating_sub(start) <= size {
         return true;
     }
     ends
@@ -236,16 +224,9 @@ fn both(one: bool, other: bool) -> bool
 }
 
 // Whether it is some place of Opt.
-fn some_place(
-    lists: &Lists,
-    id: u8,
-    barrier: &[u8; 32],
-    named: &[KeptBatch],
-    anchor: &Digest,
-    extension: &Digest,
-) -> bool
-    ensures { result ≡ some_place id barrier.now lists.now (kept_batches named.now) anchor.now.bytes
-        extension.now.bytes [] lists.now.closed }
+fn some_place(lists: &Lists, id: u8, barrier: &[u8; 32], sought: &Sought<'_>) -> bool
+    ensures { result ≡ some_place id barrier.now lists.now (kept_batches sought.now.named.now) sought.now.anchor.now.bytes
+        sought.now.extension.now.bytes [] lists.now.closed }
 {
     let closed = lists.closed();
     let is_shut = lists.is_clear();
@@ -259,22 +240,20 @@ fn some_place(
         let items = segment.as_slice();
         let size = items.len();
         let ends = both(later == 0, is_shut);
-        if is_here(
-            is_clean, barrier, &here, entries, named, size, ends, anchor, extension,
-        ) {
+        if is_here(is_clean, barrier, &here, entries, sought, size, ends) {
             return true;
         }
-        if size > named.len() - entries {
-            return is_inside(lists, barrier, &last, named, anchor, extension);
+        if size > sought.named.len() - entries {
+            return is_inside(lists, barrier, &last, sought);
         }
         here = anchored(&here, &register_of(barrier, items));
         entries += size;
         is_clean = both(is_clean, !some_value(items));
     }
-    if is_at(is_clean, &here, entries, named, anchor, extension) {
+    if is_at(is_clean, &here, entries, sought) {
         return true;
     }
-    is_inside(lists, barrier, &last, named, anchor, extension)
+    is_inside(lists, barrier, &last, sought)
 }
 
 // Whether it is a place behind these first batches.
@@ -297,7 +276,14 @@ fn is_place(
         Variant::Opt => match place {
             Place::Basic(_) => false,
             Place::Opt { anchor, extension } => some_place(
-                lists, id, barrier, named, anchor, extension,
+                lists,
+                id,
+                barrier,
+                &Sought {
+                    named,
+                    anchor,
+                    extension,
+                },
             ),
         },
     }

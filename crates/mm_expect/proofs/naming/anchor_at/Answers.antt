@@ -1,4 +1,4 @@
-use Rattle.mm_expect.proofs.PlaceLaws.{anchor_none, anchor_taken}
+use Rattle.mm_expect.proofs.TakenLaws.{anchor_none, anchor_taken}
 use Rattle.mm_expect.proofs.naming.anchor_at.Goals as goal
 
 pub closed-init : goal.closed-init

@@ -1,4 +1,4 @@
-use Rattle.mm_expect.proofs.PlaceLaws.{first_stops}
+use Rattle.mm_expect.proofs.TakenLaws.{first_stops}
 use Rattle.mm_expect.proofs.naming.first_with.Goals as goal
 
 pub returns-then-left-eq0-clause-front : goal.returns-then-left-eq0-clause-front

@@ -7,8 +7,8 @@ use Rattle.mm_expect.proofs.naming.is_inside.Goals as goal
 
 pub returns-then-not-same_batches : goal.returns-then-not-same_batches
 returns-then-not-same_batches c =
-    inside_by c.args.barrier.now c.args.last.now.bytes c.args.lists.now (kept_batches c.args.named.now) c.args.anchor.now.bytes
-    c.args.extension.now.bytes
+    inside_by c.args.barrier.now c.args.last.now.bytes c.args.lists.now (kept_batches c.args.sought.now.named.now) c.args.sought.now.anchor.now.bytes
+    c.args.sought.now.extension.now.bytes
     c.batches-batches.result.now c.current-current.result.now c.saturating_sub-start.result c.same_batches.result false
     c.batches-batches.ensures
     c.current-current.ensures c.saturating_sub-start.ensures
@@ -16,12 +16,12 @@ returns-then-not-same_batches c =
     ∙ ap (λ (bs : List KeptBatch). same_batches (kept_batches bs) (kept_batches c.current-current.result.now))
     (back_is c.batches-batches.result.now c.saturating_sub-start.result))
     (sym (ap (λ (b : Bool). b && is_behind c.args.barrier.now c.args.last.now.bytes c.saturating_sub-start.result
-    (kept_batches c.args.named.now) c.args.anchor.now.bytes c.args.extension.now.bytes) c.if-not-same_batches.true))
+    (kept_batches c.args.sought.now.named.now) c.args.sought.now.anchor.now.bytes c.args.sought.now.extension.now.bytes) c.if-not-same_batches.true))
 
 pub returns : goal.returns
 returns c =
-    inside_by c.args.barrier.now c.args.last.now.bytes c.args.lists.now (kept_batches c.args.named.now) c.args.anchor.now.bytes
-    c.args.extension.now.bytes
+    inside_by c.args.barrier.now c.args.last.now.bytes c.args.lists.now (kept_batches c.args.sought.now.named.now) c.args.sought.now.anchor.now.bytes
+    c.args.sought.now.extension.now.bytes
     c.batches-batches.result.now c.current-current.result.now c.saturating_sub-start.result c.same_batches.result c.is_behind.result
     c.batches-batches.ensures
     c.current-current.ensures c.saturating_sub-start.ensures
@@ -30,4 +30,4 @@ returns c =
     (back_is c.batches-batches.result.now c.saturating_sub-start.result))
     (c.is_behind.ensures
     ∙ sym (ap (λ (b : Bool). b && is_behind c.args.barrier.now c.args.last.now.bytes c.saturating_sub-start.result
-    (kept_batches c.args.named.now) c.args.anchor.now.bytes c.args.extension.now.bytes) c.if-not-same_batches.false))
+    (kept_batches c.args.sought.now.named.now) c.args.sought.now.anchor.now.bytes c.args.sought.now.extension.now.bytes) c.if-not-same_batches.false))

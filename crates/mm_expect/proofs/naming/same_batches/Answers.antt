@@ -1,4 +1,4 @@
-use Rattle.mm_expect.proofs.PlaceLaws.{same_not}
+use Rattle.mm_expect.proofs.TakenLaws.{same_not}
 use Rattle.mm_expect.proofs.naming.same_batches.Goals as goal
 
 pub returns-then-batches-others : goal.returns-then-batches-others

@@ -7,7 +7,7 @@ use Rattle.mm_module.proofs.RunLaws.{state_after-is_spelled}
 use Rattle.mm_model.specs.History.{requests_of}
 use Rattle.mm_model.specs.Long.{is_long}
 use Rattle.mm_model.specs.Kept.{kept_batches}
-use Rattle.mm_expect.proofs.PlaceLaws.{state_taken, short_at}
+use Rattle.mm_expect.proofs.TakenLaws.{state_taken, short_at}
 use Rattle.mm_expect.proofs.naming.state_after.Goals as goal
 
 pub run_batch-requires-clause-spelled : goal.run_batch-requires-clause-spelled
