@@ -9,6 +9,7 @@ pub mod OptCalls
 pub mod OptAlike
 pub mod OptShown
 pub mod OptLeaves
+pub mod OptIdle
 pub mod OptAsking
 pub mod OptRefusing
 pub mod Completing

@@ -38,7 +38,8 @@ use Rattle.mm_callers.proofs.Again.{twice_by}
 use Rattle.mm_callers.proofs.Twice.{right_of, listed_by, once_after, answered_at, not_again}
 use Rattle.mm_callers.proofs.OptCalls.{answered_short}
 use Rattle.mm_callers.proofs.OptAlike.{Alike, still, grown_by, issued_alike}
-use Rattle.mm_callers.proofs.OptLeaves.{Left, hands, call_goes_on, last, left_idle, asked_again}
+use Rattle.mm_callers.proofs.OptLeaves.{Left, hands, call_goes_on, last}
+use Rattle.mm_callers.proofs.OptIdle.{left_idle, asked_again}
 
 -- a call that is made again after a device's fault, where it answers
 pub answered_after_fault : (meaning : Meaning) (old middle new : Standing) (offer request : List ℕ) (first : Result BatchAnswer Refusal)

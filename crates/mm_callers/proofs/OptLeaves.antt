@@ -27,13 +27,12 @@ use Rattle.mm_call.specs.Called.{called, seen_at, ended_by, given_for}
 use Rattle.mm_call.specs.CallsOn.{CallsOn}
 use Rattle.mm_call.specs.Standing.{StandsAt, shown}
 use Rattle.mm_call.specs.Asked.{counted_part, counted_moves, moves_messages, foreign_in, IsWithin, IsAsked}
-use Rattle.mm_call.specs.Premises.{AreAsked, AreShown, IsIdle}
+use Rattle.mm_call.specs.Premises.{AreAsked, AreShown}
 use Rattle.mm_call.specs.Tied.{standing_items}
 use Rattle.mm_call.proofs.BasicLaw.{unlacked}
 use Rattle.mm_call.proofs.Continuing.{stands_at}
 use Rattle.mm_call.proofs.Moving.{committed_in}
 use Rattle.mm_call.proofs.OptFinding.{placed, lives}
-use Rattle.mm_call.proofs.Idle.{asked_idle, idle_again, idle_moves}
 use Rattle.mm_call.proofs.OptHolding.{is_agrees}
 use Rattle.mm_call.proofs.OptLaw.{opt_calls_agree}
 use Rattle.mm_call.proofs.OptShapes.{Shape, shape}
@@ -44,7 +43,7 @@ use Rattle.mm_call.proofs.Walks.{Commits, nothing, batch, changing, asks, opt_co
 use Rattle.mm_call.proofs.Along.{opt_closes, closes_first, closes-foreign}
 use Rattle.mm_callers.proofs.Calls.{Comes, kept, answered_only}
 use Rattle.mm_callers.proofs.OptCalls.{seen_asking, comes}
-use Rattle.mm_callers.proofs.OptAlike.{alike_still, alike_one, digests_still, Alike, still, grown_by, same_closed, names_after}
+use Rattle.mm_callers.proofs.OptAlike.{alike_still, alike_one, digests_still, Alike, still, grown_by, same_closed}
 use Rattle.mm_callers.proofs.OptShown.{Way, only_reads, breaks_off, commits_it, way, pushed_open, counts_opening, none_counted, flag_kept, flag_set, shown_front, shown_back, shown_shut, register_then, stands_with}
 
 -- what one call leaves: the history after it, and what is asked of that
@@ -122,7 +121,7 @@ module _ (meaning : Meaning) (key barrier : List ℕ) (all others : List (List �
       (foreign_first v (map Foreign w ++ []) ∙ foreign_first w []) (seen_closes v w) in
       clean_by meaning key barrier y sees end (One request) (ap (λ (x : History). x.closed) foreign) (lives sees p.live).clean alike
 
-  answered_clean_as : (y : History) (old new : Standing) (offer request : List ℕ) (result : Result BatchAnswer Refusal)
+  pub answered_clean_as : (y : History) (old new : Standing) (offer request : List ℕ) (result : Result BatchAnswer Refusal)
       (c : CallsOn Opt meaning old new offer (One request) result)
       → AreAsked all others asked (opt meaning key barrier) y offer (One request) → (answer : BatchAnswer) → result ≡ Ok answer
       → result ≡ given_for (called (opt meaning key barrier) (by_lists (opt meaning key barrier)) y c.course offer (One request)).ending
@@ -396,49 +395,3 @@ module _ (meaning : Meaning) (key barrier : List ℕ) (all others : List (List �
       (ap (walk c.course.fates 1) (asks y.is_open (is_fresh found) b)) refl
       (λ answer gives. whole_walk w.broken (by_digests i) seen (all_made (by_digests i) d w.moves) b found w.moves answer
       (sym g.gives ∙ gives))
-
-  -- What an idle call leaves, after which it is idle again.
-  pub record LeftIdle (y : History) (new : Standing) (offer request : List ℕ) (result : Result BatchAnswer Refusal) : Type 0 where
-    pub left : Left y new offer request result
-    pub idle : IsIdle (opt meaning key barrier) left.after offer (One request)
-
-  pub left_idle : (y : History) (old new : Standing) (offer request : List ℕ) (result : Result BatchAnswer Refusal)
-      → CallsOn Opt meaning old new offer (One request) result → StandsFor (opt meaning key barrier) old y
-      → AreAsked all others asked (opt meaning key barrier) y offer (One request) → IsIdle (opt meaning key barrier) y offer (One request)
-      → LeftIdle y new offer request result
-  left_idle y old new offer request result c s a idle =
-      let i : Instance = opt meaning key barrier in
-      let b : Batch = One request in
-      let k = c.continues key barrier y all others asked s (asked_idle meaning key barrier all others asked y c.course offer b a idle) in
-      let o = called i (by_lists i) y c.course offer b in
-      let only = idle_moves meaning key barrier y c.course offer b idle in
-      let same : bare o.state ≡ bare y = ap (λ (ms : List Move). bare (all_made (by_lists i) y ms)) only.are
-      ∙ alike_still meaning key barrier (map Foreign only.values) y (committed-foreign only.values) (closes-foreign only.values) in
-      record {
-        left = record {
-          after = o.state;
-          stands = k.stands;
-          within = k.within;
-          comes =
-              subst (λ (r : Result BatchAnswer Refusal). Comes i y offer b o.state r) (sym k.gives)
-              (comes meaning key barrier all others asked y c.course offer b a);
-          alike = still same;
-          clean = λ answer is. answered_clean_as y old new offer request result c a answer is k.gives (still same);
-        };
-        idle = idle_again meaning key barrier y o.state offer b same idle;
-      }
-
-  -- what is asked of a call goes on for the same call made again
-  pub asked_again : (y : History) (new : Standing) (offer request : List ℕ) (result : Result BatchAnswer Refusal)
-      (left : Left y new offer request result) → AreAsked all others asked (opt meaning key barrier) y offer (One request)
-      → AreAsked all others asked (opt meaning key barrier) left.after offer (One request)
-  asked_again y new offer request result left a = record {
-    clear = a.clear;
-    apart = a.apart;
-    within = left.within;
-    is_asked = a.is_asked;
-    genuine =
-        λ content right. names_after meaning key barrier y left.after (One request) content a.within.sound left.within.sound left.alike
-        (a.genuine content right);
-    offered = a.offered;
-  }

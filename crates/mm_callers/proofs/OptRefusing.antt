@@ -45,7 +45,8 @@ use Rattle.mm_callers.proofs.Refusing.{Fails, fails, said_by, calm_then, IsCalm,
 use Rattle.mm_callers.proofs.Twice.{once_after, answered_at}
 use Rattle.mm_callers.proofs.OptCalls.{comes, answered_short, answered_once}
 use Rattle.mm_callers.proofs.OptAlike.{alike_still, Alike, names_after, issued_alike}
-use Rattle.mm_callers.proofs.OptLeaves.{alike_of, seen_closes, DigestMoves, GoesOn, call_goes_on, hands, left_idle, asked_again}
+use Rattle.mm_callers.proofs.OptLeaves.{alike_of, seen_closes, DigestMoves, GoesOn, call_goes_on, hands}
+use Rattle.mm_callers.proofs.OptIdle.{left_idle, asked_again}
 use Rattle.mm_callers.proofs.OptAsking.{asked_next, answered_after_fault, answered_twice}
 
 -- a call that is refused by what it found has made its reading steps alone

@@ -46,7 +46,8 @@ use Rattle.mm_callers.proofs.Refusing.{Fell}
 use Rattle.mm_callers.proofs.OptCalls.{answered_short}
 use Rattle.mm_callers.proofs.OptAlike.{names_after}
 use Rattle.mm_callers.proofs.OptShown.{none_counted}
-use Rattle.mm_callers.proofs.OptLeaves.{Left, DigestMoves, hands, left_idle}
+use Rattle.mm_callers.proofs.OptLeaves.{Left, DigestMoves, hands}
+use Rattle.mm_callers.proofs.OptIdle.{left_idle}
 use Rattle.mm_callers.proofs.OptClosed.{may_close_back}
 use Rattle.mm_callers.proofs.OptRefusing.{refused_once, fell_short}
 use Rattle.mm_callers.proofs.OptRepeating.{asked_behind, Fresh, reads_alone, reads_show, reached, behind_seen}

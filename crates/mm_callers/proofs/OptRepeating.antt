@@ -42,7 +42,8 @@ use Rattle.mm_callers.specs.Closing.{MayClose, AreShownUnlessIdle, RepeatsReply}
 use Rattle.mm_callers.proofs.OptCalls.{right_at}
 use Rattle.mm_callers.proofs.OptAlike.{names_alike}
 use Rattle.mm_callers.proofs.OptShown.{Brought, flag_kept, shown_front}
-use Rattle.mm_callers.proofs.OptLeaves.{Left, DigestMoves, hands, left_idle, left_reading, asked_again, call_goes_on}
+use Rattle.mm_callers.proofs.OptLeaves.{Left, DigestMoves, hands, left_reading, call_goes_on}
+use Rattle.mm_callers.proofs.OptIdle.{left_idle, asked_again}
 use Rattle.mm_callers.proofs.OptClosing.{shown_values, Shut, check_goes_on, shut_still, shuts}
 use Rattle.mm_callers.proofs.OptClosed.{may_close_front, may_close_back}
 use Rattle.mm_callers.proofs.OptRepeats.{told_again, reading_steps_of, offers, not_at_end, repeats_by, closed_same}
