@@ -6,6 +6,7 @@ mod event;
 mod first;
 mod flight;
 mod laws;
+mod outside;
 mod platform;
 mod progress;
 mod put;
