@@ -1,5 +1,5 @@
 -- One page of a write: it is there already, it is written, or a look-up failed.
-use Rattle.std.proofs.Common.{ℕ, ◌≡◌, true, false, Option, Some, None, Ok, Err, List, [], length, get_or, refl, ap, sym, ◌∙◌, subst, arith, ◌-◌}
+use Rattle.std.proofs.Common.{ℕ, ◌≡◌, true, false, Option, Some, None, Ok, Err, List, [], length, get_or, refl, ap, sym, ◌∙◌, subst, arith}
 use Rattle.std.specs.Prelude.{◌&&◌}
 use Rattle.std.specs.Str.{bytes_eq}
 use Rattle.mm_base.specs.declared.fault.Failed.{Failed}

@@ -13,7 +13,7 @@ use Rattle.mm_play.proofs.Telling.{tells_by, tells_more}
 use Rattle.mm_receipts.specs.declared.pair.Asked.{Asked}
 use Rattle.mm_receipts.specs.declared.report.ReceiptReport.{ReceiptReport}
 use Rattle.mm_receipts.specs.Checking.{Tally, Checking, second_answer, settles, receipts_answer, receipts_closing, closing_at, last_line, first_checking}
-use Rattle.mm_receipts.specs.Reports.{AnswersHonestly, ChecksReceipts, ChecksHonestly, CountsLast, EndsHonestly}
+use Rattle.mm_receipts.specs.Reports.{AnswersHonestly, ChecksReceipts, ChecksHonestly, EndsHonestly}
 use Rattle.mm_receipts.proofs.HonestLaws.{honest}
 
 settled-answer : (it : Checking) (old : Tally) (asked : Asked) (line : List ℕ) (answer : Result (List ℕ × Tally) Refused)

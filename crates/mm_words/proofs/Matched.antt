@@ -1,6 +1,6 @@
 -- The words of a command are taken, and what is matched is the command's.
 use Rattle.std.proofs.Common.{◌≡◌, ◌≤◌, ◌∙◌, ℕ, true, false, List, [], ◌∷◌, refl, sym, ap, subst, arith, codes}
-use Rattle.std.specs.Prelude.{Option, Some, None, nat_lt, option_map}
+use Rattle.std.specs.Prelude.{Option, Some, nat_lt, option_map}
 use Rattle.std.specs.Fmt.{decimal}
 use Rattle.std.specs.Option.{option_map_or}
 use Rattle.std.proofs.lemmas.Bool.Decides.{nat_tests}
