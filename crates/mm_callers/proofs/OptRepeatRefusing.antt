@@ -27,7 +27,7 @@ use Rattle.mm_call.specs.Found.{Found, found_at}
 use Rattle.mm_call.specs.FoundWords.{found_unless_wanting, is_fresh}
 use Rattle.mm_call.specs.Leaving.{Blames, whole}
 use Rattle.mm_call.specs.Levels.{by_digests, all_made}
-use Rattle.mm_call.specs.Premises.{AreAsked, AreShown}
+use Rattle.mm_call.specs.Premises.{AreAsked}
 use Rattle.mm_call.specs.Refusals.{fault_of}
 use Rattle.mm_call.specs.Standing.{shown}
 use Rattle.mm_call.specs.Tied.{standing_items}
