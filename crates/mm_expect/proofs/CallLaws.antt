@@ -7,14 +7,10 @@ use Rattle.mm_digest.specs.declared.variant.Variant.TheVariants.{Opt}
 use Rattle.mm_digest.specs.Messages.{zero_bytes}
 use Rattle.mm_platform.specs.declared.plan.Meddle.{Meddle}
 use Rattle.mm_platform.specs.declared.plan.Stop.{Stop}
-use Rattle.mm_modules.specs.declared.any.AnyModule.{AnyModule}
 use Rattle.mm_module.specs.Batch.{Batch}
-use Rattle.mm_seal.specs.declared.snapshot.Place.{Place}
 use Rattle.mm_seal.specs.declared.snapshot.Place.TheVariants.{Opt as InOpt}
-use Rattle.mm_model.specs.Chains.{register_of}
-use Rattle.mm_model.specs.ChainsWords.{own_values}
 use Rattle.mm_model.specs.Instance.{Instance}
-use Rattle.mm_model.specs.History.{History, Move}
+use Rattle.mm_model.specs.History.{History}
 use Rattle.mm_model.specs.HistoryWords.{cell_digest_of}
 use Rattle.mm_model.specs.Places.{issued_place}
 use Rattle.mm_model.specs.PlacesWords.{digest_of}

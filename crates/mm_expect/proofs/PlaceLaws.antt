@@ -15,7 +15,7 @@ use Rattle.mm_model.specs.Instance.{Instance}
 use Rattle.mm_model.specs.Places.{Names}
 use Rattle.mm_digest.specs.declared.variant.Variant.TheVariants.{Opt}
 use Rattle.mm_digest.specs.Messages.{start_of, anchored_of}
-use Rattle.mm_model.specs.Chains.{register_of, anchor_of}
+use Rattle.mm_model.specs.Chains.{register_of}
 use Rattle.mm_model.specs.ChainsWords.{own_values}
 use Rattle.mm_model.specs.History.{Entry, History, requests_of, joined}
 use Rattle.mm_model.specs.HistoryWords.{values_of}
@@ -28,7 +28,7 @@ use Rattle.mm_model.specs.declared.kept.KeptEntry.{KeptEntry}
 use Rattle.mm_model.specs.Kept.{kept_batch, kept_batches, kept_entry, kept_entries, kept_segments}
 use Rattle.mm_expect.specs.Naming.{first_with, same_batches, anchor_at, is_at, is_behind, is_within, is_here, is_inside_at, some_place, is_place_in, is_place, is_named_at, is_named}
 use Rattle.mm_expect.proofs.NameLaws.{first_beside, stated_beside}
-use Rattle.mm_expect.proofs.TakenLaws.{taken, not_equal, not_less, at_elsewhere_as, not_or, segments_taken, segments_left, anchor_more, anchor_none}
+use Rattle.mm_expect.proofs.TakenLaws.{not_equal, not_less, at_elsewhere_as, not_or, segments_taken, segments_left, anchor_more, anchor_none}
 
 -- The test inside the open segment, by what was compared.
 pub inside_by : (barrier last : List ℕ) (y : History) (named : List Batch) (a e : List ℕ) (bs cs : List KeptBatch) (start : ℕ) (r s : Bool)

@@ -1,6 +1,5 @@
-use Rattle.std.proofs.Common.{Bool, List, ap, ◌∙◌, subst}
+use Rattle.std.proofs.Common.{Bool, ap, ◌∙◌, subst}
 use Rattle.mm_module.specs.Batches.{batch_of}
-use Rattle.mm_call.specs.Ended.{is_broken}
 use Rattle.mm_run.specs.Folds.{after_stop, reply_of}
 use Rattle.mm_expect.specs.Calls.{CallsBy, ending_of}
 use Rattle.mm_expect.specs.Coming.{called_on, moves_if}
