@@ -30,8 +30,8 @@ use Rattle.mm_slots.specs.declared.said.Said.{Said}
 use Rattle.mm_slots.specs.declared.said.Said.TheVariants.{Replied}
 use Rattle.mm_slots.specs.declared.slot.Slot.{Slot as CodeSlot}
 use Rattle.mm_slots.specs.Answers.{IsSayable}
-use Rattle.mm_slots.specs.Slot.{Slot, Turned, slot_instance, outcome_in, plays}
-use Rattle.mm_slots.specs.Held.{digests_in, slot_in, flight_in, instance_in, FitsFlight, Fits, GoesOn, Comes, flown, HasRegister, within_64, EndsCall, KeepsSlot}
+use Rattle.mm_slots.specs.Slot.{Slot, slot_instance, outcome_in, plays}
+use Rattle.mm_slots.specs.Held.{digests_in, slot_in, flight_in, instance_in, FitsFlight, Fits, Comes, flown, HasRegister, within_64, EndsCall, KeepsSlot}
 use Rattle.mm_slots.specs.Lengths.{length_if}
 use Rattle.mm_platform.specs.Told.{next_plan}
 

@@ -1,5 +1,5 @@
 -- All slots lose their power, and what an event leaves of them.
-use Rattle.std.proofs.Common.{◌≡◌, ◌∙◌, ◌+◌, ◌≤◌, ◌<◌, ◌==◌, ℕ, Bool, true, false, cond, List, [], ◌∷◌, ◌++◌, length, map, get_or, Option, refl, sym, ap, append-nil, arith}
+use Rattle.std.proofs.Common.{◌≡◌, ◌∙◌, ◌+◌, ◌≤◌, ◌<◌, ◌==◌, ℕ, Bool, true, false, cond, List, [], ◌∷◌, ◌++◌, length, get_or, Option, refl, sym, ap, arith}
 use Rattle.std.specs.Option.{option_map_or}
 use Rattle.std.proofs.lemmas.Bool.{ne_eqb}
 use Rattle.mm_platform.specs.Standing.{Standing}
@@ -8,11 +8,10 @@ use Rattle.mm_slots.specs.declared.event.Action.{Action}
 use Rattle.mm_slots.specs.declared.event.SlotEvent.TheVariants.{Power, At}
 use Rattle.mm_slots.specs.declared.said.Said.{Said}
 use Rattle.mm_slots.specs.declared.slot.Slot.{Slot as CodeSlot}
-use Rattle.mm_slots.specs.Answers.{answer_text, answers_text}
 use Rattle.mm_slots.specs.Held.{slot_in}
 use Rattle.mm_slots.specs.Slot.{Met, Acts, Loses}
-use Rattle.mm_slots.specs.Table.{Row, PowerLost, Says, is_cut, cuts_all, met_in}
-use Rattle.mm_slots.specs.Rows.{rows_in, AllFit, ActsAt, LosesIf, LosesAll, others_lose, touched, only_at, Follows, Tells, Answers}
+use Rattle.mm_slots.specs.Table.{Row, is_cut, cuts_all, met_in}
+use Rattle.mm_slots.specs.Rows.{rows_in, AllFit, ActsAt, LosesIf, LosesAll, others_lose, touched, only_at, Follows, Tells}
 use Rattle.mm_slots.proofs.Rowing.{touched_more, touched_same, untouched, rows_length, all_more, same_length, get_row}
 
 -- where no slot has the number, all lose their power

@@ -10,9 +10,6 @@ use Rattle.mm_model.specs.Moves.{made}
 use Rattle.mm_flight.specs.InFlight.{plan_by}
 use Rattle.mm_world.specs.Held.{digest_in, flag_in}
 use Rattle.mm_steps.specs.Stopping.{is_nothing}
-use Rattle.mm_steps.specs.declared.asks.Stepped.TheVariants as asks
-use Rattle.mm_steps.specs.declared.closings.SteppedClosing.TheVariants as closings
-use Rattle.mm_slots.specs.declared.event.Breaking.TheVariants as breaking
 use Rattle.mm_slots.specs.declared.flight.Asking.{Asking}
 use Rattle.mm_slots.specs.declared.flight.Closing.{Closing}
 use Rattle.mm_slots.specs.declared.flight.Flight.{Flight as CodeFlight}

@@ -30,14 +30,14 @@ use Rattle.mm_schedule.specs.declared.reply.Way.TheVariants as way
 use Rattle.mm_run.specs.FoldsWords.{stopped_reply}
 use Rattle.mm_flight.specs.InFlight.{plan_by, under}
 use Rattle.mm_flight.proofs.ClosingTurning.{closing_replanned, closing_moves, closing_then, closing_done, closing_refused, closing_fails, closing_faultless}
-use Rattle.mm_flight.proofs.Flying.{replans, goes_on}
+use Rattle.mm_flight.proofs.Flying.{goes_on}
 use Rattle.mm_world.specs.Calls.{stopped_step, closes_at, SettlesPlan, told_closing, stops_in}
 use Rattle.mm_world.specs.Asks.{Came, quiet_as}
 use Rattle.mm_world.proofs.Checking.{checks_planned}
 use Rattle.mm_steps.specs.declared.closings.SteppedClosing.TheVariants.{Going, Over}
 use Rattle.mm_steps.specs.Stopping.{is_nothing, stop_behind}
 use Rattle.mm_steps.specs.Closing.{checks_whole, checks_rest, ClosesInFlight, closed_so, SteppedClosingTo, ClosesAs}
-use Rattle.mm_steps.proofs.Stopping.{goes_as, same_next, fails_next}
+use Rattle.mm_steps.proofs.Stopping.{goes_as, fails_next, behind, replans_behind, settled_under}
 
 abbrev Said : Type 0
 Said = Result Checkpointed CheckpointRefusal
@@ -67,20 +67,6 @@ something stop (Err (refusal.Device fault)) none = let clash : Some fault ≡ No
 
 -- a turn that is its last
 
-abbrev behind : List Meddle → ℕ → Plan
-behind meddles made = plan_by (stop_behind (made + 1)) meddles
-
-settled_under : (stop : Stop) (broken : Bool) (plan : Plan) (at : ℕ) (mid new : Standing) → SettlesPlan stop broken mid new
-    → SettlesPlan stop broken (under plan at mid) new
-settled_under stop broken plan at mid new s = record {
-  cell = s.cell;
-  items = s.items;
-  is_on = s.is_on;
-  plan = s.plan;
-  steps = s.steps;
-  writes = s.writes;
-}
-
 over_to : (variant : Variant) (meaning : Meaning) (key barrier : List ℕ) (d : Digests) (from : Standing) (issued : List (List ℕ))
     (call : CheckpointStage) (now mid : Standing) (meddles : List Meddle) (next : ℕ) (new : Standing)
     (ended : Said) (said : Reply) → (f : ClosesInFlight variant meaning key barrier d from call now meddles next)
@@ -109,7 +95,7 @@ turned_under : (call : CheckpointStage) (now mid : Standing) (meddles : List Med
     (under (behind meddles made) (counted made) mid) turned
 turned_under call now mid meddles made turned on planned few t =
     closing_replanned call now mid turned (behind meddles made) (plan_by Quiet meddles) made
-    (replans (behind meddles made) now meddles made on planned few (same_next meddles made)) t
+    (replans_behind now meddles made on planned few) t
 
 pub done_to : (variant : Variant) (meaning : Meaning) (key barrier : List ℕ) (d : Digests) (from : Standing) (issued : List (List ℕ))
     (call : CheckpointStage) (now mid : Standing) (meddles : List Meddle) (next : ℕ) (new : Standing)

@@ -36,9 +36,9 @@ use Rattle.mm_flight.specs.declared.ask.AskTurn.{AskTurn}
 use Rattle.mm_flight.specs.declared.ask.AskTurn.TheVariants as turn
 use Rattle.mm_flight.specs.Asks.{ask_number, AskTurns, TurnMayAsk, AskFinishes, AdvancedAsk}
 use Rattle.mm_flight.specs.InFlight.{plan_by, under}
-use Rattle.mm_flight.proofs.Replanning.{Replans, AlwaysFails}
+use Rattle.mm_flight.proofs.Replanning.{AlwaysFails}
 use Rattle.mm_flight.proofs.Asking.{ask_act, ask_replanned, ask_moves, ask_then, ask_answers, ask_refuses, ask_fails, ask_faultless, ask_breaks, few_steps}
-use Rattle.mm_flight.proofs.Flying.{replans, goes_on}
+use Rattle.mm_flight.proofs.Flying.{goes_on}
 use Rattle.mm_world.specs.declared.call.Called.{Called}
 use Rattle.mm_world.specs.Calls.{refused_call, answered_call, broken_as, stopped_step, RefusedAs, CalledAs, SettlesPlan}
 use Rattle.mm_world.specs.Asks.{Came, Lacks}
@@ -47,7 +47,7 @@ use Rattle.mm_steps.specs.declared.asks.Stepped.{Stepped}
 use Rattle.mm_steps.specs.declared.asks.Stepped.TheVariants.{Going}
 use Rattle.mm_steps.specs.Stopping.{BreaksNext, is_nothing, stop_behind}
 use Rattle.mm_steps.specs.Asking.{asks_whole, asks_rest, AsksInFlight, asked_so, SteppedTo, MayStepOn, over_in, EndsAs}
-use Rattle.mm_steps.proofs.Stopping.{goes_as, same_next, fails_next, always_fails}
+use Rattle.mm_steps.proofs.Stopping.{goes_as, fails_next, always_fails, behind, replans_behind, settled_under}
 
 -- what a call came to that was made whole by what ended it
 
@@ -119,25 +119,6 @@ something stop size (Broken fault commits) it result whole e told = absurd (cc)
 unbroken_as : (fault : Option StepFault) (why : Refusal) → fault ≡ None → is_broken (ended_with fault why) ≡ false
 unbroken_as None why e = refl
 unbroken_as (Some fault) why e = cc
-
-abbrev behind : List Meddle → ℕ → Plan
-behind meddles made = plan_by (stop_behind (made + 1)) meddles
-
-replans_behind : (now : Standing) (meddles : List Meddle) (made : ℕ) → now.is_on ≡ true
-    → now.plan ≡ Some (record (plan_by Quiet meddles) { at = made }) → made < 255
-    → Replans (behind meddles made) (plan_by Quiet meddles) made now
-replans_behind now meddles made on planned few = replans (behind meddles made) now meddles made on planned few (same_next meddles made)
-
-settled_under : (stop : Stop) (broken : Bool) (plan : Plan) (at : ℕ) (mid new : Standing) → SettlesPlan stop broken mid new
-    → SettlesPlan stop broken (under plan at mid) new
-settled_under stop broken plan at mid new s = record {
-  cell = s.cell;
-  items = s.items;
-  is_on = s.is_on;
-  plan = s.plan;
-  steps = s.steps;
-  writes = s.writes;
-}
 
 -- what the step of a call that is over gives, by what it came to
 over_gives : (variant : Variant) (meaning : Meaning) (key barrier : List ℕ) (d : Digests) (from : Standing) (issued : List (List ℕ))

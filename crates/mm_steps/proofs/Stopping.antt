@@ -16,9 +16,10 @@ use Rattle.mm_platform.specs.Steps.{Act, Goes, fault_at, will_answer}
 use Rattle.mm_platform.specs.Told.{step_made}
 use Rattle.mm_platform.proofs.Stepping.{goes}
 use Rattle.mm_flight.specs.InFlight.{plan_by, under, SaySame, GoesOnAs}
-use Rattle.mm_flight.proofs.Replanning.{AlwaysFails, counted_few}
-use Rattle.mm_world.specs.Calls.{stopped_step}
+use Rattle.mm_flight.proofs.Replanning.{AlwaysFails, counted_few, Replans}
+use Rattle.mm_world.specs.Calls.{stopped_step, SettlesPlan}
 use Rattle.mm_steps.specs.Stopping.{BreaksNext, stop_behind}
+use Rattle.mm_flight.proofs.Flying.{replans}
 
 off_here : (here : Bool) → here ≡ false → (if here then Some Off else None) ≡ None
 off_here true e = cc
@@ -131,3 +132,23 @@ breaks_at stop now meddles made next on planned few at is =
       planned = planned;
       fails = fails_at stop (counted made) (next_number (stopped_step stop) next made (counted made) at is counts) (omega arith);
     }
+
+-- the plan that stops behind the steps that were made, and what it leaves
+abbrev pub behind : List Meddle → ℕ → Plan
+behind meddles made = plan_by (stop_behind (made + 1)) meddles
+
+pub replans_behind : (now : Standing) (meddles : List Meddle) (made : ℕ) → now.is_on ≡ true
+    → now.plan ≡ Some (record (plan_by Quiet meddles) { at = made }) → made < 255
+    → Replans (behind meddles made) (plan_by Quiet meddles) made now
+replans_behind now meddles made on planned few = replans (behind meddles made) now meddles made on planned few (same_next meddles made)
+
+pub settled_under : (stop : Stop) (broken : Bool) (plan : Plan) (at : ℕ) (mid new : Standing) → SettlesPlan stop broken mid new
+    → SettlesPlan stop broken (under plan at mid) new
+settled_under stop broken plan at mid new s = record {
+  cell = s.cell;
+  items = s.items;
+  is_on = s.is_on;
+  plan = s.plan;
+  steps = s.steps;
+  writes = s.writes;
+}
