@@ -5,7 +5,6 @@ use Rattle.mm_digest.specs.declared.digest.Digest.{Digest}
 use Rattle.mm_digest.specs.declared.variant.Variant.{Variant}
 use Rattle.mm_digest.specs.declared.variant.Variant.TheVariants as variant
 use Rattle.mm_platform.specs.declared.plan.Meddle.{Meddle}
-use Rattle.mm_platform.specs.declared.plan.Stop.{Stop}
 use Rattle.mm_platform.specs.Standing.{Plan, Standing}
 use Rattle.mm_platform.specs.Memory.{meddling}
 use Rattle.mm_platform.specs.Told.{next_plan}
@@ -21,11 +20,8 @@ use Rattle.mm_flight.specs.Asks.{begun, ask_number, MayAsk}
 use Rattle.mm_flight.proofs.Asking.{ask_begun, begun_may_ask, may_ask_planned}
 use Rattle.mm_flight.proofs.Flying.{begins, takes_in, meddled}
 use Rattle.mm_world.specs.Stands.{Stands, IsQuiet}
-use Rattle.mm_world.specs.Calls.{stopped_step}
-use Rattle.mm_steps.specs.Stopping.{BreaksNext}
 use Rattle.mm_steps.specs.Asking.{asks_whole, asks_rest, AsksInFlight}
 use Rattle.mm_steps.specs.Closing.{checks_whole, checks_rest, ClosesInFlight}
-use Rattle.mm_steps.proofs.Stopping.{breaks_at}
 
 first_number : (variant : Variant) → ask_number (begun variant) ≡ 1
 first_number variant.Basic = refl
