@@ -11,8 +11,6 @@ mod lines;
 mod replay_fault;
 mod sink;
 mod source;
-#[cfg(test)]
-mod tests;
 
 pub use bytes::Bytes;
 pub use decimal::{put_decimal, read_decimal};

@@ -9,6 +9,3 @@ mod laws;
 pub mod opt;
 
 pub use laws::calls_are_complete;
-
-#[cfg(test)]
-mod tests;

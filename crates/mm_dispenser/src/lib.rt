@@ -7,6 +7,3 @@ pub mod laws;
 mod listed;
 
 pub use dispenser::Dispenser;
-
-#[cfg(test)]
-mod tests;

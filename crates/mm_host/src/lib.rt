@@ -21,8 +21,3 @@ pub use resuming::{Resumed, resume};
 pub use serving::session;
 pub use setup::init;
 pub use slot_laws::{first_starts_can_go_on, old_slots_stay_genuine, slots_keep_fitting};
-
-#[cfg(test)]
-mod setup_tests;
-#[cfg(test)]
-mod tests;

@@ -6,6 +6,3 @@ mod limiter;
 mod listed;
 
 pub use limiter::Limiter;
-
-#[cfg(test)]
-mod tests;

@@ -5,6 +5,3 @@ mod counter;
 mod listed;
 
 pub use listed::{Listed, put_numbered};
-
-#[cfg(test)]
-mod tests;

@@ -30,6 +30,3 @@ pub use move_laws::{
 pub use refusal::Refusal;
 pub use symbolic::Symbolic;
 pub use verdict::Verdict;
-
-#[cfg(test)]
-mod tests;

@@ -16,6 +16,3 @@ pub use outputs::Outputs;
 pub use texts::{are_visible, text_and_number, u64_of_bytes};
 pub use value::value_in;
 pub use words::{Words, space_in};
-
-#[cfg(test)]
-mod tests;

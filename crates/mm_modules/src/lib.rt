@@ -4,6 +4,3 @@
 mod any;
 
 pub use any::{AnyModule, by_id, by_name, module_names};
-
-#[cfg(test)]
-mod tests;

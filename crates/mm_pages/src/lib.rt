@@ -13,6 +13,3 @@ mod writing;
 pub use device::PageDevice;
 pub use memory::MemPages;
 pub use store::PageStore;
-
-#[cfg(test)]
-mod tests;

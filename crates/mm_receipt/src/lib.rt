@@ -8,6 +8,3 @@ mod receipted;
 
 pub use receipt::{NotReceipt, verify};
 pub use receipted::Receipted;
-
-#[cfg(test)]
-mod tests;

@@ -8,6 +8,3 @@ mod snapshot;
 pub use cell::{Cell, CellFault, cell_bytes, read_cell};
 pub use field::split_digest;
 pub use snapshot::{Body, Offered, OpenFault, PartsFault, Place, open, parts, seal, seal_under};
-
-#[cfg(test)]
-mod tests;

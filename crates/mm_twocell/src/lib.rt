@@ -6,6 +6,3 @@ mod torn;
 
 pub use pair::TwoCell;
 pub use torn::MemRaw;
-
-#[cfg(test)]
-mod tests;

@@ -1,9 +1,9 @@
 //! The callers over the counter and a platform in memory.
 
-use crate::basic::{ask_again, ask_twice};
-use crate::closing::{Halted, Replies, ask_close_repeat};
-use crate::opt::{ask_after_fault, ask_in_memory, ask_twice as ask_next};
 use mm_basic::provision;
+use mm_callers::basic::{ask_again, ask_twice};
+use mm_callers::closing::{Halted, Replies, ask_close_repeat};
+use mm_callers::opt::{ask_after_fault, ask_in_memory, ask_twice as ask_next};
 use mm_model::{Answer, Refusal};
 use mm_module::Counter;
 use mm_platform::{MemPlatform, Platform, Stop};

@@ -1,6 +1,10 @@
-use super::*;
+//! Cells, and sealed snapshots.
+
 use mm_base::{CELL_LENGTH, Memory};
 use mm_digest::{Digest, Variant};
+use mm_seal::{
+    Body, Cell, CellFault, OpenFault, PartsFault, Place, cell_bytes, open, parts, read_cell, seal,
+};
 use std::alloc::{AllocError, Global};
 use std::process::Abort;
 use std::test::Fail;

@@ -1,5 +1,7 @@
-use super::*;
+//! The list of modules.
+
 use mm_module::{Module, is_line};
+use mm_modules::{by_id, by_name};
 use std::test::Fail;
 
 /// Each module's name and id, a first request and what is said of it.

@@ -1,5 +1,7 @@
-use super::*;
+//! The counter, batches and outputs.
+
 use mm_base::Bytes;
+use mm_module::{Batch, Counter, Module, Outputs, is_line};
 use std::alloc::Global;
 use std::process::Abort;
 use std::test::Fail;

@@ -1,6 +1,8 @@
-use super::*;
+//! Ledgers of accounts.
+
 use mm_base::Bytes;
 use mm_module::{Module, is_line};
+use mm_quota::Accounts;
 use std::alloc::Global;
 use std::process::Abort;
 use std::test::Fail;

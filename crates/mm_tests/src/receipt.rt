@@ -1,6 +1,8 @@
-use super::*;
+//! Receipts round a module.
+
 use mm_base::Bytes;
 use mm_module::{Counter, Module, is_line};
+use mm_receipt::{NotReceipt, Receipted, verify};
 use std::alloc::Global;
 use std::process::Abort;
 use std::test::Fail;

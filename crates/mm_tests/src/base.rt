@@ -1,6 +1,6 @@
 //! Examples from outside, and the texts of the faults.
 
-use crate::{
+use mm_base::{
     Bytes, Failed, LineFault, LineReader, MemSink, MemSource, Memory, Read, ReplayFault, Sink,
     Source, WriteFault, bytes_of_u32, bytes_of_u64, put_decimal, read_decimal, split_u32,
     split_u64, write_all,

@@ -1,7 +1,7 @@
 //! Which pages a write reads and writes, and what no clause says of the device in memory.
 
-use super::*;
 use mm_base::{Failed, Memory};
+use mm_pages::{MemPages, PageDevice, PageStore};
 use mm_store::{LONGEST_SLOT, Store, StoreFault};
 use std::alloc::{AllocError, Global};
 use std::process::Abort;

@@ -1,5 +1,7 @@
-use super::*;
+//! The limiter.
+
 use mm_base::Bytes;
+use mm_limiter::Limiter;
 use mm_module::{Module, is_line};
 use std::alloc::Global;
 use std::process::Abort;

@@ -1,9 +1,9 @@
 //! Sessions over a store and a platform in memory.
 
-use super::*;
 use mm_base::{MemSink, MemSource, Memory, read_decimal};
 use mm_call::Provisioned;
 use mm_digest::Variant;
+use mm_host::session;
 use mm_module::Counter;
 use mm_platform::{MemPlatform, Stop};
 use mm_store::MemStore;

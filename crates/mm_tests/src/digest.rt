@@ -1,4 +1,9 @@
-use super::*;
+//! Hash functions and their messages, with vectors from outside.
+
+use mm_digest::{
+    Digest, HmacKey, Variant, anchored, extended, hmac_sha256, secured, secured_batch, start,
+    successor, successor_batch, zero,
+};
 use sha2::{Digest as _, Sha256};
 use std::process::Abort;
 use std::test::Fail;

@@ -3,8 +3,8 @@
 ghost use Rattle.std.specs.Prelude.{◌≡◌, Some, true, OnOk};
 ghost use Rattle.mm_store.specs.Slots.{Slots, with_slot, slot_read};
 
-use super::*;
 use mm_base::{Bytes, read_decimal};
+use mm_store::{LONGEST_SLOT, MemStore, Store, StoreFault, pending_bytes, read_pending};
 use sha2::{Digest as _, Sha256};
 use std::alloc::{AllocError, Global};
 use std::process::Abort;

@@ -1,6 +1,8 @@
-use super::*;
+//! Histories, and verdicts by digests.
+
 use mm_base::Bytes;
 use mm_digest::{Digest, Variant};
+use mm_model::{BatchAnswer, Machine, Refusal, Symbolic, Verdict};
 use mm_module::{Batch, Counter, Outputs};
 use mm_platform::StepFault;
 use std::alloc::Global;

@@ -1,8 +1,8 @@
 //! Where a first start stops, over devices in memory.
 
-use super::*;
 use mm_base::{MemSource, read_decimal};
 use mm_digest::Variant;
+use mm_host::{InitFault, Resumed, init, resume};
 use mm_module::Counter;
 use mm_platform::{MemPlatform, Platform, StepFault, Stop};
 use mm_store::MemStore;

@@ -1,9 +1,9 @@
 //! Writes that tear, and a register below two cells.
 
-use super::*;
 use mm_base::CELL_LENGTH;
 use mm_digest::{Digest, extended, zero};
 use mm_platform::{Nv, Platform, RawNv, Register, StepFault};
+use mm_twocell::{MemRaw, TwoCell};
 use std::test::Fail;
 
 const OLD: [u8; CELL_LENGTH] = [1; CELL_LENGTH];

@@ -1,5 +1,7 @@
-use super::*;
+//! What a listing writes.
+
 use mm_base::Bytes;
+use mm_listing::Listed;
 use mm_module::Counter;
 use std::test::Fail;
 
