@@ -11,7 +11,6 @@ use Rattle.mm_call.specs.CallsOn.{CallsOn}
 use Rattle.mm_basic.specs.Asks.{Calls}
 use Rattle.mm_basic.specs.Asked.{AskedInBasic}
 use Rattle.mm_basic.proofs.Asking.{untouched, blames, steps, fits}
-use Rattle.mm_basic.proofs.Continuing.{continues}
 use Rattle.mm_basic.proofs.Completeness.{complete}
 
 pub asked : (meaning : Meaning) → IsLawful meaning → (old new : Standing) (offer : List ℕ) (b : Batch)
@@ -25,6 +24,5 @@ asked meaning lawful old new offer b result calls goes = record {
   steps = steps meaning lawful old new offer b result calls;
   fits = fits meaning lawful old new offer b result calls;
   goes = goes;
-  continuity = continues meaning old new offer b result calls;
   complete = complete meaning old new offer b result calls;
 }

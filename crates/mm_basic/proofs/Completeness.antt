@@ -1,34 +1,48 @@
 -- A right offer that the verdict accepts is answered.
-use Rattle.std.proofs.Common.{◌≡◌, ℕ, ◌+◌, ◌≤◌, Bool, true, false, List, Option, None, Some, Result, Ok, Err, refl, sym, ap, subst, inl, inr}
+use Rattle.std.proofs.Common.{◌≡◌, ℕ, ◌+◌, ◌≤◌, Bool, true, false, List, Option, None, Some, Result, Ok, Err, IsOk, ◌⊎◌, refl, sym, ap, ◌∙◌, subst, inl, inr}
 use Rattle.std.specs.Prelude.{is_some, nat_le}
 use Rattle.std.specs.Str.{bytes_eq}
 use Rattle.std.proofs.lemmas.Bool.{le-leb}
 use Rattle.std.proofs.lemmas.Slice.Eq.{bytes_eq-Decides}
 use Rattle.mm_base.specs.Limits.{last_position}
 use Rattle.mm_digest.specs.declared.variant.Variant.TheVariants.{Basic}
+use Rattle.mm_digest.specs.Messages.{zero_bytes}
 use Rattle.mm_digest.proofs.Lengths.{length-hmac_of}
 use Rattle.mm_platform.specs.declared.fault.StepFault.{StepFault}
 use Rattle.mm_platform.specs.Standing.{Standing}
 use Rattle.mm_module.specs.Meaning.{Meaning}
 use Rattle.mm_module.specs.Batch.{Batch, size_of, normal}
-use Rattle.mm_seal.specs.Snapshot.{Content, ReadsParts, snapshot_front, sealed_of, tag_of}
+use Rattle.mm_seal.specs.declared.cell.Cell.{Cell}
+use Rattle.mm_seal.specs.declared.snapshot.Place.{Place}
+use Rattle.mm_seal.specs.declared.snapshot.Place.TheVariants.{Basic as InBasic, Opt as InOpt}
+use Rattle.mm_seal.specs.Cell.{cell_spelling}
+use Rattle.mm_seal.specs.Snapshot.{Content, Snapshot, ReadsParts, snapshot_front, sealed_of, tag_of}
+use Rattle.mm_model.specs.Chains.{summary_of}
 use Rattle.mm_model.specs.Instance.{Instance}
 use Rattle.mm_model.specs.InstanceWords.{basic}
 use Rattle.mm_model.specs.History.{History}
-use Rattle.mm_model.specs.Judge.{judge}
-use Rattle.mm_model.specs.Standing.{IsRight}
+use Rattle.mm_model.specs.Judge.{judge, verdict_by_digests, basic_verdict}
+use Rattle.mm_model.specs.Messages.{IsClearFor}
+use Rattle.mm_model.specs.Places.{Names, IsPlaceOf}
+use Rattle.mm_model.specs.Standing.{StandsFor, IsRight, cell_of}
 use Rattle.mm_model.specs.declared.answer.BatchAnswer.{BatchAnswer}
 use Rattle.mm_model.specs.declared.refusal.Refusal.{Refusal}
 use Rattle.mm_model.specs.declared.refusal.Refusal.TheVariants.{Memory}
 use Rattle.mm_model.specs.declared.verdict.Verdict.{Verdict}
-use Rattle.mm_basic.specs.declared.found.Found.{Found}
-use Rattle.mm_call.specs.Refusals.{fault_of, fault_in, OrMemory}
-use Rattle.mm_basic.specs.Asks.{Calls}
+use Rattle.mm_model.proofs.Basic.{basic_is_judged}
 use Rattle.mm_call.specs.Leaving.{Blames, IsAccepted, IsAnswered}
-use Rattle.mm_basic.specs.Continuity.{expected_found_by, expected_found, RefusesFrom, GivesFrom, IsComplete}
+use Rattle.mm_call.specs.Order.{examined}
+use Rattle.mm_call.specs.Refusals.{fault_of, fault_in, handed_on, OrMemory}
+use Rattle.mm_call.proofs.Weighing.{IsGiven, offered_of, weighs}
+use Rattle.mm_basic.specs.declared.found.Found.{Found}
+use Rattle.mm_basic.specs.Answers.{answer_of, committed_cell, found_from, found_in}
+use Rattle.mm_basic.specs.Asks.{Ends, Calls}
+use Rattle.mm_basic.specs.Complete.{IsComplete}
+use Rattle.mm_basic.specs.Order.{summary_in, verdict_of}
+use Rattle.mm_basic.specs.Seen.{Seen, Both}
+use Rattle.mm_basic.specs.Steps.{Finds}
 use Rattle.mm_basic.proofs.Asking.{blames}
-use Rattle.mm_basic.proofs.Continuing.{continues}
-use Rattle.mm_call.proofs.Weighing.{offered_of, weighs}
+use Rattle.mm_basic.proofs.Reading.{seen_by, one_sight}
 
 right_reads : (meaning : Meaning) (key offer : List ℕ) (content : Content) → IsRight (basic meaning key) offer content
     → ReadsParts offer Basic meaning.id (Ok (offered_of key content))
@@ -36,46 +50,95 @@ unfolding sealed_of
 right_reads meaning key offer content r =
     ((record { content = r.formed; tag = length-hmac_of key (snapshot_front content) }, r.sealed), (r.variant, r.id))
 
-record IsFound (x : Result Found Refusal) : Type 0 where
-  found : Found
-  is : x ≡ Ok found
+-- on an offer that names a position, the verdict by digests is the history's
+verdict_at : (digest register : List ℕ) (i : Instance) (y : History) (named : List Batch) (place : Place) (b : Batch)
+    → IsPlaceOf Basic i y named place
+    → verdict_by_digests zero_bytes false digest register place b ≡ basic_verdict digest (summary_in place) b
+verdict_at digest register i y named (InBasic s) b p = refl
+verdict_at digest register i y named (InOpt a e) b p = absurd p
 
-given_found : (again : Bool) (i : Instance) (y : History) (b : Batch) → IsFound (expected_found_by (Ok again) i y b)
-given_found true i y b = record { found = _; is = refl }
-given_found false i y b = record { found = _; is = refl }
+verdict_on : (meaning : Meaning) (key : List ℕ) (y : History) (all : List (List ℕ)) (offered : Content) (b : Batch)
+    → IsClearFor all (basic meaning key) y offered.place b → Names (basic meaning key) y offered
+    → basic_verdict (summary_of meaning.id y.batches) (summary_in offered.place) b ≡ judge Basic y offered.position b
+verdict_on meaning key y all offered b clear names =
+    sym (verdict_at (summary_of meaning.id y.batches) zero_bytes (basic meaning key) y names.named offered.place b names.place)
+    ∙ basic_is_judged meaning key zero_bytes y offered b all clear names
 
-accepted_found : (meaning : Meaning) (key : List ℕ) (y : History) (content : Content) (b : Batch) → meaning.is_spelled content.state ≡ true
+-- such an offer is accepted
+accepted : (meaning : Meaning) (key : List ℕ) (y : History) (content : Content) (b : Batch) (v : Verdict)
+    → v ≡ judge Basic y content.position (normal b) → meaning.is_spelled content.state ≡ true
     → IsAccepted (judge Basic y content.position (normal b)) → content.position + size_of b ≤ last_position
-    → IsFound (expected_found (basic meaning key) y (Ok (offered_of key content)) b)
-accepted_found meaning key y content b spelled accepted fits =
-    let v : Verdict = judge Basic y content.position (normal b) in
+    → IsGiven (examined meaning key (offered_of key content) b v)
+accepted meaning key y content b v is spelled accepts fits =
     let t : Bool = bytes_eq (tag_of key content) (tag_of key content) in
-    let e = weighs (meaning.is_spelled content.state) t (nat_le (content.position + size_of b) last_position) v spelled
+    weighs (meaning.is_spelled content.state) t (nat_le (content.position + size_of b) last_position) v spelled
     ((bytes_eq-Decides (tag_of key content) (tag_of key content)).1 refl) (le-leb (content.position + size_of b) last_position fits)
-    accepted in
-    subst (λ (r : Result Bool Refusal). IsFound (expected_found_by r (basic meaning key) y b)) (sym e.is)
-    (given_found e.again (basic meaning key) y b)
+    (subst (λ (w : Verdict). IsAccepted w) (sym is) accepts)
 
-memory_only : (found : Found) (why : Refusal) → OrMemory (Ok found) (Err why) → why ≡ Memory
-memory_only found why o = elim o [ inl e ↦ cc | inr e ↦ cc ]
+-- and so something is found, but for want of memory
+abbrev IsFound : Result Found Refusal → Type 0
+IsFound found = IsOk found ⊎ (found ≡ Err Memory)
 
-refused_only : (fault : Option StepFault) (i : Instance) (y : History) (b : Batch) (found : Found) (old new : Standing) (why : Refusal)
-    → fault_of why ≡ fault → Blames fault old.faults new.faults → RefusesFrom i y b (Ok found) new why fault → IsAnswered (Err why) old new
-refused_only None i y b found old new why e h r = inr (inl (ap (λ (w : Refusal). Err w) (memory_only found why r.0)))
-refused_only (Some fault) i y b found old new why e h r = inr (inr (ap is_some e, h))
+or_memory : (x found : Result Found Refusal) → IsOk x → OrMemory x found → IsFound found
+or_memory (Err why) found is o = absurd (cc)
+or_memory (Ok it) found is o = elim o [ inl e ↦ inl (subst (λ (r : Result Found Refusal). IsOk r) (sym e) refl) | inr e ↦ inr e ]
 
-answered_only : (result : Result BatchAnswer Refusal) (i : Instance) (y : History) (b : Batch) (found : Found) (old new : Standing)
-    → Blames (fault_in result) old.faults new.faults → GivesFrom i y b (Ok found) new result → IsAnswered result old new
-answered_only (Ok answer) i y b found old new h g = inl refl
-answered_only (Err why) i y b found old new h g = refused_only (fault_of why) i y b found old new why refl h g
+is_given : (again : Bool) (next : List ℕ) (answer : Bool → BatchAnswer) → IsOk (found_from (Ok again) next answer)
+is_given true next answer = refl
+is_given false next answer = refl
+
+finds_right : (meaning : Meaning) (key : List ℕ) (y : History) (all : List (List ℕ)) (old : Standing) (offer : List ℕ) (content : Content)
+    (b : Batch) (found : Result Found Refusal) → Finds meaning old offer b found → StandsFor (basic meaning key) old y
+    → IsRight (basic meaning key) offer content → Names (basic meaning key) y content
+    → IsClearFor all (basic meaning key) y content.place (normal b) → IsAccepted (judge Basic y content.position (normal b))
+    → content.position + size_of b ≤ last_position → IsFound found
+finds_right meaning key y all old offer content b found f s right names clear accepts fits =
+    let cell : Cell = cell_of (basic meaning key) y in
+    let offered : Snapshot = offered_of key content in
+    let v : Verdict = verdict_of cell offered b in
+    let seen : f.finds.seen ≡ seen_by cell (Ok offered) =
+    one_sight meaning.id f.bytes offer cell (Ok offered) f.finds.seen (s.spells, f.told (cell_spelling cell) s.cell) (refl, refl)
+    (right_reads meaning key offer content right) f.finds.is_seen in
+    let spelled : meaning.is_spelled content.state ≡ true = right.state in
+    let e = accepted meaning key y content b v (verdict_on meaning key y all content (normal b) clear names) spelled accepts fits in
+    let next : List ℕ = committed_cell cell content b in
+    let answer : Bool → BatchAnswer = answer_of meaning key content b in
+    or_memory (found_in meaning (Both cell offered) b) found
+    (subst (λ (r : Result Bool Refusal). IsOk (found_from r next answer)) (sym e.is) (is_given e.again next answer))
+    (subst (λ (x : Seen). OrMemory (found_in meaning x b) found) seen f.finds.found_is)
+
+-- what a call then gives
+refused_only : (fault : Option StepFault) (old new : Standing) (why : Refusal) → fault_of why ≡ fault → Blames fault old.faults new.faults
+    → (fault ≡ None → why ≡ Memory) → IsAnswered (Err why) old new
+refused_only None old new why e h m = inr (inl (ap (λ (w : Refusal). Err w) (m refl)))
+refused_only (Some fault) old new why e h m = inr (inr (ap is_some e, h))
+
+memory_only : (why : Refusal) → IsFound (Err why) → why ≡ Memory
+memory_only why f = elim f [ inl is ↦ absurd (cc) | inr e ↦ cc ]
+
+handed_answered : (written : Result BatchAnswer StepFault) (old new : Standing)
+    → Blames (fault_in (handed_on written)) old.faults new.faults → IsAnswered (handed_on written) old new
+handed_answered (Ok answer) old new h = inl refl
+handed_answered (Err fault) old new h = inr (inr (refl, h))
+
+ends_answered : (found : Result Found Refusal) (old middle new : Standing) (result : Result BatchAnswer Refusal)
+    → (fault_in found ≡ None → IsFound found) → Ends found middle new result → Blames (fault_in result) old.faults new.faults
+    → IsAnswered result old new
+ends_answered (Err why) old middle new result f e h =
+    subst (λ (r : Result BatchAnswer Refusal). IsAnswered r old new) (sym e.1)
+    (refused_only (fault_of why) old new why refl
+    (subst (λ (r : Result BatchAnswer Refusal). Blames (fault_in r) old.faults new.faults) e.1 h) (λ (n : fault_of why ≡ None).
+    memory_only why (f n)))
+ends_answered (Ok found) old middle new result f e h =
+    subst (λ (r : Result BatchAnswer Refusal). IsAnswered r old new) (sym e.gives)
+    (handed_answered e.written old new
+    (subst (λ (r : Result BatchAnswer Refusal). Blames (fault_in r) old.faults new.faults) e.gives h))
 
 pub complete : (meaning : Meaning) (old new : Standing) (offer : List ℕ) (b : Batch) (result : Result BatchAnswer Refusal)
     → Calls meaning old new offer b result → IsComplete meaning old new offer b result
-complete meaning old new offer b result c short key y all content asked right accepted fits =
-    let i : Instance = basic meaning key in
-    let spelled : meaning.is_spelled content.state ≡ true = right.state in
-    let f = accepted_found meaning key y content b spelled accepted fits in
-    let g = continues meaning old new offer b result c short key y all (Ok (offered_of key content)) asked
-    (right_reads meaning key offer content right) in
-    answered_only result i y b f.found old new (blames meaning old new offer b result c)
-    (subst (λ (x : Result Found Refusal). GivesFrom i y b x new result) f.is g)
+complete meaning old new offer b result c short key y all content s right names clear accepts fits =
+    let a = c.asks short in
+    ends_answered a.found old a.middle new result
+    (λ (quiet : fault_in a.found ≡ None). finds_right meaning key y all old offer content b a.found (a.reads.finds quiet) s right names
+    clear accepts fits)
+    a.ends (blames meaning old new offer b result c)

@@ -3,11 +3,10 @@ pub mod Findings
 pub mod Asking
 pub mod FirstLaws
 pub mod Reading
-pub mod Verdicts
-pub mod Continuing
 pub mod Completeness
 pub mod Asked
 pub mod Turning
 pub mod Calling
 pub mod Ending
 pub mod Going
+pub mod Preparing

@@ -12,7 +12,7 @@ use Rattle.mm_call.specs.CallsOn.{CallsOn}
 use Rattle.mm_call.specs.Leaving.{LeavesUntouched, Blames}
 use Rattle.mm_call.specs.Refusals.{fault_in}
 use Rattle.mm_basic.specs.Asks.{Calls, StepsBy}
-use Rattle.mm_basic.specs.Continuity.{Continues, IsComplete}
+use Rattle.mm_basic.specs.Complete.{IsComplete}
 
 -- One call over a platform, that offered these bytes and asked for the batch.
 pub record AskedInBasic (meaning : Meaning) (old new : Standing) (offer : List ℕ) (b : Batch)
@@ -29,7 +29,5 @@ pub record AskedInBasic (meaning : Meaning) (old new : Standing) (offer : List �
   pub fits : IfOk result (λ answer. IsFit b answer)
   -- the call is the one that the definitions give, on some course: by digests, and by lists
   pub goes : is_long b ≡ false → CallsOn Basic meaning old new offer b result
-  -- state continuity: from each history that the platform stands for, the answer is the history's
-  pub continuity : Continues meaning old new offer b result
   -- a right offer that the history accepts is answered
   pub complete : IsComplete meaning old new offer b result

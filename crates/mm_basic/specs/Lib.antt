@@ -4,6 +4,7 @@ pub mod Answers
 pub mod Steps
 pub mod Turns
 pub mod Asks
-pub mod Continuity
+pub mod Prepares
+pub mod Complete
 pub mod Asked
 pub mod Moved

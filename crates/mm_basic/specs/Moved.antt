@@ -11,7 +11,7 @@ use Rattle.mm_call.specs.Refusals.{fault_in}
 use Rattle.mm_basic.specs.declared.call.Turn.{Turn}
 use Rattle.mm_basic.specs.declared.found.Ready.{Ready}
 use Rattle.mm_basic.specs.Asks.{Finishes}
-use Rattle.mm_basic.specs.Turns.{Turns, TurnContinues, turn_fault}
+use Rattle.mm_basic.specs.Turns.{Turns, turn_fault}
 
 -- One turn of a call, by what is ready to be committed.
 pub record AdvancedInBasic (meaning : Meaning) (ready : Option Ready) (old new : Standing)
@@ -20,8 +20,6 @@ pub record AdvancedInBasic (meaning : Meaning) (ready : Option Ready) (old new :
   pub turns : Turns meaning ready old new offer b turn
   -- the count of faults rose exactly where a device's fault is handed on
   pub faults : Blames (turn_fault turn) old.faults new.faults
-  -- state continuity of the step
-  pub continuity : TurnContinues meaning ready old new offer b turn
 
 -- What was left of a call, by what was ready to be committed.
 pub record FinishedInBasic (meaning : Meaning) (ready : Option Ready) (old new : Standing)

@@ -12,17 +12,8 @@ use Rattle.mm_basic.specs.declared.found.Found.TheVariants.{Repeat, Change}
 use Rattle.mm_basic.specs.declared.found.Ready.{Ready}
 use Rattle.mm_basic.specs.declared.call.Turn.{Turn}
 use Rattle.mm_basic.specs.declared.call.Turn.TheVariants.{Going, Done, Refused}
-use Rattle.mm_digest.specs.declared.variant.Variant.TheVariants.{Basic}
-use Rattle.mm_seal.specs.declared.snapshot.PartsFault.{PartsFault}
-use Rattle.mm_seal.specs.Cell.{cell_spelling}
-use Rattle.mm_seal.specs.Snapshot.{Snapshot, ReadsParts}
-use Rattle.mm_model.specs.Instance.{Instance}
-use Rattle.mm_model.specs.InstanceWords.{basic}
-use Rattle.mm_model.specs.History.{History}
-use Rattle.mm_model.specs.Standing.{StandsFor, cell_of}
 use Rattle.mm_call.specs.Refusals.{fault_of}
 use Rattle.mm_basic.specs.Steps.{Reads, Writes}
-use Rattle.mm_basic.specs.Continuity.{with_committed, expected_found, IsAskedFrom, FindsOn, WritesOn}
 
 -- what a turn gives, by what it finds
 abbrev pub turn_of : Result Found Refusal → Turn
@@ -58,31 +49,3 @@ pub record TurnsLast (ready : Ready) (old new : Standing) (turn : Turn) : Type 0
 abbrev pub Turns : Meaning → Option Ready → Standing → Standing → List ℕ → Batch → Turn → Type 0
 Turns meaning None old new offer b turn = TurnsFirst meaning old new offer b turn
 Turns meaning (Some ready) old new offer b turn = TurnsLast ready old new turn
-
--- state continuity of the first turn
-pub record FirstGoesOn (i : Instance) (y : History) (expects : Result Found Refusal)
-    (new : Standing) (turn : Turn) : Type 0 where
-  pub found : Result Found Refusal
-  pub reads : FindsOn i y expects new found
-  pub gives : turn ≡ turn_of found
-
--- state continuity of the last turn
-pub record LastGoesOn (i : Instance) (y : History) (b : Batch) (ready : Ready) (new : Standing)
-    (turn : Turn) : Type 0 where
-  pub written : Result BatchAnswer StepFault
-  pub writes : WritesOn i y b ready new written
-  pub gives : turn ≡ last_turn written
-
--- State continuity of each turn, from every history under every key: the first as the whole call;
--- the last where the cell that it writes is that of the history with the batch.
-abbrev pub TurnContinues : Meaning → Option Ready → Standing → Standing → List ℕ → Batch → Turn
-    → Type 0
-TurnContinues meaning None old new offer b turn =
-    (key : List ℕ) (y : History) (all : List (List ℕ)) (taken : Result Snapshot PartsFault) →
-    IsAskedFrom all (basic meaning key) y old offer b → ReadsParts offer Basic meaning.id taken →
-    FirstGoesOn (basic meaning key) y (expected_found (basic meaning key) y taken b) new turn
-TurnContinues meaning (Some ready) old new offer b turn =
-    (key : List ℕ) (y : History) → StandsFor (basic meaning key) old y →
-    ready.next ≡ cell_spelling
-    (cell_of (basic meaning key) (with_committed (basic meaning key) y b)) →
-    LastGoesOn (basic meaning key) y b ready new turn

@@ -9,7 +9,7 @@ ghost use Rattle.mm_model.specs.Long.{is_long};
 ghost use Rattle.mm_call.specs.Refusals.{fault_in};
 ghost use Rattle.mm_call.specs.CallsOn.{CallsOn};
 ghost use Rattle.mm_basic.specs.Steps.{Reads};
-ghost use Rattle.mm_basic.specs.Continuity.{ReadContinues, CommitContinues};
+ghost use Rattle.mm_basic.specs.Prepares.{IsCallSoFar};
 ghost use Rattle.mm_basic.specs.Asked.{AskedInBasic};
 ghost use Rattle.mm_basic.specs.Asks.{Calls, CommitsFound};
 ghost use Rattle.mm_call.specs.Leaving.{Blames, whole_in};
@@ -65,11 +65,11 @@ pub fn prepare<M: Module, P: Platform>(
     ensures reads { is_long (One request.now) ≡ false →
         Reads (M.meaning «module».now) (P.standing platform.old) (P.standing platform.new)
         offer.now (One request.now) result }
+    ensures goes { is_long (One request.now) ≡ false →
+        IsCallSoFar (M.meaning «module».now) (P.standing platform.old) (P.standing platform.new)
+        offer.now (One request.now) result }
     ensures faults { Blames (fault_in result)
         (P.standing platform.old).faults (P.standing platform.new).faults }
-    ensures continuity { is_long (One request.now) ≡ false →
-        ReadContinues (M.meaning «module».now) (P.standing platform.old) (P.standing platform.new)
-        offer.now (One request.now) result }
 {
     prepare_batch(alloc, module, platform, offer, Batch::One(request))
 }
@@ -86,11 +86,11 @@ fn prepare_batch<M: Module, P: Platform>(
     ensures reads { is_long (batch_of batch.entry) ≡ false →
         Reads (M.meaning «module».now) (P.standing platform.old) (P.standing platform.new)
         offer.now (batch_of batch.entry) result }
+    ensures goes { is_long (batch_of batch.entry) ≡ false →
+        IsCallSoFar (M.meaning «module».now) (P.standing platform.old) (P.standing platform.new)
+        offer.now (batch_of batch.entry) result }
     ensures faults { Blames (fault_in result)
         (P.standing platform.old).faults (P.standing platform.new).faults }
-    ensures continuity { is_long (batch_of batch.entry) ≡ false →
-        ReadContinues (M.meaning «module».now) (P.standing platform.old) (P.standing platform.new)
-        offer.now (batch_of batch.entry) result }
 {
     if mm_model::is_long(&batch) {
         return Err(Refusal::Long);
@@ -108,8 +108,6 @@ impl Prepared {
             (P.standing platform.old) (P.standing platform.new) result }
         ensures faults { Blames (result_err result)
             (P.standing platform.old).faults (P.standing platform.new).faults }
-        ensures continuity { CommitContinues self
-            (P.standing platform.old) (P.standing platform.new) result }
     {
         self.commit_found(platform)
     }

@@ -2,19 +2,19 @@ use Rattle.std.proofs.Common.{◌≡◌, false, Ok, Err}
 use Rattle.mm_module.specs.Batches.{batch_of}
 use Rattle.mm_model.specs.Long.{is_long}
 use Rattle.mm_basic.proofs.Asking.{read_blamed}
-use Rattle.mm_basic.proofs.Continuing.{read_on}
+use Rattle.mm_basic.proofs.Preparing.{so_far}
 use Rattle.mm_basic.proofs.whole.prepare_batch.Goals as goal
 
-pub returns-in-Err-clause-continuity : goal.returns-in-Err-clause-continuity
-returns-in-Err-clause-continuity g c =
+pub returns-in-Err-clause-goes : goal.returns-in-Err-clause-goes
+returns-in-Err-clause-goes g c =
     λ (short : is_long (batch_of c.args.batch) ≡ false).
-    read_on (g.M.Module.meaning c.args.module.now) (g.P.Device.standing c.args.platform.now)
+    so_far (g.M.Module.meaning c.args.module.now) (g.P.Device.standing c.args.platform.now)
     (g.P.Device.standing c.read.new.platform) c.args.offer.now (batch_of c.args.batch) (Err c.in-Err.refusal) c.in-Err.ensures
 
-pub returns-in-Ok-clause-continuity : goal.returns-in-Ok-clause-continuity
-returns-in-Ok-clause-continuity g c =
+pub returns-in-Ok-clause-goes : goal.returns-in-Ok-clause-goes
+returns-in-Ok-clause-goes g c =
     λ (short : is_long (batch_of c.args.batch) ≡ false).
-    read_on (g.M.Module.meaning c.args.module.now) (g.P.Device.standing c.args.platform.now)
+    so_far (g.M.Module.meaning c.args.module.now) (g.P.Device.standing c.args.platform.now)
     (g.P.Device.standing c.read.new.platform) c.args.offer.now (batch_of c.args.batch) (Ok c.in-Ok.found) c.in-Ok.ensures
 
 pub returns-in-Err-clause-faults : goal.returns-in-Err-clause-faults

@@ -1,11 +1,5 @@
 use Rattle.mm_basic.proofs.Asking.{commit_blamed}
-use Rattle.mm_basic.proofs.Continuing.{commits_on}
 use Rattle.mm_basic.proofs.whole.Prepared.commit.Goals as goal
-
-pub returns-clause-continuity : goal.returns-clause-continuity
-returns-clause-continuity g c =
-    commits_on c.args.self (g.P.Device.standing c.args.platform.now) (g.P.Device.standing c.commit_found.new.platform) c.commit_found.result
-    c.commit_found.ensures
 
 pub returns-clause-faults : goal.returns-clause-faults
 returns-clause-faults g c =
