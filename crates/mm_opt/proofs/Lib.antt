@@ -6,7 +6,6 @@ pub mod Writing
 pub mod Fits
 pub mod Checkpointing
 pub mod Turning
-pub mod CheckpointTurning
 pub mod Acting
 pub mod Accepting
 pub mod Going

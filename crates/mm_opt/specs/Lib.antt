@@ -8,7 +8,6 @@ pub mod Checkpoints
 pub mod CheckpointTurns
 pub mod TurnsOn
 pub mod ChecksOn
-pub mod CheckpointTurnsOn
 pub mod Finishes
 pub mod Complete
 pub mod Prepares

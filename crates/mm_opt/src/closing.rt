@@ -52,7 +52,6 @@ impl CheckpointCall {
     ghost use Rattle.std.specs.Prelude.{◌≡◌};
     ghost use Rattle.mm_opt.specs.Checkpoints.{closing_number_of, FinishesClosing};
     ghost use Rattle.mm_opt.specs.CheckpointTurns.{ClosingTurns, ClosingActsAt};
-    ghost use Rattle.mm_opt.specs.CheckpointTurnsOn.{ClosingTurnsOn};
 
     /// The number of the next device step, from 1.
     pub fn next_step(&self) -> u8
@@ -71,8 +70,6 @@ impl CheckpointCall {
         ensures turns { ClosingTurns self (P.standing platform.old) (P.standing platform.new)
             result }
         ensures acts { ClosingActsAt self (P.standing platform.old) (P.standing platform.new)
-            result }
-        ensures goes { ClosingTurnsOn self (P.standing platform.old) (P.standing platform.new)
             result }
     {
         self.make_step(platform)

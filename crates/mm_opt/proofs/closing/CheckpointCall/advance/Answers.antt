@@ -1,11 +1,5 @@
 use Rattle.mm_opt.proofs.Acting.{closing_acts_at}
-use Rattle.mm_opt.proofs.CheckpointTurning.{closing_turns_on}
 use Rattle.mm_opt.proofs.closing.CheckpointCall.advance.Goals as goal
-
-pub returns-clause-goes : goal.returns-clause-goes
-returns-clause-goes g c =
-    closing_turns_on c.args.self (g.P.Device.standing c.args.platform.now) (g.P.Device.standing c.make_step.new.platform) c.make_step.result
-    c.make_step.ensures
 
 pub returns-clause-acts : goal.returns-clause-acts
 returns-clause-acts g c =
