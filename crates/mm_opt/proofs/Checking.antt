@@ -261,11 +261,6 @@ open_said : (flag lost : Bool) → flag ≡ true → closing_of Opt flag lost �
 open_said flag lost e = ap (λ (f : Bool). closing_of Opt f lost) e
 
 -- what is found in the register
-pub closing_lost : (zero : Bool) (cell : Cell) (register : List ℕ) (why : CheckpointRefusal) → Err why ≡ closing_by zero cell register
-    → (zero ≡ true) × (why ≡ refusal.Lost)
-closing_lost true cell register why e = (refl, cc)
-closing_lost false cell register why e = (cc, cc)
-
 closing_refused : (zero : Bool) (cell : Cell) (register : List ℕ) (why : CheckpointRefusal) → Err why ≡ closing_by zero cell register
     → (zero ≡ true) × (refused why ≡ refused refusal.Lost)
 closing_refused true cell register why e = (refl, let same : why ≡ refusal.Lost = cc in ap refused same)

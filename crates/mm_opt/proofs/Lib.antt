@@ -5,7 +5,6 @@ pub mod Asking
 pub mod Writing
 pub mod Fits
 pub mod Checkpointing
-pub mod Turning
 pub mod Acting
 pub mod Accepting
 pub mod Going

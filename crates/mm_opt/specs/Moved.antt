@@ -13,7 +13,6 @@ use Rattle.mm_opt.specs.declared.stage.Stage.{Stage}
 use Rattle.mm_opt.specs.declared.stage.Stage.TheVariants.{Begun}
 use Rattle.mm_opt.specs.Finishes.{Finishes}
 use Rattle.mm_opt.specs.Turns.{Turns, ActsAt, TurnMayGoOn, fault_turned}
-use Rattle.mm_opt.specs.TurnsOn.{TurnsOn}
 
 -- One turn of a call that stands at this stage.
 pub record AdvancedInOpt (meaning : Meaning) (stage : Stage) (old new : Standing)
@@ -26,8 +25,6 @@ pub record AdvancedInOpt (meaning : Meaning) (stage : Stage) (old new : Standing
   pub room : TurnMayGoOn turn new
   -- the count of faults rose exactly where a device's fault is handed on
   pub faults : Blames (fault_turned turn) old.faults new.faults
-  -- the step is the next one of the walk, from any digests that the platform stands at
-  pub goes : TurnsOn meaning stage old new offer b turn
 
 -- What was left of a call that stood at this stage.
 pub record FinishedInOpt (meaning : Meaning) (stage : Stage) (old new : Standing)

@@ -1,6 +1,6 @@
 -- What a call of Opt promises by lists that is made in two parts: its reading steps, and then the
 -- steps that commit.
-use Rattle.std.specs.Prelude.{◌≡◌, ℕ, true, List, [], ◌∷◌, map, Result, Ok, Err, IfOk}
+use Rattle.std.specs.Prelude.{◌≡◌, ℕ, true, false, List, [], ◌∷◌, map, Result, Ok, Err, IfOk}
 use Rattle.std.specs.Result.{result_err}
 use Rattle.mm_digest.specs.declared.variant.Variant.TheVariants.{Opt}
 use Rattle.mm_platform.specs.declared.fault.StepFault.{StepFault}
@@ -22,12 +22,13 @@ use Rattle.mm_call.specs.CallsOn.{CallsOn}
 use Rattle.mm_call.specs.Courses.{Fate, walk}
 use Rattle.mm_call.specs.Levels.{by_lists, by_digests, all_made}
 use Rattle.mm_call.specs.Refusals.{handed_on}
-use Rattle.mm_call.specs.Standing.{StandsAt}
+use Rattle.mm_call.specs.Standing.{cell_at, StandsAt}
 use Rattle.mm_call.specs.Trails.{Leads}
 use Rattle.mm_opt.specs.declared.found.Found.{Found}
 use Rattle.mm_opt.specs.declared.found.Found.TheVariants.{Repeat, Inside, Opens}
+use Rattle.mm_opt.specs.declared.found.Opening.{Opening}
+use Rattle.mm_opt.specs.Answers.{opened_cell}
 use Rattle.mm_opt.specs.Asks.{CommitsFound}
-use Rattle.mm_opt.specs.TurnsOn.{OpensAt}
 
 -- Where the reading steps refuse, that was the whole call, by digests and by lists. Where they
 -- don't, the steps that commit what was found make it one, whatever they give.
@@ -38,6 +39,12 @@ IsCallSoFar meaning old new offer b (Ok found) =
     (after : Standing) (written : Result BatchAnswer StepFault)
     → CommitsFound found new after written →
     CallsOn Opt meaning old after offer b (handed_on written)
+
+-- no segment is open, and the opening writes the batch's value and the cell with the flag set
+pub record OpensAt (i : Instance) (d : Digests) (b : Batch) (opening : Opening) : Type 0 where
+  pub shut : d.flag ≡ false
+  pub value : opening.value.bytes ≡ guard i.barrier b
+  pub next : opening.next ≡ opened_cell (cell_at i d)
 
 -- What was found is how to commit the batch on a platform that stands at these digests; of a repeat
 -- there is nothing to do.

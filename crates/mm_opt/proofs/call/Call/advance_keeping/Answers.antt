@@ -1,6 +1,5 @@
 use Rattle.mm_module.specs.Batches.{batch_of}
 use Rattle.mm_opt.proofs.Acting.{acts_at, may_go_on, turn_blamed}
-use Rattle.mm_opt.proofs.Turning.{turns_on}
 use Rattle.mm_opt.proofs.call.Call.advance_keeping.Goals as goal
 
 pub returns : goal.returns
@@ -15,5 +14,4 @@ returns g c =
       acts = acts;
       room = may_go_on c.args.self meaning old new c.args.offer.now b c.make_step.result c.requires.room c.make_step.ensures;
       faults = turn_blamed c.args.self old new c.make_step.result acts;
-      goes = turns_on c.args.self meaning old new c.args.offer.now b c.make_step.result c.make_step.ensures;
     }
