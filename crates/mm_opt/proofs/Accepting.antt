@@ -35,7 +35,14 @@ use Rattle.mm_opt.specs.declared.found.Found.TheVariants.{Repeat, Inside, Opens}
 use Rattle.mm_opt.specs.Order.{has_lost_power, verdict_at, verdict_of}
 use Rattle.mm_opt.specs.Answers.{answer_of, place_after, change_by, opened_cell, found_from, found_in_offer, found_unless, found_in}
 use Rattle.mm_opt.specs.Steps.{FindsIn}
-use Rattle.mm_opt.specs.TurnsOn.{Accepts}
+
+-- an accepted offer, and the answer to it
+pub record Accepts (i : Instance) (seen : Digests) (b : Batch) (x : Result Accepted Refusal) (again : Bool) (answer : BatchAnswer) : Type 0
+  where
+    pub offered : Content
+    pub found_is : x ≡ Ok (record { offered = offered; again = again })
+    pub answer_is : answer ≡ answer_at i.meaning i.key offered
+        (place_then i.variant seen.flag again i seen b) b again
 
 -- what is found, by what the call by digests finds
 abbrev pub AsFound : Instance → Digests → Batch → Result Accepted Refusal → Result Found Refusal → Type 0

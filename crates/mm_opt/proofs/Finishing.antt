@@ -46,10 +46,9 @@ use Rattle.mm_opt.specs.declared.stage.Change.{Change}
 use Rattle.mm_opt.specs.declared.stage.Change.TheVariants as change
 use Rattle.mm_opt.specs.Steps.{ReadsOwnCell, ReadsRegister, Extends, Empties, Places, Writes as WritesCell}
 use Rattle.mm_opt.specs.Asks.{ReadsOn, PlacedOn, EmptiedOn, CommitsFound, Ends, Asks, Calls}
-use Rattle.mm_opt.specs.TurnsOn.{Accepts}
 use Rattle.mm_opt.specs.Finishes.{ExtendsTo, WritesTo, PlacedTo, EmptiedTo, EndsTo, AsksTo, ChangesTo, Finishes}
 use Rattle.mm_opt.proofs.Acting.{room_only}
-use Rattle.mm_opt.proofs.Accepting.{AsFound, lacks_in}
+use Rattle.mm_opt.proofs.Accepting.{Accepts, AsFound, lacks_in}
 use Rattle.mm_opt.proofs.Going.{fate_of, placed_fates, emptied_fates, ends_fates, course_of, asks, changing, changing_inside, changing_opens, second_found, seen_is, two_brought}
 use Rattle.mm_opt.proofs.Calling.{calls_by}
 

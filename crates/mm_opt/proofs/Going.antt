@@ -48,8 +48,7 @@ use Rattle.mm_opt.specs.Answers.{opened_cell}
 use Rattle.mm_opt.specs.Steps.{FindsCell, ReadsOwnCell, FindsIn, ReadsRegister, Empties, Places}
 use Rattle.mm_opt.specs.Asks.{ReadsOn, PlacedOn, EmptiedOn, CommitsFound, Ends}
 use Rattle.mm_opt.proofs.Acting.{room_only}
-use Rattle.mm_opt.specs.TurnsOn.{Accepts}
-use Rattle.mm_opt.proofs.Accepting.{AsFound, lacks_in, as_found}
+use Rattle.mm_opt.proofs.Accepting.{Accepts, AsFound, lacks_in, as_found}
 
 -- The course
 

@@ -6,7 +6,6 @@ pub mod Turns
 pub mod Asks
 pub mod Checkpoints
 pub mod CheckpointTurns
-pub mod TurnsOn
 pub mod ChecksOn
 pub mod Finishes
 pub mod Complete
