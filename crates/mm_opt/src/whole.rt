@@ -9,7 +9,7 @@ ghost use Rattle.mm_call.specs.Refusals.{fault_in};
 ghost use Rattle.mm_call.specs.Leaving.{Blames, whole_in};
 ghost use Rattle.mm_opt.specs.declared.stage.Stage.TheVariants.{Begun};
 ghost use Rattle.mm_opt.specs.Asked.{AskedInOpt};
-ghost use Rattle.mm_opt.specs.Prepares.{PreparesOn, CommitsOn};
+ghost use Rattle.mm_opt.specs.Prepares.{IsCallSoFar};
 ghost use Rattle.mm_opt.specs.Asks.{Reads, ReadsOn, MayCommit, LeavesRoom, CommitsFound, Calls};
 
 use crate::call::{Call, begin};
@@ -67,7 +67,7 @@ pub fn prepare<M: Module, P: Platform>(
         Reads (M.meaning «module».now) (P.standing platform.old) (P.standing platform.new)
         offer.now (One request.now) result }
     ensures goes { is_long (One request.now) ≡ false →
-        PreparesOn (M.meaning «module».now) (P.standing platform.old) (P.standing platform.new)
+        IsCallSoFar (M.meaning «module».now) (P.standing platform.old) (P.standing platform.new)
         offer.now (One request.now) result }
     ensures room { LeavesRoom result (P.standing platform.new) }
     ensures faults { Blames (fault_in result)
@@ -89,7 +89,7 @@ fn prepare_batch<M: Module, P: Platform>(
         Reads (M.meaning «module».now) (P.standing platform.old) (P.standing platform.new)
         offer.now (batch_of batch.entry) result }
     ensures goes { is_long (batch_of batch.entry) ≡ false →
-        PreparesOn (M.meaning «module».now) (P.standing platform.old) (P.standing platform.new)
+        IsCallSoFar (M.meaning «module».now) (P.standing platform.old) (P.standing platform.new)
         offer.now (batch_of batch.entry) result }
     ensures room { LeavesRoom result (P.standing platform.new) }
     ensures faults { Blames (fault_in result)
@@ -116,7 +116,7 @@ fn read_apart<M: Module, P: Platform>(
     requires { is_long (batch_of batch) ≡ false }
     ensures reads { Reads (M.meaning «module».now) (P.standing platform.old)
         (P.standing platform.new) offer.now (batch_of batch.entry) result }
-    ensures goes { PreparesOn (M.meaning «module».now) (P.standing platform.old)
+    ensures goes { IsCallSoFar (M.meaning «module».now) (P.standing platform.old)
         (P.standing platform.new) offer.now (batch_of batch.entry) result }
     ensures room { LeavesRoom result (P.standing platform.new) }
 {
@@ -169,7 +169,6 @@ impl Prepared {
         requires { MayCommit self (P.standing platform.old) }
         ensures commits { CommitsFound self
             (P.standing platform.old) (P.standing platform.new) result }
-        ensures goes { CommitsOn self (P.standing platform.old) (P.standing platform.new) result }
         ensures faults { Blames (result_err result)
             (P.standing platform.old).faults (P.standing platform.new).faults }
     {
@@ -179,8 +178,7 @@ impl Prepared {
 
 fn commit_found<P: Platform>(found: Found, platform: &mut P) -> Result<Committed, StepFault>
     requires { MayCommit found (P.standing platform.old) }
-    ensures commits { CommitsFound found (P.standing platform.old) (P.standing platform.new) result }
-    ensures goes { CommitsOn found (P.standing platform.old) (P.standing platform.new) result }
+    ensures { CommitsFound found (P.standing platform.old) (P.standing platform.new) result }
 {
     match finish_found(Ok(found), platform) {
         Ended::Answered(answer) => Ok(Committed { answer }),
