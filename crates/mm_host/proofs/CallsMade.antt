@@ -1,12 +1,8 @@
 -- The calls that a session makes, one after another, whatever the slots hold.
-use Rattle.std.proofs.Common.{◌≡◌, ◌∙◌, ◌+◌, ℕ, length, List, [], ◌∷◌, ◌++◌, Option, None, Some, Result, Ok, Err, refl, sym, ap, subst, inl, inr, append_assoc}
-use Rattle.std.specs.Prelude.{◌⊎◌}
-use Rattle.mm_base.specs.Input.{lines_joined, lines_of}
-use Rattle.mm_base.proofs.Input.{lines_of-joined, lines_of-line}
+use Rattle.std.proofs.Common.{◌≡◌, ◌∙◌, ◌+◌, ℕ, length, List, [], ◌∷◌, ◌++◌, Option, None, Some, Result, Ok, Err, refl, sym, ap, subst, inl, inr}
 use Rattle.mm_digest.specs.declared.variant.Variant.{Variant}
 use Rattle.mm_platform.specs.Standing.{Standing}
 use Rattle.mm_module.specs.Meaning.{Meaning}
-use Rattle.mm_model.specs.declared.answer.Answer.{Answer}
 use Rattle.mm_model.specs.declared.refusal.Refusal.{Refusal}
 use Rattle.mm_store.specs.declared.fault.StoreFault.{StoreFault}
 use Rattle.mm_store.specs.declared.fault.StoreFault.TheVariants as fault
@@ -16,77 +12,23 @@ use Rattle.mm_store.specs.Pending.{Pending}
 use Rattle.mm_store.specs.Slots.{Slots, slot_read}
 use Rattle.mm_host.specs.declared.fault.HostFault.{HostFault}
 use Rattle.mm_host.specs.declared.fault.SessionFault.{SessionFault}
-use Rattle.mm_host.specs.declared.fault.SessionFault.TheVariants.{Memory, Store, Refused, ReadFault, WriteFault, LineLong, BadLine, TooMuch}
+use Rattle.mm_host.specs.declared.fault.SessionFault.TheVariants.{Memory, Store, Refused, WriteFault}
 use Rattle.mm_host.specs.declared.resuming.Resumed.{Resumed}
 use Rattle.mm_host.specs.declared.resuming.Resumed.TheVariants.{Start, Answered}
-use Rattle.mm_host.specs.AnySlots.{AreAmong, AreFirstOf, first_offer, offered_after, requests_with}
+use Rattle.mm_host.specs.AnySlots.{first_offer, offered_after}
 use Rattle.mm_host.specs.Asking.{IsCall}
 use Rattle.mm_host.specs.Continuing.{IsInHand, told_first, told_in}
-use Rattle.mm_host.specs.Faults.{store_fault_as, refusal_fault}
+use Rattle.mm_host.specs.Faults.{store_fault_as}
 use Rattle.mm_host.specs.Fitting.{offer_slot}
-use Rattle.mm_host.specs.Resumes.{AfterAsk, AfterFinding, AfterOffer, Resumes, kept_as, started}
+use Rattle.mm_host.specs.Resumes.{AfterFinding, AfterOffer, Resumes, started}
 use Rattle.mm_host.specs.Saying.{SendsReply, comes_as, reply_text, snapshot_at}
-use Rattle.mm_host.specs.Serving.{AfterRecord, AsksLine, Place, Served, Serves, lines_served}
-use Rattle.mm_host.specs.Sessions.{AfterResume, BeginsWith, EndsSession, Sessions, Stops, StopsAtOnce, StopsInLine}
+use Rattle.mm_host.specs.Serving.{Place, Served, Serves}
+use Rattle.mm_host.specs.Sessions.{AfterResume, BeginsWith, EndsSession, Sessions, StopsAtOnce, StopsInLine}
 use Rattle.mm_host.specs.Waiting.{IsWaiting}
-use Rattle.mm_host.proofs.Recovering.{Saw, one_waiting, saw_two}
-use Rattle.mm_host.proofs.SessionRuns.{IsRead, read_of, unbroken_served}
-
--- what a call comes to: its refusal; or its answer, unless that can't be kept
-abbrev pub TellsCall : Result Answer Refusal → Result Resumed HostFault → Type 0
-TellsCall (Err why) came = came ≡ Err (refusal_fault why)
-TellsCall (Ok answer) came = (came ≡ Ok (Answered answer)) ⊎ ((why : StoreFault) × (came ≡ Err (store_fault_as why)))
-
--- One request: nothing was asked, as memory was wanting or the store failed; or a call was made for it.
-pub data Tries (variant : Variant) (meaning : Meaning) (before after : Standing) (offer request : List ℕ) (came : Result Resumed HostFault)
-    : Type 0 where
-  fails : after ≡ before → (why : StoreFault) → came ≡ Err (store_fault_as why) → Tries variant meaning before after offer request came
-  asks : (call : Result Answer Refusal) → IsCall variant meaning before after offer request call → TellsCall call came
-      → Tries variant meaning before after offer request came
-
-kept_tells : (answer : Answer) (written : Result Unit StoreFault) (came : Result Resumed HostFault) → came ≡ kept_as answer written
-    → TellsCall (Ok answer) came
-kept_tells answer (Ok it) came e = inl e
-kept_tells answer (Err why) came e = inr (why, e)
-
-tells_call : (call : Result Answer Refusal) (old new : StoreStanding) (came : Result Resumed HostFault) → AfterAsk call old new came
-    → TellsCall call came
-tells_call (Err why) old new came g = g.1
-tells_call (Ok answer) old new came g = kept_tells answer g.written came g.gives
-
-recorded_tries : (variant : Variant) (meaning : Meaning) (before after : Standing) (recorded : Result Unit StoreFault)
-    (old new : StoreStanding) (last : Resumed) (line : List ℕ) (came : Result Resumed HostFault)
-    → AfterRecord variant meaning before after recorded old new last line came
-    → Tries variant meaning before after (snapshot_at last) line came
-recorded_tries variant meaning before after (Err why) old new last line came g = fails g.0 why g.2
-recorded_tries variant meaning before after (Ok it) old new last line came g =
-    asks g.asked g.asks (tells_call g.asked old new came g.goes)
-
-line_tries : (variant : Variant) (meaning : Meaning) (before after : Standing) (old new : StoreStanding) (last : Resumed) (line : List ℕ)
-    (came : Result Resumed HostFault) → AsksLine variant meaning before after old new last line came
-    → Tries variant meaning before after (snapshot_at last) line came
-line_tries variant meaning before after old new last line came a =
-    recorded_tries variant meaning before after a.recorded a.middle new last line came a.goes
-
--- what is answered was called
-answered_call : (variant : Variant) (meaning : Meaning) (before after : Standing) (offer request : List ℕ) (answer : Answer)
-    → Tries variant meaning before after offer request (Ok (Answered answer))
-    → IsCall variant meaning before after offer request (Ok answer)
-answered_call variant meaning before after offer request answer (fails same why e) = absurd (cc)
-answered_call variant meaning before after offer request answer (asks (Err why) c e) = absurd (cc)
-answered_call variant meaning before after offer request answer (asks (Ok it) c (inl e)) =
-    let same : it ≡ answer = cc in
-    subst (λ (a : Answer). IsCall variant meaning before after offer request (Ok a)) same c
-answered_call variant meaning before after offer request answer (asks (Ok it) c (inr e)) =
-    let clash : Ok (Answered answer) ≡ Err (store_fault_as e.0) = e.1 in absurd (cc)
-
-never_starts : (variant : Variant) (meaning : Meaning) (before after : Standing) (offer request first : List ℕ)
-    → Tries variant meaning before after offer request (Ok (Start first)) → ⊥
-never_starts variant meaning before after offer request first (fails same why e) = cc
-never_starts variant meaning before after offer request first (asks (Err why) c e) = cc
-never_starts variant meaning before after offer request first (asks (Ok it) c (inl e)) = cc
-never_starts variant meaning before after offer request first (asks (Ok it) c (inr e)) =
-    let clash : Ok (Start first) ≡ Err (store_fault_as e.0) = e.1 in cc
+use Rattle.mm_model.specs.declared.refusal.Refusal.TheVariants as refusal
+use Rattle.mm_host.proofs.Ending.{IsByInput, by_end}
+use Rattle.mm_host.proofs.Finding.{Saw, one_waiting, saw_two}
+use Rattle.mm_host.proofs.Trying.{Tries, answered_call, asks, line_tries, never_starts, tells_call}
 
 -- Calls that were answered, one after another, each with the snapshot of the answer before.
 abbrev pub CallsInTurn : Variant → Meaning → List ℕ → Standing → List Served → Standing → Type 0
@@ -146,7 +88,7 @@ never_refused why came sent f refusal e (inr s) is = let told : Err f ≡ Err Wr
 
 -- what a start came to: nothing was asked, as memory was wanting or the store failed; nothing waits, and it begins with
 -- the first slot; or what waits is tried
-data Begun (variant : Variant) (meaning : Meaning) (before after : Standing) (slots : Slots) (waiting : Option Pending)
+pub data Begun (variant : Variant) (meaning : Meaning) (before after : Standing) (slots : Slots) (waiting : Option Pending)
     (came : Result Resumed HostFault) : Type 0 where
   broken : after ≡ before → (why : StoreFault) → came ≡ Err (store_fault_as why) → Begun variant meaning before after slots waiting came
   starting : waiting ≡ None → after ≡ before → came ≡ Ok (Start (slot_read slots 0)) → Begun variant meaning before after slots waiting came
@@ -180,7 +122,7 @@ module _ (variant : Variant) (meaning : Meaning) (before after : Standing) (slot
       begun_repeat g.offer middle g.middle new p
       (one_waiting (slot_read slots 2) (slot_read slots 3) waiting (Some p) w (s.waiting (Some p) refl)) s.told g.reads g.goes
 
-  begun_by : (old new : StoreStanding) → old.slots ≡ Some slots → IsWaiting (slot_read slots 2) (slot_read slots 3) waiting
+  pub begun_by : (old new : StoreStanding) → old.slots ≡ Some slots → IsWaiting (slot_read slots 2) (slot_read slots 3) waiting
       → Resumes variant meaning before after old new came → Begun variant meaning before after slots waiting came
   begun_by old new told w r =
       begun_found r.waiting old r.middle new w
@@ -198,21 +140,15 @@ module _ (variant : Variant) (meaning : Meaning) (number : ℕ) (at : Place) (fi
       stops e.line (e.held, e.begins) e.came
       (line_tries variant meaning at.platform final at.store new at.last e.line e.came e.asks) sent fault e.says refl
 
-  stopped_ends : (fault : SessionFault) → Stops variant meaning number at final new left more sent fault
-      → Ends variant meaning at.platform final (snapshot_at at.last) InHand (Err fault)
-  stopped_ends Memory e = line_ends Memory e
-  stopped_ends Store e = line_ends Store e
-  stopped_ends (Refused why) e = line_ends (Refused why) e
-  stopped_ends WriteFault e = line_ends WriteFault e
-  stopped_ends ReadFault e = rests e.0.platform (λ why r. cc)
-  stopped_ends (BadLine line) e = rests e.0.platform (λ why r. cc)
-  stopped_ends (LineLong line) e = rests e.0.platform (λ why r. cc)
-  stopped_ends TooMuch e = rests e.0.platform (λ why r. cc)
+  -- at rest it isn't refused
+  unrefused : (result : Result Unit SessionFault) → IsByInput result → (why : Refusal) → result ≡ Err (Refused why) → ⊥
+  unrefused result by why e = subst (λ (r : Result Unit SessionFault). IsByInput r) e by
 
   session_ends : (result : Result Unit SessionFault) → EndsSession variant meaning number at final new left more sent result
       → Ends variant meaning at.platform final (snapshot_at at.last) InHand result
-  session_ends (Ok it) e = rests e.0.platform (λ why r. cc)
-  session_ends (Err fault) e = stopped_ends fault e
+  session_ends result e =
+      by_end (λ (r : Result Unit SessionFault). Ends variant meaning at.platform final (snapshot_at at.last) InHand r) variant meaning number
+      at final new left more sent result e line_ends (λ by r. rests r.platform (unrefused result by))
 
 -- the whole session
 
@@ -322,75 +258,4 @@ pub chain_of : (variant : Variant) (meaning : Meaning) (before after : Standing)
     → Chain variant meaning (first_offer slots waiting) before after (told_in waiting s.goes) (IsInHand waiting s.goes) result
 chain_of variant meaning before after old new left left' received received' result slots waiting told w s =
     chain_by variant meaning before s.platform after slots waiting s.begun s.store new left' s.taken s.sent result
-    (begun_by variant meaning before s.platform slots waiting s.begun old s.store told w s.resumes) s.goes
-
--- What was made is among what waited and the lines.
-
-first_told : (variant : Variant) (meaning : Meaning) (before after : Standing) (slots : Slots) (waiting : Option Pending)
-    (begun : Result Resumed HostFault) (first : Resumed) (lines : List (List ℕ)) → begun ≡ Ok first
-    → Begun variant meaning before after slots waiting begun
-    → lines_served (told_first waiting first) ++ lines ≡ requests_with waiting lines
-first_told variant meaning before after slots None begun first lines is b = refl
-first_told variant meaning before after slots (Some p) begun (Answered answer) lines is b = refl
-first_told variant meaning before after slots (Some p) begun (Start bytes) lines is (broken still why e) =
-    let clash : Ok (Start bytes) ≡ Err (store_fault_as why) = sym is ∙ e in absurd (cc)
-first_told variant meaning before after slots (Some p) begun (Start bytes) lines is (starting none still e) = absurd (cc)
-first_told variant meaning before after slots (Some p) begun (Start bytes) lines is (trying q e t) =
-    absurd (never_starts variant meaning before after (slot_read slots (offer_slot q)) q.request bytes
-    (subst (λ (r : Result Resumed HostFault). Tries variant meaning before after (slot_read slots (offer_slot q)) q.request r) is t))
-
-served_joined : (front behind : List Served) → lines_served (front ++ behind) ≡ lines_served front ++ lines_served behind
-served_joined [] behind = refl
-served_joined (c ∷ front) behind = ap (λ (lines : List (List ℕ)). c.line ∷ lines) (served_joined front behind)
-
-among_first : (waiting : Option Pending) (p : Pending) (request : List ℕ) (lines : List (List ℕ)) → waiting ≡ Some p → p.request ≡ request
-    → AreFirstOf (request ∷ []) (requests_with waiting lines)
-among_first None p request lines e is = absurd (cc)
-among_first (Some q) p request lines e is =
-    let same : q ≡ p = cc in
-    (lines, ap (λ (r : List ℕ). r ∷ lines) (sym (ap (λ (x : Pending). x.request) same ∙ is)))
-
-among_by : (variant : Variant) (meaning : Meaning) (before platform final : Standing) (slots : Slots) (waiting : Option Pending)
-    (begun : Result Resumed HostFault) (store new : StoreStanding) (left : Option (List ℕ)) (taken sent input : List ℕ)
-    (result : Result Unit SessionFault) → IsRead input taken → Begun variant meaning before platform slots waiting begun
-    → (goes : AfterResume variant meaning begun platform final store new left taken sent result)
-    → AreAmong (told_in waiting goes) (IsInHand waiting goes) (requests_with waiting (lines_of input))
-among_by variant meaning before platform final slots waiting begun store new left taken sent input result read b (inl e) = record {
-  served = (requests_with waiting (lines_of input), refl);
-  in_hand = λ (request : List ℕ) h. among_first waiting h.0 request (lines_of input) h.1 h.2;
-}
-among_by variant meaning before platform final slots waiting begun store new left taken sent input result read b (inr g) =
-    let l = g.lines in
-    let from : Place = record { platform = platform; store = store; last = g.first } in
-    let told : List Served = told_first waiting g.first in
-    let bytes : input ≡ lines_joined (lines_served l.calls) ++ (l.more ++ read.rest) =
-    read.is ∙ ap (λ (x : List ℕ). x ++ read.rest) l.took ∙ append_assoc (lines_joined (lines_served l.calls)) l.more read.rest in
-    let lines : lines_of input ≡ lines_served l.calls ++ lines_of (l.more ++ read.rest) =
-    ap lines_of bytes ∙ lines_of-joined (lines_served l.calls) (l.more ++ read.rest)
-    (unbroken_served variant meaning from l.at l.calls l.serves) in
-    let all_lines : lines_served (told ++ l.calls) ++ lines_of (l.more ++ read.rest) ≡ requests_with waiting (lines_of input) =
-    ap (λ (x : List (List ℕ)). x ++ lines_of (l.more ++ read.rest)) (served_joined told l.calls)
-    ∙ append_assoc (lines_served told) (lines_served l.calls) (lines_of (l.more ++ read.rest))
-    ∙ ap (λ (x : List (List ℕ)). lines_served told ++ x) (sym lines)
-    ∙ first_told variant meaning before platform slots waiting begun g.first (lines_of input) g.begins b in
-    record {
-      served = (lines_of (l.more ++ read.rest), all_lines);
-      in_hand = λ (request : List ℕ) h.
-          let next : lines_of (l.more ++ read.rest) ≡ request ∷ lines_of (h.0 ++ read.rest) =
-          ap (λ (x : List ℕ). lines_of (x ++ read.rest)) h.1.cut ∙ ap lines_of (append_assoc request (10 ∷ h.0) read.rest)
-          ∙ lines_of-line request (h.0 ++ read.rest) h.1.within.unbroken in (
-            lines_of (h.0 ++ read.rest),
-            append_assoc (lines_served (told ++ l.calls)) (request ∷ []) (lines_of (h.0 ++ read.rest))
-                ∙ ap (λ (x : List (List ℕ)). lines_served (told ++ l.calls) ++ x) (sym next) ∙ all_lines,
-          );
-    }
-
-pub among_input : (variant : Variant) (meaning : Meaning) (before after : Standing) (old new : StoreStanding)
-    (left left' received received' : Option (List ℕ)) (result : Result Unit SessionFault) (slots : Slots) (waiting : Option Pending)
-    → old.slots ≡ Some slots → IsWaiting (slot_read slots 2) (slot_read slots 3) waiting
-    → (s : Sessions variant meaning before after old new left left' received received' result) → (input : List ℕ) → left ≡ Some input
-    → AreAmong (told_in waiting s.goes) (IsInHand waiting s.goes) (requests_with waiting (lines_of input))
-among_input variant meaning before after old new left left' received received' result slots waiting told w s input e =
-    among_by variant meaning before s.platform after slots waiting s.begun s.store new left' s.taken s.sent input result
-    (read_of left left' input s.taken e s.consumed)
     (begun_by variant meaning before s.platform slots waiting s.begun old s.store told w s.resumes) s.goes

@@ -41,7 +41,7 @@ use Rattle.mm_host.proofs.CallsMade.{CallsInTurn}
 use Rattle.mm_host.proofs.Leading.{Laws, Reaches, Shows, reach_then}
 use Rattle.mm_host.proofs.LineStep.{same_pending}
 use Rattle.mm_host.proofs.Machining.{IsIssued, holds_issued, steps_again, steps_fresh}
-use Rattle.mm_host.proofs.SessionRuns.{push_batches}
+use Rattle.mm_host.proofs.FirstAnswer.{push_batches}
 
 -- what a right offer says
 said_of : (i : Instance) (bytes : List ℕ) (content : Content) → IsRight i bytes content → right_content i bytes ≡ Some content

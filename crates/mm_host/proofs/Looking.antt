@@ -46,7 +46,8 @@ use Rattle.mm_host.specs.Continuing.{IsInHand, told_in}
 use Rattle.mm_host.specs.Serving.{Served}
 use Rattle.mm_host.specs.Sessions.{Sessions}
 use Rattle.mm_host.proofs.CallsMade.{chain_of}
-use Rattle.mm_host.proofs.Leading.{Reaches, opt_laws}
+use Rattle.mm_host.proofs.Leading.{Reaches}
+use Rattle.mm_host.proofs.OptLeading.{opt_laws}
 use Rattle.mm_host.proofs.OptMoves.{not_lost, was_powered}
 use Rattle.mm_host.proofs.RunningOnce.{chain_reaches, session_runs_once}
 

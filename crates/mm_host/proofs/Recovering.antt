@@ -32,13 +32,12 @@ use Rattle.std.proofs.lemmas.List.{take_all}
 use Rattle.mm_base.specs.Limits.{last_position}
 use Rattle.mm_model.specs.Fit.{IsFit}
 use Rattle.mm_host.specs.Saying.{position_at, snapshot_at}
-use Rattle.mm_store.proofs.PendingLaws.{one_reading}
 use Rattle.mm_host.specs.declared.fault.HostFault.{HostFault}
 use Rattle.mm_host.specs.declared.resuming.Resumed.{Resumed}
 use Rattle.mm_host.specs.declared.resuming.Resumed.TheVariants.{Start, Answered}
 use Rattle.mm_host.specs.Faults.{store_fault_as, refusal_fault}
-use Rattle.mm_host.specs.Waiting.{later, IsWaiting}
-use Rattle.mm_host.specs.Resumes.{AfterThree, AfterTwo, started, kept_as, AfterAsk, AfterOffer, AfterFinding, Resumes}
+use Rattle.mm_host.specs.Waiting.{IsWaiting}
+use Rattle.mm_host.specs.Resumes.{started, kept_as, AfterAsk, AfterOffer, AfterFinding, Resumes}
 use Rattle.mm_host.specs.Asking.{IsCall}
 use Rattle.mm_host.specs.Fitting.{offer_slot, Holds, IsAwaited, FitsBy}
 use Rattle.mm_host.specs.Recovery.{IsAskedFor, CanRecover, IsGrown, AnswersAt, ComesTo, MayHaveCommitted, RecoversTo}
@@ -46,54 +45,7 @@ use Rattle.mm_host.proofs.Slots.{IsElsewhere, elsewhere_same, elsewhere_put}
 use Rattle.mm_host.proofs.Machining.{IsIssued, holds_issued}
 use Rattle.mm_host.proofs.Refusing.{MayRefuse}
 use Rattle.mm_host.proofs.Awaited.{awaited_least, still_awaited, grows, answered_at}
-
--- one request waits in the slots' bytes
-pub one_waiting : (two three : List ℕ) (v w : Option Pending) → IsWaiting two three v → IsWaiting two three w → v ≡ w
-one_waiting two three v w a b =
-    let in_two : a.in_two ≡ b.in_two = one_reading 2 two a.in_two b.in_two a.reads_two b.reads_two in
-    let in_three : a.in_three ≡ b.in_three = one_reading 3 three a.in_three b.in_three a.reads_three b.reads_three in
-    a.is ∙ ap (λ (x : Option Pending). later x a.in_three) in_two ∙ ap (λ (x : Option Pending). later b.in_two x) in_three ∙ sym b.is
-
--- what a finding saw, over a store that tells its slots
-pub record Saw (slots : Slots) (old new : StoreStanding) (result : Result (Option Pending) StoreFault) : Type 0 where
-  pub told : new.slots ≡ Some slots
-  pub honest : new.is_honest ≡ old.is_honest
-  pub waiting : (w : Option Pending) → result ≡ Ok w → IsWaiting (slot_read slots 2) (slot_read slots 3) w
-
-took : (two three : List ℕ) (result : Result (Option Pending) StoreFault) (taken w : Option Pending) → IsWaiting two three taken
-    → (result ≡ Ok taken) ⊎ (result ≡ Err fault.Memory) → result ≡ Ok w → IsWaiting two three w
-took two three result taken w is (inl e) f =
-    let same : taken ≡ w = cc in
-    subst (λ (x : Option Pending). IsWaiting two three x) same is
-took two three result taken w is (inr e) f = absurd (cc)
-
-saw_three : (slots : Slots) (two : List ℕ) (three : Result (List ℕ) StoreFault) (old new : StoreStanding)
-    (result : Result (Option Pending) StoreFault) → old.slots ≡ Some slots → two ≡ slot_read slots 2 → ReadsSlot 3 old new three
-    → AfterThree two three result → Saw slots old new result
-saw_three slots two (Err why) old new result t e r g = record {
-  told = r.slots ∙ t;
-  honest = r.honest;
-  waiting = λ (w : Option Pending) (f : result ≡ Ok w). absurd (cc);
-}
-saw_three slots two (Ok three) old new result t e r g = record {
-  told = r.slots ∙ t;
-  honest = r.honest;
-  waiting = λ (w : Option Pending) (f : result ≡ Ok w).
-      subst (λ (x : List ℕ). IsWaiting x (slot_read slots 3) w) e
-      (subst (λ (x : List ℕ). IsWaiting two x w) (r.gives slots t) (took two three result g.waiting w g.is_waiting g.gives f));
-}
-
-pub saw_two : (slots : Slots) (two : Result (List ℕ) StoreFault) (old middle new : StoreStanding)
-    (result : Result (Option Pending) StoreFault) → old.slots ≡ Some slots → ReadsSlot 2 old middle two
-    → AfterTwo two middle new result → Saw slots old new result
-saw_two slots (Err why) old middle new result t r g = record {
-  told = ap (λ (k : StoreStanding). k.slots) g.0 ∙ r.slots ∙ t;
-  honest = ap (λ (k : StoreStanding). k.is_honest) g.0 ∙ r.honest;
-  waiting = λ (w : Option Pending) (f : result ≡ Ok w). let e : result ≡ Err why = g.1 in absurd (cc);
-}
-saw_two slots (Ok two) old middle new result t r g =
-    let s = saw_three slots two g.three middle new result (r.slots ∙ t) (r.gives slots t) g.reads g.goes in
-    record { told = s.told; honest = s.honest ∙ r.honest; waiting = s.waiting }
+use Rattle.mm_host.proofs.Finding.{Saw, one_waiting, saw_two}
 
 -- an exit where nothing was asked
 grown_none : (y : History) (waiting : Option Pending) → IsGrown y waiting y

@@ -44,11 +44,15 @@ use Rattle.mm_host.specs.Saying.{SendsReply, comes_as}
 use Rattle.mm_host.specs.Serving.{Served, lines_served}
 use Rattle.mm_host.proofs.Awaited.{grows}
 use Rattle.mm_host.proofs.BothRecovering.{Met}
-use Rattle.mm_host.proofs.CallsMade.{CallsInTurn, Chain, Ends, TellsCall, Tries, asks, among_input, calls_split, chain_of, fails, never_refused, rests, stops}
+use Rattle.mm_host.proofs.CallsMade.{CallsInTurn, Chain, Ends, calls_split, chain_of, never_refused, rests, stops}
+use Rattle.mm_host.proofs.Trying.{TellsCall, Tries, asks, fails}
+use Rattle.mm_host.proofs.AmongLines.{among_input}
 use Rattle.mm_host.proofs.InTurn.{AfterTurns, May, MindsNothing, StandsIn, calls_reach, met_last, pending_for, turns}
-use Rattle.mm_host.proofs.Leading.{Laws, Reaches, basic_laws, opt_laws, reach_same}
+use Rattle.mm_host.proofs.Leading.{Laws, Reaches, reach_same}
+use Rattle.mm_host.proofs.BasicLeading.{basic_laws}
+use Rattle.mm_host.proofs.OptLeading.{opt_laws}
 use Rattle.mm_host.proofs.Recovering.{may_commit}
-use Rattle.mm_host.proofs.SessionRuns.{line_committed}
+use Rattle.mm_host.proofs.SessionEnds.{line_committed}
 use Rattle.mm_host.proofs.Unspoiled.{unspoiled}
 
 -- what came of the request in hand

@@ -1,5 +1,5 @@
 -- Whose fault it is that a session ends, by the steps.
-use Rattle.std.proofs.Common.{ℕ, ◌≡◌, ◌≢◌, ◌+◌, List, [], ◌∷◌, length, Option, None, Some, Result, Ok, Err, refl, sym, ap, ◌∙◌, subst, inl, inr}
+use Rattle.std.proofs.Common.{ℕ, ◌≡◌, ◌≢◌, ◌+◌, List, [], ◌∷◌, length, Option, None, Some, Result, Ok, Err, refl, sym, ap, ◌∙◌, subst, inl, inr, Bool, false}
 use Rattle.std.specs.Prelude.{◌⊎◌, is_some}
 use Rattle.mm_digest.specs.declared.variant.Variant.{Variant}
 use Rattle.mm_platform.specs.Standing.{Standing}
@@ -22,11 +22,12 @@ use Rattle.mm_host.specs.declared.resuming.Resumed.{Resumed}
 use Rattle.mm_host.specs.declared.resuming.Resumed.TheVariants.{Answered}
 use Rattle.mm_host.specs.Blame.{Blamed, IsNamed}
 use Rattle.mm_host.specs.Faults.{store_fault_as, as_session_fault}
-use Rattle.mm_host.specs.Saying.{SendsReply, told_cause, comes_as, refusal_text, reply_text}
+use Rattle.mm_host.specs.Saying.{SendsReply, told_cause, refusal_text, reply_text}
 use Rattle.mm_host.specs.Serving.{AfterRecord, AsksLine, Place, Served, Serves}
 use Rattle.mm_host.specs.SessionBlame.{IsRefusalNamed, is_platform_fault, is_store_fault}
-use Rattle.mm_host.specs.Sessions.{EndsSession, GoesOn, IsAtRest, Sessions, Stops, StopsAtOnce, StopsInLine}
+use Rattle.mm_host.specs.Sessions.{EndsSession, GoesOn, IsAtRest, Sessions, StopsAtOnce, StopsInLine}
 use Rattle.mm_host.proofs.Blaming.{Told, asked_told, resumes_told, store_told, told_as as same_told, told_later}
+use Rattle.mm_host.proofs.Ending.{IsByInput, by_end, by_told}
 
 -- what a line comes to
 recorded_told : (variant : Variant) (meaning : Meaning) (recorded : Result Unit StoreFault) (before after : Standing)
@@ -142,22 +143,14 @@ write_told before after old new q = record {
   named = record { remembered = λ e. absurd (cc); short = λ e. absurd (cc) };
 }
 
-same_fault : (f g : SessionFault) (r : Result Resumed SessionFault) → r ≡ Err f → r ≡ Err g → g ≡ f
-same_fault f g r h k = cc
-
-came_says : (came : Result Resumed HostFault) (fault : SessionFault) (before after : Standing) (old new : StoreStanding)
-    → Err fault ≡ comes_as came → Told came before after old new → IsTold (Err fault) before after old new
-came_says (Ok it) fault before after old new e t = absurd (cc)
-came_says (Err why) fault before after old new e t =
-    subst (λ (f : SessionFault). IsTold (Err f) before after old new) (same_fault fault (as_session_fault why) (Err fault) refl e)
-    (came_told why before after old new t.blamed t.named)
-
 says_told : (came : Result Resumed HostFault) (sent : List ℕ) (fault : SessionFault) (before after : Standing) (old new : StoreStanding)
     → SendsReply came sent (Err fault) → Told came before after old new → IsTold (Err fault) before after old new
-says_told came sent fault before after old new (inl s) t = came_says came fault before after old new s.1 t
-says_told came sent fault before after old new (inr s) t =
-    subst (λ (f : SessionFault). IsTold (Err f) before after old new) (same_fault fault WriteFault (Err fault) refl s.0)
-    (write_told before after old new (quiet_told came before after old new s.1 t.blamed))
+says_told came sent fault before after old new s t =
+    by_told (λ (f : SessionFault). IsTold (Err f) before after old new) came sent fault s
+    (λ (why : HostFault) (e : came ≡ Err why).
+    let told : Told (Err why) before after old new = subst (λ (r : Result Resumed HostFault). Told r before after old new) e t in
+    came_told why before after old new told.blamed told.named)
+    (λ n. write_told before after old new (quiet_told came before after old new n t.blamed))
 
 -- the ends
 rest_counts : (at : Place) (after : Standing) (new : StoreStanding) (sent : List ℕ) → IsAtRest at after new sent
@@ -171,48 +164,36 @@ line_stops_told variant meaning number at after new more sent fault s =
     says_told s.came sent fault at.platform after at.store new s.says
     (line_told variant meaning at.platform after at.store new at.last s.line s.came s.asks)
 
-stops_told : (variant : Variant) (meaning : Meaning) (number : ℕ) (at : Place) (after : Standing) (new : StoreStanding)
-    (left : Option (List ℕ)) (more sent : List ℕ) (fault : SessionFault) → Stops variant meaning number at after new left more sent fault
-    → IsTold (Err fault) at.platform after at.store new
-stops_told variant meaning number at after new left more sent Memory s =
-    line_stops_told variant meaning number at after new more sent Memory s
-stops_told variant meaning number at after new left more sent Store s =
-    line_stops_told variant meaning number at after new more sent Store s
-stops_told variant meaning number at after new left more sent (Refused why) s =
-    line_stops_told variant meaning number at after new more sent (Refused why) s
-stops_told variant meaning number at after new left more sent WriteFault s =
-    line_stops_told variant meaning number at after new more sent WriteFault s
-stops_told variant meaning number at after new left more sent ReadFault s = let q = rest_counts at after new sent s.0 in record {
-  platform = q.0;
-  store = q.1;
-  named = record { remembered = λ e. absurd (cc); short = λ e. absurd (cc) };
+rest_told : (result : Result Unit SessionFault) (at : Place) (after : Standing) (new : StoreStanding) → IsByInput result
+    → (after.faults ≡ at.platform.faults) × (new.faults ≡ at.store.faults) → IsTold result at.platform after at.store new
+rest_told result at after new by q = record {
+  platform = subst (λ (b : Bool). IsBlamed b at.platform.faults after.faults) (sym (no_device result by).0) q.0;
+  store = subst (λ (b : Bool). IsBlamed b at.store.faults new.faults) (sym (no_device result by).1) q.1;
+  named = record {
+    remembered = λ e. subst (λ (r : Result Unit SessionFault). IsByInput r) e by;
+    short = λ e. subst (λ (r : Result Unit SessionFault). IsByInput r) e by;
+  };
 }
-stops_told variant meaning number at after new left more sent (BadLine line) s = let q = rest_counts at after new sent s.0 in record {
-  platform = q.0;
-  store = q.1;
-  named = record { remembered = λ e. absurd (cc); short = λ e. absurd (cc) };
-}
-stops_told variant meaning number at after new left more sent (LineLong line) s = let q = rest_counts at after new sent s.0 in record {
-  platform = q.0;
-  store = q.1;
-  named = record { remembered = λ e. absurd (cc); short = λ e. absurd (cc) };
-}
-stops_told variant meaning number at after new left more sent TooMuch s = let q = rest_counts at after new sent s.0 in record {
-  platform = q.0;
-  store = q.1;
-  named = record { remembered = λ e. absurd (cc); short = λ e. absurd (cc) };
-}
+  where
+    no_device : (result : Result Unit SessionFault) → IsByInput result
+        → (is_platform_fault result ≡ false) × (is_store_fault result ≡ false)
+    no_device (Ok it) by = (refl, refl)
+    no_device (Err Memory) by = (refl, refl)
+    no_device (Err Store) by = absurd by
+    no_device (Err (Refused why)) by = absurd by
+    no_device (Err WriteFault) by = (refl, refl)
+    no_device (Err ReadFault) by = (refl, refl)
+    no_device (Err (LineLong line)) by = (refl, refl)
+    no_device (Err (BadLine line)) by = (refl, refl)
+    no_device (Err TooMuch) by = (refl, refl)
 
 ends_told : (variant : Variant) (meaning : Meaning) (number : ℕ) (at : Place) (after : Standing) (new : StoreStanding)
     (left : Option (List ℕ)) (more sent : List ℕ) (result : Result Unit SessionFault)
     → EndsSession variant meaning number at after new left more sent result → IsTold result at.platform after at.store new
-ends_told variant meaning number at after new left more sent (Ok it) e = let q = rest_counts at after new sent e.0 in record {
-  platform = q.0;
-  store = q.1;
-  named = record { remembered = λ f. absurd (cc); short = λ f. absurd (cc) };
-}
-ends_told variant meaning number at after new left more sent (Err fault) e =
-    stops_told variant meaning number at after new left more sent fault e
+ends_told variant meaning number at after new left more sent result e =
+    by_end (λ (r : Result Unit SessionFault). IsTold r at.platform after at.store new) variant meaning number at after new left more sent
+    result e (λ fault s. line_stops_told variant meaning number at after new more sent fault s)
+    (λ by r. rest_told result at after new by (rest_counts at after new sent r))
 
 goes_on_told : (variant : Variant) (meaning : Meaning) (begun : Result Resumed HostFault) (before platform after : Standing)
     (old store new : StoreStanding) (left : Option (List ℕ)) (taken sent : List ℕ) (result : Result Unit SessionFault)

@@ -1,10 +1,10 @@
 -- A session doesn't blame lines that are within the limits.
-use Rattle.std.proofs.Common.{◌≡◌, ◌∙◌, ◌+◌, ◌<◌, ◌≤◌, ℕ, List, [], ◌∷◌, ◌++◌, length, take, drop, Option, None, Some, Result, Ok, Err, refl, sym, ap, subst, inl, inr, arith, append_assoc, length-append, length-take, take-append-drop, append-nil, suc}
-use Rattle.std.specs.Io.KnownBytes.{Consumes, IsAtEnd}
+use Rattle.std.proofs.Common.{◌≡◌, ◌∙◌, ◌+◌, ◌<◌, ◌≤◌, ℕ, List, [], ◌∷◌, ◌++◌, length, take, drop, Option, Result, Ok, Err, sym, ap, subst, inl, inr, arith, append_assoc, length-append, length-take, take-append-drop, append-nil, suc}
+use Rattle.std.specs.Io.KnownBytes.{IsAtEnd}
 use Rattle.std.specs.List.{AllByRecursion}
-use Rattle.mm_base.specs.Input.{IsUnbroken, lines_joined, lines_of, tail_of, onto_first, onto_tail}
+use Rattle.mm_base.specs.Input.{lines_joined, lines_of, tail_of, onto_first, onto_tail}
 use Rattle.mm_base.specs.Lines.{IsLong, MayGrow}
-use Rattle.mm_base.proofs.Input.{lines_of-append, lines_of-joined, lines_of-line, tail_of-append, tail_of-joined, tail_of-unbroken}
+use Rattle.mm_base.proofs.Input.{lines_of-append, tail_of-append, tail_of-joined, tail_of-unbroken}
 use Rattle.mm_base.specs.Limits.{longest_request}
 use Rattle.mm_digest.specs.declared.variant.Variant.{Variant}
 use Rattle.mm_platform.specs.Standing.{Standing}
@@ -15,38 +15,15 @@ use Rattle.mm_host.specs.declared.fault.HostFault.TheVariants as host
 use Rattle.mm_host.specs.declared.fault.SessionFault.{SessionFault}
 use Rattle.mm_host.specs.declared.fault.SessionFault.TheVariants.{Memory, Store, Refused, ReadFault, WriteFault, LineLong, BadLine, TooMuch}
 use Rattle.mm_host.specs.declared.resuming.Resumed.{Resumed}
-use Rattle.mm_host.specs.declared.resuming.Resumed.TheVariants.{Answered}
 use Rattle.mm_host.specs.Faults.{as_session_fault}
-use Rattle.mm_host.specs.Saying.{SendsReply, comes_as}
+use Rattle.mm_host.specs.Saying.{SendsReply}
 use Rattle.mm_host.specs.Serving.{Place, Served, Serves, lines_served}
 use Rattle.mm_host.specs.SessionLines.{AreWithin, IsNoLines, SparesLines}
 use Rattle.mm_host.specs.Sessions.{AfterResume, BeginsWith, EndsSession, Sessions, Stops, most_lines}
-
--- what is left of an input behind what was taken
-record IsRead (input taken : List ℕ) (left : Option (List ℕ)) : Type 0 where
-  rest : List ℕ
-  is : input ≡ taken ++ rest
-  at_end : IsAtEnd left → rest ≡ []
-
-read_of : (left left' : Option (List ℕ)) (input taken : List ℕ) → left ≡ Some input → Consumes left left' taken → IsRead input taken left'
-read_of None left' input taken e c = absurd (cc)
-read_of (Some xs) None input taken e c = absurd c
-read_of (Some xs) (Some ys) input taken e c =
-    let same : xs ≡ input = cc in
-    record { rest = ys; is = sym same ∙ c; at_end = λ h. h }
-
-pub unbroken_served : (variant : Variant) (meaning : Meaning) (from to : Place) (calls : List Served) → Serves variant meaning from calls to
-    → AllByRecursion IsUnbroken (lines_served calls)
-unbroken_served variant meaning from to [] s = tt
-unbroken_served variant meaning from to (c ∷ calls) s = (
-  s.within.unbroken,
-  unbroken_served variant meaning (record { platform = s.platform; store = s.store; last = Answered c.answer }) to
-      calls s.rest,
-)
-
-pub length-lines_served : (calls : List Served) → length (lines_served calls) ≡ length calls
-length-lines_served [] = refl
-length-lines_served (c ∷ calls) = ap (λ (n : ℕ). suc n) (length-lines_served calls)
+use Rattle.std.proofs.lemmas.List.{append-nil}
+use Rattle.mm_call.specs.Leaving.{whole}
+use Rattle.mm_host.proofs.Ending.{by_told}
+use Rattle.mm_host.proofs.ReadLines.{IsRead, bytes_in, length-lines_served, lines_in, next_line, read_of, unbroken_served}
 
 abbrev AreShort : List (List ℕ) → Type 0
 AreShort lines = AllByRecursion (λ line. length line ≤ longest_request) lines
@@ -61,17 +38,16 @@ record IsRest (count : ℕ) (bytes : List ℕ) : Type 0 where
   short : AreShort (lines_of bytes)
   few : count + length (lines_of bytes) ≤ most_lines
 
-rest_of : (variant : Variant) (meaning : Meaning) (from to : Place) (calls : List Served) (input taken more rest : List ℕ)
-    → Serves variant meaning from calls to → input ≡ taken ++ rest → taken ≡ lines_joined (lines_served calls) ++ more → AreWithin input
-    → IsRest (length calls) (more ++ rest)
-rest_of variant meaning from to calls input taken more rest s is took w =
-    let bytes : input ≡ lines_joined (lines_served calls) ++ (more ++ rest) =
-    is ∙ ap (λ (x : List ℕ). x ++ rest) took ∙ append_assoc (lines_joined (lines_served calls)) more rest in
-    let unbroken = unbroken_served variant meaning from to calls s in
-    let lines : lines_of input ≡ lines_served calls ++ lines_of (more ++ rest) = ap lines_of bytes
-    ∙ lines_of-joined (lines_served calls) (more ++ rest) unbroken in
+rest_of : (variant : Variant) (meaning : Meaning) (from to : Place) (calls : List Served) (input taken more : List ℕ)
+    (left : Option (List ℕ)) (r : IsRead input taken left) → Serves variant meaning from calls to
+    → taken ≡ lines_joined (lines_served calls) ++ more → AreWithin input → IsRest (length calls) (more ++ r.rest)
+rest_of variant meaning from to calls input taken more left r s took w =
+    let rest : List ℕ = r.rest in
+    let bytes = bytes_in calls input taken more left r took in
+    let lines = lines_in variant meaning from to calls input taken more left r s took in
     record {
-      whole = sym (ap tail_of bytes ∙ tail_of-joined (lines_served calls) (more ++ rest) unbroken) ∙ w.whole;
+      whole = sym (ap tail_of bytes
+          ∙ tail_of-joined (lines_served calls) (more ++ rest) (unbroken_served variant meaning from to calls s)) ∙ w.whole;
       short = short_later (lines_served calls) (lines_of (more ++ rest)) (subst (λ (ls : List (List ℕ)). AreShort ls) lines w.short);
       few =
           counted (lines_served calls) (lines_of (more ++ rest)) (length calls) (length (lines_of input))
@@ -112,10 +88,8 @@ not_cut count more rest r e w h =
 not_many : (count : ℕ) (more rest line held : List ℕ) → IsRest count (more ++ rest) → count + 1 ≡ most_lines + 1 → BeginsWith more line held
     → ⊥
 not_many count more rest line held r e b =
-    let lines : lines_of (more ++ rest) ≡ line ∷ lines_of (held ++ rest) =
-    ap (λ (x : List ℕ). lines_of (x ++ rest)) b.cut ∙ ap lines_of (append_assoc line (10 ∷ held) rest)
-    ∙ lines_of-line line (held ++ rest) b.within.unbroken in
-    absurd (counted count (lines_of (more ++ rest)) (lines_of (held ++ rest)) (ap (λ (ls : List (List ℕ)). length ls) lines) e r.few)
+    absurd (counted count (lines_of (more ++ rest)) (lines_of (held ++ rest))
+    (ap (λ (ls : List (List ℕ)). length ls) (next_line more rest line held b)) e r.few)
   where
     counted : (n : ℕ) (a b : List (List ℕ)) → length a ≡ suc (length b) → n + 1 ≡ most_lines + 1 → n + length a ≤ most_lines → ⊥
     counted n a b h e k = absurd (omega (arith, h, e, k))
@@ -144,19 +118,10 @@ told_no_lines host.Memory = tt
 told_no_lines host.Store = tt
 told_no_lines (host.Refused why) = tt
 
-same_fault : (f g : SessionFault) (r : Result Resumed SessionFault) → r ≡ Err f → r ≡ Err g → g ≡ f
-same_fault f g r h k = cc
-
-came_no_lines : (came : Result Resumed HostFault) (fault : SessionFault) → Err fault ≡ comes_as came → IsNoLines {T = Unit} (Err fault)
-came_no_lines (Ok it) fault e = absurd (cc)
-came_no_lines (Err f) fault e =
-    subst (λ (x : SessionFault). IsNoLines {T = Unit} (Err x)) (same_fault fault (as_session_fault f) (Err fault) refl e) (told_no_lines f)
-
 says_no_lines : (came : Result Resumed HostFault) (sent : List ℕ) (fault : SessionFault) → SendsReply came sent (Err fault)
     → IsNoLines {T = Unit} (Err fault)
-says_no_lines came sent fault (inl s) = came_no_lines came fault s.1
-says_no_lines came sent fault (inr s) =
-    subst (λ (x : SessionFault). IsNoLines {T = Unit} (Err x)) (same_fault fault WriteFault (Err fault) refl s.0) tt
+says_no_lines came sent fault s =
+    by_told (λ (f : SessionFault). IsNoLines {T = Unit} (Err f)) came sent fault s (λ why e. told_no_lines why) (λ n. tt)
 
 spares_by : (variant : Variant) (meaning : Meaning) (begun : Result Resumed HostFault) (platform after : Standing)
     (store new : StoreStanding) (left : Option (List ℕ)) (input taken sent : List ℕ) (result : Result Unit SessionFault)
@@ -167,8 +132,8 @@ spares_by variant meaning begun platform after store new left input taken sent r
 spares_by variant meaning begun platform after store new left input taken sent result r w (inr g) =
     let l = g.lines in
     spares_end variant meaning (length l.calls) l.at after new left l.more r.rest l.last result
-    (rest_of variant meaning (record { platform = platform; store = store; last = g.first }) l.at l.calls input taken l.more r.rest l.serves
-    r.is l.took w) r.at_end l.ends
+    (rest_of variant meaning (record { platform = platform; store = store; last = g.first }) l.at l.calls input taken l.more left r l.serves
+    l.took w) r.at_end l.ends
 
 pub spares_lines : (variant : Variant) (meaning : Meaning) (before after : Standing) (old new : StoreStanding)
     (left left' received received' : Option (List ℕ)) (result : Result Unit SessionFault)

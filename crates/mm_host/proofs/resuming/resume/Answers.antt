@@ -1,6 +1,6 @@
 use Rattle.mm_host.proofs.Blaming.{resumes_told}
 use Rattle.mm_host.proofs.BothRecovering.{recovers}
-use Rattle.mm_host.proofs.SessionWriting.{recovery_writes}
+use Rattle.mm_host.proofs.CameWriting.{recovery_writes}
 use Rattle.mm_host.proofs.resuming.resume.Goals as goal
 
 pub returns-clause-faults : goal.returns-clause-faults

@@ -1,0 +1,186 @@
+-- How often a recovery, a line, and lines that are answered are to write the cell.
+use Rattle.std.proofs.Common.{◌≡◌, ◌+◌, ◌≤◌, ℕ, Bool, true, false, List, [], ◌∷◌, Option, None, Some, Result, Ok, Err, refl, sym, ap, subst, arith}
+use Rattle.mm_digest.specs.declared.variant.Variant.{Variant}
+use Rattle.mm_platform.specs.declared.fault.StepFault.{StepFault}
+use Rattle.mm_platform.specs.Standing.{Standing}
+use Rattle.mm_module.specs.Meaning.{Meaning}
+use Rattle.mm_model.specs.declared.answer.Answer.{Answer}
+use Rattle.mm_model.specs.declared.refusal.Refusal.{Refusal}
+use Rattle.mm_model.specs.declared.refusal.Refusal.TheVariants as refusal
+use Rattle.mm_call.specs.Refusals.{fault_of}
+use Rattle.mm_store.specs.declared.fault.StoreFault.{StoreFault}
+use Rattle.mm_store.specs.declared.fault.StoreFault.TheVariants as store_fault
+use Rattle.mm_store.specs.Kept.{StoreStanding}
+use Rattle.mm_store.specs.Pending.{Pending}
+use Rattle.mm_host.specs.declared.fault.HostFault.{HostFault}
+use Rattle.mm_host.specs.declared.fault.HostFault.TheVariants as host
+use Rattle.mm_host.specs.declared.resuming.Resumed.{Resumed}
+use Rattle.mm_host.specs.declared.resuming.Resumed.TheVariants.{Answered}
+use Rattle.mm_host.specs.CellWrites.{CallWrites, IsNewAt, WritesFor, new_by}
+use Rattle.mm_host.specs.Faults.{refusal_fault, store_fault_as}
+use Rattle.mm_host.specs.Resumes.{AfterAsk, AfterFinding, AfterOffer, Resumes, kept_as, started}
+use Rattle.mm_host.specs.Serving.{AfterRecord, AsksLine, Place, Served, Serves}
+use Rattle.mm_host.specs.SessionWrites.{IsNewOf, RecoveryWrites, new_first, new_lines}
+use Rattle.mm_host.proofs.CountingWrites.{LeadsOver, joined, leads_answer, leads_joined, leads_rest, rests}
+
+-- what a recovery or a line came to, with its new requests
+abbrev pub LeadsBy : Variant → Result Resumed HostFault → ℕ → Standing → Standing → Type 0
+LeadsBy variant (Ok it) requests before after = LeadsOver variant requests before after
+LeadsBy variant (Err fault) requests before after = Unit {0}
+
+pub record CameWrites (variant : Variant) (came : Result Resumed HostFault) (before after : Standing) : Type 0 where
+  pub requests : ℕ
+  pub is_new : IsNewOf came requests
+  pub writes : WritesFor variant requests before after
+  pub leads : LeadsBy variant came requests before after
+
+came_as : (variant : Variant) (came other : Result Resumed HostFault) (before after : Standing) → came ≡ other
+    → CameWrites variant other before after → CameWrites variant came before after
+came_as variant came other before after e c = subst (λ (r : Result Resumed HostFault). CameWrites variant r before after) (sym e) c
+
+none_at : (broken : Option StepFault) → IsNewAt broken 0
+none_at None = refl
+none_at (Some fault) = omega arith
+
+none_of : (fault : HostFault) → IsNewOf (Err fault) 0
+none_of host.Memory = omega arith
+none_of host.Store = omega arith
+none_of (host.Refused why) = none_at (fault_of why)
+
+fault_rests : (variant : Variant) (fault : HostFault) (before after : Standing) → after ≡ before
+    → CameWrites variant (Err fault) before after
+fault_rests variant fault before after e =
+    record { requests = 0; is_new = none_of fault; writes = rests variant before after e; leads = tt }
+
+started_rests : (variant : Variant) (first : Result (List ℕ) StoreFault) (before after : Standing) → after ≡ before
+    → CameWrites variant (started first) before after
+started_rests variant (Ok first) before after e =
+    record { requests = 0; is_new = refl; writes = rests variant before after e; leads = leads_rest variant before after e }
+started_rests variant (Err why) before after e = fault_rests variant (store_fault_as why) before after e
+
+-- a call, and the answer's snapshot
+new_refused : (why : Refusal) (n : ℕ) → IsNewAt (fault_of why) n → IsNewOf (Err (refusal_fault why)) n
+new_refused refusal.Memory n h = omega (arith, h)
+new_refused refusal.Long n h = h
+new_refused (refusal.Device broken) n h = h
+new_refused refusal.Blank n h = h
+new_refused refusal.Cell n h = h
+new_refused refusal.Lost n h = h
+new_refused refusal.Form n h = h
+new_refused refusal.Kind n h = h
+new_refused refusal.State n h = h
+new_refused refusal.Tag n h = h
+new_refused refusal.Stale n h = h
+new_refused refusal.Full n h = h
+
+pub new_most : (again : Bool) (n : ℕ) → n ≡ new_by again → n ≤ 1
+new_most true n e = omega (arith, e)
+new_most false n e = omega (arith, e)
+
+new_stored : (why : StoreFault) (again : Bool) (n : ℕ) → n ≡ new_by again → IsNewOf (Err (store_fault_as why)) n
+new_stored store_fault.Memory again n e = new_most again n e
+new_stored store_fault.Failed again n e = new_most again n e
+
+kept_came : (variant : Variant) (answer : Answer) (written : Result Unit StoreFault) (before after : Standing)
+    → CallWrites variant (Ok answer) before after → CameWrites variant (kept_as answer written) before after
+kept_came variant answer (Ok it) before after c = record {
+  requests = c.requests;
+  is_new = c.new;
+  writes = c.writes;
+  leads = leads_answer variant answer c.requests before after c.leaves;
+}
+kept_came variant answer (Err why) before after c = record {
+  requests = c.requests;
+  is_new = new_stored why answer.again c.requests c.new;
+  writes = c.writes;
+  leads = tt;
+}
+
+asked_came : (variant : Variant) (asked : Result Answer Refusal) (before after : Standing) (old new : StoreStanding)
+    (came : Result Resumed HostFault) → CallWrites variant asked before after → AfterAsk asked old new came
+    → CameWrites variant came before after
+asked_came variant (Err why) before after old new came c g = came_as variant came (Err (refusal_fault why)) before after g.1 (record {
+  requests = c.requests;
+  is_new = new_refused why c.requests c.new;
+  writes = c.writes;
+  leads = tt;
+})
+asked_came variant (Ok answer) before after old new came c g =
+    came_as variant came (kept_as answer g.written) before after g.gives (kept_came variant answer g.written before after c)
+
+-- what waited
+offered_came : (variant : Variant) (meaning : Meaning) (offer : Result (List ℕ) StoreFault) (before after : Standing)
+    (old new : StoreStanding) (p : Pending) (came : Result Resumed HostFault) → AfterOffer variant meaning before after offer old new p came
+    → CameWrites variant came before after
+offered_came variant meaning (Err why) before after old new p came g =
+    came_as variant came (Err (store_fault_as why)) before after g.2 (fault_rests variant (store_fault_as why) before after g.0)
+offered_came variant meaning (Ok offer) before after old new p came g =
+    asked_came variant g.asked before after old new came g.asks.counts g.goes
+
+found_came : (variant : Variant) (meaning : Meaning) (waiting : Result (Option Pending) StoreFault) (before after : Standing)
+    (old new : StoreStanding) (came : Result Resumed HostFault) → AfterFinding variant meaning before after waiting old new came
+    → CameWrites variant came before after
+found_came variant meaning (Err why) before after old new came g =
+    came_as variant came (Err (store_fault_as why)) before after g.2 (fault_rests variant (store_fault_as why) before after g.0)
+found_came variant meaning (Ok None) before after old new came g =
+    came_as variant came (started g.1.zero) before after g.1.gives (started_rests variant g.1.zero before after g.0)
+found_came variant meaning (Ok (Some p)) before after old new came g =
+    offered_came variant meaning g.offer before after g.middle new p came g.goes
+
+pub resumes_came : (variant : Variant) (meaning : Meaning) (before after : Standing) (old new : StoreStanding) (came : Result Resumed HostFault)
+    → Resumes variant meaning before after old new came → CameWrites variant came before after
+resumes_came variant meaning before after old new came r = found_came variant meaning r.waiting before after r.middle new came r.goes
+
+-- a line
+recorded_came : (variant : Variant) (meaning : Meaning) (recorded : Result Unit StoreFault) (before after : Standing)
+    (old new : StoreStanding) (last : Resumed) (line : List ℕ) (came : Result Resumed HostFault)
+    → AfterRecord variant meaning before after recorded old new last line came → CameWrites variant came before after
+recorded_came variant meaning (Ok it) before after old new last line came g = asked_came variant g.asked before after old new came
+    g.asks.counts g.goes
+recorded_came variant meaning (Err why) before after old new last line came g =
+    came_as variant came (Err (store_fault_as why)) before after g.2 (fault_rests variant (store_fault_as why) before after g.0)
+
+pub line_came : (variant : Variant) (meaning : Meaning) (before after : Standing) (old new : StoreStanding) (last : Resumed) (line : List ℕ)
+    (came : Result Resumed HostFault) → AsksLine variant meaning before after old new last line came → CameWrites variant came before after
+line_came variant meaning before after old new last line came a =
+    recorded_came variant meaning a.recorded before after a.middle new last line came a.goes
+
+-- answered calls
+pub record AnsweredWrites (variant : Variant) (requests : ℕ) (before after : Standing) : Type 0 where
+  pub writes : WritesFor variant requests before after
+  pub leads : LeadsOver variant requests before after
+
+pub answered_writes : (variant : Variant) (it : Resumed) (before after : Standing) → CameWrites variant (Ok it) before after
+    → AnsweredWrites variant (new_first it) before after
+answered_writes variant it before after c = record {
+  writes = subst (λ (n : ℕ). WritesFor variant n before after) c.is_new c.writes;
+  leads = subst (λ (n : ℕ). LeadsOver variant n before after) c.is_new c.leads;
+}
+
+pub both_writes : (variant : Variant) (n m : ℕ) (before middle after : Standing) → AnsweredWrites variant n before middle
+    → AnsweredWrites variant m middle after → AnsweredWrites variant (n + m) before after
+both_writes variant n m before middle after a b = record {
+  writes = joined variant n m before middle after a.leads a.writes b.writes;
+  leads = leads_joined variant n m before middle after a.leads b.leads;
+}
+
+pub served_writes : (variant : Variant) (meaning : Meaning) (from to : Place) (calls : List Served) → Serves variant meaning from calls to
+    → AnsweredWrites variant (new_lines calls) from.platform to.platform
+served_writes variant meaning from to [] s = record {
+  writes = rests variant from.platform to.platform (ap (λ (p : Place). p.platform) s);
+  leads = leads_rest variant from.platform to.platform (ap (λ (p : Place). p.platform) s);
+}
+served_writes variant meaning from to (c ∷ calls) s =
+    both_writes variant (new_by c.answer.again) (new_lines calls) from.platform s.platform to.platform
+    (answered_writes variant (Answered c.answer) from.platform s.platform
+    (line_came variant meaning from.platform s.platform from.store s.store from.last c.line (Ok (Answered c.answer)) s.asks))
+    (served_writes variant meaning (record { platform = s.platform; store = s.store; last = Answered c.answer }) to calls s.rest)
+
+pub recovery_writes : (variant : Variant) (meaning : Meaning) (before after : Standing) (old new : StoreStanding)
+    (result : Result Resumed HostFault) → Resumes variant meaning before after old new result → RecoveryWrites variant before after result
+recovery_writes variant meaning before after old new result r =
+    let c = resumes_came variant meaning before after old new result r in record {
+      requests = c.requests;
+      new = c.is_new;
+      writes = c.writes;
+    }
