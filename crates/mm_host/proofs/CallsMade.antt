@@ -147,7 +147,8 @@ module _ (variant : Variant) (meaning : Meaning) (number : ℕ) (at : Place) (fi
   session_ends : (result : Result Unit SessionFault) → EndsSession variant meaning number at final new left more sent result
       → Ends variant meaning at.platform final (snapshot_at at.last) InHand result
   session_ends result e =
-      by_end (λ (r : Result Unit SessionFault). Ends variant meaning at.platform final (snapshot_at at.last) InHand r) variant meaning number
+      by_end (λ (r : Result Unit SessionFault). Ends variant meaning at.platform final (snapshot_at at.last) InHand r) variant meaning
+      number
       at final new left more sent result e line_ends (λ by r. rests r.platform (unrefused result by))
 
 -- the whole session

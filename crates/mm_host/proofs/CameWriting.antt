@@ -127,7 +127,8 @@ found_came variant meaning (Ok None) before after old new came g =
 found_came variant meaning (Ok (Some p)) before after old new came g =
     offered_came variant meaning g.offer before after g.middle new p came g.goes
 
-pub resumes_came : (variant : Variant) (meaning : Meaning) (before after : Standing) (old new : StoreStanding) (came : Result Resumed HostFault)
+pub resumes_came : (variant : Variant) (meaning : Meaning) (before after : Standing) (old new : StoreStanding)
+    (came : Result Resumed HostFault)
     → Resumes variant meaning before after old new came → CameWrites variant came before after
 resumes_came variant meaning before after old new came r = found_came variant meaning r.waiting before after r.middle new came r.goes
 

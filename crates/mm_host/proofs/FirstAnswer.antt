@@ -48,7 +48,8 @@ answered_more i y after p answer at is more =
       refl,
     )
 
-pub answered_first : (i : Instance) (y after : History) (p : Pending) (answer : Answer) → IsAwaited y p → p.position ≡ total_of after.batches
+pub answered_first : (i : Instance) (y after : History) (p : Pending) (answer : Answer) → IsAwaited y p
+    → p.position ≡ total_of after.batches
     → whole answer ≡ answer_on i after (One p.request) (nat_eq p.position (total_of y.batches))
     → (after.batches ≡ y.batches) ⊎ (after.batches ≡ y.batches ++ One p.request ∷ [])
     → RunsOver i.meaning (requests_of y.batches) (told_first (Some p) (Answered answer)) (requests_of after.batches)

@@ -127,7 +127,8 @@ module _ (meaning : Meaning) (lawful : IsLawful meaning) (key barrier : List ℕ
   open_by after then_is (still e) (inl same) t is = ap (λ (x : History). x.is_open) (same ∙ sym e) ∙ is
   open_by after then_is (grown_by e) (inl same) t is =
       let more : total_of after.batches ≡ total_of y.batches + 1 =
-      ap (λ (x : History). total_of x.batches) e ∙ ap total_of (push_batches Opt y.is_open y (One p.request)) ∙ one_more y.batches p.request in
+      ap (λ (x : History). total_of x.batches) e ∙ ap total_of (push_batches Opt y.is_open y (One p.request))
+      ∙ one_more y.batches p.request in
       let none : total_of then_is.batches ≡ total_of y.batches = ap (λ (x : History). total_of x.batches) same in
       absurd (omega (arith, t, more, none))
   open_by after then_is alike (inr g) t is = opened meaning key barrier y then_is (One g.0.request) g.2

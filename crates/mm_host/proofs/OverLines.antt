@@ -34,7 +34,8 @@ use Rattle.mm_host.proofs.Leading.{IsLike, Laws, Reaches, reach_same, reach_then
 
 module _ (all others : List (List ℕ)) (asked : List Batch) (i : Instance) (final : Standing) (laws : Laws all others asked i final) where
   -- the snapshot of an answer says what the history issues
-  pub placed_issued : (y z : History) (bytes : List ℕ) → total_of y.batches ≤ last_position → bytes ≡ issued_bytes i y → IsSame i.variant y z
+  pub placed_issued : (y z : History) (bytes : List ℕ) → total_of y.batches ≤ last_position → bytes ≡ issued_bytes i y
+      → IsSame i.variant y z
       → (content : Content) → IsRight i bytes content → content.place ≡ (issued i z).place
   placed_issued y z bytes most is same content right =
       let says : issued i y ≡ content = sealed_once i.key i.key (issued i y) content (laws.formed y most) right.formed
@@ -57,7 +58,8 @@ module _ (all others : List (List ℕ)) (asked : List Batch) (i : Instance) (fin
       → AsksLine i.variant i.meaning before after old new last line came → Reaches i.variant i before after
   line_reach before after old new last line came a = recorded_reach a.recorded before after a.middle new last line came a.goes
 
-  pub serves_reach : (from to : Place) (calls : List Served) → Serves i.variant i.meaning from calls to → Reaches i.variant i to.platform final
+  pub serves_reach : (from to : Place) (calls : List Served) → Serves i.variant i.meaning from calls to
+      → Reaches i.variant i to.platform final
       → Reaches i.variant i from.platform final
   serves_reach from to [] h r = subst (λ (p : Place). Reaches i.variant i p.platform final) h r
   serves_reach from to (c ∷ calls) h r =
@@ -69,7 +71,8 @@ module _ (all others : List (List ℕ)) (asked : List Batch) (i : Instance) (fin
       (result : Result Unit SessionFault) → EndsSession i.variant i.meaning number at final new left more sent result
       → Reaches i.variant i at.platform final
   ends_reach number at new left more sent result e =
-      by_end (λ (r : Result Unit SessionFault). Reaches i.variant i at.platform final) i.variant i.meaning number at final new left more sent
+      by_end (λ (r : Result Unit SessionFault). Reaches i.variant i at.platform final) i.variant i.meaning number at final new left more
+      sent
       result e (λ fault s. line_reach at.platform final at.store new at.last s.line s.came s.asks)
       (λ by r. reach_same i.variant i at.platform final r.platform)
 

@@ -16,7 +16,8 @@ pub record IsRead (input taken : List ℕ) (left : Option (List ℕ)) : Type 0 w
   pub is : input ≡ taken ++ rest
   pub at_end : IsAtEnd left → rest ≡ []
 
-pub read_of : (left left' : Option (List ℕ)) (input taken : List ℕ) → left ≡ Some input → Consumes left left' taken → IsRead input taken left'
+pub read_of : (left left' : Option (List ℕ)) (input taken : List ℕ) → left ≡ Some input → Consumes left left' taken
+    → IsRead input taken left'
 read_of None left' input taken e c = absurd (cc)
 read_of (Some xs) None input taken e c = absurd c
 read_of (Some xs) (Some ys) input taken e c =

@@ -127,7 +127,8 @@ module _ (all others : List (List ℕ)) (asked : List Batch) (i : Instance) (fin
   begins_start y slots (Some p) standing kept first none m = absurd (cc)
 
   begins_answered : (y : History) (slots : Slots) (waiting : Option Pending) (standing : Standing) (kept : StoreStanding) (answer : Answer)
-      (p : Pending) → waiting ≡ Some p → FitsBy i slots y waiting → (m : Began all others asked i y slots waiting standing kept (Answered answer) final)
+      (p : Pending) → waiting ≡ Some p → FitsBy i slots y waiting
+      → (m : Began all others asked i y slots waiting standing kept (Answered answer) final)
       → p.position ≡ total_of m.0.after.batches
       → whole answer ≡ answer_on i m.0.after (One p.request) (nat_eq p.position (total_of y.batches))
       → BeginsAt all others asked i y waiting (record { platform = standing; store = kept; last = Answered answer }) final
@@ -161,15 +162,18 @@ module _ (all others : List (List ℕ)) (asked : List Batch) (i : Instance) (fin
           batches = laws.batches r.after (history_then i y (Some q)) grown;
           placed =
               placed_issued all others asked i final laws r.after (history_then i y (Some q)) answer.snapshot
-              (most_of all others asked i final laws r.after answer.snapshot answer.position r.holds end) (ap (λ (b : BatchAnswer). b.snapshot) answers) grown;
+              (most_of all others asked i final laws r.after answer.snapshot answer.position r.holds end)
+              (ap (λ (b : BatchAnswer). b.snapshot) answers) grown;
           shows = m.1.0;
         };
         run = run_answered y slots (Some q) standing kept answer p e f r at is;
         powered = r.powered;
       }
 
-  pub begins : (y : History) (slots : Slots) (before : Standing) (old : StoreStanding) (can : CanRecover all others asked i y slots before old)
-      (standing : Standing) (kept : StoreStanding) (first : Resumed) → Began all others asked i y slots can.fits.waiting standing kept first final
+  pub begins : (y : History) (slots : Slots) (before : Standing) (old : StoreStanding)
+      (can : CanRecover all others asked i y slots before old)
+      (standing : Standing) (kept : StoreStanding) (first : Resumed)
+      → Began all others asked i y slots can.fits.waiting standing kept first final
       → BeginsAt all others asked i y can.fits.waiting (record { platform = standing; store = kept; last = first }) final
   begins y slots before old can standing kept (Start first) m =
       begins_start y slots can.fits.waiting standing kept first m.0.comes.0 m

@@ -159,7 +159,8 @@ module _ (all others : List (List ℕ)) (asked : List Batch) (i : Instance) (fin
       → EndsSession i.variant i.meaning number at final new left more sent result
       → ContinuesTo all others asked i y final new told hand result
   ends_by y z zz number at new left more rest sent told hand result clear apart s r p f h e =
-      by_end (λ (x : Result Unit SessionFault). ContinuesTo all others asked i y final new told hand x) i.variant i.meaning number at final new
+      by_end (λ (x : Result Unit SessionFault). ContinuesTo all others asked i y final new told hand x) i.variant i.meaning number at
+      final new
       left more sent result e
       (λ fault stops. stops_in y z zz number at new more rest sent told hand fault clear apart s r p f h stops)
       (λ by rest. rests_at y z at new sent told hand result s.settled r p rest (rest_refuses result (life_of i.variant z) by))
@@ -185,7 +186,8 @@ module _ (all others : List (List ℕ)) (asked : List Batch) (i : Instance) (fin
     powered = r.powered;
   }
 
-  pub stops_at_once : (y : History) (slots : Slots) (waiting : Option Pending) (store new : StoreStanding) (begun : Result Resumed HostFault)
+  pub stops_at_once : (y : History) (slots : Slots) (waiting : Option Pending) (store new : StoreStanding)
+      (begun : Result Resumed HostFault)
       (taken sent : List ℕ) (result : Result Unit SessionFault) (hand : List ℕ → Type 0)
       → ((p : Pending) → waiting ≡ Some p → hand p.request)
       → RecoversTo all others asked i y slots waiting final store begun → new ≡ store → StopsAtOnce begun taken sent result

@@ -58,7 +58,8 @@ module _ (all others : List (List ℕ)) (asked : List Batch) (i : Instance) (fin
       let lines = lines_in i.variant i.meaning from l.at l.calls input taken l.more left input_is l.serves l.took in
       let f : AreToFollow all asked i start (lines_served l.calls ++ lines_of (l.more ++ input_is.rest)) =
       subst (λ (ls : List (List ℕ)). AreToFollow all asked i start ls) lines can.follow in
-      let a = lines_come all others asked i final laws b.after start from l.at l.calls (lines_of (l.more ++ input_is.rest)) can.can.clear can.can.apart b.ready f l.serves
+      let a = lines_come all others asked i final laws b.after start from l.at l.calls
+      (lines_of (l.more ++ input_is.rest)) can.can.clear can.can.apart b.ready f l.serves
       (ends_reach all others asked i final laws (length l.calls + 1) l.at new left l.more l.last result l.ends) in
       ends_by all others asked i final laws y a.after a.then_is (length l.calls + 1) l.at new left l.more input_is.rest l.last
       (told_first can.can.fits.waiting g.first ++ l.calls) (λ (request : List ℕ). (held : List ℕ) × BeginsWith l.more request held) result
@@ -194,7 +195,8 @@ module _ (all others : List (List ℕ)) (asked : List Batch) (i : Instance) (fin
       let from : Place = record { platform = platform; store = store; last = g.first } in
       let reaches : Reaches i.variant i platform final =
       serves_reach all others asked i final laws from g.lines.at g.lines.calls g.lines.serves
-      (ends_reach all others asked i final laws (length g.lines.calls + 1) g.lines.at new left g.lines.more g.lines.last result g.lines.ends) in
+      (ends_reach all others asked i final laws (length g.lines.calls + 1) g.lines.at new left g.lines.more g.lines.last result
+      g.lines.ends) in
       serves_on y slots before old new input taken sent left begun platform store result input_is can g
       (recovers_between y slots before platform old store g.first can.can shows reaches
       (subst (λ (x : Result Resumed HostFault). Resumes i.variant i.meaning before platform old store x) g.begins r))

@@ -47,7 +47,8 @@ recorded_tries variant meaning before after (Err why) old new last line came g =
 recorded_tries variant meaning before after (Ok it) old new last line came g =
     asks g.asked g.asks (tells_call g.asked old new came g.goes)
 
-pub line_tries : (variant : Variant) (meaning : Meaning) (before after : Standing) (old new : StoreStanding) (last : Resumed) (line : List ℕ)
+pub line_tries : (variant : Variant) (meaning : Meaning) (before after : Standing) (old new : StoreStanding) (last : Resumed)
+    (line : List ℕ)
     (came : Result Resumed HostFault) → AsksLine variant meaning before after old new last line came
     → Tries variant meaning before after (snapshot_at last) line came
 line_tries variant meaning before after old new last line came a =

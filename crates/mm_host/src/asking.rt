@@ -5,28 +5,25 @@ ghost use Rattle.mm_module.specs.Batch.{One};
 ghost use Rattle.mm_model.specs.Long.{is_long};
 ghost use Rattle.mm_host.specs.Asking.{AskedIn, IsCall};
 
+use crate::hosted::Hosted;
 use mm_call::KeptKey;
-use mm_digest::Variant;
 use mm_flight::AskCall;
 use mm_model::{Answer, BatchAnswer, Refusal};
 use mm_module::{Batch, Module};
 use mm_platform::Platform;
-use std::alloc::Global;
 
 /// Asks for one request, which isn't too long, offering a snapshot.
 pub fn ask<M: Module, P: Platform>(
-    alloc: Global,
-    variant: Variant,
-    module: &M,
+    hosted: &Hosted<M>,
     platform: &mut P,
     offer: &[u8],
     request: &[u8],
 ) -> Result<Answer, Refusal>
     requires { is_long (One request.now) ≡ false }
-    ensures { IsCall variant (M.meaning «module».now) (P.standing platform.old)
-        (P.standing platform.new) offer.now request.now result }
+    ensures { IsCall hosted.now.variant (M.meaning hosted.now.«module».now)
+        (P.standing platform.old) (P.standing platform.new) offer.now request.now result }
 {
-    match call_one(alloc, variant, module, platform, offer, request) {
+    match call_one(hosted, platform, offer, request) {
         Err(refusal) => Err(refusal),
         Ok(answer) => Ok(answer.into_one()),
     }
@@ -34,23 +31,28 @@ pub fn ask<M: Module, P: Platform>(
 
 // The call, whose answer has one output.
 fn call_one<M: Module, P: Platform>(
-    alloc: Global,
-    variant: Variant,
-    module: &M,
+    hosted: &Hosted<M>,
     platform: &mut P,
     offer: &[u8],
     request: &[u8],
 ) -> Result<BatchAnswer, Refusal>
     requires { is_long (One request.now) ≡ false }
-    ensures asked { AskedIn variant (M.meaning «module».now) (P.standing platform.old)
-        (P.standing platform.new) offer.now (One request.now) result }
+    ensures asked { AskedIn hosted.now.variant (M.meaning hosted.now.«module».now)
+        (P.standing platform.old) (P.standing platform.new) offer.now (One request.now) result }
     ensures one { IfOk result (λ answer. length answer.outputs ≡ 1) }
 {
     let batch = Batch::One(request);
-    match AskCall::begin(variant, batch) {
+    match AskCall::begin(hosted.variant, batch) {
         Ok(call) => {
-            call.finish(alloc, module, platform, offer, batch, &mut KeptKey::new())
-                .result()
+            call.finish(
+                hosted.alloc,
+                hosted.module,
+                platform,
+                offer,
+                batch,
+                &mut KeptKey::new(),
+            )
+            .result()
         }
         Err(_) => unreachable!(),
     }

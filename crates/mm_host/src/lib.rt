@@ -7,6 +7,7 @@
 
 mod asking;
 mod fault;
+mod hosted;
 mod init_fault;
 mod resuming;
 mod serving;

@@ -13,6 +13,7 @@ ghost use Rattle.mm_host.specs.SessionWrites.{RecoveryWrites};
 
 use crate::asking::ask;
 use crate::fault::HostFault;
+use crate::hosted::Hosted;
 use crate::waiting::{Waiting, find_waiting};
 use mm_base::Bytes;
 use mm_digest::Variant;
@@ -76,24 +77,28 @@ pub fn resume<M: Module, P: Platform, T: Store>(
     ensures writes { RecoveryWrites variant (P.standing platform.old) (P.standing platform.new)
         result }
 {
-    resume_by_steps(alloc, variant, module, platform, store)
+    let hosted = Hosted {
+        alloc,
+        variant,
+        module,
+    };
+    resume_by_steps(&hosted, platform, store)
 }
 
 // Finds what waits, and goes on by that.
 fn resume_by_steps<M: Module, P: Platform, T: Store>(
-    alloc: Global,
-    variant: Variant,
-    module: &M,
+    hosted: &Hosted<M>,
     platform: &mut P,
     store: &mut T,
 ) -> Result<Resumed, HostFault>
-    ensures { Resumes variant (M.meaning «module».now) (P.standing platform.old)
-        (P.standing platform.new) (T.kept store.old) (T.kept store.new) result }
+    ensures { Resumes hosted.now.variant (M.meaning hosted.now.«module».now)
+        (P.standing platform.old) (P.standing platform.new) (T.kept store.old) (T.kept store.new)
+        result }
 {
-    match find_waiting(alloc, store) {
+    match find_waiting(hosted.alloc, store) {
         Err(fault) => Err(HostFault::from(fault)),
-        Ok(None) => start(alloc, store),
-        Ok(Some(waiting)) => repeat(alloc, variant, module, platform, store, &waiting),
+        Ok(None) => start(hosted.alloc, store),
+        Ok(Some(waiting)) => repeat(hosted, platform, store, &waiting),
     }
 }
 
@@ -109,24 +114,21 @@ fn start<T: Store>(alloc: Global, store: &mut T) -> Result<Resumed, HostFault>
 
 // Asks for the request that waits, with the snapshot before its position.
 fn repeat<M: Module, P: Platform, T: Store>(
-    alloc: Global,
-    variant: Variant,
-    module: &M,
+    hosted: &Hosted<M>,
     platform: &mut P,
     store: &mut T,
     waiting: &Waiting,
 ) -> Result<Resumed, HostFault>
     requires { IsAskable waiting.now }
-    ensures { RepeatsPending variant (M.meaning «module».now) (P.standing platform.old)
-        (P.standing platform.new) (T.kept store.old) (T.kept store.new) waiting.now result }
+    ensures { RepeatsPending hosted.now.variant (M.meaning hosted.now.«module».now)
+        (P.standing platform.old) (P.standing platform.new) (T.kept store.old) (T.kept store.new)
+        waiting.now result }
 {
     let slot = ((waiting.position - 1) % 2) as u8;
-    match store.read(alloc, slot) {
+    match store.read(hosted.alloc, slot) {
         Err(fault) => Err(HostFault::from(fault)),
         Ok(offer) => ask_and_keep(
-            alloc,
-            variant,
-            module,
+            hosted,
             platform,
             store,
             offer.as_slice(),
@@ -137,20 +139,18 @@ fn repeat<M: Module, P: Platform, T: Store>(
 
 /// Asks for a request, and keeps the answer's snapshot.
 pub fn ask_and_keep<M: Module, P: Platform, T: Store>(
-    alloc: Global,
-    variant: Variant,
-    module: &M,
+    hosted: &Hosted<M>,
     platform: &mut P,
     store: &mut T,
     offer: &[u8],
     request: &[u8],
 ) -> Result<Resumed, HostFault>
     requires { is_long (One request.now) ≡ false }
-    ensures asks { AsksAndKeeps variant (M.meaning «module».now) (P.standing platform.old)
-        (P.standing platform.new) (T.kept store.old) (T.kept store.new) offer.now request.now
-        result }
+    ensures asks { AsksAndKeeps hosted.now.variant (M.meaning hosted.now.«module».now)
+        (P.standing platform.old) (P.standing platform.new) (T.kept store.old) (T.kept store.new)
+        offer.now request.now result }
 {
-    match ask(alloc, variant, module, platform, offer, request) {
+    match ask(hosted, platform, offer, request) {
         Err(refusal) => Err(HostFault::from(refusal)),
         Ok(answer) => keep(store, answer),
     }

@@ -17,6 +17,7 @@ ghost use Rattle.mm_host.specs.Sessions.{ServesLines, Sessions, most_lines};
 ghost use Rattle.mm_host.specs.Turns.{AsksAndTells, ServesInput, TakesLine, ServesNext};
 
 use crate::fault::{HostFault, SessionFault};
+use crate::hosted::Hosted;
 use crate::resuming::{Resumed, ask_and_keep, resume};
 use crate::telling::tell;
 use mm_base::{LONGEST_REQUEST, LineFault, LineReader, Read, Sink, Source};
@@ -28,6 +29,13 @@ use std::alloc::Global;
 
 /// The most lines of a session.
 const MOST_LINES: u32 = 1_000_000;
+
+/// Where a session stands: the number of the line that is next, and what it came to last.
+#[derive(Drop)]
+struct Turn {
+    number: u32,
+    last: Resumed,
+}
 
 /// Goes on after a stop, and answers each line of the input before it reads the next.
 ///
@@ -65,40 +73,39 @@ pub fn session<M: Module, P: Platform, T: Store, S: Source, K: Sink>(
         (P.standing platform.new) (T.kept store.old) (T.kept store.new) (S.left input.old)
         (S.left input.new) (K.received out.old) (K.received out.new) result }
 {
-    session_by_steps(alloc, variant, module, platform, store, input, out)
+    let hosted = Hosted {
+        alloc,
+        variant,
+        module,
+    };
+    session_by_steps(&hosted, platform, store, input, out)
 }
 
 // Recovers, and serves the lines.
 fn session_by_steps<M: Module, P: Platform, T: Store, S: Source, K: Sink>(
-    alloc: Global,
-    variant: Variant,
-    module: &M,
+    hosted: &Hosted<M>,
     platform: &mut P,
     store: &mut T,
     input: &mut S,
     out: &mut K,
 ) -> Result<(), SessionFault>
-    ensures sessions { Sessions variant (M.meaning «module».now) (P.standing platform.old)
-        (P.standing platform.new) (T.kept store.old) (T.kept store.new) (S.left input.old)
-        (S.left input.new) (K.received out.old) (K.received out.new) result }
+    ensures sessions { Sessions hosted.now.variant (M.meaning hosted.now.«module».now)
+        (P.standing platform.old) (P.standing platform.new) (T.kept store.old) (T.kept store.new)
+        (S.left input.old) (S.left input.new) (K.received out.old) (K.received out.new) result }
     ensures read { IsBlamed (is_read_fault result) (S.faults input.old) (S.faults input.new) }
     ensures wrote { IsBlamed (is_write_fault result) (K.faults out.old) (K.faults out.new) }
 {
-    let reader = LineReader::new(alloc)?;
-    let begun = resume(alloc, variant, module, platform, store);
+    let reader = LineReader::new(hosted.alloc)?;
+    let begun = resume(hosted.alloc, hosted.variant, hosted.module, platform, store);
     match tell(begun, out) {
         Err(fault) => Err(fault),
-        Ok(first) => serve_lines(
-            alloc, variant, module, platform, store, input, out, reader, first,
-        ),
+        Ok(first) => serve_lines(hosted, platform, store, input, out, reader, first),
     }
 }
 
 // Serves each line of the input.
 fn serve_lines<M: Module, P: Platform, T: Store, S: Source, K: Sink>(
-    alloc: Global,
-    variant: Variant,
-    module: &M,
+    hosted: &Hosted<M>,
     platform: &mut P,
     store: &mut T,
     input: &mut S,
@@ -108,50 +115,52 @@ fn serve_lines<M: Module, P: Platform, T: Store, S: Source, K: Sink>(
 ) -> Result<(), SessionFault>
     requires nothing { reader ≡ [] }
     requires sized { IsSized first }
-    ensures serves { ServesInput variant (M.meaning «module».now)
+    ensures serves { ServesInput hosted.now.variant (M.meaning hosted.now.«module».now)
         (record { platform = P.standing platform.old; store = T.kept store.old; last = first })
         (P.standing platform.new) (T.kept store.new) (S.left input.old) (S.left input.new)
         (K.received out.old) (K.received out.new) result }
     ensures read { IsBlamed (is_read_fault result) (S.faults input.old) (S.faults input.new) }
     ensures wrote { IsBlamed (is_write_fault result) (K.faults out.old) (K.faults out.new) }
 {
-    let mut last = first;
-    let mut number: u32 = 1;
+    let mut turn = Turn {
+        number: 1,
+        last: first,
+    };
     'lines: while let Some(next) = serve_next(
-        alloc,
-        variant,
-        module,
+        hosted,
         platform,
         store,
         input,
         out,
         &mut reader,
-        number,
-        &last,
+        &turn,
     )? {
-        last = next;
-        number += 1;
+        turn = Turn {
+            number: turn.number + 1,
+            last: next,
+        };
     }
     Ok(())
 }
 
 // Reads the line of this number and serves it. None where the input ends before it.
 fn serve_next<M: Module, P: Platform, T: Store, S: Source, K: Sink>(
-    alloc: Global,
-    variant: Variant,
-    module: &M,
+    hosted: &Hosted<M>,
     platform: &mut P,
     store: &mut T,
     input: &mut S,
     out: &mut K,
     reader: &mut LineReader,
-    number: u32,
-    last: &Resumed,
+    turn: &Turn,
 ) -> Result<Option<Resumed>, SessionFault>
-    requires number { number ≤ most_lines + 1 }
-    requires sized { IsSized last.now }
-    ensures turns { ServesNext variant (M.meaning «module».now) number
-        (record { platform = P.standing platform.old; store = T.kept store.old; last = last.now })
+    requires number { turn.now.number ≤ most_lines + 1 }
+    requires sized { IsSized turn.now.last }
+    ensures turns { ServesNext hosted.now.variant (M.meaning hosted.now.«module».now)
+        turn.now.number (record {
+          platform = P.standing platform.old;
+          store = T.kept store.old;
+          last = turn.now.last;
+        })
         (P.standing platform.new) (T.kept store.new) (S.left input.old) (S.left input.new)
         reader.old reader.new (K.received out.old) (K.received out.new) result }
     ensures sized { IfOk result (λ next. IfSome next IsSized) }
@@ -159,41 +168,40 @@ fn serve_next<M: Module, P: Platform, T: Store, S: Source, K: Sink>(
     ensures wrote { IsBlamed (is_write_fault result) (K.faults out.old) (K.faults out.new) }
 {
     match reader.next(input, LONGEST_REQUEST) {
-        Ok(Read::Line(line)) => serve_line(
-            alloc, variant, module, platform, store, out, number, last, line,
-        ),
-        Ok(Read::Tail) => Err(SessionFault::BadLine { line: number }),
+        Ok(Read::Line(line)) => serve_line(hosted, platform, store, out, turn, line),
+        Ok(Read::Tail) => Err(SessionFault::BadLine { line: turn.number }),
         Ok(Read::End) => Ok(None),
         Err(LineFault::ReadFault) => Err(SessionFault::ReadFault),
-        Err(LineFault::LineLong) => Err(SessionFault::LineLong { line: number }),
+        Err(LineFault::LineLong) => Err(SessionFault::LineLong { line: turn.number }),
     }
 }
 
 // Serves the line of this number, unless it is one too many.
 fn serve_line<M: Module, P: Platform, T: Store, K: Sink>(
-    alloc: Global,
-    variant: Variant,
-    module: &M,
+    hosted: &Hosted<M>,
     platform: &mut P,
     store: &mut T,
     out: &mut K,
-    number: u32,
-    last: &Resumed,
+    turn: &Turn,
     line: &[u8],
 ) -> Result<Option<Resumed>, SessionFault>
-    requires sized { IsSized last.now }
+    requires sized { IsSized turn.now.last }
     requires line { MayGrow longest_request line.now }
-    ensures takes { TakesLine variant (M.meaning «module».now) number
-        (record { platform = P.standing platform.old; store = T.kept store.old; last = last.now })
+    ensures takes { TakesLine hosted.now.variant (M.meaning hosted.now.«module».now)
+        turn.now.number (record {
+          platform = P.standing platform.old;
+          store = T.kept store.old;
+          last = turn.now.last;
+        })
         (P.standing platform.new) (T.kept store.new) (K.received out.old) (K.received out.new)
         line.now result }
     ensures sized { IfOk result (λ next. IfSome next IsSized) }
     ensures wrote { IsBlamed (is_write_fault result) (K.faults out.old) (K.faults out.new) }
 {
-    if number > MOST_LINES {
+    if turn.number > MOST_LINES {
         return Err(SessionFault::TooMuch);
     }
-    match ask_and_tell(alloc, variant, module, platform, store, out, last, line) {
+    match ask_and_tell(hosted, platform, store, out, &turn.last, line) {
         Ok(next) => Ok(Some(next)),
         Err(fault) => Err(fault),
     }
@@ -201,9 +209,7 @@ fn serve_line<M: Module, P: Platform, T: Store, K: Sink>(
 
 // Asks a line, and tells what came.
 fn ask_and_tell<M: Module, P: Platform, T: Store, K: Sink>(
-    alloc: Global,
-    variant: Variant,
-    module: &M,
+    hosted: &Hosted<M>,
     platform: &mut P,
     store: &mut T,
     out: &mut K,
@@ -212,23 +218,21 @@ fn ask_and_tell<M: Module, P: Platform, T: Store, K: Sink>(
 ) -> Result<Resumed, SessionFault>
     requires sized { IsSized last.now }
     requires line { MayGrow longest_request line.now }
-    ensures asks { AsksAndTells variant (M.meaning «module».now)
+    ensures asks { AsksAndTells hosted.now.variant (M.meaning hosted.now.«module».now)
         (record { platform = P.standing platform.old; store = T.kept store.old; last = last.now })
         (P.standing platform.new) (T.kept store.new) (K.received out.old) (K.received out.new)
         line.now result }
     ensures sized { IfOk result IsSized }
     ensures wrote { IsBlamed (is_write_fault result) (K.faults out.old) (K.faults out.new) }
 {
-    let came = ask_line(alloc, variant, module, platform, store, last, line);
+    let came = ask_line(hosted, platform, store, last, line);
     tell(came, out)
 }
 
 // Writes the record of a line, asks for it, and keeps the answer's snapshot.
 #[tactic(auto, using(crate::proofs::Askable::askable))]
 fn ask_line<M: Module, P: Platform, T: Store>(
-    alloc: Global,
-    variant: Variant,
-    module: &M,
+    hosted: &Hosted<M>,
     platform: &mut P,
     store: &mut T,
     last: &Resumed,
@@ -236,21 +240,14 @@ fn ask_line<M: Module, P: Platform, T: Store>(
 ) -> Result<Resumed, HostFault>
     requires sized { IsSized last.now }
     requires line { MayGrow longest_request line.now }
-    ensures asks { AsksLine variant (M.meaning «module».now) (P.standing platform.old)
-        (P.standing platform.new) (T.kept store.old) (T.kept store.new) last.now line.now result }
+    ensures asks { AsksLine hosted.now.variant (M.meaning hosted.now.«module».now)
+        (P.standing platform.old) (P.standing platform.new) (T.kept store.old) (T.kept store.new)
+        last.now line.now result }
     ensures sized { IfOk result IsSized }
 {
-    match write_record(alloc, store, last.position() + 1, line) {
+    match write_record(hosted.alloc, store, last.position() + 1, line) {
         Err(fault) => Err(HostFault::from(fault)),
-        Ok(()) => ask_and_keep(
-            alloc,
-            variant,
-            module,
-            platform,
-            store,
-            last.snapshot(),
-            line,
-        ),
+        Ok(()) => ask_and_keep(hosted, platform, store, last.snapshot(), line),
     }
 }
 

@@ -10,6 +10,7 @@ ghost use Rattle.mm_store.specs.declared.store.TheConstants.{LONGEST_SLOT};
 ghost use Rattle.mm_host.specs.Begins.{Leaves, TellsUse, BlamesDevice};
 ghost use Rattle.mm_host.specs.Init.{devices, LooksAtCell, TakesBytes, taken_into, instance_from, PutsAll, first_puts, SetsUp, SetsUpBoth, TakesAndSetsUp, Inits};
 
+use crate::hosted::Hosted;
 use crate::init_fault::InitFault;
 use mm_base::{CELL_LENGTH, Failed, Memory, Source};
 use mm_call::Provisioned;
@@ -49,19 +50,22 @@ pub fn init<M: Module, P: Platform, T: Store, E: Source>(
         (devices (P.standing platform.new) (T.kept store.new) (E.left entropy.new)
         (E.faults entropy.new)) result }
 {
-    init_by_steps(alloc, variant, module, platform, store, entropy)
+    let hosted = Hosted {
+        alloc,
+        variant,
+        module,
+    };
+    init_by_steps(&hosted, platform, store, entropy)
 }
 
 // Reads the cell, and goes on where it is blank.
 fn init_by_steps<M: Module, P: Platform, T: Store, E: Source>(
-    alloc: Global,
-    variant: Variant,
-    module: &M,
+    hosted: &Hosted<M>,
     platform: &mut P,
     store: &mut T,
     entropy: &mut E,
 ) -> Result<(), InitFault>
-    ensures { Inits variant (M.meaning «module».now)
+    ensures { Inits hosted.now.variant (M.meaning hosted.now.«module».now)
         (devices (P.standing platform.old) (T.kept store.old) (E.left entropy.old)
         (E.faults entropy.old))
         (devices (P.standing platform.new) (T.kept store.new) (E.left entropy.new)
@@ -70,7 +74,7 @@ fn init_by_steps<M: Module, P: Platform, T: Store, E: Source>(
     match is_blank(platform) {
         Err(fault) => Err(InitFault::from(fault)),
         Ok(false) => Err(InitFault::Already),
-        Ok(true) => take_and_set_up(alloc, variant, module, platform, store, entropy),
+        Ok(true) => take_and_set_up(hosted, platform, store, entropy),
     }
 }
 
@@ -86,14 +90,12 @@ fn is_blank<P: Platform>(platform: &mut P) -> Result<bool, StepFault>
 
 // Takes the bytes, and sets both up.
 fn take_and_set_up<M: Module, P: Platform, T: Store, E: Source>(
-    alloc: Global,
-    variant: Variant,
-    module: &M,
+    hosted: &Hosted<M>,
     platform: &mut P,
     store: &mut T,
     entropy: &mut E,
 ) -> Result<(), InitFault>
-    ensures { TakesAndSetsUp variant (M.meaning «module».now)
+    ensures { TakesAndSetsUp hosted.now.variant (M.meaning hosted.now.«module».now)
         (devices (P.standing platform.old) (T.kept store.old) (E.left entropy.old)
         (E.faults entropy.old))
         (devices (P.standing platform.new) (T.kept store.new) (E.left entropy.new)
@@ -104,7 +106,7 @@ fn take_and_set_up<M: Module, P: Platform, T: Store, E: Source>(
     match take_bytes(entropy, &mut secrets) {
         Err(fault) => Err(InitFault::from(fault)),
         Ok(got) if got < 64 => Err(InitFault::Short { got: got as u8 }),
-        Ok(_) => set_up(alloc, variant, module, platform, store, &secrets),
+        Ok(_) => set_up(hosted, platform, store, &secrets),
     }
 }
 
@@ -140,43 +142,39 @@ fn take_behind<E: Source>(entropy: &mut E, into: &mut [u8; 64], at: usize) -> Re
 
 // Sets both up for the instance of these bytes.
 fn set_up<M: Module, P: Platform, T: Store>(
-    alloc: Global,
-    variant: Variant,
-    module: &M,
+    hosted: &Hosted<M>,
     platform: &mut P,
     store: &mut T,
     secrets: &[u8; 64],
 ) -> Result<(), InitFault>
-    ensures { SetsUp (instance_from variant (M.meaning «module».now) secrets.now)
+    ensures { SetsUp (instance_from hosted.now.variant (M.meaning hosted.now.«module».now)
+        secrets.now)
         (P.standing platform.old) (P.standing platform.new) (T.kept store.old) (T.kept store.new)
         result }
 {
-    match provision(alloc, variant, module, secrets) {
+    match provision(hosted, secrets) {
         Err(fault) => Err(InitFault::from(fault)),
         Ok(made) => set_up_both(platform, store, &made),
     }
 }
 
 // The first cell and snapshot of the instance of these bytes.
-fn provision<M: Module>(
-    alloc: Global,
-    variant: Variant,
-    module: &M,
-    secrets: &[u8; 64],
-) -> Result<Provisioned, Memory>
+fn provision<M: Module>(hosted: &Hosted<M>, secrets: &[u8; 64]) -> Result<Provisioned, Memory>
     ensures cell { IfOk result (λ made. made.cell
         ≡ cell_spelling
-        (cell_of (instance_from variant (M.meaning «module».now) secrets.now) first_history)) }
+        (cell_of (instance_from hosted.now.variant (M.meaning hosted.now.«module».now)
+        secrets.now) first_history)) }
     ensures snapshot { IfOk result (λ made. made.snapshot
-        ≡ issued_bytes (instance_from variant (M.meaning «module».now) secrets.now) first_history) }
+        ≡ issued_bytes (instance_from hosted.now.variant (M.meaning hosted.now.«module».now)
+        secrets.now) first_history) }
 {
     let (mut key, mut barrier) = ([0; 32], [0; 32]);
     let (front, back) = secrets.split_at(32);
     key.copy_from_slice(front);
     barrier.copy_from_slice(back);
-    match variant {
-        Variant::Basic => mm_basic::provision(alloc, module, &key, &barrier),
-        Variant::Opt => mm_opt::provision(alloc, module, &key, &barrier),
+    match hosted.variant {
+        Variant::Basic => mm_basic::provision(hosted.alloc, hosted.module, &key, &barrier),
+        Variant::Opt => mm_opt::provision(hosted.alloc, hosted.module, &key, &barrier),
     }
 }
 

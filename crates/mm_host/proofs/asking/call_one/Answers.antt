@@ -4,17 +4,19 @@ use Rattle.mm_host.proofs.OneCall.{asked_in, one_output}
 use Rattle.mm_host.proofs.asking.call_one.Goals as goal
 
 pub finish-requires-clause-room : goal.finish-requires-clause-room
-finish-requires-clause-room g c = begun_may_ask c.args.variant c.in-Ok.call (g.P.Device.standing c.args.platform.now) c.in-Ok.ensures.ok.0
+finish-requires-clause-room g c =
+    begun_may_ask c.args.hosted.now.variant c.in-Ok.call (g.P.Device.standing c.args.platform.now) c.in-Ok.ensures.ok.0
 
 pub returns-clause-asked : goal.returns-clause-asked
 returns-clause-asked g c =
-    asked_in c.args.variant (g.M.Module.meaning c.args.module.now) (g.met.M.Module.is_lawful c.args.module.now)
+    asked_in c.args.hosted.now.variant (g.M.Module.meaning c.args.hosted.now.module.now)
+    (g.met.M.Module.is_lawful c.args.hosted.now.module.now)
     (g.P.Device.standing c.args.platform.now) (g.P.Device.standing c.finish.new.platform)
     c.args.offer.now (One c.args.request.now) c.in-Ok.call c.finish.result c.result.result c.requires c.in-Ok.ensures.ok.0 c.finish.ensures
     c.result.ensures
 
 pub returns-clause-one : goal.returns-clause-one
 returns-clause-one g c =
-    one_output c.args.variant (g.M.Module.meaning c.args.module.now) (g.P.Device.standing c.args.platform.now)
+    one_output c.args.hosted.now.variant (g.M.Module.meaning c.args.hosted.now.module.now) (g.P.Device.standing c.args.platform.now)
     (g.P.Device.standing c.finish.new.platform)
     c.args.offer.now c.args.request.now c.result.result (returns-clause-asked g c)

@@ -4,26 +4,15 @@ use Rattle.mm_host.proofs.CameWriting.{recovery_writes}
 use Rattle.mm_host.proofs.resuming.resume.Goals as goal
 
 pub returns-clause-faults : goal.returns-clause-faults
-returns-clause-faults g c =
-    (resumes_told c.args.variant (g.M.Module.meaning c.args.module.now) (g.P.Device.standing c.args.platform.now)
-    (g.P.Device.standing c.resume_by_steps.new.platform) (g.T.Store.kept c.args.store.now)
-    (g.T.Store.kept c.resume_by_steps.new.store) c.resume_by_steps.result c.resume_by_steps.ensures).blamed
+returns-clause-faults g c = (resumes_told _ _ _ _ _ _ _ c.resume_by_steps.ensures).blamed
 
 pub returns-clause-named : goal.returns-clause-named
-returns-clause-named g c =
-    (resumes_told c.args.variant (g.M.Module.meaning c.args.module.now) (g.P.Device.standing c.args.platform.now)
-    (g.P.Device.standing c.resume_by_steps.new.platform) (g.T.Store.kept c.args.store.now)
-    (g.T.Store.kept c.resume_by_steps.new.store) c.resume_by_steps.result c.resume_by_steps.ensures).named
+returns-clause-named g c = (resumes_told _ _ _ _ _ _ _ c.resume_by_steps.ensures).named
 
 pub returns-clause-recovers : goal.returns-clause-recovers
 returns-clause-recovers g c =
-    recovers c.args.variant (g.M.Module.meaning c.args.module.now) (g.met.M.Module.is_lawful c.args.module.now)
-    (g.P.Device.standing c.args.platform.now)
-    (g.P.Device.standing c.resume_by_steps.new.platform) (g.T.Store.kept c.args.store.now)
-    (g.T.Store.kept c.resume_by_steps.new.store) c.resume_by_steps.result c.resume_by_steps.ensures
+    recovers c.args.variant (g.M.Module.meaning c.args.module.now) (g.met.M.Module.is_lawful c.args.module.now) _ _ _ _
+    c.resume_by_steps.result c.resume_by_steps.ensures
 
 pub returns-clause-writes : goal.returns-clause-writes
-returns-clause-writes g c =
-    recovery_writes c.args.variant (g.M.Module.meaning c.args.module.now) (g.P.Device.standing c.args.platform.now)
-    (g.P.Device.standing c.resume_by_steps.new.platform) (g.T.Store.kept c.args.store.now)
-    (g.T.Store.kept c.resume_by_steps.new.store) c.resume_by_steps.result c.resume_by_steps.ensures
+returns-clause-writes g c = recovery_writes _ _ _ _ _ _ _ c.resume_by_steps.ensures
