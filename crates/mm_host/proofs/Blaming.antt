@@ -1,5 +1,5 @@
 -- Whose fault it is, by the steps.
-use Rattle.std.proofs.Common.{ℕ, ◌≡◌, ◌≢◌, List, Option, None, Some, Result, Ok, Err, refl, sym, ap, ◌∙◌, subst, inl, inr}
+use Rattle.std.proofs.Common.{ℕ, ◌≡◌, ◌≢◌, List, Option, None, Some, Result, Ok, Err, sym, ap, ◌∙◌, subst, inl, inr}
 use Rattle.std.specs.Prelude.{◌⊎◌}
 use Rattle.mm_base.specs.Faults.{Rose}
 use Rattle.mm_digest.specs.declared.variant.Variant.{Variant}
@@ -7,7 +7,7 @@ use Rattle.mm_platform.specs.Standing.{Standing}
 use Rattle.mm_module.specs.Meaning.{Meaning}
 use Rattle.mm_model.specs.declared.answer.Answer.{Answer}
 use Rattle.mm_model.specs.declared.refusal.Refusal.{Refusal}
-use Rattle.mm_model.specs.declared.refusal.Refusal.TheVariants.{Memory, Long, Device, Blank, Cell, Lost, Form, Kind, State, Tag, Stale, Full}
+use Rattle.mm_model.specs.declared.refusal.Refusal.TheVariants.{Long}
 use Rattle.mm_call.specs.Leaving.{Blames}
 use Rattle.mm_call.specs.Refusals.{fault_of, fault_in}
 use Rattle.mm_store.specs.declared.fault.StoreFault.{StoreFault}
@@ -22,6 +22,7 @@ use Rattle.mm_host.specs.declared.resuming.Resumed.TheVariants.{Start, Answered}
 use Rattle.mm_host.specs.Faults.{store_fault_as, refusal_fault}
 use Rattle.mm_host.specs.Resumes.{AfterThree, AfterTwo, started, kept_as, AfterAsk, AfterOffer, AfterFinding, Resumes}
 use Rattle.mm_host.specs.Blame.{Blamed, IsNamed}
+use Rattle.mm_host.proofs.RefusalTold.{by_refusal}
 
 -- what a store's fault is told as, by its count
 store_blamed : (why : StoreFault) (before after : Standing) (old new : StoreStanding) → after ≡ before
@@ -36,32 +37,16 @@ store_named fault.Failed = record { remembered = λ e. absurd (cc); short = λ e
 -- and what a refusal is told as
 refused_blamed : (why : Refusal) (before after : Standing) (old new : StoreStanding) → Blames (fault_of why) before.faults after.faults
     → new.faults ≡ old.faults → Blamed {T = Resumed} (Err (refusal_fault why)) before after old new
-refused_blamed Memory before after old new b s = (b, s)
-refused_blamed Long before after old new b s = (b, s)
-refused_blamed (Device broken) before after old new b s = (b, s)
-refused_blamed Blank before after old new b s = (b, s)
-refused_blamed Cell before after old new b s = (b, s)
-refused_blamed Lost before after old new b s = (b, s)
-refused_blamed Form before after old new b s = (b, s)
-refused_blamed Kind before after old new b s = (b, s)
-refused_blamed State before after old new b s = (b, s)
-refused_blamed Tag before after old new b s = (b, s)
-refused_blamed Stale before after old new b s = (b, s)
-refused_blamed Full before after old new b s = (b, s)
+refused_blamed why before after old new b s =
+    by_refusal (λ (w : Refusal) (f : HostFault).
+    Blames (fault_of w) before.faults after.faults → Blamed {T = Resumed} (Err f) before after old new)
+    (λ h. (h, s)) (λ w n h. (h, s)) why b
 
 refused_named : (why : Refusal) → why ≢ Long → IsNamed {T = Resumed} (Err (refusal_fault why))
-refused_named Memory short = record { remembered = λ e. absurd (cc); short = λ e. absurd (cc) }
-refused_named Long short = absurd (short refl)
-refused_named (Device broken) short = record { remembered = λ e. absurd (cc); short = λ e. absurd (cc) }
-refused_named Blank short = record { remembered = λ e. absurd (cc); short = λ e. absurd (cc) }
-refused_named Cell short = record { remembered = λ e. absurd (cc); short = λ e. absurd (cc) }
-refused_named Lost short = record { remembered = λ e. absurd (cc); short = λ e. absurd (cc) }
-refused_named Form short = record { remembered = λ e. absurd (cc); short = λ e. absurd (cc) }
-refused_named Kind short = record { remembered = λ e. absurd (cc); short = λ e. absurd (cc) }
-refused_named State short = record { remembered = λ e. absurd (cc); short = λ e. absurd (cc) }
-refused_named Tag short = record { remembered = λ e. absurd (cc); short = λ e. absurd (cc) }
-refused_named Stale short = record { remembered = λ e. absurd (cc); short = λ e. absurd (cc) }
-refused_named Full short = record { remembered = λ e. absurd (cc); short = λ e. absurd (cc) }
+refused_named why short =
+    by_refusal (λ (w : Refusal) (f : HostFault). w ≢ Long → IsNamed {T = Resumed} (Err f))
+    (λ h. record { remembered = λ e. absurd (cc); short = λ e. absurd (cc) })
+    (λ w n h. record { remembered = λ e. absurd (n (cc)); short = λ e. absurd (h (cc)) }) why short
 
 -- a fault counts alike whatever was called
 err_counted : (A B : Type 0) (why : StoreFault) (before now : ℕ) → CountsFailures {T = A} before now (Err why)

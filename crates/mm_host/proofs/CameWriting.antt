@@ -6,7 +6,6 @@ use Rattle.mm_platform.specs.Standing.{Standing}
 use Rattle.mm_module.specs.Meaning.{Meaning}
 use Rattle.mm_model.specs.declared.answer.Answer.{Answer}
 use Rattle.mm_model.specs.declared.refusal.Refusal.{Refusal}
-use Rattle.mm_model.specs.declared.refusal.Refusal.TheVariants as refusal
 use Rattle.mm_call.specs.Refusals.{fault_of}
 use Rattle.mm_store.specs.declared.fault.StoreFault.{StoreFault}
 use Rattle.mm_store.specs.declared.fault.StoreFault.TheVariants as store_fault
@@ -22,6 +21,7 @@ use Rattle.mm_host.specs.Resumes.{AfterAsk, AfterFinding, AfterOffer, Resumes, k
 use Rattle.mm_host.specs.Serving.{AfterRecord, AsksLine, Place, Served, Serves}
 use Rattle.mm_host.specs.SessionWrites.{IsNewOf, RecoveryWrites, new_first, new_lines}
 use Rattle.mm_host.proofs.CountingWrites.{LeadsOver, joined, leads_answer, leads_joined, leads_rest, rests}
+use Rattle.mm_host.proofs.RefusalTold.{by_refusal}
 
 -- what a recovery or a line came to, with its new requests
 abbrev pub LeadsBy : Variant → Result Resumed HostFault → ℕ → Standing → Standing → Type 0
@@ -60,18 +60,9 @@ started_rests variant (Err why) before after e = fault_rests variant (store_faul
 
 -- a call, and the answer's snapshot
 new_refused : (why : Refusal) (n : ℕ) → IsNewAt (fault_of why) n → IsNewOf (Err (refusal_fault why)) n
-new_refused refusal.Memory n h = omega (arith, h)
-new_refused refusal.Long n h = h
-new_refused (refusal.Device broken) n h = h
-new_refused refusal.Blank n h = h
-new_refused refusal.Cell n h = h
-new_refused refusal.Lost n h = h
-new_refused refusal.Form n h = h
-new_refused refusal.Kind n h = h
-new_refused refusal.State n h = h
-new_refused refusal.Tag n h = h
-new_refused refusal.Stale n h = h
-new_refused refusal.Full n h = h
+new_refused why n new =
+    by_refusal (λ (w : Refusal) (f : HostFault). IsNewAt (fault_of w) n → IsNewOf (Err f) n)
+    (λ h. omega (arith, h)) (λ w m h. h) why new
 
 pub new_most : (again : Bool) (n : ℕ) → n ≡ new_by again → n ≤ 1
 new_most true n e = omega (arith, e)

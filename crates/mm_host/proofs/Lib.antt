@@ -1,4 +1,5 @@
 mod Askable
+mod RefusalTold
 mod Blaming
 mod Slots
 mod Awaited

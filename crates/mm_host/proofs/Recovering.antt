@@ -1,6 +1,6 @@
 -- Every exit of a recovery leaves slots that fit the history.
 use Rattle.std.proofs.Common.{◌≡◌, ◌≢◌, ℕ, ◌-◌, ◌%◌, true, List, Option, None, Some, Result, Ok, Err, refl, sym, ap, ◌∙◌, subst, inl, inr, ◌≤◌, length, take, IfOk, arith}
-use Rattle.std.specs.Prelude.{◌⊎◌}
+use Rattle.std.specs.Prelude.{◌⊎◌, IsSome}
 use Rattle.mm_digest.specs.declared.variant.Variant.{Variant}
 use Rattle.mm_platform.specs.Standing.{Standing}
 use Rattle.mm_module.specs.Meaning.{IsLawful}
@@ -14,7 +14,6 @@ use Rattle.mm_model.specs.declared.answer.Answer.{Answer}
 use Rattle.mm_model.specs.declared.answer.BatchAnswer.{BatchAnswer}
 use Rattle.mm_model.specs.Life.{Lost as LostLife, life_of}
 use Rattle.mm_model.specs.declared.refusal.Refusal.{Refusal}
-use Rattle.mm_model.specs.declared.refusal.Refusal.TheVariants as refusal
 use Rattle.mm_call.specs.Asked.{IsWithin}
 use Rattle.mm_call.specs.Leaving.{whole, whole_in}
 use Rattle.mm_call.specs.Premises.{AreAsked}
@@ -46,6 +45,7 @@ use Rattle.mm_host.proofs.Machining.{IsIssued, holds_issued}
 use Rattle.mm_host.proofs.Refusing.{MayRefuse}
 use Rattle.mm_host.proofs.Awaited.{awaited_least, still_awaited, grows, answered_at}
 use Rattle.mm_host.proofs.Finding.{Saw, one_waiting, saw_two}
+use Rattle.mm_host.proofs.RefusalTold.{by_refusal}
 
 -- an exit where nothing was asked
 grown_none : (y : History) (waiting : Option Pending) → IsGrown y waiting y
@@ -78,28 +78,13 @@ still all others asked i y slots before after old new result can s t h n g c = r
 -- nothing more is known where memory was wanting in the call
 refused_comes : (i : Instance) (y : History) (slots : Slots) (waiting : Option Pending) (after : History) (why : Refusal)
     → MayRefuse why (life_of i.variant after) → ComesTo i y slots waiting after (Err (refusal_fault why))
-refused_comes i y slots waiting after refusal.Memory h = tt
-refused_comes i y slots waiting after refusal.Long (inl e) = absurd (cc)
-refused_comes i y slots waiting after refusal.Long (inr h) = h
-refused_comes i y slots waiting after (refusal.Device broken) h = tt
-refused_comes i y slots waiting after refusal.Blank (inl e) = absurd (cc)
-refused_comes i y slots waiting after refusal.Blank (inr h) = h
-refused_comes i y slots waiting after refusal.Cell (inl e) = absurd (cc)
-refused_comes i y slots waiting after refusal.Cell (inr h) = h
-refused_comes i y slots waiting after refusal.Lost (inl e) = absurd (cc)
-refused_comes i y slots waiting after refusal.Lost (inr h) = h
-refused_comes i y slots waiting after refusal.Form (inl e) = absurd (cc)
-refused_comes i y slots waiting after refusal.Form (inr h) = h
-refused_comes i y slots waiting after refusal.Kind (inl e) = absurd (cc)
-refused_comes i y slots waiting after refusal.Kind (inr h) = h
-refused_comes i y slots waiting after refusal.State (inl e) = absurd (cc)
-refused_comes i y slots waiting after refusal.State (inr h) = h
-refused_comes i y slots waiting after refusal.Tag (inl e) = absurd (cc)
-refused_comes i y slots waiting after refusal.Tag (inr h) = h
-refused_comes i y slots waiting after refusal.Stale (inl e) = absurd (cc)
-refused_comes i y slots waiting after refusal.Stale (inr h) = h
-refused_comes i y slots waiting after refusal.Full (inl e) = absurd (cc)
-refused_comes i y slots waiting after refusal.Full (inr h) = h
+refused_comes i y slots waiting after why may =
+    by_refusal (λ (w : Refusal) (f : HostFault).
+    MayRefuse w (life_of i.variant after) → ComesTo i y slots waiting after (Err f))
+    (λ h. tt) (λ w n h. elim h [
+      | inl e ↦ absurd (n e)
+      | inr r ↦ r
+    ]) why may
 
 -- a slot shows the bytes that were put there, where they are no more than the longest
 
@@ -214,18 +199,9 @@ answers all others asked i y slots waiting p standing answer l =
 -- a refusal that hands on no device's fault committed nothing
 pub may_commit : (why : Refusal) (broken : StepFault) → fault_of why ≡ Some broken
     → MayHaveCommitted {T = Resumed} (Err (refusal_fault why))
-may_commit (refusal.Device fault) broken e = refl
-may_commit refusal.Memory broken e = absurd (cc)
-may_commit refusal.Long broken e = absurd (cc)
-may_commit refusal.Blank broken e = absurd (cc)
-may_commit refusal.Cell broken e = absurd (cc)
-may_commit refusal.Lost broken e = absurd (cc)
-may_commit refusal.Form broken e = absurd (cc)
-may_commit refusal.Kind broken e = absurd (cc)
-may_commit refusal.State broken e = absurd (cc)
-may_commit refusal.Tag broken e = absurd (cc)
-may_commit refusal.Stale broken e = absurd (cc)
-may_commit refusal.Full broken e = absurd (cc)
+may_commit why broken has =
+    by_refusal (λ (w : Refusal) (f : HostFault). fault_of w ≡ Some broken → MayHaveCommitted {T = Resumed} (Err f))
+    (λ e. tt) (λ w n e. subst (λ (o : Option StepFault). IsSome o) (sym e) refl) why has
 
 only_by : (all others : List (List ℕ)) (asked : List Batch) (i : Instance) (y : History) (slots : Slots) (waiting : Option Pending)
     (p : Pending) (standing : Standing) (why : Refusal) (broken : Option StepFault) → fault_of why ≡ broken

@@ -54,6 +54,7 @@ use Rattle.mm_host.proofs.OptLeading.{opt_laws}
 use Rattle.mm_host.proofs.Recovering.{may_commit}
 use Rattle.mm_host.proofs.SessionEnds.{line_committed}
 use Rattle.mm_host.proofs.Unspoiled.{unspoiled}
+use Rattle.mm_host.proofs.RefusalTold.{by_refusal}
 
 -- what came of the request in hand
 
@@ -77,18 +78,8 @@ only_by (Ok answer) came (inr t) still = inr (subst (λ (r : Result Resumed Host
 -- a refusal that is told is the call's
 
 refused_as : (w why : Refusal) → refusal_fault w ≡ host.Refused why → w ≡ why
-refused_as refusal.Memory why e = absurd (cc)
-refused_as refusal.Long why e = cc
-refused_as (refusal.Device broken) why e = cc
-refused_as refusal.Blank why e = cc
-refused_as refusal.Cell why e = cc
-refused_as refusal.Lost why e = cc
-refused_as refusal.Form why e = cc
-refused_as refusal.Kind why e = cc
-refused_as refusal.State why e = cc
-refused_as refusal.Tag why e = cc
-refused_as refusal.Stale why e = cc
-refused_as refusal.Full why e = cc
+refused_as w why told =
+    by_refusal (λ (x : Refusal) (f : HostFault). f ≡ host.Refused why → x ≡ why) (λ e. absurd (cc)) (λ x n e. cc) w told
 
 came_refused : (came : Result Resumed HostFault) (why : Refusal) → Err (Refused why) ≡ comes_as came → came ≡ Err (host.Refused why)
 came_refused (Ok it) why e = absurd (cc)
