@@ -126,51 +126,44 @@ stands_on variant meaning from at number after new next left left' left'' receiv
     }
 
 -- and there it ends
-pub serves_all : (variant : Variant) (meaning : Meaning) (from at : Place) (number : ℕ) (after : Standing) (new : StoreStanding)
-    (left left' left'' received received' received'' : Option (List ℕ)) (held held' : List ℕ)
-    (result : Result (Option Resumed) SessionFault) (ended : Result Unit SessionFault)
-    → Stands variant meaning from at number left left' received received' held
-    → (t : ServesNext variant meaning number at after new left' left'' held held' received' received'' result)
-    → EndsSession variant meaning number at after new left'' (held ++ t.taken) t.sent ended
-    → ServesInput variant meaning from after new left left'' received received'' ended
-serves_all variant meaning from at number after new left left' left'' received received' received'' held held' result ended s t e = record {
-  taken = s.taken ++ t.taken;
-  sent = s.sent ++ t.sent;
-  consumed = Consumes-trans left left' left'' s.taken t.taken s.consumed t.consumed;
-  appended = Appends-trans received received' received'' s.sent t.sent s.appended t.appended;
-  lines = record {
-    calls = s.calls;
-    few = s.few;
-    at = at;
-    serves = s.serves;
-    more = held ++ t.taken;
-    last = t.sent;
-    took = taken_on (lines_served s.calls) s.taken held t.taken s.cut;
-    wrote = ap (λ (b : List ℕ). b ++ t.sent) s.wrote;
-    ends = subst (λ (n : ℕ). EndsSession variant meaning n at after new left'' (held ++ t.taken) t.sent ended) s.counted e;
-  };
-}
+
+-- as a turn says it
+abbrev pub ended_as : Result Unit SessionFault → Result (Option Resumed) SessionFault
+ended_as (Ok it) = Ok None
+ended_as (Err fault) = Err fault
+
+ends_as : (variant : Variant) (meaning : Meaning) (number : ℕ) (at : Place) (after : Standing) (new : StoreStanding)
+    (left : Option (List ℕ)) (bytes held sent : List ℕ) (ended : Result Unit SessionFault)
+    → ServedOn variant meaning number at after new left bytes held sent (ended_as ended)
+    → EndsSession variant meaning number at after new left bytes sent ended
+ends_as variant meaning number at after new left bytes held sent (Ok it) e = e
+ends_as variant meaning number at after new left bytes held sent (Err fault) e = e
 
 pub serves_ended : (variant : Variant) (meaning : Meaning) (from at : Place) (number : ℕ) (after : Standing) (new : StoreStanding)
     (left left' left'' received received' received'' : Option (List ℕ)) (held held' : List ℕ)
-    (result : Result (Option Resumed) SessionFault) (it : Unit)
+    (result : Result (Option Resumed) SessionFault) (ended : Result Unit SessionFault)
     → Stands variant meaning from at number left left' received received' held
     → ServesNext variant meaning number at after new left' left'' held held' received' received'' result
-    → result ≡ Ok None
-    → ServesInput variant meaning from after new left left'' received received'' (Ok it)
-serves_ended variant meaning from at number after new left left' left'' received received' received'' held held' result it s t went =
-    serves_all variant meaning from at number after new left left' left'' received received' received'' held held' result (Ok it) s t
-    (subst (λ (r : Result (Option Resumed) SessionFault). ServedOn variant meaning number at after new left'' (held ++ t.taken) held' t.sent
-    r) went t.went)
-
-pub serves_stopped : (variant : Variant) (meaning : Meaning) (from at : Place) (number : ℕ) (after : Standing) (new : StoreStanding)
-    (left left' left'' received received' received'' : Option (List ℕ)) (held held' : List ℕ)
-    (result : Result (Option Resumed) SessionFault) (fault : SessionFault)
-    → Stands variant meaning from at number left left' received received' held
-    → ServesNext variant meaning number at after new left' left'' held held' received' received'' result
-    → result ≡ Err fault
-    → ServesInput variant meaning from after new left left'' received received'' (Err fault)
-serves_stopped variant meaning from at number after new left left' left'' received received' received'' held held' result fault s t went =
-    serves_all variant meaning from at number after new left left' left'' received received' received'' held held' result (Err fault) s t
-    (subst (λ (r : Result (Option Resumed) SessionFault). ServedOn variant meaning number at after new left'' (held ++ t.taken) held' t.sent
-    r) went t.went)
+    → result ≡ ended_as ended
+    → ServesInput variant meaning from after new left left'' received received'' ended
+serves_ended variant meaning from at number after new left left' left'' received received' received'' held held' result ended s t went =
+    let on = subst (λ (r : Result (Option Resumed) SessionFault). ServedOn variant meaning number at after new left'' (held ++ t.taken) held'
+    t.sent r) went t.went in
+    record {
+      taken = s.taken ++ t.taken;
+      sent = s.sent ++ t.sent;
+      consumed = Consumes-trans left left' left'' s.taken t.taken s.consumed t.consumed;
+      appended = Appends-trans received received' received'' s.sent t.sent s.appended t.appended;
+      lines = record {
+        calls = s.calls;
+        few = s.few;
+        at = at;
+        serves = s.serves;
+        more = held ++ t.taken;
+        last = t.sent;
+        took = taken_on (lines_served s.calls) s.taken held t.taken s.cut;
+        wrote = ap (λ (b : List ℕ). b ++ t.sent) s.wrote;
+        ends = subst (λ (n : ℕ). EndsSession variant meaning n at after new left'' (held ++ t.taken) t.sent ended) s.counted
+            (ends_as variant meaning number at after new left'' (held ++ t.taken) held' t.sent ended on);
+      };
+    }

@@ -1,14 +1,14 @@
-use Rattle.std.proofs.Common.{◌∙◌, ap, Ok, refl}
+use Rattle.std.proofs.Common.{◌∙◌, ap, Ok, Err, refl}
 use Rattle.std.proofs.lemmas.Result.{err_from_is_err_and}
-use Rattle.mm_host.proofs.Lining.{stands_first, stands_on, serves_ended, serves_stopped}
+use Rattle.mm_host.proofs.Lining.{stands_first, stands_on, serves_ended}
 use Rattle.mm_host.proofs.serving.serve_lines.Goals as goal
 
 pub returns-in_err-next-clause-serves : goal.returns-in_err-next-clause-serves
 returns-in_err-next-clause-serves g c =
     let p = err_from_is_err_and c.from_residual.result c.from_residual.ensures.1 in
-    rw (p.1, p.2) (serves_stopped c.args.hosted.now.variant (g.M.Module.meaning c.args.hosted.now.module.now) _ _ c.lines.turn.number _ _
-    _ _ _ _ _ _ c.lines.reader c.serve_next.new.reader c.serve_next.result _ c.lines.invariant.stands c.serve_next.ensures.turns
-    c.in_err-next.was)
+    rw (p.1, p.2) (serves_ended c.args.hosted.now.variant (g.M.Module.meaning c.args.hosted.now.module.now) _ _ c.lines.turn.number _ _
+    _ _ _ _ _ _ c.lines.reader c.serve_next.new.reader c.serve_next.result (Err _) c.lines.invariant.stands
+    c.serve_next.ensures.turns c.in_err-next.was)
 
 pub lines-init : goal.lines-init
 lines-init g c = record {
@@ -33,5 +33,5 @@ lines-preserved g c =
 pub returns-clause-serves : goal.returns-clause-serves
 returns-clause-serves g c =
     serves_ended c.args.hosted.now.variant (g.M.Module.meaning c.args.hosted.now.module.now) _ _ c.lines.turn.number _ _
-    _ _ _ _ _ _ c.lines.reader c.serve_next.new.reader c.serve_next.result _ c.lines.invariant.stands c.serve_next.ensures.turns
+    _ _ _ _ _ _ c.lines.reader c.serve_next.new.reader c.serve_next.result (Ok _) c.lines.invariant.stands c.serve_next.ensures.turns
     (c.in_ok-next.was ∙ ap Ok c.in_default.is)
