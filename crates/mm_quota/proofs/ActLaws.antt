@@ -4,7 +4,8 @@ use Rattle.std.proofs.Common.{refl, sym, ◌∙◌, ap, arith, subst}
 use Rattle.std.proofs.lemmas.Bool.Decides.{nat_tests}
 use Rattle.mm_quota.specs.Table.{Account, Action, Request, On, Says, account_named, put, decision_of, is_name, is_account, request_of, rises, account_bytes, body_of, count_bytes, spelling_of, is_state, ledger_of, stepped, greatest_limit}
 use Rattle.mm_quota.specs.LedgerLaws.{FoundOf, account_named-found, length-put-there, length-put-absent}
-use Rattle.mm_quota.specs.SpellingLaws.{IsAccount-from, is_state-SpellsLedger}
+use Rattle.mm_quota.specs.SpellingLaws.{is_state-SpellsLedger}
+use Rattle.mm_quota.specs.AccountLaws.{IsAccount-from}
 use Rattle.mm_quota.specs.QuotaLaws.{IsAction, IsQuotaRequest, request_of-IsQuotaRequest, PutIf, IsPut, decision_of-is}
 use Rattle.mm_quota.specs.OthersStay.{OthersStay, others_stay}
 use Rattle.mm_quota.specs.Spelled.{IsSpelled}

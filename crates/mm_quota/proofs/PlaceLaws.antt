@@ -12,7 +12,8 @@ use Rattle.mm_module.specs.LineLaws.{and-true}
 use Rattle.mm_module.specs.PartLaws.{are_bytes-drop}
 use Rattle.mm_quota.specs.Table.{Account, order_of, account_named, put, total_used, is_account, rises, account_bytes, body_of, account_at, accounts_from, accounts_of, of_count_bytes, holds_ledger, is_ledger, is_state, ledger_of, greatest_limit}
 use Rattle.mm_quota.specs.LedgerLaws.{account_named-other, account_named-this, account_named-absent, bytes_eq-order}
-use Rattle.mm_quota.specs.SpellingLaws.{account_at-account_bytes, IsAccount-from, ReadsBody, accounts_from-reads}
+use Rattle.mm_quota.specs.SpellingLaws.{account_at-account_bytes, ReadsBody, accounts_from-reads}
+use Rattle.mm_quota.specs.AccountLaws.{IsAccount-from}
 use Rattle.mm_quota.specs.Spelled.{IsSpelled, follow}
 
 -- the rest, where an account stands in front of it

@@ -1,5 +1,6 @@
 pub mod Table
 pub mod LedgerLaws
+pub mod AccountLaws
 pub mod SpellingLaws
 pub mod QuotaLaws
 pub mod Views

@@ -13,7 +13,8 @@ use Rattle.mm_module.specs.TableLaws.{IsOutcome}
 use Rattle.mm_module.specs.Words.{words_of}
 use Rattle.mm_quota.specs.Table.{Account, Action, Open, Use, Free, Left, Request, Sum, On, Says, IsOpened, IsThere, IsFull, IsNone, IsUsed, IsOver, IsUnder, HasLeft, HasSum, IsBad, order_of, account_named, put, total_used, decision_of, settled, outcome_of, text_of, is_name, opening_of, action_of, request_of, is_account, count_bytes, spelling_of, is_state, stepped, quota, greatest_limit}
 use Rattle.mm_quota.specs.LedgerLaws.{rises-put, list_all-put, length-put, length-put-there, IsFound, FoundOf, account_named-found}
-use Rattle.mm_quota.specs.SpellingLaws.{IsAccount-from, is_account-made, is_account-named, IsLedger, is_state-SpellsLedger, are_bytes-state, length-spelling_of, is_state-spelling_of}
+use Rattle.mm_quota.specs.SpellingLaws.{IsLedger, is_state-SpellsLedger, are_bytes-state, length-spelling_of, is_state-spelling_of}
+use Rattle.mm_quota.specs.AccountLaws.{IsAccount-from, is_account-made, is_account-named}
 
 -- an action and a request that can be read
 abbrev pub IsAction : Action → Type 0
