@@ -12,7 +12,7 @@ use Rattle.mm_schedule.specs.declared.header.Header.{Header}
 use Rattle.mm_schedule.specs.Headers.{head_at, head_text, header_at, header_text, variant_text}
 use Rattle.mm_schedule.specs.HeadersWords.{variant_at}
 use Rattle.mm_schedule.specs.Words.{after_prefix, word_at}
-use Rattle.mm_schedule.proofs.ReadIsSpelled.{after-front, bind-some, chosen, some-same, text_is, word-front}
+use Rattle.mm_schedule.proofs.Fronts.{after-front, bind-some, chosen, some-same, text_is, word-front}
 use Rattle.mm_schedule.proofs.SpelledIsRead.{NoSpace, letters, word-again}
 
 variant-spelled : (word : List ℕ) (variant : Variant) → variant_at word ≡ Some variant → word ≡ variant_text variant

@@ -2,6 +2,7 @@ pub mod HexWords
 pub mod MeddleLaws
 pub mod PrintLaws
 pub mod RunLaws
+pub mod Fronts
 pub mod ReadIsSpelled
 pub mod HeaderLaws
 pub mod SpelledIsRead

@@ -29,7 +29,7 @@ use Rattle.mm_schedule.specs.GrammarWords.{flip_at}
 use Rattle.mm_schedule.specs.Spelling.{SpellsBytes, SpellsEvent, SpellsMeddles, SpellsNumber, SpellsOffer, SpellsPrefix, SpellsStep, SpellsStop, SpellsValue, asks}
 use Rattle.mm_module.specs.Values.{value_at}
 use Rattle.mm_schedule.specs.Words.{after_prefix, bytes_at, number_at, step_at, word_at}
-use Rattle.mm_schedule.proofs.ReadIsSpelled.{after-front, text_is}
+use Rattle.mm_schedule.proofs.Fronts.{after-front, text_is}
 
 -- no space is among the bytes
 abbrev pub NoSpace : List ℕ → Type 0
