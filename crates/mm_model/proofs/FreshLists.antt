@@ -29,7 +29,8 @@ use Rattle.mm_model.proofs.Segments.{taken_in, fresh_from}
 use Rattle.mm_model.proofs.Forms.{reads_zero}
 use Rattle.mm_model.proofs.Histories.{values_of-own}
 use Rattle.mm_model.proofs.Opt.{FreshSomehow, second_listed}
-use Rattle.mm_model.proofs.OptJudge.{Standpoint, stood_of, path_messages, LiveParts, live_parts, held_at, live_values_at, live_clean, counted_values, shut_current}
+use Rattle.mm_model.proofs.OptJudge.{Standpoint, stood_of, path_messages, held_at, live_values_at, live_clean, counted_values, shut_current}
+use Rattle.mm_model.proofs.HistoryParts.{LiveParts, live_parts}
 
 judged_fresh : (l : Life) (x r : Bool) → judged l x r ≡ IsFresh → (l ≡ Live) × (x ≡ true)
 judged_fresh Lost x r e = absurd (cc)

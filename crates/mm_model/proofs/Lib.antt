@@ -10,6 +10,7 @@ pub mod Forms
 pub mod Histories
 pub mod Paths
 pub mod Opt
+pub mod HistoryParts
 pub mod OptJudge
 pub mod StandsHere
 pub mod Moves

@@ -22,7 +22,8 @@ use Rattle.mm_model.proofs.Segments.{nothing_left}
 use Rattle.mm_model.proofs.Forms.{listed_value}
 use Rattle.mm_model.proofs.Histories.{own_values-append, values_of-append, length-batches_in}
 use Rattle.mm_model.proofs.Paths.{RunsListed, current_clean}
-use Rattle.mm_model.proofs.OptJudge.{HistoryListed, history_listed, shut_current}
+use Rattle.mm_model.proofs.OptJudge.{shut_current}
+use Rattle.mm_model.proofs.HistoryParts.{HistoryListed, history_listed}
 use Rattle.mm_model.proofs.Moves.{moving, moving_is, open_current}
 use Rattle.mm_model.proofs.MovedDigests.{values_renamed}
 

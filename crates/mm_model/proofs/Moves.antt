@@ -65,7 +65,7 @@ open_current y sound f =
     ]
 
 -- the register's items alone change, and hold a value that stands for no batch
-sound_items : (y : History) (items : List Entry) → IsSound y → (y.is_open ≡ true → AreItems items y.current)
+pub sound_items : (y : History) (items : List Entry) → IsSound y → (y.is_open ≡ true → AreItems items y.current)
     → IsSound (record y { items = items })
 sound_items y items sound h =
     record {

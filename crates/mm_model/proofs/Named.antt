@@ -21,10 +21,10 @@ use Rattle.mm_model.proofs.Paths.{current_clean, marred_has}
 use Rattle.mm_model.proofs.OptJudge.{shut_current}
 use Rattle.mm_model.proofs.Moves.{moving, moving_is, open_current, opening_clean}
 
--- the register's items are no part of a place
-pub point_items : (i : Instance) (y : History) (items : List Entry) (named : List Batch) (a e : List ℕ) → IsPoint i y named a e
-    → IsPoint i (record y { items = items }) named a e
-point_items i y items named a e (at_anchor p) = at_anchor (record {
+-- neither the key nor the register's items are part of a place
+pub point_kept : (i : Instance) (key : List ℕ) (y : History) (items : List Entry) (named : List Batch) (a e : List ℕ)
+    → IsPoint i y named a e → IsPoint (record i { key = key }) (record y { items = items }) named a e
+point_kept i key y items named a e (at_anchor p) = at_anchor (record {
   before = p.before;
   later = p.later;
   split = p.split;
@@ -33,7 +33,7 @@ point_items i y items named a e (at_anchor p) = at_anchor (record {
   anchor_is = p.anchor_is;
   extension_is = p.extension_is;
 })
-point_items i y items named a e (in_closed p) = in_closed (record {
+point_kept i key y items named a e (in_closed p) = in_closed (record {
   before = p.before;
   segment = p.segment;
   later = p.later;
@@ -47,7 +47,7 @@ point_items i y items named a e (in_closed p) = in_closed (record {
   anchor_is = p.anchor_is;
   extension_is = p.extension_is;
 })
-point_items i y items named a e (in_current p) = in_current (record {
+point_kept i key y items named a e (in_current p) = in_current (record {
   done = p.done;
   taken = p.taken;
   more = p.more;
@@ -58,6 +58,10 @@ point_items i y items named a e (in_current p) = in_current (record {
   anchor_is = p.anchor_is;
   extension_is = p.extension_is;
 })
+
+pub point_items : (i : Instance) (y : History) (items : List Entry) (named : List Batch) (a e : List ℕ) → IsPoint i y named a e
+    → IsPoint i (record y { items = items }) named a e
+point_items i y items named a e p = point_kept i i.key y items named a e p
 
 -- in a clean history a place in a closed segment ends within it
 ends_within : (i : Instance) (y : History) (named rest : List Batch) (a e : List ℕ) → IsClean y → y.batches ≡ named ++ rest

@@ -3,11 +3,11 @@ use Rattle.std.proofs.Common.{ℕ, ◌≡◌, ◌≢◌, ◌+◌, Bool, true, fa
 use Rattle.std.specs.Prelude.{nat_eq, if◌then◌else◌}
 use Rattle.std.specs.Bool.{Decides}
 use Rattle.std.specs.Str.{bytes_eq}
-use Rattle.std.specs.List.{AllByRecursion, Contains, list_any, flat_map}
+use Rattle.std.specs.List.{AllByRecursion, Contains, list_any}
 use Rattle.std.proofs.lemmas.List.{append-nil, map-append}
 use Rattle.std.proofs.lemmas.List.Elements.{Contains-append_left, Contains-append_right, Contains-push, Contains-push_cases}
 use Rattle.mm_digest.specs.declared.variant.Variant.TheVariants.{Opt}
-use Rattle.mm_digest.specs.Messages.{zero_bytes, start_message, start_of}
+use Rattle.mm_digest.specs.Messages.{zero_bytes, start_of}
 use Rattle.mm_module.specs.Batch.{Batch, size_of}
 use Rattle.mm_model.specs.Chains.{trail, guard_message, closing_message, guard, register_of, anchor_of}
 use Rattle.mm_model.specs.ChainsWords.{own_values}
@@ -22,7 +22,7 @@ use Rattle.mm_model.specs.HistoryWords.{values_of, cell_digest_of}
 use Rattle.mm_model.specs.Life.{is_empty, has_value, are_own, Life, Live, Spoiled, Lost, life_by, life_of, is_lost as is_lost_life}
 use Rattle.mm_model.specs.Judge.{verdict_by_digests, forms_of, fits_fresh, fits_again, is_last, verdict_by, opt_verdict, judge, judged}
 use Rattle.mm_model.specs.Places.{IsPoint, IsPlaceOf, Names, anchor_after}
-use Rattle.mm_model.specs.Messages.{Within, IsClear, IsClearFor, register_trail, point_messages, messages_of, runs_of, counting, values_in, AreNoGuards}
+use Rattle.mm_model.specs.Messages.{Within, IsClear, IsClearFor, register_trail, point_messages, messages_of, counting, values_in, AreNoGuards}
 use Rattle.mm_model.specs.Sound.{IsSound, IsClean, batches_in}
 use Rattle.mm_model.proofs.Lists.{each_left, each_right, each_append}
 use Rattle.mm_model.proofs.Chains.{trail_front}
@@ -32,95 +32,9 @@ use Rattle.mm_model.proofs.Basic.{verdicts}
 use Rattle.mm_model.proofs.Segments.{joined-push, true_not_false, taken_in, fresh_joins, again_joins, Reaches, IsHeld, fresh_from, again_from}
 use Rattle.mm_model.proofs.Forms.{Listed, Clears}
 use Rattle.mm_model.proofs.Histories.{own_values-append, values_of-append, joined-values, has_value-append, values_of-clean, values_of-own, meets}
-use Rattle.mm_model.proofs.Paths.{path_of, RunsListed, empty_cases, marred_has}
+use Rattle.mm_model.proofs.Paths.{path_of, empty_cases, marred_has}
 use Rattle.mm_model.proofs.Opt.{zero_tells, FreshSomehow, AgainSomehow, second_listed, fresh_somehow, again_somehow}
-
-each_flat : {A B : Type 0} (P : B → Type 0) (f : A → List B) (xs : List A) → AllByRecursion P (flat_map f xs)
-    → AllByRecursion (λ x. AllByRecursion P (f x)) xs
-each_flat P f [] h = tt
-each_flat P f (x ∷ xs) h = (each_left P (f x) (flat_map f xs) h, each_flat P f xs (each_right P (f x) (flat_map f xs) h))
-
-each_map : {A B : Type 0} (P : B → Type 0) (f : A → B) (xs : List A) → AllByRecursion (λ x. P (f x)) xs → AllByRecursion P (map f xs)
-each_map P f [] h = tt
-each_map P f (x ∷ xs) h = (h.0, each_map P f xs h.1)
-
-each_unmap : {A B : Type 0} (P : B → Type 0) (Q : A → Type 0) (f : A → B) → ((x : A) → Q x → P (f x)) → (xs : List A) → AllByRecursion Q xs
-    → AllByRecursion P (map f xs)
-each_unmap P Q f g [] h = tt
-each_unmap P Q f g (x ∷ xs) h = (g x h.0, each_unmap P Q f g xs h.1)
-
--- the messages of a history of Opt, by kind
-pub record HistoryListed (i : Instance) (y : History) (all : List (List ℕ)) : Type 0 where
-  pub starts : Contains all (start_message Opt i.meaning.id)
-  pub guards : Within (map (guard_message i.barrier) y.batches) all
-  pub runs : AllByRecursion (RunsListed i.barrier all) (runs_of y)
-  pub listed : Listed i.meaning.id all (map (values_of i.barrier) y.closed) (values_of i.barrier y.items)
-
-pub history_listed : (i : Instance) (y : History) (all : List (List ℕ)) → Within (messages_of Opt i y) all → HistoryListed i y all
-history_listed i y all h =
-    let C = Contains all in
-    let guards = map (guard_message i.barrier) y.batches in
-    let runs = flat_map (λ run. register_trail (own_values i.barrier run)) (runs_of y) in
-    let closed = flat_map (λ segment. register_trail (values_of i.barrier segment)) y.closed in
-    let items = register_trail (values_of i.barrier y.items) in
-    let closings = trail closing_message (start_of Opt i.meaning.id) (map (values_of i.barrier) y.closed) in
-    let four = each_left C (guards ++ runs ++ closed ++ items) closings h.1 in
-    let three = each_left C (guards ++ runs ++ closed) items four in
-    let two = each_left C (guards ++ runs) closed three in
-    record {
-      starts = h.0;
-      guards = each_left C guards runs two;
-      runs = each_flat C (λ run. register_trail (own_values i.barrier run)) (runs_of y) (each_right C guards runs two);
-      listed = record {
-        inner = each_map (λ vs. Within (register_trail vs) all) (values_of i.barrier) y.closed
-            (each_flat C (λ segment. register_trail (values_of i.barrier segment)) y.closed (each_right C (guards ++ runs) closed three));
-        outer = each_right C (guards ++ runs ++ closed ++ items) closings h.1;
-        last = each_right C (guards ++ runs ++ closed) items four;
-      };
-    }
-
--- what life tells of its four tests
-pub record LiveParts (is_open is_bare is_own is_marred : Bool) : Type 0 where
-  pub clean : is_marred ≡ false
-  pub own : is_open ≡ true → is_own ≡ true
-  pub held : is_open ≡ true → is_bare ≡ false
-
-life_clash : Spoiled ≡ Live → ⊥
-life_clash e = cc
-
-lost_live : Lost ≡ Live → ⊥
-lost_live e = cc
-
-lost_spoiled : Lost ≡ Spoiled → ⊥
-lost_spoiled e = cc
-
-live_spoiled : Live ≡ Spoiled → ⊥
-live_spoiled e = cc
-
-pub live_parts : (f p o m : Bool) → life_by f p o m ≡ Live → LiveParts f p o m
-live_parts true true o m e = absurd (lost_live e)
-live_parts true false true false e = record { clean = refl; own = λ _. refl; held = λ _. refl }
-live_parts true false true true e = absurd (life_clash e)
-live_parts true false false m e = absurd (life_clash e)
-live_parts false p o false e =
-    record { clean = refl; own = λ t. absurd (true_not_false (sym t)); held = λ t. absurd (true_not_false (sym t)) }
-live_parts false p o true e = absurd (life_clash e)
-
-spoiled_parts : (f p o m : Bool) → life_by f p o m ≡ Spoiled → (m ≡ true) ⊎ ((f ≡ true) × (p ≡ false) × (o ≡ false))
-spoiled_parts true true o m e = absurd (lost_spoiled e)
-spoiled_parts true false true false e = absurd (live_spoiled e)
-spoiled_parts true false true true e = inl refl
-spoiled_parts true false false m e = inr (refl, refl, refl)
-spoiled_parts false p o false e = absurd (live_spoiled e)
-spoiled_parts false p o true e = inl refl
-
-pub lost_test : (f p o m : Bool) → (f && p) ≡ is_lost_life (life_by f p o m)
-lost_test true true o m = refl
-lost_test true false true false = refl
-lost_test true false true true = refl
-lost_test true false false m = refl
-lost_test false p o false = refl
-lost_test false p o true = refl
+use Rattle.mm_model.proofs.HistoryParts.{each_unmap, history_listed, LiveParts, live_parts, spoiled_parts, lost_test}
 
 -- the values that count, with the register's items where a segment is open
 pub counted_values : (barrier : List ℕ) (flag : Bool) (closed : List (List Entry)) (items : List Entry)

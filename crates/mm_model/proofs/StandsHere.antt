@@ -25,7 +25,8 @@ use Rattle.mm_model.specs.Sound.{IsSound}
 use Rattle.mm_model.specs.StandingHere.{is_new, place_messages}
 use Rattle.mm_model.proofs.Basic.{basic_here}
 use Rattle.mm_model.proofs.Opt.{zero_tells, FreshSomehow, fresh_somehow}
-use Rattle.mm_model.proofs.OptJudge.{Standpoint, stood_of, live_parts, held_at, live_values_at, live_clean, live_fresh, fresh_counts, never, never_guards, among_all, spoiled_has_at, lost_test, zero_items}
+use Rattle.mm_model.proofs.OptJudge.{Standpoint, stood_of, held_at, live_values_at, live_clean, live_fresh, fresh_counts, never, never_guards, among_all, spoiled_has_at, zero_items}
+use Rattle.mm_model.proofs.HistoryParts.{live_parts, lost_test}
 
 new_by : (fresh again : Bool) → is_new (verdict_by false fresh again) ≡ fresh
 new_by true again = refl
