@@ -1,6 +1,6 @@
 -- Whom the status of each command blames.
 use Rattle.std.proofs.Common.{◌≡◌, ◌∙◌, ℕ, Bool, false, List, Option, None, Some, Result, Ok, Err, refl, sym, ap, subst, inl, inr, is_some, ◌⊎◌}
-use Rattle.mm_base.specs.Faults.{counted, CountsFaults, Rose}
+use Rattle.mm_base.specs.Faults.{Rose}
 use Rattle.mm_base.specs.declared.fault.WriteFault as write
 use Rattle.mm_base.specs.declared.replay_fault.ReplayFault.{ReplayFault}
 use Rattle.mm_base.specs.declared.replay_fault.ReplayFault.TheVariants as fault
@@ -37,7 +37,7 @@ use Rattle.mm_seal.specs.declared.cell.CellFault.{CellFault}
 use Rattle.mm_seal.specs.declared.cell.CellFault.TheVariants as unheld
 use Rattle.mm_words.specs.declared.command.Command.{Command}
 use Rattle.mm_words.specs.declared.command.Command.TheVariants.{Init, Run, Checkpoint, Power, Replay, Check, Gen, Bulk, Slots, Receipts, Transfer, Help}
-use Rattle.mm_app.specs.Blame.{BlamesOutput, BlamesSource, tells_platform_fault, tells_read_fault, tells_store_fault}
+use Rattle.mm_app.specs.Blame.{BlamesSource, tells_platform_fault, tells_read_fault, tells_store_fault}
 use Rattle.mm_app.specs.Bulk.{bulk_told}
 use Rattle.mm_app.specs.Checkpoint.{checkpoint_told}
 use Rattle.mm_app.specs.Commands.{Does, DoesOrLacks, ReadsInput, UsesPlatform, UsesStore}
@@ -47,9 +47,9 @@ use Rattle.mm_app.specs.Power.{power_told}
 use Rattle.mm_app.specs.Running.{ServesIfFound, FindsInstance, header_found, instance_found, refused_at, session_status}
 use Rattle.mm_app.specs.Starting.{init_told}
 use Rattle.mm_app.specs.Status.{status_of}
-use Rattle.mm_app.specs.Telling.{EndsAtOnce, GivesText, TellsStop, StopsAs, Tells, status_by}
+use Rattle.mm_app.specs.Telling.{EndsAtOnce, GivesText, StopsAs, Tells, status_by}
 use Rattle.mm_app.specs.declared.status.Status.{Status}
-use Rattle.mm_app.specs.declared.status.Status.TheVariants.{Done, Usage, Memory, WriteFault, PlatformFault, Blank, Cell}
+use Rattle.mm_app.specs.declared.status.Status.TheVariants.{Done, Memory, WriteFault, PlatformFault, Blank, Cell}
 
 -- two statuses blame the same
 pub record BlameAlike (one other : Status) : Type 0 where
@@ -59,6 +59,9 @@ pub record BlameAlike (one other : Status) : Type 0 where
 
 alike : (one other : Status) → one ≡ other → BlameAlike one other
 alike one other e = record { platform = ap tells_platform_fault e; store = ap tells_store_fault e; source = ap tells_read_fault e }
+
+alike_then : (one middle other : Status) → BlameAlike one middle → BlameAlike middle other → BlameAlike one other
+alike_then one middle other a b = record { platform = a.platform ∙ b.platform; store = a.store ∙ b.store; source = a.source ∙ b.source }
 
 -- what was to be told, as a status
 abbrev pub end_of : Result (List ℕ) Status → Status
@@ -83,32 +86,20 @@ unblamed blamed before now e same = subst (λ (b : Bool). plays.IsBlamed b befor
 blamed_as : (one other : Bool) (before now : ℕ) → one ≡ other → plays.IsBlamed other before now → plays.IsBlamed one before now
 blamed_as one other before now e b = subst (λ (x : Bool). plays.IsBlamed x before now) (sym e) b
 
-played_platform : {T : Type 0} (answer : Result T ReplayFault) → tells_platform_fault (status_of answer) ≡ false
-played_platform (Ok it) = refl
-played_platform (Err fault.Memory) = refl
-played_platform (Err fault.ReadFault) = refl
-played_platform (Err fault.WriteFault) = refl
-played_platform (Err (fault.BadLine line)) = refl
-played_platform (Err (fault.LineLong line)) = refl
-played_platform (Err fault.TooMuch) = refl
+-- what an answer to lines blames, by its status
+record PlayedAs {T : Type 0} (answer : Result T ReplayFault) : Type 0 where
+  platform : tells_platform_fault (status_of answer) ≡ false
+  store : tells_store_fault (status_of answer) ≡ false
+  source : tells_read_fault (status_of answer) ≡ plays.is_read_fault answer
 
-played_store : {T : Type 0} (answer : Result T ReplayFault) → tells_store_fault (status_of answer) ≡ false
-played_store (Ok it) = refl
-played_store (Err fault.Memory) = refl
-played_store (Err fault.ReadFault) = refl
-played_store (Err fault.WriteFault) = refl
-played_store (Err (fault.BadLine line)) = refl
-played_store (Err (fault.LineLong line)) = refl
-played_store (Err fault.TooMuch) = refl
-
-played_source : {T : Type 0} (answer : Result T ReplayFault) → tells_read_fault (status_of answer) ≡ plays.is_read_fault answer
-played_source (Ok it) = refl
-played_source (Err fault.Memory) = refl
-played_source (Err fault.ReadFault) = refl
-played_source (Err fault.WriteFault) = refl
-played_source (Err (fault.BadLine line)) = refl
-played_source (Err (fault.LineLong line)) = refl
-played_source (Err fault.TooMuch) = refl
+played_as : {T : Type 0} (answer : Result T ReplayFault) → PlayedAs answer
+played_as (Ok it) = record { platform = refl; store = refl; source = refl }
+played_as (Err fault.Memory) = record { platform = refl; store = refl; source = refl }
+played_as (Err fault.ReadFault) = record { platform = refl; store = refl; source = refl }
+played_as (Err fault.WriteFault) = record { platform = refl; store = refl; source = refl }
+played_as (Err (fault.BadLine line)) = record { platform = refl; store = refl; source = refl }
+played_as (Err (fault.LineLong line)) = record { platform = refl; store = refl; source = refl }
+played_as (Err fault.TooMuch) = record { platform = refl; store = refl; source = refl }
 
 bulk_alike : (count : ℕ) (answer : Result Summary BulkFault) → BlameAlike (end_of (bulk_told count answer)) Done
 bulk_alike count (Ok summary) = alike Done Done refl
@@ -119,9 +110,7 @@ in_bulk_alike : (count : ℕ) (answer : Result Summary BulkFault) (received rece
     (status : Status)
     → Tells (bulk_told count answer) received received' writes writes' status → BlameAlike status Done
 in_bulk_alike count answer received received' writes writes' status t =
-    let a = told_alike (bulk_told count answer) received received' writes writes' status t in
-    let b = bulk_alike count answer in
-    record { platform = a.platform ∙ b.platform; store = a.store ∙ b.store; source = a.source ∙ b.source }
+    alike_then _ _ _ (told_alike (bulk_told count answer) received received' writes writes' status t) (bulk_alike count answer)
 
 power_blames : (fault : Option StepFault) (before after : Standing) (emptied : Bool) → EndsCycle fault before after emptied
     → plays.IsBlamed (tells_platform_fault (end_of (power_told fault))) before.faults after.faults
@@ -155,18 +144,17 @@ checkpoint_spares (Err refusal.Lost) = (refl, refl)
 
 -- a first start
 
-record StartBlames (before after : Devices) (end : Status) : Type 0 where
-  platform : plays.IsBlamed (tells_platform_fault end) before.platform.faults after.platform.faults
-  store : plays.IsBlamed (tells_store_fault end) before.store.faults after.store.faults
-  source : plays.IsBlamed (tells_read_fault end) before.source_faults after.source_faults
-  other : end ≡ WriteFault → ⊥
+pub record StartBlames (before after : Devices) (end : Status) : Type 0 where
+  pub platform : plays.IsBlamed (tells_platform_fault end) before.platform.faults after.platform.faults
+  pub store : plays.IsBlamed (tells_store_fault end) before.store.faults after.store.faults
+  pub source : plays.IsBlamed (tells_read_fault end) before.source_faults after.source_faults
+  pub other : end ≡ WriteFault → ⊥
 
-start_blames : (answer : Result (Unit {0}) InitFault) (before after : Devices) → BlamesDevice before after answer
+pub start_blames : (answer : Result (Unit {0}) InitFault) (before after : Devices) → BlamesDevice before after answer
     → StartBlames before after (end_of (init_told answer))
 start_blames (Ok it) before after b = record { platform = b.platform; store = b.store; source = b.source; other = λ h. cc }
 start_blames (Err init.Memory) before after b = record { platform = b.platform; store = b.store; source = b.source; other = λ h. cc }
-start_blames (Err (init.Platform fault)) before after b =
-    record { platform = b.platform; store = b.store; source = b.source; other = λ h. cc }
+start_blames (Err (init.Platform fault)) _ _ b = record { platform = b.platform; store = b.store; source = b.source; other = λ h. cc }
 start_blames (Err init.Already) before after b = record { platform = b.platform; store = b.store; source = b.source; other = λ h. cc }
 start_blames (Err init.ReadFault) before after b = record { platform = b.platform; store = b.store; source = b.source; other = λ h. cc }
 start_blames (Err (init.Short got)) before after b = record { platform = b.platform; store = b.store; source = b.source; other = λ h. cc }
@@ -174,14 +162,14 @@ start_blames (Err init.Store) before after b = record { platform = b.platform; s
 
 -- a session
 
-record RefusedAs (why : Refusal) : Type 0 where
-  platform : tells_platform_fault (refused_at why) ≡ is_some (fault_of why)
-  store : tells_store_fault (refused_at why) ≡ false
-  source : tells_read_fault (refused_at why) ≡ false
-  other : refused_at why ≡ WriteFault → ⊥
-  undone : refused_at why ≡ Done → ⊥
+pub record RefusedAs (why : Refusal) : Type 0 where
+  pub platform : tells_platform_fault (refused_at why) ≡ is_some (fault_of why)
+  pub store : tells_store_fault (refused_at why) ≡ false
+  pub source : tells_read_fault (refused_at why) ≡ false
+  pub other : refused_at why ≡ WriteFault → ⊥
+  pub undone : refused_at why ≡ Done → ⊥
 
-refused_as : (why : Refusal) → RefusedAs why
+pub refused_as : (why : Refusal) → RefusedAs why
 refused_as refused.Memory = record { platform = refl; store = refl; source = refl; other = λ h. cc; undone = λ h. cc }
 refused_as refused.Long = record { platform = refl; store = refl; source = refl; other = λ h. cc; undone = λ h. cc }
 refused_as (refused.Device fault) = record { platform = refl; store = refl; source = refl; other = λ h. cc; undone = λ h. cc }
@@ -214,11 +202,11 @@ served_as (Err (session.BadLine line)) = record { platform = refl; store = refl;
 served_as (Err session.TooMuch) = record { platform = refl; store = refl; source = refl }
 
 -- what a cell holds that no session is served over
-record UnheldAs (end : Status) : Type 0 where
-  alike : BlameAlike end Done
-  other : end ≡ WriteFault → ⊥
+pub record UnheldAs (end : Status) : Type 0 where
+  pub alike : BlameAlike end Done
+  pub other : end ≡ WriteFault → ⊥
 
-unheld_as : (end : Status) → (end ≡ Blank) ⊎ (end ≡ Cell) → UnheldAs end
+pub unheld_as : (end : Status) → (end ≡ Blank) ⊎ (end ≡ Cell) → UnheldAs end
 unheld_as end (inl e) = record {
   alike = record { platform = ap tells_platform_fault e; store = ap tells_store_fault e; source = ap tells_read_fault e };
   other = λ h. cc;
@@ -232,13 +220,13 @@ headed_end : (variant : Variant) (found : Option AnyModule) (end : Status) → E
 headed_end variant None end e = cc
 headed_end variant (Some it) end e = cc
 
-unheld_end : (read : Result Held CellFault) (end : Status) → Err end ≡ instance_found read → (end ≡ Blank) ⊎ (end ≡ Cell)
+pub unheld_end : (read : Result Held CellFault) (end : Status) → Err end ≡ instance_found read → (end ≡ Blank) ⊎ (end ≡ Cell)
 unheld_end (Err unheld.Blank) end e = inl cc
 unheld_end (Err unheld.Cell) end e = inr cc
 unheld_end (Ok held) end e = inr (headed_end held.variant (module_with held.module) end e)
 
 -- what no session is served over, by the first step's fault
-platform_end : (end : Status) → (let r : Result Header Status = Err end in r ≡ Err PlatformFault) → end ≡ PlatformFault
+pub platform_end : (end : Status) → (let r : Result Header Status = Err end in r ≡ Err PlatformFault) → end ≡ PlatformFault
 platform_end end e = cc
 
 record RunBlames (before after : Standing) (old new : StoreStanding) (reads reads' : ℕ) (status : Status) : Type 0 where
@@ -287,123 +275,6 @@ run_blames (Some fault) (Err end) before middle after made old new left left' re
       source = unblamed _ _ _ (ap tells_read_fault is) a.unfailed;
     }
 
--- the output
-
--- the output's count, where one writing came last
-told_once : {T : Type 0} (r : Result T write.WriteFault) (writes count writes' : ℕ) → count ≡ writes → CountsFaults count writes' r
-    → (writes' ≡ writes) ⊎ Rose writes writes'
-told_once (Ok done) writes count writes' same c = inl (c.kept ∙ same)
-told_once (Err fault) writes count writes' same c = inr (c.failed ∙ ap counted same)
-
-output_by : (r : Result (Unit {0}) write.WriteFault) (status : Status) (writes writes' : ℕ) → CountsFaults writes writes' r
-    → status ≡ status_by r
-    → BlamesOutput status writes writes'
-output_by (Ok done) status writes writes' c e = record { failed = λ h. absurd (cc); done = λ h. c.kept; once = inl c.kept }
-output_by (Err fault) status writes writes' c e = record { failed = λ h. c.failed; done = λ h. absurd (cc); once = inr c.failed }
-
-pub output_stopped : (end status : Status) (received received' : Option (List ℕ)) (writes writes' : ℕ) → (end ≡ WriteFault → ⊥)
-    → StopsAs end received received' writes writes' status → BlamesOutput status writes writes'
-output_stopped end status received received' writes writes' other s = record {
-  failed = λ h. absurd (other (sym s.ends ∙ h));
-  done = λ h. s.stops.done (sym s.ends ∙ h);
-  once = told_once s.stops.result writes writes writes' refl s.stops.counts;
-}
-
-output_played : {T : Type 0} (answer : Result T ReplayFault) (status : Status) (middle received' : Option (List ℕ))
-    (writes count writes' : ℕ)
-    → plays.IsBlamed (plays.is_write_fault answer) writes count → status ≡ status_of answer
-    → TellsStop middle received' count writes' status
-    → BlamesOutput status writes writes'
-output_played (Ok it) status middle received' writes count writes' b e s = record {
-  failed = λ h. absurd (cc);
-  done = λ h. s.done h ∙ b;
-  once = told_once s.result writes count writes' b s.counts;
-}
-output_played (Err fault.WriteFault) status middle received' writes count writes' b e s = record {
-  failed = λ h. subst (λ (n : ℕ). Rose writes n) (sym (s.failed h)) b;
-  done = λ h. absurd (cc);
-  once = inr (s.failed e ∙ b);
-}
-output_played (Err fault.Memory) status middle received' writes count writes' b e s =
-    record { failed = λ h. absurd (cc); done = λ h. absurd (cc); once = told_once s.result writes count writes' b s.counts }
-output_played (Err fault.ReadFault) status middle received' writes count writes' b e s =
-    record { failed = λ h. absurd (cc); done = λ h. absurd (cc); once = told_once s.result writes count writes' b s.counts }
-output_played (Err (fault.BadLine line)) status middle received' writes count writes' b e s =
-    record { failed = λ h. absurd (cc); done = λ h. absurd (cc); once = told_once s.result writes count writes' b s.counts }
-output_played (Err (fault.LineLong line)) status middle received' writes count writes' b e s =
-    record { failed = λ h. absurd (cc); done = λ h. absurd (cc); once = told_once s.result writes count writes' b s.counts }
-output_played (Err fault.TooMuch) status middle received' writes count writes' b e s =
-    record { failed = λ h. absurd (cc); done = λ h. absurd (cc); once = told_once s.result writes count writes' b s.counts }
-
-output_told : (told : Result (List ℕ) Status) (received received' : Option (List ℕ)) (writes writes' : ℕ) (status : Status)
-    → (end_of told ≡ WriteFault → ⊥) → Tells told received received' writes writes' status → BlamesOutput status writes writes'
-output_told (Ok text) received received' writes writes' status other t = output_by t.result status writes writes' t.counts t.ends
-output_told (Err end) received received' writes writes' status other t = output_stopped end status received received' writes writes' other t
-
-output_served : (answer : Result (Unit {0}) SessionFault) (status : Status) (middle received' : Option (List ℕ)) (writes count writes' : ℕ)
-    → plays.IsBlamed (session_blame.is_write_fault answer) writes count → status ≡ session_status answer
-    → TellsStop middle received' count writes' status
-    → BlamesOutput status writes writes'
-output_served (Ok it) status middle received' writes count writes' b e s =
-    record { failed = λ h. absurd (cc); done = λ h. s.done h ∙ b; once = told_once s.result writes count writes' b s.counts }
-output_served (Err session.WriteFault) status middle received' writes count writes' b e s = record {
-  failed = λ h. subst (λ (n : ℕ). Rose writes n) (sym (s.failed h)) b;
-  done = λ h. absurd (cc);
-  once = inr (s.failed e ∙ b);
-}
-output_served (Err (session.Refused why)) status middle received' writes count writes' b e s =
-    let as_told = refused_as why in
-    record {
-      failed = λ h. absurd (as_told.other (sym e ∙ h));
-      done = λ h. absurd (as_told.undone (sym e ∙ h));
-      once = told_once s.result writes count writes' b s.counts;
-    }
-output_served (Err session.Memory) status middle received' writes count writes' b e s =
-    record { failed = λ h. absurd (cc); done = λ h. absurd (cc); once = told_once s.result writes count writes' b s.counts }
-output_served (Err session.Store) status middle received' writes count writes' b e s =
-    record { failed = λ h. absurd (cc); done = λ h. absurd (cc); once = told_once s.result writes count writes' b s.counts }
-output_served (Err session.ReadFault) status middle received' writes count writes' b e s =
-    record { failed = λ h. absurd (cc); done = λ h. absurd (cc); once = told_once s.result writes count writes' b s.counts }
-output_served (Err (session.LineLong line)) status middle received' writes count writes' b e s =
-    record { failed = λ h. absurd (cc); done = λ h. absurd (cc); once = told_once s.result writes count writes' b s.counts }
-output_served (Err (session.BadLine line)) status middle received' writes count writes' b e s =
-    record { failed = λ h. absurd (cc); done = λ h. absurd (cc); once = told_once s.result writes count writes' b s.counts }
-output_served (Err session.TooMuch) status middle received' writes count writes' b e s =
-    record { failed = λ h. absurd (cc); done = λ h. absurd (cc); once = told_once s.result writes count writes' b s.counts }
-
--- what no session is served over is no fault of the output
-unserved : (fault : Option StepFault) (before : Standing) (end : Status) → FindsInstance fault before (Err end) → end ≡ WriteFault → ⊥
-unserved None before end f = (unheld_as end (unheld_end f.2.read end f.2.found_is)).other
-unserved (Some fault) before end f = let is = platform_end end f in λ h. cc
-
-output_run : (fault : Option StepFault) (found : Result Header Status) (before middle after : Standing) (old new : StoreStanding)
-    (left left' received received' : Option (List ℕ)) (reads reads' writes writes' : ℕ) (status : Status)
-    → FindsInstance fault before found
-    → ServesIfFound found middle after old new left left' received received' reads reads' writes writes' status
-    → BlamesOutput status writes writes'
-output_run fault (Ok header) before middle after old new left left' received received' reads reads' writes writes' status f a =
-    output_served a.served.answer status a.between received' writes a.count writes' a.served.wrote a.served.ends a.stops
-output_run fault (Err end) before middle after old new left left' received received' reads reads' writes writes' status f a =
-    output_stopped end status received received' writes writes' (unserved fault before end f) a.stops
-
-bulk_no_write : (count : ℕ) (answer : Result Summary BulkFault) → end_of (bulk_told count answer) ≡ WriteFault → ⊥
-bulk_no_write count (Ok summary) h = cc
-bulk_no_write count (Err much.Memory) h = cc
-bulk_no_write count (Err much.TooMuch) h = cc
-
-power_no_write : (fault : Option StepFault) → end_of (power_told fault) ≡ WriteFault → ⊥
-power_no_write None h = cc
-power_no_write (Some fault) h = cc
-
-checkpoint_no_write : (answer : Result Checkpointed CheckpointRefusal) → end_of (checkpoint_told answer) ≡ WriteFault → ⊥
-checkpoint_no_write (Ok said.Done) h = cc
-checkpoint_no_write (Ok said.NoSegment) h = cc
-checkpoint_no_write (Err (refusal.Device fault)) h = cc
-checkpoint_no_write (Err refusal.Blank) h = cc
-checkpoint_no_write (Err refusal.Cell) h = cc
-checkpoint_no_write (Err refusal.Kind) h = cc
-checkpoint_no_write (Err refusal.Lost) h = cc
-
 -- the commands
 
 pub record Frames (command : Command) (old new : Outside) : Type 0 where
@@ -449,9 +320,7 @@ still_blamed command old new status s a = record {
 pub ended_blamed : (command : Command) (old new : Outside) (end status : Status) → BlameAlike end Done → EndsAtOnce old new end status
     → Blamed command old new status
 ended_blamed command old new end status a e =
-    let b = alike status end e.stops.ends in
-    still_blamed command old new status e.still
-    (record { platform = b.platform ∙ a.platform; store = b.store ∙ a.store; source = b.source ∙ a.source })
+    still_blamed command old new status e.still (alike_then status end Done (alike status end e.stops.ends) a)
 
 pub memory_alike : BlameAlike Memory Done
 memory_alike = record { platform = refl; store = refl; source = refl }
@@ -465,10 +334,19 @@ pub stopped_blamed : (command : Command) (old new : Outside) (end status : Statu
     → StopsAs end old.received new.received old.writes new.writes status → Blamed command old new status
 stopped_blamed command old new end status a still s = ended_blamed command old new end status a (record { still = still; stops = s })
 
--- what an answer to lines blames
-source_played : {T : Type 0} (answer : Result T ReplayFault) (status : Status) (reads reads' : ℕ) → status ≡ status_of answer
-    → plays.IsBlamed (plays.is_read_fault answer) reads reads' → plays.IsBlamed (tells_read_fault status) reads reads'
-source_played answer status reads reads' e b = blamed_as _ _ _ _ (ap tells_read_fault e ∙ played_source answer) b
+-- a command that answers the lines of the input, and uses neither the platform nor the store
+lines_blamed : {T : Type 0} (answer : Result T ReplayFault) (command : Command) (old new : Outside) (status : Status)
+    → Frames command old new → (UsesPlatform command → ⊥) → (UsesStore command → ⊥) → status ≡ status_of answer
+    → plays.IsBlamed (plays.is_read_fault answer) old.reads new.reads
+    → (plays.IsBlamed (tells_read_fault status) old.reads new.reads → BlamesSource command old new status)
+    → Blamed command old new status
+lines_blamed answer command old new status f no_platform no_store e b source =
+    let a = played_as answer in
+    record {
+      platform = unblamed _ _ _ (ap tells_platform_fault e ∙ a.platform) (same_standing old new (f.standing no_platform));
+      store = unblamed _ _ _ (ap tells_store_fault e ∙ a.store) (same_kept old new (f.kept no_store));
+      source = source (blamed_as _ _ _ _ (ap tells_read_fault e ∙ a.source) b);
+    }
 
 pub done_blamed : (command : Command) (old new : Outside) (status : Status) → Frames command old new → Does command old new status
     → Blamed command old new status
@@ -484,45 +362,20 @@ done_blamed Run old new status f d =
     let b = run_blames d.looks.fault d.found old.standing d.middle new.standing d.looks.goes.is_made old.kept new.kept old.left new.left
     old.received new.received old.reads new.reads old.writes new.writes status d.looks.goes.ends d.looks.finds d.goes in
     record { platform = b.platform; store = b.store; source = b.source }
-done_blamed Check old new status f d = record {
-  platform =
-      unblamed _ _ _ (ap tells_platform_fault d.checked.ends ∙ played_platform d.checked.answer)
-      (same_standing old new (f.standing (λ h. h)));
-  store = unblamed _ _ _ (ap tells_store_fault d.checked.ends ∙ played_store d.checked.answer) (same_kept old new (f.kept (λ h. h)));
-  source = source_played d.checked.answer status _ _ d.checked.ends d.checked.read;
-}
+done_blamed Check old new status f d =
+    lines_blamed d.played.answer Check old new status f (λ h. h) (λ h. h) d.played.ends d.played.read (λ r. r)
 done_blamed (Gen it) old new status f d = given_blamed (Gen it) old new _ status d
 done_blamed Help old new status f d = given_blamed Help old new _ status d
 done_blamed (Bulk it) old new status f d =
     still_blamed (Bulk it) old new status d.0 (in_bulk_alike it.count d.1.answer _ _ _ _ status d.1.tells)
-done_blamed Replay old new status f d = record {
-  platform =
-      unblamed _ _ _ (ap tells_platform_fault d.replayed.ends ∙ played_platform d.replayed.answer)
-      (same_standing old new (f.standing (λ h. h)));
-  store = unblamed _ _ _ (ap tells_store_fault d.replayed.ends ∙ played_store d.replayed.answer) (same_kept old new (f.kept (λ h. h)));
-  source = source_played d.replayed.answer status _ _ d.replayed.ends d.replayed.read;
-}
-done_blamed Slots old new status f d = record {
-  platform =
-      unblamed _ _ _ (ap tells_platform_fault d.played.ends ∙ played_platform d.played.answer)
-      (same_standing old new (f.standing (λ h. h)));
-  store = unblamed _ _ _ (ap tells_store_fault d.played.ends ∙ played_store d.played.answer) (same_kept old new (f.kept (λ h. h)));
-  source = source_played d.played.answer status _ _ d.played.ends d.played.read;
-}
-done_blamed (Receipts key) old new status f d = record {
-  platform =
-      unblamed _ _ _ (ap tells_platform_fault d.checked.ends ∙ played_platform d.checked.answer)
-      (same_standing old new (f.standing (λ h. h)));
-  store = unblamed _ _ _ (ap tells_store_fault d.checked.ends ∙ played_store d.checked.answer) (same_kept old new (f.kept (λ h. h)));
-  source = source_played d.checked.answer status _ _ d.checked.ends d.checked.read;
-}
-done_blamed Transfer old new status f d = record {
-  platform =
-      unblamed _ _ _ (ap tells_platform_fault d.played.ends ∙ played_platform d.played.answer)
-      (same_standing old new (f.standing (λ h. h)));
-  store = unblamed _ _ _ (ap tells_store_fault d.played.ends ∙ played_store d.played.answer) (same_kept old new (f.kept (λ h. h)));
-  source = source_played d.played.answer status _ _ d.played.ends d.played.read;
-}
+done_blamed Replay old new status f d =
+    lines_blamed d.played.answer Replay old new status f (λ h. h) (λ h. h) d.played.ends d.played.read (λ r. r)
+done_blamed Slots old new status f d =
+    lines_blamed d.played.answer Slots old new status f (λ h. h) (λ h. h) d.played.ends d.played.read (λ r. r)
+done_blamed (Receipts key) old new status f d =
+    lines_blamed d.played.answer (Receipts key) old new status f (λ h. h) (λ h. h) d.played.ends d.played.read (λ r. r)
+done_blamed Transfer old new status f d =
+    lines_blamed d.played.answer Transfer old new status f (λ h. h) (λ h. h) d.played.ends d.played.read (λ r. r)
 done_blamed Power old new status f d =
     let a = told_alike (power_told d.fault) _ _ _ _ status d.tells in
     let spares = power_spares d.fault in
@@ -544,47 +397,3 @@ pub blamed : (command : Command) (old new : Outside) (status : Status) → Frame
     → Blamed command old new status
 blamed command old new status f (inl d) = done_blamed command old new status f d
 blamed command old new status f (inr e) = ended_blamed command old new Memory status memory_alike e
-
--- the output, for each command
-
-output_ended : (old new : Outside) (end status : Status) → (end ≡ WriteFault → ⊥) → EndsAtOnce old new end status
-    → BlamesOutput status old.writes new.writes
-output_ended old new end status other e = output_stopped end status old.received new.received old.writes new.writes other e.stops
-
-pub no_usage : Usage ≡ WriteFault → ⊥
-no_usage h = cc
-
-pub no_memory : Memory ≡ WriteFault → ⊥
-no_memory h = cc
-
-output_given : (old new : Outside) (text : List ℕ) (status : Status) → GivesText text old new status
-    → BlamesOutput status old.writes new.writes
-output_given old new text status g = output_by g.given.result status _ _ g.given.counts g.given.ends
-
-output_done : (command : Command) (old new : Outside) (status : Status) → Does command old new status
-    → BlamesOutput status old.writes new.writes
-output_done (Init header) old new status d =
-    output_told (init_told d.answer) _ _ _ _ status (start_blames d.answer _ _ d.faults).other d.tells
-output_done Run old new status d =
-    output_run d.looks.fault d.found old.standing d.middle new.standing old.kept new.kept old.left new.left
-    old.received new.received old.reads new.reads old.writes new.writes status d.looks.finds d.goes
-output_done Check old new status d =
-    output_played d.checked.answer status d.middle new.received _ _ _ d.checked.wrote d.checked.ends d.stops
-output_done (Gen it) old new status d = output_given old new _ status d
-output_done Help old new status d = output_given old new _ status d
-output_done (Bulk it) old new status d =
-    output_told (bulk_told it.count d.1.answer) _ _ _ _ status (bulk_no_write it.count d.1.answer) d.1.tells
-output_done Replay old new status d =
-    output_played d.replayed.answer status d.middle new.received _ _ _ d.replayed.wrote d.replayed.ends d.stops
-output_done Slots old new status d = output_played d.played.answer status d.middle new.received _ _ _ d.played.wrote d.played.ends d.stops
-output_done (Receipts key) old new status d =
-    output_played d.checked.answer status d.middle new.received _ _ _ d.checked.wrote d.checked.ends d.stops
-output_done Transfer old new status d =
-    output_played d.played.answer status d.middle new.received _ _ _ d.played.wrote d.played.ends d.stops
-output_done Power old new status d = output_told (power_told d.fault) _ _ _ _ status (power_no_write d.fault) d.tells
-output_done Checkpoint old new status d = output_told (checkpoint_told d.answer) _ _ _ _ status (checkpoint_no_write d.answer) d.tells
-
-pub output_blamed : (command : Command) (old new : Outside) (status : Status) → DoesOrLacks command old new status
-    → BlamesOutput status old.writes new.writes
-output_blamed command old new status (inl d) = output_done command old new status d
-output_blamed command old new status (inr e) = output_ended old new Memory status no_memory e

@@ -1,5 +1,5 @@
 -- The theorem of slots, drawn from what was played and its stop line.
-use Rattle.std.proofs.Common.{◌≡◌, ℕ, List, [], Option, Result, refl, sym, subst, append-nil, inl, inr}
+use Rattle.std.proofs.Common.{◌≡◌, ℕ, List, Option, Result, refl, sym, append-nil, inl, inr}
 use Rattle.mm_base.specs.Streams.{Sends}
 use Rattle.mm_base.specs.declared.fault.WriteFault as write
 use Rattle.mm_slots.specs.Answers.{answers_text, end_lines}
@@ -12,7 +12,7 @@ use Rattle.mm_app.specs.Slots.{InterleavesRuns}
 use Rattle.mm_app.specs.Status.{stop_line}
 use Rattle.mm_app.specs.declared.status.Status.{Status}
 use Rattle.mm_app.specs.declared.status.Status.TheVariants.{Memory}
-use Rattle.mm_app.proofs.Played.{IsParted, answers_input, lacks_input}
+use Rattle.mm_app.proofs.Played.{IsParted, answers_input, ended_input, lacks_input}
 
 -- the last lines stand behind the answers
 slots_parted : IsParted AnswersLines AnswersAll
@@ -41,8 +41,7 @@ slots_parted lines written told = record {
 pub lacks_interleaved : (left received received' : Option (List ℕ)) (result : Result (Unit {0}) write.WriteFault) (status : Status)
     → status ≡ Memory → Sends received received' (stop_line Memory) result → InterleavesRuns left left received received' status
 lacks_interleaved left received received' result status is sends =
-    subst (λ s. InterleavesRuns left left received received' s) (sym is)
-    (lacks_input AnswersLines AnswersAll (inl (inl refl, refl)) left received received' result sends)
+    lacks_input AnswersLines AnswersAll (inl (inl refl, refl)) left received received' result status is sends
 
 -- by what the command did
 pub interleaved_by : (old new : Outside) (status : Status) → DoesOrLacks Slots old new status
@@ -52,6 +51,4 @@ interleaved_by old new status (inl does) =
     answers_input AnswersLines AnswersAll IsTooMuch slots_parted old.left new.left old.received does.middle new.received
     plays.taken plays.sent does.played.answer does.stops.result status plays.consumed plays.appended plays.told does.played.ends
     does.stops.sends
-interleaved_by old new status (inr lacks) =
-    subst (λ l. InterleavesRuns old.left l old.received new.received status) (sym lacks.still.left)
-    (lacks_interleaved old.left old.received new.received lacks.stops.stops.result status lacks.stops.ends lacks.stops.stops.sends)
+interleaved_by old new status (inr lacks) = ended_input AnswersLines AnswersAll (inl (inl refl, refl)) old new status lacks

@@ -1,4 +1,5 @@
 pub mod Blame
+pub mod OutputBlame
 pub mod Completing
 pub mod Ended
 pub mod Ending
@@ -8,4 +9,5 @@ pub mod Moving
 pub mod OneRun
 pub mod Played
 pub mod Sending
+pub mod Stopping
 mod RunningOnce

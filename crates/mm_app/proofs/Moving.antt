@@ -1,5 +1,5 @@
 -- The theorem of a transfer, drawn from what was played and its stop line.
-use Rattle.std.proofs.Common.{◌≡◌, ℕ, List, [], Option, Result, refl, sym, subst, append-nil, inl, inr}
+use Rattle.std.proofs.Common.{◌≡◌, ℕ, List, Option, Result, refl, sym, append-nil, inl, inr}
 use Rattle.mm_base.specs.Streams.{Sends}
 use Rattle.mm_base.specs.declared.fault.WriteFault as write
 use Rattle.mm_sides.specs.Folds.{both_by_digests}
@@ -14,7 +14,7 @@ use Rattle.mm_app.specs.Status.{stop_line}
 use Rattle.mm_app.specs.Transfer.{MovesOneRun}
 use Rattle.mm_app.specs.declared.status.Status.{Status}
 use Rattle.mm_app.specs.declared.status.Status.TheVariants.{Memory}
-use Rattle.mm_app.proofs.Played.{IsParted, answers_input, lacks_input}
+use Rattle.mm_app.proofs.Played.{IsParted, answers_input, ended_input, lacks_input}
 
 -- the last line stands behind the answers
 transfer_parted : IsParted AnswersLines AnswersAll
@@ -40,8 +40,7 @@ transfer_parted lines written told = record {
 pub lacks_moving : (left received received' : Option (List ℕ)) (result : Result (Unit {0}) write.WriteFault) (status : Status)
     → status ≡ Memory → Sends received received' (stop_line Memory) result → MovesOneRun left left received received' status
 lacks_moving left received received' result status is sends =
-    subst (λ s. MovesOneRun left left received received' s) (sym is)
-    (lacks_input AnswersLines AnswersAll (inl (refl, refl)) left received received' result sends)
+    lacks_input AnswersLines AnswersAll (inl (refl, refl)) left received received' result status is sends
 
 -- by what the command did
 pub moved_by : (old new : Outside) (status : Status) → DoesOrLacks Transfer old new status
@@ -51,6 +50,4 @@ moved_by old new status (inl does) =
     answers_input AnswersLines AnswersAll IsTooMuch transfer_parted old.left new.left old.received does.middle new.received
     plays.taken plays.sent does.played.answer does.stops.result status plays.consumed plays.appended plays.told does.played.ends
     does.stops.sends
-moved_by old new status (inr lacks) =
-    subst (λ l. MovesOneRun old.left l old.received new.received status) (sym lacks.still.left)
-    (lacks_moving old.left old.received new.received lacks.stops.stops.result status lacks.stops.ends lacks.stops.stops.sends)
+moved_by old new status (inr lacks) = ended_input AnswersLines AnswersAll (inl (refl, refl)) old new status lacks

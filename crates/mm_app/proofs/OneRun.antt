@@ -280,8 +280,8 @@ lacks_one_run left received received' result status is sends =
 pub headline_of : (old new : Outside) (status : Status) → DoesOrLacks Replay old new status
     → ReplaysOneRun old.left new.left old.received new.received status
 headline_of old new status (inl does) =
-    is_one_run old.left new.left old.received does.middle new.received does.replayed.answer does.stops.result status does.replayed.replays
-    does.replayed.ends does.stops.sends
+    is_one_run old.left new.left old.received does.middle new.received does.played.answer does.stops.result status does.played.plays
+    does.played.ends does.stops.sends
 headline_of old new status (inr lacks) =
     let stopped = lacks.stops.stops in
     subst (λ l. ReplaysOneRun old.left l old.received new.received status) (sym lacks.still.left)

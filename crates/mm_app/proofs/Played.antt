@@ -9,8 +9,10 @@ use Rattle.mm_base.specs.declared.replay_fault.ReplayFault.{ReplayFault}
 use Rattle.mm_base.specs.declared.replay_fault.ReplayFault.TheVariants as fault
 use Rattle.mm_play.specs.Takes.{IsFrontOf}
 use Rattle.mm_play.specs.Tells.{AnswersFirst, TellsBy, anywhere, before_line}
+use Rattle.mm_app.specs.Outside.{Outside}
 use Rattle.mm_app.specs.Played.{AnswersInput, TellsAnswers}
 use Rattle.mm_app.specs.Status.{status_of, stop_line}
+use Rattle.mm_app.specs.Telling.{EndsAtOnce}
 use Rattle.mm_app.specs.declared.status.Status.{Status}
 use Rattle.mm_app.specs.declared.status.Status.TheVariants.{Done, Memory, WriteFault}
 use Rattle.mm_app.proofs.Fronts.{for_taken, front_lines, undone, unsent_after}
@@ -56,10 +58,11 @@ cut_short some all lines rest whole written sent is front answered = record {
   whole = λ done. undone done;
 }
 
--- the same of all lines
-cut_short_all : (some all : List (List ℕ) → List ℕ → Type 0) → IsParted some all → (lines : List (List ℕ)) (written sent : List ℕ)
-    → IsFrontOf sent written → all lines written → TellsAnswers some all lines sent WriteFault
-cut_short_all some all parted lines written sent front told =
+-- all lines were answered, and a front of what was written for them went out
+all_answered : (some all : List (List ℕ) → List ℕ → Type 0) → IsParted some all → (lines : List (List ℕ)) (written sent : List ℕ)
+    (status : Status)
+    → IsFrontOf sent written → all lines written → (status ≡ Done → all lines sent) → TellsAnswers some all lines sent status
+all_answered some all parted lines written sent status front told whole =
     let it = parted lines written told in
     record {
       done = lines;
@@ -70,24 +73,7 @@ cut_short_all some all parted lines written sent front told =
       answered = it.answered;
       closes = inl (subst (λ w. all lines w) it.parts told);
       written = (front.0, front.1 ∙ it.parts);
-      whole = λ done. undone done;
-    }
-
--- all lines were answered
-finished : (some all : List (List ℕ) → List ℕ → Type 0) → IsParted some all → (lines : List (List ℕ)) (sent : List ℕ) → all lines sent
-    → TellsAnswers some all lines sent Done
-finished some all parted lines sent told =
-    let it = parted lines sent told in
-    record {
-      done = lines;
-      rest = [];
-      text = it.text;
-      last = it.last;
-      split = sym (append-nil lines);
-      answered = it.answered;
-      closes = inl (subst (λ w. all lines w) it.parts told);
-      written = ([], append-nil sent ∙ it.parts);
-      whole = λ done. told;
+      whole = whole;
     }
 
 -- what one says of its input whose output failed
@@ -99,7 +85,8 @@ at_write : (some all : List (List ℕ) → List ℕ → Type 0) → IsParted som
     → TellsAnswers some all (lines_of taken) sent WriteFault
 at_write some all parted taken sent (written, front, inl first) =
     cut_short some all first.done first.rest (lines_of taken) written sent first.split front first.answered
-at_write some all parted taken sent (written, front, inr told) = cut_short_all some all parted (lines_of taken) written sent front told
+at_write some all parted taken sent (written, front, inr told) =
+    all_answered some all parted (lines_of taken) written sent WriteFault front told (λ done. undone done)
 
 -- what one that a line stopped says
 abbrev StopsAt : (some : List (List ℕ) → List ℕ → Type 0) (stops : List (List ℕ) → List (List ℕ) → Type 0) → List ℕ → List ℕ → Type 0
@@ -118,7 +105,7 @@ at_end : {T : Type 0} (some all : List (List ℕ) → List ℕ → Type 0) (much
     → TellsAnswers some all (lines_of taken) (sent ++ stop) (status_of answer)
 at_end some all much parted left taken sent stop unsent (Ok report) told parts =
     subst (λ s. TellsAnswers some all (lines_of taken) s Done) (sym (unsent_after sent stop unsent parts))
-    (finished some all parted (lines_of taken) sent told)
+    (all_answered some all parted (lines_of taken) sent sent Done ([], append-nil sent) told (λ done. told))
 at_end some all much parted left taken sent stop unsent (Err fault.WriteFault) told parts =
     subst (λ s. TellsAnswers some all (lines_of taken) s WriteFault) (sym (unsent_after sent stop unsent parts))
     (at_write some all parted taken sent (for_taken left taken (WritesFront some all sent) told))
@@ -160,12 +147,20 @@ undone_memory h = cc
 
 -- memory was wanting before anything was read
 pub lacks_input : (some all : List (List ℕ) → List ℕ → Type 0) → some [] [] → (left received received' : Option (List ℕ))
-    (result : Result (Unit {0}) write.WriteFault) → Sends received received' (stop_line Memory) result
-    → AnswersInput some all left left received received' Memory
-lacks_input some all none left received received' result sends = record {
-  taken = [];
-  sent = sends.sent;
-  consumed = Consumes-nil left;
-  appended = sends.appended;
-  tells = stopped_behind some all [] [] [] [] sends.sent sends.unsent Memory refl none sends.parts undone_memory;
-}
+    (result : Result (Unit {0}) write.WriteFault) (status : Status)
+    → status ≡ Memory → Sends received received' (stop_line Memory) result → AnswersInput some all left left received received' status
+lacks_input some all none left received received' result status is sends =
+    subst (λ s. AnswersInput some all left left received received' s) (sym is) (record {
+      taken = [];
+      sent = sends.sent;
+      consumed = Consumes-nil left;
+      appended = sends.appended;
+      tells = stopped_behind some all [] [] [] [] sends.sent sends.unsent Memory refl none sends.parts undone_memory;
+    })
+
+-- the same, where the command ended at once
+pub ended_input : (some all : List (List ℕ) → List ℕ → Type 0) → some [] [] → (old new : Outside) (status : Status)
+    → EndsAtOnce old new Memory status → AnswersInput some all old.left new.left old.received new.received status
+ended_input some all none old new status ends =
+    subst (λ l. AnswersInput some all old.left l old.received new.received status) (sym ends.still.left)
+    (lacks_input some all none old.left old.received new.received ends.stops.stops.result status ends.stops.ends ends.stops.stops.sends)

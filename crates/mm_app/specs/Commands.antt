@@ -1,22 +1,23 @@
 -- What the words of the command line do.
 use Rattle.std.specs.Prelude.{◌⊎◌, ℕ, List}
+use Rattle.mm_check.specs.Checks.{ChecksRun}
 use Rattle.mm_gen.specs.Schedules.{schedule_text}
 use Rattle.mm_words.specs.Commands.{SpellsCommand, help_text}
 use Rattle.mm_words.specs.declared.command.Command.{Command}
 use Rattle.mm_words.specs.declared.command.Command.TheVariants.{Init, Run, Checkpoint, Power, Replay, Check, Gen, Bulk, Slots, Receipts, Transfer, Help}
 use Rattle.mm_host.specs.Init.{devices}
+use Rattle.mm_replay.specs.Replays.{Replays}
+use Rattle.mm_slots.specs.Plays.{PlaysSlots}
+use Rattle.mm_transfer.specs.Plays.{PlaysTransfer}
+use Rattle.mm_app.specs.Answering.{PlaysAndStops}
 use Rattle.mm_app.specs.Bulk.{RunsInBulk}
-use Rattle.mm_app.specs.Checking.{ChecksRunAndStops}
 use Rattle.mm_app.specs.Checkpoint.{Checkpoints}
 use Rattle.mm_app.specs.Outside.{Outside, IsStill}
 use Rattle.mm_app.specs.Power.{LosesPower}
-use Rattle.mm_app.specs.Receipts.{ChecksReceiptsAndStops}
-use Rattle.mm_app.specs.Replaying.{ReplaysAndStops}
+use Rattle.mm_app.specs.Receipts.{ChecksUnder}
 use Rattle.mm_app.specs.Running.{RunsInstance}
-use Rattle.mm_app.specs.Slots.{PlaysSlotsAndStops}
 use Rattle.mm_app.specs.Starting.{StartsInstance}
 use Rattle.mm_app.specs.Telling.{EndsAtOnce, GivesText}
-use Rattle.mm_app.specs.Transfer.{PlaysTransferAndStops}
 use Rattle.mm_app.specs.declared.status.Status.{Status}
 use Rattle.mm_app.specs.declared.status.Status.TheVariants.{Memory}
 
@@ -35,23 +36,23 @@ Does Checkpoint old new status =
 Does Power old new status =
     LosesPower old.standing new.standing old.received new.received old.writes new.writes status
 Does Replay old new status =
-    ReplaysAndStops old.left new.left old.received new.received old.reads new.reads old.writes
-    new.writes status
+    PlaysAndStops Replays old.left new.left old.received new.received old.reads new.reads
+    old.writes new.writes status
 Does Check old new status =
-    ChecksRunAndStops old.left new.left old.received new.received old.reads new.reads old.writes
-    new.writes status
+    PlaysAndStops ChecksRun old.left new.left old.received new.received old.reads new.reads
+    old.writes new.writes status
 Does (Gen it) old new status = GivesText (schedule_text it.number it.count it.header) old new status
 Does (Bulk it) old new status =
     IsStill old new × RunsInBulk it old.received new.received old.writes new.writes status
 Does Slots old new status =
-    PlaysSlotsAndStops old.left new.left old.received new.received old.reads new.reads old.writes
-    new.writes status
+    PlaysAndStops PlaysSlots old.left new.left old.received new.received old.reads new.reads
+    old.writes new.writes status
 Does (Receipts key) old new status =
-    ChecksReceiptsAndStops key old.left new.left old.received new.received old.reads new.reads
+    PlaysAndStops (ChecksUnder key) old.left new.left old.received new.received old.reads new.reads
     old.writes new.writes status
 Does Transfer old new status =
-    PlaysTransferAndStops old.left new.left old.received new.received old.reads new.reads old.writes
-    new.writes status
+    PlaysAndStops PlaysTransfer old.left new.left old.received new.received old.reads new.reads
+    old.writes new.writes status
 Does Help old new status = GivesText help_text old new status
 
 -- The command was done, or memory was wanting before it.

@@ -1,6 +1,6 @@
+pub mod Answering
 pub mod Blame
 pub mod Bulk
-pub mod Checking
 pub mod Checkpoint
 pub mod Commands
 pub mod Completeness
@@ -9,7 +9,6 @@ pub mod Outside
 pub mod Played
 pub mod Power
 pub mod Receipts
-pub mod Replaying
 pub mod Running
 pub mod Slots
 pub mod Starting

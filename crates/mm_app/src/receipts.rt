@@ -3,29 +3,15 @@
 ghost use Rattle.std.specs.Prelude.{◌≡◌, ℕ, List, Some, Ok};
 ghost use Rattle.mm_play.specs.Play.{run_of};
 ghost use Rattle.mm_receipts.specs.Checking.{Checking, first_checking, receipts_answer, receipts_closing};
-ghost use Rattle.mm_app.specs.Receipts.{ChecksReceiptsAndStops, ReceiptsChecked};
+ghost use Rattle.mm_app.specs.Answering.{PlaysAndStops};
+ghost use Rattle.mm_app.specs.Receipts.{ChecksUnder};
 ghost use Rattle.mm_app.specs.Status.{EndsUnrefused};
 
 use crate::status::Status;
-use crate::stop::write_stop;
+use crate::telling::answered;
 use mm_base::{Sink, Source};
 use mm_receipts::receipts;
 use std::alloc::Global;
-
-// Checks the receipts, and says how that ended.
-fn checked<S: Source, K: Sink>(alloc: Global, key: &[u8; 32], input: &mut S, out: &mut K) -> Status
-    ensures checked { ReceiptsChecked key.now (S.left input.old) (S.left input.new)
-        (K.received out.old) (K.received out.new) (S.faults input.old) (S.faults input.new)
-        (K.faults out.old) (K.faults out.new) result }
-    ensures complete { (bytes : List ℕ) → (next : Checking) → S.left input.old ≡ Some bytes
-        → (run_of receipts_answer receipts_closing (first_checking key.now) bytes).outcome ≡ Ok next
-        → EndsUnrefused result }
-{
-    match receipts(alloc, key, input, out) {
-        Ok(_) => Status::Done,
-        Err(fault) => Status::of(fault),
-    }
-}
 
 /// Checks the receipts that the input gives, and writes the stop line.
 pub fn check_receipts<S: Source, K: Sink>(
@@ -34,14 +20,13 @@ pub fn check_receipts<S: Source, K: Sink>(
     input: &mut S,
     out: &mut K,
 ) -> Status
-    ensures checks { ChecksReceiptsAndStops key.now (S.left input.old) (S.left input.new)
+    ensures checks { PlaysAndStops (ChecksUnder key.now) (S.left input.old) (S.left input.new)
         (K.received out.old) (K.received out.new) (S.faults input.old) (S.faults input.new)
         (K.faults out.old) (K.faults out.new) result }
     ensures complete { (bytes : List ℕ) → (next : Checking) → S.left input.old ≡ Some bytes
         → (run_of receipts_answer receipts_closing (first_checking key.now) bytes).outcome ≡ Ok next
         → EndsUnrefused result }
 {
-    let status = checked(alloc, key, input, out);
-    let _ = write_stop(status, out);
-    status
+    let answer = receipts(alloc, key, input, out);
+    answered(&answer, out)
 }

@@ -3,7 +3,6 @@
 ghost use Rattle.mm_app.specs.Running.{LooksAtInstance, RunsInstance, SeesInstance, ServedInstance, ServesAndStops};
 
 use crate::status::Status;
-use crate::stop::write_stop;
 use crate::telling::stopped;
 use mm_base::{CELL_LENGTH, Sink, Source};
 use mm_host::session;
@@ -76,8 +75,7 @@ fn serve_and_stop<P: Platform, T: Store, S: Source, K: Sink>(
         (K.faults out.old) (K.faults out.new) result }
 {
     let status = serve(alloc, header, platform, store, input, out);
-    let _ = write_stop(status, out);
-    status
+    stopped(status, out)
 }
 
 // Serves the lines, and says how that ended.

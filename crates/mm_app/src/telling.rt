@@ -1,11 +1,13 @@
 //! What a command writes last: its text, or a stop line.
 
 ghost use Rattle.std.specs.Prelude.{◌≡◌};
-ghost use Rattle.mm_app.specs.Telling.{StopsAs, WritesText};
+ghost use Rattle.mm_play.specs.Plays.{IsUnrefused};
+ghost use Rattle.mm_app.specs.Status.{EndsUnrefused, status_of};
+ghost use Rattle.mm_app.specs.Telling.{StopsAs, TellsStop, WritesText};
 
 use crate::status::Status;
 use crate::stop::write_stop;
-use mm_base::{Sink, write_all};
+use mm_base::{ReplayFault, Sink, write_all};
 
 /// Writes the stop line of a status.
 pub fn stopped<K: Sink>(status: Status, out: &mut K) -> Status
@@ -15,6 +17,20 @@ pub fn stopped<K: Sink>(status: Status, out: &mut K) -> Status
 {
     let _ = write_stop(status, out);
     status
+}
+
+/// Writes the stop line of what lines were answered.
+pub fn answered<T, K: Sink>(answer: &Result<T, ReplayFault>, out: &mut K) -> Status
+    ensures ends { result ≡ status_of answer.now }
+    ensures stops { TellsStop (K.received out.old) (K.received out.new) (K.faults out.old)
+        (K.faults out.new) result }
+    ensures unrefused { IsUnrefused answer.now → EndsUnrefused result }
+{
+    let status = match answer {
+        Ok(_) => Status::Done,
+        Err(fault) => Status::of(*fault),
+    };
+    stopped(status, out)
 }
 
 /// Writes a text.

@@ -1,15 +1,9 @@
+use Rattle.mm_check.specs.Checks.{ChecksRun}
+use Rattle.mm_app.proofs.Stopping.{plays_and_stops}
 use Rattle.mm_app.proofs.check.check_run.Goals as goal
 
 pub returns-clause-checks : goal.returns-clause-checks
-returns-clause-checks g c = record {
-  middle = g.K.Sink.received c.checked-status.new.out;
-  count = g.K.Sink.faults c.checked-status.new.out;
-  checked = c.checked-status.ensures.checked;
-  stops = record {
-    result = c.write_stop.result;
-    sends = c.write_stop.ensures.sent;
-    counts = c.write_stop.ensures.counted;
-    done = c.write_stop.ensures.done;
-    failed = c.write_stop.ensures.failed;
-  };
-}
+returns-clause-checks g c =
+    let it = c.check-answer in
+    plays_and_stops ChecksRun _ _ _ _ _ _ _ _ _ _ it.result _ it.ensures.checks it.ensures.read it.ensures.wrote
+    c.answered.ensures.ends c.answered.ensures.stops

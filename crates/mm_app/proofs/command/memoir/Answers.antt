@@ -1,33 +1,58 @@
-use Rattle.std.proofs.Common.{ap, refl, subst, sym}
+use Rattle.std.proofs.Common.{ap, map, refl, subst, sym}
 use Rattle.mm_play.specs.Plays.{IsBlamed}
+use Rattle.mm_words.specs.Commands.{SpellsCommand}
 use Rattle.mm_words.specs.declared.command.Command.{Command}
 use Rattle.mm_words.specs.declared.command.Command.TheVariants.{Check, Receipts, Replay, Slots, Transfer}
 use Rattle.mm_words.proofs.OneCommand.{one_command}
 use Rattle.mm_app.specs.Blame.{BlamesSource, tells_platform_fault, tells_store_fault}
 use Rattle.mm_app.specs.Commands.{DoesOrLacks}
 use Rattle.mm_app.specs.Completeness.{IsDoneOrFailed}
-use Rattle.mm_app.specs.Outside.{outside}
+use Rattle.mm_app.specs.Outside.{Outside, outside}
 use Rattle.mm_app.specs.Status.{EndsUnrefused}
 use Rattle.mm_app.specs.declared.status.Status.{Status}
-use Rattle.mm_app.proofs.Blame.{Frames, blamed, memory_alike, no_memory, no_usage, output_blamed, output_stopped, stopped_blamed}
+use Rattle.mm_app.proofs.Blame.{Blamed, Frames, blamed, memory_alike, stopped_blamed}
+use Rattle.mm_app.proofs.OutputBlame.{no_memory, no_usage, output_blamed, output_stopped}
 use Rattle.mm_app.proofs.Completing.{may_be_done}
 use Rattle.mm_app.proofs.Interleaving.{interleaved_by, lacks_interleaved}
 use Rattle.mm_app.proofs.Moving.{lacks_moving, moved_by}
 use Rattle.mm_app.proofs.OneRun.{headline_of, lacks_one_run}
+use Rattle.mm_app.proofs.command.memoir.Given.{Over}
+use Rattle.mm_app.proofs.command.memoir.Goals.{After-done}
 use Rattle.mm_app.proofs.command.memoir.Goals as goal
+
+-- what the objects told before the command, and after it
+abbrev told_before : (g : Over) → After-done g → Outside
+told_before g c =
+    outside (g.P.Device.standing c.args.platform.now) (g.T.Store.kept c.args.store.now) (g.S.Source.left c.args.input.now)
+    (g.S.Source.faults c.args.input.now) (g.E.Source.left c.args.entropy.now) (g.E.Source.faults c.args.entropy.now)
+    (g.K.Sink.received c.args.out.now) (g.K.Sink.faults c.args.out.now)
+
+abbrev told_after : (g : Over) → After-done g → Outside
+told_after g c =
+    outside (g.P.Device.standing c.done.new.platform) (g.T.Store.kept c.done.new.store) (g.S.Source.left c.done.new.input)
+    (g.S.Source.faults c.done.new.input) (g.E.Source.left c.done.new.entropy) (g.E.Source.faults c.done.new.entropy)
+    (g.K.Sink.received c.done.new.out) (g.K.Sink.faults c.done.new.out)
+
+-- what the command did that these words spell
+did : (g : Over) (c : After-done g) (command : Command) → SpellsCommand command (map (λ s. s.now) c.args.words.now)
+    → DoesOrLacks command (told_before g c) (told_after g c) c.done.result
+did g c command spells =
+    subst (λ (it : Command). DoesOrLacks it (told_before g c) (told_after g c) c.done.result)
+    (one_command _ c.in-Ok.command command c.in-Ok.ensures.ok spells) c.done.ensures.does
+
+-- whom its status blames
+blames : (g : Over) (c : After-done g) → Blamed c.in-Ok.command (told_before g c) (told_after g c) c.done.result
+blames g c =
+    let frames : Frames c.in-Ok.command (told_before g c) (told_after g c) = record {
+      standing = λ unused. ap (λ p. g.P.Device.standing p) (c.done.ensures.platform unused);
+      kept = λ unused. ap (λ t. g.T.Store.kept t) (c.done.ensures.store unused);
+      reads = λ unused. ap (λ i. g.S.Source.faults i) (c.done.ensures.input unused);
+    } in
+    blamed c.in-Ok.command (told_before g c) (told_after g c) c.done.result frames c.done.ensures.does
 
 pub returns-in-Ok-clause-does : goal.returns-in-Ok-clause-does
 returns-in-Ok-clause-does g c command spells =
-    let old = outside (g.P.Device.standing c.args.platform.now) (g.T.Store.kept c.args.store.now) (g.S.Source.left c.args.input.now)
-    (g.S.Source.faults c.args.input.now)
-    (g.E.Source.left c.args.entropy.now) (g.E.Source.faults c.args.entropy.now) (g.K.Sink.received c.args.out.now)
-    (g.K.Sink.faults c.args.out.now) in
-    let new = outside (g.P.Device.standing c.done.new.platform) (g.T.Store.kept c.done.new.store) (g.S.Source.left c.done.new.input)
-    (g.S.Source.faults c.done.new.input)
-    (g.E.Source.left c.done.new.entropy) (g.E.Source.faults c.done.new.entropy) (g.K.Sink.received c.done.new.out)
-    (g.K.Sink.faults c.done.new.out) in
-    subst (λ (it : Command). DoesOrLacks it old new c.done.result)
-    (one_command _ c.in-Ok.command command c.in-Ok.ensures.ok spells) c.done.ensures.does
+    did g (goal.at.returns-in-Ok-clause-does g c).After-done command spells
 
 pub returns-in-Ok-clause-complete : goal.returns-in-Ok-clause-complete
 returns-in-Ok-clause-complete g c spells = c.done.ensures.complete (one_command _ c.in-Ok.command Replay c.in-Ok.ensures.ok spells)
@@ -38,81 +63,28 @@ returns-in-Ok-clause-receipts g c key spells =
 
 pub returns-in-Ok-clause-headline : goal.returns-in-Ok-clause-headline
 returns-in-Ok-clause-headline g c spells =
-    let old = outside (g.P.Device.standing c.args.platform.now) (g.T.Store.kept c.args.store.now) (g.S.Source.left c.args.input.now)
-    (g.S.Source.faults c.args.input.now)
-    (g.E.Source.left c.args.entropy.now) (g.E.Source.faults c.args.entropy.now) (g.K.Sink.received c.args.out.now)
-    (g.K.Sink.faults c.args.out.now) in
-    let new = outside (g.P.Device.standing c.done.new.platform) (g.T.Store.kept c.done.new.store) (g.S.Source.left c.done.new.input)
-    (g.S.Source.faults c.done.new.input)
-    (g.E.Source.left c.done.new.entropy) (g.E.Source.faults c.done.new.entropy) (g.K.Sink.received c.done.new.out)
-    (g.K.Sink.faults c.done.new.out) in
-    headline_of old new c.done.result
-    (subst (λ (it : Command). DoesOrLacks it old new c.done.result)
-    (one_command _ c.in-Ok.command Replay c.in-Ok.ensures.ok spells) c.done.ensures.does)
+    let it = (goal.at.returns-in-Ok-clause-headline g c).After-done in
+    headline_of (told_before g it) (told_after g it) c.done.result
+    (did g it Replay spells)
 
 pub returns-in-Ok-clause-device : goal.returns-in-Ok-clause-device
 returns-in-Ok-clause-device g c =
-    let old = outside (g.P.Device.standing c.args.platform.now) (g.T.Store.kept c.args.store.now) (g.S.Source.left c.args.input.now)
-    (g.S.Source.faults c.args.input.now)
-    (g.E.Source.left c.args.entropy.now) (g.E.Source.faults c.args.entropy.now) (g.K.Sink.received c.args.out.now)
-    (g.K.Sink.faults c.args.out.now) in
-    let new = outside (g.P.Device.standing c.done.new.platform) (g.T.Store.kept c.done.new.store) (g.S.Source.left c.done.new.input)
-    (g.S.Source.faults c.done.new.input)
-    (g.E.Source.left c.done.new.entropy) (g.E.Source.faults c.done.new.entropy) (g.K.Sink.received c.done.new.out)
-    (g.K.Sink.faults c.done.new.out) in
-    let frames : Frames c.in-Ok.command old new = record {
-      standing = λ unused. ap (λ p. g.P.Device.standing p) (c.done.ensures.platform unused);
-      kept = λ unused. ap (λ t. g.T.Store.kept t) (c.done.ensures.store unused);
-      reads = λ unused. ap (λ i. g.S.Source.faults i) (c.done.ensures.input unused);
-    } in
-    (blamed c.in-Ok.command old new c.done.result frames c.done.ensures.does).platform
+    (blames g (goal.at.returns-in-Ok-clause-device g c).After-done).platform
 
 pub returns-in-Ok-clause-disk : goal.returns-in-Ok-clause-disk
 returns-in-Ok-clause-disk g c =
-    let old = outside (g.P.Device.standing c.args.platform.now) (g.T.Store.kept c.args.store.now) (g.S.Source.left c.args.input.now)
-    (g.S.Source.faults c.args.input.now)
-    (g.E.Source.left c.args.entropy.now) (g.E.Source.faults c.args.entropy.now) (g.K.Sink.received c.args.out.now)
-    (g.K.Sink.faults c.args.out.now) in
-    let new = outside (g.P.Device.standing c.done.new.platform) (g.T.Store.kept c.done.new.store) (g.S.Source.left c.done.new.input)
-    (g.S.Source.faults c.done.new.input)
-    (g.E.Source.left c.done.new.entropy) (g.E.Source.faults c.done.new.entropy) (g.K.Sink.received c.done.new.out)
-    (g.K.Sink.faults c.done.new.out) in
-    let frames : Frames c.in-Ok.command old new = record {
-      standing = λ unused. ap (λ p. g.P.Device.standing p) (c.done.ensures.platform unused);
-      kept = λ unused. ap (λ t. g.T.Store.kept t) (c.done.ensures.store unused);
-      reads = λ unused. ap (λ i. g.S.Source.faults i) (c.done.ensures.input unused);
-    } in
-    (blamed c.in-Ok.command old new c.done.result frames c.done.ensures.does).store
+    (blames g (goal.at.returns-in-Ok-clause-disk g c).After-done).store
 
 pub returns-in-Ok-clause-source : goal.returns-in-Ok-clause-source
 returns-in-Ok-clause-source g c command spells =
-    let old = outside (g.P.Device.standing c.args.platform.now) (g.T.Store.kept c.args.store.now) (g.S.Source.left c.args.input.now)
-    (g.S.Source.faults c.args.input.now)
-    (g.E.Source.left c.args.entropy.now) (g.E.Source.faults c.args.entropy.now) (g.K.Sink.received c.args.out.now)
-    (g.K.Sink.faults c.args.out.now) in
-    let new = outside (g.P.Device.standing c.done.new.platform) (g.T.Store.kept c.done.new.store) (g.S.Source.left c.done.new.input)
-    (g.S.Source.faults c.done.new.input)
-    (g.E.Source.left c.done.new.entropy) (g.E.Source.faults c.done.new.entropy) (g.K.Sink.received c.done.new.out)
-    (g.K.Sink.faults c.done.new.out) in
-    let frames : Frames c.in-Ok.command old new = record {
-      standing = λ unused. ap (λ p. g.P.Device.standing p) (c.done.ensures.platform unused);
-      kept = λ unused. ap (λ t. g.T.Store.kept t) (c.done.ensures.store unused);
-      reads = λ unused. ap (λ i. g.S.Source.faults i) (c.done.ensures.input unused);
-    } in
-    subst (λ (it : Command). BlamesSource it old new c.done.result) (one_command _ c.in-Ok.command command c.in-Ok.ensures.ok spells)
-    (blamed c.in-Ok.command old new c.done.result frames c.done.ensures.does).source
+    let it = (goal.at.returns-in-Ok-clause-source g c).After-done in
+    subst (λ (said : Command). BlamesSource said (told_before g it) (told_after g it) c.done.result)
+    (one_command _ c.in-Ok.command command c.in-Ok.ensures.ok spells) (blames g it).source
 
 pub returns-in-Ok-clause-wrote : goal.returns-in-Ok-clause-wrote
 returns-in-Ok-clause-wrote g c =
-    let old = outside (g.P.Device.standing c.args.platform.now) (g.T.Store.kept c.args.store.now) (g.S.Source.left c.args.input.now)
-    (g.S.Source.faults c.args.input.now)
-    (g.E.Source.left c.args.entropy.now) (g.E.Source.faults c.args.entropy.now) (g.K.Sink.received c.args.out.now)
-    (g.K.Sink.faults c.args.out.now) in
-    let new = outside (g.P.Device.standing c.done.new.platform) (g.T.Store.kept c.done.new.store) (g.S.Source.left c.done.new.input)
-    (g.S.Source.faults c.done.new.input)
-    (g.E.Source.left c.done.new.entropy) (g.E.Source.faults c.done.new.entropy) (g.K.Sink.received c.done.new.out)
-    (g.K.Sink.faults c.done.new.out) in
-    output_blamed c.in-Ok.command old new c.done.result c.done.ensures.does
+    let it = (goal.at.returns-in-Ok-clause-wrote g c).After-done in
+    output_blamed c.in-Ok.command (told_before g it) (told_after g it) c.done.result c.done.ensures.does
 
 pub returns-in-Err-Usage-clause-complete : goal.returns-in-Err-Usage-clause-complete
 returns-in-Err-Usage-clause-complete g c spells bytes next left run =
@@ -199,17 +171,9 @@ returns-in-Err-Memory-clause-check g c spells bytes next left run = subst EndsUn
 
 pub returns-in-Ok-clause-host : goal.returns-in-Ok-clause-host
 returns-in-Ok-clause-host g c command spells can =
-    let old = outside (g.P.Device.standing c.args.platform.now) (g.T.Store.kept c.args.store.now) (g.S.Source.left c.args.input.now)
-    (g.S.Source.faults c.args.input.now)
-    (g.E.Source.left c.args.entropy.now) (g.E.Source.faults c.args.entropy.now) (g.K.Sink.received c.args.out.now)
-    (g.K.Sink.faults c.args.out.now) in
-    let new = outside (g.P.Device.standing c.done.new.platform) (g.T.Store.kept c.done.new.store) (g.S.Source.left c.done.new.input)
-    (g.S.Source.faults c.done.new.input)
-    (g.E.Source.left c.done.new.entropy) (g.E.Source.faults c.done.new.entropy) (g.K.Sink.received c.done.new.out)
-    (g.K.Sink.faults c.done.new.out) in
-    may_be_done command old new c.done.result can
-    (subst (λ (it : Command). DoesOrLacks it old new c.done.result)
-    (one_command _ c.in-Ok.command command c.in-Ok.ensures.ok spells) c.done.ensures.does)
+    let it = (goal.at.returns-in-Ok-clause-host g c).After-done in
+    may_be_done command (told_before g it) (told_after g it) c.done.result can
+    (did g it command spells)
 
 pub returns-in-Err-Usage-clause-host : goal.returns-in-Err-Usage-clause-host
 returns-in-Err-Usage-clause-host g c command spells can =
@@ -230,17 +194,9 @@ returns-in-Err-Memory-clause-slots g c spells bytes next left run = subst EndsUn
 
 pub returns-in-Ok-clause-interleaved : goal.returns-in-Ok-clause-interleaved
 returns-in-Ok-clause-interleaved g c spells =
-    let old = outside (g.P.Device.standing c.args.platform.now) (g.T.Store.kept c.args.store.now) (g.S.Source.left c.args.input.now)
-    (g.S.Source.faults c.args.input.now)
-    (g.E.Source.left c.args.entropy.now) (g.E.Source.faults c.args.entropy.now) (g.K.Sink.received c.args.out.now)
-    (g.K.Sink.faults c.args.out.now) in
-    let new = outside (g.P.Device.standing c.done.new.platform) (g.T.Store.kept c.done.new.store) (g.S.Source.left c.done.new.input)
-    (g.S.Source.faults c.done.new.input)
-    (g.E.Source.left c.done.new.entropy) (g.E.Source.faults c.done.new.entropy) (g.K.Sink.received c.done.new.out)
-    (g.K.Sink.faults c.done.new.out) in
-    interleaved_by old new c.done.result
-    (subst (λ (it : Command). DoesOrLacks it old new c.done.result)
-    (one_command _ c.in-Ok.command Slots c.in-Ok.ensures.ok spells) c.done.ensures.does)
+    let it = (goal.at.returns-in-Ok-clause-interleaved g c).After-done in
+    interleaved_by (told_before g it) (told_after g it) c.done.result
+    (did g it Slots spells)
 
 pub returns-in-Err-Usage-clause-interleaved : goal.returns-in-Err-Usage-clause-interleaved
 returns-in-Err-Usage-clause-interleaved g c spells = absurd (c.in-Err-Usage.ensures.usage (rw c.in-Err-Usage.field-0-is refl) Slots spells)
@@ -261,17 +217,9 @@ returns-in-Err-Memory-clause-transfer g c spells bytes next left run = subst End
 
 pub returns-in-Ok-clause-one_transfer : goal.returns-in-Ok-clause-one_transfer
 returns-in-Ok-clause-one_transfer g c spells =
-    let old = outside (g.P.Device.standing c.args.platform.now) (g.T.Store.kept c.args.store.now) (g.S.Source.left c.args.input.now)
-    (g.S.Source.faults c.args.input.now)
-    (g.E.Source.left c.args.entropy.now) (g.E.Source.faults c.args.entropy.now) (g.K.Sink.received c.args.out.now)
-    (g.K.Sink.faults c.args.out.now) in
-    let new = outside (g.P.Device.standing c.done.new.platform) (g.T.Store.kept c.done.new.store) (g.S.Source.left c.done.new.input)
-    (g.S.Source.faults c.done.new.input)
-    (g.E.Source.left c.done.new.entropy) (g.E.Source.faults c.done.new.entropy) (g.K.Sink.received c.done.new.out)
-    (g.K.Sink.faults c.done.new.out) in
-    moved_by old new c.done.result
-    (subst (λ (it : Command). DoesOrLacks it old new c.done.result)
-    (one_command _ c.in-Ok.command Transfer c.in-Ok.ensures.ok spells) c.done.ensures.does)
+    let it = (goal.at.returns-in-Ok-clause-one_transfer g c).After-done in
+    moved_by (told_before g it) (told_after g it) c.done.result
+    (did g it Transfer spells)
 
 pub returns-in-Err-Usage-clause-one_transfer : goal.returns-in-Err-Usage-clause-one_transfer
 returns-in-Err-Usage-clause-one_transfer g c spells =

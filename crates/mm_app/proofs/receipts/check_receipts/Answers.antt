@@ -1,15 +1,9 @@
+use Rattle.mm_app.specs.Receipts.{ChecksUnder}
+use Rattle.mm_app.proofs.Stopping.{plays_and_stops}
 use Rattle.mm_app.proofs.receipts.check_receipts.Goals as goal
 
 pub returns-clause-checks : goal.returns-clause-checks
-returns-clause-checks g c = record {
-  middle = g.K.Sink.received c.checked-status.new.out;
-  count = g.K.Sink.faults c.checked-status.new.out;
-  checked = c.checked-status.ensures.checked;
-  stops = record {
-    result = c.write_stop.result;
-    sends = c.write_stop.ensures.sent;
-    counts = c.write_stop.ensures.counted;
-    done = c.write_stop.ensures.done;
-    failed = c.write_stop.ensures.failed;
-  };
-}
+returns-clause-checks g c =
+    let it = c.receipts-answer.ensures in
+    plays_and_stops (ChecksUnder c.args.key.now) _ _ _ _ _ _ _ _ _ _ c.receipts-answer.result _
+    (record { checks = it.checks; honest = it.honest }) it.read it.wrote c.answered.ensures.ends c.answered.ensures.stops
