@@ -25,7 +25,8 @@ use Rattle.mm_call.specs.Premises.{AreAsked, AreShown, IsIdle}
 use Rattle.mm_call.specs.Standing.{shown}
 use Rattle.mm_call.specs.Tied.{standing_items}
 use Rattle.mm_call.proofs.OptHolding.{is_agrees}
-use Rattle.mm_call.proofs.OptLaw.{sight_is, opt_calls_agree_by_lists}
+use Rattle.mm_call.proofs.OptLaw.{sight_is}
+use Rattle.mm_call.proofs.OptAgree.{opt_calls_agree_by_lists}
 use Rattle.mm_call.proofs.OptShapes.{two_reads}
 use Rattle.mm_call.proofs.OptShut.{bare, found_lists}
 use Rattle.mm_call.proofs.Showing.{asked_by, asked_of}

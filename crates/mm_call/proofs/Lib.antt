@@ -22,6 +22,7 @@ pub mod BasicLaw
 pub mod OptShapes
 pub mod OptShut
 pub mod OptLaw
+pub mod OptAgree
 pub mod OptMay
 pub mod Continuing
 pub mod Checkpoints

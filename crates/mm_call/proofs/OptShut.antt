@@ -1,5 +1,5 @@
 -- Opt: while no segment is open, neither the register nor its items count.
-use Rattle.std.proofs.Common.{ℕ, ◌≡◌, ◌+◌, Bool, true, false, ◌&&◌, List, [], ◌∷◌, ◌++◌, map, Result, Err, refl, sym, ap, ◌∙◌, subst, inl, inr}
+use Rattle.std.proofs.Common.{ℕ, ◌≡◌, ◌+◌, Bool, true, false, ◌&&◌, List, [], ◌∷◌, ◌++◌, map, Result, Err, refl, sym, ap, ◌∙◌, subst}
 use Rattle.std.specs.Prelude.{if◌then◌else◌, nat_eq}
 use Rattle.std.specs.List.{AllByRecursion, Contains, fold}
 use Rattle.mm_digest.specs.declared.variant.Variant.TheVariants.{Opt}
@@ -17,7 +17,7 @@ use Rattle.mm_model.specs.Moves.{Digests, made, MayMove, IsAllowed, Brings, IsOu
 use Rattle.mm_model.specs.declared.refusal.Refusal.{Refusal}
 use Rattle.mm_model.specs.declared.refusal.Refusal.TheVariants as refusal
 use Rattle.mm_seal.specs.Parts.{parts_of}
-use Rattle.mm_model.proofs.Moves.{sound_moved}
+use Rattle.mm_model.proofs.Moves.{sound_items, sound_moved}
 use Rattle.mm_model.proofs.MovedDigests.{outside_moved}
 use Rattle.mm_call.specs.Levels.{Level, by_lists, by_digests, all_made, Agrees}
 use Rattle.mm_call.specs.Found.{Found, found_by_verdict, found_at}
@@ -163,26 +163,8 @@ outside_items others y items e h =
     let shut : P false y.items = subst (λ f. P f y.items) e h in
     subst (λ f. P f items) (sym e) shut
 
-sound_shut : (y : History) (items : List Entry) → y.is_open ≡ false → IsSound y → IsSound (record y { items = items })
-sound_shut y items e sound = record {
-  open_is = sound.open_is;
-  shut_is = sound.shut_is;
-  filled = sound.filled;
-  history = elim sound.history [
-    | inl c ↦ inl (record { clean = c.clean; batches = c.batches })
-    | inr m ↦ inr (record {
-      before = m.before;
-      last = m.last;
-      rest = m.rest;
-      split = m.split;
-      clean = m.clean;
-      marred = m.marred;
-      shut = m.shut;
-      batches = m.batches;
-    })
-  ];
-  register = λ is_open. let clash = sym e ∙ is_open in absurd (cc);
-}
+pub sound_shut : (y : History) (items : List Entry) → y.is_open ≡ false → IsSound y → IsSound (record y { items = items })
+sound_shut y items e sound = sound_items y items sound (λ is_open. let clash = sym e ∙ is_open in absurd (cc))
 
 pub within_items : (meaning : Meaning) (key barrier : List ℕ) (all others : List (List ℕ)) (asked : List Batch) (y : History)
     (items : List Entry)

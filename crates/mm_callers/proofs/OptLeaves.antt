@@ -34,7 +34,7 @@ use Rattle.mm_call.proofs.Continuing.{stands_at}
 use Rattle.mm_call.proofs.Moving.{committed_in}
 use Rattle.mm_call.proofs.OptFinding.{placed, lives}
 use Rattle.mm_call.proofs.OptHolding.{is_agrees}
-use Rattle.mm_call.proofs.OptLaw.{opt_calls_agree}
+use Rattle.mm_call.proofs.OptAgree.{opt_calls_agree}
 use Rattle.mm_call.proofs.OptShapes.{Shape, shape}
 use Rattle.mm_call.proofs.OptShut.{bare, within_items}
 use Rattle.mm_call.proofs.Showing.{asked_by, asked_of, same_rest, Counts, counts_open}

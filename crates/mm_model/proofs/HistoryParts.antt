@@ -24,8 +24,8 @@ each_map : {A B : Type 0} (P : B → Type 0) (f : A → B) (xs : List A) → All
 each_map P f [] h = tt
 each_map P f (x ∷ xs) h = (h.0, each_map P f xs h.1)
 
-pub each_unmap : {A B : Type 0} (P : B → Type 0) (Q : A → Type 0) (f : A → B) → ((x : A) → Q x → P (f x)) → (xs : List A) → AllByRecursion Q xs
-    → AllByRecursion P (map f xs)
+pub each_unmap : {A B : Type 0} (P : B → Type 0) (Q : A → Type 0) (f : A → B) → ((x : A) → Q x → P (f x)) → (xs : List A)
+    → AllByRecursion Q xs → AllByRecursion P (map f xs)
 each_unmap P Q f g [] h = tt
 each_unmap P Q f g (x ∷ xs) h = (g x h.0, each_unmap P Q f g xs h.1)
 

@@ -1,10 +1,10 @@
 -- What a whole call leaves and counts.
-use Rattle.std.proofs.Common.{◌≡◌, ℕ, Bool, true, false, List, [], ◌++◌, Option, None, Some, Result, Ok, Err, refl, sym, ap, ◌∙◌, subst, arith, inl, inr}
+use Rattle.std.proofs.Common.{◌≡◌, ℕ, Bool, true, false, List, ◌++◌, Option, None, Result, Ok, Err, refl, sym, ap, ◌∙◌, subst, arith, inl, inr}
 use Rattle.mm_base.specs.Faults.{counted}
 use Rattle.mm_platform.specs.declared.fault.StepFault.{StepFault}
 use Rattle.mm_platform.specs.Standing.{Standing}
 use Rattle.mm_platform.specs.Steps.{Act, ReadCell, ReadRegister, Goes, beside}
-use Rattle.mm_platform.proofs.Calling.{beside-none, beside-beside}
+use Rattle.mm_platform.proofs.Calling.{beside-beside}
 use Rattle.mm_module.specs.Meaning.{Meaning}
 use Rattle.mm_module.specs.Batch.{Batch}
 use Rattle.mm_seal.specs.declared.cell.Cell.{Cell}
@@ -15,6 +15,7 @@ use Rattle.mm_model.specs.declared.refusal.Refusal.TheVariants as refusal
 use Rattle.mm_model.specs.declared.refusal.Refusal.TheVariants.{Long}
 use Rattle.mm_call.specs.Refusals.{fault_of, fault_in, handed_on}
 use Rattle.mm_call.specs.Leaving.{IsUntouched, LeavesUntouched}
+use Rattle.mm_call.proofs.Leaving.{read_untouched, same_untouched, written_untouched}
 use Rattle.mm_opt.specs.declared.found.Found.{Found}
 use Rattle.mm_opt.specs.declared.found.Found.TheVariants.{Repeat, Inside, Opens}
 use Rattle.mm_opt.specs.declared.found.Ready.{Ready}
@@ -22,28 +23,6 @@ use Rattle.mm_opt.specs.declared.found.Opening.{Opening}
 use Rattle.mm_opt.specs.Steps.{ReadsOwnCell, ReadsRegister, MakesRoom, Extends, Empties, Places, Writes}
 use Rattle.mm_opt.specs.Asks.{ReadsOn, Reads, PlacedOn, EmptiedOn, CommitsFound, Ends, Calls, OneStep, TwoSteps, ThreeSteps, FourSteps, one_step, two_steps, three_steps, four_steps, five_steps, StepsAnswered, StepsRefused, StepsBy}
 use Rattle.mm_opt.proofs.Findings.{IsFirst, IsSecond, IsShaped, first_refused, shaped}
-
-pub same_untouched : (old : Standing) → IsUntouched old old
-same_untouched old = record {
-  others = [];
-  cell = refl;
-  items = sym (beside-none old.items);
-  is_on = refl;
-  writes = refl;
-  room = omega arith;
-  faults = refl;
-}
-
-pub cell_untouched : (old new : Standing) → Goes ReadCell old new None → IsUntouched old new
-cell_untouched old new g = record {
-  others = g.others;
-  cell = g.cell;
-  items = g.items;
-  is_on = g.ends.is_on ∙ sym g.ends.was_on;
-  writes = g.writes;
-  room = omega (arith, g.room);
-  faults = g.ends.faults;
-}
 
 pub register_untouched : (old new : Standing) → Goes ReadRegister old new None → IsUntouched old new
 register_untouched old new g = record {
@@ -88,13 +67,9 @@ reads_refused : (cell : Result Cell Refusal) (meaning : Meaning) (old middle new
 reads_refused (Err other) meaning old middle new offer b why g on h =
     let e : why ≡ other = same_refusal why other (Err why) refl on.1 in
     subst (λ (s : Standing). IsUntouched old s) (sym on.0)
-    (cell_untouched old middle (goes_quietly ReadCell old middle (fault_of other) (sym (ap fault_of e) ∙ h) g))
+    (read_untouched old middle (goes_quietly ReadCell old middle (fault_of other) (sym (ap fault_of e) ∙ h) g))
 reads_refused (Ok cell) meaning old middle new offer b why g on h =
-    then_untouched old middle new (cell_untouched old middle g) (register_refused meaning cell middle new offer b why on h)
-
-written_untouched : (written : Result BatchAnswer StepFault) (old new : Standing) → LeavesUntouched (handed_on written) old new
-written_untouched (Ok answer) old new = tt
-written_untouched (Err fault) old new = λ (h : Some fault ≡ None). absurd (cc)
+    then_untouched old middle new (read_untouched old middle g) (register_refused meaning cell middle new offer b why on h)
 
 ends_untouched : (found : Result Found Refusal) (meaning : Meaning) (offer : List ℕ) (b : Batch) (old middle new : Standing)
     (result : Result BatchAnswer Refusal) → Reads meaning old middle offer b found → Ends found middle new result

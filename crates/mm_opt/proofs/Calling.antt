@@ -18,9 +18,10 @@ use Rattle.mm_call.specs.Standing.{StandsAt}
 use Rattle.mm_call.specs.Asked.{IsAsked}
 use Rattle.mm_call.specs.CallsOn.{CallsOn}
 use Rattle.mm_call.proofs.Continuing.{continues_by}
-use Rattle.mm_call.proofs.OptLaw.{opt_calls_agree}
+use Rattle.mm_call.proofs.OptAgree.{opt_calls_agree}
 use Rattle.mm_opt.specs.Asks.{Asks, Calls}
-use Rattle.mm_opt.proofs.Going.{course_of, tells, goes}
+use Rattle.mm_opt.proofs.Going.{goes}
+use Rattle.mm_opt.proofs.Coursing.{course_of, tells}
 
 abbrev pub calls_by : (meaning : Meaning) (old new : Standing) (offer : List ℕ) (b : Batch) (result : Result BatchAnswer Refusal)
     → Asks meaning old new offer b result → CallsOn Opt meaning old new offer b result

@@ -12,7 +12,7 @@ use Rattle.mm_seal.specs.declared.cell.Cell.{Cell}
 use Rattle.mm_seal.specs.declared.cell.CellFault.{CellFault}
 use Rattle.mm_seal.specs.declared.cell.CellFault.TheVariants as fault
 use Rattle.mm_call.specs.Leaving.{IsUntouched, Blames}
-use Rattle.mm_call.proofs.Leaving.{blamed, blamed_later}
+use Rattle.mm_call.proofs.Leaving.{blamed, blamed_later, read_untouched}
 use Rattle.mm_opt.specs.declared.segment.Checkpointed.{Checkpointed}
 use Rattle.mm_opt.specs.declared.segment.CheckpointRefusal.{CheckpointRefusal}
 use Rattle.mm_opt.specs.declared.segment.CheckpointRefusal.TheVariants as refusal
@@ -20,7 +20,7 @@ use Rattle.mm_opt.specs.declared.segment.Segment.{Segment}
 use Rattle.mm_opt.specs.declared.segment.Segment.TheVariants.{Open, Shut}
 use Rattle.mm_opt.specs.Asks.{OneStep, TwoSteps}
 use Rattle.mm_opt.specs.Checkpoints.{closing_fault_of, closing_fault_in, segment_by, segment_in, Looks, closing_by, Weighs, Closes, closing_handed_on, EndsClosing, EndsLooking, ClosesSegment, LeavesStill, one_step, two_steps, three_steps, ClosingStepsRefused, ClosingStepsBy}
-use Rattle.mm_opt.proofs.Asking.{cell_untouched, register_untouched, then_untouched, goes_quietly}
+use Rattle.mm_opt.proofs.Asking.{register_untouched, then_untouched, goes_quietly}
 
 closed_still : (written : Result Checkpointed StepFault) (next : List ℕ) (old middle new : Standing) → Closes next middle new written
     → LeavesStill (closing_handed_on written) old new
@@ -33,7 +33,7 @@ weighed_still : (found : Result (List ℕ) CheckpointRefusal) (cell : Cell) (old
 weighed_still (Err why) cell old one two new result g w e =
     subst (λ (r : Result Checkpointed CheckpointRefusal). LeavesStill r old new) (sym e.1)
     (λ (h : closing_fault_of why ≡ None). subst (λ (s : Standing). IsUntouched old s) (sym e.0)
-    (then_untouched old one two (cell_untouched old one g)
+    (then_untouched old one two (read_untouched old one g)
     (register_untouched one two (goes_quietly ReadRegister one two (closing_fault_of why) h w.goes))))
 weighed_still (Ok next) cell old one two new result g w e =
     subst (λ (r : Result Checkpointed CheckpointRefusal). LeavesStill r old new) (sym e.gives)
@@ -44,10 +44,10 @@ looked_still : (found : Result Segment CheckpointRefusal) (old middle new : Stan
 looked_still (Err why) old middle new result g e =
     subst (λ (r : Result Checkpointed CheckpointRefusal). LeavesStill r old new) (sym e.1)
     (λ (h : closing_fault_of why ≡ None). subst (λ (s : Standing). IsUntouched old s) (sym e.0)
-    (cell_untouched old middle (goes_quietly ReadCell old middle (closing_fault_of why) h g)))
+    (read_untouched old middle (goes_quietly ReadCell old middle (closing_fault_of why) h g)))
 looked_still (Ok Shut) old middle new result g e =
     subst (λ (r : Result Checkpointed CheckpointRefusal). LeavesStill r old new) (sym e.1)
-    (subst (λ (s : Standing). IsUntouched old s) (sym e.0) (cell_untouched old middle g))
+    (subst (λ (s : Standing). IsUntouched old s) (sym e.0) (read_untouched old middle g))
 looked_still (Ok (Open cell)) old middle new result g e = weighed_still e.found cell old middle e.middle new result g e.weighs e.ends
 
 pub leaves_still : (old new : Standing) (result : Result Checkpointed CheckpointRefusal) → ClosesSegment old new result

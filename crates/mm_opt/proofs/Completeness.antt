@@ -43,7 +43,8 @@ use Rattle.mm_call.proofs.Continuing.{stands_at}
 use Rattle.mm_call.proofs.Idle.{asked_for}
 use Rattle.mm_call.proofs.Moving.{same_batches}
 use Rattle.mm_call.proofs.OptHolding.{is_agrees}
-use Rattle.mm_call.proofs.OptLaw.{before, sight_is, opt_calls_agree}
+use Rattle.mm_call.proofs.OptLaw.{before, sight_is}
+use Rattle.mm_call.proofs.OptAgree.{opt_calls_agree}
 use Rattle.mm_call.proofs.OptShapes.{two_reads, reading, past, cut}
 use Rattle.mm_call.proofs.OptShut.{life_bare}
 use Rattle.mm_call.proofs.Showing.{shown_same, counts_open}

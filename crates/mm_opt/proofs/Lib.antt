@@ -7,9 +7,14 @@ pub mod Fits
 pub mod Checkpointing
 pub mod Acting
 pub mod Accepting
+pub mod Coursing
+pub mod Stepping
 pub mod Going
 pub mod Calling
+pub mod CheckpointSteps
 pub mod Checking
+pub mod Giving
+pub mod Breaking
 pub mod Finishing
 pub mod Completeness
 pub mod Asked

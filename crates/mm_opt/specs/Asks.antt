@@ -68,8 +68,8 @@ CommitsFound (Repeat answer) old new written = (new ≡ old) × (written ≡ Ok 
 CommitsFound (Inside ready) old new written = Extends ready old new written
 CommitsFound (Opens opening) old new written = OpensSegment opening old new written
 
-pub record Commits (found : Found) (old new : Standing) (result : Result BatchAnswer Refusal) : Type
-    0 where
+pub record Commits (found : Found) (old new : Standing)
+    (result : Result BatchAnswer Refusal) : Type 0 where
   pub written : Result BatchAnswer StepFault
   pub commits : CommitsFound found old new written
   pub gives : result ≡ handed_on written

@@ -38,7 +38,8 @@ use Rattle.mm_call.proofs.Walks.{asks, taking, taking_is, messages-made, foreign
 use Rattle.mm_call.proofs.OptWalks.{AreOwn, own_asked, own_checked}
 use Rattle.mm_call.proofs.OptShapes.{Shape, still, reset, shape}
 use Rattle.mm_call.proofs.OptShut.{bare, listed_bare, holds_open, within_of, within_items}
-use Rattle.mm_call.proofs.OptLaw.{reset_messages, opt_calls_agree_by_lists}
+use Rattle.mm_call.proofs.OptLaw.{reset_messages}
+use Rattle.mm_call.proofs.OptAgree.{opt_calls_agree_by_lists}
 use Rattle.mm_call.proofs.Checkpoints.{read_moves, opt_checkpoints_agree_by_lists}
 use Rattle.mm_run.specs.Folds.{course_of, first_issued, first_digests}
 use Rattle.mm_run.specs.PremisesWords.{foreign_values, asked_batches, run_messages}
