@@ -1,5 +1,5 @@
 -- What a whole call leaves and counts.
-use Rattle.std.proofs.Common.{◌≡◌, ℕ, Bool, true, false, List, length, Option, None, Some, Result, Ok, Err, IfOk, refl, sym, ap, ◌∙◌, subst, arith, inl, inr}
+use Rattle.std.proofs.Common.{◌≡◌, ℕ, Bool, true, false, List, length, Option, None, Some, Result, Ok, Err, IfOk, refl, sym, ap, ◌∙◌, subst, inl, inr}
 use Rattle.std.specs.Result.{result_err}
 use Rattle.mm_base.specs.Faults.{counted}
 use Rattle.mm_platform.specs.declared.fault.StepFault.{StepFault}
@@ -20,25 +20,10 @@ use Rattle.mm_basic.specs.Steps.{Reads, Writes}
 use Rattle.mm_basic.specs.Asks.{CommitsFound, Ends, Calls, ReadsOnce, ReadsAndWrites, StepsAnswered, StepsRefused, StepsBy}
 use Rattle.mm_call.specs.Leaving.{IsUntouched, LeavesUntouched, Blames}
 use Rattle.mm_basic.proofs.Findings.{IsShaped, shaped}
-use Rattle.mm_call.proofs.Leaving.{blamed, blamed_later, written_blamed, same_untouched}
-
-read_untouched : (old new : Standing) → Goes ReadCell old new None → IsUntouched old new
-read_untouched old new g = record {
-  others = g.others;
-  cell = g.cell;
-  items = g.items;
-  is_on = g.ends.is_on ∙ sym g.ends.was_on;
-  writes = g.writes;
-  room = omega (arith, g.room);
-  faults = g.ends.faults;
-}
+use Rattle.mm_call.proofs.Leaving.{blamed, blamed_later, read_untouched, written_blamed, written_untouched, same_untouched}
 
 goes_quietly : (old new : Standing) (fault : Option StepFault) → fault ≡ None → Goes ReadCell old new fault → Goes ReadCell old new None
 goes_quietly old new fault e g = subst (λ (f : Option StepFault). Goes ReadCell old new f) e g
-
-written_untouched : (written : Result BatchAnswer StepFault) (old new : Standing) → LeavesUntouched (handed_on written) old new
-written_untouched (Ok answer) old new = tt
-written_untouched (Err fault) old new = λ (h : Some fault ≡ None). absurd (cc)
 
 ends_untouched : (found : Result Found Refusal) (old middle new : Standing) (result : Result BatchAnswer Refusal)
     → Goes ReadCell old middle (fault_in found) → Ends found middle new result → LeavesUntouched result old new

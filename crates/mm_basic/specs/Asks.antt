@@ -24,8 +24,8 @@ abbrev pub CommitsFound : Found → Standing → Standing → Result BatchAnswer
 CommitsFound (Repeat answer) old new written = (new ≡ old) × (written ≡ Ok answer)
 CommitsFound (Change ready) old new written = Writes ready old new written
 
-pub record Commits (found : Found) (old new : Standing) (result : Result BatchAnswer Refusal) : Type
-    0 where
+pub record Commits (found : Found) (old new : Standing)
+    (result : Result BatchAnswer Refusal) : Type 0 where
   pub written : Result BatchAnswer StepFault
   pub commits : CommitsFound found old new written
   pub gives : result ≡ handed_on written
