@@ -22,12 +22,12 @@ use Rattle.mm_model.specs.Life.{is_empty, are_own, has_value, Life, Live, Spoile
 use Rattle.mm_model.specs.Judge.{is_last, judge, judged, verdict_by_digests}
 use Rattle.mm_model.specs.Messages.{Within, IsClear, AreNoGuards, history_messages, values_in, counting}
 use Rattle.mm_model.specs.Moves.{Digests}
-use Rattle.mm_model.specs.Places.{IsPoint, at_anchor, in_closed, in_current, IsPlaceOf, Names, anchor_after, issued_place, issued}
+use Rattle.mm_model.specs.Places.{IsPoint, IsPlaceOf, Names, anchor_after, issued_place, issued}
 use Rattle.mm_model.specs.PlacesWords.{digest_of}
 use Rattle.mm_model.specs.StandingHere.{is_new, place_messages}
 use Rattle.mm_model.specs.Standing.{flag_of}
 use Rattle.mm_model.proofs.Batches.{at_the_end}
-use Rattle.mm_model.proofs.Named.{basic_issued, opt_issued}
+use Rattle.mm_model.proofs.Named.{basic_issued, opt_issued, point_kept}
 use Rattle.mm_model.proofs.StandsHere.{basic_stands_here, opt_stands_here}
 use Rattle.mm_call.specs.Asked.{IsLedTo, IsWithin}
 use Rattle.mm_call.specs.Levels.{by_lists, by_digests, Agrees}
@@ -54,40 +54,7 @@ basic_place meaning key key' y items named (InOpt a e) p = absurd p
 
 opt_point : (meaning : Meaning) (key key' barrier : List ℕ) (y : History) (items : List Entry) (named : List Batch) (a e : List ℕ)
     → IsPoint (opt meaning key barrier) y named a e → IsPoint (opt meaning key' barrier) (holding y items) named a e
-opt_point meaning key key' barrier y items named a e (at_anchor p) = at_anchor (record {
-  before = p.before;
-  later = p.later;
-  split = p.split;
-  clean = p.clean;
-  counted = p.counted;
-  anchor_is = p.anchor_is;
-  extension_is = p.extension_is;
-})
-opt_point meaning key key' barrier y items named a e (in_closed p) = in_closed (record {
-  before = p.before;
-  segment = p.segment;
-  later = p.later;
-  done = p.done;
-  taken = p.taken;
-  split = p.split;
-  named_is = p.named_is;
-  counted = p.counted;
-  begun = p.begun;
-  within = p.within;
-  anchor_is = p.anchor_is;
-  extension_is = p.extension_is;
-})
-opt_point meaning key key' barrier y items named a e (in_current p) = in_current (record {
-  done = p.done;
-  taken = p.taken;
-  more = p.more;
-  split = p.split;
-  start = p.start;
-  named_is = p.named_is;
-  begun = p.begun;
-  anchor_is = p.anchor_is;
-  extension_is = p.extension_is;
-})
+opt_point meaning key key' barrier y items named a e p = point_kept (opt meaning key barrier) key' y items named a e p
 
 opt_place : (meaning : Meaning) (key key' barrier : List ℕ) (y : History) (items : List Entry) (named : List Batch) (place : Place)
     → IsPlaceOf Opt (opt meaning key barrier) y named place → IsPlaceOf Opt (opt meaning key' barrier) (holding y items) named place

@@ -1,5 +1,5 @@
 -- What both sides issue names positions of where they stand, and of the one history.
-use Rattle.std.proofs.Common.{ℕ, ◌≡◌, ◌+◌, Bool, true, false, List, [], ◌∷◌, ◌++◌, Option, None, Some, Result, Ok, Err, refl, sym, ap, ◌∙◌, subst, inl, inr}
+use Rattle.std.proofs.Common.{ℕ, ◌≡◌, Bool, true, false, List, [], ◌∷◌, Option, None, Some, Err, refl, sym, ap, ◌∙◌, subst}
 use Rattle.std.specs.Prelude.{if◌then◌else◌}
 use Rattle.std.specs.List.{AllByRecursion}
 use Rattle.std.proofs.lemmas.List.{append-nil}
@@ -10,10 +10,7 @@ use Rattle.mm_module.specs.Meaning.{Meaning}
 use Rattle.mm_platform.specs.declared.fault.StepFault.{StepFault}
 use Rattle.mm_platform.specs.declared.plan.Meddle.{Meddle}
 use Rattle.mm_platform.specs.declared.plan.Stop.{Stop}
-use Rattle.mm_seal.specs.declared.snapshot.PartsFault.{PartsFault}
-use Rattle.mm_seal.specs.declared.snapshot.PartsFault.TheVariants.{Form, Kind}
-use Rattle.mm_seal.specs.Parts.{parts_of}
-use Rattle.mm_seal.specs.Snapshot.{Content, Snapshot, tag_of, sealed_of}
+use Rattle.mm_seal.specs.Snapshot.{Content, sealed_of}
 use Rattle.mm_model.specs.Instance.{Instance}
 use Rattle.mm_model.specs.History.{History, Entry, joined, first_history}
 use Rattle.mm_model.specs.Life.{Life, Live as LiveHistory, life_by, is_empty, are_own, has_value, life_of}
@@ -22,34 +19,29 @@ use Rattle.mm_model.specs.Places.{Names, issued}
 use Rattle.mm_model.specs.Steps.{Reads}
 use Rattle.mm_model.specs.declared.refusal.Refusal.{Refusal}
 use Rattle.mm_model.specs.declared.refusal.Refusal.TheVariants as refusal
-use Rattle.mm_model.specs.Sound.{IsSound}
 use Rattle.mm_model.proofs.Ends.{first_sound}
 use Rattle.mm_model.proofs.Named.{basic_issued, opt_issued}
 use Rattle.mm_call.specs.Called.{called_by}
 use Rattle.mm_call.specs.Courses.{Fate, Walked, walk}
 use Rattle.mm_call.specs.Levels.{by_lists, all_made}
-use Rattle.mm_call.specs.OrderWords.{weighed}
 use Rattle.mm_call.specs.Standing.{instance_by}
 use Rattle.mm_call.proofs.OptFinding.{lives}
-use Rattle.mm_move.specs.Tickets.{TicketContent}
+use Rattle.mm_call.proofs.OptShut.{sound_shut}
 use Rattle.mm_schedule.specs.Events.{Event, Ask, Checkpoint, Power, Extend}
 use Rattle.mm_run.specs.Offered.{offered_bytes}
-use Rattle.mm_run.specs.Folds.{Outcome, after_stop, course_of, outcome_by, reads_only, asked_in_vain, uncalled, event_outcome, event_in_vain}
+use Rattle.mm_run.specs.Folds.{Outcome, after_stop, course_of, outcome_by, reads_only, asked_in_vain, event_outcome, event_in_vain}
 use Rattle.mm_run.specs.Laws.{IsIssued}
 use Rattle.mm_run.specs.OneEvent.{IsSoundIn}
-use Rattle.mm_sides.specs.Roles.{Role, Blank, Live, Waiting, Retired, Effect, Invites, Leaves, Enters, Notes, no_notes, is_live}
+use Rattle.mm_sides.specs.Roles.{Role, Blank, Live, Waiting, Retired, Notes, is_live}
 use Rattle.mm_sides.specs.Order.{AreInOrder}
-use Rattle.mm_sides.specs.Both.{Which, First, Second, Pair, instance_on, Side, Both, turned, lists_move, first_lists}
-use Rattle.mm_sides.specs.Moves.{Command, MoveCause, FoundMove}
-use Rattle.mm_sides.specs.Folds.{Act, Plain, Moves, BothEvent, BothOutcome, plain_outcome, affected_if, brought_to, effect_of, move_steps, outcome_here, both_outcome, BothFollowed, both_followed, noted_if}
-use Rattle.mm_sides.specs.Premises.{IsNew, IsOursIn, AreFreshFrom}
-use Rattle.mm_sides.specs.Laws.{history_at, history_now, SnapshotsName, SidesIssueNames}
-use Rattle.mm_sides.proofs.InOrder.{roles_begin, roles_swap, roles_are_one}
-use Rattle.mm_sides.proofs.Outer.{AreOuter, any_value, found_outer, read_outer, stop_outer, stopped_outer, IsAlike, outer_alike, alike_on, same_open, brought_alike}
-use Rattle.mm_sides.proofs.OneRun.{first_unused, invites_none, leaves_live, turned_at}
-use Rattle.mm_sides.proofs.OneLive.{IsOrdered, here_ordered, event_ordered}
+use Rattle.mm_sides.specs.Both.{Side, Both, turned, lists_move}
+use Rattle.mm_sides.specs.Folds.{plain_outcome}
+use Rattle.mm_sides.specs.Laws.{history_at, history_now}
+use Rattle.mm_sides.proofs.InOrder.{roles_swap, roles_are_one}
+use Rattle.mm_sides.proofs.Outer.{AreOuter, any_value, read_outer, stop_outer, IsAlike, outer_alike, alike_on}
+use Rattle.mm_sides.proofs.OneRun.{turned_at}
 use Rattle.mm_sides.proofs.Rests.{holding, names_cross}
-use Rattle.mm_sides.proofs.Keeping.{events_keep_names, Lasting, outer_lasting}
+use Rattle.mm_sides.proofs.Keeping.{events_keep_names}
 
 -- names go along where a history is alike, and from one side to the other
 
@@ -65,27 +57,6 @@ same_variant : (variant : Variant) (meaning : Meaning) (key key' barrier : List 
     → (instance_by variant meaning key barrier).variant ≡ (instance_by variant meaning key' barrier).variant
 same_variant Basic meaning key key' barrier = refl
 same_variant Opt meaning key key' barrier = refl
-
-sound_shut : (y : History) (items : List Entry) → y.is_open ≡ false → IsSound y → IsSound (holding y items)
-sound_shut y items e sound = record {
-  open_is = sound.open_is;
-  shut_is = sound.shut_is;
-  filled = sound.filled;
-  history = elim sound.history [
-    | inl c ↦ inl (record { clean = c.clean; batches = c.batches })
-    | inr m ↦ inr (record {
-      before = m.before;
-      last = m.last;
-      rest = m.rest;
-      split = m.split;
-      clean = m.clean;
-      marred = m.marred;
-      shut = m.shut;
-      batches = m.batches;
-    })
-  ];
-  register = λ is_open. let clash = sym e ∙ is_open in absurd (cc);
-}
 
 -- a history at rest is as sound, and goes on as well, with other items
 pub sound_holding : (variant : Variant) (meaning : Meaning) (key barrier : List ℕ) (y : History) (items : List Entry) → y.is_open ≡ false
