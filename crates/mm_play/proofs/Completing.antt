@@ -3,8 +3,9 @@ use Rattle.std.proofs.Common.{◌≡◌, ◌∙◌, ℕ, List, ◌++◌, Option,
 use Rattle.std.specs.Io.KnownBytes.{Consumes}
 use Rattle.mm_base.specs.declared.replay_fault.ReplayFault.{ReplayFault}
 use Rattle.mm_base.specs.declared.replay_fault.ReplayFault.TheVariants.{Memory, ReadFault, WriteFault, BadLine, LineLong, TooMuch}
-use Rattle.mm_play.specs.Play.{Told, told}
-use Rattle.mm_play.specs.Plays.{ForWhole, Settles, IsUnrefused}
+use Rattle.mm_play.specs.declared.player.Refused.{Refused}
+use Rattle.mm_play.specs.Play.{Told, told, run, run_of}
+use Rattle.mm_play.specs.Plays.{ForWhole, Settles, IsUnrefused, Plays}
 use Rattle.mm_play.proofs.Runs.{not_ok}
 
 -- an answer other than Ok means the same for any call
@@ -18,6 +19,44 @@ settles_err A B lines whole next left taken sent WriteFault s = s
 settles_err A B lines whole next left taken sent (BadLine n) s = s
 settles_err A B lines whole next left taken sent (LineLong n) s = s
 settles_err A B lines whole next left taken sent TooMuch s = s
+
+-- a play from the first stage, with the answer that its caller makes of the play's
+as_said : {P : Type 0} (T : Type 0) (answer : P → List ℕ → Result (List ℕ × P) Refused) (closing : P → Option (List ℕ))
+    (first player next : P) (left left' received received' : Option (List ℕ)) (result : Result (Unit {0}) ReplayFault)
+    (said : Result T ReplayFault) → player ≡ first → Plays answer closing player next left left' received received' result
+    → ((taken sent : List ℕ) → Settles (run answer 1 first) (run_of answer closing first) next left' taken sent result
+    → Settles (run answer 1 first) (run_of answer closing first) next left' taken sent said)
+    → Plays answer closing first next left left' received received' said
+as_said {P = P} T answer closing first player next left left' received received' result said begins played settles =
+    let p = subst (λ (it : P). Plays answer closing it next left left' received received' result) begins played in
+    record {
+      taken = p.taken;
+      sent = p.sent;
+      consumed = p.consumed;
+      appended = p.appended;
+      settled = settles p.taken p.sent p.settled;
+    }
+
+-- with the report that the caller makes of the last stage
+pub plays_ok : {P : Type 0} (T : Type 0) (answer : P → List ℕ → Result (List ℕ × P) Refused) (closing : P → Option (List ℕ))
+    (first player next : P) (left left' received received' : Option (List ℕ)) (result : Result (Unit {0}) ReplayFault) (done : Unit {0})
+    (report : T) → player ≡ first → Plays answer closing player next left left' received received' result → result ≡ Ok done
+    → (let r : Result T ReplayFault = Ok report in Plays answer closing first next left left' received received' r)
+plays_ok T answer closing first player next left left' received received' result done report begins played is =
+    as_said T answer closing first player next left left' received received' result (Ok report) begins played
+    (λ taken sent settled. subst (λ (r : Result (Unit {0}) ReplayFault).
+    Settles (run answer 1 first) (run_of answer closing first) next left' taken sent r) is settled)
+
+-- or with the play's fault
+pub plays_err : {P : Type 0} (T : Type 0) (answer : P → List ℕ → Result (List ℕ × P) Refused) (closing : P → Option (List ℕ))
+    (first player next : P) (left left' received received' : Option (List ℕ)) (result : Result (Unit {0}) ReplayFault)
+    (fault : ReplayFault) → player ≡ first → Plays answer closing player next left left' received received' result → result ≡ Err fault
+    → (let r : Result T ReplayFault = Err fault in Plays answer closing first next left left' received received' r)
+plays_err T answer closing first player next left left' received received' result fault begins played is =
+    as_said T answer closing first player next left left' received received' result (Err fault) begins played
+    (λ taken sent settled. settles_err (Unit {0}) T (run answer 1 first) (run_of answer closing first) next left' taken sent fault
+    (subst (λ (r : Result (Unit {0}) ReplayFault). Settles (run answer 1 first) (run_of answer closing first) next left' taken sent r) is
+    settled))
 
 -- what holds of the whole input holds of all bytes there were
 whole_holds : (left left' : Option (List ℕ)) (taken : List ℕ) (holds : List ℕ → Type 0) → Consumes left left' taken

@@ -1,14 +1,14 @@
 -- What a check does with a line, with the end of an input, and with a whole input.
-use Rattle.std.proofs.Common.{◌≡◌, ◌∙◌, ℕ, List, ◌++◌, Option, Some, None, Result, Ok, Err, ap, subst}
+use Rattle.std.proofs.Common.{◌≡◌, ◌∙◌, ℕ, List, ◌++◌, Option, Some, None, Result, Ok, Err, ap}
 use Rattle.mm_base.specs.declared.replay_fault.ReplayFault.{ReplayFault}
 use Rattle.mm_play.specs.declared.player.Refused.{Refused}
 use Rattle.mm_play.specs.declared.player.ReplyFault.{ReplyFault}
 use Rattle.mm_play.specs.declared.player.ReplyFault.TheVariants as fault
 use Rattle.mm_play.specs.Play.{Told, run, run_of}
-use Rattle.mm_play.specs.Plays.{IsUnrefused, Settles, Plays}
+use Rattle.mm_play.specs.Plays.{IsUnrefused, Plays}
 use Rattle.mm_play.specs.Takes.{GivesReply}
 use Rattle.mm_play.specs.Tells.{Answered, Finished, RefusesMuch}
-use Rattle.mm_play.proofs.Completing.{completed, settles_err}
+use Rattle.mm_play.proofs.Completing.{completed, plays_err}
 use Rattle.mm_play.proofs.Telling.{tells_by, tells_more}
 use Rattle.mm_receipts.specs.declared.pair.Asked.{Asked}
 use Rattle.mm_receipts.specs.declared.report.ReceiptReport.{ReceiptReport}
@@ -42,19 +42,9 @@ pub checks-err : (key : List ℕ) (first : Checking) → first ≡ first_checkin
     → Plays receipts_answer receipts_closing first next left left' received received' result → result ≡ Err fault
     → ChecksReceipts key left left' received received' (Err fault)
 checks-err key first is_first left left' received received' next result fault played is =
-    let p = subst (λ (it : Checking). Plays receipts_answer receipts_closing it next left left' received received' result) is_first played
-    in
-    let s = subst (λ (r : Result (Unit {0}) ReplayFault). Settles (lines_run key) (whole_run key) next left' p.taken p.sent r) is p.settled
-    in
-    record {
-      taken = p.taken;
-      sent = p.sent;
-      next = next;
-      consumed = p.consumed;
-      appended = p.appended;
-      settled = settles_err (Unit {0}) ReceiptReport (lines_run key) (whole_run key) next left' p.taken p.sent fault s;
-      reported = tt;
-    }
+    let p = plays_err ReceiptReport receipts_answer receipts_closing (first_checking key) first next left left' received received' result
+    fault is_first played is in
+    record { taken = p.taken; sent = p.sent; next = next; consumed = p.consumed; appended = p.appended; settled = p.settled; reported = tt }
 
 -- lines of the form within the limits are not refused
 pub unrefused : (key : List ℕ) (left left' received received' : Option (List ℕ)) (result : Result ReceiptReport ReplayFault)
