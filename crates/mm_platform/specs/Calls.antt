@@ -33,7 +33,7 @@ EndsCalls None old new extended written =
     (extended ≡ true) × (written ≡ true) × (new.faults ≡ old.faults)
 EndsCalls (Some fault) old new extended written = Rose old.faults new.faults
 
-pub record ActsUntold (value bytes : List ℕ) (old new : Standing) (fault : Option StepFault) : Type
-    0 where
+pub record ActsUntold (value bytes : List ℕ) (old new : Standing)
+    (fault : Option StepFault) : Type 0 where
   pub acts : MayHaveActed value bytes old new
   pub ends : EndsCalls fault old new acts.extended acts.written

@@ -91,8 +91,8 @@ SaysNumber _ = Unit {0}
 
 -- an account that is put: it has the name, and stands where one of the name stood, or where there
 -- is room
-pub record IsPut (full : Bool) (wanted : List ℕ) (found : Option Account) (account : Account) : Type
-    0 where
+pub record IsPut (full : Bool) (wanted : List ℕ) (found : Option Account)
+    (account : Account) : Type 0 where
   pub good : is_account account ≡ true
   pub named : account.name ≡ wanted
   pub room : is_some found ≡ false → full ≡ false
