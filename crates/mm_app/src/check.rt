@@ -16,9 +16,9 @@ use std::alloc::Global;
 
 /// Checks the recorded run that the input gives, and writes the stop line.
 pub fn check_run<S: Source, K: Sink>(alloc: Global, input: &mut S, out: &mut K) -> Status
-    ensures checks { PlaysAndStops ChecksRun (S.left input.old) (S.left input.new) (K.received out.old)
-        (K.received out.new) (S.faults input.old) (S.faults input.new) (K.faults out.old)
-        (K.faults out.new) result }
+    ensures checks { PlaysAndStops ChecksRun (S.left input.old) (S.left input.new)
+        (K.received out.old) (K.received out.new) (S.faults input.old) (S.faults input.new)
+        (K.faults out.old) (K.faults out.new) result }
     ensures complete { (bytes : List ℕ) → (next : CheckStage) → S.left input.old ≡ Some bytes
         → (run_of (check_answer header_at) check_closing AtHeader bytes).outcome ≡ Ok next
         → EndsUnrefused result }

@@ -16,9 +16,9 @@ use std::alloc::Global;
 
 /// Replays the input, and writes the stop line.
 pub fn replay_and_stop<S: Source, K: Sink>(alloc: Global, input: &mut S, out: &mut K) -> Status
-    ensures replays { PlaysAndStops Replays (S.left input.old) (S.left input.new) (K.received out.old)
-        (K.received out.new) (S.faults input.old) (S.faults input.new) (K.faults out.old)
-        (K.faults out.new) result }
+    ensures replays { PlaysAndStops Replays (S.left input.old) (S.left input.new)
+        (K.received out.old) (K.received out.new) (S.faults input.old) (S.faults input.new)
+        (K.faults out.old) (K.faults out.new) result }
     ensures complete { (bytes : List ℕ) → (next : ReplayStage) → S.left input.old ≡ Some bytes
         → (run_of (schedule_answer header_at) schedule_closing AtHeader bytes).outcome ≡ Ok next
         → EndsUnrefused result }

@@ -15,9 +15,9 @@ use std::alloc::Global;
 
 /// Plays the slots that the input gives, and writes the stop line.
 pub fn play_slots<S: Source, K: Sink>(alloc: Global, input: &mut S, out: &mut K) -> Status
-    ensures plays { PlaysAndStops PlaysSlots (S.left input.old) (S.left input.new) (K.received out.old)
-        (K.received out.new) (S.faults input.old) (S.faults input.new) (K.faults out.old)
-        (K.faults out.new) result }
+    ensures plays { PlaysAndStops PlaysSlots (S.left input.old) (S.left input.new)
+        (K.received out.old) (K.received out.new) (S.faults input.old) (S.faults input.new)
+        (K.faults out.old) (K.faults out.new) result }
     ensures complete { (bytes : List ℕ) → (next : SlotsStage) → S.left input.old ≡ Some bytes
         → (run_of slots_answer slots_closing AtFirst bytes).outcome ≡ Ok next
         → EndsUnrefused result }

@@ -15,9 +15,9 @@ use std::alloc::Global;
 
 /// Plays the schedule of two platforms that the input gives, and writes the stop line.
 pub fn play_transfer<S: Source, K: Sink>(alloc: Global, input: &mut S, out: &mut K) -> Status
-    ensures plays { PlaysAndStops PlaysTransfer (S.left input.old) (S.left input.new) (K.received out.old)
-        (K.received out.new) (S.faults input.old) (S.faults input.new) (K.faults out.old)
-        (K.faults out.new) result }
+    ensures plays { PlaysAndStops PlaysTransfer (S.left input.old) (S.left input.new)
+        (K.received out.old) (K.received out.new) (S.faults input.old) (S.faults input.new)
+        (K.faults out.old) (K.faults out.new) result }
     ensures complete { (bytes : List ℕ) → (next : TransferStage) → S.left input.old ≡ Some bytes
         → (run_of transfer_answer transfer_closing AtHeader bytes).outcome ≡ Ok next
         → EndsUnrefused result }
