@@ -114,8 +114,8 @@ unfoldable pub ticket_of : Variant → ℕ → List ℕ → Result TaggedTicket 
 ticket_of variant id bytes = ticket_by variant id bytes (tagged_in bytes)
 
 -- the bytes are this ticket's, which is for this variant and module
-pub record SpellsTicket (variant : Variant) (id : ℕ) (bytes : List ℕ) (tagged : TaggedTicket) : Type
-    0 where
+pub record SpellsTicket (variant : Variant) (id : ℕ) (bytes : List ℕ)
+    (tagged : TaggedTicket) : Type 0 where
   pub is : IsTagged tagged
   pub bytes_are : bytes ≡ ticket_spelling tagged
   pub variant_is : variant_of tagged.ticket.content.place ≡ variant
