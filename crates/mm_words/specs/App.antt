@@ -1,6 +1,6 @@
 -- The command line as `clap` is told of it: a command with one level of subcommands.
-use Rattle.std.specs.Prelude.{ℕ, Bool, true, Some, List, codes}
-use Rattle.clap.specs.Simple.{App, new_app, new_rule, on_top, with_rule, with_subcommand}
+use Rattle.std.specs.Prelude.{◌≡◌, ℕ, Bool, true, false, Some, List, codes}
+use Rattle.clap.specs.Simple.{App, app_of, new_app, new_rule, on_top, with_rule, with_subcommand}
 use Rattle.clap.specs.Walk.{Rule}
 use Rattle.clap.specs.declared.builder.command.Command.{Command}
 use Rattle.clap.specs.declared.builder.command.Command.TheViews.{out-Command}
@@ -9,6 +9,11 @@ use Rattle.clap.specs.declared.builder.action.ArgAction.TheVariants.{Set}
 -- whether an argument is for the subcommands too
 abbrev pub has_globals : Command → Bool
 has_globals command = (out-Command command).has_globals
+
+-- a command that can be added as a form of words, told as this
+pub record IsForm (app : App) (command : Command) : Type 0 where
+  pub told : app_of command ≡ app
+  pub local : has_globals command ≡ false
 
 -- a word that has to stand there
 abbrev pub wanted_rule : List ℕ → Rule

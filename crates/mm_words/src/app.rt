@@ -1,8 +1,8 @@
 //! The command line as `clap` is told of it.
 
 ghost use Rattle.std.specs.Prelude.{◌≡◌, false, IfOk};
-ghost use Rattle.clap.specs.Words.{app_of, new_app, rule_of};
-ghost use Rattle.mm_words.specs.App.{generating_app, has_globals, header_app, key_app, the_app, top_app, wanted_rule, with_host_forms};
+ghost use Rattle.clap.specs.Words.{App, app_of, new_app, rule_of, with_rule, with_subcommand};
+ghost use Rattle.mm_words.specs.App.{IsForm, generating_app, has_globals, header_app, key_app, the_app, top_app, wanted_rule, with_host_forms};
 
 use clap::{Arg, ArgAction, Command};
 use std::alloc::{AllocError, Global};
@@ -11,24 +11,36 @@ use std::alloc::{AllocError, Global};
 pub fn command_line<'a>(alloc: Global) -> Result<Command<'a>, AllocError>
     ensures { IfOk result (λ line. app_of line ≡ the_app) }
 {
-    host_forms(alloc, top(alloc))?
-        .subcommand(bare(alloc, "replay"))?
-        .subcommand(bare(alloc, "check"))?
-        .subcommand(generating(alloc, "gen")?)?
-        .subcommand(generating(alloc, "bulk")?)?
-        .subcommand(bare(alloc, "slots"))?
-        .subcommand(with_key(alloc, "receipts")?)?
-        .subcommand(bare(alloc, "transfer"))
+    let line = host_forms(alloc, top(alloc));
+    let line = with_form(line, bare(alloc, "replay"));
+    let line = with_form(line, bare(alloc, "check"));
+    let line = with_form(line, generating(alloc, "gen"));
+    let line = with_form(line, generating(alloc, "bulk"));
+    let line = with_form(line, bare(alloc, "slots"));
+    let line = with_form(line, with_key(alloc, "receipts"));
+    with_form(line, bare(alloc, "transfer"))
 }
 
 /// The forms that run the module on the platform.
 fn host_forms<'a>(alloc: Global, line: Command<'a>) -> Result<Command<'a>, AllocError>
     ensures { IfOk result (λ whole. app_of whole ≡ with_host_forms (app_of line.entry)) }
 {
-    line.subcommand(with_header(alloc, "init")?)?
-        .subcommand(bare(alloc, "run"))?
-        .subcommand(bare(alloc, "checkpoint"))?
-        .subcommand(bare(alloc, "power"))
+    let line = with_form(Ok(line), with_header(alloc, "init"));
+    let line = with_form(line, bare(alloc, "run"));
+    let line = with_form(line, bare(alloc, "checkpoint"));
+    with_form(line, bare(alloc, "power"))
+}
+
+/// A command with one more form, if memory was enough for both.
+fn with_form<'a>(
+    line: Result<Command<'a>, AllocError>,
+    form: Result<Command<'a>, AllocError>,
+) -> Result<Command<'a>, AllocError>
+    ensures { (whole part : App) → IfOk line.entry (λ command. app_of command ≡ whole)
+        → IfOk form.entry (IsForm part)
+        → IfOk result (λ command. app_of command ≡ with_subcommand whole part.top) }
+{
+    line?.subcommand(form?)
 }
 
 /// The command that the subcommands are added to. It answers no call for help.
@@ -45,41 +57,47 @@ fn top<'a>(alloc: Global) -> Command<'a>
 }
 
 /// A subcommand with no words of its own.
-fn bare<'a>(alloc: Global, name: &'a str) -> Command<'a>
-    ensures app { app_of result ≡ new_app name.entry.now }
-    ensures local { has_globals result ≡ false }
+fn bare<'a>(alloc: Global, name: &'a str) -> Result<Command<'a>, AllocError>
+    ensures { IfOk result (IsForm (new_app name.entry.now)) }
 {
-    Command::new(alloc, name)
+    Ok(Command::new(alloc, name))
 }
 
 /// A subcommand with a variant and a module.
 fn with_header<'a>(alloc: Global, name: &'a str) -> Result<Command<'a>, AllocError>
-    ensures app { IfOk result (λ command. app_of command ≡ header_app name.entry.now) }
-    ensures local { IfOk result (λ command. has_globals command ≡ false) }
+    ensures { IfOk result (IsForm (header_app name.entry.now)) }
 {
-    Command::new(alloc, name)
-        .arg(wanted(alloc, "VARIANT"))?
-        .arg(wanted(alloc, "MODULE"))
+    let command = with_word(alloc, bare(alloc, name), "VARIANT");
+    with_word(alloc, command, "MODULE")
 }
 
 /// A subcommand with the four words of a generated schedule.
 fn generating<'a>(alloc: Global, name: &'a str) -> Result<Command<'a>, AllocError>
-    ensures app { IfOk result (λ command. app_of command ≡ generating_app name.entry.now) }
-    ensures local { IfOk result (λ command. has_globals command ≡ false) }
+    ensures { IfOk result (IsForm (generating_app name.entry.now)) }
 {
-    Command::new(alloc, name)
-        .arg(wanted(alloc, "NUMBER"))?
-        .arg(wanted(alloc, "COUNT"))?
-        .arg(wanted(alloc, "VARIANT"))?
-        .arg(wanted(alloc, "MODULE"))
+    let command = with_word(alloc, bare(alloc, name), "NUMBER");
+    let command = with_word(alloc, command, "COUNT");
+    let command = with_word(alloc, command, "VARIANT");
+    with_word(alloc, command, "MODULE")
 }
 
 /// A subcommand with a key.
 fn with_key<'a>(alloc: Global, name: &'a str) -> Result<Command<'a>, AllocError>
-    ensures app { IfOk result (λ command. app_of command ≡ key_app name.entry.now) }
-    ensures local { IfOk result (λ command. has_globals command ≡ false) }
+    ensures { IfOk result (IsForm (key_app name.entry.now)) }
 {
-    Command::new(alloc, name).arg(wanted(alloc, "KEY"))
+    with_word(alloc, bare(alloc, name), "KEY")
+}
+
+/// A command with one more word of its own, if memory was enough for both.
+fn with_word<'a>(
+    alloc: Global,
+    command: Result<Command<'a>, AllocError>,
+    id: &'a str,
+) -> Result<Command<'a>, AllocError>
+    ensures { (app : App) → IfOk command.entry (IsForm app)
+        → IfOk result (IsForm (with_rule app (wanted_rule id.entry.now))) }
+{
+    command?.arg(wanted(alloc, id))
 }
 
 /// A word that has to stand there.
