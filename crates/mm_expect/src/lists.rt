@@ -13,7 +13,7 @@ use std::alloc::Global;
 use std::marker::Model;
 
 /// A history as lists, which contracts see as the history.
-#[derive(Debug, Drop)]
+#[derive(Drop)]
 pub(crate) struct Lists {
     alloc: Global,
     batches: Vec<KeptBatch>,
@@ -89,12 +89,12 @@ impl Lists {
         ensures ok { OnOk result (self.new ≡ committed Opt true self.old (batch_of batch.entry)) }
         ensures err { OnErr result (self.new ≡ self.old) }
     {
-        let kept = KeptBatch::copy_of(self.alloc, &batch)?;
-        let current = KeptBatch::copy_of(self.alloc, &batch)?;
-        let own = KeptBatch::copy_of(self.alloc, &batch)?;
         self.batches.reserve(1)?;
         self.current.reserve(1)?;
         self.items.reserve(1)?;
+        let kept = KeptBatch::copy_of(self.alloc, &batch)?;
+        let current = KeptBatch::copy_of(self.alloc, &batch)?;
+        let own = KeptBatch::copy_of(self.alloc, &batch)?;
         self.batches.push_reserved(kept);
         self.current.push_reserved(current);
         self.items.push_reserved(KeptEntry::Own(own));
@@ -106,12 +106,12 @@ impl Lists {
         ensures ok { OnOk result (self.new ≡ committed Opt false self.old (batch_of batch.entry)) }
         ensures err { OnErr result (self.new ≡ self.old) }
     {
-        let kept = KeptBatch::copy_of(self.alloc, &batch)?;
-        let current = KeptBatch::copy_of(self.alloc, &batch)?;
-        let own = KeptBatch::copy_of(self.alloc, &batch)?;
         self.batches.reserve(1)?;
         self.current.reserve(1)?;
         self.items.reserve(1)?;
+        let kept = KeptBatch::copy_of(self.alloc, &batch)?;
+        let current = KeptBatch::copy_of(self.alloc, &batch)?;
+        let own = KeptBatch::copy_of(self.alloc, &batch)?;
         self.batches.push_reserved(kept);
         self.current.clear();
         self.current.push_reserved(current);

@@ -16,7 +16,7 @@ use mm_model::{KeptBatch, KeptEntry};
 use mm_module::Batch;
 
 /// What a history comes to.
-#[derive(Clone, Copy, Debug)]
+#[derive(Clone, Copy)]
 pub(crate) struct Marks {
     /// How many requests are committed.
     pub(crate) total: u64,
