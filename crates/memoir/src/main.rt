@@ -21,25 +21,50 @@ fn words_after_name(rt: &HostRuntime) -> io::Result<Vec<String>> {
     }
 }
 
-// Does what the words say.
+// Does what the words say over files. Each function below makes some of the devices, and hands them on.
 fn carry_out(rt: &HostRuntime) -> io::Result<Status> {
     let texts = words_after_name(rt)?;
+    with_words(rt, texts.as_slice())
+}
+
+fn with_words(rt: &HostRuntime, texts: &[String]) -> io::Result<Status> {
     let mut words: Vec<&str> = Vec::new(rt.alloc());
     for text in texts.iter() {
         words.push(text.as_str())?;
     }
-    let Ok(mut store) = PageStore::new(rt.alloc(), FilePages::new(rt)) else {
-        return Err(io::Error::from(ErrorKind::OutOfMemory));
-    };
-    Ok(memoir(
+    with_store(rt, &words)
+}
+
+fn with_store(rt: &HostRuntime, words: &[&str]) -> io::Result<Status> {
+    match PageStore::new(rt.alloc(), FilePages::new(rt)) {
+        Ok(mut store) => Ok(with_platform(rt, words, &mut store)),
+        Err(_) => Err(io::Error::from(ErrorKind::OutOfMemory)),
+    }
+}
+
+fn with_platform(
+    rt: &HostRuntime,
+    words: &[&str],
+    store: &mut PageStore<FilePages<'_, HostRuntime>>,
+) -> Status {
+    with_streams(rt, words, &mut TwoCell::new(FilePlatform::new(rt)), store)
+}
+
+fn with_streams(
+    rt: &HostRuntime,
+    words: &[&str],
+    platform: &mut TwoCell<FilePlatform<'_, HostRuntime>>,
+    store: &mut PageStore<FilePages<'_, HostRuntime>>,
+) -> Status {
+    memoir(
         rt.alloc(),
-        &words,
-        &mut TwoCell::new(FilePlatform::new(rt)),
-        &mut store,
+        words,
+        platform,
+        store,
         &mut StdSource::new(rt.reader()),
         &mut FileSource::new(rt, "entropy"),
         &mut StdSink::new(io::writer(rt)),
-    ))
+    )
 }
 
 fn main(rt: HostRuntime) -> ExitCode {
