@@ -49,10 +49,12 @@ fn add_slot(
     ensures { OnOk result (AddsSlot number header.now first.old.cells.items first.new.cells.items
         first.old.slots.items first.new.slots.items) }
 {
+    first.cells.reserve(1)?;
+    first.slots.reserve(1)?;
     let Provisioned { cell, snapshot } = provisioned(alloc, number, header)?;
     let slot = Slot::new(alloc, number, *header, snapshot)?;
-    first.cells.push(cell)?;
-    first.slots.push(slot)?;
+    first.cells.push_reserved(cell);
+    first.slots.push_reserved(slot);
     Ok(())
 }
 
