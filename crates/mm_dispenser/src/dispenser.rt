@@ -21,21 +21,21 @@ use std::alloc::Global;
 pub struct Dispenser;
 
 /// What a dispenser keeps.
-#[derive(Clone, Copy, Debug)]
+#[derive(Clone, Copy)]
 enum State {
     Unset,
     Seeded { seed: [u8; 32], place: u64 },
 }
 
 /// A request to a dispenser.
-#[derive(Clone, Copy, Debug)]
+#[derive(Clone, Copy)]
 enum Request {
     Seed([u8; 32]),
     Draw(u8),
 }
 
 /// What a dispenser says.
-#[derive(Clone, Copy, Debug)]
+#[derive(Clone, Copy)]
 enum Says {
     Seeded,
     Taken,

@@ -19,7 +19,7 @@ use std::alloc::Global;
 pub struct Limiter;
 
 /// What a limiter keeps.
-#[derive(Clone, Copy, Debug)]
+#[derive(Clone, Copy)]
 enum State<'a> {
     Unset,
     Guarded {
@@ -30,7 +30,7 @@ enum State<'a> {
 }
 
 /// A request to a limiter.
-#[derive(Clone, Copy, Debug)]
+#[derive(Clone, Copy)]
 enum Request<'a> {
     Guard { secret: &'a [u8], tries: u8 },
     Guess(&'a [u8]),
@@ -38,7 +38,7 @@ enum Request<'a> {
 }
 
 /// What a limiter says.
-#[derive(Clone, Copy, Debug, PartialEq, Eq)]
+#[derive(Clone, Copy, PartialEq, Eq)]
 enum Says {
     Set,
     Taken,

@@ -10,7 +10,7 @@ use std::cmp::Ordering;
 
 /// Where a name stands among the accounts of a state: the bytes before, the account of the name, where there is one, and
 /// the bytes behind.
-#[derive(Clone, Copy, Debug)]
+#[derive(Clone, Copy)]
 pub struct Place<'a> {
     pub front: &'a [u8],
     pub found: Option<Account<'a>>,

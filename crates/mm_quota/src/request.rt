@@ -12,7 +12,7 @@ use mm_module::{Words, text_and_number};
 use std::alloc::Global;
 
 /// What a request does with the account that it names.
-#[derive(Clone, Copy, Debug)]
+#[derive(Clone, Copy)]
 pub enum Action {
     Open(u64),
     Use(u64),
@@ -21,14 +21,14 @@ pub enum Action {
 }
 
 /// A request to a ledger.
-#[derive(Clone, Copy, Debug)]
+#[derive(Clone, Copy)]
 pub enum Request<'a> {
     Sum,
     On(&'a [u8], Action),
 }
 
 /// What a ledger says.
-#[derive(Clone, Copy, Debug)]
+#[derive(Clone, Copy)]
 pub enum Says {
     Opened,
     Exists,
