@@ -11,7 +11,7 @@ use mm_modules::AnyModule;
 use mm_platform::Stop;
 
 /// The snapshot that a line offers.
-#[derive(Clone, Copy, Debug)]
+#[derive(Clone, Copy)]
 pub enum Snapshot {
     /// The one with the highest number.
     Last,
@@ -22,7 +22,7 @@ pub enum Snapshot {
 }
 
 /// One event line, but for its request.
-#[derive(Clone, Copy, Debug)]
+#[derive(Clone, Copy)]
 pub enum Line {
     /// A request is asked of a snapshot.
     Ask { stop: Stop, snapshot: Snapshot },

@@ -18,7 +18,7 @@ use mm_platform::Stop;
 use mm_schedule::Header;
 
 /// The lines of a turn.
-#[derive(Clone, Copy, Debug)]
+#[derive(Clone, Copy)]
 pub enum Turn {
     One(Line),
     Pair(Line, Line),

@@ -8,7 +8,7 @@ use rand_chacha::ChaCha20Rng;
 use rand_core::utils::NextWord;
 
 /// The four words of a turn.
-#[derive(Clone, Copy, Debug)]
+#[derive(Clone, Copy)]
 pub struct Words {
     /// Chooses the turn's row.
     pub row: u32,

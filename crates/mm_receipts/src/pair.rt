@@ -3,21 +3,21 @@
 use mm_base::Bytes;
 
 /// The first line of a pair: a request of at most 4,096 bytes and its position.
-#[derive(Debug, Drop)]
+#[derive(Drop)]
 pub struct Asked {
     pub position: u64,
     pub request: Bytes,
 }
 
 /// A pair that was good.
-#[derive(Debug, Drop)]
+#[derive(Drop)]
 pub struct Pair {
     pub request: Bytes,
     pub output: Bytes,
 }
 
 /// What a pair is answered.
-#[derive(Clone, Copy, Debug, PartialEq, Eq)]
+#[derive(Clone, Copy, PartialEq, Eq)]
 pub enum Verdict {
     /// The output has not the form of a receipt.
     NoForm,
