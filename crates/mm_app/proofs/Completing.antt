@@ -41,7 +41,7 @@ use Rattle.mm_schedule.specs.declared.header.Header.{Header}
 use Rattle.mm_seal.specs.Cell.{IsCell, blank_cell, cell_spelling}
 use Rattle.mm_seal.specs.declared.cell.Cell.{Cell}
 use Rattle.mm_seal.specs.declared.cell.CellFault.{CellFault}
-use Rattle.mm_seal.proofs.CellLaws.{reads_cell-same}
+use Rattle.mm_seal.specs.CellLaws.{reads_cell-same}
 use Rattle.mm_store.specs.declared.fault.StoreFault.{StoreFault}
 use Rattle.mm_store.specs.declared.fault.StoreFault.TheVariants as unstored
 use Rattle.mm_store.specs.Kept.{StoreStanding}

@@ -1,5 +1,2 @@
-pub mod DecimalLemmas
-pub mod FieldLaws
-pub mod Input
 pub mod LineLemmas
 pub mod StreamLemmas

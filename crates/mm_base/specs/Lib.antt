@@ -7,3 +7,6 @@ pub mod Limits
 pub mod Lines
 pub mod Next
 pub mod Streams
+pub mod FieldLaws
+pub mod InputLaws
+pub mod DecimalLaws

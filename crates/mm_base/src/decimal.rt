@@ -11,7 +11,7 @@ use crate::fault::Memory;
 use itoa::Buffer;
 
 /// The number that the bytes write, where they are a decimal of at most 18446744073709551615.
-#[tactic(auto, using(crate::proofs::DecimalLemmas::spelled_by_reading, crate::proofs::DecimalLemmas::read_by_spelling))]
+#[tactic(auto, using(crate::specs::DecimalLaws::spelled_by_reading, crate::specs::DecimalLaws::read_by_spelling))]
 pub fn read_decimal(bytes: &[u8]) -> Option<u64>
     ensures value { result ≡ decimal_number bytes.now }
     ensures spelled { IfSome result (λ number. bytes.now ≡ decimal number) }

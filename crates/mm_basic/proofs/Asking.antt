@@ -20,7 +20,7 @@ use Rattle.mm_basic.specs.Steps.{Reads, Writes}
 use Rattle.mm_basic.specs.Asks.{CommitsFound, Ends, Calls, ReadsOnce, ReadsAndWrites, StepsAnswered, StepsRefused, StepsBy}
 use Rattle.mm_call.specs.Leaving.{IsUntouched, LeavesUntouched, Blames}
 use Rattle.mm_basic.proofs.Findings.{IsShaped, shaped}
-use Rattle.mm_call.proofs.Leaving.{blamed, blamed_later, read_untouched, written_blamed, written_untouched, same_untouched}
+use Rattle.mm_call.specs.LeavingLaws.{blamed, blamed_later, read_untouched, written_blamed, written_untouched, same_untouched}
 
 goes_quietly : (old new : Standing) (fault : Option StepFault) → fault ≡ None → Goes ReadCell old new fault → Goes ReadCell old new None
 goes_quietly old new fault e g = subst (λ (f : Option StepFault). Goes ReadCell old new f) e g

@@ -8,7 +8,7 @@ use Rattle.mm_digest.specs.declared.variant.Variant.TheVariants.{Basic}
 use Rattle.mm_digest.specs.declared.digest.Digest.{Digest}
 use Rattle.mm_module.specs.Meaning.{Meaning}
 use Rattle.mm_module.specs.Batch.{Batch, size_of, normal}
-use Rattle.mm_module.proofs.BatchLaws.{members_of-normal}
+use Rattle.mm_module.specs.BatchLaws.{members_of-normal}
 use Rattle.mm_seal.specs.declared.cell.Cell.{Cell}
 use Rattle.mm_seal.specs.Cell.{IsCell, cell_spelling}
 use Rattle.mm_seal.specs.declared.snapshot.PartsFault.{PartsFault}
@@ -17,7 +17,7 @@ use Rattle.mm_seal.specs.declared.snapshot.Place.{Place}
 use Rattle.mm_seal.specs.declared.snapshot.Place.TheVariants.{Basic as InBasic, Opt as InOpt}
 use Rattle.mm_seal.specs.Snapshot.{Content, Snapshot, ReadsParts, variant_of, tag_of}
 use Rattle.mm_seal.specs.Parts.{parts_of}
-use Rattle.mm_seal.proofs.Fields.{reads_parts}
+use Rattle.mm_seal.specs.FieldLaws.{reads_parts}
 use Rattle.mm_platform.specs.Standing.{Standing}
 use Rattle.mm_model.specs.Chains.{link}
 use Rattle.mm_model.specs.Instance.{Instance}
@@ -38,7 +38,7 @@ use Rattle.mm_call.specs.Levels.{by_digests}
 use Rattle.mm_call.specs.Found as call
 use Rattle.mm_call.specs.FoundWords as call_words
 use Rattle.mm_call.specs.Standing.{cell_at}
-use Rattle.mm_call.proofs.Weighing.{weighed_only}
+use Rattle.mm_call.specs.WeighingLaws.{weighed_only}
 use Rattle.mm_basic.specs.declared.found.Found.{Found}
 use Rattle.mm_basic.specs.declared.found.Found.TheVariants.{Repeat, Change}
 use Rattle.mm_basic.specs.declared.found.Ready.{Ready}

@@ -7,7 +7,7 @@ use Rattle.std.proofs.lemmas.Slice.Eq.{bytes_eq-Decides}
 use Rattle.mm_base.specs.Limits.{last_position}
 use Rattle.mm_digest.specs.declared.variant.Variant.TheVariants.{Basic}
 use Rattle.mm_digest.specs.Messages.{zero_bytes}
-use Rattle.mm_digest.proofs.Lengths.{length-hmac_of}
+use Rattle.mm_digest.specs.LengthLaws.{length-hmac_of}
 use Rattle.mm_platform.specs.declared.fault.StepFault.{StepFault}
 use Rattle.mm_platform.specs.Standing.{Standing}
 use Rattle.mm_module.specs.Meaning.{Meaning}
@@ -33,7 +33,7 @@ use Rattle.mm_model.proofs.Basic.{basic_is_judged}
 use Rattle.mm_call.specs.Leaving.{Blames, IsAccepted, IsAnswered}
 use Rattle.mm_call.specs.Order.{examined}
 use Rattle.mm_call.specs.Refusals.{fault_of, fault_in, handed_on, OrMemory}
-use Rattle.mm_call.proofs.Weighing.{IsGiven, offered_of, weighs}
+use Rattle.mm_call.specs.WeighingLaws.{IsGiven, offered_of, weighs}
 use Rattle.mm_basic.specs.declared.found.Found.{Found}
 use Rattle.mm_basic.specs.Answers.{answer_of, committed_cell, found_from, found_in}
 use Rattle.mm_basic.specs.Asks.{Ends, Calls}

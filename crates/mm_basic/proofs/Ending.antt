@@ -12,7 +12,7 @@ use Rattle.mm_call.specs.Refusals.{fault_in}
 use Rattle.mm_call.specs.Leaving.{Blames}
 use Rattle.mm_call.specs.Ended.{result_of}
 use Rattle.mm_call.proofs.Keeping.{refused_result, committed_result}
-use Rattle.mm_call.proofs.Leaving.{blamed, written_blamed}
+use Rattle.mm_call.specs.LeavingLaws.{blamed, written_blamed}
 use Rattle.mm_basic.specs.declared.found.Found.{Found}
 use Rattle.mm_basic.specs.declared.found.Found.TheVariants.{Repeat, Change}
 use Rattle.mm_basic.specs.declared.found.Ready.{Ready}

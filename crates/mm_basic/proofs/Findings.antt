@@ -8,7 +8,7 @@ use Rattle.mm_seal.specs.declared.snapshot.PartsFault.TheVariants.{Form, Kind}
 use Rattle.mm_seal.specs.declared.snapshot.Place.TheVariants.{Basic as InBasic}
 use Rattle.mm_seal.specs.Snapshot.{Content, Snapshot}
 use Rattle.mm_model.specs.Fit.{IsFit}
-use Rattle.mm_model.proofs.Chains.{length-link}
+use Rattle.mm_model.specs.ChainLaws.{length-link}
 use Rattle.mm_model.proofs.Fitting.{is_fit}
 use Rattle.mm_model.specs.declared.refusal.Refusal.{Refusal}
 use Rattle.mm_model.specs.declared.verdict.Verdict.{Verdict}
@@ -21,7 +21,7 @@ use Rattle.mm_basic.specs.Order.{summary_in, verdict_of}
 use Rattle.mm_basic.specs.Answers.{linked, answer_of, committed_cell, found_from, found_in}
 use Rattle.mm_call.specs.Refusals.{OrMemory}
 use Rattle.mm_basic.specs.Steps.{FindsIn}
-use Rattle.mm_call.proofs.Weighing.{weighed_only}
+use Rattle.mm_call.specs.WeighingLaws.{weighed_only}
 
 -- an answer found says whether it is a repeat's, and is fit
 abbrev pub IsShaped : Batch → Result Found Refusal → Type 0

@@ -21,7 +21,7 @@ use Rattle.mm_model.specs.Steps.{Reads as Reading, Writes as Writing, ask_steps}
 use Rattle.mm_model.specs.declared.answer.BatchAnswer.{BatchAnswer}
 use Rattle.mm_model.specs.declared.refusal.Refusal.{Refusal}
 use Rattle.mm_model.specs.declared.refusal.Refusal.TheVariants.{Device}
-use Rattle.mm_model.proofs.Chains.{length-link}
+use Rattle.mm_model.specs.ChainLaws.{length-link}
 use Rattle.mm_call.specs.Refusals.{fault_of, handed_on}
 use Rattle.mm_call.specs.Levels.{all_made, by_digests}
 use Rattle.mm_call.specs.Found as call
@@ -39,7 +39,7 @@ use Rattle.mm_call.proofs.Keeping.{committed_result, foreign_commits, commits_th
 use Rattle.mm_call.proofs.BasicLaw.{basic_calls_agree}
 use Rattle.mm_call.proofs.Continuing.{continues_by}
 use Rattle.mm_call.specs.Trails.{IsWrite, Stepped, Trail}
-use Rattle.mm_call.proofs.Telling.{stepped, trail_on, trail_fails, trail_last, met, told_by, met_at, then_at, begins_at}
+use Rattle.mm_call.specs.TellingLaws.{stepped, trail_on, trail_fails, trail_last, met, told_by, met_at, then_at, begins_at}
 use Rattle.mm_call.proofs.Going.{sees, finds, went, brought_digests}
 use Rattle.mm_basic.specs.declared.found.Found.{Found}
 use Rattle.mm_basic.specs.declared.found.Found.TheVariants.{Repeat, Change}

@@ -6,8 +6,8 @@ use Rattle.mm_seal.specs.declared.cell.CellFault.{CellFault}
 use Rattle.mm_seal.specs.Cell.{SpellsCell, ReadsCell}
 use Rattle.mm_seal.specs.declared.snapshot.PartsFault.{PartsFault}
 use Rattle.mm_seal.specs.Snapshot.{Snapshot, ReadsParts}
-use Rattle.mm_seal.proofs.CellLaws.{reads_cell-same}
-use Rattle.mm_seal.proofs.SnapshotLaws.{reads_parts-same}
+use Rattle.mm_seal.specs.CellLaws.{reads_cell-same}
+use Rattle.mm_seal.specs.SnapshotLaws.{reads_parts-same}
 use Rattle.mm_basic.specs.Seen.{IsCellOf, Seen, NoCell, OtherCell, NoOffer, Both, IsSeen}
 
 -- how a cell of this module and an offer that is taken apart are seen

@@ -15,7 +15,7 @@ use Rattle.mm_basic.specs.Turns.{Turns, turn_fault, turn_of, last_turn}
 use Rattle.mm_call.specs.Refusals.{fault_in}
 use Rattle.mm_call.specs.Leaving.{Blames}
 use Rattle.mm_basic.proofs.Asking.{read_blamed}
-use Rattle.mm_call.proofs.Leaving.{blamed}
+use Rattle.mm_call.specs.LeavingLaws.{blamed}
 
 found_fault : (found : Result Found Refusal) → turn_fault (turn_of found) ≡ fault_in found
 found_fault (Err why) = refl

@@ -18,7 +18,7 @@ use Rattle.mm_model.specs.Moves.{Digests}
 use Rattle.mm_model.specs.Places.{IsPlaceOf, Names}
 use Rattle.mm_model.specs.PlacesWords.{digest_of}
 use Rattle.mm_model.specs.declared.refusal.Refusal.{Refusal}
-use Rattle.mm_model.proofs.Lists.{each_append}
+use Rattle.mm_model.specs.ListLaws.{each_append}
 use Rattle.mm_model.specs.Standing.{IsGenuine}
 use Rattle.mm_call.specs.Levels.{by_lists, by_digests, all_made, Agrees}
 use Rattle.mm_call.specs.Found.{Found, found_at, right_content}
@@ -28,11 +28,11 @@ use Rattle.mm_call.specs.Called.{called}
 use Rattle.mm_call.specs.CalledWords.{called_with}
 use Rattle.mm_call.specs.Asked.{IsPlain, IsWithin, right_messages}
 use Rattle.mm_call.specs.Laws.{IsSameCall, BasicCallsAgree}
-use Rattle.mm_call.proofs.Moving.{IsBasicMove, agrees-made, plain-made, same_batches, more_batches}
+use Rattle.mm_call.specs.MoveLaws.{IsBasicMove, agrees-made, plain-made, same_batches, more_batches}
 use Rattle.mm_call.proofs.Finding.{Holds, Asking, Placed, found_same, placed, right_of_found}
 use Rattle.mm_call.proofs.Calling.{summary_then, listed_push, listed_same, called_message}
-use Rattle.mm_call.proofs.Walks.{Commits, nothing, batch, basic_commits, foreign_first, finished}
-use Rattle.mm_call.proofs.Along.{GoesAlong, walk_along}
+use Rattle.mm_call.specs.WalkLaws.{Commits, nothing, batch, basic_commits, foreign_first, finished}
+use Rattle.mm_call.specs.AlongLaws.{GoesAlong, walk_along}
 use Rattle.mm_call.proofs.Endings.{Ends, again_of, fresh_of, ending_same}
 
 abbrev pub AreBasic : List Move → Type 0

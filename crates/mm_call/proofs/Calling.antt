@@ -9,7 +9,7 @@ use Rattle.mm_digest.specs.Messages.{start_of}
 use Rattle.mm_module.specs.Meaning.{Meaning, state_after, outputs_from}
 use Rattle.mm_module.specs.MeaningWords.{state_from}
 use Rattle.mm_module.specs.Batch.{Batch, members_of, size_of}
-use Rattle.mm_module.proofs.RunLaws.{state_after-append, outputs_from-append, length-outputs_from}
+use Rattle.mm_module.specs.RunLaws.{state_after-append, outputs_from-append, length-outputs_from}
 use Rattle.mm_seal.specs.Snapshot.{Content, sealed_of}
 use Rattle.mm_seal.specs.declared.snapshot.Place.{Place}
 use Rattle.mm_seal.specs.declared.snapshot.Place.TheVariants.{Basic as InBasic, Opt as InOpt}
@@ -20,8 +20,8 @@ use Rattle.mm_model.specs.History.{History, requests_of, total_of}
 use Rattle.mm_model.specs.Messages.{Within, history_messages, offer_messages}
 use Rattle.mm_model.specs.Places.{IsPlaceOf, issued_place}
 use Rattle.mm_model.specs.declared.answer.BatchAnswer.{BatchAnswer}
-use Rattle.mm_model.proofs.Chains.{trail_push}
-use Rattle.mm_model.proofs.Digests.{summary-push}
+use Rattle.mm_model.specs.ChainLaws.{trail_push}
+use Rattle.mm_model.specs.DigestLaws.{summary-push}
 use Rattle.mm_model.proofs.MovedDigests.{total-push}
 use Rattle.mm_call.specs.Answers.{answer_at, answer_on}
 

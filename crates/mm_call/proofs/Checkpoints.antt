@@ -16,11 +16,11 @@ use Rattle.mm_call.specs.Courses.{End, Done, Fails, Fate, Course, Walked, after_
 use Rattle.mm_call.specs.Asked.{IsPlain, IsWithin}
 use Rattle.mm_call.specs.Checkpoints.{Closing, Checkpointed, closing_of, checkpointed_by, checkpointed, IsClosedWithin, IsSameCheckpoint, BasicCheckpointsAgree, OptCheckpointsAgree}
 use Rattle.mm_call.specs.CheckpointsWords.{closed_by}
-use Rattle.mm_call.proofs.Moving.{agrees-made, plain-made, committed_in, same_batches}
+use Rattle.mm_call.specs.MoveLaws.{agrees-made, plain-made, committed_in, same_batches}
 use Rattle.mm_call.proofs.Calling.{listed_same}
 use Rattle.mm_call.proofs.OptHolding.{Holds}
 use Rattle.mm_call.proofs.OptFinding.{lost_same, not_lost}
-use Rattle.mm_call.proofs.Walks.{committed-foreign, finished, taking_is, foreign_in-foreign}
+use Rattle.mm_call.specs.WalkLaws.{committed-foreign, finished, taking_is, foreign_in-foreign}
 use Rattle.mm_call.proofs.OptWalks.{holds_made, foreign_all, Ready, AreOwn, walk_fine}
 use Rattle.mm_call.proofs.OptReady.{ready_closing}
 use Rattle.mm_call.proofs.OptShapes.{two_reads, reading, past, cut}

@@ -6,8 +6,8 @@ use Rattle.std.proofs.Math.Seq.{drop-append_seam}
 use Rattle.mm_module.specs.Meaning.{Meaning, state_after, outputs_from}
 use Rattle.mm_module.specs.MeaningWords.{state_from}
 use Rattle.mm_module.specs.Batch.{Batch, members_of, size_of, normal}
-use Rattle.mm_module.proofs.RunLaws.{state_after-append, outputs_from-append, length-outputs_from}
-use Rattle.mm_module.proofs.BatchLaws.{members_of-normal}
+use Rattle.mm_module.specs.RunLaws.{state_after-append, outputs_from-append, length-outputs_from}
+use Rattle.mm_module.specs.BatchLaws.{members_of-normal}
 use Rattle.mm_model.specs.History.{requests_of, total_of}
 
 -- the requests with those of the batch

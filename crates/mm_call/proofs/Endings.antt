@@ -16,8 +16,8 @@ use Rattle.mm_call.specs.FoundWords.{is_fresh}
 use Rattle.mm_call.specs.Courses.{Walked, commits}
 use Rattle.mm_call.specs.Called.{Answers, Breaks, ended_by}
 use Rattle.mm_call.specs.CalledWords.{kept_at}
-use Rattle.mm_call.proofs.Moving.{committed_in, batches-made, more_batches}
-use Rattle.mm_call.proofs.Walks.{Commits, nothing, batch, commits-none}
+use Rattle.mm_call.specs.MoveLaws.{committed_in, batches-made, more_batches}
+use Rattle.mm_call.specs.WalkLaws.{Commits, nothing, batch, commits-none}
 use Rattle.mm_call.proofs.Calling.{answer-lists, answer-digests, ended_batches}
 
 pub again_of : (again : Bool) → (if again then false else true) ≡ false → again ≡ true

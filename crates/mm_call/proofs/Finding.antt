@@ -21,10 +21,10 @@ use Rattle.mm_model.specs.declared.verdict.Verdict.{Verdict}
 use Rattle.mm_model.specs.declared.refusal.Refusal.{Refusal}
 use Rattle.mm_model.specs.declared.refusal.Refusal.TheVariants as refusal
 use Rattle.mm_model.proofs.Basic.{basic_is_judged}
-use Rattle.mm_model.proofs.Batches.{at_the_end, before_the_last}
+use Rattle.mm_model.specs.BatchLaws.{at_the_end, before_the_last}
 use Rattle.mm_call.specs.Order.{admitted, examined}
 use Rattle.mm_call.specs.OrderWords.{weighed}
-use Rattle.mm_call.proofs.Weighing.{weighed_alike}
+use Rattle.mm_call.specs.WeighingLaws.{weighed_alike}
 use Rattle.mm_seal.specs.Parts.{parts_of}
 use Rattle.mm_call.specs.Found.{right_content, Found, found_by_verdict, found_at}
 use Rattle.mm_call.specs.FoundWords.{content_if_right, found_with}

@@ -20,7 +20,7 @@ use Rattle.mm_call.specs.CalledWords.{called_with}
 use Rattle.mm_call.specs.Standing.{StandsAt}
 use Rattle.mm_call.specs.CallsOn.{GoesBy}
 use Rattle.mm_call.specs.Trails.{Trail, Leads}
-use Rattle.mm_call.proofs.Trails.{leads}
+use Rattle.mm_call.specs.TrailLaws.{leads}
 
 -- what the call sees at its last reading step
 abbrev pub sees : Instance → Digests → Course → Digests

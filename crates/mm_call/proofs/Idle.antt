@@ -29,9 +29,9 @@ use Rattle.mm_call.proofs.OptLaw.{sight_is}
 use Rattle.mm_call.proofs.OptAgree.{opt_calls_agree_by_lists}
 use Rattle.mm_call.proofs.OptShapes.{two_reads}
 use Rattle.mm_call.proofs.OptShut.{bare, found_lists}
-use Rattle.mm_call.proofs.Showing.{asked_by, asked_of}
+use Rattle.mm_call.specs.ShowingLaws.{asked_by, asked_of}
 use Rattle.mm_call.proofs.Tied.{opt_tied}
-use Rattle.mm_call.proofs.Walks.{finished, from_reset-foreign}
+use Rattle.mm_call.specs.WalkLaws.{finished, from_reset-foreign}
 
 foreign_only : (values : List (List ℕ)) → from_reset (map Foreign values) ≡ []
 foreign_only values = ap from_reset (sym (append-nil (map Foreign values))) ∙ from_reset-foreign values []

@@ -18,7 +18,7 @@ use Rattle.mm_call.specs.Courses.{Fails, commits}
 use Rattle.mm_call.specs.CoursesWords.{made_move}
 use Rattle.mm_call.specs.CalledWords.{kept_at}
 use Rattle.mm_call.specs.Ended.{result_of, ended_with, refused_as, committed_as, kept_by, StaysOn}
-use Rattle.mm_call.proofs.Telling.{IsAt}
+use Rattle.mm_call.specs.TellingLaws.{IsAt}
 
 -- the fault of a refusal is that of a device
 pub device_only : (why : Refusal) (fault : StepFault) → fault_of why ≡ Some fault → why ≡ Device fault

@@ -6,7 +6,7 @@ use Rattle.std.proofs.lemmas.Option.{slice_get_within, get_or_from_slice_get}
 use Rattle.mm_module.specs.Meaning.{Meaning, IsLawful, outputs_from}
 use Rattle.mm_module.specs.MeaningWords.{state_from}
 use Rattle.mm_base.specs.Limits.{limit_of}
-use Rattle.mm_module.proofs.RunLaws.{state_from-is_spelled}
+use Rattle.mm_module.specs.RunLaws.{state_from-is_spelled}
 use Rattle.mm_call.specs.Ran.{RanSome}
 
 pub drop_at : (xs : List (List ℕ)) (i : ℕ) (m : List ℕ) → slice_get xs i ≡ Some m → drop i xs ≡ m ∷ drop (i + 1) xs

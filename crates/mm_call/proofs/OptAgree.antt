@@ -12,7 +12,7 @@ use Rattle.mm_model.specs.Messages.{Within}
 use Rattle.mm_model.specs.MessagesWords.{move_messages}
 use Rattle.mm_model.specs.Moves.{Digests}
 use Rattle.mm_model.specs.declared.refusal.Refusal.{Refusal}
-use Rattle.mm_model.proofs.Lists.{each_right}
+use Rattle.mm_model.specs.ListLaws.{each_right}
 use Rattle.mm_call.specs.Levels.{by_lists, by_digests, all_made, Agrees}
 use Rattle.mm_call.specs.Found.{Found, found_at}
 use Rattle.mm_call.specs.FoundWords.{found_unless_wanting, is_fresh}
@@ -22,7 +22,7 @@ use Rattle.mm_call.specs.Asked.{from_reset, moves_messages, foreign_in, IsWithin
 use Rattle.mm_call.specs.Laws.{IsSameCall, OptCallsAgree}
 use Rattle.mm_call.proofs.Finding.{Asking}
 use Rattle.mm_call.proofs.OptFinding.{Placed, IsLive, found_same, placed}
-use Rattle.mm_call.proofs.Walks.{opt_commits, changing, asks, taking_is, foreign_made, from_reset-foreign}
+use Rattle.mm_call.specs.WalkLaws.{opt_commits, changing, asks, taking_is, foreign_made, from_reset-foreign}
 use Rattle.mm_call.proofs.OptWalks.{AllFine, holds_made, walk_fine, AreOwn}
 use Rattle.mm_call.proofs.OptReady.{IsDue, ready_opening}
 use Rattle.mm_call.proofs.Endings.{ending_same}

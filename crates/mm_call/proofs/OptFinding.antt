@@ -23,9 +23,9 @@ use Rattle.mm_model.specs.Messages.{Within, IsClear, AreNoGuards, offer_messages
 use Rattle.mm_model.specs.declared.refusal.Refusal.{Refusal}
 use Rattle.mm_model.specs.declared.refusal.Refusal.TheVariants as refusal
 use Rattle.mm_model.proofs.OptJudge.{opt_is_judged, lost_is_zero}
-use Rattle.mm_model.proofs.Batches.{at_the_end, before_the_last}
+use Rattle.mm_model.specs.BatchLaws.{at_the_end, before_the_last}
 use Rattle.mm_call.specs.Order.{admitted, examined}
-use Rattle.mm_call.proofs.Weighing.{weighed_alike}
+use Rattle.mm_call.specs.WeighingLaws.{weighed_alike}
 use Rattle.mm_seal.specs.Parts.{parts_of}
 use Rattle.mm_model.specs.Moves.{Digests}
 use Rattle.mm_call.specs.Levels.{by_lists, by_digests}

@@ -16,10 +16,10 @@ use Rattle.mm_model.specs.Moves.{IsAllowed, MayMove, Digests, digests_of, made, 
 use Rattle.mm_model.proofs.Listing.{items_grow}
 use Rattle.mm_model.proofs.Moves.{sound_moved}
 use Rattle.mm_model.proofs.MovedDigests.{opt_digests, outside_moved}
-use Rattle.mm_model.proofs.Lists.{each_append}
+use Rattle.mm_model.specs.ListLaws.{each_append}
 use Rattle.mm_call.specs.Levels.{Agrees}
 use Rattle.mm_call.proofs.OptMessages.{Listing, listing_of, listed_of, Commits, listed_open, listed_opening, listed_closed}
-use Rattle.mm_call.proofs.Moving.{commit_adds}
+use Rattle.mm_call.specs.MoveLaws.{commit_adds}
 
 pub agrees_is : (i : Instance) (y : History) (d : Digests) → Agrees i y d → d ≡ digests_of i y
 agrees_is i y d a = λ j. record { digest = a.digest j; flag = a.flag j; register = a.register j; count = a.count j }

@@ -19,7 +19,7 @@ use Rattle.mm_model.specs.Places.{Names, issued_place}
 use Rattle.mm_model.specs.Standing.{IsGenuine}
 use Rattle.mm_model.specs.Sound.{IsSound}
 use Rattle.mm_model.specs.declared.refusal.Refusal.{Refusal}
-use Rattle.mm_model.proofs.Lists.{each_left}
+use Rattle.mm_model.specs.ListLaws.{each_left}
 use Rattle.mm_model.proofs.Named.{opt_names}
 use Rattle.mm_model.proofs.Moves.{sound_moved}
 use Rattle.mm_call.specs.Levels.{Level, by_lists, by_digests, all_made, Agrees}
@@ -30,11 +30,11 @@ use Rattle.mm_call.specs.Called.{Called, Breaks, ended_by, called_by}
 use Rattle.mm_call.specs.CalledWords.{kept_at}
 use Rattle.mm_call.specs.Asked.{counted_part, counted_moves, moves_messages, foreign_in, IsWithin, IsAsked}
 use Rattle.mm_call.specs.Laws.{IsSameCall}
-use Rattle.mm_call.proofs.Moving.{committed_in}
+use Rattle.mm_call.specs.MoveLaws.{committed_in}
 use Rattle.mm_call.proofs.Finding.{Asking}
 use Rattle.mm_call.proofs.OptHolding.{Holds, foreign_may}
 use Rattle.mm_call.proofs.OptFinding.{IsApart, Placed, IsLive, lives, found_same, placed}
-use Rattle.mm_call.proofs.Walks.{opt_commits, committed-foreign, commits-none, changing, taking, taking_is, foreign_made, made-append, foreign_in-foreign, messages-made}
+use Rattle.mm_call.specs.WalkLaws.{opt_commits, committed-foreign, commits-none, changing, taking, taking_is, foreign_made, made-append, foreign_in-foreign, messages-made}
 use Rattle.mm_call.proofs.OptWalks.{holds_made, foreign_all, foreign_then, front_outside, Ready, AreOwn, walk_fine, path_end, path_is}
 use Rattle.mm_call.proofs.OptReady.{IsDue, commits_of, ready_third}
 use Rattle.mm_call.proofs.OptPlaces.{end_place}

@@ -12,7 +12,7 @@ use Rattle.mm_model.specs.Instance.{Instance}
 use Rattle.mm_model.specs.InstanceWords.{opt}
 use Rattle.mm_model.specs.Moves.{MayMove}
 use Rattle.mm_model.specs.Steps.{Step, Reads, ask_steps}
-use Rattle.mm_model.proofs.Lists.{each_self}
+use Rattle.mm_model.specs.ListLaws.{each_self}
 use Rattle.mm_call.specs.Asked.{foreign_in}
 use Rattle.mm_call.specs.Courses.{Course, walk}
 use Rattle.mm_call.specs.Found.{found_at}
@@ -24,7 +24,7 @@ use Rattle.mm_call.proofs.OptFinding.{IsLive, live_found}
 use Rattle.mm_call.proofs.OptLaw.{before, sight, sight_is}
 use Rattle.mm_call.proofs.OptReady.{ready_third}
 use Rattle.mm_call.proofs.OptWalks.{AllFine, Ready, own_asked, walk_fine}
-use Rattle.mm_call.proofs.Walks.{asks, changing}
+use Rattle.mm_call.specs.WalkLaws.{asks, changing}
 
 -- moves that may be made one after another
 abbrev pub AllMay : Instance → History → List Move → Type 0

@@ -16,12 +16,12 @@ use Rattle.mm_model.specs.HistoryWords.{values_of, cell_digest_of}
 use Rattle.mm_model.specs.Sound.{IsSound, IsClean, batches_in}
 use Rattle.mm_model.specs.Moves.{IsOpening}
 use Rattle.mm_model.specs.Messages.{Within, closed_runs, runs_of, register_trail, history_messages}
-use Rattle.mm_model.proofs.Chains.{trail_push}
+use Rattle.mm_model.specs.ChainLaws.{trail_push}
 use Rattle.mm_model.proofs.Listing.{items_grow, run_grows, guards_grow}
 use Rattle.mm_model.proofs.Whole.{renamed-push}
-use Rattle.mm_model.proofs.Lists.{each_left, each_right, each_append}
-use Rattle.mm_model.proofs.Segments.{true_not_false}
-use Rattle.mm_model.proofs.Histories.{own_values-append, values_of-append, length-batches_in}
+use Rattle.mm_model.specs.ListLaws.{each_left, each_right, each_append}
+use Rattle.mm_model.specs.SegmentLaws.{true_not_false}
+use Rattle.mm_model.specs.HistoryLaws.{own_values-append, values_of-append, length-batches_in}
 use Rattle.mm_model.proofs.OptJudge.{shut_current}
 
 -- the messages of runs of batches, of segments

@@ -14,12 +14,12 @@ use Rattle.mm_model.specs.Life.{are_own}
 use Rattle.mm_model.specs.Moves.{Digests}
 use Rattle.mm_model.specs.Places.{issued_place}
 use Rattle.mm_model.specs.PlacesWords.{digest_of}
-use Rattle.mm_model.proofs.Digests.{register-push}
-use Rattle.mm_model.proofs.Histories.{own_values-append, values_of-own}
-use Rattle.mm_model.proofs.Forms.{reads_zero}
+use Rattle.mm_model.specs.DigestLaws.{register-push}
+use Rattle.mm_model.specs.HistoryLaws.{own_values-append, values_of-own}
+use Rattle.mm_model.specs.FormLaws.{reads_zero}
 use Rattle.mm_call.specs.Levels.{Agrees, place_then}
 use Rattle.mm_call.specs.Courses.{Fate}
-use Rattle.mm_call.proofs.Walks.{taking, changing}
+use Rattle.mm_call.specs.WalkLaws.{taking, changing}
 use Rattle.mm_call.proofs.OptWalks.{path_end}
 
 pub end_place : (meaning : Meaning) (key barrier : List ℕ) (fates : ℕ → Fate) (seen : History) (d : Digests) (b : Batch) (flag again : Bool)

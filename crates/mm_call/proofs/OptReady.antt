@@ -22,15 +22,15 @@ use Rattle.mm_model.specs.Places.{IsPlaceOf, IsPoint, at_anchor, in_closed, in_c
 use Rattle.mm_model.specs.Steps.{Changes, Writes}
 use Rattle.mm_model.proofs.Moves.{open_current}
 use Rattle.mm_model.proofs.OptJudge.{shut_current}
-use Rattle.mm_model.proofs.Segments.{same_halves, joined-append, not_empty, true_not_false}
-use Rattle.mm_model.proofs.Histories.{length-batches_in}
-use Rattle.mm_model.proofs.Forms.{reads_zero}
+use Rattle.mm_model.specs.SegmentLaws.{same_halves, joined-append, not_empty, true_not_false}
+use Rattle.mm_model.specs.HistoryLaws.{length-batches_in}
+use Rattle.mm_model.specs.FormLaws.{reads_zero}
 use Rattle.mm_model.proofs.Whole.{renamed-push}
 use Rattle.mm_call.specs.Courses.{Fate}
 use Rattle.mm_call.specs.Found.{Found}
 use Rattle.mm_call.proofs.OptMessages.{Commits, clean_open}
 use Rattle.mm_call.proofs.OptShut.{reset_may, reset_brings}
-use Rattle.mm_call.proofs.Walks.{changing, taking}
+use Rattle.mm_call.specs.WalkLaws.{changing, taking}
 use Rattle.mm_call.proofs.OptWalks.{Ready}
 use Rattle.mm_call.proofs.OptFinding.{Placed, IsLive}
 

@@ -7,7 +7,7 @@ use Rattle.mm_module.specs.Batch.{Batch}
 use Rattle.mm_model.specs.History.{Move, Commit, Foreign, Placed, Reset}
 use Rattle.mm_model.specs.Steps.{Step, Reads, Changes, Writes}
 use Rattle.mm_call.specs.Courses.{End, Done, Fails, Fate, Walked, after_step, walk}
-use Rattle.mm_call.proofs.Walks.{finished, changing}
+use Rattle.mm_call.specs.WalkLaws.{finished, changing}
 
 -- two reading steps, and the rest
 abbrev pub two_reads : List (List ℕ) → End → List (List ℕ) → End → Walked → Walked

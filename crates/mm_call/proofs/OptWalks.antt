@@ -11,12 +11,12 @@ use Rattle.mm_model.specs.Messages.{Within}
 use Rattle.mm_model.specs.MessagesWords.{move_messages}
 use Rattle.mm_model.specs.Moves.{Digests, made}
 use Rattle.mm_model.specs.Steps.{Step, Reads, Changes, Writes, ask_steps, checkpoint_steps}
-use Rattle.mm_model.proofs.Lists.{each_left, each_right}
+use Rattle.mm_model.specs.ListLaws.{each_left, each_right}
 use Rattle.mm_call.specs.Levels.{by_lists, by_digests, all_made}
 use Rattle.mm_call.specs.Courses.{End, Done, Fails, Fate, Walked, after_step, walk}
 use Rattle.mm_call.specs.Asked.{moves_messages, foreign_in}
 use Rattle.mm_call.proofs.OptHolding.{Holds, IsFine, holds_moved, foreign_fine}
-use Rattle.mm_call.proofs.Walks.{taking, taking_is, foreign_made, foreign_in-first, foreign_in-append, foreign_in-foreign}
+use Rattle.mm_call.specs.WalkLaws.{taking, taking_is, foreign_made, foreign_in-first, foreign_in-append, foreign_in-foreign}
 
 -- each of the moves may be made, one after another
 abbrev pub AllFine : List (List ℕ) → List (List ℕ) → List Batch → Instance → History → List Move → Type 0

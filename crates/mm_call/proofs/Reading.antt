@@ -4,7 +4,7 @@ use Rattle.std.specs.Str.{bytes_eq}
 use Rattle.std.proofs.lemmas.Slice.Eq.{bytes_eq-Decides}
 use Rattle.mm_seal.specs.Snapshot.{Snapshot, snapshot_front, sealed_of, tag_of}
 use Rattle.mm_seal.specs.Parts.{parts_of}
-use Rattle.mm_seal.proofs.Reading.{spells_read}
+use Rattle.mm_seal.specs.ReadingLaws.{spells_read}
 use Rattle.mm_model.specs.Instance.{Instance}
 use Rattle.mm_model.specs.Standing.{IsRight}
 

@@ -16,8 +16,8 @@ use Rattle.mm_model.specs.Messages.{moving_messages}
 use Rattle.mm_model.specs.MessagesWords.{move_messages}
 use Rattle.mm_model.specs.Moves.{Digests, made, committing}
 use Rattle.mm_model.specs.Steps.{Reads, Changes, Writes}
-use Rattle.mm_model.proofs.Chains.{after-append, trail-append}
-use Rattle.mm_model.proofs.Histories.{values_of-append}
+use Rattle.mm_model.specs.ChainLaws.{after-append, trail-append}
+use Rattle.mm_model.specs.HistoryLaws.{values_of-append}
 use Rattle.mm_model.proofs.MovedDigests.{values_renamed}
 use Rattle.mm_call.specs.Levels.{by_lists, by_digests, all_made}
 use Rattle.mm_call.specs.Found.{found_at}
@@ -27,8 +27,8 @@ use Rattle.mm_call.specs.Called.{seen_at}
 use Rattle.mm_call.specs.Standing.{shown, shown_by}
 use Rattle.mm_call.specs.Asked.{counted_moves, from_reset, moves_messages, foreign_in}
 use Rattle.mm_call.specs.Tied.{foreign_items, standing_items, Tied, shows, nothing, OptTied}
-use Rattle.mm_call.proofs.Trails.{all_made-append, shown-append}
-use Rattle.mm_call.proofs.Walks.{made-append, foreign_in-append, from_reset-foreign, messages-made, changing, asks, finished}
+use Rattle.mm_call.specs.TrailLaws.{all_made-append, shown-append}
+use Rattle.mm_call.specs.WalkLaws.{made-append, foreign_in-append, from_reset-foreign, messages-made, changing, asks, finished}
 use Rattle.mm_call.proofs.OptShapes.{Shape, still, reset, shape, opening}
 use Rattle.mm_call.proofs.OptShut.{bare, bare_digests}
 use Rattle.mm_call.proofs.OptLaw.{reset_messages}

@@ -22,3 +22,11 @@ pub mod CheckpointsWords
 pub mod CalledWords
 pub mod OrderWords
 pub mod AnswersWords
+pub mod MoveLaws
+pub mod WalkLaws
+pub mod AlongLaws
+pub mod TrailLaws
+pub mod WeighingLaws
+pub mod TellingLaws
+pub mod ShowingLaws
+pub mod LeavingLaws

@@ -25,7 +25,7 @@ use Rattle.mm_call.specs.Leaving.{Blames, whole, whole_in}
 use Rattle.mm_call.specs.Levels.{by_lists, all_made}
 use Rattle.mm_call.specs.Premises.{AreAsked}
 use Rattle.mm_call.specs.Refusals.{fault_of, fault_in}
-use Rattle.mm_call.proofs.Walks.{finished, taking, foreign_made}
+use Rattle.mm_call.specs.WalkLaws.{finished, taking, foreign_made}
 use Rattle.mm_basic.specs.Asks.{Calls}
 use Rattle.mm_callers.specs.Basic.{AsksAgain, AsksTwice, in_first}
 use Rattle.mm_callers.proofs.Calls.{is_asked, names_made, Comes, comes}

@@ -9,7 +9,7 @@ use Rattle.mm_module.specs.Batch.{Batch}
 use Rattle.mm_seal.specs.declared.snapshot.PartsFault.{PartsFault}
 use Rattle.mm_seal.specs.declared.snapshot.PartsFault.TheVariants.{Form, Kind}
 use Rattle.mm_seal.specs.Snapshot.{Content, Snapshot, tag_of}
-use Rattle.mm_seal.proofs.SealLaws.{sealed_once}
+use Rattle.mm_seal.specs.SealLaws.{sealed_once}
 use Rattle.mm_seal.specs.Parts.{parts_of}
 use Rattle.mm_model.specs.Instance.{Instance}
 use Rattle.mm_model.specs.InstanceWords.{basic}
@@ -36,8 +36,8 @@ use Rattle.mm_call.proofs.BasicLaw.{AreBasic, unlacked, walk_basic}
 use Rattle.mm_call.proofs.Endings.{again_of, fresh_of, fresh_found}
 use Rattle.mm_call.proofs.Finding.{Asking, placed, found_with_tells, weighed_tells}
 use Rattle.mm_call.proofs.Reading.{is_right}
-use Rattle.mm_call.proofs.Moving.{same_batches, more_batches}
-use Rattle.mm_call.proofs.Walks.{Commits, nothing, batch, basic_commits, foreign_first}
+use Rattle.mm_call.specs.MoveLaws.{same_batches, more_batches}
+use Rattle.mm_call.specs.WalkLaws.{Commits, nothing, batch, basic_commits, foreign_first}
 use Rattle.mm_callers.specs.Basic.{EndsWith}
 
 -- Nothing is asked of the moves of a call of Basic.

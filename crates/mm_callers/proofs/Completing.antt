@@ -9,14 +9,14 @@ use Rattle.mm_digest.specs.declared.variant.Variant.{Variant}
 use Rattle.mm_module.specs.Batch.{Batch, size_of}
 use Rattle.mm_seal.specs.Parts.{parts_of}
 use Rattle.mm_seal.specs.Snapshot.{Content, tag_of, offered_of}
-use Rattle.mm_seal.proofs.SealLaws.{sealed_parts}
+use Rattle.mm_seal.specs.SealLaws.{sealed_parts}
 use Rattle.mm_model.specs.Instance.{Instance}
 use Rattle.mm_model.specs.InstanceWords.{basic, opt}
 use Rattle.mm_model.specs.History.{History, total_of}
 use Rattle.mm_model.specs.Judge.{judge, judged, is_last}
 use Rattle.mm_model.specs.Life.{Life, Live, life_of, is_lost}
 use Rattle.mm_model.specs.Steps.{Step, ask_steps}
-use Rattle.mm_model.proofs.Batches.{at_the_end, before_the_last}
+use Rattle.mm_model.specs.BatchLaws.{at_the_end, before_the_last}
 use Rattle.mm_model.specs.declared.refusal.Refusal.{Refusal}
 use Rattle.mm_model.specs.declared.refusal.Refusal.TheVariants as refusal
 use Rattle.mm_model.specs.declared.verdict.Verdict.{Verdict}
@@ -30,8 +30,8 @@ use Rattle.mm_call.specs.Courses.{End, Done, Fails, Fate, Course, Walked, after_
 use Rattle.mm_call.specs.Called.{seen_at, ended_by}
 use Rattle.mm_call.specs.CalledWords.{called_with}
 use Rattle.mm_call.proofs.Endings.{again_of, fresh_of}
-use Rattle.mm_call.proofs.Moving.{same_batches, more_batches}
-use Rattle.mm_call.proofs.Walks.{Commits, nothing, batch, basic_commits, opt_commits, asks}
+use Rattle.mm_call.specs.MoveLaws.{same_batches, more_batches}
+use Rattle.mm_call.specs.WalkLaws.{Commits, nothing, batch, basic_commits, opt_commits, asks}
 use Rattle.mm_callers.specs.Complete.{IsSmooth, IsOfferedAt, IsWelcome, batches_then, IsAnswer, BasicCallsAreComplete, OptCallsAreComplete}
 use Rattle.mm_callers.proofs.Twice.{not_again}
 

@@ -18,10 +18,10 @@ use Rattle.mm_model.proofs.Moves.{sound_moved}
 use Rattle.mm_model.proofs.Named.{opt_names, point_items}
 use Rattle.mm_call.specs.Levels.{by_lists, by_digests, all_made}
 use Rattle.mm_call.specs.Courses.{closes}
-use Rattle.mm_call.proofs.Moving.{committed_in}
+use Rattle.mm_call.specs.MoveLaws.{committed_in}
 use Rattle.mm_call.proofs.OptHolding.{foreign_may}
 use Rattle.mm_call.proofs.OptShut.{bare, bare_digests, reset_may}
-use Rattle.mm_call.proofs.Along.{commit_keeps}
+use Rattle.mm_call.specs.AlongLaws.{commit_keeps}
 
 -- What a commit does to all but the items.
 

@@ -2,14 +2,14 @@
 use Rattle.std.proofs.Common.{◌≡◌, ℕ, ◌≤◌, Bool, true, false, List, ◌++◌, Some, Result, Ok, refl, sym, ap, ◌∙◌, subst, inl, inr}
 use Rattle.mm_base.specs.Limits.{last_position}
 use Rattle.mm_digest.specs.declared.variant.Variant.TheVariants.{Opt}
-use Rattle.mm_digest.proofs.Lengths.{length-zero_bytes}
+use Rattle.mm_digest.specs.LengthLaws.{length-zero_bytes}
 use Rattle.mm_platform.specs.Standing.{Item, Standing}
 use Rattle.mm_module.specs.Meaning.{Meaning, IsLawful, state_after}
 use Rattle.mm_module.specs.Batch.{Batch, One}
-use Rattle.mm_module.proofs.RunLaws.{state_after-is_spelled}
+use Rattle.mm_module.specs.RunLaws.{state_after-is_spelled}
 use Rattle.mm_seal.specs.Parts.{parts_of}
 use Rattle.mm_seal.specs.Snapshot.{Content, IsContent, IsPlace}
-use Rattle.mm_seal.proofs.SealLaws.{sealed_once}
+use Rattle.mm_seal.specs.SealLaws.{sealed_once}
 use Rattle.mm_model.specs.Instance.{Instance}
 use Rattle.mm_model.specs.InstanceWords.{opt}
 use Rattle.mm_model.specs.History.{History, Commit, moved, requests_of, total_of}
@@ -18,7 +18,7 @@ use Rattle.mm_model.specs.Long.{is_long}
 use Rattle.mm_model.specs.Messages.{Within, offer_messages}
 use Rattle.mm_model.specs.Places.{Names, issued, issued_place}
 use Rattle.mm_model.specs.Standing.{StandsFor, IsRight, issued_bytes}
-use Rattle.mm_model.proofs.Chains.{length-anchor_of, length-register_of}
+use Rattle.mm_model.specs.ChainLaws.{length-anchor_of, length-register_of}
 use Rattle.mm_model.proofs.Named.{opt_issued}
 use Rattle.mm_model.specs.declared.answer.Answer.{Answer}
 use Rattle.mm_model.specs.declared.answer.BatchAnswer.{BatchAnswer}

@@ -38,11 +38,11 @@ use Rattle.mm_call.specs.Tied.{standing_items}
 use Rattle.mm_call.proofs.BasicLaw.{unlacked}
 use Rattle.mm_call.proofs.Continuing.{stands_at}
 use Rattle.mm_call.proofs.Finding.{Asking, found_with_tells, weighed_tells}
-use Rattle.mm_call.proofs.Moving.{same_batches, more_batches}
+use Rattle.mm_call.specs.MoveLaws.{same_batches, more_batches}
 use Rattle.mm_call.proofs.OptFinding.{placed, unless_lost}
 use Rattle.mm_call.proofs.Reading.{is_right}
 use Rattle.mm_call.proofs.Idle.{asked_for}
-use Rattle.mm_call.proofs.Walks.{Commits, nothing as none, batch, asks, opt_commits, foreign_first, made-append}
+use Rattle.mm_call.specs.WalkLaws.{Commits, nothing as none, batch, asks, opt_commits, foreign_first, made-append}
 use Rattle.mm_call.proofs.Endings.{fresh_found}
 use Rattle.mm_call.proofs.OptLaw.{names_foreign, sound_foreign}
 use Rattle.mm_opt.specs.Asks.{Calls}

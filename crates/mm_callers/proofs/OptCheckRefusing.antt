@@ -31,12 +31,12 @@ use Rattle.mm_call.specs.Standing.{shown}
 use Rattle.mm_call.specs.Tied.{foreign_items, standing_items}
 use Rattle.mm_call.proofs.Checkpoints.{read_moves}
 use Rattle.mm_call.proofs.Continuing.{stands_at}
-use Rattle.mm_call.proofs.Moving.{committed_in, same_batches}
+use Rattle.mm_call.specs.MoveLaws.{committed_in, same_batches}
 use Rattle.mm_call.proofs.OptShut.{bare, counted_open}
-use Rattle.mm_call.proofs.Showing.{same_rest}
-use Rattle.mm_call.proofs.Walks.{finished, foreign_first, committed-foreign, foreign_in-foreign}
-use Rattle.mm_call.proofs.Along.{closes-foreign}
-use Rattle.mm_call.proofs.Trails.{foreign_values}
+use Rattle.mm_call.specs.ShowingLaws.{same_rest}
+use Rattle.mm_call.specs.WalkLaws.{finished, foreign_first, committed-foreign, foreign_in-foreign}
+use Rattle.mm_call.specs.AlongLaws.{closes-foreign}
+use Rattle.mm_call.specs.TrailLaws.{foreign_values}
 use Rattle.mm_opt.specs.ChecksOn.{ChecksOn, closing_told}
 use Rattle.mm_opt.specs.declared.segment.Checkpointed.{Checkpointed as Said}
 use Rattle.mm_opt.specs.declared.segment.CheckpointRefusal.{CheckpointRefusal}

@@ -13,14 +13,14 @@ use Rattle.mm_model.specs.HistoryWords.{cell_digest_of, values_of as entry_value
 use Rattle.mm_model.specs.Messages.{Within}
 use Rattle.mm_model.specs.Moves.{made}
 use Rattle.mm_model.specs.Steps.{Reads, Writes, checkpoint_steps}
-use Rattle.mm_model.proofs.Chains.{after-append}
-use Rattle.mm_model.proofs.Histories.{values_of-append}
+use Rattle.mm_model.specs.ChainLaws.{after-append}
+use Rattle.mm_model.specs.HistoryLaws.{values_of-append}
 use Rattle.mm_call.specs.Courses.{End, Done, Fails, Fate, Walked, after_step, walk, closes}
 use Rattle.mm_call.specs.Checkpoints.{closing_of}
 use Rattle.mm_call.specs.CheckpointsWords.{closed_by}
 use Rattle.mm_call.specs.Asked.{counted_part}
 use Rattle.mm_call.specs.Tied.{foreign_items}
-use Rattle.mm_call.proofs.Walks.{finished}
+use Rattle.mm_call.specs.WalkLaws.{finished}
 use Rattle.mm_opt.specs.declared.segment.Checkpointed.{Checkpointed as Said}
 use Rattle.mm_opt.specs.ChecksOn.{closing_told}
 use Rattle.mm_callers.specs.Closing.{closing_messages, MayClose}

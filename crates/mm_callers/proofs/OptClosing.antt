@@ -21,8 +21,8 @@ use Rattle.mm_model.specs.Places.{Names}
 use Rattle.mm_model.specs.Sound.{IsSound}
 use Rattle.mm_model.specs.Standing.{StandsFor}
 use Rattle.mm_model.specs.Steps.{checkpoint_steps}
-use Rattle.mm_model.proofs.Chains.{trail-append}
-use Rattle.mm_model.proofs.Lists.{each_left, each_right, each_append}
+use Rattle.mm_model.specs.ChainLaws.{trail-append}
+use Rattle.mm_model.specs.ListLaws.{each_left, each_right, each_append}
 use Rattle.mm_model.proofs.Named.{opt_names}
 use Rattle.mm_call.specs.Levels.{by_lists, by_digests, all_made}
 use Rattle.mm_call.specs.Courses.{Walked, walk, closes}
@@ -37,11 +37,11 @@ use Rattle.mm_call.proofs.Checkpoints.{read_moves, opt_checkpoints_agree}
 use Rattle.mm_call.proofs.Continuing.{stands_at}
 use Rattle.mm_call.proofs.OptHolding.{is_agrees}
 use Rattle.mm_call.proofs.OptShut.{bare, counted_open}
-use Rattle.mm_call.proofs.Showing.{same_rest}
-use Rattle.mm_call.proofs.Walks.{made-append, messages-made, foreign_in-first, foreign_in-foreign, committed-foreign}
-use Rattle.mm_call.proofs.Along.{closes-foreign}
+use Rattle.mm_call.specs.ShowingLaws.{same_rest}
+use Rattle.mm_call.specs.WalkLaws.{made-append, messages-made, foreign_in-first, foreign_in-foreign, committed-foreign}
+use Rattle.mm_call.specs.AlongLaws.{closes-foreign}
 use Rattle.mm_call.proofs.OptLaw.{names_foreign, sound_foreign}
-use Rattle.mm_call.proofs.Trails.{foreign_values}
+use Rattle.mm_call.specs.TrailLaws.{foreign_values}
 use Rattle.mm_call.proofs.Tied.{foreign_messages}
 use Rattle.mm_opt.specs.declared.segment.Checkpointed.{Checkpointed as Said}
 use Rattle.mm_opt.specs.ChecksOn.{ChecksOn, closing_told}

@@ -33,7 +33,7 @@ use Rattle.mm_call.specs.Asked.{counted_part, counted_moves, moves_messages, for
 use Rattle.mm_call.specs.Premises.{AreAsked}
 use Rattle.mm_call.proofs.OptLaw.{reset_messages}
 use Rattle.mm_call.proofs.OptShut.{counted_shut}
-use Rattle.mm_call.proofs.Showing.{asked_by}
+use Rattle.mm_call.specs.ShowingLaws.{asked_by}
 use Rattle.mm_callers.specs.Complete.{IsWelcome}
 use Rattle.mm_callers.specs.Opt.{AnswersOrLacks, AsksByQuietPlan, AsksInMemory}
 use Rattle.mm_callers.proofs.Completing.{opt_complete, welcome_found}

@@ -16,8 +16,8 @@ use Rattle.mm_call.specs.CallsOn.{CallsOn}
 use Rattle.mm_call.specs.Premises.{AreAsked, IsIdle}
 use Rattle.mm_call.proofs.Idle.{asked_idle, idle_again, idle_moves}
 use Rattle.mm_call.proofs.OptShut.{bare}
-use Rattle.mm_call.proofs.Walks.{committed-foreign}
-use Rattle.mm_call.proofs.Along.{closes-foreign}
+use Rattle.mm_call.specs.WalkLaws.{committed-foreign}
+use Rattle.mm_call.specs.AlongLaws.{closes-foreign}
 use Rattle.mm_callers.proofs.Calls.{Comes}
 use Rattle.mm_callers.proofs.OptCalls.{comes}
 use Rattle.mm_callers.proofs.OptAlike.{alike_still, still, names_after}

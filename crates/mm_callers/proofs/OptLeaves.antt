@@ -31,16 +31,16 @@ use Rattle.mm_call.specs.Premises.{AreAsked, AreShown}
 use Rattle.mm_call.specs.Tied.{standing_items}
 use Rattle.mm_call.proofs.BasicLaw.{unlacked}
 use Rattle.mm_call.proofs.Continuing.{stands_at}
-use Rattle.mm_call.proofs.Moving.{committed_in}
+use Rattle.mm_call.specs.MoveLaws.{committed_in}
 use Rattle.mm_call.proofs.OptFinding.{placed, lives}
 use Rattle.mm_call.proofs.OptHolding.{is_agrees}
 use Rattle.mm_call.proofs.OptAgree.{opt_calls_agree}
 use Rattle.mm_call.proofs.OptShapes.{Shape, shape}
 use Rattle.mm_call.proofs.OptShut.{bare, within_items}
-use Rattle.mm_call.proofs.Showing.{asked_by, asked_of, same_rest, Counts, counts_open}
+use Rattle.mm_call.specs.ShowingLaws.{asked_by, asked_of, same_rest, Counts, counts_open}
 use Rattle.mm_call.proofs.Tied.{opt_tied}
-use Rattle.mm_call.proofs.Walks.{Commits, nothing, batch, changing, asks, opt_commits, taking, foreign_first, committed-foreign}
-use Rattle.mm_call.proofs.Along.{opt_closes, closes_first, closes-foreign}
+use Rattle.mm_call.specs.WalkLaws.{Commits, nothing, batch, changing, asks, opt_commits, taking, foreign_first, committed-foreign}
+use Rattle.mm_call.specs.AlongLaws.{opt_closes, closes_first, closes-foreign}
 use Rattle.mm_callers.proofs.Calls.{Comes, kept, answered_only}
 use Rattle.mm_callers.proofs.OptCalls.{seen_asking, comes}
 use Rattle.mm_callers.proofs.OptAlike.{alike_still, alike_one, digests_still, Alike, still, grown_by, same_closed}

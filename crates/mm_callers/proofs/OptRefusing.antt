@@ -35,8 +35,8 @@ use Rattle.mm_call.proofs.Continuing.{stands_at}
 use Rattle.mm_call.proofs.OptShapes.{two_reads}
 use Rattle.mm_call.proofs.OptShut.{bare}
 use Rattle.mm_call.proofs.Idle.{asked_idle, asked_for, unless_idle}
-use Rattle.mm_call.proofs.Walks.{finished, changing, asks, opt_commits, foreign_first}
-use Rattle.mm_call.proofs.Along.{opt_closes}
+use Rattle.mm_call.specs.WalkLaws.{finished, changing, asks, opt_commits, foreign_first}
+use Rattle.mm_call.specs.AlongLaws.{opt_closes}
 use Rattle.mm_opt.specs.Asks.{Calls}
 use Rattle.mm_callers.specs.Basic.{in_first}
 use Rattle.mm_callers.specs.Opt.{AsksOnce, AsksTwice}

@@ -33,7 +33,7 @@ use Rattle.mm_call.specs.Standing.{shown}
 use Rattle.mm_call.specs.Tied.{standing_items}
 use Rattle.mm_call.proofs.Continuing.{stands_at}
 use Rattle.mm_call.proofs.Idle.{unless_idle}
-use Rattle.mm_call.proofs.Showing.{asked_by}
+use Rattle.mm_call.specs.ShowingLaws.{asked_by}
 use Rattle.mm_opt.specs.Asks.{Calls}
 use Rattle.mm_opt.specs.ChecksOn.{ChecksOn}
 use Rattle.mm_opt.specs.declared.segment.Checkpointed.{Checkpointed as Said}

@@ -32,9 +32,9 @@ use Rattle.mm_call.proofs.OptFinding.{found_same, placed}
 use Rattle.mm_call.proofs.OptHolding.{is_agrees}
 use Rattle.mm_call.proofs.OptShut.{bare, bare_digests, found_digests, foreign_digests, holds_shut}
 use Rattle.mm_call.proofs.Idle.{unless_idle}
-use Rattle.mm_call.proofs.Showing.{same_rest}
-use Rattle.mm_call.proofs.Walks.{asks}
-use Rattle.mm_call.proofs.Along.{opt_closes}
+use Rattle.mm_call.specs.ShowingLaws.{same_rest}
+use Rattle.mm_call.specs.WalkLaws.{asks}
+use Rattle.mm_call.specs.AlongLaws.{opt_closes}
 use Rattle.mm_call.proofs.Endings.{fresh_found}
 use Rattle.mm_opt.specs.declared.segment.Checkpointed.{Checkpointed as Said}
 use Rattle.mm_opt.specs.ChecksOn.{ChecksOn}

@@ -18,10 +18,10 @@ use Rattle.mm_model.specs.HistoryWords.{values_of as entry_values}
 use Rattle.mm_model.specs.Messages.{Within}
 use Rattle.mm_model.specs.Moves.{Digests, made, committing, digests_of}
 use Rattle.mm_model.specs.Standing.{StandsFor}
-use Rattle.mm_model.proofs.Chains.{after-append, trail-append}
-use Rattle.mm_model.proofs.Digests.{register_folds}
-use Rattle.mm_model.proofs.Forms.{reads_zero}
-use Rattle.mm_model.proofs.Lists.{each_left, each_right}
+use Rattle.mm_model.specs.ChainLaws.{after-append, trail-append}
+use Rattle.mm_model.specs.DigestLaws.{register_folds}
+use Rattle.mm_model.specs.FormLaws.{reads_zero}
+use Rattle.mm_model.specs.ListLaws.{each_left, each_right}
 use Rattle.mm_seal.specs.Cell.{IsCell, cell_spelling}
 use Rattle.mm_call.specs.Levels.{by_digests, all_made}
 use Rattle.mm_call.specs.Courses.{End, Done, Fails, Fate, Course, Walked, after_step, walk, closes}
@@ -30,12 +30,12 @@ use Rattle.mm_call.specs.Standing.{cell_at, StandsAt, shown}
 use Rattle.mm_call.specs.Asked.{from_reset, counted_part, counted_moves}
 use Rattle.mm_call.specs.Premises.{AreShown}
 use Rattle.mm_call.specs.Tied.{foreign_items, standing_items, Tied, shows, nothing}
-use Rattle.mm_call.proofs.Moving.{committed_in}
+use Rattle.mm_call.specs.MoveLaws.{committed_in}
 use Rattle.mm_call.proofs.OptShapes.{Shape, still, reset}
 use Rattle.mm_call.proofs.OptShut.{bare, bare_digests, counted_open, counted_shut}
-use Rattle.mm_call.proofs.Showing.{Counts}
+use Rattle.mm_call.specs.ShowingLaws.{Counts}
 use Rattle.mm_call.proofs.Tied.{opt_tied, foreign_of-append}
-use Rattle.mm_call.proofs.Walks.{nothing as none, batch, finished, changing, opt_commits, taking, committed-foreign, from_reset-foreign}
+use Rattle.mm_call.specs.WalkLaws.{nothing as none, batch, finished, changing, opt_commits, taking, committed-foreign, from_reset-foreign}
 use Rattle.mm_model.specs.Steps.{Reads}
 
 -- The ways of a call: it makes its reading steps alone; it is broken off before it commits; or it commits the batch.

@@ -8,12 +8,12 @@ use Rattle.mm_digest.specs.declared.variant.Variant.TheVariants.{Basic}
 use Rattle.mm_platform.specs.Standing.{Standing}
 use Rattle.mm_module.specs.Meaning.{Meaning, IsLawful, state_after}
 use Rattle.mm_module.specs.Batch.{Batch, One}
-use Rattle.mm_module.proofs.BatchLaws.{size_of-pos}
-use Rattle.mm_module.proofs.RunLaws.{state_after-is_spelled}
+use Rattle.mm_module.specs.BatchLaws.{size_of-pos}
+use Rattle.mm_module.specs.RunLaws.{state_after-is_spelled}
 use Rattle.mm_seal.specs.declared.snapshot.PartsFault.{PartsFault}
 use Rattle.mm_seal.specs.Parts.{parts_of}
 use Rattle.mm_seal.specs.Snapshot.{Content, Snapshot, IsContent, tag_of}
-use Rattle.mm_seal.proofs.SealLaws.{sealed_once}
+use Rattle.mm_seal.specs.SealLaws.{sealed_once}
 use Rattle.mm_model.specs.Chains.{link_message, summary_of}
 use Rattle.mm_model.specs.Instance.{Instance}
 use Rattle.mm_model.specs.InstanceWords.{basic}
@@ -22,7 +22,7 @@ use Rattle.mm_model.specs.Fit.{IsFit}
 use Rattle.mm_model.specs.Messages.{Within}
 use Rattle.mm_model.specs.Places.{Names, issued}
 use Rattle.mm_model.specs.Standing.{StandsFor, IsRight, issued_bytes}
-use Rattle.mm_model.proofs.Chains.{length-summary_of}
+use Rattle.mm_model.specs.ChainLaws.{length-summary_of}
 use Rattle.mm_model.proofs.MovedDigests.{total-push}
 use Rattle.mm_model.proofs.Named.{basic_issued}
 use Rattle.mm_model.specs.declared.answer.BatchAnswer.{BatchAnswer}

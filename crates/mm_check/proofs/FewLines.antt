@@ -5,7 +5,7 @@ use Rattle.std.proofs.lemmas.List.{length-drop}
 use Rattle.mm_base.specs.Limits.{most_members}
 use Rattle.mm_module.specs.Batch.{Batch, size_of, normal}
 use Rattle.mm_module.specs.Meaning.{outputs_from}
-use Rattle.mm_module.proofs.RunLaws.{length-outputs_from}
+use Rattle.mm_module.specs.RunLaws.{length-outputs_from}
 use Rattle.mm_platform.specs.declared.fault.StepFault.{StepFault}
 use Rattle.mm_platform.specs.declared.plan.Meddle.{Meddle}
 use Rattle.mm_platform.specs.declared.plan.Stop.{Stop}

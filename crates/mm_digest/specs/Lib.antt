@@ -2,3 +2,4 @@ pub mod Messages
 pub mod Hmac
 pub mod MessagesWords
 pub mod HmacWords
+pub mod LengthLaws

@@ -11,7 +11,7 @@ use Rattle.std.proofs.lemmas.Fmt.{digits_decimal}
 use Rattle.std.proofs.lemmas.List.Splits.{slice_split_none, slice_split_at}
 use Rattle.std.proofs.lemmas.Str.Parse.{numerals_by_value, tells_all_ascii_digits}
 use Rattle.mm_base.specs.Decimals.{decimal_number}
-use Rattle.mm_base.proofs.DecimalLemmas.{read_by_spelling}
+use Rattle.mm_base.specs.DecimalLaws.{read_by_spelling}
 use Rattle.mm_base.specs.Limits.{last_position}
 use Rattle.mm_module.specs.LineLaws.{and-true, list_all-get_or}
 use Rattle.mm_module.specs.Meaning.{outputs_from}

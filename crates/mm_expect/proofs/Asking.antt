@@ -10,13 +10,13 @@ use Rattle.mm_platform.specs.declared.fault.StepFault.{StepFault}
 use Rattle.mm_platform.specs.declared.plan.Meddle.{Meddle}
 use Rattle.mm_platform.specs.declared.plan.Stop.{Stop}
 use Rattle.mm_module.specs.Batch.{Batch, size_of}
-use Rattle.mm_module.proofs.BatchLaws.{size_of-pos}
+use Rattle.mm_module.specs.BatchLaws.{size_of-pos}
 use Rattle.mm_model.specs.Instance.{Instance}
 use Rattle.mm_model.specs.History.{History, Move, Commit, Foreign, Placed, Reset, Close, Power, moved, total_of}
 use Rattle.mm_model.specs.Judge.{is_last}
 use Rattle.mm_model.specs.Steps.{Step, Reads, ask_steps}
 use Rattle.mm_model.specs.declared.refusal.Refusal.{Refusal}
-use Rattle.mm_model.proofs.Batches.{is_last_of}
+use Rattle.mm_model.specs.BatchLaws.{is_last_of}
 use Rattle.mm_model.proofs.MovedDigests.{total-push}
 use Rattle.mm_call.specs.Answers.{answer_on}
 use Rattle.mm_call.specs.Levels.{by_lists, all_made}
@@ -27,10 +27,10 @@ use Rattle.mm_call.specs.Called.{Answers, Breaks, Called, reading_steps, positio
 use Rattle.mm_call.specs.CalledWords.{kept_at, called_with}
 use Rattle.mm_call.specs.declared.ended.Ended.{Ended}
 use Rattle.mm_call.specs.declared.ended.Ended.TheVariants.{Answered, Refused, Broken}
-use Rattle.mm_call.proofs.Moving.{committed_in, same_batches, more_batches}
-use Rattle.mm_call.proofs.Walks.{Commits, nothing, batch, finished, commits-none, writing_commits, commits_batch, seen_none}
-use Rattle.mm_call.proofs.Along.{reading_none}
-use Rattle.mm_call.proofs.Walks as walks
+use Rattle.mm_call.specs.MoveLaws.{committed_in, same_batches, more_batches}
+use Rattle.mm_call.specs.WalkLaws.{Commits, nothing, batch, finished, commits-none, writing_commits, commits_batch, seen_none}
+use Rattle.mm_call.specs.AlongLaws.{reading_none}
+use Rattle.mm_call.specs.WalkLaws as walks
 use Rattle.mm_run.specs.Folds.{course_of}
 use Rattle.mm_run.specs.FoldsWords.{plan_of}
 use Rattle.mm_expect.specs.Recorded.{Recorded, Went, recorded_instance, instance_with}

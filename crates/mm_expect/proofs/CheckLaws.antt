@@ -18,8 +18,8 @@ use Rattle.mm_call.specs.CoursesWords.{end_of}
 use Rattle.mm_call.specs.Called.{reading_steps, seen_at}
 use Rattle.mm_call.specs.Checkpoints as ghost_closing
 use Rattle.mm_call.specs.CheckpointsWords as ghost_closing_words
-use Rattle.mm_call.proofs.Walks.{finished}
-use Rattle.mm_call.proofs.Along.{closes-append, closes-foreign, ClosesNone, shut_along, walk_along}
+use Rattle.mm_call.specs.WalkLaws.{finished}
+use Rattle.mm_call.specs.AlongLaws.{closes-append, closes-foreign, ClosesNone, shut_along, walk_along}
 use Rattle.mm_run.specs.Folds.{course_of}
 use Rattle.mm_run.specs.FoldsWords.{plan_of}
 use Rattle.mm_run.proofs.Naming.{last_steps}

@@ -19,9 +19,9 @@ use Rattle.mm_call.specs.Found.{Found, found_at}
 use Rattle.mm_call.specs.FoundWords.{found_unless_wanting, is_fresh}
 use Rattle.mm_call.specs.Levels.{by_lists, all_made}
 use Rattle.mm_call.proofs.BasicLaw.{unlacked}
-use Rattle.mm_call.proofs.Moving.{committed_in, same_batches, more_batches}
-use Rattle.mm_call.proofs.Walks.{Commits, nothing, batch, call_commits}
-use Rattle.mm_call.proofs.Along.{checkpoint_none}
+use Rattle.mm_call.specs.MoveLaws.{committed_in, same_batches, more_batches}
+use Rattle.mm_call.specs.WalkLaws.{Commits, nothing, batch, call_commits}
+use Rattle.mm_call.specs.AlongLaws.{checkpoint_none}
 use Rattle.mm_call.proofs.Endings.{fresh_found}
 use Rattle.mm_schedule.specs.declared.reply.Cause.TheVariants as cause
 use Rattle.mm_schedule.specs.declared.reply.Reply.TheVariants as reply

@@ -6,11 +6,11 @@ use Rattle.std.specs.Bool.{Decides}
 use Rattle.std.proofs.lemmas.Bool.Decides.{Decides-eqb, Decides-and, Decides-like}
 use Rattle.std.proofs.lemmas.List.{append-nil}
 use Rattle.mm_module.specs.Batch.{Batch, size_of}
-use Rattle.mm_module.proofs.BatchLaws.{size_of-pos}
-use Rattle.mm_seal.proofs.Reading.{le_tells}
+use Rattle.mm_module.specs.BatchLaws.{size_of-pos}
+use Rattle.mm_seal.specs.ReadingLaws.{le_tells}
 use Rattle.mm_model.specs.History.{total_of}
 use Rattle.mm_model.specs.Life.{is_empty, same_batch}
-use Rattle.mm_model.proofs.Batches.{same_batch-Decides, total-cons}
+use Rattle.mm_model.specs.BatchLaws.{same_batch-Decides, total-cons}
 use Rattle.mm_expect.specs.Naming.{first_with, same_batches}
 
 pub le-Decides : (m n : ℕ) → Decides (nat_le m n) (m ≤ n)

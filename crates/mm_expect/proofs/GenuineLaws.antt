@@ -5,24 +5,24 @@ use Rattle.std.specs.Str.{bytes_eq}
 use Rattle.std.specs.List.{AllByRecursion}
 use Rattle.std.proofs.lemmas.Slice.Eq.{bytes_eq-Decides}
 use Rattle.mm_digest.specs.declared.variant.Variant.TheVariants.{Basic, Opt}
-use Rattle.mm_digest.proofs.Lengths.{length-zero_bytes}
+use Rattle.mm_digest.specs.LengthLaws.{length-zero_bytes}
 use Rattle.mm_module.specs.Meaning.{Meaning, IsLawful, state_after}
-use Rattle.mm_module.proofs.RunLaws.{state_after-is_spelled}
+use Rattle.mm_module.specs.RunLaws.{state_after-is_spelled}
 use Rattle.mm_module.specs.Batch.{Batch}
 use Rattle.mm_seal.specs.declared.snapshot.Place.{Place}
 use Rattle.mm_seal.specs.declared.snapshot.Place.TheVariants.{Basic as InBasic, Opt as InOpt}
 use Rattle.mm_seal.specs.declared.snapshot.PartsFault.{PartsFault}
 use Rattle.mm_seal.specs.Parts.{parts_of}
 use Rattle.mm_seal.specs.Snapshot.{Content, Snapshot, IsContent, IsPlace, tag_of, offered_of, sealed_of, snapshot_front}
-use Rattle.mm_seal.proofs.SealLaws.{sealed_parts, sealed_once}
+use Rattle.mm_seal.specs.SealLaws.{sealed_parts, sealed_once}
 use Rattle.mm_base.specs.Limits.{last_position, limit_of}
 use Rattle.mm_model.specs.Instance.{Instance}
 use Rattle.mm_model.specs.InstanceWords.{basic, opt}
 use Rattle.mm_model.specs.History.{History, requests_of, total_of}
 use Rattle.mm_model.specs.Places.{IsPoint, at_anchor, in_closed, in_current, IsPlaceOf, Names}
 use Rattle.mm_model.specs.Standing.{IsRight, IsGenuine}
-use Rattle.mm_model.proofs.Batches.{total-append}
-use Rattle.mm_model.proofs.Chains.{length-summary_of, length-anchor_of, length-register_of}
+use Rattle.mm_model.specs.BatchLaws.{total-append}
+use Rattle.mm_model.specs.ChainLaws.{length-summary_of, length-anchor_of, length-register_of}
 use Rattle.mm_call.specs.Found.{right_content}
 use Rattle.mm_call.specs.FoundWords.{content_if_right}
 use Rattle.mm_call.proofs.Finding.{right_is}

@@ -14,12 +14,12 @@ use Rattle.mm_model.specs.History.{Entry, Own, Value, History, joined, total_of,
 use Rattle.mm_model.specs.HistoryWords.{values_of, cell_digest_of}
 use Rattle.mm_model.specs.Life.{is_empty, has_value, are_own, same_batch}
 use Rattle.mm_model.specs.PlacesWords.{digest_of}
-use Rattle.mm_model.proofs.Batches.{same_batch-Decides}
-use Rattle.mm_model.proofs.Digests.{summary-push, register-push, anchor-push}
-use Rattle.mm_model.proofs.Forms.{reads_zero}
-use Rattle.mm_model.proofs.Histories.{own_values-append, has_value-append}
+use Rattle.mm_model.specs.BatchLaws.{same_batch-Decides}
+use Rattle.mm_model.specs.DigestLaws.{summary-push, register-push, anchor-push}
+use Rattle.mm_model.specs.FormLaws.{reads_zero}
+use Rattle.mm_model.specs.HistoryLaws.{own_values-append, has_value-append}
 use Rattle.mm_model.proofs.MovedDigests.{total-push, register_more}
-use Rattle.mm_model.proofs.Segments.{joined-push}
+use Rattle.mm_model.specs.SegmentLaws.{joined-push}
 use Rattle.mm_model.specs.declared.kept.KeptBatch.{KeptBatch}
 use Rattle.mm_model.specs.declared.kept.KeptEntry.{KeptEntry}
 use Rattle.mm_model.specs.Kept.{kept_batch, kept_batches, kept_entry, kept_entries}

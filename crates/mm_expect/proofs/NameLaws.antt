@@ -6,7 +6,7 @@ use Rattle.std.specs.Bool.{Decides}
 use Rattle.std.proofs.lemmas.Bool.Decides.{Decides-eqb, Decides-and, Decides-or, Decides-like, Decides-ltb}
 use Rattle.std.proofs.lemmas.List.{append-nil, take-append-drop, length-take, drop-append-le, take-append-le}
 use Rattle.std.proofs.Common.{length-drop}
-use Rattle.mm_model.proofs.Segments.{not_empty}
+use Rattle.mm_model.specs.SegmentLaws.{not_empty}
 use Rattle.std.proofs.Math.Seq.{drop-append_seam}
 use Rattle.std.proofs.lemmas.Slice.Eq.{bytes_eq-Decides}
 use Rattle.mm_digest.specs.declared.variant.Variant.{Variant}
@@ -28,7 +28,7 @@ use Rattle.mm_model.specs.InstanceWords.{basic, opt}
 use Rattle.mm_model.specs.History.{Entry, History, requests_of, total_of, joined}
 use Rattle.mm_model.specs.Life.{is_empty, has_value}
 use Rattle.mm_model.specs.Places.{IsPoint, at_anchor, in_closed, in_current, IsPlaceOf, Names, anchor_after}
-use Rattle.mm_model.proofs.Batches.{same_fronts}
+use Rattle.mm_model.specs.BatchLaws.{same_fronts}
 use Rattle.mm_expect.specs.Naming.{IsDecided, first_with, same_batches, is_at, is_behind, is_within, is_inside_at, some_place, is_place, is_named_at, is_named, same_summary, BasicNamesAreDecided, OptNamesAreDecided}
 use Rattle.mm_expect.proofs.FirstLaws.{le-Decides, first_tells, first_is, same-Decides, empty-Decides, some_taken, not-Decides}
 

@@ -20,8 +20,8 @@ use Rattle.mm_model.specs.ChainsWords.{own_values}
 use Rattle.mm_model.specs.History.{Entry, History, requests_of, joined}
 use Rattle.mm_model.specs.HistoryWords.{values_of}
 use Rattle.mm_model.specs.Life.{is_empty, has_value}
-use Rattle.mm_model.proofs.Histories.{has_value-append}
-use Rattle.mm_model.proofs.Segments.{joined-push}
+use Rattle.mm_model.specs.HistoryLaws.{has_value-append}
+use Rattle.mm_model.specs.SegmentLaws.{joined-push}
 use Rattle.mm_model.specs.Long.{is_long}
 use Rattle.mm_model.specs.declared.kept.KeptBatch.{KeptBatch}
 use Rattle.mm_model.specs.declared.kept.KeptEntry.{KeptEntry}

@@ -8,14 +8,14 @@ use Rattle.mm_platform.specs.declared.plan.Meddle.{Meddle}
 use Rattle.mm_platform.specs.declared.plan.Stop.{Stop}
 use Rattle.mm_module.specs.Meaning.{Meaning, IsLawful, state_after, outputs_from}
 use Rattle.mm_module.specs.Batch.{Batch, members_of, size_of, normal}
-use Rattle.mm_module.proofs.RunLaws.{state_after-is_spelled, length-outputs_from}
+use Rattle.mm_module.specs.RunLaws.{state_after-is_spelled, length-outputs_from}
 use Rattle.mm_model.specs.Instance.{Instance}
 use Rattle.mm_model.specs.History.{History, requests_of, total_of}
 use Rattle.mm_model.specs.Judge.{is_last}
 use Rattle.mm_model.specs.Long.{is_long}
 use Rattle.mm_model.specs.Steps.{ask_steps}
 use Rattle.mm_model.specs.declared.refusal.Refusal.{Refusal}
-use Rattle.mm_model.proofs.Batches.{is_last_tells, is_last_of}
+use Rattle.mm_model.specs.BatchLaws.{is_last_tells, is_last_of}
 use Rattle.mm_model.proofs.MovedDigests.{total-push}
 use Rattle.mm_call.specs.Answers.{answer_on}
 use Rattle.mm_call.specs.AnswersWords.{last_outputs}
@@ -28,8 +28,8 @@ use Rattle.mm_call.specs.FoundWords.{found_unless_wanting, is_fresh}
 use Rattle.mm_call.specs.Levels.{by_lists, all_made}
 use Rattle.mm_call.proofs.BasicLaw.{unlacked}
 use Rattle.mm_call.proofs.Calling.{said_last}
-use Rattle.mm_call.proofs.Moving.{same_batches, more_batches}
-use Rattle.mm_call.proofs.Walks.{Commits, nothing, batch, call_commits}
+use Rattle.mm_call.specs.MoveLaws.{same_batches, more_batches}
+use Rattle.mm_call.specs.WalkLaws.{Commits, nothing, batch, call_commits}
 use Rattle.mm_schedule.specs.declared.reply.Way.{Way}
 use Rattle.mm_schedule.specs.declared.reply.Cause.TheVariants as cause
 use Rattle.mm_schedule.specs.declared.reply.Reply.TheVariants as reply

@@ -12,7 +12,7 @@ use Rattle.mm_base.specs.Limits.{limit_of}
 use Rattle.mm_digest.specs.Messages.{zero_bytes, start_of}
 use Rattle.mm_module.specs.Meaning.{state_after, outputs_from}
 use Rattle.mm_module.specs.MeaningWords.{state_from}
-use Rattle.mm_module.proofs.RunLaws.{state_after-append, state_from-is_spelled}
+use Rattle.mm_module.specs.RunLaws.{state_after-append, state_from-is_spelled}
 use Rattle.mm_modules.specs.declared.any.AnyModule.{AnyModule}
 use Rattle.mm_modules.specs.Modules.{meaning_of}
 use Rattle.mm_modules.specs.ModulesLaws.{any_is_lawful}
@@ -23,12 +23,12 @@ use Rattle.mm_model.specs.Judge.{is_last}
 use Rattle.mm_model.specs.Long.{is_long}
 use Rattle.mm_model.specs.PlacesWords.{digest_of}
 use Rattle.mm_model.specs.Standing.{issued_bytes}
-use Rattle.mm_model.proofs.Batches.{is_last_tells}
-use Rattle.mm_model.proofs.Forms.{reads_zero}
+use Rattle.mm_model.specs.BatchLaws.{is_last_tells}
+use Rattle.mm_model.specs.FormLaws.{reads_zero}
 use Rattle.mm_call.specs.Answers.{answer_on}
 use Rattle.mm_call.specs.AnswersWords.{last_outputs}
 use Rattle.mm_call.specs.declared.ended.Ended.TheVariants.{Answered}
-use Rattle.mm_call.proofs.Moving.{anchor-nil, summary-nil}
+use Rattle.mm_call.specs.MoveLaws.{anchor-nil, summary-nil}
 use Rattle.mm_model.specs.Life.{is_empty, has_value}
 use Rattle.mm_call.proofs.Calling.{requests-push, said_last}
 use Rattle.mm_expect.specs.declared.marks.Marks.{Marks}

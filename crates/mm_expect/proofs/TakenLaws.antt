@@ -10,7 +10,7 @@ use Rattle.std.proofs.lemmas.List.{append-nil, map-append, take-map, drop-map, t
 use Rattle.mm_module.specs.Batch.{Batch, members_of}
 use Rattle.mm_module.specs.Meaning.{Meaning, state_after}
 use Rattle.mm_module.specs.MeaningWords.{state_from}
-use Rattle.mm_module.proofs.RunLaws.{state_after-append}
+use Rattle.mm_module.specs.RunLaws.{state_after-append}
 use Rattle.mm_digest.specs.declared.variant.Variant.TheVariants.{Opt}
 use Rattle.mm_digest.specs.Messages.{zero_bytes, start_of, anchored_of}
 use Rattle.mm_model.specs.Chains.{link, summary_of, register_of, anchor_of}
@@ -18,7 +18,7 @@ use Rattle.mm_model.specs.ChainsWords.{own_values}
 use Rattle.mm_model.specs.History.{Entry, requests_of}
 use Rattle.mm_model.specs.HistoryWords.{values_of}
 use Rattle.mm_model.specs.Long.{is_long}
-use Rattle.mm_model.proofs.Digests.{summary-push, anchor-push}
+use Rattle.mm_model.specs.DigestLaws.{summary-push, anchor-push}
 use Rattle.mm_model.specs.declared.kept.KeptBatch.{KeptBatch}
 use Rattle.mm_model.specs.declared.kept.KeptEntry.{KeptEntry}
 use Rattle.mm_model.specs.Kept.{kept_batch, kept_batches, kept_entries, kept_segments}

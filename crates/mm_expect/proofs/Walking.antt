@@ -17,7 +17,7 @@ use Rattle.mm_model.specs.Steps.{Step}
 use Rattle.mm_call.specs.Levels.{by_lists, all_made}
 use Rattle.mm_call.specs.Courses.{Fate, step_moves, after_step, walk, planned}
 use Rattle.mm_call.specs.CoursesWords.{made_move, end_of}
-use Rattle.mm_call.proofs.Walks.{made-append}
+use Rattle.mm_call.specs.WalkLaws.{made-append}
 use Rattle.mm_run.specs.FoldsWords.{plan_of}
 use Rattle.mm_expect.specs.Numbered.{messages_if, messages_where}
 use Rattle.mm_expect.specs.Recorded.{Recorded, Went, recorded_instance, instance_with}

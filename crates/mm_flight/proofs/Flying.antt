@@ -12,7 +12,7 @@ use Rattle.mm_platform.specs.declared.plan.Stop.TheVariants.{Quiet}
 use Rattle.mm_platform.specs.Standing.{Plan, Standing}
 use Rattle.mm_platform.specs.StandingWords.{due}
 use Rattle.mm_platform.specs.Memory.{meddling}
-use Rattle.mm_call.proofs.Telling.{IsAt, then_at, room_at}
+use Rattle.mm_call.specs.TellingLaws.{IsAt, then_at, room_at}
 use Rattle.mm_flight.specs.InFlight.{plan_by, under, SaySame, GoesOnAs, InFlight}
 use Rattle.mm_flight.proofs.Replanning.{Replans, Moves, counted_few}
 

@@ -4,7 +4,7 @@ use Rattle.std.specs.Prelude.{min}
 use Rattle.std.proofs.lemmas.Bool.{cases_lt}
 use Rattle.std.proofs.lemmas.List.{length-take}
 use Rattle.mm_base.specs.Input.{lines_joined}
-use Rattle.mm_base.proofs.Input.{joined-append}
+use Rattle.mm_base.specs.InputLaws.{joined-append}
 use Rattle.mm_schedule.specs.declared.header.Header.{Header}
 use Rattle.mm_gen.specs.Schedules.{lines_from, schedule_text, words_at}
 use Rattle.mm_gen.specs.Turns.{turn_lines}

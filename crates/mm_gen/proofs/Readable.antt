@@ -6,7 +6,7 @@ use Rattle.std.proofs.lemmas.List.{append-nil, length-append, length-take-le}
 use Rattle.std.proofs.lemmas.List.Elements.{All-append, All-from_recursion, All-nil, All-take, All-weaker, recursion_from_All}
 use Rattle.rand_chacha.specs.ChaCha.{key_of}
 use Rattle.mm_base.specs.Input.{IsUnbroken, lines_joined, lines_of, tail_of}
-use Rattle.mm_base.proofs.Input.{lines_of-joined, tail_of-joined}
+use Rattle.mm_base.specs.InputLaws.{lines_of-joined, tail_of-joined}
 use Rattle.mm_base.specs.Limits.{most_events}
 use Rattle.mm_digest.specs.declared.variant.Variant.{Variant}
 use Rattle.mm_digest.specs.declared.variant.Variant.TheVariants.{Basic, Opt}

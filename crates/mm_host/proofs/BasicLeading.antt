@@ -13,7 +13,7 @@ use Rattle.mm_model.specs.InstanceWords.{basic}
 use Rattle.mm_model.specs.History.{History, first_history}
 use Rattle.mm_model.specs.Places.{IsPlaceOf, Names, issued}
 use Rattle.mm_model.specs.PlacesWords.{digest_of}
-use Rattle.mm_model.proofs.Batches.{total-nil}
+use Rattle.mm_model.specs.BatchLaws.{total-nil}
 use Rattle.mm_host.proofs.BothRecovering.{basic_called, basic_met}
 use Rattle.mm_host.proofs.Machining.{basic_content}
 use Rattle.mm_host.proofs.Leading.{Laws}

@@ -27,11 +27,11 @@ use Rattle.mm_call.specs.Premises.{AreAsked, AreShown, IsIdle}
 use Rattle.mm_call.specs.Refusals.{fault_of}
 use Rattle.mm_call.specs.Tied.{standing_items}
 use Rattle.mm_call.proofs.Continuing.{stands_at}
-use Rattle.mm_call.proofs.Moving.{same_batches}
+use Rattle.mm_call.specs.MoveLaws.{same_batches}
 use Rattle.mm_call.proofs.OptLaw.{before as seen_before}
 use Rattle.mm_call.proofs.OptShut.{bare}
 use Rattle.mm_call.proofs.Idle.{asked_for, asked_idle}
-use Rattle.mm_call.proofs.Walks.{foreign_first}
+use Rattle.mm_call.specs.WalkLaws.{foreign_first}
 use Rattle.mm_callers.proofs.Calls.{is_asked as basic_asked, names_made, Comes, comes as basic_comes}
 use Rattle.mm_callers.proofs.OptAlike.{Alike, still, grown_by}
 use Rattle.mm_callers.proofs.OptCalls.{comes}

@@ -6,7 +6,7 @@ use Rattle.std.specs.List.{Contains}
 use Rattle.mm_digest.specs.declared.variant.Variant.{Variant}
 use Rattle.mm_digest.specs.declared.variant.Variant.TheVariants.{Basic, Opt}
 use Rattle.mm_digest.specs.Messages.{start_message}
-use Rattle.mm_digest.proofs.Lengths.{length-zero_bytes, length-start_of}
+use Rattle.mm_digest.specs.LengthLaws.{length-zero_bytes, length-start_of}
 use Rattle.mm_module.specs.Batch.{Batch}
 use Rattle.mm_module.specs.Meaning.{Meaning, IsLawful}
 use Rattle.mm_seal.specs.Snapshot.{IsContent}
@@ -19,7 +19,7 @@ use Rattle.mm_model.proofs.Fitting.{sealed_of-most}
 use Rattle.mm_model.proofs.Named.{basic_issued, opt_issued}
 use Rattle.mm_call.specs.Asked.{IsWithin}
 use Rattle.mm_call.specs.Standing.{instance_by}
-use Rattle.mm_call.proofs.Moving.{anchor-nil, summary-nil}
+use Rattle.mm_call.specs.MoveLaws.{anchor-nil, summary-nil}
 use Rattle.mm_store.specs.Pending.{ReadsPending}
 use Rattle.mm_store.specs.Slots.{longest_slot, slot_read}
 use Rattle.mm_store.proofs.PendingLaws.{reads_none-short}

@@ -10,7 +10,7 @@ use Rattle.mm_platform.specs.Standing.{Standing}
 use Rattle.mm_module.specs.Batch.{Batch, One}
 use Rattle.mm_seal.specs.Snapshot.{Content, offered_of, sealed_of, tag_of}
 use Rattle.mm_seal.specs.Parts.{parts_of}
-use Rattle.mm_seal.proofs.SealLaws.{sealed_parts}
+use Rattle.mm_seal.specs.SealLaws.{sealed_parts}
 use Rattle.mm_model.specs.Instance.{Instance}
 use Rattle.mm_model.specs.History.{History, Commit, moved, requests_of, total_of}
 use Rattle.mm_model.specs.Fit.{IsFit}

@@ -3,7 +3,7 @@ use Rattle.std.proofs.Common.{lit≤, ◌≡◌, ◌∙◌, ◌+◌, ◌≤◌, 
 use Rattle.std.specs.Io.KnownBytes.{Appends, Consumes}
 use Rattle.std.proofs.KnownBytes.{Appends-nil, Appends-trans, Consumes-nil, Consumes-trans}
 use Rattle.mm_base.specs.Input.{lines_joined}
-use Rattle.mm_base.proofs.Input.{joined-append}
+use Rattle.mm_base.specs.InputLaws.{joined-append}
 use Rattle.mm_digest.specs.declared.variant.Variant.{Variant}
 use Rattle.mm_platform.specs.Standing.{Standing}
 use Rattle.mm_module.specs.Meaning.{Meaning}

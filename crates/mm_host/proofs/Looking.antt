@@ -33,8 +33,8 @@ use Rattle.mm_call.proofs.OptHolding.{agrees_is, foreign_may, is_agrees}
 use Rattle.mm_call.proofs.OptShut.{bare, counted_open, foreign_agrees, holds_open, within_items, within_of}
 use Rattle.mm_call.proofs.OptWalks.{foreign_all, holds_made}
 use Rattle.mm_call.proofs.Tied.{foreign_messages}
-use Rattle.mm_call.proofs.Trails.{foreign_made, foreign_values, reads_beside, reads_of, with_register}
-use Rattle.mm_call.proofs.Walks.{taking, taking_is}
+use Rattle.mm_call.specs.TrailLaws.{foreign_made, foreign_values, reads_beside, reads_of, with_register}
+use Rattle.mm_call.specs.WalkLaws.{taking, taking_is}
 use Rattle.mm_callers.proofs.OptAlike.{alike_commit, issued_alike, names_alike}
 use Rattle.mm_callers.proofs.OptShown.{shown_back, shown_front, shown_shut}
 use Rattle.mm_store.specs.Kept.{StoreStanding}

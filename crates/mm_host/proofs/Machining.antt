@@ -5,7 +5,7 @@ use Rattle.mm_digest.specs.declared.variant.Variant.{Variant}
 use Rattle.mm_digest.specs.declared.variant.Variant.TheVariants.{Basic, Opt}
 use Rattle.mm_module.specs.Meaning.{Meaning, IsLawful, state_after}
 use Rattle.mm_module.specs.Batch.{Batch, One}
-use Rattle.mm_module.proofs.RunLaws.{state_after-is_spelled}
+use Rattle.mm_module.specs.RunLaws.{state_after-is_spelled}
 use Rattle.mm_seal.specs.Snapshot.{IsContent, variant_of}
 use Rattle.mm_model.specs.Instance.{Instance}
 use Rattle.mm_model.specs.InstanceWords.{basic, opt}
@@ -14,7 +14,7 @@ use Rattle.mm_model.specs.Life.{has_value}
 use Rattle.mm_model.specs.Places.{Names, issued, issued_place}
 use Rattle.mm_model.specs.Sound.{IsSound}
 use Rattle.mm_model.specs.Standing.{issued_bytes}
-use Rattle.mm_model.proofs.Chains.{length-summary_of}
+use Rattle.mm_model.specs.ChainLaws.{length-summary_of}
 use Rattle.mm_model.proofs.MovedDigests.{total-push}
 use Rattle.mm_model.proofs.Named.{basic_issued, opt_issued}
 use Rattle.mm_model.specs.declared.answer.Answer.{Answer}

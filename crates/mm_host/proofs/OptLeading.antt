@@ -29,8 +29,8 @@ use Rattle.mm_call.specs.Premises.{AreAsked, AreShown}
 use Rattle.mm_call.specs.Standing.{shown}
 use Rattle.mm_call.specs.Tied.{standing_items}
 use Rattle.mm_call.proofs.OptShut.{bare, counted_open}
-use Rattle.mm_call.proofs.Walks.{asks}
-use Rattle.mm_call.proofs.Along.{opt_closes}
+use Rattle.mm_call.specs.WalkLaws.{asks}
+use Rattle.mm_call.specs.AlongLaws.{opt_closes}
 use Rattle.mm_callers.proofs.OptAlike.{Alike, still, grown_by, alike_commit, clean_open, issued_alike, names_after, opened, same_closed}
 use Rattle.mm_callers.proofs.OptAsking.{issued_content}
 use Rattle.mm_callers.proofs.OptLeaves.{GoesOn, Hands, hands}

@@ -25,8 +25,8 @@ use Rattle.mm_call.specs.Levels.{by_lists, all_made}
 use Rattle.mm_call.proofs.BasicLaw.{unlacked}
 use Rattle.mm_call.proofs.OptFinding.{live_found}
 use Rattle.mm_call.proofs.OptLaw.{before}
-use Rattle.mm_call.proofs.Walks.{opt_commits, changing, asks}
-use Rattle.mm_call.proofs.Along.{GoesAlong, EachMove, walk_along, closes_first, closed_kept, opt_closes}
+use Rattle.mm_call.specs.WalkLaws.{opt_commits, changing, asks}
+use Rattle.mm_call.specs.AlongLaws.{GoesAlong, EachMove, walk_along, closes_first, closed_kept, opt_closes}
 use Rattle.mm_call.proofs.OptMay.{AllMay, ask_may}
 use Rattle.mm_callers.proofs.OptLeaves.{alike_of}
 use Rattle.mm_callers.proofs.Calls.{answered_only}

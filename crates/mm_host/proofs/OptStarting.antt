@@ -14,8 +14,8 @@ use Rattle.mm_model.specs.Life.{has_value, is_empty}
 use Rattle.mm_model.specs.Places.{IsPoint, at_anchor, in_closed, in_current, IsPlaceOf, anchor_after, issued}
 use Rattle.mm_model.specs.PlacesWords.{digest_of}
 use Rattle.mm_model.specs.Sound.{IsSound, batches_in}
-use Rattle.mm_model.proofs.Histories.{has_value-append}
-use Rattle.mm_model.proofs.Lists.{each_left}
+use Rattle.mm_model.specs.HistoryLaws.{has_value-append}
+use Rattle.mm_model.specs.ListLaws.{each_left}
 use Rattle.mm_call.proofs.OptShut.{bare}
 
 no_segments : (segments : List (List Entry)) → AllByRecursion (λ segment. is_empty segment ≡ false) segments → length (joined segments) ≡ 0

@@ -5,7 +5,7 @@ use Rattle.mm_base.specs.Limits.{last_position, longest_request}
 use Rattle.mm_platform.specs.Standing.{Standing}
 use Rattle.mm_module.specs.Batch.{Batch, One}
 use Rattle.mm_seal.specs.Snapshot.{Content}
-use Rattle.mm_seal.proofs.SealLaws.{sealed_once}
+use Rattle.mm_seal.specs.SealLaws.{sealed_once}
 use Rattle.mm_model.specs.Instance.{Instance}
 use Rattle.mm_model.specs.History.{History, Commit, moved, requests_of, total_of}
 use Rattle.mm_model.specs.Life.{Lost as LostLife, life_of}

@@ -3,7 +3,7 @@ use Rattle.std.proofs.Common.{◌≡◌, ◌∙◌, ℕ, List, [], ◌∷◌, �
 use Rattle.std.specs.Io.KnownBytes.{Consumes, IsAtEnd}
 use Rattle.std.specs.List.{AllByRecursion}
 use Rattle.mm_base.specs.Input.{IsUnbroken, lines_joined, lines_of}
-use Rattle.mm_base.proofs.Input.{lines_of-joined, lines_of-line}
+use Rattle.mm_base.specs.InputLaws.{lines_of-joined, lines_of-line}
 use Rattle.mm_digest.specs.declared.variant.Variant.{Variant}
 use Rattle.mm_module.specs.Meaning.{Meaning}
 use Rattle.mm_host.specs.declared.resuming.Resumed.TheVariants.{Answered}

@@ -13,7 +13,7 @@ use Rattle.mm_platform.specs.declared.fault.StepFault.{StepFault}
 use Rattle.mm_seal.specs.Snapshot.{Content, Snapshot, tag_of, offered_of}
 use Rattle.mm_seal.specs.Parts.{parts_of}
 use Rattle.mm_seal.specs.declared.snapshot.PartsFault.{PartsFault}
-use Rattle.mm_seal.proofs.SealLaws.{sealed_parts}
+use Rattle.mm_seal.specs.SealLaws.{sealed_parts}
 use Rattle.mm_model.specs.History.{History, Move, Foreign, total_of}
 use Rattle.mm_model.specs.Instance.{Instance}
 use Rattle.mm_model.specs.InstanceWords.{basic, opt}
@@ -24,7 +24,7 @@ use Rattle.mm_model.specs.Steps.{Step, ask_steps}
 use Rattle.mm_model.specs.declared.refusal.Refusal.{Refusal}
 use Rattle.mm_model.specs.declared.refusal.Refusal.TheVariants.{Memory, Device, Lost, Stale}
 use Rattle.mm_model.specs.declared.verdict.Verdict.{Verdict}
-use Rattle.mm_model.proofs.Batches.{before_the_last}
+use Rattle.mm_model.specs.BatchLaws.{before_the_last}
 use Rattle.mm_call.specs.Called.{ended_by, given_for, called}
 use Rattle.mm_call.specs.Courses.{Course, Fate, Walked, walk}
 use Rattle.mm_call.specs.Found.{Found, found_by_verdict, found_at}
@@ -34,8 +34,8 @@ use Rattle.mm_call.specs.Order.{admitted, examined}
 use Rattle.mm_call.specs.OrderWords.{weighed}
 use Rattle.mm_call.proofs.OptLaw.{before, sight_is}
 use Rattle.mm_call.proofs.OptWalks.{path_is}
-use Rattle.mm_call.proofs.Moving.{same_batches}
-use Rattle.mm_call.proofs.Walks.{taking, foreign_made, Commits, nothing, batch, asks, basic_commits, opt_commits}
+use Rattle.mm_call.specs.MoveLaws.{same_batches}
+use Rattle.mm_call.specs.WalkLaws.{taking, foreign_made, Commits, nothing, batch, asks, basic_commits, opt_commits}
 use Rattle.mm_call.specs.Refusals.{fault_of}
 use Rattle.mm_callers.specs.Basic.{EndsWith}
 use Rattle.mm_store.specs.Pending.{Pending, ReadsPending}

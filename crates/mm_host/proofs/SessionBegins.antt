@@ -10,7 +10,7 @@ use Rattle.mm_model.specs.Life.{Lost as LostLife, life_of}
 use Rattle.mm_model.specs.Standing.{IsRight}
 use Rattle.mm_model.specs.declared.answer.Answer.{Answer}
 use Rattle.mm_model.specs.declared.answer.BatchAnswer.{BatchAnswer}
-use Rattle.mm_model.proofs.Batches.{total-nil}
+use Rattle.mm_model.specs.BatchLaws.{total-nil}
 use Rattle.mm_call.specs.Answers.{answer_on}
 use Rattle.mm_call.specs.Leaving.{whole}
 use Rattle.mm_callers.proofs.Calls.{one_content}

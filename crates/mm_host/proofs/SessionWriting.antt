@@ -2,7 +2,7 @@
 use Rattle.std.proofs.Common.{◌≡◌, ◌≢◌, ◌∙◌, ◌+◌, ◌≤◌, ℕ, suc, List, [], ◌∷◌, ◌++◌, length, Option, None, Some, Result, Ok, Err, refl, sym, ap, subst, inl, inr, arith, length-append}
 use Rattle.std.specs.Prelude.{IsSome}
 use Rattle.mm_base.specs.Input.{lines_joined, lines_of}
-use Rattle.mm_base.proofs.Input.{lines_of-joined, lines_of-line}
+use Rattle.mm_base.specs.InputLaws.{lines_of-joined, lines_of-line}
 use Rattle.mm_digest.specs.declared.variant.Variant.{Variant}
 use Rattle.mm_digest.specs.declared.variant.Variant.TheVariants.{Basic, Opt}
 use Rattle.mm_platform.specs.declared.fault.StepFault.{StepFault}

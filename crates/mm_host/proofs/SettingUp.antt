@@ -7,7 +7,7 @@ use Rattle.mm_base.specs.declared.fault.Failed.{Failed}
 use Rattle.mm_base.specs.Faults.{Rose}
 use Rattle.mm_digest.specs.declared.variant.Variant.{Variant}
 use Rattle.mm_digest.specs.declared.variant.Variant.TheVariants.{Basic, Opt}
-use Rattle.mm_digest.proofs.Lengths.{length-zero_bytes, length-start_of}
+use Rattle.mm_digest.specs.LengthLaws.{length-zero_bytes, length-start_of}
 use Rattle.mm_module.specs.Meaning.{Meaning, IsLawful}
 use Rattle.mm_seal.specs.Cell.{blank_cell, cell_spelling}
 use Rattle.mm_platform.specs.declared.fault.StepFault.{StepFault}
@@ -18,9 +18,9 @@ use Rattle.mm_model.specs.Chains.{register_of}
 use Rattle.mm_model.specs.History.{Value, first_history}
 use Rattle.mm_model.specs.HistoryWords.{values_of as entry_values}
 use Rattle.mm_model.specs.Standing.{StandsFor, cell_of, issued_bytes}
-use Rattle.mm_model.proofs.Digests.{register_folds}
+use Rattle.mm_model.specs.DigestLaws.{register_folds}
 use Rattle.mm_call.specs.Standing.{instance_by}
-use Rattle.mm_call.proofs.Moving.{anchor-nil, summary-nil}
+use Rattle.mm_call.specs.MoveLaws.{anchor-nil, summary-nil}
 use Rattle.mm_store.specs.declared.fault.StoreFault.{StoreFault}
 use Rattle.mm_store.specs.declared.fault.StoreFault.TheVariants as fault
 use Rattle.mm_store.specs.Kept.{StoreStanding}

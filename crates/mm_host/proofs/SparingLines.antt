@@ -4,7 +4,7 @@ use Rattle.std.specs.Io.KnownBytes.{IsAtEnd}
 use Rattle.std.specs.List.{AllByRecursion}
 use Rattle.mm_base.specs.Input.{lines_joined, lines_of, tail_of, onto_first, onto_tail}
 use Rattle.mm_base.specs.Lines.{IsLong, MayGrow}
-use Rattle.mm_base.proofs.Input.{lines_of-append, tail_of-append, tail_of-joined, tail_of-unbroken}
+use Rattle.mm_base.specs.InputLaws.{lines_of-append, tail_of-append, tail_of-joined, tail_of-unbroken}
 use Rattle.mm_base.specs.Limits.{longest_request}
 use Rattle.mm_digest.specs.declared.variant.Variant.{Variant}
 use Rattle.mm_platform.specs.Standing.{Standing}

@@ -9,7 +9,7 @@ use Rattle.mm_model.specs.Life.{Spoiled, has_value, is_empty, are_own, life_by, 
 use Rattle.mm_model.specs.Messages.{counting, values_in}
 use Rattle.mm_model.specs.Moves.{IsOutside}
 use Rattle.mm_model.specs.Sound.{AreItems}
-use Rattle.mm_model.proofs.Histories.{has_value-append}
+use Rattle.mm_model.specs.HistoryLaws.{has_value-append}
 use Rattle.mm_call.specs.Asked.{IsLedTo}
 
 none_in : (others values : List (List ℕ)) → others ≡ [] → AllByRecursion (Contains others) values → values ≡ []

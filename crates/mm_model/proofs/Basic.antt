@@ -19,9 +19,9 @@ use Rattle.mm_seal.specs.declared.snapshot.Place.TheVariants.{Basic as InBasic, 
 use Rattle.mm_seal.specs.Snapshot.{Content}
 use Rattle.mm_model.specs.Places.{IsPlaceOf, Names}
 use Rattle.mm_model.specs.Messages.{Within, IsClear, IsClearFor}
-use Rattle.mm_model.proofs.Chains.{trail_front, trail_push}
-use Rattle.mm_model.proofs.Digests.{same_summaries, summary-push}
-use Rattle.mm_model.proofs.Batches.{same_tests, at_the_end, before_the_last}
+use Rattle.mm_model.specs.ChainLaws.{trail_front, trail_push}
+use Rattle.mm_model.specs.DigestLaws.{same_summaries, summary-push}
+use Rattle.mm_model.specs.BatchLaws.{same_tests, at_the_end, before_the_last}
 
 pub verdicts : (x y : Bool) → verdict_by false x y ≡ judged Live x y
 verdicts true y = refl

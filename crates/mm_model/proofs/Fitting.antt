@@ -5,16 +5,16 @@ use Rattle.std.proofs.lemmas.List.Elements.{All-nil, All-cons}
 use Rattle.mm_base.specs.Limits.{last_position, limit_of}
 use Rattle.mm_digest.specs.declared.variant.Variant.{Variant}
 use Rattle.mm_digest.specs.declared.variant.Variant.TheVariants.{Basic, Opt}
-use Rattle.mm_digest.proofs.Lengths.{length-hmac_of}
+use Rattle.mm_digest.specs.LengthLaws.{length-hmac_of}
 use Rattle.mm_module.specs.Meaning.{Meaning, IsLine, IsLawful, outputs_from}
 use Rattle.mm_module.specs.MeaningWords.{state_from}
 use Rattle.mm_module.specs.Batch.{Batch, members_of, size_of}
-use Rattle.mm_module.proofs.BatchLaws.{size_of-pos}
-use Rattle.mm_module.proofs.RunLaws.{length-outputs_from, state_from-is_spelled}
+use Rattle.mm_module.specs.BatchLaws.{size_of-pos}
+use Rattle.mm_module.specs.RunLaws.{length-outputs_from, state_from-is_spelled}
 use Rattle.mm_seal.specs.Body.{place_length}
 use Rattle.mm_seal.specs.declared.snapshot.Place.{Place}
 use Rattle.mm_seal.specs.Snapshot.{Content, IsPlace, IsContent, variant_of, snapshot_front, sealed_of}
-use Rattle.mm_seal.proofs.SnapshotLaws.{length-snapshot_front}
+use Rattle.mm_seal.specs.SnapshotLaws.{length-snapshot_front}
 use Rattle.mm_model.specs.Fit.{IsFit}
 
 lines_from : (meaning : Meaning) → IsLawful meaning → (state : List ℕ) (requests : List (List ℕ)) → IsTrue (meaning.is_spelled state)

@@ -23,11 +23,11 @@ use Rattle.mm_model.specs.Places.{IsPoint, IsPlaceOf, Names}
 use Rattle.mm_model.specs.Sound.{IsSound}
 use Rattle.mm_model.specs.Messages.{Within, IsClear, IsClearFor, messages_of, form_messages, point_messages}
 use Rattle.mm_model.specs.Moves.{batch_messages}
-use Rattle.mm_model.proofs.Lists.{each_left}
-use Rattle.mm_model.proofs.Batches.{at_the_end}
-use Rattle.mm_model.proofs.Segments.{taken_in, fresh_from}
-use Rattle.mm_model.proofs.Forms.{reads_zero}
-use Rattle.mm_model.proofs.Histories.{values_of-own}
+use Rattle.mm_model.specs.ListLaws.{each_left}
+use Rattle.mm_model.specs.BatchLaws.{at_the_end}
+use Rattle.mm_model.specs.SegmentLaws.{taken_in, fresh_from}
+use Rattle.mm_model.specs.FormLaws.{reads_zero}
+use Rattle.mm_model.specs.HistoryLaws.{values_of-own}
 use Rattle.mm_model.proofs.Opt.{FreshSomehow, second_listed}
 use Rattle.mm_model.proofs.OptJudge.{Standpoint, stood_of, path_messages, held_at, live_values_at, live_clean, counted_values, shut_current}
 use Rattle.mm_model.proofs.HistoryParts.{LiveParts, live_parts}

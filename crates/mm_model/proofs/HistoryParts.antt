@@ -10,9 +10,9 @@ use Rattle.mm_model.specs.History.{History}
 use Rattle.mm_model.specs.HistoryWords.{values_of}
 use Rattle.mm_model.specs.Life.{Live, Spoiled, Lost, life_by, is_lost as is_lost_life}
 use Rattle.mm_model.specs.Messages.{Within, register_trail, messages_of, runs_of}
-use Rattle.mm_model.proofs.Lists.{each_left, each_right}
-use Rattle.mm_model.proofs.Segments.{true_not_false}
-use Rattle.mm_model.proofs.Forms.{Listed}
+use Rattle.mm_model.specs.ListLaws.{each_left, each_right}
+use Rattle.mm_model.specs.SegmentLaws.{true_not_false}
+use Rattle.mm_model.specs.FormLaws.{Listed}
 use Rattle.mm_model.proofs.Paths.{RunsListed}
 
 each_flat : {A B : Type 0} (P : B → Type 0) (f : A → List B) (xs : List A) → AllByRecursion P (flat_map f xs)

@@ -11,8 +11,8 @@ use Rattle.mm_model.specs.History as own
 use Rattle.std.proofs.lemmas.Bool.{and_parts}
 use Rattle.mm_model.specs.Life.{same_batch, has_value, are_own}
 use Rattle.mm_model.specs.Judge.{is_last}
-use Rattle.mm_model.proofs.Segments.{true_not_false}
-use Rattle.mm_model.proofs.Histories.{has_value-append}
+use Rattle.mm_model.specs.SegmentLaws.{true_not_false}
+use Rattle.mm_model.specs.HistoryLaws.{has_value-append}
 
 segment_cut : {A : Type 0} (segments : List (Vec KeptEntry A)) (i : ℕ) (segment : Vec KeptEntry A) → i < length segments
     → segment ≡ get_or segments i segment

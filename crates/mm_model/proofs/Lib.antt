@@ -1,13 +1,6 @@
-pub mod Lists
-pub mod Chains
-pub mod Digests
-pub mod Batches
 pub mod Basic
 pub mod Runs
 pub mod LongLaws
-pub mod Segments
-pub mod Forms
-pub mod Histories
 pub mod Paths
 pub mod Opt
 pub mod HistoryParts
@@ -16,7 +9,6 @@ pub mod StandsHere
 pub mod Moves
 pub mod MovedDigests
 pub mod Named
-pub mod Ends
 pub mod KeptLaws
 pub mod Whole
 pub mod Listing

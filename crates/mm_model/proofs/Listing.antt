@@ -16,11 +16,11 @@ use Rattle.mm_model.specs.Sound.{IsSound, IsClean, batches_in}
 use Rattle.mm_model.specs.Messages.{Within, register_trail, closed_runs, runs_of, messages_of, moving_messages}
 use Rattle.mm_model.specs.MessagesWords.{move_messages}
 use Rattle.mm_model.specs.Moves.{IsAllowed, MayMove, batch_messages}
-use Rattle.mm_model.proofs.Lists.{each_append, each_left, each_right}
-use Rattle.mm_model.proofs.Chains.{trail_push}
-use Rattle.mm_model.proofs.Segments.{nothing_left}
-use Rattle.mm_model.proofs.Forms.{listed_value}
-use Rattle.mm_model.proofs.Histories.{own_values-append, values_of-append, length-batches_in}
+use Rattle.mm_model.specs.ListLaws.{each_append, each_left, each_right}
+use Rattle.mm_model.specs.ChainLaws.{trail_push}
+use Rattle.mm_model.specs.SegmentLaws.{nothing_left}
+use Rattle.mm_model.specs.FormLaws.{listed_value}
+use Rattle.mm_model.specs.HistoryLaws.{own_values-append, values_of-append, length-batches_in}
 use Rattle.mm_model.proofs.Paths.{RunsListed, current_clean}
 use Rattle.mm_model.proofs.OptJudge.{shut_current}
 use Rattle.mm_model.proofs.HistoryParts.{HistoryListed, history_listed}

@@ -8,7 +8,7 @@ use Rattle.std.proofs.lemmas.Bool.Decides.{nat_tests}
 use Rattle.mm_base.specs.Limits.{longest_request, most_members}
 use Rattle.mm_module.specs.Meaning.{IsLine}
 use Rattle.mm_module.specs.Batch.{Batch, members_of, batch_text, size_of}
-use Rattle.mm_module.proofs.BatchLaws.{text_of-members_of}
+use Rattle.mm_module.specs.BatchLaws.{text_of-members_of}
 use Rattle.mm_model.specs.Long.{is_long}
 use Rattle.mm_model.specs.LongWords.{is_lf}
 

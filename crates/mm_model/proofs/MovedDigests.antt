@@ -14,12 +14,12 @@ use Rattle.mm_model.specs.History.{Entry, Own, Value, History, Move, Commit, For
 use Rattle.mm_model.specs.HistoryWords.{values_of, cell_digest_of}
 use Rattle.mm_model.specs.Messages.{values_in}
 use Rattle.mm_model.specs.Moves.{IsAllowed, MayMove, digests_of, made, committing, IsOutside, Brings}
-use Rattle.mm_model.proofs.Lists.{each_append, each_left}
-use Rattle.mm_model.proofs.Batches.{total-append, total-cons}
-use Rattle.mm_model.proofs.Digests.{summary-push, register-push, anchor-push}
-use Rattle.mm_model.proofs.Forms.{reads_zero}
-use Rattle.mm_model.proofs.Segments.{joined-push}
-use Rattle.mm_model.proofs.Histories.{values_of-append}
+use Rattle.mm_model.specs.ListLaws.{each_append, each_left}
+use Rattle.mm_model.specs.BatchLaws.{total-append, total-cons}
+use Rattle.mm_model.specs.DigestLaws.{summary-push, register-push, anchor-push}
+use Rattle.mm_model.specs.FormLaws.{reads_zero}
+use Rattle.mm_model.specs.SegmentLaws.{joined-push}
+use Rattle.mm_model.specs.HistoryLaws.{values_of-append}
 use Rattle.mm_model.proofs.Moves.{moving, moving_is}
 
 pub total-push : (bs : List Batch) (b : Batch) → total_of (bs ++ b ∷ []) ≡ total_of bs + size_of b

@@ -12,10 +12,10 @@ use Rattle.mm_model.specs.History.{Entry, Own, Value, History, Move, Commit, For
 use Rattle.mm_model.specs.Life.{is_empty, has_value, are_own, same_batch}
 use Rattle.mm_model.specs.Sound.{IsSound, AreItems, batches_in}
 use Rattle.mm_model.specs.Moves.{IsOpening, IsAllowed, MayMove}
-use Rattle.mm_model.proofs.Lists.{each_append}
-use Rattle.mm_model.proofs.Batches.{same_batch-Decides}
-use Rattle.mm_model.proofs.Segments.{true_not_false, joined-push}
-use Rattle.mm_model.proofs.Histories.{has_value-append, batches_in-append}
+use Rattle.mm_model.specs.ListLaws.{each_append}
+use Rattle.mm_model.specs.BatchLaws.{same_batch-Decides}
+use Rattle.mm_model.specs.SegmentLaws.{true_not_false, joined-push}
+use Rattle.mm_model.specs.HistoryLaws.{has_value-append, batches_in-append}
 use Rattle.mm_model.proofs.Paths.{current_clean, empty_cases, marred_has}
 use Rattle.mm_model.proofs.OptJudge.{shut_current}
 

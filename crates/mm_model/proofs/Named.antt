@@ -15,8 +15,8 @@ use Rattle.mm_model.specs.Life.{has_value}
 use Rattle.mm_model.specs.Sound.{IsSound, IsClean, batches_in}
 use Rattle.mm_model.specs.Places.{InClosed, IsPoint, at_anchor, in_closed, in_current, IsPlaceOf, Names, issued, issued_place}
 use Rattle.mm_model.specs.Moves.{IsAllowed, MayMove}
-use Rattle.mm_model.proofs.Segments.{true_not_false, joined-append}
-use Rattle.mm_model.proofs.Histories.{length-batches_in}
+use Rattle.mm_model.specs.SegmentLaws.{true_not_false, joined-append}
+use Rattle.mm_model.specs.HistoryLaws.{length-batches_in}
 use Rattle.mm_model.proofs.Paths.{current_clean, marred_has}
 use Rattle.mm_model.proofs.OptJudge.{shut_current}
 use Rattle.mm_model.proofs.Moves.{moving, moving_is, open_current, opening_clean}

@@ -9,11 +9,11 @@ use Rattle.mm_model.specs.Chains.{register_of, anchor_of}
 use Rattle.mm_model.specs.Life.{is_empty}
 use Rattle.mm_model.specs.Judge.{Point, forms_of, fits_fresh, fits_again}
 use Rattle.mm_model.specs.Messages.{Within, IsClear, register_trail, form_messages, point_messages}
-use Rattle.mm_model.proofs.Lists.{each_left, each_right}
-use Rattle.mm_model.proofs.Digests.{anchor-push}
-use Rattle.mm_model.proofs.Batches.{same_tests}
-use Rattle.mm_model.proofs.Segments.{Fresh, Again, true_not_false}
-use Rattle.mm_model.proofs.Forms.{Listed, Clears, point_of, fresh_tells, again_tells, zero_register, listed_segment, reads_zero}
+use Rattle.mm_model.specs.ListLaws.{each_left, each_right}
+use Rattle.mm_model.specs.DigestLaws.{anchor-push}
+use Rattle.mm_model.specs.BatchLaws.{same_tests}
+use Rattle.mm_model.specs.SegmentLaws.{Fresh, Again, true_not_false}
+use Rattle.mm_model.specs.FormLaws.{Listed, Clears, point_of, fresh_tells, again_tells, zero_register, listed_segment, reads_zero}
 
 either : {A B : Type 0} (x y : Bool) → Decides x A → Decides y B → Decides (x || (y || false)) (A ⊎ B)
 either true y a b = (λ _. inl (a.0 refl), λ _. refl)

@@ -24,14 +24,14 @@ use Rattle.mm_model.specs.Judge.{verdict_by_digests, forms_of, fits_fresh, fits_
 use Rattle.mm_model.specs.Places.{IsPoint, IsPlaceOf, Names, anchor_after}
 use Rattle.mm_model.specs.Messages.{Within, IsClear, IsClearFor, register_trail, point_messages, messages_of, counting, values_in, AreNoGuards}
 use Rattle.mm_model.specs.Sound.{IsSound, IsClean, batches_in}
-use Rattle.mm_model.proofs.Lists.{each_left, each_right, each_append}
-use Rattle.mm_model.proofs.Chains.{trail_front}
-use Rattle.mm_model.proofs.Digests.{same_own_values}
-use Rattle.mm_model.proofs.Batches.{same_tests, at_the_end, before_the_last}
+use Rattle.mm_model.specs.ListLaws.{each_left, each_right, each_append}
+use Rattle.mm_model.specs.ChainLaws.{trail_front}
+use Rattle.mm_model.specs.DigestLaws.{same_own_values}
+use Rattle.mm_model.specs.BatchLaws.{same_tests, at_the_end, before_the_last}
 use Rattle.mm_model.proofs.Basic.{verdicts}
-use Rattle.mm_model.proofs.Segments.{joined-push, true_not_false, taken_in, fresh_joins, again_joins, Reaches, IsHeld, fresh_from, again_from}
-use Rattle.mm_model.proofs.Forms.{Listed, Clears}
-use Rattle.mm_model.proofs.Histories.{own_values-append, values_of-append, joined-values, has_value-append, values_of-clean, values_of-own, meets}
+use Rattle.mm_model.specs.SegmentLaws.{joined-push, true_not_false, taken_in, fresh_joins, again_joins, Reaches, IsHeld, fresh_from, again_from}
+use Rattle.mm_model.specs.FormLaws.{Listed, Clears}
+use Rattle.mm_model.specs.HistoryLaws.{own_values-append, values_of-append, joined-values, has_value-append, values_of-clean, values_of-own, meets}
 use Rattle.mm_model.proofs.Paths.{path_of, empty_cases, marred_has}
 use Rattle.mm_model.proofs.Opt.{zero_tells, FreshSomehow, AgainSomehow, second_listed, fresh_somehow, again_somehow}
 use Rattle.mm_model.proofs.HistoryParts.{each_unmap, history_listed, LiveParts, live_parts, spoiled_parts, lost_test}

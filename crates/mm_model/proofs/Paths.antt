@@ -14,11 +14,11 @@ use Rattle.mm_model.specs.Life.{is_empty, has_value}
 use Rattle.mm_model.specs.Places.{AtAnchor, InClosed, InCurrent, IsPoint, at_anchor, in_closed, in_current, anchor_after}
 use Rattle.mm_model.specs.Messages.{Within, register_trail, closed_runs, runs_of}
 use Rattle.mm_model.specs.Sound.{IsSound, IsClean, IsMarred, batches_in}
-use Rattle.mm_model.proofs.Lists.{each_left, each_right}
-use Rattle.mm_model.proofs.Chains.{trail_front}
-use Rattle.mm_model.proofs.Segments.{same_halves, joined-append, joined-push, true_not_false, nothing_left, Reaches}
-use Rattle.mm_model.proofs.Forms.{reads_zero}
-use Rattle.mm_model.proofs.Histories.{own_values-append, has_value-append, batches_in-append, length-batches_in, values_of-clean, sooner}
+use Rattle.mm_model.specs.ListLaws.{each_left, each_right}
+use Rattle.mm_model.specs.ChainLaws.{trail_front}
+use Rattle.mm_model.specs.SegmentLaws.{same_halves, joined-append, joined-push, true_not_false, nothing_left, Reaches}
+use Rattle.mm_model.specs.FormLaws.{reads_zero}
+use Rattle.mm_model.specs.HistoryLaws.{own_values-append, has_value-append, batches_in-append, length-batches_in, values_of-clean, sooner}
 
 -- the batches begin with those of these segments, which hold no value that stands for none
 pub record Begins (y : History) (before : List (List Entry)) : Type 0 where

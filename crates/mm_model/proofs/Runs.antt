@@ -2,7 +2,7 @@
 use Rattle.std.proofs.Common.{ℕ, ◌≡◌, List, [], ◌∷◌, ◌++◌, sym, ap, ◌∙◌, subst}
 use Rattle.std.specs.Prelude.{IsTrue}
 use Rattle.mm_module.specs.Meaning.{Meaning, IsLawful, state_after, said_after}
-use Rattle.mm_module.proofs.RunLaws.{state_after-push, said_after-push, state_after-is_spelled}
+use Rattle.mm_module.specs.RunLaws.{state_after-push, said_after-push, state_after-is_spelled}
 use Rattle.mm_model.specs.Run.{IsRun}
 
 -- the state that a machine passes to its module is spelled

@@ -23,3 +23,11 @@ pub mod ChainsWords
 pub mod LongWords
 pub mod MessagesWords
 pub mod PlacesWords
+pub mod ListLaws
+pub mod SegmentLaws
+pub mod BatchLaws
+pub mod HistoryLaws
+pub mod ChainLaws
+pub mod EndLaws
+pub mod DigestLaws
+pub mod FormLaws

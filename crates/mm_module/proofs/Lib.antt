@@ -1,3 +1,1 @@
-pub mod RunLaws
-pub mod BatchLaws
 pub mod WordLaws

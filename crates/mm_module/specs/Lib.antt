@@ -16,3 +16,5 @@ pub mod TableLaws
 pub mod MeaningWords
 pub mod BatchWords
 pub mod WordsWords
+pub mod RunLaws
+pub mod BatchLaws

@@ -6,7 +6,7 @@ use Rattle.mm_platform.specs.Standing.{Standing}
 use Rattle.mm_platform.specs.Steps.{ReadCell, WriteCell, Goes}
 use Rattle.mm_model.specs.declared.refusal.Refusal.TheVariants.{Device}
 use Rattle.mm_call.specs.Leaving.{Blames, IsUntouched}
-use Rattle.mm_call.proofs.Leaving.{read_untouched, blamed, blamed_later}
+use Rattle.mm_call.specs.LeavingLaws.{read_untouched, blamed, blamed_later}
 use Rattle.mm_move.specs.declared.ready.Ready.{Ready}
 use Rattle.mm_move.specs.declared.refusal.MoveRefusal.{MoveRefusal}
 use Rattle.mm_move.specs.declared.refusal.MoveRefusal.TheVariants.{Core}

@@ -4,7 +4,7 @@ use Rattle.mm_base.specs.Faults.{counted}
 use Rattle.mm_platform.specs.declared.fault.StepFault.{StepFault}
 use Rattle.mm_platform.specs.Standing.{Standing}
 use Rattle.mm_platform.specs.Steps.{Act, ReadCell, ReadRegister, Goes, beside}
-use Rattle.mm_platform.proofs.Calling.{beside-beside}
+use Rattle.mm_platform.specs.CallLaws.{beside-beside}
 use Rattle.mm_module.specs.Meaning.{Meaning}
 use Rattle.mm_module.specs.Batch.{Batch}
 use Rattle.mm_seal.specs.declared.cell.Cell.{Cell}
@@ -15,7 +15,7 @@ use Rattle.mm_model.specs.declared.refusal.Refusal.TheVariants as refusal
 use Rattle.mm_model.specs.declared.refusal.Refusal.TheVariants.{Long}
 use Rattle.mm_call.specs.Refusals.{fault_of, fault_in, handed_on}
 use Rattle.mm_call.specs.Leaving.{IsUntouched, LeavesUntouched}
-use Rattle.mm_call.proofs.Leaving.{read_untouched, same_untouched, written_untouched}
+use Rattle.mm_call.specs.LeavingLaws.{read_untouched, same_untouched, written_untouched}
 use Rattle.mm_opt.specs.declared.found.Found.{Found}
 use Rattle.mm_opt.specs.declared.found.Found.TheVariants.{Repeat, Inside, Opens}
 use Rattle.mm_opt.specs.declared.found.Ready.{Ready}

@@ -29,8 +29,8 @@ use Rattle.mm_call.specs.Called.{Called, Breaks, ended_by, called_by, called, se
 use Rattle.mm_call.specs.CalledWords.{kept_at, called_with}
 use Rattle.mm_call.specs.Standing.{StandsAt}
 use Rattle.mm_call.proofs.Keeping.{foreign_commits, commits_then, written_commits, kept_some}
-use Rattle.mm_call.proofs.Telling.{met}
-use Rattle.mm_call.proofs.Walks.{changing, asks}
+use Rattle.mm_call.specs.TellingLaws.{met}
+use Rattle.mm_call.specs.WalkLaws.{changing, asks}
 use Rattle.mm_opt.specs.declared.found.Ready.{Ready}
 use Rattle.mm_opt.specs.declared.found.Opening.{Opening}
 use Rattle.mm_opt.specs.declared.found.Found.{Found}

@@ -28,13 +28,13 @@ use Rattle.mm_call.specs.Checkpoints.{closing_of, checkpointed, IsClosedWithin, 
 use Rattle.mm_call.specs.CheckpointsWords.{closed_by, checkpointed_with}
 use Rattle.mm_call.specs.Standing.{instance_by, cell_at, StandsAt}
 use Rattle.mm_call.specs.Trails.{Stepped}
-use Rattle.mm_call.proofs.Trails.{reads_of, reads_beside, with_register}
+use Rattle.mm_call.specs.TrailLaws.{reads_of, reads_beside, with_register}
 use Rattle.mm_call.proofs.OptHolding.{agrees_is, is_agrees}
 use Rattle.mm_call.proofs.Continuing.{stands_at, stands_for}
 use Rattle.mm_call.proofs.Checkpoints.{basic_checkpoints_agree, opt_checkpoints_agree}
 use Rattle.mm_call.specs.Ended.{StaysOn}
 use Rattle.mm_call.proofs.Keeping.{planned_done, planned_broken}
-use Rattle.mm_call.proofs.Telling.{stepped, trail_last, met, AreMet, told_by, IsAt, begins_at, met_at, then_at}
+use Rattle.mm_call.specs.TellingLaws.{stepped, trail_last, met, AreMet, told_by, IsAt, begins_at, met_at, then_at}
 use Rattle.mm_opt.specs.declared.segment.Checkpointed.{Checkpointed}
 use Rattle.mm_opt.specs.declared.segment.CheckpointRefusal.{CheckpointRefusal}
 use Rattle.mm_opt.specs.declared.segment.CheckpointRefusal.TheVariants as refusal

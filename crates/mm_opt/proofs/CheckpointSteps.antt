@@ -3,14 +3,14 @@ use Rattle.std.proofs.Common.{◌≡◌, ℕ, Bool, true, false, List, [], ◌�
 use Rattle.std.specs.Result.{result_err}
 use Rattle.mm_digest.specs.declared.variant.Variant.{Variant}
 use Rattle.mm_digest.specs.declared.variant.Variant.TheVariants.{Basic, Opt}
-use Rattle.mm_digest.proofs.Lengths.{length-anchored_of}
+use Rattle.mm_digest.specs.LengthLaws.{length-anchored_of}
 use Rattle.mm_platform.specs.declared.fault.StepFault.{StepFault}
 use Rattle.mm_platform.specs.Standing.{Item, Standing}
 use Rattle.mm_module.specs.Meaning.{Meaning}
 use Rattle.mm_seal.specs.declared.cell.Cell.{Cell}
 use Rattle.mm_seal.specs.declared.cell.CellFault.{CellFault}
 use Rattle.mm_seal.specs.Cell.{IsCell, cell_spelling}
-use Rattle.mm_seal.proofs.CellLaws.{reads_cell-same}
+use Rattle.mm_seal.specs.CellLaws.{reads_cell-same}
 use Rattle.mm_model.specs.Instance.{Instance}
 use Rattle.mm_model.specs.InstanceWords.{opt}
 use Rattle.mm_model.specs.History.{Move, Close}
@@ -22,8 +22,8 @@ use Rattle.mm_call.specs.Checkpoints.{Closing, closing_of, checkpointed_by}
 use Rattle.mm_call.specs.CheckpointsWords.{closed_by, checkpointed_with}
 use Rattle.mm_call.specs.Standing.{cell_at, StandsAt, shown_by}
 use Rattle.mm_call.specs.Trails.{IsWrite, Stepped, Trail}
-use Rattle.mm_call.proofs.Trails.{leads}
-use Rattle.mm_call.proofs.Telling.{trail_on, trail_fails, trail_last}
+use Rattle.mm_call.specs.TrailLaws.{leads}
+use Rattle.mm_call.specs.TellingLaws.{trail_on, trail_fails, trail_last}
 use Rattle.mm_opt.specs.declared.segment.Checkpointed.{Checkpointed}
 use Rattle.mm_opt.specs.declared.segment.Checkpointed.TheVariants.{Done}
 use Rattle.mm_opt.specs.declared.segment.CheckpointRefusal.{CheckpointRefusal}

@@ -12,7 +12,7 @@ use Rattle.mm_seal.specs.declared.cell.Cell.{Cell}
 use Rattle.mm_seal.specs.declared.cell.CellFault.{CellFault}
 use Rattle.mm_seal.specs.declared.cell.CellFault.TheVariants as fault
 use Rattle.mm_call.specs.Leaving.{IsUntouched, Blames}
-use Rattle.mm_call.proofs.Leaving.{blamed, blamed_later, read_untouched}
+use Rattle.mm_call.specs.LeavingLaws.{blamed, blamed_later, read_untouched}
 use Rattle.mm_opt.specs.declared.segment.Checkpointed.{Checkpointed}
 use Rattle.mm_opt.specs.declared.segment.CheckpointRefusal.{CheckpointRefusal}
 use Rattle.mm_opt.specs.declared.segment.CheckpointRefusal.TheVariants as refusal

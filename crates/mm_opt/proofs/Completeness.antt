@@ -8,10 +8,10 @@ use Rattle.mm_platform.specs.declared.fault.StepFault.{StepFault}
 use Rattle.mm_platform.specs.Standing.{Item, Standing}
 use Rattle.mm_module.specs.Meaning.{Meaning}
 use Rattle.mm_module.specs.Batch.{Batch, size_of, normal}
-use Rattle.mm_module.proofs.BatchLaws.{members_of-normal}
+use Rattle.mm_module.specs.BatchLaws.{members_of-normal}
 use Rattle.mm_seal.specs.Parts.{parts_of}
 use Rattle.mm_seal.specs.Snapshot.{Content, tag_of, offered_of}
-use Rattle.mm_seal.proofs.SealLaws.{sealed_parts}
+use Rattle.mm_seal.specs.SealLaws.{sealed_parts}
 use Rattle.mm_model.specs.Instance.{Instance}
 use Rattle.mm_model.specs.InstanceWords.{opt}
 use Rattle.mm_model.specs.History.{History, Move, Foreign, Value, total_of}
@@ -41,15 +41,15 @@ use Rattle.mm_call.specs.Standing.{shown}
 use Rattle.mm_call.specs.Tied.{standing_items, foreign_items}
 use Rattle.mm_call.proofs.Continuing.{stands_at}
 use Rattle.mm_call.proofs.Idle.{asked_for}
-use Rattle.mm_call.proofs.Moving.{same_batches}
+use Rattle.mm_call.specs.MoveLaws.{same_batches}
 use Rattle.mm_call.proofs.OptHolding.{is_agrees}
 use Rattle.mm_call.proofs.OptLaw.{before, sight_is}
 use Rattle.mm_call.proofs.OptAgree.{opt_calls_agree}
 use Rattle.mm_call.proofs.OptShapes.{two_reads, reading, past, cut}
 use Rattle.mm_call.proofs.OptShut.{life_bare}
-use Rattle.mm_call.proofs.Showing.{shown_same, counts_open}
+use Rattle.mm_call.specs.ShowingLaws.{shown_same, counts_open}
 use Rattle.mm_call.proofs.Tied.{opt_tied}
-use Rattle.mm_call.proofs.Walks.{changing, asks, foreign_first, foreign_in-first}
+use Rattle.mm_call.specs.WalkLaws.{changing, asks, foreign_first, foreign_in-first}
 use Rattle.mm_opt.specs.Asks.{Calls}
 use Rattle.mm_opt.specs.Complete.{AnswersAccepted}
 use Rattle.mm_opt.proofs.Calling.{calls_on}

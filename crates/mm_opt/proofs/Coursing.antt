@@ -13,7 +13,7 @@ use Rattle.mm_model.specs.declared.refusal.Refusal.{Refusal}
 use Rattle.mm_call.specs.Refusals.{fault_of, fault_in}
 use Rattle.mm_call.specs.Courses.{Course, Fate, AreTold}
 use Rattle.mm_call.specs.CoursesWords.{end_of}
-use Rattle.mm_call.proofs.Telling.{met, AreMet, told_by, IsAt, begins_at, met_at, then_at, room_at}
+use Rattle.mm_call.specs.TellingLaws.{met, AreMet, told_by, IsAt, begins_at, met_at, then_at, room_at}
 use Rattle.mm_opt.specs.declared.found.Opening.{Opening}
 use Rattle.mm_opt.specs.declared.found.Found.{Found}
 use Rattle.mm_opt.specs.declared.found.Found.TheVariants.{Repeat, Inside, Opens}

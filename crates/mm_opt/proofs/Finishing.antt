@@ -23,8 +23,8 @@ use Rattle.mm_call.specs.Refusals.{fault_of, fault_in, handed_on}
 use Rattle.mm_call.specs.Leaving.{Blames}
 use Rattle.mm_call.specs.Standing.{StandsAt}
 use Rattle.mm_call.proofs.Keeping.{planned_done, planned_broken}
-use Rattle.mm_call.proofs.Leaving.{blamed, blamed_later}
-use Rattle.mm_call.proofs.Telling.{IsAt, begins_at, then_at, room_at}
+use Rattle.mm_call.specs.LeavingLaws.{blamed, blamed_later}
+use Rattle.mm_call.specs.TellingLaws.{IsAt, begins_at, then_at, room_at}
 use Rattle.mm_opt.specs.declared.found.Ready.{Ready}
 use Rattle.mm_opt.specs.declared.found.Opening.{Opening}
 use Rattle.mm_opt.specs.declared.found.Found.{Found}

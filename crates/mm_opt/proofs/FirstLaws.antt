@@ -13,7 +13,7 @@ use Rattle.mm_model.specs.InstanceWords.{opt}
 use Rattle.mm_model.specs.History.{first_history}
 use Rattle.mm_model.specs.PlacesWords.{digest_of}
 use Rattle.mm_model.specs.Standing.{cell_of, issued_bytes}
-use Rattle.mm_call.proofs.Moving.{anchor-nil}
+use Rattle.mm_call.specs.MoveLaws.{anchor-nil}
 
 first_digest : (id said : ℕ) (anchor : Digest) → said ≡ id → anchor.bytes ≡ start_of Opt said → anchor ≡ digest_of (anchor_of id [])
 first_digest id said anchor id_is start_is = ap digest_of (start_is ∙ ap (start_of Opt) id_is ∙ anchor-nil id)

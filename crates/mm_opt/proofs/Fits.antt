@@ -1,7 +1,7 @@
 -- Each answer is fit.
 use Rattle.std.proofs.Common.{◌≡◌, ℕ, Bool, true, false, List, length, Result, Ok, Err, IfOk, IsTrue, refl, sym, subst, inl, inr, arith}
 use Rattle.std.proofs.lemmas.Bool.Decides.{nat_tests}
-use Rattle.mm_digest.proofs.Lengths.{length-zero_bytes, length-extended_of}
+use Rattle.mm_digest.specs.LengthLaws.{length-zero_bytes, length-extended_of}
 use Rattle.mm_platform.specs.declared.fault.StepFault.{StepFault}
 use Rattle.mm_platform.specs.Standing.{Standing}
 use Rattle.mm_module.specs.Meaning.{Meaning, IsLawful}
@@ -21,7 +21,7 @@ use Rattle.mm_model.specs.declared.verdict.Verdict.{Verdict}
 use Rattle.mm_model.proofs.Fitting.{is_fit}
 use Rattle.mm_call.specs.Order.{examined}
 use Rattle.mm_call.specs.Refusals.{handed_on, OrMemory}
-use Rattle.mm_call.proofs.Weighing.{weighed_only}
+use Rattle.mm_call.specs.WeighingLaws.{weighed_only}
 use Rattle.mm_opt.specs.declared.found.Opening.{Opening}
 use Rattle.mm_opt.specs.declared.found.Found.{Found}
 use Rattle.mm_opt.specs.declared.found.Found.TheVariants.{Repeat, Inside, Opens}

@@ -31,9 +31,9 @@ use Rattle.mm_call.specs.CalledWords.{called_with}
 use Rattle.mm_call.specs.Standing.{cell_at, StandsAt}
 use Rattle.mm_call.specs.Trails.{Stepped, Trail}
 use Rattle.mm_call.specs.CallsOn.{GoesBy}
-use Rattle.mm_call.proofs.Trails.{reads_of, reads_beside, with_register}
-use Rattle.mm_call.proofs.Telling.{stepped, trail_on, trail_fails, trail_last, met}
-use Rattle.mm_call.proofs.Walks.{changing, asks}
+use Rattle.mm_call.specs.TrailLaws.{reads_of, reads_beside, with_register}
+use Rattle.mm_call.specs.TellingLaws.{stepped, trail_on, trail_fails, trail_last, met}
+use Rattle.mm_call.specs.WalkLaws.{changing, asks}
 use Rattle.mm_opt.specs.declared.found.Opening.{Opening}
 use Rattle.mm_opt.specs.declared.found.Found.{Found}
 use Rattle.mm_opt.specs.declared.found.Found.TheVariants.{Repeat, Inside, Opens}

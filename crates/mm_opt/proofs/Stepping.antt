@@ -16,7 +16,7 @@ use Rattle.mm_module.specs.Batch.{Batch}
 use Rattle.mm_seal.specs.declared.cell.Cell.{Cell}
 use Rattle.mm_seal.specs.declared.cell.CellFault.{CellFault}
 use Rattle.mm_seal.specs.Cell.{IsCell, cell_spelling}
-use Rattle.mm_seal.proofs.CellLaws.{reads_cell-same}
+use Rattle.mm_seal.specs.CellLaws.{reads_cell-same}
 use Rattle.mm_model.specs.Chains.{guard}
 use Rattle.mm_model.specs.Instance.{Instance}
 use Rattle.mm_model.specs.InstanceWords.{opt}
@@ -35,8 +35,8 @@ use Rattle.mm_call.specs.Called.{ended_by, called_by, given_for}
 use Rattle.mm_call.specs.Standing.{cell_at, StandsAt, shown_by}
 use Rattle.mm_call.specs.Trails.{IsChange, IsWrite, MakesStep, Stepped, Trail}
 use Rattle.mm_call.specs.CallsOn.{GoesBy}
-use Rattle.mm_call.proofs.Trails.{reads_of, with_register, foreign_made, all_made-append, leads}
-use Rattle.mm_call.proofs.Telling.{trail_on}
+use Rattle.mm_call.specs.TrailLaws.{reads_of, with_register, foreign_made, all_made-append, leads}
+use Rattle.mm_call.specs.TellingLaws.{trail_on}
 use Rattle.mm_opt.specs.Seen.{is_opt, own_cell, cell_in}
 use Rattle.mm_opt.specs.Steps.{FindsCell}
 use Rattle.mm_opt.proofs.Coursing.{fate_of}

@@ -11,7 +11,7 @@ use Rattle.mm_seal.specs.declared.snapshot.PartsFault.{PartsFault}
 use Rattle.mm_seal.specs.declared.snapshot.PartsFault.TheVariants.{Form, Kind}
 use Rattle.mm_seal.specs.Cell.{IsCell, cell_spelling}
 use Rattle.mm_seal.specs.Snapshot.{Snapshot}
-use Rattle.mm_seal.proofs.CellLaws.{reads_cell-same}
+use Rattle.mm_seal.specs.CellLaws.{reads_cell-same}
 use Rattle.mm_model.specs.Long.{is_long}
 use Rattle.mm_model.specs.declared.answer.BatchAnswer.{BatchAnswer}
 use Rattle.mm_model.specs.declared.refusal.Refusal.{Refusal}

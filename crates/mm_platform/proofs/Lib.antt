@@ -1,4 +1,2 @@
 pub mod LettingIn
-pub mod Stepping
 pub mod Telling
-pub mod Calling

@@ -7,7 +7,7 @@ use Rattle.mm_platform.specs.Standing.{Plan, Standing, plan_after}
 use Rattle.mm_platform.specs.Steps.{Act, beside, cell_after, items_after, will_answer, will_be_made, will_be_on, will_bring, faults_after, Goes}
 use Rattle.mm_platform.specs.Told.{next_answer, makes, step_made, acted, acts_answer, AreAlike}
 use Rattle.mm_platform.specs.Calls.{ActsAsTold}
-use Rattle.mm_platform.proofs.Stepping.{known_plan}
+use Rattle.mm_platform.specs.StepLaws.{known_plan}
 
 -- what a step does, by the plan that it was told
 pub record IsAsTold (act : Act) (old new : Standing) (fault : Option StepFault) : Type 0 where

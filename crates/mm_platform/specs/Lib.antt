@@ -6,3 +6,5 @@ pub mod Told
 pub mod Calls
 pub mod Memory
 pub mod StandingWords
+pub mod CallLaws
+pub mod StepLaws

@@ -3,7 +3,7 @@ use Rattle.std.proofs.Common.{◌≡◌, ◌∙◌, ◌<◌, ◌≤◌, ◌+◌,
 use Rattle.std.proofs.lemmas.Bool.Decides.{nat_tests}
 use Rattle.std.specs.List.{AllByRecursion}
 use Rattle.mm_base.specs.Input.{IsUnbroken, lines_of, tail_of, lines_joined, onto_first, onto_tail}
-use Rattle.mm_base.proofs.Input.{lines_of-append, tail_of-append, lines_of-line, tail_of-line, lines_of-joined, tail_of-joined, lines_of-unbroken, tail_of-unbroken}
+use Rattle.mm_base.specs.InputLaws.{lines_of-append, tail_of-append, lines_of-line, tail_of-line, lines_of-joined, tail_of-joined, lines_of-unbroken, tail_of-unbroken}
 use Rattle.mm_base.specs.declared.replay_fault.ReplayFault.{ReplayFault}
 use Rattle.mm_base.specs.declared.replay_fault.ReplayFault.TheVariants.{BadLine, LineLong}
 use Rattle.mm_base.specs.Limits.{longest_line}

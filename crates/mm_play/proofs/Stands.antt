@@ -6,7 +6,7 @@ use Rattle.std.specs.List.{AllByRecursion}
 use Rattle.std.proofs.KnownBytes.{Appends-nil, Appends-trans, Consumes-nil, Consumes-trans}
 use Rattle.mm_base.specs.Input.{IsUnbroken, lines_of, tail_of, lines_joined}
 use Rattle.mm_base.specs.Limits.{longest_line}
-use Rattle.mm_base.proofs.Input.{lines_of-joined, lines_of-unbroken, tail_of-joined, tail_of-unbroken, joined-append}
+use Rattle.mm_base.specs.InputLaws.{lines_of-joined, lines_of-unbroken, tail_of-joined, tail_of-unbroken, joined-append}
 use Rattle.mm_base.specs.declared.replay_fault.ReplayFault.{ReplayFault}
 use Rattle.mm_base.specs.declared.replay_fault.ReplayFault.TheVariants.{Memory, ReadFault, WriteFault, BadLine, LineLong, TooMuch}
 use Rattle.mm_play.specs.declared.player.Refused.{Refused}

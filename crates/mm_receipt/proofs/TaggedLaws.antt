@@ -7,7 +7,7 @@ use Rattle.std.proofs.lemmas.Bool.Decides.{nat_tests}
 use Rattle.std.proofs.lemmas.List.{take-append-drop}
 use Rattle.std.proofs.lemmas.Slice.Eq.{bytes_eq-Decides}
 use Rattle.mm_base.specs.Fields.{eight_bytes, four_bytes}
-use Rattle.mm_base.proofs.FieldLaws.{length-eight_bytes, length-four_bytes, eight_bytes-injective, four_bytes-injective, append-injective}
+use Rattle.mm_base.specs.FieldLaws.{length-eight_bytes, length-four_bytes, eight_bytes-injective, four_bytes-injective, append-injective}
 use Rattle.mm_base.specs.Limits.{last_position, longest_request}
 use Rattle.mm_module.specs.Meaning.{Meaning, outputs_from}
 use Rattle.mm_receipt.specs.declared.receipt.NotReceipt.{NotReceipt}

@@ -10,7 +10,7 @@ use Rattle.hex.proofs.HexLemmas.{length-encode_with}
 use Rattle.mm_base.specs.Fields.{eight_bytes}
 use Rattle.mm_base.specs.Limits.{last_position}
 use Rattle.mm_digest.specs.Hmac.{hmac_of}
-use Rattle.mm_digest.proofs.Lengths.{length-hmac_of}
+use Rattle.mm_digest.specs.LengthLaws.{length-hmac_of}
 use Rattle.mm_module.specs.Bytes.{is_byte, are_bytes}
 use Rattle.mm_module.specs.LineLaws.{is_unbroken, and-true, and-both, All-are_bytes, IsText, IsLine-text, is_unbroken-All}
 use Rattle.mm_module.specs.Meaning.{Meaning, IsLawful, IsShort}

@@ -12,7 +12,7 @@ use Rattle.mm_call.specs.Courses.{seen_in}
 use Rattle.mm_call.specs.Called.{reading_steps}
 use Rattle.mm_run.specs.Folds.{course_of}
 use Rattle.mm_world.proofs.Committing.{count_none}
-use Rattle.mm_call.proofs.Walks.{seen_none}
+use Rattle.mm_call.specs.WalkLaws.{seen_none}
 use Rattle.mm_schedule.specs.Events.{Event, Ask, Checkpoint, Power, Extend}
 use Rattle.mm_schedule.specs.declared.reply.Reply.{Reply}
 use Rattle.mm_model.specs.Moves.{Digests}

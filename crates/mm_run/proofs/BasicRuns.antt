@@ -10,12 +10,12 @@ use Rattle.mm_model.specs.InstanceWords.{basic}
 use Rattle.mm_model.specs.History.{History, Foreign, Power as PowerMove, moved, first_history}
 use Rattle.mm_model.specs.Messages.{IsClear}
 use Rattle.mm_model.specs.Moves.{Digests, made}
-use Rattle.mm_model.proofs.Forms.{reads_zero}
+use Rattle.mm_model.specs.FormLaws.{reads_zero}
 use Rattle.mm_call.specs.Asked.{IsPlain}
-use Rattle.mm_call.proofs.Moving.{agrees-moved, plain-moved, summary-nil}
+use Rattle.mm_call.specs.MoveLaws.{agrees-moved, plain-moved, summary-nil}
 use Rattle.mm_call.proofs.BasicLaw.{plain_outside, basic_same}
 use Rattle.mm_call.proofs.Checkpoints.{basic_checkpoint_same}
-use Rattle.mm_model.proofs.Lists.{each_self}
+use Rattle.mm_model.specs.ListLaws.{each_self}
 use Rattle.mm_run.specs.Folds.{course_of, first_issued, first_digests}
 use Rattle.mm_run.specs.PremisesWords.{foreign_values, asked_batches, run_messages}
 use Rattle.mm_run.specs.Laws.{BasicIsExpected}

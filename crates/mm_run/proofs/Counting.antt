@@ -10,8 +10,8 @@ use Rattle.mm_digest.specs.declared.variant.Variant.{Variant}
 use Rattle.mm_digest.specs.declared.variant.Variant.TheVariants.{Basic, Opt}
 use Rattle.mm_module.specs.Meaning.{Meaning, IsLawful, outputs_from}
 use Rattle.mm_module.specs.Batch.{Batch, members_of, size_of, batch_text, normal}
-use Rattle.mm_module.proofs.BatchLaws.{members_of-normal}
-use Rattle.mm_module.proofs.RunLaws.{length-outputs_from}
+use Rattle.mm_module.specs.BatchLaws.{members_of-normal}
+use Rattle.mm_module.specs.RunLaws.{length-outputs_from}
 use Rattle.mm_platform.specs.declared.fault.StepFault.{StepFault}
 use Rattle.mm_platform.specs.declared.plan.Meddle.{Meddle}
 use Rattle.mm_platform.specs.declared.plan.Stop.{Stop}
@@ -20,7 +20,7 @@ use Rattle.mm_seal.specs.declared.snapshot.PartsFault.{PartsFault}
 use Rattle.mm_seal.specs.declared.snapshot.PartsFault.TheVariants.{Form, Kind}
 use Rattle.mm_seal.specs.Parts.{parts_of}
 use Rattle.mm_seal.specs.Snapshot.{Content, Snapshot}
-use Rattle.mm_seal.proofs.Reading.{le_tells}
+use Rattle.mm_seal.specs.ReadingLaws.{le_tells}
 use Rattle.mm_model.specs.Instance.{Instance}
 use Rattle.mm_model.specs.History.{Move, Commit, Foreign, Placed, Reset, Close, Power as PowerMove}
 use Rattle.mm_model.specs.Long.{is_long}
@@ -43,10 +43,10 @@ use Rattle.mm_call.specs.Called.{Ending, Answers, Refuses, Breaks, Called, ended
 use Rattle.mm_call.specs.Checkpoints.{Closing, Closes, HasNone, NoSegment, LostPower, Stops, Checkpointed, checkpointed}
 use Rattle.mm_call.specs.CheckpointsWords.{checkpointed_with}
 use Rattle.mm_call.specs.Standing.{instance_by}
-use Rattle.mm_call.proofs.Moving.{committed_in}
-use Rattle.mm_call.proofs.Walks.{Commits, nothing, batch, call_commits}
+use Rattle.mm_call.specs.MoveLaws.{committed_in}
+use Rattle.mm_call.specs.WalkLaws.{Commits, nothing, batch, call_commits}
 use Rattle.mm_call.proofs.BasicLaw.{unlacked}
-use Rattle.mm_call.proofs.Along.{checkpoint_none}
+use Rattle.mm_call.specs.AlongLaws.{checkpoint_none}
 use Rattle.mm_schedule.specs.Events.{Event, Ask, Checkpoint, Power, Extend}
 use Rattle.mm_schedule.specs.Replies.{IsPrintable}
 use Rattle.mm_schedule.specs.declared.reply.Reply.TheVariants as reply

@@ -12,7 +12,7 @@ use Rattle.mm_model.specs.Long.{is_long}
 use Rattle.mm_model.specs.Messages.{Within}
 use Rattle.mm_model.specs.Moves.{Digests, made}
 use Rattle.mm_model.specs.Standing.{IsGenuine}
-use Rattle.mm_model.proofs.Lists.{each_left, each_right}
+use Rattle.mm_model.specs.ListLaws.{each_left, each_right}
 use Rattle.mm_call.specs.Levels.{by_lists, by_digests, all_made, Agrees}
 use Rattle.mm_call.specs.Found.{right_content}
 use Rattle.mm_call.specs.Called.{Ending, Answers, Refuses, Breaks, Called, called}

@@ -7,7 +7,7 @@ use Rattle.std.proofs.lemmas.Bool.{and_parts}
 use Rattle.sha2.specs.Sha256.{sha256, first_words, rounds, digest_bytes}
 use Rattle.mm_digest.specs.declared.variant.Variant.TheVariants.{Basic, Opt}
 use Rattle.mm_digest.specs.Messages.{zero_bytes, start_message, start_of, extended_of, extended_message, anchored_message, anchored_of}
-use Rattle.mm_digest.proofs.Lengths.{length-zero_bytes, length-start_of}
+use Rattle.mm_digest.specs.LengthLaws.{length-zero_bytes, length-start_of}
 use Rattle.mm_module.specs.Batch.{Batch, One}
 use Rattle.mm_module.specs.CounterTable.{counter}
 use Rattle.mm_module.specs.CounterLaws.{counter_is_lawful}
@@ -24,15 +24,15 @@ use Rattle.mm_model.specs.Places.{Names, anchor_after, issued}
 use Rattle.mm_model.specs.PlacesWords.{digest_of}
 use Rattle.mm_model.specs.Standing.{IsRight, IsGenuine, issued_bytes}
 use Rattle.mm_model.specs.Steps.{ask_steps}
-use Rattle.mm_model.proofs.Ends.{first_sound}
-use Rattle.mm_model.proofs.Forms.{reads_zero}
-use Rattle.mm_model.proofs.Lists.{each_append}
+use Rattle.mm_model.specs.EndLaws.{first_sound}
+use Rattle.mm_model.specs.FormLaws.{reads_zero}
+use Rattle.mm_model.specs.ListLaws.{each_append}
 use Rattle.mm_model.proofs.Named.{basic_issued, opt_issued}
 use Rattle.mm_platform.specs.declared.plan.Stop.TheVariants.{Quiet}
 use Rattle.mm_seal.specs.declared.snapshot.PartsFault.{PartsFault}
 use Rattle.mm_seal.specs.declared.snapshot.Place.TheVariants.{Opt as InOpt}
 use Rattle.mm_seal.specs.Snapshot.{Content, IsContent, Snapshot, tag_of}
-use Rattle.mm_seal.proofs.SealLaws.{sealed_once}
+use Rattle.mm_seal.specs.SealLaws.{sealed_once}
 use Rattle.mm_call.specs.Found.{found_at, right_content}
 use Rattle.mm_call.specs.FoundWords.{found_unless_wanting, is_fresh, content_if_right}
 use Rattle.mm_run.specs.Held.{rising_from}
@@ -46,7 +46,7 @@ use Rattle.mm_run.proofs.FirstBytes.{first_byte, all_apart, clear_by_first, clea
 use Rattle.mm_run.specs.Premises.{IsClearRun, IsGenuineRun}
 use Rattle.mm_run.specs.PremisesWords.{run_messages}
 use Rattle.mm_call.specs.Courses.{walk}
-use Rattle.mm_call.proofs.Moving.{summary-nil}
+use Rattle.mm_call.specs.MoveLaws.{summary-nil}
 use Rattle.mm_call.proofs.Reading.{is_right}
 
 -- Basic: the digests of the run's messages

@@ -7,19 +7,19 @@ use Rattle.std.proofs.lemmas.Slice.Eq.{bytes_eq-Decides}
 use Rattle.mm_base.specs.Limits.{last_position}
 use Rattle.mm_digest.specs.declared.variant.Variant.TheVariants.{Opt}
 use Rattle.mm_digest.specs.Messages.{zero_bytes, start_message, start_of, extended_of, extended_message, anchored_message, anchored_of}
-use Rattle.mm_digest.proofs.Lengths.{length-zero_bytes}
+use Rattle.mm_digest.specs.LengthLaws.{length-zero_bytes}
 use Rattle.mm_module.specs.Batch.{Batch, One, size_of}
 use Rattle.mm_module.specs.CounterTable.{counter}
 use Rattle.mm_module.specs.CounterLaws.{counter_is_lawful}
 use Rattle.mm_module.specs.Meaning.{Meaning, IsLawful, state_after}
-use Rattle.mm_module.proofs.RunLaws.{state_after-is_spelled}
+use Rattle.mm_module.specs.RunLaws.{state_after-is_spelled}
 use Rattle.mm_platform.specs.declared.plan.Stop.TheVariants.{Quiet}
 use Rattle.mm_schedule.specs.Events.{Event, Ask, Checkpoint, Extend}
 use Rattle.mm_schedule.specs.declared.event.Offer.TheVariants.{Last}
 use Rattle.mm_seal.specs.Snapshot.{Content, IsContent, IsPlace, variant_of, offered_of, tag_of}
 use Rattle.mm_seal.specs.Parts.{parts_of}
 use Rattle.mm_seal.specs.declared.snapshot.Place.TheVariants.{Opt as InOpt}
-use Rattle.mm_seal.proofs.SealLaws.{sealed_parts}
+use Rattle.mm_seal.specs.SealLaws.{sealed_parts}
 use Rattle.mm_model.specs.Chains.{guard, guard_message, register_of, anchor_of}
 use Rattle.mm_model.specs.Instance.{Instance}
 use Rattle.mm_model.specs.InstanceWords.{opt}
@@ -35,10 +35,10 @@ use Rattle.mm_model.specs.declared.refusal.Refusal.{Refusal}
 use Rattle.mm_model.specs.declared.refusal.Refusal.TheVariants as refusal
 use Rattle.mm_model.specs.declared.verdict.Verdict.{Verdict}
 use Rattle.mm_model.specs.declared.verdict.Verdict.TheVariants.{Fresh}
-use Rattle.mm_model.proofs.Chains.{length-anchor_of, length-register_of}
-use Rattle.mm_model.proofs.Ends.{first_sound}
-use Rattle.mm_model.proofs.Forms.{reads_zero}
-use Rattle.mm_model.proofs.Lists.{each_append}
+use Rattle.mm_model.specs.ChainLaws.{length-anchor_of, length-register_of}
+use Rattle.mm_model.specs.EndLaws.{first_sound}
+use Rattle.mm_model.specs.FormLaws.{reads_zero}
+use Rattle.mm_model.specs.ListLaws.{each_append}
 use Rattle.mm_model.proofs.Moves.{sound_moved}
 use Rattle.mm_model.proofs.Named.{opt_names, opt_issued}
 use Rattle.mm_call.specs.Asked.{moves_messages, right_messages}

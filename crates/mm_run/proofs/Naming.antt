@@ -21,7 +21,7 @@ use Rattle.mm_model.specs.Standing.{issued_bytes}
 use Rattle.mm_model.specs.Places.{issued as content_issued}
 use Rattle.mm_model.specs.Steps.{Step, Reads, Writes, ask_steps, checkpoint_steps}
 use Rattle.mm_model.specs.declared.refusal.Refusal.{Refusal}
-use Rattle.mm_model.proofs.Ends.{first_sound}
+use Rattle.mm_model.specs.EndLaws.{first_sound}
 use Rattle.mm_model.proofs.Moves.{sound_moved}
 use Rattle.mm_model.proofs.Named.{basic_names, basic_issued, opt_names, opt_issued}
 use Rattle.mm_call.specs.Levels.{by_lists, all_made}
@@ -37,11 +37,11 @@ use Rattle.mm_call.proofs.OptHolding.{foreign_fine, power_fine}
 use Rattle.mm_call.proofs.OptReady.{ready_closing}
 use Rattle.mm_call.proofs.OptLaw.{before, sight, sight_is}
 use Rattle.mm_call.proofs.OptWalks.{Ready, walk_fine, own_checked}
-use Rattle.mm_call.proofs.Walks.{asks}
+use Rattle.mm_call.specs.WalkLaws.{asks}
 use Rattle.mm_call.proofs.BasicLaw.{unlacked}
-use Rattle.mm_call.proofs.Along.{opt_closes, closed_kept}
+use Rattle.mm_call.specs.AlongLaws.{opt_closes, closed_kept}
 use Rattle.mm_call.proofs.OptMay.{AllMay, may_of, first_in, ask_may}
-use Rattle.mm_model.proofs.Lists.{each_self}
+use Rattle.mm_model.specs.ListLaws.{each_self}
 use Rattle.mm_schedule.specs.Events.{Event, Ask, Checkpoint, Power, Extend}
 use Rattle.mm_run.specs.Offered.{offered_bytes}
 use Rattle.mm_run.specs.Folds.{Outcome, after_stop, course_of, snapshots_of, moves_then, outcome_by, asked, closing_then, closed_outcome, event_outcome, Followed, followed, first_issued}

@@ -18,10 +18,10 @@ use Rattle.mm_model.specs.MessagesWords.{move_messages}
 use Rattle.mm_model.specs.Moves.{Digests, made}
 use Rattle.mm_model.specs.Standing.{IsGenuine}
 use Rattle.mm_model.specs.Steps.{Step, Reads, Changes, Writes, ask_steps, checkpoint_steps}
-use Rattle.mm_model.proofs.Forms.{reads_zero}
-use Rattle.mm_model.proofs.Lists.{each_left, each_right, each_append, each_self}
+use Rattle.mm_model.specs.FormLaws.{reads_zero}
+use Rattle.mm_model.specs.ListLaws.{each_left, each_right, each_append, each_self}
 use Rattle.mm_model.proofs.Moves.{sound_moved}
-use Rattle.mm_model.proofs.Ends.{first_sound, first_outside}
+use Rattle.mm_model.specs.EndLaws.{first_sound, first_outside}
 use Rattle.mm_model.proofs.MovedDigests.{outside_moved}
 use Rattle.mm_call.specs.Levels.{by_lists, by_digests, all_made}
 use Rattle.mm_call.specs.Found.{right_content, found_at}
@@ -32,9 +32,9 @@ use Rattle.mm_call.specs.Called.{called, seen_at}
 use Rattle.mm_call.specs.Checkpoints.{checkpointed, IsSameCheckpoint}
 use Rattle.mm_call.specs.Asked.{counted_part, counted_moves, from_reset, moves_messages, foreign_in, right_messages, IsWithin}
 use Rattle.mm_call.specs.Laws.{IsSameCall}
-use Rattle.mm_call.proofs.Moving.{anchor-nil}
+use Rattle.mm_call.specs.MoveLaws.{anchor-nil}
 use Rattle.mm_call.proofs.OptHolding.{opt_agrees_moved, foreign_may, power_may, power_brings, holds_moved, foreign_fine}
-use Rattle.mm_call.proofs.Walks.{asks, taking, taking_is, messages-made, foreign_in-append, foreign_in-foreign, foreign_in-first, from_reset-foreign}
+use Rattle.mm_call.specs.WalkLaws.{asks, taking, taking_is, messages-made, foreign_in-append, foreign_in-foreign, foreign_in-first, from_reset-foreign}
 use Rattle.mm_call.proofs.OptWalks.{AreOwn, own_asked, own_checked}
 use Rattle.mm_call.proofs.OptShapes.{Shape, still, reset, shape}
 use Rattle.mm_call.proofs.OptShut.{bare, listed_bare, holds_open, within_of, within_items}

@@ -5,8 +5,8 @@ use Rattle.std.specs.Str.{bytes_eq}
 use Rattle.std.proofs.lemmas.Bool.{and_parts}
 use Rattle.mm_module.specs.Meaning.{Meaning, state_after, outputs_from}
 use Rattle.mm_module.specs.Batch.{Batch, members_of, size_of, normal}
-use Rattle.mm_module.proofs.BatchLaws.{members_of-normal}
-use Rattle.mm_module.proofs.RunLaws.{length-outputs_from}
+use Rattle.mm_module.specs.BatchLaws.{members_of-normal}
+use Rattle.mm_module.specs.RunLaws.{length-outputs_from}
 use Rattle.mm_seal.specs.declared.snapshot.PartsFault.{PartsFault}
 use Rattle.mm_seal.specs.declared.snapshot.PartsFault.TheVariants.{Form, Kind}
 use Rattle.mm_seal.specs.Snapshot.{Snapshot, tag_of}
@@ -23,7 +23,7 @@ use Rattle.mm_model.specs.Long.{is_long}
 use Rattle.mm_model.specs.Steps.{ask_steps}
 use Rattle.mm_model.specs.declared.answer.BatchAnswer.{BatchAnswer}
 use Rattle.mm_model.specs.declared.refusal.Refusal.{Refusal}
-use Rattle.mm_model.proofs.Batches.{EndsWith, is_last_tells}
+use Rattle.mm_model.specs.BatchLaws.{EndsWith, is_last_tells}
 use Rattle.mm_call.specs.Order.{admitted, examined}
 use Rattle.mm_call.specs.Answers.{answer_on}
 use Rattle.mm_call.specs.Levels.{by_lists, all_made}
@@ -34,13 +34,13 @@ use Rattle.mm_call.specs.Called.{Ending, Answers, Refuses, Breaks, Called, readi
 use Rattle.mm_call.specs.CalledWords.{kept_at}
 use Rattle.mm_call.specs.Checkpoints.{Closing, Closes, HasNone, NoSegment, LostPower, Stops, Checkpointed}
 use Rattle.mm_call.specs.CheckpointsWords.{checkpointed_with}
-use Rattle.mm_call.proofs.Moving.{same_batches, more_batches}
-use Rattle.mm_call.proofs.Walks.{Commits, nothing, batch, commits-none, call_commits, commits_batch, seen_none}
+use Rattle.mm_call.specs.MoveLaws.{same_batches, more_batches}
+use Rattle.mm_call.specs.WalkLaws.{Commits, nothing, batch, commits-none, call_commits, commits_batch, seen_none}
 use Rattle.mm_call.proofs.Finding.{admitted_tells, weighed_tells, found_with_tells}
 use Rattle.mm_call.proofs.Calling.{requests-push, before_last, said_last}
 use Rattle.mm_call.proofs.Endings.{again_of, fresh_of}
 use Rattle.mm_call.proofs.BasicLaw.{unlacked}
-use Rattle.mm_call.proofs.Along.{checkpoint_none}
+use Rattle.mm_call.specs.AlongLaws.{checkpoint_none}
 use Rattle.mm_call.proofs.OptFinding.{unless_lost}
 use Rattle.mm_schedule.specs.Events.{Event, Ask, Checkpoint, Power, Extend}
 use Rattle.mm_schedule.specs.Machine.{IsTold, StepsOn, AsksNone, Steps, Runs}

@@ -8,7 +8,7 @@ use Rattle.std.specs.Str.{bytes_eq}
 use Rattle.hex.specs.declared.error.FromHexError.{FromHexError}
 use Rattle.hex.specs.Hex.{decode_of, decode_sized}
 use Rattle.mm_base.specs.Decimals.{decimal_number}
-use Rattle.mm_base.proofs.DecimalLemmas.{spelled_by_reading}
+use Rattle.mm_base.specs.DecimalLaws.{spelled_by_reading}
 use Rattle.mm_module.specs.Batch.{One, Many}
 use Rattle.mm_platform.specs.declared.plan.Meddle.{Meddle}
 use Rattle.mm_platform.specs.declared.plan.Stop.{Stop}

@@ -15,7 +15,7 @@ use Rattle.std.specs.Str.{all_ascii_digits, bytes_eq}
 use Rattle.hex.specs.Hex.{decode_of, is_hex_digit}
 use Rattle.hex.proofs.HexLemmas.{decode_of-ok, decode_sized-ok, decode_sized-twice}
 use Rattle.mm_base.specs.Decimals.{decimal_number}
-use Rattle.mm_base.proofs.DecimalLemmas.{read_by_spelling}
+use Rattle.mm_base.specs.DecimalLaws.{read_by_spelling}
 use Rattle.mm_module.specs.Batch.{Batch, One, Many}
 use Rattle.mm_platform.specs.declared.plan.Meddle.{Meddle}
 use Rattle.mm_platform.specs.declared.plan.Stop.{Stop}

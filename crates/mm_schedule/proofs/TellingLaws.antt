@@ -4,7 +4,7 @@ use Rattle.std.specs.Prelude.{slice_get}
 use Rattle.std.specs.List.{AllByRecursion}
 use Rattle.mm_module.specs.Batch.{Batch, members_of}
 use Rattle.mm_module.specs.Meaning.{Meaning, state_after, outputs_from}
-use Rattle.mm_module.proofs.RunLaws.{outputs_from-append, length-outputs_from}
+use Rattle.mm_module.specs.RunLaws.{outputs_from-append, length-outputs_from}
 use Rattle.mm_listing.specs.Tellings.{Telling, WasSaid}
 use Rattle.mm_listing.specs.TellingLaws.{drop-next, slice_get-drop}
 use Rattle.mm_schedule.specs.declared.reply.Reply.{Reply}

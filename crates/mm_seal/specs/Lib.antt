@@ -5,3 +5,8 @@ pub mod Body
 pub mod Parts
 pub mod PartsWords
 pub mod SnapshotWords
+pub mod FieldLaws
+pub mod SnapshotLaws
+pub mod SealLaws
+pub mod CellLaws
+pub mod ReadingLaws

@@ -199,7 +199,7 @@ fn head_of(body: &Body<'_>) -> [u8; 6]
 
 /// Takes an offer apart, and borrows its state. Form exactly where the bytes are no snapshot's, Kind
 /// exactly where they are one of another variant or module. Takes no memory.
-#[tactic(auto, using(crate::proofs::SnapshotLaws::one_spelling))]
+#[tactic(auto, using(crate::specs::SnapshotLaws::one_spelling))]
 #[inline(always)]
 pub fn parts(bytes: &[u8], variant: Variant, id: u8) -> Result<Offered<'_>, PartsFault>
     ensures reads { ReadsParts bytes.now variant id result }

@@ -15,7 +15,7 @@ use Rattle.mm_model.specs.Messages.{Within, IsClear}
 use Rattle.mm_model.specs.Moves.{Digests}
 use Rattle.mm_model.specs.Places.{Names, issued}
 use Rattle.mm_model.specs.StandingHere.{place_messages}
-use Rattle.mm_model.proofs.Lists.{each_left, each_right, each_append}
+use Rattle.mm_model.specs.ListLaws.{each_left, each_right, each_append}
 use Rattle.mm_call.specs.Asked.{moves_messages}
 use Rattle.mm_call.specs.Courses.{Fate, Walked, walk}
 use Rattle.mm_call.specs.Levels.{by_lists, by_digests, all_made}

@@ -10,7 +10,7 @@ use Rattle.mm_model.specs.Instance.{Instance}
 use Rattle.mm_model.specs.History.{History, first_history}
 use Rattle.mm_model.specs.Messages.{Within, IsClear}
 use Rattle.mm_model.specs.Moves.{Digests}
-use Rattle.mm_model.proofs.Lists.{each_left, each_right, each_self}
+use Rattle.mm_model.specs.ListLaws.{each_left, each_right, each_self}
 use Rattle.mm_call.specs.Standing.{instance_by}
 use Rattle.mm_run.specs.Folds.{first_digests}
 use Rattle.mm_run.specs.OneEvent.{Keeps}

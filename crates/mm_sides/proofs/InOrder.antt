@@ -3,7 +3,7 @@ use Rattle.std.proofs.Common.{ℕ, ◌≡◌, Bool, true, false, List, [], ◌�
 use Rattle.std.specs.List.{AllByRecursion, Contains}
 use Rattle.std.proofs.lemmas.List.{map-append}
 use Rattle.std.proofs.lemmas.List.Elements.{All-from_recursion, All-contains, Contains-append_left, Contains-push, Contains-push_cases}
-use Rattle.mm_model.proofs.Lists.{each_append, each_self}
+use Rattle.mm_model.specs.ListLaws.{each_append, each_self}
 use Rattle.mm_move.specs.Tickets.{TicketContent}
 use Rattle.mm_sides.specs.Roles.{Role, Blank, Live, Waiting, Retired, Invites, Leaves, Enters, is_live, Notes, noted}
 use Rattle.mm_sides.specs.Order.{nonces_of, IsAwaited, WaitsElse, WaitApart, IsSomewhere, here, there, away, AreInOrder, MayTake, RolesBegin, RolesSwap, RolesGoOn, RolesEnterLast, AtMostOne, RolesAreOne}

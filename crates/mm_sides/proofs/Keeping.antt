@@ -20,7 +20,7 @@ use Rattle.mm_model.specs.Moves.{Digests, made}
 use Rattle.mm_model.specs.Places.{Names}
 use Rattle.mm_model.specs.Steps.{Reads}
 use Rattle.mm_model.specs.declared.refusal.Refusal.{Refusal}
-use Rattle.mm_model.proofs.Lists.{each_left, each_right, each_append}
+use Rattle.mm_model.specs.ListLaws.{each_left, each_right, each_append}
 use Rattle.mm_call.specs.Asked.{moves_messages}
 use Rattle.mm_call.specs.Called.{called_by}
 use Rattle.mm_call.specs.Courses.{Fate, Walked, walk}

@@ -6,14 +6,14 @@ use Rattle.std.specs.Str.{bytes_eq}
 use Rattle.mm_digest.specs.declared.variant.Variant.{Variant}
 use Rattle.mm_digest.specs.declared.variant.Variant.TheVariants.{Basic, Opt}
 use Rattle.mm_digest.specs.Messages.{start_message, start_of, zero_bytes}
-use Rattle.mm_digest.proofs.Lengths.{length-zero_bytes, length-start_of, length-hmac_of}
+use Rattle.mm_digest.specs.LengthLaws.{length-zero_bytes, length-start_of, length-hmac_of}
 use Rattle.mm_module.specs.CounterTable.{counter}
 use Rattle.mm_module.specs.CounterLaws.{counter_is_lawful}
 use Rattle.mm_platform.specs.declared.plan.Stop.TheVariants.{Quiet}
 use Rattle.mm_seal.specs.Parts.{parts_of}
 use Rattle.mm_seal.specs.Snapshot.{Content, IsContent, Snapshot, variant_of, tag_of, sealed_of, offered_of}
 use Rattle.mm_seal.specs.declared.snapshot.PartsFault.{PartsFault}
-use Rattle.mm_seal.proofs.SealLaws.{sealed_parts, sealed_once}
+use Rattle.mm_seal.specs.SealLaws.{sealed_parts, sealed_once}
 use Rattle.mm_model.specs.Instance.{Instance}
 use Rattle.mm_model.specs.InstanceWords.{basic, opt}
 use Rattle.mm_model.specs.History.{History, first_history}
@@ -24,14 +24,14 @@ use Rattle.mm_model.specs.StandingHere.{place_messages}
 use Rattle.mm_model.specs.Steps.{Reads}
 use Rattle.mm_model.specs.declared.refusal.Refusal.{Refusal}
 use Rattle.mm_model.specs.declared.refusal.Refusal.TheVariants as refusal
-use Rattle.mm_model.proofs.Segments.{true_not_false}
+use Rattle.mm_model.specs.SegmentLaws.{true_not_false}
 use Rattle.mm_call.specs.Asked.{moves_messages}
 use Rattle.mm_call.specs.Found.{right_content}
 use Rattle.mm_call.specs.FoundWords.{content_if_right}
 use Rattle.mm_call.specs.Levels.{by_lists}
 use Rattle.mm_call.specs.OrderWords.{weighed}
 use Rattle.mm_call.specs.Standing.{instance_by}
-use Rattle.mm_call.proofs.Moving.{summary-nil}
+use Rattle.mm_call.specs.MoveLaws.{summary-nil}
 use Rattle.mm_move.specs.Tickets.{place_at, summary_in, TicketContent, IsTicket, TaggedTicket, ticket_tag, ticket_spelling, sealed_ticket, ticket_of, SpellsTicket}
 use Rattle.mm_move.proofs.Parts.{bytes_are}
 use Rattle.mm_move.proofs.TicketLaws.{tickets_are_read}

@@ -10,7 +10,7 @@ use Rattle.mm_platform.specs.StandingWords.{due}
 use Rattle.mm_model.specs.Instance.{Instance}
 use Rattle.mm_model.specs.History.{History, Move, Commit, Foreign, Placed, Reset, Close, Power as PowerMove, moved}
 use Rattle.mm_model.specs.Steps.{Reads}
-use Rattle.mm_model.proofs.Lists.{each_append}
+use Rattle.mm_model.specs.ListLaws.{each_append}
 use Rattle.mm_call.specs.Courses.{End, Done, Fails, Fate, Walked, walk, after_step, commits}
 use Rattle.mm_call.specs.Levels.{by_lists, all_made}
 use Rattle.mm_run.specs.Folds.{after_stop, course_of}

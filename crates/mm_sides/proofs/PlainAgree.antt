@@ -12,7 +12,7 @@ use Rattle.mm_model.specs.Moves.{Digests}
 use Rattle.mm_model.specs.Places.{Names}
 use Rattle.mm_model.specs.declared.refusal.Refusal.{Refusal}
 use Rattle.mm_model.specs.declared.refusal.Refusal.TheVariants as refusal
-use Rattle.mm_model.proofs.Lists.{each_left, each_right}
+use Rattle.mm_model.specs.ListLaws.{each_left, each_right}
 use Rattle.mm_call.specs.Asked.{moves_messages}
 use Rattle.mm_call.specs.Levels.{by_lists, by_digests}
 use Rattle.mm_call.specs.Standing.{instance_by}

@@ -26,7 +26,7 @@ use Rattle.mm_model.specs.Places.{IsPoint, IsPlaceOf, Names, anchor_after, issue
 use Rattle.mm_model.specs.PlacesWords.{digest_of}
 use Rattle.mm_model.specs.StandingHere.{is_new, place_messages}
 use Rattle.mm_model.specs.Standing.{flag_of}
-use Rattle.mm_model.proofs.Batches.{at_the_end}
+use Rattle.mm_model.specs.BatchLaws.{at_the_end}
 use Rattle.mm_model.proofs.Named.{basic_issued, opt_issued, point_kept}
 use Rattle.mm_model.proofs.StandsHere.{basic_stands_here, opt_stands_here}
 use Rattle.mm_call.specs.Asked.{IsLedTo, IsWithin}

@@ -26,7 +26,7 @@ use Rattle.mm_call.specs.OrderWords.{weighed}
 use Rattle.mm_call.specs.Standing.{instance_by}
 use Rattle.mm_call.proofs.Finding.{right_is}
 use Rattle.mm_call.proofs.Reading.{is_right}
-use Rattle.mm_call.proofs.Weighing.{weighed_alike, weighed_only, accepting as accepting_verdict}
+use Rattle.mm_call.specs.WeighingLaws.{weighed_alike, weighed_only, accepting as accepting_verdict}
 use Rattle.mm_move.specs.Tickets.{TicketContent}
 use Rattle.mm_run.specs.Offered.{offered_bytes}
 use Rattle.mm_run.specs.OneEvent.{Keeps}

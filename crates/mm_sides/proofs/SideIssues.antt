@@ -17,12 +17,12 @@ use Rattle.mm_model.specs.History.{History, first_history}
 use Rattle.mm_model.specs.Life.{Live as LiveHistory, life_of}
 use Rattle.mm_model.specs.Places.{Names, issued}
 use Rattle.mm_model.specs.declared.refusal.Refusal.{Refusal}
-use Rattle.mm_model.proofs.Lists.{each_append}
+use Rattle.mm_model.specs.ListLaws.{each_append}
 use Rattle.mm_call.specs.Courses.{Fate, Walked, walk}
 use Rattle.mm_call.specs.Levels.{by_lists, all_made}
 use Rattle.mm_call.specs.OrderWords.{weighed}
 use Rattle.mm_call.specs.Standing.{instance_by}
-use Rattle.mm_call.proofs.Weighing.{weighed_only, accepting as accepting_verdict}
+use Rattle.mm_call.specs.WeighingLaws.{weighed_only, accepting as accepting_verdict}
 use Rattle.mm_move.specs.Tickets.{TicketContent}
 use Rattle.mm_run.specs.Offered.{offered_bytes}
 use Rattle.mm_run.specs.Folds.{course_of}

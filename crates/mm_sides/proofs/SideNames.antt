@@ -19,7 +19,7 @@ use Rattle.mm_model.specs.Places.{Names, issued}
 use Rattle.mm_model.specs.Steps.{Reads}
 use Rattle.mm_model.specs.declared.refusal.Refusal.{Refusal}
 use Rattle.mm_model.specs.declared.refusal.Refusal.TheVariants as refusal
-use Rattle.mm_model.proofs.Ends.{first_sound}
+use Rattle.mm_model.specs.EndLaws.{first_sound}
 use Rattle.mm_model.proofs.Named.{basic_issued, opt_issued}
 use Rattle.mm_call.specs.Called.{called_by}
 use Rattle.mm_call.specs.Courses.{Fate, Walked, walk}

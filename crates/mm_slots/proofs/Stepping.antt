@@ -49,7 +49,7 @@ use Rattle.mm_slots.specs.declared.said.Said.TheVariants.{Going}
 use Rattle.mm_slots.specs.declared.slot.Slot.{Slot as CodeSlot}
 use Rattle.mm_slots.specs.Slot.{Turned, outcome_in, plays, merely, flying, so_far, stepped, event_by, stop_at}
 use Rattle.mm_slots.specs.Held.{digests_in, slot_in, call_in, instance_in, Fits, GoesOn, Wants, Comes, flown, HasRegister, within_64, EndsCall}
-use Rattle.mm_call.proofs.Walks.{seen_none}
+use Rattle.mm_call.specs.WalkLaws.{seen_none}
 use Rattle.mm_world.proofs.Committing.{count_none}
 use Rattle.mm_slots.proofs.Fitting.{mine_are, settled, over_comes, same_instance}
 use Rattle.mm_slots.proofs.Planned.{flight_of, goes_planned, digests_kept, goes_comes, asking_of, closing_of}

@@ -14,7 +14,7 @@ use Rattle.mm_platform.specs.Standing.{Plan, Standing, next_step}
 use Rattle.mm_platform.specs.Memory.{stopping}
 use Rattle.mm_platform.specs.Steps.{Act, Goes, fault_at, will_answer}
 use Rattle.mm_platform.specs.Told.{step_made}
-use Rattle.mm_platform.proofs.Stepping.{goes}
+use Rattle.mm_platform.specs.StepLaws.{goes}
 use Rattle.mm_flight.specs.InFlight.{plan_by, under, SaySame, GoesOnAs}
 use Rattle.mm_flight.proofs.Replanning.{AlwaysFails, counted_few, Replans}
 use Rattle.mm_world.specs.Calls.{stopped_step, SettlesPlan}

@@ -5,7 +5,7 @@ use Rattle.sha2.specs.Sha256.{sha256}
 use Rattle.sha2.proofs.Facts256.{length-sha256}
 use Rattle.mm_base.specs.Fields.{eight_bytes, four_bytes}
 use Rattle.mm_store.specs.Pending.{Pending, IsPending, record_word, pending_front, pending_spelling, ReadsPending, OneReading, SpellsRecord, SpellsNoRecord}
-use Rattle.mm_base.proofs.FieldLaws.{joined, append-injective, eight_bytes-injective, four_bytes-injective, length-eight_bytes, length-four_bytes}
+use Rattle.mm_base.specs.FieldLaws.{joined, append-injective, eight_bytes-injective, four_bytes-injective, length-eight_bytes, length-four_bytes}
 
 -- four parts put at the end one after another
 pub put_in_parts : (old b₁ b₂ b₃ b₄ p₁ p₂ p₃ p₄ q₂ q₃ : List ℕ) → b₁ ≡ old ++ p₁ → b₂ ≡ b₁ ++ p₂ → b₃ ≡ b₂ ++ p₃ →

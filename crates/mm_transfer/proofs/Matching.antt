@@ -16,7 +16,7 @@ use Rattle.mm_seal.specs.declared.snapshot.Place.{Place}
 use Rattle.mm_seal.specs.declared.snapshot.Place.TheVariants.{Basic as InBasic, Opt as InOpt}
 use Rattle.mm_seal.specs.Parts.{parts_of}
 use Rattle.mm_seal.specs.Snapshot.{Content, Snapshot, tag_of, variant_of}
-use Rattle.mm_seal.proofs.Reading.{spells_read}
+use Rattle.mm_seal.specs.ReadingLaws.{spells_read}
 use Rattle.mm_model.specs.Instance.{Instance}
 use Rattle.mm_model.specs.Judge.{verdict_by, verdict_by_digests, fits_fresh}
 use Rattle.mm_model.specs.Moves.{Digests}

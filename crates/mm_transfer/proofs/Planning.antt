@@ -23,7 +23,7 @@ use Rattle.mm_call.specs.CoursesWords.{end_of}
 use Rattle.mm_call.specs.Ended.{StaysOn}
 use Rattle.mm_call.specs.Levels.{by_digests, all_made}
 use Rattle.mm_call.specs.Standing.{shown}
-use Rattle.mm_call.proofs.Trails.{all_made-append}
+use Rattle.mm_call.specs.TrailLaws.{all_made-append}
 use Rattle.mm_run.specs.FoldsWords.{plan_of}
 use Rattle.mm_world.specs.Calls.{is_cut, SettlesPlan}
 use Rattle.mm_world.specs.Stands.{IsQuiet}

@@ -7,7 +7,7 @@ use Rattle.std.proofs.lemmas.List.{length-take, length-take-le, length-drop}
 use Rattle.mm_base.specs.Faults.{counted, Rose}
 use Rattle.mm_platform.specs.declared.fault.StepFault.TheVariants.{Failed}
 use Rattle.mm_platform.specs.Raw.{range_of, spliced, WritesRaw}
-use Rattle.mm_platform.proofs.Calling.{beside-none}
+use Rattle.mm_platform.specs.CallLaws.{beside-none}
 use Rattle.mm_twocell.specs.Torn.{Torn, whole_bytes, told_by, IsUsable, will_fail, call_made, put_in}
 use Rattle.mm_twocell.proofs.Cells.{behind, length-behind, put_behind, length-spliced}
 

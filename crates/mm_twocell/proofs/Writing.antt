@@ -10,7 +10,7 @@ use Rattle.mm_platform.specs.declared.fault.StepFault.TheVariants.{Failed, Off}
 use Rattle.mm_platform.specs.Standing.{Standing}
 use Rattle.mm_platform.specs.Steps.{WriteCell, beside, cell_after, EndsBy}
 use Rattle.mm_platform.specs.Raw.{spliced, LeavesRest, ReadsRaw, WritesRaw}
-use Rattle.mm_platform.proofs.Calling.{beside-beside}
+use Rattle.mm_platform.specs.CallLaws.{beside-beside}
 use Rattle.mm_twocell.specs.Pairs.{picked, WritesPicked}
 use Rattle.mm_twocell.proofs.Cells.{InThree, in_three, three, one_item, parity, picks_first, picks_second, put_first, put_second, put_selector, selector_of}
 

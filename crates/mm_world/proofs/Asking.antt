@@ -29,8 +29,8 @@ use Rattle.mm_call.specs.CalledWords.{kept_at}
 use Rattle.mm_call.specs.Standing.{RegisterAt, StandsAt, shown, counted_by}
 use Rattle.mm_call.specs.Ended.{StaysOn}
 use Rattle.mm_call.specs.Refusals.{fault_of}
-use Rattle.mm_call.proofs.Walks.{changing, commits-none}
-use Rattle.mm_call.proofs.Along.{reading_none}
+use Rattle.mm_call.specs.WalkLaws.{changing, commits-none}
+use Rattle.mm_call.specs.AlongLaws.{reading_none}
 use Rattle.mm_run.specs.Folds.{way_of, after_stop, reply_of, snapshots_of, moves_then, outcome_by}
 use Rattle.mm_world.specs.declared.call.Called as code
 use Rattle.mm_world.specs.Stands.{Stands}

@@ -6,7 +6,7 @@ use Rattle.mm_base.specs.declared.fault.Memory.{Memory}
 use Rattle.mm_digest.specs.declared.variant.Variant.{Variant}
 use Rattle.mm_module.specs.Meaning.{Meaning}
 use Rattle.mm_module.specs.Batch.{Batch, size_of, normal}
-use Rattle.mm_module.proofs.BatchLaws.{members_of-normal}
+use Rattle.mm_module.specs.BatchLaws.{members_of-normal}
 use Rattle.mm_platform.specs.declared.fault.StepFault.{StepFault}
 use Rattle.mm_platform.specs.declared.fault.StepFault.TheVariants as step
 use Rattle.mm_platform.specs.declared.plan.Meddle.{Meddle}
@@ -44,7 +44,7 @@ use Rattle.mm_world.specs.Calls.{refused_call, answered_call, broken_as, takes_e
 use Rattle.mm_world.specs.Asks.{Came, Lacks, AsksAs}
 use Rattle.mm_world.proofs.Committing.{committed_by, counted_end}
 use Rattle.mm_world.proofs.Asking.{breaks_at, Lacking, refuses, same, lacks_or_same, refused_read, told_ok, told_err, breaks, stands_settled, on_settled, Tells, came_register, came}
-use Rattle.mm_call.proofs.Walks.{call_commits}
+use Rattle.mm_call.specs.WalkLaws.{call_commits}
 
 -- A call over a planned platform, that ended so.
 pub record Over (i : Instance) (d : Digests) (stop : Stop) (meddles : List Meddle) (bytes : List ℕ) (b : Batch) (old mid new : Standing)

@@ -31,7 +31,7 @@ use Rattle.mm_call.specs.Checkpoints.{closing_of, checkpointed}
 use Rattle.mm_call.specs.CheckpointsWords.{closed_by}
 use Rattle.mm_call.specs.Standing.{instance_by, StandsAt}
 use Rattle.mm_call.specs.Ended.{StaysOn}
-use Rattle.mm_call.proofs.Along.{closes-foreign, closes_first, checkpoint_none}
+use Rattle.mm_call.specs.AlongLaws.{closes-foreign, closes_first, checkpoint_none}
 use Rattle.mm_schedule.specs.declared.reply.Reply.{Reply}
 use Rattle.mm_run.specs.Folds.{way_of, course_of, closing_reply, closing_then, closed_outcome}
 use Rattle.mm_run.specs.FoldsWords.{plan_of, stopped_reply}

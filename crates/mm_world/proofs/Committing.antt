@@ -9,7 +9,7 @@ use Rattle.mm_digest.specs.declared.variant.Variant.TheVariants.{Basic, Opt}
 use Rattle.mm_digest.specs.Messages.{zero_bytes, extended_of}
 use Rattle.mm_module.specs.Batch.{Batch, members_of, size_of}
 use Rattle.mm_module.specs.Meaning.{outputs_from}
-use Rattle.mm_module.proofs.RunLaws.{length-outputs_from}
+use Rattle.mm_module.specs.RunLaws.{length-outputs_from}
 use Rattle.mm_platform.specs.declared.fault.StepFault.{StepFault}
 use Rattle.mm_platform.specs.Standing.{Item, own_item, foreign_item, item_values, register_after}
 use Rattle.mm_model.specs.Chains.{guard}
@@ -25,8 +25,8 @@ use Rattle.mm_call.specs.Called.{Ending, Answers, Refuses, Breaks, position_of, 
 use Rattle.mm_call.specs.CalledWords.{kept_at}
 use Rattle.mm_call.specs.Standing.{shown_by, shown}
 use Rattle.mm_call.proofs.Endings.{again_of, fresh_of}
-use Rattle.mm_call.proofs.Moving.{committed_in}
-use Rattle.mm_call.proofs.Walks.{Commits, nothing, batch, commits-none, commits_batch}
+use Rattle.mm_call.specs.MoveLaws.{committed_in}
+use Rattle.mm_call.specs.WalkLaws.{Commits, nothing, batch, commits-none, commits_batch}
 use Rattle.mm_world.specs.Calls.{size_if}
 
 -- the requests of batches

@@ -14,7 +14,7 @@ use Rattle.mm_seal.specs.declared.cell.CellFault.{CellFault}
 use Rattle.mm_seal.specs.declared.cell.CellFault.TheVariants.{Blank, Cell as Unspelled}
 use Rattle.mm_seal.specs.Cell.{ReadsCell}
 use Rattle.mm_seal.specs.PartsWords.{same_variant}
-use Rattle.mm_seal.proofs.CellLaws.{reads_cell-same}
+use Rattle.mm_seal.specs.CellLaws.{reads_cell-same}
 use Rattle.mm_model.specs.declared.refusal.Refusal.{Refusal}
 use Rattle.mm_model.specs.declared.refusal.Refusal.TheVariants as refusal
 use Rattle.mm_call.specs.declared.ended.Ended.{Ended}

@@ -6,12 +6,12 @@ use Rattle.mm_base.specs.declared.fault.Memory.{Memory}
 use Rattle.mm_digest.specs.declared.variant.Variant.{Variant}
 use Rattle.mm_digest.specs.declared.variant.Variant.TheVariants.{Basic, Opt}
 use Rattle.mm_digest.specs.Messages.{zero_bytes}
-use Rattle.mm_digest.proofs.Lengths.{length-zero_bytes, length-start_of}
+use Rattle.mm_digest.specs.LengthLaws.{length-zero_bytes, length-start_of}
 use Rattle.mm_module.specs.Batch.{Batch}
 use Rattle.mm_module.specs.Meaning.{Meaning}
 use Rattle.mm_seal.specs.declared.cell.Cell.{Cell}
 use Rattle.mm_seal.specs.Cell.{flag_byte, cell_spelling}
-use Rattle.mm_seal.proofs.Fields.{take_front}
+use Rattle.mm_seal.specs.FieldLaws.{take_front}
 use Rattle.mm_platform.specs.declared.fault.StepFault.{StepFault}
 use Rattle.mm_platform.specs.declared.plan.Meddle.{Meddle}
 use Rattle.mm_platform.specs.declared.plan.Stop.{Stop}
@@ -26,8 +26,8 @@ use Rattle.mm_call.specs.Levels.{by_digests}
 use Rattle.mm_call.specs.Courses.{seen_in}
 use Rattle.mm_call.specs.Called.{seen_at, reading_steps}
 use Rattle.mm_call.specs.Standing.{instance_by, cell_at, shown}
-use Rattle.mm_call.proofs.Moving.{anchor-nil, summary-nil}
-use Rattle.mm_call.proofs.Walks.{seen_none}
+use Rattle.mm_call.specs.MoveLaws.{anchor-nil, summary-nil}
+use Rattle.mm_call.specs.WalkLaws.{seen_none}
 use Rattle.mm_modules.specs.Modules.{meaning_of}
 use Rattle.mm_schedule.specs.declared.header.Header.{Header}
 use Rattle.mm_schedule.specs.declared.event.Offer.{Offer}

@@ -1,4 +1,4 @@
-use Rattle.mm_call.proofs.Trails.{leads}
+use Rattle.mm_call.specs.TrailLaws.{leads}
 use Rattle.mm_call.proofs.laws.trails_lead.Goals as goal
 
 pub returns : goal.returns

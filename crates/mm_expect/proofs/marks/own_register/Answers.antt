@@ -1,6 +1,6 @@
 use Rattle.std.proofs.Common.{◌∙◌, sym, ap}
 use Rattle.mm_model.specs.Chains.{guard}
-use Rattle.mm_model.proofs.Forms.{reads_zero}
+use Rattle.mm_model.specs.FormLaws.{reads_zero}
 use Rattle.mm_expect.proofs.MarkLaws.{batch_taken}
 use Rattle.mm_expect.proofs.marks.own_register.Goals as goal
 

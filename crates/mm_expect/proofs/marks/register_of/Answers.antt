@@ -1,5 +1,5 @@
 use Rattle.std.proofs.Common.{◌∙◌, sym}
-use Rattle.mm_model.proofs.Forms.{reads_zero}
+use Rattle.mm_model.specs.FormLaws.{reads_zero}
 use Rattle.mm_expect.proofs.MarkLaws.{entry_taken}
 use Rattle.mm_expect.proofs.marks.register_of.Goals as goal
 

@@ -1,5 +1,5 @@
 use Rattle.std.proofs.Common.{◌∙◌}
-use Rattle.mm_call.proofs.Moving.{summary-nil}
+use Rattle.mm_call.specs.MoveLaws.{summary-nil}
 use Rattle.mm_expect.proofs.TakenLaws.{summary_taken}
 use Rattle.mm_module.specs.Batches.{batch_of}
 use Rattle.mm_expect.proofs.naming.summary_of.Goals as goal

@@ -1,5 +1,5 @@
 use Rattle.std.proofs.Common.{Ok, Err}
-use Rattle.mm_call.proofs.Leaving.{wholly}
+use Rattle.mm_call.specs.LeavingLaws.{wholly}
 use Rattle.mm_host.proofs.OneCall.{is_call, wholly_in}
 use Rattle.mm_host.proofs.asking.ask.Goals as goal
 

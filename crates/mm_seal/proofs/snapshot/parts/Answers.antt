@@ -1,6 +1,6 @@
 use Rattle.std.proofs.Common.{rules, Ok, Err}
 use Rattle.mm_seal.specs.declared.snapshot.PartsFault.TheVariants.{Form, Kind}
-use Rattle.mm_seal.proofs.Fields.{parts_are}
+use Rattle.mm_seal.specs.FieldLaws.{parts_are}
 use Rattle.mm_seal.proofs.snapshot.parts.Goals as goal
 
 pub returns-in-None-clause-parts : goal.returns-in-None-clause-parts

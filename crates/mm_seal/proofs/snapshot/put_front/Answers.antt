@@ -1,5 +1,5 @@
 use Rattle.mm_seal.specs.Snapshot.{snapshot_front}
-use Rattle.mm_seal.proofs.SnapshotLaws.{put_in_parts}
+use Rattle.mm_seal.specs.SnapshotLaws.{put_in_parts}
 use Rattle.mm_seal.proofs.snapshot.put_front.Goals as goal
 
 pub returns : goal.returns

@@ -4,7 +4,7 @@ use Rattle.std.specs.Result.{result_err}
 use Rattle.mm_platform.specs.contracts.memory.MemPlatform.{the_view}
 use Rattle.mm_platform.specs.Entries.{item_of, items_of}
 use Rattle.mm_platform.specs.Steps.{ExtendRegister}
-use Rattle.mm_platform.proofs.Stepping.{goes, extends, is_made_of}
+use Rattle.mm_platform.specs.StepLaws.{goes, extends, is_made_of}
 use Rattle.mm_platform.proofs.memory.MemPlatformRegister.reg_extend.Goals as goal
 
 pub returns : goal.returns

@@ -3,7 +3,7 @@ use Rattle.std.specs.Result.{result_err}
 use Rattle.mm_platform.specs.contracts.memory.MemPlatform.{the_view}
 use Rattle.mm_platform.specs.Entries.{items_of}
 use Rattle.mm_platform.specs.Steps.{ResetRegister}
-use Rattle.mm_platform.proofs.Stepping.{goes, resets, is_made_of}
+use Rattle.mm_platform.specs.StepLaws.{goes, resets, is_made_of}
 use Rattle.mm_platform.proofs.memory.MemPlatformRegister.reg_reset.Goals as goal
 
 pub returns : goal.returns

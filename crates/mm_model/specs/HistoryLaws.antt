@@ -12,9 +12,9 @@ use Rattle.mm_model.specs.HistoryWords.{values_of}
 use Rattle.mm_model.specs.Life.{is_empty, has_value, are_own, same_batch}
 use Rattle.mm_model.specs.Messages.{values_in}
 use Rattle.mm_model.specs.Sound.{batches_in}
-use Rattle.mm_model.proofs.Lists.{ends}
-use Rattle.mm_model.proofs.Batches.{same_batch-Decides}
-use Rattle.mm_model.proofs.Segments.{true_not_false}
+use Rattle.mm_model.specs.ListLaws.{ends}
+use Rattle.mm_model.specs.BatchLaws.{same_batch-Decides}
+use Rattle.mm_model.specs.SegmentLaws.{true_not_false}
 
 pub own_values-append : (barrier : List ℕ) (bs cs : List Batch) → own_values barrier (bs ++ cs) ≡ own_values barrier bs
     ++ own_values barrier cs

@@ -12,12 +12,12 @@ use Rattle.mm_base.specs.Fields.{eight_bytes, four_bytes}
 use Rattle.mm_seal.specs.Fields.{version_of}
 use Rattle.mm_seal.specs.Snapshot.{Content, IsContent, IsPlace, Snapshot, snapshot_spelling, OneSpelling, variant_of, place_spelling, snapshot_front, Spells, IsOfKind, ReadsParts, tag_of, sealed_of}
 use Rattle.mm_seal.specs.SnapshotWords.{front_head}
-use Rattle.mm_digest.proofs.Lengths.{length-hmac_of}
+use Rattle.mm_digest.specs.LengthLaws.{length-hmac_of}
 use Rattle.mm_seal.specs.declared.snapshot.PartsFault.{PartsFault}
 use Rattle.mm_seal.specs.declared.snapshot.PartsFault.TheVariants.{Form, Kind}
 use Rattle.mm_seal.specs.Body.{SpellsNoContent, HasHead, place_length}
-use Rattle.mm_base.proofs.FieldLaws.{append-injective, eight_bytes-injective, four_bytes-injective, length-eight_bytes, length-four_bytes}
-use Rattle.mm_seal.proofs.CellLaws.{variant_byte-injective}
+use Rattle.mm_base.specs.FieldLaws.{append-injective, eight_bytes-injective, four_bytes-injective, length-eight_bytes, length-four_bytes}
+use Rattle.mm_seal.specs.CellLaws.{variant_byte-injective}
 
 -- five parts put at the end one after another
 pub put_in_parts : (old b₁ b₂ b₃ b₄ b₅ p₁ p₂ p₃ p₄ p₅ q₁ q₃ q₄ : List ℕ) → b₁ ≡ old ++ p₁ → b₂ ≡ b₁ ++ p₂ →

@@ -17,8 +17,8 @@ use Rattle.mm_model.specs.Judge.{is_last, judge, judged}
 use Rattle.mm_model.specs.Sound.{IsSound}
 use Rattle.mm_model.specs.Messages.{Within, IsClear, IsClearFor, AreNoGuards, history_messages, offer_messages, values_in, counting}
 use Rattle.mm_model.specs.Moves.{IsOutside}
-use Rattle.mm_model.proofs.Lists.{each_left, each_right}
-use Rattle.mm_model.proofs.Chains.{trail_push}
+use Rattle.mm_model.specs.ListLaws.{each_left, each_right}
+use Rattle.mm_model.specs.ChainLaws.{trail_push}
 
 -- the verdict where the history has ended
 pub ended : (l : Life) (y : History) (p : ℕ) (b : Batch) → life_of Opt y ≡ l

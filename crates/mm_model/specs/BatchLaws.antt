@@ -7,7 +7,7 @@ use Rattle.std.proofs.lemmas.Bool.Decides.{Decides-eqb}
 use Rattle.std.proofs.lemmas.Bool.{and_parts, and_from}
 use Rattle.std.proofs.lemmas.Slice.Eq.{bytes_eq-Decides}
 use Rattle.mm_module.specs.Batch.{Batch, One, Many, members_of, size_of}
-use Rattle.mm_module.proofs.BatchLaws.{size_of-pos}
+use Rattle.mm_module.specs.BatchLaws.{size_of-pos}
 use Rattle.mm_model.specs.History.{requests_of, total_of}
 use Rattle.mm_model.specs.Life.{same_batch}
 use Rattle.mm_model.specs.Judge.{is_last}

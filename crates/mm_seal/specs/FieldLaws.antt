@@ -19,11 +19,11 @@ use Rattle.mm_base.specs.Fields.{eight_bytes, four_bytes}
 use Rattle.mm_seal.specs.Body.{place_length}
 use Rattle.mm_seal.specs.Snapshot.{Content, Snapshot, IsContent, IsPlace, Spells, IsOfKind, IsNoSnapshot, ReadsParts, place_spelling, snapshot_front, snapshot_spelling, variant_of}
 use Rattle.mm_seal.specs.SnapshotWords.{front_head}
-use Rattle.mm_base.proofs.FieldLaws.{length-eight_bytes, length-four_bytes}
-use Rattle.mm_seal.proofs.SnapshotLaws.{length-place_spelling, reads_parts-same}
+use Rattle.mm_base.specs.FieldLaws.{length-eight_bytes, length-four_bytes}
+use Rattle.mm_seal.specs.SnapshotLaws.{length-place_spelling, reads_parts-same}
 use Rattle.mm_seal.specs.Parts.{fields_of, is_spelled_by, is_of_kind, parts_of}
 use Rattle.mm_seal.specs.PartsWords.{is_bounded, same_variant}
-use Rattle.mm_seal.proofs.Reading.{fields_with, spells_read}
+use Rattle.mm_seal.specs.ReadingLaws.{fields_with, spells_read}
 
 pub take_front : (n : ℕ) (xs ys : List ℕ) → length xs ≡ n → take n (xs ++ ys) ≡ xs
 take_front n xs ys e = ap (λ (m : ℕ). take m (xs ++ ys)) (sym e) ∙ take-append_seam xs ys

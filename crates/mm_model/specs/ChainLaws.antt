@@ -6,10 +6,10 @@ use Rattle.sha2.proofs.Facts256.{length-sha256}
 use Rattle.mm_module.specs.Batch.{Batch}
 use Rattle.mm_digest.specs.declared.variant.Variant.TheVariants.{Basic, Opt}
 use Rattle.mm_digest.specs.Messages.{zero_bytes, start_of, extended_message}
-use Rattle.mm_digest.proofs.Lengths.{length-zero_bytes, length-start_of}
+use Rattle.mm_digest.specs.LengthLaws.{length-zero_bytes, length-start_of}
 use Rattle.mm_model.specs.Chains.{after, trail, link, link_message, closing_message, summary_of, anchor_of, register_of}
 use Rattle.mm_model.specs.Messages.{Within, IsClear}
-use Rattle.mm_model.proofs.Lists.{ends, by_last, each_left, each_right, each_append}
+use Rattle.mm_model.specs.ListLaws.{ends, by_last, each_left, each_right, each_append}
 
 pub after-append : {A : Type 0} (f : List ℕ → A → List ℕ) (s : List ℕ) (xs ys : List A) → after f s (xs ++ ys) ≡ after f (after f s xs) ys
 after-append f s [] ys = refl

@@ -10,10 +10,10 @@ use Rattle.mm_digest.specs.Messages.{zero_bytes, start_message, start_of, extend
 use Rattle.mm_model.specs.Chains.{trail, closing_message, register_of, anchor_of}
 use Rattle.mm_model.specs.Judge.{Point, fits_fresh, fits_again}
 use Rattle.mm_model.specs.Messages.{Within, IsClear, register_trail, form_messages}
-use Rattle.mm_model.proofs.Lists.{each_append}
-use Rattle.mm_model.proofs.Chains.{trail_push}
-use Rattle.mm_model.proofs.Digests.{same_registers, same_anchors, register_nonzero, register-push, anchor-push}
-use Rattle.mm_model.proofs.Segments.{Fresh, Again}
+use Rattle.mm_model.specs.ListLaws.{each_append}
+use Rattle.mm_model.specs.ChainLaws.{trail_push}
+use Rattle.mm_model.specs.DigestLaws.{same_registers, same_anchors, register_nonzero, register-push, anchor-push}
+use Rattle.mm_model.specs.SegmentLaws.{Fresh, Again}
 
 -- all messages of these segments and of these values after them are listed
 pub record Listed (id : ℕ) (all : List (List ℕ)) (segments : List (List (List ℕ))) (values : List (List ℕ)) : Type 0 where

@@ -9,8 +9,8 @@ use Rattle.mm_model.specs.Steps.{Step, Reads, Changes, Writes, checkpoint_steps}
 use Rattle.mm_call.specs.Levels.{by_lists, all_made}
 use Rattle.mm_call.specs.Called.{reading_steps}
 use Rattle.mm_call.specs.Courses.{End, Done, Fails, Fate, Walked, step_moves, after_step, walk, closes}
-use Rattle.mm_call.proofs.Moving.{committed_in}
-use Rattle.mm_call.proofs.Walks.{committed-append, committed-foreign, changing}
+use Rattle.mm_call.specs.MoveLaws.{committed_in}
+use Rattle.mm_call.specs.WalkLaws.{committed-append, committed-foreign, changing}
 
 -- what holds of others' values, and of moves one after another
 pub record GoesAlong (P : List Move → Type 0) : Type 0 where

@@ -3,8 +3,8 @@ use Rattle.std.proofs.Common.{ℕ, ◌≡◌, List, Ok, sym, ◌∙◌, ap}
 use Rattle.mm_digest.specs.declared.variant.Variant.{Variant}
 use Rattle.mm_seal.specs.Snapshot.{Content, Snapshot, IsContent, ReadsParts, variant_of, tag_of, sealed_of, offered_of}
 use Rattle.mm_seal.specs.Parts.{parts_of}
-use Rattle.mm_seal.proofs.SnapshotLaws.{sealed_of-spells, same_snapshot}
-use Rattle.mm_seal.proofs.Fields.{parts_are}
+use Rattle.mm_seal.specs.SnapshotLaws.{sealed_of-spells, same_snapshot}
+use Rattle.mm_seal.specs.FieldLaws.{parts_are}
 
 -- a sealed content, as an offer to its own variant and module
 pub sealed_reads : (key : List ℕ) (x : Content) (variant : Variant) (id : ℕ) → IsContent x → variant_of x.place ≡ variant → x.id ≡ id

@@ -5,7 +5,7 @@ use Rattle.mm_platform.specs.declared.fault.StepFault.{StepFault}
 use Rattle.mm_platform.specs.declared.fault.StepFault.TheVariants.{Failed, Off}
 use Rattle.mm_platform.specs.Standing.{Standing}
 use Rattle.mm_platform.specs.Steps.{ReadCell, EndsBy, Goes}
-use Rattle.mm_platform.proofs.Calling.{beside-none}
+use Rattle.mm_platform.specs.CallLaws.{beside-none}
 use Rattle.mm_model.specs.declared.answer.Answer.{Answer}
 use Rattle.mm_model.specs.declared.answer.BatchAnswer.{BatchAnswer}
 use Rattle.mm_call.specs.Refusals.{fault_in, handed_on}

@@ -10,7 +10,7 @@ use Rattle.mm_platform.specs.Standing.{Plan, Standing, plan_after}
 use Rattle.mm_platform.specs.StandingWords.{due}
 use Rattle.mm_platform.specs.Steps.{Act, Goes, will_answer, will_be_made, will_bring, fault_at, is_made_at}
 use Rattle.mm_platform.specs.Told.{next_plan}
-use Rattle.mm_platform.proofs.Stepping.{known_plan}
+use Rattle.mm_platform.specs.StepLaws.{known_plan}
 use Rattle.mm_model.specs.Instance.{Instance}
 use Rattle.mm_model.specs.Moves.{Digests}
 use Rattle.mm_model.specs.Steps.{Step}

@@ -12,10 +12,10 @@ use Rattle.mm_model.specs.Instance.{Instance}
 use Rattle.mm_model.specs.InstanceWords.{basic}
 use Rattle.mm_model.specs.History.{History, Value, Move, Commit, Foreign, Placed, Reset, Close, Power, committed, moved}
 use Rattle.mm_model.specs.HistoryWords.{values_of}
-use Rattle.mm_model.proofs.Batches.{total-append, total-cons}
-use Rattle.mm_model.proofs.Digests.{summary-push, register-push}
-use Rattle.mm_model.proofs.Histories.{values_of-append}
-use Rattle.mm_model.proofs.Forms.{reads_zero}
+use Rattle.mm_model.specs.BatchLaws.{total-append, total-cons}
+use Rattle.mm_model.specs.DigestLaws.{summary-push, register-push}
+use Rattle.mm_model.specs.HistoryLaws.{values_of-append}
+use Rattle.mm_model.specs.FormLaws.{reads_zero}
 use Rattle.mm_model.specs.Moves.{Digests, made}
 use Rattle.mm_call.specs.Asked.{IsPlain}
 use Rattle.mm_call.specs.Levels.{by_lists, by_digests, all_made, Agrees}

@@ -11,7 +11,7 @@ use Rattle.mm_model.specs.MessagesWords.{move_messages}
 use Rattle.mm_call.specs.Levels.{Level, by_lists, all_made}
 use Rattle.mm_call.specs.Courses.{End, Done, Fails, Fate, Walked, step_moves, after_step, walk, seen_in, commits}
 use Rattle.mm_call.specs.Asked.{moves_messages, foreign_in, from_reset}
-use Rattle.mm_call.proofs.Moving.{committed_in}
+use Rattle.mm_call.specs.MoveLaws.{committed_in}
 
 pub committed-append : (xs ys : List Move) → committed_in (xs ++ ys) ≡ committed_in xs ++ committed_in ys
 committed-append [] ys = refl
