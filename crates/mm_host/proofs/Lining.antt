@@ -147,8 +147,8 @@ pub serves_ended : (variant : Variant) (meaning : Meaning) (from at : Place) (nu
     → result ≡ ended_as ended
     → ServesInput variant meaning from after new left left'' received received'' ended
 serves_ended variant meaning from at number after new left left' left'' received received' received'' held held' result ended s t went =
-    let on = subst (λ (r : Result (Option Resumed) SessionFault). ServedOn variant meaning number at after new left'' (held ++ t.taken) held'
-    t.sent r) went t.went in
+    let on = subst (λ (r : Result (Option Resumed) SessionFault).
+    ServedOn variant meaning number at after new left'' (held ++ t.taken) held' t.sent r) went t.went in
     record {
       taken = s.taken ++ t.taken;
       sent = s.sent ++ t.sent;
