@@ -1,10 +1,13 @@
-//! What faults say, where the crate that has them has no test of it.
+//! What faults say.
 
+use mm_base::{Failed, LineFault, Memory, ReplayFault, WriteFault};
 use mm_bulk::BulkFault;
 use mm_host::{HostFault, InitFault, SessionFault};
 use mm_model::Refusal;
+use mm_move::MoveRefusal;
 use mm_platform::StepFault;
 use mm_schedule::EventFault;
+use mm_seal::{CellFault, OpenFault, PartsFault};
 use mm_store::StoreFault;
 use mm_words::WordsFault;
 use std::alloc::AllocError;
@@ -13,6 +16,58 @@ use std::fmt::Display;
 // Puts what a fault says in a line.
 fn put<T: Display>(text: &mut String, fault: &T) -> Result<(), AllocError> {
     writeln!(text, "{fault}")
+}
+
+fn put_lines(text: &mut String) -> Result<(), AllocError> {
+    put(text, &Memory)?;
+    put(text, &Failed)?;
+    put(text, &WriteFault)?;
+    put(text, &LineFault::ReadFault)?;
+    put(text, &LineFault::LineLong)
+}
+
+fn put_replays(text: &mut String) -> Result<(), AllocError> {
+    put(text, &ReplayFault::Memory)?;
+    put(text, &ReplayFault::ReadFault)?;
+    put(text, &ReplayFault::WriteFault)?;
+    put(text, &ReplayFault::BadLine { line: 7 })?;
+    put(text, &ReplayFault::LineLong { line: 8 })?;
+    put(text, &ReplayFault::TooMuch)
+}
+
+fn put_bytes(text: &mut String) -> Result<(), AllocError> {
+    put(text, &CellFault::Blank)?;
+    put(text, &CellFault::Cell)?;
+    put(text, &PartsFault::Form)?;
+    put(text, &PartsFault::Kind)?;
+    put(text, &OpenFault::Form)?;
+    put(text, &OpenFault::Kind)?;
+    put(text, &OpenFault::Tag)
+}
+
+fn put_steps(text: &mut String) -> Result<(), AllocError> {
+    put(text, &StepFault::Failed)?;
+    put(text, &StepFault::Off)?;
+    put(text, &MoveRefusal::Core(Refusal::Blank))?;
+    put(text, &MoveRefusal::Open)
+}
+
+fn put_refusals(text: &mut String) -> Result<(), AllocError> {
+    put(text, &Refusal::Memory)?;
+    put(text, &Refusal::Long)?;
+    put(text, &Refusal::Device(StepFault::Failed))?;
+    put(text, &Refusal::Blank)?;
+    put(text, &Refusal::Cell)?;
+    put(text, &Refusal::Lost)
+}
+
+fn put_offers(text: &mut String) -> Result<(), AllocError> {
+    put(text, &Refusal::Form)?;
+    put(text, &Refusal::Kind)?;
+    put(text, &Refusal::State)?;
+    put(text, &Refusal::Tag)?;
+    put(text, &Refusal::Stale)?;
+    put(text, &Refusal::Full)
 }
 
 fn put_lower(text: &mut String) -> Result<(), AllocError> {
@@ -54,6 +109,12 @@ fn put_start(text: &mut String) -> Result<(), AllocError> {
 
 /// Puts a line for each fault.
 pub fn put_faults(text: &mut String) -> Result<(), AllocError> {
+    put_lines(text)?;
+    put_replays(text)?;
+    put_bytes(text)?;
+    put_steps(text)?;
+    put_refusals(text)?;
+    put_offers(text)?;
     put_lower(text)?;
     put_host(text)?;
     put_session(text)?;

@@ -22,10 +22,11 @@ use std::alloc::AllocError;
 use std::io;
 use std::io::Write;
 
-// The text of the input. `⇥` stands for a tabulator in it, `␣` for a space at a line's end.
+// The text of the input. `⇥` stands for a tabulator in it, `␣` for a space at a line's end, and `␡` for the byte 127.
 fn text_of(rt: &HostRuntime) -> io::Result<String> {
     let text = io::read_to_string(rt.alloc(), rt.reader())?;
     let text = text.as_str().replace(rt.alloc(), "⇥", "\t")?;
+    let text = text.as_str().replace(rt.alloc(), "␡", "\u{7f}")?;
     Ok(text.as_str().replace(rt.alloc(), "␣", " ")?)
 }
 
