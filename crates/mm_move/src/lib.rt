@@ -25,12 +25,3 @@ pub use link::Link;
 pub use refusal::MoveRefusal;
 pub use retiring::retire;
 pub use ticket::{OfferedTicket, Ticket, read_ticket, ticket_bytes};
-
-#[cfg(test)]
-mod samples;
-#[cfg(test)]
-mod spellings;
-#[cfg(test)]
-mod tests;
-#[cfg(test)]
-mod untold;

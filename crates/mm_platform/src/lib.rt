@@ -15,6 +15,3 @@ pub use fault::StepFault;
 pub use memory::MemPlatform;
 pub use plan::{Meddle, Stop};
 pub use raw::RawNv;
-
-#[cfg(test)]
-mod tests;

@@ -1,38 +1,20 @@
-//! Tests of what no contract says: vectors from outside, printed text, want of memory, devices that fail. They stand apart,
-//! since a crate with tests is proved twice by the gate.
+//! Tests of bytes and digests, of what no contract says: known messages, bytes read as they were spelled, the longest states,
+//! and moves on cells that no run makes. They stand apart, since a crate with tests is proved twice by the gate.
 #![tactic(auto)]
 
 #[cfg(test)]
-mod base;
-#[cfg(test)]
-mod callers;
-#[cfg(test)]
 mod digest;
 #[cfg(test)]
-mod dispenser;
-#[cfg(test)]
-mod host;
-#[cfg(test)]
-mod host_setup;
-#[cfg(test)]
-mod limiter;
-#[cfg(test)]
-mod listing;
+mod lines;
 #[cfg(test)]
 mod model;
 #[cfg(test)]
-mod module;
+mod moved_cell;
 #[cfg(test)]
-mod modules;
-#[cfg(test)]
-mod pages;
+mod moves;
 #[cfg(test)]
 mod quota;
 #[cfg(test)]
-mod receipt;
+mod samples;
 #[cfg(test)]
 mod seal;
-#[cfg(test)]
-mod store;
-#[cfg(test)]
-mod twocell;

@@ -1,12 +1,12 @@
-//! Cells, and sealed snapshots.
+//! Cells and snapshots, read as they were spelled.
 
-use mm_base::{CELL_LENGTH, Memory};
+use mm_base::{Bytes, CELL_LENGTH, Memory, read_decimal};
 use mm_digest::{Digest, Variant};
 use mm_seal::{
-    Body, Cell, CellFault, OpenFault, PartsFault, Place, cell_bytes, open, parts, read_cell, seal,
+    Body, Cell, CellFault, Offered, OpenFault, PartsFault, Place, cell_bytes, open, parts,
+    read_cell, seal,
 };
-use std::alloc::{AllocError, Global};
-use std::process::Abort;
+use std::alloc::Global;
 use std::test::Fail;
 
 const KEY: [u8; 32] = [7; 32];
@@ -14,6 +14,71 @@ const KEY: [u8; 32] = [7; 32];
 const SUMMARY: Digest = Digest { bytes: [1; 32] };
 
 const REGISTER: Digest = Digest { bytes: [2; 32] };
+
+/// A variant and a module's id, and the first bytes of its cell.
+const CELLS: &str = "\
+basic 0 => 4d4d4e3101000000
+basic 1 => 4d4d4e3101010000
+basic 127 => 4d4d4e31017f0000
+basic 128 => 4d4d4e3201800000
+basic 255 => 4d4d4e3201ff0000
+opt 0 => 4d4d4e3102000100
+opt 1 => 4d4d4e3102010100
+opt 127 => 4d4d4e31027f0100
+opt 128 => 4d4d4e3202800100
+opt 255 => 4d4d4e3202ff0100
+";
+
+/// A byte of the cell of module 1, and what stands there in place of its own, so that it is none.
+const CHANGES: &str = "\
+opt 0 109
+opt 1 109
+opt 2 83
+opt 3 50
+opt 3 48
+opt 4 0
+opt 4 3
+opt 5 128
+opt 6 2
+opt 7 1
+basic 6 1
+basic 72 1
+basic 103 1
+";
+
+/// A variant, a module's id and the bytes of its state; and the bytes of the snapshot. The sizes are those of a counter's, an
+/// unset limiter's and the longest snapshots.
+const SIZES: &str = "\
+basic 1 8 => 90
+opt 1 8 => 122
+basic 2 1 => 83
+basic 127 65536 => 65618
+opt 127 65536 => 65650
+basic 128 1048576 => 1048658
+opt 255 1048576 => 1048690
+";
+
+fn variant_of(word: &str) -> Variant {
+    match word {
+        "basic" => Variant::Basic,
+        _ => Variant::Opt,
+    }
+}
+
+fn number_of(word: &str) -> usize {
+    read_decimal(word.as_bytes()).unwrap_or(0) as usize
+}
+
+fn byte_of(number: usize) -> u8 {
+    u8::try_from(number).unwrap_or(0)
+}
+
+// A variant, and two numbers.
+fn numbers_of(text: &str) -> (Variant, usize, usize) {
+    let (variant, rest) = text.split_once(' ').unwrap_or((text, ""));
+    let (first, second) = rest.split_once(' ').unwrap_or((rest, ""));
+    (variant_of(variant), number_of(first), number_of(second))
+}
 
 // A cell of this variant and module, with the greatest fields that the variant allows.
 fn cell_of(variant: Variant, module: u8) -> Cell {
@@ -28,88 +93,45 @@ fn cell_of(variant: Variant, module: u8) -> Cell {
     }
 }
 
-// The bytes of a cell that fits its variant.
-fn bytes_of_cell(rt: &impl Abort, cell: &Cell) -> [u8; CELL_LENGTH] {
-    assert!(rt; cell.fits_variant());
-    cell_bytes(cell)
-}
-
-// The bytes with one of them changed.
-fn changed(alloc: Global, bytes: &[u8], at: usize, byte: u8) -> Result<Vec<u8>, AllocError> {
-    let mut copy = bytes.to_vec(alloc)?;
-    if let Some(place) = copy.get_mut(at) {
-        *place = byte;
+fn bytes_of(cell: &Cell) -> [u8; CELL_LENGTH] {
+    if cell.fits_variant() {
+        cell_bytes(cell)
+    } else {
+        [0; CELL_LENGTH]
     }
-    Ok(copy)
 }
 
-// What reading these bytes as a cell gives, where there are 104.
-fn read_bytes(rt: &impl Abort, bytes: &[u8]) -> Result<Cell, CellFault> {
-    assert_eq!(rt; bytes.len(), CELL_LENGTH);
-    let mut cell = [0; CELL_LENGTH];
-    cell.copy_from_slice(bytes);
-    read_cell(&cell)
+// Whether a cell is read as it is spelled, and begins with the bytes of these digits.
+fn is_read_back(text: &str, digits: &str) -> bool {
+    let (variant, module, _) = numbers_of(text);
+    let cell = cell_of(variant, byte_of(module));
+    let bytes = bytes_of(&cell);
+    let mut head = [0; 8];
+    hex::decode_to_slice(digits, &mut head).is_ok()
+        && bytes.starts_with(&head)
+        && read_cell(&bytes) == Ok(cell)
+}
+
+// Whether the cell of module 1 is none with one byte changed.
+fn is_none(text: &str) -> bool {
+    let (variant, at, byte) = numbers_of(text);
+    let mut bytes = bytes_of(&cell_of(variant, 1));
+    if let Some(place) = bytes.get_mut(at) {
+        *place = byte_of(byte);
+    }
+    read_cell(&bytes) == Err(CellFault::Cell)
 }
 
 #[test]
 fn cells_are_read_as_they_are_spelled(rt: HostRuntime) -> Result<(), Fail> {
-    for module in [0, 1, 127, 128, 255] {
-        for variant in [Variant::Basic, Variant::Opt] {
-            let cell = cell_of(variant, module);
-            assert_eq!(rt; read_cell(&bytes_of_cell(&rt, &cell)), Ok(cell));
-        }
+    for line in CELLS.lines() {
+        let (text, digits) = line.split_once(" => ").ok_or("no row")?;
+        assert!(rt; is_read_back(text, digits), "{line}");
     }
-    assert_eq!(rt; read_cell(&[0; CELL_LENGTH]), Err(CellFault::Blank));
-    let opt = bytes_of_cell(&rt, &cell_of(Variant::Opt, 1));
-    let basic = bytes_of_cell(&rt, &cell_of(Variant::Basic, 1));
-    assert_eq!(rt; &opt[..8], b"MMN1\x02\x01\x01\x00".as_slice());
-    assert_eq!(rt; &basic[..8], b"MMN1\x01\x01\x00\x00".as_slice());
-    let wrong = [
-        (0, b'm'),
-        (1, b'm'),
-        (2, b'S'),
-        (3, b'2'),
-        (3, b'0'),
-        (4, 0),
-        (4, 3),
-        (5, 128),
-        (6, 2),
-        (7, 1),
-    ];
-    for (at, byte) in wrong {
-        let bytes = changed(rt.alloc(), &opt, at, byte)?;
-        assert_eq!(rt; read_bytes(&rt, &bytes), Err(CellFault::Cell), "{at}");
+    for line in CHANGES.lines() {
+        assert!(rt; is_none(line), "{line}");
     }
-    for (at, byte) in [(6, 1), (72, 1), (103, 1)] {
-        let bytes = changed(rt.alloc(), &basic, at, byte)?;
-        assert_eq!(rt; read_bytes(&rt, &bytes), Err(CellFault::Cell), "{at}");
-    }
-    Ok(())
-}
-
-#[test]
-fn faults_say_what_happened(rt: HostRuntime) -> Result<(), Fail> {
-    let texts = [
-        format!(in rt.alloc(); "{}", CellFault::Blank)?,
-        format!(in rt.alloc(); "{}", CellFault::Cell)?,
-        format!(in rt.alloc(); "{}", PartsFault::Form)?,
-        format!(in rt.alloc(); "{}", PartsFault::Kind)?,
-        format!(in rt.alloc(); "{}", OpenFault::Form)?,
-        format!(in rt.alloc(); "{}", OpenFault::Kind)?,
-        format!(in rt.alloc(); "{}", OpenFault::Tag)?,
-    ];
-    let expected = [
-        "the cell is blank",
-        "the cell is not spelled",
-        "the offer is not spelled",
-        "the offer is of another variant or module",
-        "the offer is not spelled",
-        "the offer is of another variant or module",
-        "the offer's tag is wrong",
-    ];
-    for (text, expected) in texts.iter().zip(expected) {
-        assert_eq!(rt; text.as_str(), expected);
-    }
+    assert!(rt; read_cell(&[0; CELL_LENGTH]) == Err(CellFault::Blank));
     Ok(())
 }
 
@@ -124,169 +146,116 @@ fn place_of(variant: Variant) -> Place {
     }
 }
 
+// The body of a snapshot, with a state of so many of these bytes.
+fn body_of(variant: Variant, module: u8, state: &[u8]) -> Body<'_> {
+    Body {
+        module,
+        place: place_of(variant),
+        position: if module == 1 { 0 } else { 0x1_0000_0000_0000 },
+        state,
+    }
+}
+
 // The snapshot of a body within its bounds.
-fn sealed(rt: &impl Abort, alloc: Global, body: &Body<'_>) -> Result<mm_base::Bytes, Memory> {
+fn sealed(alloc: Global, body: &Body<'_>) -> Result<Bytes, Memory> {
     let limit = if body.module < 128 { 65_536 } else { 1_048_576 };
-    assert!(rt; body.position <= 0x1_0000_0000_0000);
-    assert!(rt; body.state.len() <= limit);
+    if body.position > 0x1_0000_0000_0000 || body.state.len() > limit {
+        return Err(Memory);
+    }
     seal(alloc, &KEY, body)
 }
 
-// Why these bytes can't be opened as a snapshot of this variant and module, if they can't.
-fn fault_of(bytes: &[u8], variant: Variant, module: u8) -> Option<OpenFault> {
-    open(bytes, &KEY, variant, module).err()
+fn is_body(offered: &Offered<'_>, body: &Body<'_>) -> bool {
+    let read = offered.body();
+    read.module == body.module
+        && read.place == body.place
+        && read.position == body.position
+        && read.state == body.state
 }
 
-// A snapshot is opened as it was sealed, has this many bytes, and is refused with one more or less.
-fn opens_as_sealed(
-    rt: &impl Abort,
-    alloc: Global,
-    body: &Body<'_>,
-    size: usize,
-) -> Result<(), Fail> {
-    let variant = body.place.variant();
-    let snapshot = sealed(rt, alloc, body)?;
-    let bytes = snapshot.as_slice();
-    assert_eq!(rt; bytes.len(), size);
-    match open(bytes, &KEY, variant, body.module) {
-        Ok(offered) => {
-            let read = offered.body();
-            assert!(rt; read.module == body.module && read.place == body.place);
-            assert!(rt; read.position == body.position && read.state == body.state);
-        }
-        Err(fault) => assert!(rt; false, "{fault:?}"),
+// Whether these bytes are opened as this body.
+fn is_opened(bytes: &[u8], body: &Body<'_>) -> bool {
+    match open(bytes, &KEY, body.place.variant(), body.module) {
+        Ok(offered) => is_body(&offered, body),
+        Err(_) => false,
     }
-    assert!(rt; open(bytes, &[8; 32], variant, body.module).err() == Some(OpenFault::Tag));
-    assert!(rt; fault_of(&bytes[..size - 1], variant, body.module) == Some(OpenFault::Form));
-    let mut longer = bytes.to_vec(alloc)?;
-    longer.push(0)?;
-    assert!(rt; fault_of(&longer, variant, body.module) == Some(OpenFault::Form));
-    Ok(())
 }
 
-// The sizes are those of a counter's, an unset limiter's and the longest snapshots.
+// Whether these bytes can't be opened as one, for this cause.
+fn is_refused(bytes: &[u8], key: &[u8; 32], body: &Body<'_>, cause: OpenFault) -> bool {
+    match open(bytes, key, body.place.variant(), body.module) {
+        Ok(_) => false,
+        Err(fault) => fault == cause,
+    }
+}
+
+// Whether bytes with another in front, of which the last is one too many, are opened without that alone.
+fn opens_whole(bytes: &[u8], body: &Body<'_>, size: usize) -> bool {
+    let (whole, _) = bytes.split_at(size.min(bytes.len()));
+    let (short, _) = whole.split_at(whole.len().saturating_sub(1));
+    whole.len() == size
+        && is_opened(whole, body)
+        && is_refused(whole, &[8; 32], body, OpenFault::Tag)
+        && is_refused(short, &KEY, body, OpenFault::Form)
+        && is_refused(bytes, &KEY, body, OpenFault::Form)
+}
+
+// Whether a snapshot has so many bytes, is opened as it was sealed, and is refused with one more or less.
+fn is_opened_as_sealed(alloc: Global, body: &Body<'_>, size: usize) -> Result<bool, Memory> {
+    let mut snapshot = sealed(alloc, body)?;
+    let is_so = snapshot.as_slice().len() == size;
+    snapshot.push(0)?;
+    Ok(is_so && opens_whole(snapshot.as_slice(), body, size))
+}
+
+fn is_sized(alloc: Global, state: &[u8], text: &str, size: &str) -> Result<bool, Memory> {
+    let (variant, module, length) = numbers_of(text);
+    let (state, _) = state.split_at(length.min(state.len()));
+    is_opened_as_sealed(
+        alloc,
+        &body_of(variant, byte_of(module), state),
+        number_of(size),
+    )
+}
+
 #[test]
 fn snapshots_are_opened_as_they_were_sealed(rt: HostRuntime) -> Result<(), Fail> {
     let state = vec![in rt.alloc(); 5u8; 1_048_576]?;
-    let table = [
-        (Variant::Basic, 1, 8, 90),
-        (Variant::Opt, 1, 8, 122),
-        (Variant::Basic, 2, 1, 83),
-        (Variant::Basic, 127, 65_536, 65_618),
-        (Variant::Opt, 127, 65_536, 65_650),
-        (Variant::Basic, 128, 1_048_576, 1_048_658),
-        (Variant::Opt, 255, 1_048_576, 1_048_690),
-    ];
-    for (variant, module, length, size) in table {
-        let body = Body {
-            module,
-            place: place_of(variant),
-            position: if module == 1 { 0 } else { 0x1_0000_0000_0000 },
-            state: state.get(..length).unwrap_or(&[]),
-        };
-        opens_as_sealed(&rt, rt.alloc(), &body, size)?;
+    for line in SIZES.lines() {
+        let (text, size) = line.split_once(" => ").ok_or("no row")?;
+        assert!(rt; is_sized(rt.alloc(), &state, text, size)?, "{line}");
     }
     Ok(())
 }
 
-// The bytes of version 1 stand as they were laid out: word, variant, module, place, position, length.
-#[test]
-fn offers_are_refused_by_form_then_kind_then_tag(rt: HostRuntime) -> Result<(), Fail> {
-    let basic = Body {
-        module: 1,
-        place: place_of(Variant::Basic),
-        position: 3,
-        state: &[0; 8],
-    };
-    let opt = Body {
-        module: 1,
-        place: place_of(Variant::Opt),
-        ..basic
-    };
-    let snapshot = sealed(&rt, rt.alloc(), &basic)?;
-    let bytes = snapshot.as_slice();
-    assert_eq!(rt; bytes.len(), 90);
-    assert_eq!(rt; &bytes[..6], b"MMS1\x01\x01".as_slice());
-    assert_eq!(rt;
-        &bytes[38..50],
-        [0, 0, 0, 0, 0, 0, 0, 3, 0, 0, 0, 8].as_slice()
-    );
-    let forms = [
-        (0, b'm'),
-        (1, b'm'),
-        (2, b'N'),
-        (3, b'2'),
-        (4, 0),
-        (4, 3),
-        (4, 2),
-        (5, 128),
-        (38, 1),
-        (39, 1),
-        (49, 7),
-        (49, 9),
-        (46, 1),
-    ];
-    for (at, byte) in forms {
-        let offer = changed(rt.alloc(), bytes, at, byte)?;
-        assert!(rt;
-            fault_of(&offer, Variant::Basic, 1) == Some(OpenFault::Form),
-            "{at}"
-        );
+// Puts the bytes of a snapshot of Basic, at the first place and position, with a state of so many bytes.
+fn put_snapshot(bytes: &mut Bytes, word: &[u8], module: u8, size: u32) -> Result<(), Memory> {
+    bytes.append(word)?;
+    bytes.append(&[1, module])?;
+    bytes.append(&[0; 40])?;
+    bytes.append(&size.to_be_bytes())?;
+    for _ in 0..size {
+        bytes.push(0)?;
     }
-    for (at, byte) in [
-        (6, 0),
-        (37, 0),
-        (39, 0),
-        (40, 2),
-        (45, 4),
-        (50, 1),
-        (58, 0),
-        (89, 0),
-    ] {
-        let offer = changed(rt.alloc(), bytes, at, byte)?;
-        let same = offer.as_slice() == bytes;
-        let wanted = if same { None } else { Some(OpenFault::Tag) };
-        assert!(rt; fault_of(&offer, Variant::Basic, 1) == wanted, "{at}");
-    }
-    assert!(rt; fault_of(bytes, Variant::Opt, 1) == Some(OpenFault::Kind));
-    assert!(rt; fault_of(bytes, Variant::Basic, 2) == Some(OpenFault::Kind));
-    assert!(rt; parts(bytes, Variant::Basic, 2).err() == Some(PartsFault::Kind));
-    assert!(rt; parts(&[], Variant::Basic, 1).err() == Some(PartsFault::Form));
-    let offer = changed(rt.alloc(), bytes, 5, 2)?;
-    assert!(rt; fault_of(&offer, Variant::Basic, 1) == Some(OpenFault::Kind));
-    let snapshot = sealed(&rt, rt.alloc(), &opt)?;
-    assert!(rt; fault_of(snapshot.as_slice(), Variant::Basic, 1) == Some(OpenFault::Kind));
-    Ok(())
+    bytes.append(&KEY)
 }
 
-// A state of one byte more than its module's id allows, and a position of 2^48 + 1, are spelled by
-// nothing, whatever the tag.
-#[test]
-fn bodies_beyond_their_bounds_are_refused(rt: HostRuntime) -> Result<(), Fail> {
-    let table = [
-        (1, b"MMS1", [0, 1, 0, 1], 65_537),
-        (128, b"MMS2", [0, 0x10, 0, 1], 1_048_577),
-    ];
-    for (module, word, length, size) in table {
-        let mut bytes = word.to_vec(rt.alloc())?;
-        bytes.extend_from_slice(&[1, module])?;
-        bytes.extend_from_slice(&[0; 40])?;
-        bytes.extend_from_slice(&length)?;
-        for _ in 0..size {
-            bytes.push(0)?;
-        }
-        bytes.extend_from_slice(&KEY)?;
-        assert!(rt; parts(&bytes, Variant::Basic, module).err() == Some(PartsFault::Form));
+// Whether they are a snapshot but for the tag.
+fn has_parts(alloc: Global, word: &[u8], module: u8, size: u32) -> Result<bool, Memory> {
+    let mut bytes = Bytes::new(alloc);
+    put_snapshot(&mut bytes, word, module, size)?;
+    match parts(bytes.as_slice(), Variant::Basic, module) {
+        Ok(_) => Ok(true),
+        Err(fault) => Ok(fault != PartsFault::Form),
     }
-    let body = Body {
-        module: 1,
-        place: place_of(Variant::Basic),
-        position: 0x1_0000_0000_0000,
-        state: &[],
-    };
-    let snapshot = sealed(&rt, rt.alloc(), &body)?;
-    let beyond = changed(rt.alloc(), snapshot.as_slice(), 45, 1)?;
-    assert!(rt; parts(snapshot.as_slice(), Variant::Basic, 1).is_ok());
-    assert!(rt; parts(&beyond, Variant::Basic, 1).err() == Some(PartsFault::Form));
+}
+
+// A state of one byte more than its module's id allows is spelled by nothing, whatever the tag.
+#[test]
+fn states_beyond_their_bounds_are_refused(rt: HostRuntime) -> Result<(), Fail> {
+    assert!(rt; has_parts(rt.alloc(), b"MMS1", 1, 65_536)?);
+    assert!(rt; !has_parts(rt.alloc(), b"MMS1", 1, 65_537)?);
+    assert!(rt; has_parts(rt.alloc(), b"MMS2", 128, 1_048_576)?);
+    assert!(rt; !has_parts(rt.alloc(), b"MMS2", 128, 1_048_577)?);
     Ok(())
 }

@@ -3,7 +3,7 @@ use Rattle.mm_platform.specs.Steps.{ReadCell, WriteCell, ExtendRegister}
 use Rattle.mm_platform.specs.Standing.{plan_after}
 use Rattle.mm_platform.proofs.Telling.{told_failed, told_then, told_last, plan_then}
 use Rattle.mm_platform.specs.CallLaws.{first_failed, second_failed, all_called}
-use Rattle.mm_platform.proofs.tests.read_extend_write.Goals as goal
+use Rattle.mm_device_tests.proofs.platform.read_extend_write.Goals as goal
 
 pub returns-in-Err-clause-untold : goal.returns-in-Err-clause-untold
 returns-in-Err-clause-untold g c =
