@@ -109,12 +109,12 @@ impl Symbolic {
             ≡ with_batch Opt self.old.history (batch_of batch.now)) }
         ensures err { OnErr result (self.new.history ≡ self.old.history) }
     {
-        let kept = KeptBatch::copy_of(self.alloc, batch)?;
-        let current = KeptBatch::copy_of(self.alloc, batch)?;
-        let own = KeptBatch::copy_of(self.alloc, batch)?;
         self.batches.reserve(1)?;
         self.current.reserve(1)?;
         self.items.reserve(1)?;
+        let kept = KeptBatch::copy_of(self.alloc, batch)?;
+        let current = KeptBatch::copy_of(self.alloc, batch)?;
+        let own = KeptBatch::copy_of(self.alloc, batch)?;
         if !self.is_open {
             self.current.clear();
         }
