@@ -16,7 +16,7 @@ const ANY: &str = "none half all even odd";
 fn unknown_cell() -> [u8; 104] {
     let mut cell = [0; 104];
     let (front, _) = cell.split_at_mut(8);
-    front.copy_from_slice(b"MMN1\x01\x05\x00\x00");
+    front.copy_from_slice(b"MMN1\x01\x00\x00\x00");
     cell
 }
 
