@@ -1,2 +1,4 @@
-pub mod LineLemmas
-pub mod StreamLemmas
+pub mod Above
+mod Below
+mod LineLemmas
+mod StreamLemmas

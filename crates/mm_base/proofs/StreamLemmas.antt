@@ -1,10 +1,8 @@
 -- Known bytes that grow or are consumed by two pieces, one after the other.
-use Rattle.std.proofs.Common.{ℕ, ◌≡◌, ◌+◌, ◌<◌, List, [], ◌++◌, take, drop, length, refl, sym, ap, ◌∙◌, arith, length-append, append_assoc}
-use Rattle.std.proofs.lemmas.List.{append-nil, take-append-drop}
-use Rattle.std.specs.Prelude.{Option, None, Some, Err}
-use Rattle.std.specs.Io.KnownBytes.{Appends, Consumes, Keeps}
+use Rattle.mm_base.proofs.Below.{ℕ, ◌≡◌, ◌+◌, ◌<◌, List, [], ◌++◌, take, drop, length, refl, sym, ap, ◌∙◌, arith, length-append}
+use Rattle.mm_base.proofs.Below.{append_assoc, append-nil, take-append-drop, Option, None, Some, Err, Appends, Consumes, Keeps, GoesOut}
+use Rattle.mm_base.proofs.Below.{Sends, IsCutShort}
 use Rattle.mm_base.specs.declared.fault.WriteFault.{WriteFault}
-use Rattle.mm_base.specs.Streams.{GoesOut, Sends, IsCutShort}
 
 pub Appends-both : (old mid new : Option (List ℕ)) (xs ys : List ℕ)
     → Appends old mid xs → Appends mid new ys → Appends old new (xs ++ ys)

@@ -1,1 +1,2 @@
-pub mod DrawLaws
+mod Below
+mod DrawLaws

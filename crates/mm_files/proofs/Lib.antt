@@ -1,1 +1,3 @@
-pub mod Telling
+pub mod Above
+mod Below
+mod Telling

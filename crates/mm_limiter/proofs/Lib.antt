@@ -1,1 +1,2 @@
-pub mod ViewLaws
+mod Below
+mod ViewLaws

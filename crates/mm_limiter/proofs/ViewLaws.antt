@@ -1,8 +1,6 @@
 -- The values of the code as those of the table.
-use Rattle.std.proofs.Common.{◌≡◌, refl}
-use Rattle.std.specs.Prelude.{Option, Some, None, unwrap_or, option_map}
+use Rattle.mm_limiter.proofs.Below.{◌≡◌, refl, Option, Some, None, unwrap_or, option_map, as_state}
 use Rattle.mm_limiter.specs.Table as table
-use Rattle.mm_limiter.specs.Views.{as_state}
 use Rattle.mm_limiter.specs.declared.limiter.State.{State}
 use Rattle.mm_limiter.specs.declared.limiter.State.TheVariants.{Unset}
 

@@ -1,9 +1,8 @@
 -- Laws of bytes by pages.
-use Rattle.std.proofs.Common.{ℕ, ◌≡◌, ◌+◌, ◌-◌, ◌*◌, ◌<◌, ◌≤◌, zero, suc, min, List, ◌++◌, length, get_or, take, drop, replicate, refl, ap, sym, ◌∙◌, inl, inr, arith, length-append}
-use Rattle.std.proofs.lemmas.Bool.{cases_lt}
-use Rattle.std.proofs.lemmas.List.{drop_min, drop-replicate, length-take, length-replicate, get_or_append_left, get_or-append_right, get_or-take, get_or-drop, get_or_past, append-nil, drop_all, drop-drop}
-use Rattle.mm_store.proofs.SlotLaws.{take-min}
-use Rattle.std.proofs.lemmas.Grind.{same_number_lists}
+use Rattle.mm_pages.proofs.Below.{ℕ, ◌≡◌, ◌+◌, ◌-◌, ◌*◌, ◌<◌, ◌≤◌, zero, suc, min, List, ◌++◌, length, get_or, take, drop, replicate, refl}
+use Rattle.mm_pages.proofs.Below.{ap, sym, ◌∙◌, inl, inr, arith, length-append, cases_lt, drop_min, drop-replicate, length-take}
+use Rattle.mm_pages.proofs.Below.{length-replicate, get_or_append_left, get_or-append_right, get_or-take, get_or-drop, get_or_past}
+use Rattle.mm_pages.proofs.Below.{append-nil, drop_all, drop-drop, take-min, same_number_lists}
 use Rattle.mm_pages.specs.Bytes.{resized, page_of, with_page}
 
 pub length-resized : (n : ℕ) (bytes : List ℕ) → length (resized n bytes) ≡ n

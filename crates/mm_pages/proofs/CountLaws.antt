@@ -1,14 +1,8 @@
 -- Laws of counts, and of what tests of bytes and of digests tell.
-use Rattle.std.proofs.Common.{ℕ, ◌≡◌, ◌+◌, zero, suc, Bool, true, false, Option, Some, None, List, refl, ap, sym, ◌∙◌, arith, zero-add}
-use Rattle.std.specs.Prelude.{◌&&◌}
-use Rattle.std.specs.Str.{bytes_eq}
+use Rattle.mm_pages.proofs.Below.{ℕ, ◌≡◌, ◌+◌, zero, suc, Bool, true, false, Option, Some, None, List, refl, ap, sym, ◌∙◌, arith, zero-add}
+use Rattle.mm_pages.proofs.Below.{◌&&◌, bytes_eq, counted, Digest, page_of, counted_by, may_be, change_count, changes_of, page_digest}
 use Rattle.std.proofs.lemmas.Slice.Eq.{bytes_eq-Decides}
 use Rattle.sha2.specs.Sha256.{sha256}
-use Rattle.mm_base.specs.Faults.{counted}
-use Rattle.mm_digest.specs.declared.digest.Digest.{Digest}
-use Rattle.mm_pages.specs.Bytes.{page_of}
-use Rattle.mm_pages.specs.Counts.{counted_by, may_be, change_count, changes_of}
-use Rattle.mm_pages.specs.Rows.{page_digest}
 
 pub counted_by-add : (m n count : ℕ) → counted_by (m + n) count ≡ counted_by m (counted_by n count)
 counted_by-add zero n count = ap (λ k. counted_by k count) (zero-add n)

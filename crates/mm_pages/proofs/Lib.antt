@@ -1,7 +1,8 @@
-pub mod BytesLaws
-pub mod RowLaws
-pub mod CountLaws
-pub mod PageLaws
-pub mod WritingLaws
-pub mod ReadingLaws
-pub mod StepLaws
+mod Below
+mod BytesLaws
+mod RowLaws
+mod CountLaws
+mod PageLaws
+mod WritingLaws
+mod ReadingLaws
+mod StepLaws

@@ -1,21 +1,9 @@
 -- One page of a write: it is there already, it is written, or a look-up failed.
-use Rattle.std.proofs.Common.{ℕ, ◌≡◌, true, false, Option, Some, None, Ok, Err, List, [], length, get_or, refl, ap, sym, ◌∙◌, subst, arith}
-use Rattle.std.specs.Prelude.{◌&&◌}
-use Rattle.std.specs.Str.{bytes_eq}
-use Rattle.mm_base.specs.declared.fault.Failed.{Failed}
-use Rattle.mm_base.specs.Faults.{counted}
-use Rattle.mm_digest.specs.declared.digest.Digest.{Digest}
-use Rattle.mm_store.specs.Slots.{Slots, slot_in}
-use Rattle.mm_store.specs.Unsynced.{Unsynced, MarksAlone, marking}
-use Rattle.mm_store.specs.Calls.{putting}
-use Rattle.mm_store.proofs.SlotLaws.{with_slot-same}
-use Rattle.mm_store.proofs.SyncLaws.{marks_alone}
-use Rattle.mm_pages.specs.Bytes.{page_of, with_page}
-use Rattle.mm_pages.specs.Paged.{Paged}
-use Rattle.mm_pages.specs.Calls.{WritesPage, changing}
-use Rattle.mm_pages.specs.Counts.{counted_by, may_be, look_at, change_count, one_if}
-use Rattle.mm_pages.specs.Rows.{Rows, row_in, with_row, kept_digest, page_digest, keeping, DropsPage}
-use Rattle.mm_pages.specs.Puts.{IsInStep, HoldsPage, IsPutAt, Fails, PutsThere, PutsOne}
+use Rattle.mm_pages.proofs.Below.{ℕ, ◌≡◌, true, false, Option, Some, None, Ok, Err, List, [], length, get_or, refl, ap, sym, ◌∙◌, subst}
+use Rattle.mm_pages.proofs.Below.{arith, ◌&&◌, bytes_eq, Failed, counted, Digest, Slots, slot_in, Unsynced, MarksAlone, marking, putting}
+use Rattle.mm_pages.proofs.Below.{with_slot-same, marks_alone, page_of, with_page, Paged, WritesPage, changing, counted_by, may_be, look_at}
+use Rattle.mm_pages.proofs.Below.{change_count, one_if, Rows, row_in, with_row, kept_digest, page_digest, keeping, DropsPage, IsInStep}
+use Rattle.mm_pages.proofs.Below.{HoldsPage, IsPutAt, Fails, PutsThere, PutsOne}
 use Rattle.mm_pages.proofs.BytesLaws.{get_or-page_of, with_page-before, with_page-within, with_page-after}
 use Rattle.mm_pages.proofs.RowLaws.{row_in-with_row, with_row-twice, with_row-same, keeping-alike}
 use Rattle.mm_pages.proofs.CountLaws.{both_right, same_bytes, no_change, a_change}

@@ -1,14 +1,8 @@
 -- The steps of a read, one after another.
-use Rattle.std.proofs.Common.{ℕ, ◌≡◌, ◌+◌, ◌-◌, ◌*◌, ◌<◌, ◌≤◌, min, Some, Ok, List, ◌++◌, length, get_or, take, refl, ap, sym, ◌∙◌, inl, inr, arith, length-append}
-use Rattle.std.proofs.lemmas.Bool.{cases_lt}
-use Rattle.std.proofs.lemmas.List.{length-take, length-take-le, get_or_append_left, get_or-append_right, get_or-take}
-use Rattle.std.proofs.lemmas.Grind.{same_number_lists}
-use Rattle.mm_base.specs.Faults.{counted}
-use Rattle.mm_store.specs.Slots.{Slots, slot_in, longest_slot}
-use Rattle.mm_store.proofs.SlotLaws.{longest_slot-is}
-use Rattle.mm_pages.specs.Bytes.{page_of, page_count}
-use Rattle.mm_pages.specs.Paged.{Paged}
-use Rattle.mm_pages.specs.Calls.{ReadsLength, ReadsPage}
+use Rattle.mm_pages.proofs.Below.{ℕ, ◌≡◌, ◌+◌, ◌-◌, ◌*◌, ◌<◌, ◌≤◌, min, Some, Ok, List, ◌++◌, length, get_or, take, refl, ap, sym, ◌∙◌, inl}
+use Rattle.mm_pages.proofs.Below.{inr, arith, length-append, cases_lt, length-take, length-take-le, get_or_append_left, get_or-append_right}
+use Rattle.mm_pages.proofs.Below.{get_or-take, same_number_lists, counted, Slots, slot_in, longest_slot, longest_slot-is, page_of}
+use Rattle.mm_pages.proofs.Below.{page_count, Paged, ReadsLength, ReadsPage}
 use Rattle.mm_pages.specs.Gives.{GivesSize, GivesPages}
 use Rattle.mm_pages.proofs.BytesLaws.{get_or-page_of}
 

@@ -1,11 +1,8 @@
 -- Laws of the digests that are kept.
-use Rattle.std.proofs.Common.{ℕ, ◌≡◌, ◌+◌, ◌-◌, zero, suc, Bool, true, false, Option, Some, None, List, [], ◌∷◌, ◌++◌, length, get_or, take, drop, refl, ap, sym, ◌∙◌, arith, length-append, append_assoc, add-one, subst}
-use Rattle.std.specs.Prelude.{◌==◌, if◌then◌else◌}
-use Rattle.std.proofs.lemmas.List.{get_or-append_right, get_or-drop, drop-drop, drop_at}
-use Rattle.std.proofs.Math.Seq.{take-append_seam}
-use Rattle.mm_digest.specs.declared.digest.Digest.{Digest}
-use Rattle.mm_pages.specs.Bytes.{page_of}
-use Rattle.mm_pages.specs.Rows.{Rows, row_in, with_row, kept_digest, page_digest, keeping, page_digests}
+use Rattle.mm_pages.proofs.Below.{ℕ, ◌≡◌, ◌+◌, ◌-◌, zero, suc, Bool, true, false, Option, Some, None, List, [], ◌∷◌, ◌++◌, length, get_or}
+use Rattle.mm_pages.proofs.Below.{take, drop, refl, ap, sym, ◌∙◌, arith, length-append, append_assoc, add-one, subst, ◌==◌, if◌then◌else◌}
+use Rattle.mm_pages.proofs.Below.{get_or-append_right, get_or-drop, drop-drop, drop_at, take-append_seam, Digest, page_of, Rows, row_in}
+use Rattle.mm_pages.proofs.Below.{with_row, kept_digest, page_digest, keeping, page_digests}
 
 chosen : Bool → Bool → Bool → Rows → List (Option Digest)
 chosen a b c rows = if a then rows.zero else if b then rows.one else if c then rows.two else rows.three

@@ -1,16 +1,8 @@
 -- Digests that are those of what the device has.
-use Rattle.std.proofs.Common.{ℕ, ◌≡◌, ◌-◌, zero, suc, Bool, true, false, Option, Some, None, List, [], ◌∷◌, length, get_or, refl, ap, sym, ◌∙◌, subst, inl, inr, arith}
-use Rattle.std.specs.Prelude.{◌==◌, if◌then◌else◌}
-use Rattle.std.proofs.lemmas.Bool.{cases_lt}
-use Rattle.std.proofs.lemmas.List.{get_or_append_left, get_or-append_right}
-use Rattle.mm_digest.specs.declared.digest.Digest.{Digest}
-use Rattle.mm_store.specs.Slots.{Slots, with_slot}
-use Rattle.mm_store.specs.Calls.{putting}
-use Rattle.mm_pages.specs.Bytes.{page_of, page_count}
-use Rattle.mm_pages.specs.Paged.{Paged}
-use Rattle.mm_pages.specs.Rows.{Rows, with_row, page_digest, page_digests}
-use Rattle.mm_pages.specs.Puts.{PutsWhole}
-use Rattle.mm_pages.specs.Cached.{AreOf, AreInStep, KeepsStep}
+use Rattle.mm_pages.proofs.Below.{ℕ, ◌≡◌, ◌-◌, zero, suc, Bool, true, false, Option, Some, None, List, [], ◌∷◌, length, get_or, refl, ap}
+use Rattle.mm_pages.proofs.Below.{sym, ◌∙◌, subst, inl, inr, arith, ◌==◌, if◌then◌else◌, cases_lt, get_or_append_left, get_or-append_right}
+use Rattle.mm_pages.proofs.Below.{Digest, Slots, with_slot, putting, page_of, page_count, Paged, Rows, with_row, page_digest, page_digests}
+use Rattle.mm_pages.proofs.Below.{PutsWhole, AreOf, AreInStep, KeepsStep}
 use Rattle.mm_pages.proofs.RowLaws.{length-digests_of}
 
 last_of : (n : ℕ) (digest other : Digest) → get_or (Some digest ∷ []) n None ≡ Some other → (n ≡ 0) × (digest ≡ other)

@@ -1,21 +1,12 @@
 -- The steps of a write, one after another.
-use Rattle.std.proofs.Common.{ℕ, ◌≡◌, ◌+◌, ◌*◌, ◌<◌, ◌≤◌, suc, true, false, Option, Some, None, Result, Ok, Err, List, [], ◌++◌, length, get_or, take, drop, refl, ap, sym, ◌∙◌, subst, inl, inr, arith, ◌-◌, length-append}
-use Rattle.std.specs.Result.{is_err}
-use Rattle.std.proofs.lemmas.Bool.{cases_lt}
-use Rattle.mm_base.specs.declared.fault.Failed.{Failed}
-use Rattle.mm_base.specs.Faults.{Rose}
-use Rattle.mm_digest.specs.declared.digest.Digest.{Digest}
-use Rattle.mm_store.specs.Slots.{Slots, slot_in, with_slot}
-use Rattle.mm_store.specs.Unsynced.{MarksAlone}
-use Rattle.mm_store.specs.Calls.{putting}
-use Rattle.mm_store.proofs.SlotLaws.{slot_in-with_slot, with_slot-twice, with_slot-same, putting-twice}
-use Rattle.mm_store.proofs.SyncLaws.{marks_alone, marked_last}
-use Rattle.mm_pages.specs.Bytes.{resized, page_of, page_count}
-use Rattle.mm_pages.specs.Paged.{Paged}
-use Rattle.mm_pages.specs.Calls.{ReadsLength, Syncs, changing}
-use Rattle.mm_pages.specs.Counts.{counted_by, may_be, look_at, looks_at, change_count, changes_of, one_if}
-use Rattle.mm_pages.specs.Rows.{Rows, row_in, with_row, kept_digest, page_digest, keeping, page_digests}
-use Rattle.mm_pages.specs.Puts.{IsInStep, IsPutAt, FailsIn, Fails, PutsThere, PutsOne, IsFilled, FillsSlot, PutsFirst, IsOneMoreAtMost, Fits, FitsAndSyncs, EndsInSync, PutsWhole, PutsBytes}
+use Rattle.mm_pages.proofs.Below.{ℕ, ◌≡◌, ◌+◌, ◌*◌, ◌<◌, ◌≤◌, suc, true, false, Option, Some, None, Result, Ok, Err, List, [], ◌++◌, length}
+use Rattle.mm_pages.proofs.Below.{get_or, take, drop, refl, ap, sym, ◌∙◌, subst, inl, inr, arith, ◌-◌, length-append, is_err, cases_lt}
+use Rattle.mm_pages.proofs.Below.{Failed, Rose, Digest, Slots, slot_in, with_slot, MarksAlone, putting, slot_in-with_slot, with_slot-twice}
+use Rattle.mm_pages.proofs.Below.{with_slot-same, putting-twice, marks_alone, marked_last, resized, page_of, page_count, Paged, ReadsLength}
+use Rattle.mm_pages.proofs.Below.{Syncs, changing, counted_by, may_be, look_at, looks_at, change_count, changes_of, one_if, Rows, row_in}
+use Rattle.mm_pages.proofs.Below.{with_row, kept_digest, page_digest, keeping, page_digests, IsInStep, IsPutAt, FailsIn, Fails, PutsThere}
+use Rattle.mm_pages.proofs.Below.{PutsOne, IsFilled, FillsSlot, PutsFirst, IsOneMoreAtMost, Fits, FitsAndSyncs, EndsInSync, PutsWhole}
+use Rattle.mm_pages.proofs.Below.{PutsBytes}
 use Rattle.mm_pages.proofs.BytesLaws.{get_or-page_of, page_of-same, resized-same, resized-length}
 use Rattle.mm_pages.proofs.RowLaws.{row_in-with_row, with_row-twice, with_row-same, keeping-next, kept_of-next, length-digests_of, take-digests_of}
 use Rattle.mm_pages.proofs.CountLaws.{counted_by-add, changes_of-same}

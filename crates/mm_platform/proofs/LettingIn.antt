@@ -1,10 +1,8 @@
 -- Letting in the values that are due at a step, one by one.
-use Rattle.std.proofs.Common.{◌≡◌, ℕ, ◌+◌, ◌≤◌, ◌++◌, List, take, drop, map, cond, arith}
+use Rattle.mm_platform.proofs.Below.{◌≡◌, ℕ, ◌+◌, ◌≤◌, ◌++◌, List, take, drop, map, cond, arith, nat_lt, Item, foreign_item}
 use Rattle.std.proofs.lemmas.List.Sums.{sum_by-le-sum_by}
-use Rattle.std.specs.Prelude.{nat_lt}
 use Rattle.std.proofs.lemmas.Bool.Decides.{nat_tests}
 use Rattle.mm_platform.specs.declared.plan.Meddle.{Meddle}
-use Rattle.mm_platform.specs.Standing.{Item, foreign_item}
 use Rattle.mm_platform.specs.StandingWords.{due}
 use Rattle.mm_platform.specs.Memory.{ahead}
 

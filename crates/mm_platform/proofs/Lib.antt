@@ -1,2 +1,4 @@
-pub mod LettingIn
-pub mod Telling
+pub mod Above
+mod Below
+mod LettingIn
+mod Telling

@@ -1,13 +1,11 @@
 -- A device step leaves what it is told to leave.
-use Rattle.std.proofs.Common.{◌≡◌, Bool, true, false, Option, None, Some, List, [], ◌∷◌, refl, sym, ◌∙◌, ap}
-use Rattle.std.specs.Prelude.{is_none, if◌then◌else◌}
+use Rattle.mm_platform.proofs.Below.{◌≡◌, Bool, true, false, Option, None, Some, List, [], ◌∷◌, refl, sym, ◌∙◌, ap, is_none, if◌then◌else◌}
+use Rattle.mm_platform.proofs.Below.{Plan, Standing, plan_after, Act, beside, cell_after, items_after, will_answer, will_be_made}
+use Rattle.mm_platform.proofs.Below.{will_be_on, will_bring, faults_after, Goes, known_plan}
 use Rattle.std.specs.Option.{option_map}
 use Rattle.mm_platform.specs.declared.fault.StepFault.{StepFault}
-use Rattle.mm_platform.specs.Standing.{Plan, Standing, plan_after}
-use Rattle.mm_platform.specs.Steps.{Act, beside, cell_after, items_after, will_answer, will_be_made, will_be_on, will_bring, faults_after, Goes}
 use Rattle.mm_platform.specs.Told.{next_answer, makes, step_made, acted, acts_answer, AreAlike}
 use Rattle.mm_platform.specs.Calls.{ActsAsTold}
-use Rattle.mm_platform.specs.StepLaws.{known_plan}
 
 -- what a step does, by the plan that it was told
 pub record IsAsTold (act : Act) (old new : Standing) (fault : Option StepFault) : Type 0 where

@@ -1,15 +1,14 @@
 -- What an action does to the bytes of a ledger.
-use Rattle.std.specs.Prelude.{Result, Ok, Err, IfOk, ◌≡◌, ℕ, suc, ◌+◌, ◌^◌, ◌<◌, ◌≤◌, Bool, true, false, nat_le, min, List, [], ◌++◌, length, Option, Some, None, is_some, option_map, if◌then◌else◌}
-use Rattle.std.proofs.Common.{refl, sym, ◌∙◌, ap, arith, subst}
-use Rattle.std.proofs.lemmas.Bool.Decides.{nat_tests}
-use Rattle.mm_quota.specs.Table.{Account, Action, Request, On, Says, account_named, put, decision_of, is_name, is_account, request_of, rises, account_bytes, body_of, count_bytes, spelling_of, is_state, ledger_of, stepped, greatest_limit}
-use Rattle.mm_quota.specs.LedgerLaws.{FoundOf, account_named-found, length-put-there, length-put-absent}
-use Rattle.mm_quota.specs.SpellingLaws.{is_state-SpellsLedger}
-use Rattle.mm_quota.specs.AccountLaws.{IsAccount-from}
+use Rattle.mm_quota.proofs.Below.{Result, Ok, Err, IfOk, ◌≡◌, suc, ◌+◌, ◌^◌, ◌<◌, ◌≤◌, Bool, true, false, nat_le, List, [], ◌++◌, length}
+use Rattle.mm_quota.proofs.Below.{Option, Some, None, is_some, option_map, if◌then◌else◌, refl, sym, ◌∙◌, ap, arith, subst, nat_tests}
+use Rattle.mm_quota.proofs.Below.{Account, Action, Request, On, Says, account_named, put, decision_of, is_name, is_account, request_of}
+use Rattle.mm_quota.proofs.Below.{rises, account_bytes, body_of, count_bytes, is_state, ledger_of, stepped, greatest_limit, FoundOf}
+use Rattle.mm_quota.proofs.Below.{account_named-found, length-put-there, length-put-absent, is_state-SpellsLedger, IsAccount-from}
+use Rattle.mm_quota.proofs.Below.{IsSpelled, as_account}
+use Rattle.std.specs.Prelude.{ℕ, min}
+use Rattle.mm_quota.specs.Table.{spelling_of}
 use Rattle.mm_quota.specs.QuotaLaws.{IsAction, IsQuotaRequest, request_of-IsQuotaRequest, PutIf, IsPut, decision_of-is}
 use Rattle.mm_quota.specs.OthersStay.{OthersStay, others_stay}
-use Rattle.mm_quota.specs.Spelled.{IsSpelled}
-use Rattle.mm_quota.specs.Views.{as_account}
 use Rattle.mm_quota.specs.declared.account.Account as declared
 
 -- a state spells a ledger that its size allows

@@ -1,2 +1,3 @@
-pub mod PlaceLaws
-pub mod ActLaws
+mod Below
+mod PlaceLaws
+mod ActLaws

@@ -1,20 +1,19 @@
 -- Going through the accounts of a ledger.
-use Rattle.std.specs.Prelude.{◌≡◌, ℕ, suc, ◌+◌, ◌-◌, ◌*◌, ◌^◌, ◌<◌, ◌≤◌, ◌&&◌, Bool, true, false, nat_le, List, [], ◌∷◌, ◌++◌, length, take, drop, Option, Some, None, option_map, option_and_then}
-use Rattle.std.proofs.Common.{refl, sym, ◌∙◌, ap, arith, subst, append_assoc, length-append}
+use Rattle.mm_quota.proofs.Below.{◌≡◌, suc, ◌+◌, ◌*◌, ◌^◌, ◌<◌, ◌≤◌, ◌&&◌, Bool, true, false, nat_le, List, [], ◌∷◌, ◌++◌, length, take}
+use Rattle.mm_quota.proofs.Below.{drop, Option, Some, None, option_map, option_and_then, refl, sym, ◌∙◌, ap, arith, subst, append_assoc}
+use Rattle.mm_quota.proofs.Below.{length-append, nat_tests, and-true, Account, order_of, account_named, put, total_used, is_account, rises}
+use Rattle.mm_quota.proofs.Below.{account_bytes, body_of, account_at, accounts_from, of_count_bytes, holds_ledger, ledger_of}
+use Rattle.mm_quota.proofs.Below.{greatest_limit, account_named-other, account_named-this, account_named-absent, bytes_eq-order}
+use Rattle.mm_quota.proofs.Below.{account_at-account_bytes, ReadsBody, accounts_from-reads, IsAccount-from, IsSpelled, follow}
+use Rattle.std.specs.Prelude.{ℕ, ◌-◌}
 use Rattle.std.specs.declared.cmp.Ordering.{Ordering}
 use Rattle.std.specs.declared.cmp.Ordering.TheVariants.{Less, Equal, Greater}
 use Rattle.std.specs.List.{list_all}
 use Rattle.std.specs.Ordering.{is_lt, match_ordering}
 use Rattle.std.proofs.Math.Seq.{take-append_seam}
-use Rattle.std.proofs.lemmas.Bool.Decides.{nat_tests}
 use Rattle.mm_module.specs.Bytes.{are_bytes}
-use Rattle.mm_module.specs.LineLaws.{and-true}
 use Rattle.mm_module.specs.PartLaws.{are_bytes-drop}
-use Rattle.mm_quota.specs.Table.{Account, order_of, account_named, put, total_used, is_account, rises, account_bytes, body_of, account_at, accounts_from, accounts_of, of_count_bytes, holds_ledger, is_ledger, is_state, ledger_of, greatest_limit}
-use Rattle.mm_quota.specs.LedgerLaws.{account_named-other, account_named-this, account_named-absent, bytes_eq-order}
-use Rattle.mm_quota.specs.SpellingLaws.{account_at-account_bytes, ReadsBody, accounts_from-reads}
-use Rattle.mm_quota.specs.AccountLaws.{IsAccount-from}
-use Rattle.mm_quota.specs.Spelled.{IsSpelled, follow}
+use Rattle.mm_quota.specs.Table.{accounts_of, is_ledger, is_state}
 
 -- the rest, where an account stands in front of it
 and-false : (b : Bool) → (b && false) ≡ false

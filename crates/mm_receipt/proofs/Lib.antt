@@ -1,2 +1,4 @@
-pub mod StateLaws
-pub mod TaggedLaws
+pub mod Above
+mod Below
+mod StateLaws
+mod TaggedLaws

@@ -1,12 +1,10 @@
 -- What the code reads of a state.
-use Rattle.std.proofs.Common.{◌≡◌, ◌≢◌, ℕ, zero, suc, ◌<◌, ◌≤◌, ◌&&◌, Bool, true, false, List, [], ◌∷◌, length, take, drop, refl, sym, ◌∙◌, ap, subst, arith, rules}
-use Rattle.std.specs.Prelude.{IsTrue, None}
-use Rattle.mm_base.specs.Limits.{last_position}
+use Rattle.mm_receipt.proofs.Below.{◌≡◌, ◌≢◌, ℕ, zero, suc, ◌<◌, ◌≤◌, ◌&&◌, Bool, true, false, List, [], ◌∷◌, length, take, drop, refl, sym}
+use Rattle.mm_receipt.proofs.Below.{◌∙◌, ap, subst, arith, rules, IsTrue, last_position, Meaning, parts_by, receipt_parts, ReceiptState}
+use Rattle.mm_receipt.proofs.Below.{is_front, receipt_state_in, SpellsKept, SpellsKept-from, kept_of-IsKept, is-true}
+use Rattle.std.specs.Prelude.{None}
 use Rattle.mm_module.specs.Bytes.{are_bytes}
-use Rattle.mm_module.specs.Meaning.{Meaning}
-use Rattle.mm_receipt.specs.Receipts.{parts_by, receipt_parts}
-use Rattle.mm_receipt.specs.Table.{ReceiptState, is_front, receipt_state_in, is_state}
-use Rattle.mm_receipt.specs.ReceiptedLaws.{SpellsKept, SpellsKept-from, kept_of-IsKept, is-true}
+use Rattle.mm_receipt.specs.Table.{is_state}
 
 drop-past : (n : ℕ) (xs : List ℕ) → length xs ≤ n → drop n xs ≡ []
 drop-past zero [] short = refl

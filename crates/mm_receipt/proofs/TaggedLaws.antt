@@ -1,6 +1,9 @@
 -- What receipts prove of a run: a message tells its parts, and the count of a state is the position.
-use Rattle.std.proofs.Common.{inl, inr, ◌≡◌, ◌≢◌, ℕ, zero, suc, ◌+◌, ◌<◌, ◌≤◌, ◌^◌, ◌==◌, ◌&&◌, Bool, true, false, List, [], ◌∷◌, ◌++◌, length, take, drop, Option, Some, None, refl, sym, ◌∙◌, ap, arith, length-append}
-use Rattle.std.specs.Prelude.{slice_get, Result, Ok, Err, ◌⊎◌, if◌then◌else◌, codes}
+use Rattle.mm_receipt.proofs.Below.{inl, inr, ◌≡◌, ◌≢◌, ℕ, zero, suc, ◌+◌, ◌<◌, ◌≤◌, ◌^◌, ◌==◌, ◌&&◌, Bool, true, false, List, [], ◌∷◌}
+use Rattle.mm_receipt.proofs.Below.{◌++◌, length, take, drop, Option, Some, None, refl, sym, ◌∙◌, ap, arith, length-append, slice_get}
+use Rattle.mm_receipt.proofs.Below.{Result, Ok, Err, ◌⊎◌, if◌then◌else◌, codes, last_position, longest_request, Meaning, outputs_from}
+use Rattle.mm_receipt.proofs.Below.{digits_of, receipt_of, is_lower_digit, parts_by, verified_by, verified, ReceiptState, taken, outcome_of}
+use Rattle.mm_receipt.proofs.Below.{first_kept, spelling_of, receipt_state_in, receipted, IsKept, kept_of-spelling_of, outcome_of-IsKept}
 use Rattle.std.specs.List.{AllByRecursion, list_all}
 use Rattle.std.specs.Str.{bytes_eq}
 use Rattle.std.proofs.lemmas.Bool.Decides.{nat_tests}
@@ -8,13 +11,9 @@ use Rattle.std.proofs.lemmas.List.{take-append-drop}
 use Rattle.std.proofs.lemmas.Slice.Eq.{bytes_eq-Decides}
 use Rattle.mm_base.specs.Fields.{eight_bytes, four_bytes}
 use Rattle.mm_base.specs.FieldLaws.{length-eight_bytes, length-four_bytes, eight_bytes-injective, four_bytes-injective, append-injective}
-use Rattle.mm_base.specs.Limits.{last_position, longest_request}
-use Rattle.mm_module.specs.Meaning.{Meaning, outputs_from}
 use Rattle.mm_receipt.specs.declared.receipt.NotReceipt.{NotReceipt}
 use Rattle.mm_receipt.specs.declared.receipt.NotReceipt.TheVariants.{Form, Tag}
-use Rattle.mm_receipt.specs.Receipts.{receipt_front, receipt_message, digits_of, receipt_of, is_lower_digit, parts_by, verified_by, verified}
-use Rattle.mm_receipt.specs.Table.{ReceiptState, taken, outcome_of, first_kept, spelling_of, receipt_state_in, receipted}
-use Rattle.mm_receipt.specs.ReceiptedLaws.{IsKept, kept_of-spelling_of, outcome_of-IsKept}
+use Rattle.mm_receipt.specs.Receipts.{receipt_front, receipt_message}
 use Rattle.mm_receipt.specs.Tagged.{IsTaggedBy, IsTagged, IsCounted, ReceiptsAreTrue, ReceiptsDoNotClash}
 
 length-receipt_front : (position size : ℕ) → length (receipt_front position size) ≡ 16

@@ -9,8 +9,9 @@ ghost use Rattle.mm_seal.specs.Parts.{parts_of};
 ghost use Rattle.mm_seal.specs.Body.{content_of, SpellsNoContent, SpellsContent, HasFieldsOf, HasHead, PlacedIn, place_length};
 
 use crate::field::{split_digest, version};
+use crate::sealing::SealingKey;
 use mm_base::{Bytes, LAST_POSITION, Memory, bytes_of_u32, bytes_of_u64, split_u32, split_u64};
-use mm_digest::{Digest, HmacKey, Variant};
+use mm_digest::{Digest, Variant};
 use std::alloc::Global;
 use std::marker::Model;
 use thiserror::Error;
@@ -94,7 +95,7 @@ impl<'a> Model for Offered<'a> {
 
 impl<'a> Offered<'a> {
     ghost use Rattle.std.specs.Prelude.{◌≡◌, ◌↔◌, IsTrue};
-    ghost use Rattle.mm_seal.specs.Snapshot.{tag_of};
+    ghost use Rattle.mm_seal.specs.Snapshot.{tag_of, snapshot_front};
     ghost use Rattle.mm_seal.specs.Body.{content_of};
 
     /// What the snapshot says.
@@ -108,14 +109,22 @@ impl<'a> Offered<'a> {
     pub fn tag_right(&self, key: &[u8; 32]) -> bool
         ensures { IsTrue result ↔ (self.now.tag ≡ tag_of key.now self.now.content) }
     {
-        self.tag_right_under(&HmacKey::new(key))
+        SealingKey::new(key).tag_right(self)
     }
 
-    /// The same, under a key that is absorbed.
-    pub fn tag_right_under(&self, key: &HmacKey) -> bool
-        ensures { IsTrue result ↔ (self.now.tag ≡ tag_of key.now self.now.content) }
+    // What was signed.
+    #[inline(always)]
+    pub(crate) fn signed(&self) -> &[u8]
+        ensures { result.now ≡ snapshot_front self.now.content }
     {
-        let tag = key.tag(self.signed);
+        self.signed
+    }
+
+    // Whether this is its tag.
+    #[inline(always)]
+    pub(crate) fn has_tag(&self, tag: &Digest) -> bool
+        ensures { IsTrue result ↔ (self.now.tag ≡ tag.now.bytes) }
+    {
         self.tag == tag.bytes
     }
 }
@@ -127,21 +136,31 @@ pub fn seal(alloc: Global, key: &[u8; 32], body: &Body<'_>) -> Result<Bytes, Mem
     requires state { length body.now.state.now ≤ limit_of body.now.module }
     ensures { IfOk result (λ bytes. bytes ≡ sealed_of key.now (content_of body.now)) }
 {
-    seal_under(alloc, &HmacKey::new(key), body)
+    seal_under(alloc, &SealingKey::new(key), body)
 }
 
-/// The same, under a key that is absorbed.
+/// The same, under a key that is absorbed. Nothing more is remembered.
 #[tactic(auto, unfolding(crate::specs::Snapshot::sealed_of))]
 #[inline(always)]
-pub fn seal_under(alloc: Global, key: &HmacKey, body: &Body<'_>) -> Result<Bytes, Memory>
+pub fn seal_under(alloc: Global, key: &SealingKey, body: &Body<'_>) -> Result<Bytes, Memory>
     requires position { body.now.position ≤ last_position }
     requires state { length body.now.state.now ≤ limit_of body.now.module }
     ensures { IfOk result (λ bytes. bytes ≡ sealed_of key.now (content_of body.now)) }
 {
-    let mut bytes = Bytes::with_capacity(alloc, sealed_len(body))?;
-    put_front(&mut bytes, body)?;
+    let mut bytes = front(alloc, body)?;
     let tag = key.tag(bytes.as_slice());
     bytes.append(&tag.bytes)?;
+    Ok(bytes)
+}
+
+// What is signed of the body's snapshot, with memory for the whole.
+#[inline(always)]
+pub(crate) fn front(alloc: Global, body: &Body<'_>) -> Result<Bytes, Memory>
+    requires { length body.now.state.now ≤ limit_of body.now.module }
+    ensures { IfOk result (λ bytes. bytes ≡ snapshot_front (content_of body.now)) }
+{
+    let mut bytes = Bytes::with_capacity(alloc, sealed_len(body))?;
+    put_front(&mut bytes, body)?;
     Ok(bytes)
 }
 

@@ -1,3 +1,5 @@
-pub mod SlotLaws
-pub mod SyncLaws
-pub mod PendingLaws
+pub mod Above
+mod Below
+mod SlotLaws
+mod SyncLaws
+mod PendingLaws

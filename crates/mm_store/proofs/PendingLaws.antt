@@ -2,7 +2,7 @@
 use Rattle.std.proofs.Common.{ℕ, ◌≡◌, ◌+◌, ◌-◌, ◌<◌, ◌^◌, Some, None, List, [], ◌++◌, length, take, drop, refl, ap, sym, ◌∙◌, arith, subst, length-append, append_assoc}
 use Rattle.std.proofs.lemmas.List.{append-nil}
 use Rattle.sha2.specs.Sha256.{sha256}
-use Rattle.sha2.proofs.Facts256.{length-sha256}
+use Rattle.mm_store.proofs.Below.{length-sha256}
 use Rattle.mm_base.specs.Fields.{eight_bytes, four_bytes}
 use Rattle.mm_store.specs.Pending.{Pending, IsPending, record_word, pending_front, pending_spelling, ReadsPending, OneReading, SpellsRecord, SpellsNoRecord}
 use Rattle.mm_base.specs.FieldLaws.{joined, append-injective, eight_bytes-injective, four_bytes-injective, length-eight_bytes, length-four_bytes}

@@ -1,8 +1,7 @@
 -- Laws of slots.
-use Rattle.std.proofs.Common.{ℕ, ◌≡◌, Bool, true, false, Option, Some, None, List, length, take, min, refl, ap, sym, ◌∙◌, inl, inr, arith}
+use Rattle.mm_store.proofs.Below.{ℕ, ◌≡◌, Bool, true, false, Option, Some, None, List, length, take, min, refl, ap, sym, ◌∙◌, inl, inr}
+use Rattle.mm_store.proofs.Below.{arith, take_all, ◌==◌, if◌then◌else◌}
 use Rattle.std.proofs.lemmas.Bool.{cases_lt}
-use Rattle.std.proofs.lemmas.List.{take_all}
-use Rattle.std.specs.Prelude.{◌==◌, if◌then◌else◌}
 use Rattle.mm_store.specs.Slots.{Slots, longest_slot, slot_in, with_slot}
 use Rattle.mm_store.specs.Calls.{putting}
 

@@ -1,6 +1,5 @@
 -- Laws of what is told of the slots that have changes that were not synced.
-use Rattle.std.proofs.Common.{ℕ, ◌≡◌, Bool, true, false, Option, Some, None, refl, ap, sym, ◌∙◌}
-use Rattle.std.specs.Prelude.{◌==◌, if◌then◌else◌}
+use Rattle.mm_store.proofs.Below.{ℕ, ◌≡◌, Bool, true, false, Option, Some, None, refl, ap, sym, ◌∙◌, ◌==◌, if◌then◌else◌}
 use Rattle.mm_store.specs.Unsynced.{Unsynced, with_unsynced, marking, MarksAlone}
 
 -- what a choice by three tests puts in place

@@ -1,13 +1,10 @@
 -- Two cells and a selector as one list of bytes, and what is put in place of a part.
-use Rattle.std.proofs.Common.{ℕ, ◌≡◌, ◌+◌, ◌*◌, ◌≤◌, ◌⊎◌, inl, inr, zero, suc, List, [], ◌∷◌, ◌++◌, length, take, drop, get_or, refl, sym, ap, ◌∙◌, arith, lit<, length-append, append_assoc, length-drop}
-use Rattle.std.specs.Prelude.{◌%◌, slice_index}
+use Rattle.mm_twocell.proofs.Below.{ℕ, ◌≡◌, ◌+◌, ◌*◌, ◌≤◌, ◌⊎◌, inl, inr, zero, suc, List, [], ◌∷◌, ◌++◌, length, take, drop, get_or, refl}
+use Rattle.mm_twocell.proofs.Below.{sym, ap, ◌∙◌, arith, lit<, length-append, append_assoc, length-drop, ◌%◌, slice_index, take-append-drop}
+use Rattle.mm_twocell.proofs.Below.{length-take-le, get_or-append-add, drop-drop, cell_length, range_of, spliced, picked}
 use Rattle.std.proofs.Math.Seq.{take-append_seam, drop-append_seam, drop-append-add}
 use Rattle.std.proofs.lemmas.Bool.{cases_lt}
-use Rattle.std.proofs.lemmas.List.{take-append-drop, length-take-le, get_or-append-add, drop-drop}
 use Rattle.std.proofs.lemmas.Nat.{mod_below}
-use Rattle.mm_base.specs.Limits.{cell_length}
-use Rattle.mm_platform.specs.Raw.{range_of, spliced}
-use Rattle.mm_twocell.specs.Pairs.{picked}
 
 take_front : (n : ℕ) (xs ys : List ℕ) → length xs ≡ n → take n (xs ++ ys) ≡ xs
 take_front n xs ys e = ap (λ (m : ℕ). take m (xs ++ ys)) (sym e) ∙ take-append_seam xs ys

@@ -1,4 +1,5 @@
-pub mod Cells
-pub mod Writing
-pub mod Tearing
-pub mod Steadying
+mod Below
+mod Cells
+mod Writing
+mod Tearing
+mod Steadying

@@ -1,13 +1,11 @@
 -- Steps of a register whose plan is quiet.
-use Rattle.std.proofs.Common.{ℕ, ◌≡◌, Bool, true, List, [], Option, None, Some, refl, sym, ap, ◌∙◌}
-use Rattle.std.specs.Option.{option_map}
-use Rattle.mm_platform.specs.declared.fault.StepFault.{StepFault}
+use Rattle.mm_twocell.proofs.Below.{ℕ, ◌≡◌, Bool, true, List, [], Option, None, Some, refl, sym, ap, ◌∙◌, option_map, StepFault, Plan}
+use Rattle.mm_twocell.proofs.Below.{Standing, next_step, Act, ReadRegister, ResetRegister, ExtendRegister, beside, cell_after, items_after}
+use Rattle.mm_twocell.proofs.Below.{fault_at, is_made_at, is_on_at, will_answer, will_be_made, will_be_on, will_bring, faults_after, Goes}
+use Rattle.mm_twocell.proofs.Below.{Torn, told_by, whole_bytes, StepsRegister, from_start, IsSteady}
 use Rattle.mm_platform.specs.declared.plan.Stop.TheVariants.{Quiet}
-use Rattle.mm_platform.specs.Standing.{Plan, Standing, next_step}
 use Rattle.mm_platform.specs.StandingWords.{due}
-use Rattle.mm_platform.specs.Steps.{Act, ReadRegister, ResetRegister, ExtendRegister, beside, cell_after, items_after, fault_at, is_made_at, is_on_at, will_answer, will_be_made, will_be_on, will_bring, faults_after, Goes}
 use Rattle.mm_platform.specs.Told.{quiet_plan, next_answer, makes}
-use Rattle.mm_twocell.specs.Torn.{Torn, told_by, whole_bytes, StepsRegister, from_start, IsSteady}
 
 -- what such a step does
 record Steadies {act : Act} {old new : Standing} {fault : Option StepFault} (g : Goes act old new fault) : Type 0 where

@@ -1,14 +1,9 @@
 -- A write that fails, of which a part is left.
-use Rattle.std.proofs.Common.{ℕ, ◌≡◌, ◌+◌, ◌≤◌, Bool, true, false, List, [], length, take, drop, None, Some, refl, sym, ap, ◌∙◌, subst, arith}
-use Rattle.std.specs.Prelude.{◌==◌, if◌then◌else◌}
-use Rattle.std.specs.Option.{option_map}
-use Rattle.std.proofs.lemmas.Bool.Decides.{nat_tests}
-use Rattle.std.proofs.lemmas.List.{length-take, length-take-le, length-drop}
-use Rattle.mm_base.specs.Faults.{counted, Rose}
-use Rattle.mm_platform.specs.declared.fault.StepFault.TheVariants.{Failed}
-use Rattle.mm_platform.specs.Raw.{range_of, spliced, WritesRaw}
-use Rattle.mm_platform.specs.CallLaws.{beside-none}
-use Rattle.mm_twocell.specs.Torn.{Torn, whole_bytes, told_by, IsUsable, will_fail, call_made, put_in}
+use Rattle.mm_twocell.proofs.Below.{ℕ, ◌≡◌, ◌+◌, ◌≤◌, Bool, true, false, List, [], length, take, drop, None, Some, refl, sym, ap, ◌∙◌}
+use Rattle.mm_twocell.proofs.Below.{subst, arith, ◌==◌, if◌then◌else◌, option_map, nat_tests, length-take, length-take-le, counted, Rose}
+use Rattle.mm_twocell.proofs.Below.{Failed, range_of, spliced, WritesRaw, beside-none, Torn, whole_bytes, told_by, IsUsable, will_fail}
+use Rattle.mm_twocell.proofs.Below.{call_made, put_in}
+use Rattle.std.proofs.lemmas.List.{length-drop}
 use Rattle.mm_twocell.proofs.Cells.{behind, length-behind, put_behind, length-spliced}
 
 size_test : (bytes : List ℕ) → length bytes ≡ 209 → (length bytes == 209) ≡ true

@@ -1,17 +1,8 @@
 -- What a read and a write over two cells do to the one cell.
-use Rattle.std.proofs.Common.{ℕ, ◌≡◌, ◌-◌, ◌*◌, ◌⊎◌, inl, inr, Bool, true, false, List, [], ◌∷◌, ◌++◌, length, get_or, Option, None, Some, refl, sym, ap, ◌∙◌, subst, arith}
-use Rattle.std.specs.Prelude.{◌%◌, ◌==◌, slice_index}
-use Rattle.std.specs.Option.{option_map}
-use Rattle.std.proofs.lemmas.Bool.Decides.{nat_tests}
-use Rattle.mm_base.specs.Faults.{Rose}
-use Rattle.mm_base.specs.Limits.{cell_length}
-use Rattle.mm_platform.specs.declared.fault.StepFault.{StepFault}
-use Rattle.mm_platform.specs.declared.fault.StepFault.TheVariants.{Failed, Off}
-use Rattle.mm_platform.specs.Standing.{Standing}
-use Rattle.mm_platform.specs.Steps.{WriteCell, beside, cell_after, EndsBy}
-use Rattle.mm_platform.specs.Raw.{spliced, LeavesRest, ReadsRaw, WritesRaw}
-use Rattle.mm_platform.specs.CallLaws.{beside-beside}
-use Rattle.mm_twocell.specs.Pairs.{picked, WritesPicked}
+use Rattle.mm_twocell.proofs.Below.{ℕ, ◌≡◌, ◌-◌, ◌*◌, ◌⊎◌, inl, inr, Bool, true, false, List, [], ◌∷◌, ◌++◌, length, get_or, Option, None}
+use Rattle.mm_twocell.proofs.Below.{Some, refl, sym, ap, ◌∙◌, subst, arith, ◌%◌, ◌==◌, slice_index, option_map, nat_tests, Rose}
+use Rattle.mm_twocell.proofs.Below.{cell_length, StepFault, Failed, Off, Standing, WriteCell, beside, cell_after, EndsBy, spliced}
+use Rattle.mm_twocell.proofs.Below.{LeavesRest, ReadsRaw, WritesRaw, beside-beside, picked, WritesPicked}
 use Rattle.mm_twocell.proofs.Cells.{InThree, in_three, three, one_item, parity, picks_first, picks_second, put_first, put_second, put_selector, selector_of}
 
 -- how a call ends that went on from a call that was done

@@ -1,6 +1,5 @@
-use Rattle.std.proofs.Common.{◌≡◌, ◌∙◌, rules}
+use Rattle.mm_base.proofs.Below.{◌≡◌, ◌∙◌, rules, text_of_decimal, parsed_number}
 use Rattle.std.specs.Str.{IsUtf8}
-use Rattle.mm_base.specs.DecimalLaws.{text_of_decimal, parsed_number}
 use Rattle.mm_base.proofs.decimal.parsed.Goals as goal
 
 pub unwrap-text-requires : goal.unwrap-text-requires

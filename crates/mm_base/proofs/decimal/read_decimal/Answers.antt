@@ -1,5 +1,4 @@
-use Rattle.std.proofs.Common.{sym, ◌∙◌}
-use Rattle.mm_base.specs.DecimalLaws.{none_without_form, read_by_spelling}
+use Rattle.mm_base.proofs.Below.{sym, ◌∙◌, none_without_form, read_by_spelling}
 use Rattle.mm_base.proofs.decimal.read_decimal.Goals as goal
 
 pub returns-then-not-has_decimal_form-clause-value :

@@ -1,6 +1,4 @@
-use Rattle.std.proofs.Common.{ap, sym, ◌∙◌, List, ℕ, ◌++◌, arith, ◌≡◌, length}
-use Rattle.std.proofs.lemmas.List.{length-take-le}
-use Rattle.mm_base.specs.FieldLaws.{joined, four_bytes-front}
+use Rattle.mm_base.proofs.Below.{ap, sym, ◌∙◌, List, ℕ, ◌++◌, arith, ◌≡◌, length, length-take-le, joined, four_bytes-front}
 use Rattle.mm_base.proofs.fields.split_u32.Goals as goal
 
 pub returns : goal.returns

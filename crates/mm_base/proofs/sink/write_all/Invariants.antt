@@ -1,5 +1,4 @@
-use Rattle.std.proofs.Common.{◌≡◌, length}
-use Rattle.mm_base.specs.Streams.{GoesOut}
+use Rattle.mm_base.proofs.Below.{◌≡◌, length, GoesOut}
 use Rattle.mm_base.proofs.sink.write_all.Given as goal
 
 abbrev pub invariant-pieces : goal.invariant-pieces

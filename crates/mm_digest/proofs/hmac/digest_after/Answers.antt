@@ -1,8 +1,5 @@
-use Rattle.std.proofs.Common.{rules}
-use Rattle.std.proofs.Math.Logic.{∥∥₁_elim}
-use Rattle.std.specs.Coded.{coded_ℕ, coded_list}
+use Rattle.mm_digest.proofs.Below.{rules, ∥∥₁_elim, coded_ℕ, coded_list, Holds256}
 use base.Stored.{Coded-set}
-use Rattle.sha2.specs.Hashers.{Holds256}
 use Rattle.mm_digest.proofs.hmac.digest_after.Goals as goal
 
 pub returns : goal.returns

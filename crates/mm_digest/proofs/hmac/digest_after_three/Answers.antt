@@ -1,9 +1,6 @@
-use Rattle.std.proofs.Common.{rules, ◌≡◌, ◌++◌, ◌∙◌, ap}
-use Rattle.std.proofs.Math.Logic.{∥∥₁_elim}
-use Rattle.std.specs.Coded.{coded_ℕ, coded_list}
+use Rattle.mm_digest.proofs.Below.{rules, ◌≡◌, ◌++◌, ◌∙◌, ap, ∥∥₁_elim, coded_ℕ, coded_list, Holds256}
 use base.Stored.{Coded-set}
 use Rattle.sha2.specs.Sha256.{sha256}
-use Rattle.sha2.specs.Hashers.{Holds256}
 use Rattle.mm_digest.proofs.Blocks.{joined_three}
 use Rattle.mm_digest.proofs.hmac.digest_after_three.Goals as goal
 

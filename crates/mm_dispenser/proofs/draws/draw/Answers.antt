@@ -1,6 +1,4 @@
-use Rattle.std.proofs.Common.{◌+◌, ◌-◌, ◌++◌, List, ℕ, ap, ◌∙◌, arith, add_assoc}
-use Rattle.rand_chacha.specs.ChaCha.{key_of}
-use Rattle.mm_dispenser.specs.Draws.{word_text, words_text, drawn_text}
+use Rattle.mm_dispenser.proofs.Below.{◌+◌, ◌-◌, ◌++◌, List, ℕ, ap, ◌∙◌, arith, add_assoc, key_of, word_text, words_text, drawn_text}
 use Rattle.mm_dispenser.proofs.DrawLaws.{next-drawn, drawn-step}
 use Rattle.mm_dispenser.proofs.draws.draw.Goals as goal
 

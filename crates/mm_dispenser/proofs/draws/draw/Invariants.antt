@@ -1,6 +1,4 @@
-use Rattle.std.proofs.Common.{◌≡◌, ◌+◌, ◌-◌, ◌≤◌, ◌++◌}
-use Rattle.rand_chacha.specs.ChaCha.{key_of}
-use Rattle.mm_dispenser.specs.Draws.{words_text, drawn_text}
+use Rattle.mm_dispenser.proofs.Below.{◌≡◌, ◌+◌, ◌-◌, ◌≤◌, ◌++◌, key_of, words_text, drawn_text}
 use Rattle.mm_dispenser.proofs.draws.draw.Given as goal
 
 -- the words so far, and the place of the next

@@ -1,5 +1,4 @@
-use Rattle.std.proofs.Common.{◌≡◌, ℕ, ◌+◌, ◌*◌, ◌-◌, min, take, subst, sym, ap, ◌∙◌, arith, List}
-use Rattle.mm_pages.specs.Bytes.{page_count}
+use Rattle.mm_pages.proofs.Below.{◌≡◌, ℕ, ◌+◌, ◌*◌, ◌-◌, min, take, subst, sym, ap, ◌∙◌, arith, List, page_count}
 use Rattle.mm_pages.proofs.ReadingLaws.{GivesFirst, gives_more, gives_all}
 use Rattle.mm_pages.proofs.reading.put_pages.Goals as goal
 

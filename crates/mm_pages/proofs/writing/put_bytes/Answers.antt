@@ -1,9 +1,5 @@
-use Rattle.std.proofs.Common.{◌≡◌, ℕ, List, ap, ◌∙◌, take, length, Result, Ok, Err}
-use Rattle.mm_base.specs.declared.fault.Failed.{Failed}
-use Rattle.mm_pages.specs.Bytes.{page_count}
-use Rattle.mm_pages.specs.Paged.{Paged}
-use Rattle.mm_pages.specs.Rows.{Rows, row_in, with_row}
-use Rattle.mm_pages.specs.Puts.{PutsFirst, EndsInSync, PutsBytes}
+use Rattle.mm_pages.proofs.Below.{◌≡◌, ℕ, List, ap, ◌∙◌, take, length, Result, Ok, Err, Failed, page_count, Paged, Rows, row_in, with_row}
+use Rattle.mm_pages.proofs.Below.{PutsFirst, EndsInSync, PutsBytes}
 use Rattle.mm_pages.proofs.WritingLaws.{puts_all, fails_at_end}
 use Rattle.mm_pages.proofs.writing.put_bytes.Goals as goal
 

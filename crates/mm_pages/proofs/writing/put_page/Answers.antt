@@ -1,6 +1,4 @@
-use Rattle.std.proofs.Common.{arith, true, false, Ok}
-use Rattle.std.proofs.lemmas.Result.{err_from_is_err_and}
-use Rattle.mm_pages.specs.Puts.{HoldsPage}
+use Rattle.mm_pages.proofs.Below.{arith, true, false, Ok, err_from_is_err_and, HoldsPage}
 use Rattle.mm_pages.proofs.PageLaws.{look_failed, put_held, put_written}
 use Rattle.mm_pages.proofs.writing.put_page.Goals as goal
 

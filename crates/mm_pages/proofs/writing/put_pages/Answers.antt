@@ -1,7 +1,4 @@
-use Rattle.std.proofs.Common.{subst, sym, add-one}
-use Rattle.std.proofs.lemmas.Result.{err_from_is_err_and}
-use Rattle.mm_pages.specs.Puts.{PutsFirst, PutsOne}
-use Rattle.mm_pages.specs.Bytes.{page_of}
+use Rattle.mm_pages.proofs.Below.{subst, sym, add-one, err_from_is_err_and, PutsFirst, PutsOne, page_of}
 use Rattle.mm_pages.proofs.WritingLaws.{puts_none, puts_more, fails_after, reaches}
 use Rattle.mm_pages.proofs.writing.put_pages.Goals as goal
 

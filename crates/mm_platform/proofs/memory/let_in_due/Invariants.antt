@@ -1,5 +1,4 @@
-use Rattle.std.proofs.Common.{vec_len, vec_capacity}
-use Rattle.mm_platform.specs.Entries.{items_of}
+use Rattle.mm_platform.proofs.Below.{vec_len, vec_capacity, items_of}
 use Rattle.mm_platform.proofs.LettingIn.{LetsIn}
 use Rattle.mm_platform.proofs.memory.let_in_due.Given as goal
 

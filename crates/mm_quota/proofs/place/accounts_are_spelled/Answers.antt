@@ -1,5 +1,4 @@
-use Rattle.std.proofs.Common.{◌∙◌}
-use Rattle.mm_quota.specs.Views.{as_front}
+use Rattle.mm_quota.proofs.Below.{◌∙◌, as_front}
 use Rattle.mm_quota.proofs.PlaceLaws.{follow-next}
 use Rattle.mm_quota.proofs.place.accounts_are_spelled.Goals as goal
 

@@ -1,6 +1,5 @@
-use Rattle.std.proofs.Common.{◌≡◌, [], ◌-◌}
-use Rattle.mm_quota.specs.Table.{accounts_from}
-use Rattle.mm_quota.specs.Spelled.{follow}
+use Rattle.mm_quota.proofs.Below.{◌-◌, accounts_from, follow}
+use Rattle.std.proofs.Common.{◌≡◌, []}
 use Rattle.mm_quota.proofs.place.accounts_are_spelled.Given as goal
 
 -- the whole is spelled where the rest follows the last name

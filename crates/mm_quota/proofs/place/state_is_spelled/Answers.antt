@@ -1,6 +1,4 @@
-use Rattle.std.proofs.Common.{arith, sym, ap, ◌∙◌}
-use Rattle.mm_module.specs.LineLaws.{are_bytes-Fits}
-use Rattle.mm_quota.specs.Table.{of_count_bytes}
+use Rattle.mm_quota.proofs.Below.{arith, sym, ap, ◌∙◌, are_bytes-Fits, of_count_bytes}
 use Rattle.mm_quota.proofs.PlaceLaws.{is_state-short, state-within, state-beyond}
 use Rattle.mm_quota.proofs.place.state_is_spelled.Goals as goal
 

@@ -1,6 +1,4 @@
-use Rattle.std.proofs.Common.{arith}
-use Rattle.std.specs.Prelude.{None, Some}
-use Rattle.mm_quota.specs.Views.{as_front}
+use Rattle.mm_quota.proofs.Below.{arith, None, Some, as_front}
 use Rattle.mm_quota.proofs.PlaceLaws.{Summing-given, IsSpelled-sum}
 use Rattle.mm_quota.proofs.place.sum_of.Goals as goal
 

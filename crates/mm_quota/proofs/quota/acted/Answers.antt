@@ -1,8 +1,6 @@
-use Rattle.std.proofs.Common.{ap, sym, ◌∙◌, arith, ℕ, ◌+◌, min}
-use Rattle.std.specs.Prelude.{Option, option_map, is_some, if◌then◌else◌}
-use Rattle.mm_quota.specs.Table.{Account, Says, settled, spelling_of, ledger_of}
-use Rattle.mm_quota.specs.AccountLaws.{IsAccount-from}
-use Rattle.mm_quota.specs.Views.{as_account, as_action, as_says}
+use Rattle.mm_quota.proofs.Below.{ap, sym, ◌∙◌, arith, ℕ, min, Option, option_map, is_some, if◌then◌else◌, Account, Says, settled}
+use Rattle.mm_quota.proofs.Below.{spelling_of, ledger_of, IsAccount-from, as_account, as_action, as_says}
+use Rattle.std.proofs.Common.{◌+◌}
 use Rattle.mm_quota.proofs.ActLaws.{found-within, put-is, put-spelled, decided, is_some-as_account}
 use Rattle.mm_quota.proofs.quota.acted.Goals as goal
 

@@ -1,7 +1,5 @@
-use Rattle.std.proofs.Common.{rules, arith, sym, ap, ◌∙◌}
-use Rattle.std.specs.Prelude.{Some}
+use Rattle.mm_quota.proofs.Below.{rules, arith, sym, ap, ◌∙◌, Some, as_action, as_request}
 use Rattle.mm_module.specs.Words.{words_of}
-use Rattle.mm_quota.specs.Views.{as_action, as_request}
 use Rattle.mm_quota.specs.declared.request.Request.{Request}
 use Rattle.mm_quota.proofs.ActLaws.{IsSpelled-from, few-from, asked-named}
 use Rattle.mm_quota.proofs.quota.step.Goals as goal

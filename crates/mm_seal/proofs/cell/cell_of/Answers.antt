@@ -1,7 +1,6 @@
-use Rattle.std.proofs.Common.{◌≡◌, sym, ◌∙◌, ap, subst, true, false, List, ℕ}
+use Rattle.mm_seal.proofs.Below.{◌≡◌, sym, ◌∙◌, ap, subst, true, false, List, ℕ, joined}
 use Rattle.mm_seal.specs.declared.cell.Cell.{Cell}
 use Rattle.mm_seal.specs.Cell.{FitsVariant, cell_spelling, IsNoCell}
-use Rattle.mm_base.specs.FieldLaws.{joined}
 use Rattle.mm_seal.specs.CellLaws.{fields-cell_spelling, cell_of_fields-only, IsSplit}
 use Rattle.mm_seal.proofs.cell.cell_of.Goals as goal
 use Rattle.mm_seal.proofs.cell.cell_of.Goals.{else-fits_variant-via-then-fits_variant+else-is_spelled, else-fits_variant-via-else-fits_variant}

@@ -1,6 +1,4 @@
-use Rattle.std.proofs.Common.{ap, ◌∙◌, arith, length}
-use Rattle.std.proofs.lemmas.List.{length-take-le}
-use Rattle.mm_base.specs.FieldLaws.{joined}
+use Rattle.mm_seal.proofs.Below.{ap, ◌∙◌, arith, length, length-take-le, joined}
 use Rattle.mm_seal.proofs.field.split_digest.Goals as goal
 
 pub returns : goal.returns

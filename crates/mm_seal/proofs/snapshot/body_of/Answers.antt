@@ -1,10 +1,7 @@
-use Rattle.std.proofs.Common.{◌≡◌, ◌∙◌, ap, sym, refl, arith, get_or, List, ℕ, true, false}
-use Rattle.std.proofs.lemmas.List.{get_or-take}
+use Rattle.mm_seal.proofs.Below.{◌≡◌, ◌∙◌, ap, sym, refl, arith, get_or, List, ℕ, true, false, get_or-take, HasHead, joined}
+use Rattle.mm_seal.proofs.Below.{no_end_in_fields, front_of_fields, only_content}
 use Rattle.mm_digest.specs.Messages.{variant_byte}
 use Rattle.mm_seal.specs.Snapshot.{Content, variant_of}
-use Rattle.mm_seal.specs.Body.{HasHead}
-use Rattle.mm_base.specs.FieldLaws.{joined}
-use Rattle.mm_seal.specs.SnapshotLaws.{no_end_in_fields, front_of_fields, only_content}
 use Rattle.mm_seal.proofs.snapshot.body_of.Goals as goal
 
 pub returns-in_err-length : goal.returns-in_err-length

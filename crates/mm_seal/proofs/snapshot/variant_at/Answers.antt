@@ -1,6 +1,4 @@
-use Rattle.std.proofs.Common.{arith}
-use Rattle.mm_seal.specs.Body.{SpellsNoContent}
-use Rattle.mm_seal.specs.SnapshotLaws.{no_front-short, no_front-variant, no_front-fields}
+use Rattle.mm_seal.proofs.Below.{arith, SpellsNoContent, no_front-short, no_front-variant, no_front-fields}
 use Rattle.mm_seal.proofs.snapshot.variant_at.Goals as goal
 
 pub returns-then-front-lt50 : goal.returns-then-front-lt50

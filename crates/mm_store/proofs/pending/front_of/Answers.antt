@@ -1,7 +1,5 @@
-use Rattle.std.proofs.Common.{◌≡◌, ◌∙◌, ap, refl, arith, List, ℕ, ◌++◌, length, true, false}
-use Rattle.std.proofs.lemmas.List.{length-take-le}
-use Rattle.mm_store.specs.Pending.{record_word, SpellsNoRecord}
-use Rattle.mm_base.specs.FieldLaws.{joined}
+use Rattle.mm_store.proofs.Below.{◌≡◌, ◌∙◌, ap, refl, arith, List, ℕ, ◌++◌, length, true, false, length-take-le, record_word}
+use Rattle.mm_store.proofs.Below.{SpellsNoRecord, joined}
 use Rattle.mm_store.proofs.PendingLaws.{no_front-word, no_front-position, no_front-size, no_front-fields, front_of_fields}
 use Rattle.mm_store.proofs.pending.front_of.Goals as goal
 use Rattle.mm_store.proofs.pending.front_of.Goals.{else-begins_record-via-then-begins_record+else-request-length, else-begins_record-via-else-begins_record}

@@ -1,8 +1,5 @@
-use Rattle.std.proofs.Common.{rules, ◌≡◌, ◌-◌, sym, subst, Option, Some}
-use Rattle.std.specs.Prelude.{◌%◌}
+use Rattle.mm_twocell.proofs.Below.{rules, ◌≡◌, ◌-◌, sym, subst, Option, Some, ◌%◌, StepFault, WritesPicked}
 use Rattle.std.specs.Result.{result_err}
-use Rattle.mm_platform.specs.declared.fault.StepFault.{StepFault}
-use Rattle.mm_twocell.specs.Pairs.{WritesPicked}
 use Rattle.mm_twocell.proofs.Writing.{IsRead, write_torn, write_ends}
 use Rattle.mm_twocell.proofs.pair.write_other.Goals as goal
 

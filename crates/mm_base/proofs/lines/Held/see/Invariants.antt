@@ -1,6 +1,5 @@
-use Rattle.std.proofs.Common.{◌≡◌, ◌-◌, [], length}
+use Rattle.mm_base.proofs.Below.{◌≡◌, ◌-◌, [], length, TakesHeld}
 use Rattle.mm_base.specs.Held.{bytes_held}
-use Rattle.mm_base.specs.Lines.{TakesHeld}
 use Rattle.mm_base.proofs.lines.Held.see.Given as goal
 
 abbrev pub invariant-refills : goal.invariant-refills

@@ -1,5 +1,4 @@
-use Rattle.std.proofs.Common.{◌≤◌, ◌+◌, ◌-◌, arith, drop}
-use Rattle.std.proofs.lemmas.List.{length-take}
+use Rattle.mm_base.proofs.Below.{◌≤◌, ◌+◌, ◌-◌, arith, drop, length-take}
 use Rattle.mm_base.proofs.LineLemmas.{drop-range}
 use Rattle.mm_base.proofs.lines.Held.skip.Goals as goal
 

@@ -1,7 +1,6 @@
-use Rattle.std.proofs.Common.{◌≡◌, ◌+◌, ◌≤◌, ◌<◌, ℕ, List, [], ◌++◌, take, drop, length, ap, arith, sym, ◌∙◌, min}
-use Rattle.std.proofs.lemmas.List.{take-append-drop, drop-drop}
+use Rattle.mm_base.proofs.Below.{◌≡◌, ◌+◌, ◌≤◌, ◌<◌, ℕ, List, [], ◌++◌, take, drop, length, ap, arith, sym, ◌∙◌, min, take-append-drop}
+use Rattle.mm_base.proofs.Below.{drop-drop, Supply}
 use Rattle.std.proofs.lemmas.Grind.{common_steps}
-use Rattle.mm_base.specs.Streams.{Supply}
 use Rattle.mm_base.proofs.source.MemSourceSource.take.Goals as goal
 
 -- what is left is what a call gives and what is left after it

@@ -1,5 +1,4 @@
-use Rattle.std.proofs.Common.{refl}
-use Rattle.mm_platform.specs.Steps.{ExtendRegister}
+use Rattle.mm_files.proofs.Below.{refl, ExtendRegister}
 use Rattle.mm_files.proofs.Telling.{goes_untold}
 use Rattle.mm_files.proofs.platform.FilePlatformRegister.reg_extend.Goals as goal
 

@@ -1,7 +1,5 @@
-use Rattle.std.proofs.Common.{rules, ap, ◌∙◌}
-use Rattle.std.specs.Prelude.{unwrap_or, option_map}
+use Rattle.mm_limiter.proofs.Below.{rules, ap, ◌∙◌, unwrap_or, option_map, as_state, as_request}
 use Rattle.mm_limiter.specs.Table.{Unset}
-use Rattle.mm_limiter.specs.Views.{as_state, as_request}
 use Rattle.mm_limiter.specs.LimiterLaws.{short_after}
 use Rattle.mm_limiter.proofs.ViewLaws.{as_state-unwrap_or}
 use Rattle.mm_limiter.proofs.limiter.LimiterModule.step.Goals as goal

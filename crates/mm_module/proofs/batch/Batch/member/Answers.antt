@@ -1,7 +1,4 @@
-use Rattle.std.proofs.Common.{rules, tests}
-use Rattle.std.proofs.lemmas.Iterator.Consumers.{nth_from_yields_List}
-use Rattle.std.proofs.lemmas.Iterator.Splits.{YieldsList-from_slice_split}
-use Rattle.mm_module.specs.BatchWords.{is_tab}
+use Rattle.mm_module.proofs.Below.{rules, tests, nth_from_yields_List, YieldsList-from_slice_split, is_tab}
 use Rattle.mm_module.proofs.batch.Batch.member.Goals as goal
 
 -- the pieces are those that `split` gives

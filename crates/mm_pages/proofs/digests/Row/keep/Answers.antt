@@ -1,8 +1,5 @@
-use Rattle.std.proofs.Common.{ℕ, ◌≡◌, ◌<◌, ap, ◌∙◌, sym, List, Some, ◌++◌, ◌∷◌, take, drop, add-one, Option, arith, length}
-use Rattle.std.specs.Prelude.{slice_set}
-use Rattle.std.proofs.lemmas.List.{set_split}
-use Rattle.mm_digest.specs.declared.digest.Digest.{Digest}
-use Rattle.mm_pages.specs.Rows.{keeping}
+use Rattle.mm_pages.proofs.Below.{ℕ, ◌≡◌, ◌<◌, ap, ◌∙◌, sym, List, Some, ◌++◌, ◌∷◌, take, drop, add-one, Option, arith, length, slice_set}
+use Rattle.mm_pages.proofs.Below.{set_split, Digest, keeping}
 use Rattle.mm_pages.proofs.digests.Row.keep.Goals as goal
 
 kept_amid : (row : List (Option Digest)) (page : ℕ) (digest : Digest) → page < length row →

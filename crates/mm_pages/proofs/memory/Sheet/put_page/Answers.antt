@@ -1,6 +1,5 @@
-use Rattle.std.proofs.Common.{◌≡◌, ℕ, ◌*◌, ◌++◌, List, length, take, drop, ap, ◌∙◌, arith, refl, subst, length-append}
-use Rattle.std.proofs.Math.Seq.{take-append_seam}
-use Rattle.mm_pages.specs.Bytes.{resized, with_page}
+use Rattle.mm_pages.proofs.Below.{◌≡◌, ℕ, ◌*◌, ◌++◌, List, length, take, drop, ap, ◌∙◌, arith, refl, subst, length-append, take-append_seam}
+use Rattle.mm_pages.proofs.Below.{resized, with_page}
 use Rattle.mm_pages.proofs.BytesLaws.{with_page-amid, with_page-end, length-resized}
 use Rattle.mm_pages.proofs.memory.Sheet.put_page.Goals as goal
 

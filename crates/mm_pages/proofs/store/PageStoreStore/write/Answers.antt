@@ -1,7 +1,4 @@
-use Rattle.std.proofs.Common.{◌≡◌, false, subst}
-use Rattle.std.specs.Result.{is_err}
-use Rattle.mm_pages.specs.Cached.{Cached}
-use Rattle.mm_pages.specs.Puts.{PutsWhole}
+use Rattle.mm_pages.proofs.Below.{◌≡◌, false, subst, is_err, Cached, PutsWhole}
 use Rattle.mm_pages.proofs.WritingLaws.{put_whole}
 use Rattle.mm_pages.proofs.StepLaws.{step_written}
 use Rattle.mm_pages.proofs.store.PageStoreStore.write.Goals as goal

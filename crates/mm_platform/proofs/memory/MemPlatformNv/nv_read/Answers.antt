@@ -1,6 +1,4 @@
-use Rattle.std.proofs.Common.{Some, sym, ◌∙◌}
-use Rattle.mm_platform.specs.Steps.{ReadCell}
-use Rattle.mm_platform.specs.StepLaws.{goes}
+use Rattle.mm_platform.proofs.Below.{Some, sym, ◌∙◌, ReadCell, goes}
 use Rattle.mm_platform.proofs.memory.MemPlatformNv.nv_read.Goals as goal
 
 pub returns-in-Some-clause-goes : goal.returns-in-Some-clause-goes

@@ -1,10 +1,5 @@
-use Rattle.std.proofs.Common.{refl, sym, ap, ◌∙◌}
+use Rattle.mm_platform.proofs.Below.{refl, sym, ap, ◌∙◌, result_err, the_view, item_of, items_of, ExtendRegister, goes, extends, is_made_of}
 use Rattle.std.proofs.lemmas.List.{map-append}
-use Rattle.std.specs.Result.{result_err}
-use Rattle.mm_platform.specs.contracts.memory.MemPlatform.{the_view}
-use Rattle.mm_platform.specs.Entries.{item_of, items_of}
-use Rattle.mm_platform.specs.Steps.{ExtendRegister}
-use Rattle.mm_platform.specs.StepLaws.{goes, extends, is_made_of}
 use Rattle.mm_platform.proofs.memory.MemPlatformRegister.reg_extend.Goals as goal
 
 pub returns : goal.returns

@@ -1,6 +1,4 @@
-use Rattle.std.proofs.Common.{Some, sym, ◌∙◌}
-use Rattle.mm_platform.specs.Steps.{ReadRegister}
-use Rattle.mm_platform.specs.StepLaws.{goes}
+use Rattle.mm_platform.proofs.Below.{Some, sym, ◌∙◌, ReadRegister, goes}
 use Rattle.mm_platform.proofs.memory.MemPlatformRegister.reg_read.Goals as goal
 
 pub returns-in-Some-clause-goes : goal.returns-in-Some-clause-goes

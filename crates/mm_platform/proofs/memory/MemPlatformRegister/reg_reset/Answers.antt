@@ -1,9 +1,4 @@
-use Rattle.std.proofs.Common.{refl, sym, ◌∙◌}
-use Rattle.std.specs.Result.{result_err}
-use Rattle.mm_platform.specs.contracts.memory.MemPlatform.{the_view}
-use Rattle.mm_platform.specs.Entries.{items_of}
-use Rattle.mm_platform.specs.Steps.{ResetRegister}
-use Rattle.mm_platform.specs.StepLaws.{goes, resets, is_made_of}
+use Rattle.mm_platform.proofs.Below.{refl, sym, ◌∙◌, result_err, the_view, items_of, ResetRegister, goes, resets, is_made_of}
 use Rattle.mm_platform.proofs.memory.MemPlatformRegister.reg_reset.Goals as goal
 
 pub returns : goal.returns

@@ -1,7 +1,5 @@
-use Rattle.std.proofs.Common.{ap, sym, ◌∙◌, List, ℕ, ◌++◌}
-use Rattle.std.specs.Prelude.{None, Some}
-use Rattle.mm_quota.specs.Table.{account_bytes}
-use Rattle.mm_quota.specs.Views.{as_front}
+use Rattle.mm_quota.proofs.Below.{ap, sym, ◌∙◌, ℕ, None, Some, account_bytes, as_front}
+use Rattle.std.proofs.Common.{List, ◌++◌}
 use Rattle.mm_quota.proofs.PlaceLaws.{Finding-given, Finding-begins}
 use Rattle.mm_quota.proofs.place.Place.of.Goals as goal
 

@@ -1,5 +1,4 @@
-use Rattle.std.proofs.Common.{rules, arith}
-use Rattle.mm_module.specs.declared.modules.Stepped.{Stepped}
+use Rattle.mm_quota.proofs.Below.{rules, arith, Stepped}
 use Rattle.mm_quota.proofs.ActLaws.{IfOk-others}
 use Rattle.mm_quota.proofs.quota.Accounts256Module.step.Goals as goal
 

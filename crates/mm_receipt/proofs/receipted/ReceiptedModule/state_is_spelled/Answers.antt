@@ -1,6 +1,5 @@
-use Rattle.std.proofs.Common.{sym, ◌∙◌}
+use Rattle.mm_receipt.proofs.Below.{sym, ◌∙◌, as_kept}
 use Rattle.mm_module.specs.LineLaws.{are_bytes-Fits}
-use Rattle.mm_receipt.specs.Views.{as_kept}
 use Rattle.mm_receipt.proofs.StateLaws.{spelled-then, spelled-else}
 use Rattle.mm_receipt.proofs.receipted.ReceiptedModule.state_is_spelled.Goals as goal
 

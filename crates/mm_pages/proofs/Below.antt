@@ -1,0 +1,30 @@
+-- The words and laws that the proofs of this crate take from specs/ and from the crates below.
+pub use Rattle.std.specs.Prelude.{◌&&◌, ◌==◌, if◌then◌else◌, slice_set}
+pub use Rattle.std.specs.Result.{is_err}
+pub use Rattle.std.specs.Str.{bytes_eq}
+pub use Rattle.std.proofs.Common.{◌*◌, ◌++◌, ◌+◌, ◌-◌, ◌<◌, ◌∙◌, ◌∷◌, ◌≡◌, ◌≤◌, [], add-one, ap, append_assoc, arith, Bool, drop, Err}
+pub use Rattle.std.proofs.Common.{false, get_or, inl, inr, length, length-append, List, min, None, Ok, Option, refl, replicate, Result}
+pub use Rattle.std.proofs.Common.{Some, subst, suc, sym, take, true, zero, zero-add, ℕ}
+pub use Rattle.std.proofs.Math.Seq.{take-append_seam}
+pub use Rattle.std.proofs.lemmas.Bool.{cases_lt}
+pub use Rattle.std.proofs.lemmas.Grind.{same_number_lists}
+pub use Rattle.std.proofs.lemmas.List.{append-nil, drop-drop, drop-replicate, drop_all, drop_at, drop_min, get_or-append_right, get_or-drop}
+pub use Rattle.std.proofs.lemmas.List.{get_or-take, get_or_append_left, get_or_past, length-replicate, length-take, length-take-le}
+pub use Rattle.std.proofs.lemmas.List.{set_split}
+pub use Rattle.std.proofs.lemmas.Result.{err_from_is_err_and}
+pub use Rattle.mm_base.specs.Faults.{counted, Rose}
+pub use Rattle.mm_base.specs.declared.fault.Failed.{Failed}
+pub use Rattle.mm_digest.specs.declared.digest.Digest.{Digest}
+pub use Rattle.mm_store.specs.Calls.{putting}
+pub use Rattle.mm_store.specs.Slots.{longest_slot, slot_in, Slots, with_slot}
+pub use Rattle.mm_store.specs.Unsynced.{marking, MarksAlone, Unsynced}
+pub use Rattle.mm_store.proofs.Above.{longest_slot-is, marked_last, marks_alone, putting-twice, slot_in-with_slot, take-min, with_slot-same}
+pub use Rattle.mm_store.proofs.Above.{with_slot-twice}
+pub use Rattle.mm_pages.specs.Bytes.{page_count, page_of, resized, with_page}
+pub use Rattle.mm_pages.specs.Cached.{AreInStep, AreOf, Cached, KeepsStep}
+pub use Rattle.mm_pages.specs.Calls.{changing, ReadsLength, ReadsPage, Syncs, WritesPage}
+pub use Rattle.mm_pages.specs.Counts.{change_count, changes_of, counted_by, look_at, looks_at, may_be, one_if}
+pub use Rattle.mm_pages.specs.Paged.{Paged}
+pub use Rattle.mm_pages.specs.Puts.{EndsInSync, Fails, FailsIn, FillsSlot, Fits, FitsAndSyncs, HoldsPage, IsFilled, IsInStep}
+pub use Rattle.mm_pages.specs.Puts.{IsOneMoreAtMost, IsPutAt, PutsBytes, PutsFirst, PutsOne, PutsThere, PutsWhole}
+pub use Rattle.mm_pages.specs.Rows.{DropsPage, keeping, kept_digest, page_digest, page_digests, row_in, Rows, with_row}
