@@ -1,58 +1,31 @@
 -- What a call finds over the platform is what is found by digests, but for want of memory.
-use Rattle.std.proofs.Common.{◌≡◌, ℕ, ◌+◌, Bool, true, false, List, length, Some, Result, Ok, Err, ◌⊎◌, inl, inr, refl, sym, ap, ◌∙◌, subst}
-use Rattle.std.specs.Prelude.{nat_le}
-use Rattle.std.specs.Str.{bytes_eq}
-use Rattle.std.proofs.lemmas.Slice.Eq.{bytes_eq-Decides}
-use Rattle.mm_base.specs.Limits.{last_position}
-use Rattle.mm_digest.specs.declared.variant.Variant.TheVariants.{Basic}
-use Rattle.mm_digest.specs.declared.digest.Digest.{Digest}
-use Rattle.mm_module.specs.Meaning.{Meaning}
-use Rattle.mm_module.specs.Batch.{Batch, size_of, normal}
+use Rattle.mm_basic.proofs.Below.{◌≡◌, ℕ, ◌+◌, Bool, true, false, List, [], ◌∷◌, map, length, Some, Result, Ok, Err, ◌⊎◌, inl, inr, refl}
+use Rattle.mm_basic.proofs.Below.{sym, ap, ◌∙◌, subst, nat_le, bytes_eq, bytes_eq-Decides, last_position, Basic, Digest, Meaning, Batch}
+use Rattle.mm_basic.proofs.Below.{size_of, normal, Cell, IsCell, cell_spelling, PartsFault, Form, Kind, Place, InBasic, InOpt, Content}
+use Rattle.mm_basic.proofs.Below.{Snapshot, ReadsParts, variant_of, tag_of, extended_of, Item, Standing, length-link, Step, Writes, link}
+use Rattle.mm_basic.proofs.Below.{Instance, basic, Commit, Foreign, Digests, made, verdict_by, basic_verdict, digest_of, BatchAnswer}
+use Rattle.mm_basic.proofs.Below.{Refusal, Verdict, OrMemory, all_made, by_digests, AsFound, lacks_in, brought_digests, cell_at, StandsAt}
+use Rattle.mm_basic.proofs.Below.{weighed_only, Found, Repeat, Change, Seen, found_in, found_from, answer_of, committed_cell, basic_call}
+use Rattle.mm_basic.proofs.Below.{Finds}
+use Rattle.std.specs.List.{fold}
 use Rattle.mm_module.specs.BatchLaws.{members_of-normal}
-use Rattle.mm_seal.specs.declared.cell.Cell.{Cell}
-use Rattle.mm_seal.specs.Cell.{IsCell, cell_spelling}
-use Rattle.mm_seal.specs.declared.snapshot.PartsFault.{PartsFault}
-use Rattle.mm_seal.specs.declared.snapshot.PartsFault.TheVariants.{Form, Kind}
-use Rattle.mm_seal.specs.declared.snapshot.Place.{Place}
-use Rattle.mm_seal.specs.declared.snapshot.Place.TheVariants.{Basic as InBasic, Opt as InOpt}
-use Rattle.mm_seal.specs.Snapshot.{Content, Snapshot, ReadsParts, variant_of, tag_of}
 use Rattle.mm_seal.specs.Parts.{parts_of}
 use Rattle.mm_seal.specs.FieldLaws.{reads_parts}
-use Rattle.mm_platform.specs.Standing.{Standing}
-use Rattle.mm_model.specs.Chains.{link}
-use Rattle.mm_model.specs.Instance.{Instance}
-use Rattle.mm_model.specs.InstanceWords.{basic}
-use Rattle.mm_model.specs.History.{Commit}
-use Rattle.mm_model.specs.Moves.{Digests, made}
-use Rattle.mm_model.specs.Judge.{verdict_by, basic_verdict}
-use Rattle.mm_model.specs.PlacesWords.{digest_of}
-use Rattle.mm_model.specs.declared.answer.BatchAnswer.{BatchAnswer}
-use Rattle.mm_model.specs.declared.refusal.Refusal.{Refusal}
 use Rattle.mm_model.specs.declared.refusal.Refusal.TheVariants as refusal
-use Rattle.mm_model.specs.declared.verdict.Verdict.{Verdict}
 use Rattle.mm_model.specs.declared.verdict.Verdict.TheVariants.{Fresh, Again}
-use Rattle.mm_call.specs.Refusals.{OrMemory}
 use Rattle.mm_call.specs.OrderWords.{weighed}
 use Rattle.mm_call.specs.Answers.{answer_at}
-use Rattle.mm_call.specs.Levels.{by_digests}
+use Rattle.mm_call.specs.Trails.{IsWrite}
 use Rattle.mm_call.specs.Found as call
 use Rattle.mm_call.specs.FoundWords as call_words
-use Rattle.mm_call.specs.Standing.{cell_at}
-use Rattle.mm_call.specs.WeighingLaws.{weighed_only}
-use Rattle.mm_basic.specs.declared.found.Found.{Found}
-use Rattle.mm_basic.specs.declared.found.Found.TheVariants.{Repeat, Change}
-use Rattle.mm_basic.specs.declared.found.Ready.{Ready}
-use Rattle.mm_basic.specs.Seen.{Seen}
-use Rattle.mm_basic.specs.Answers.{found_in, found_from, answer_of, committed_cell}
-use Rattle.mm_basic.specs.Steps.{Finds}
 use Rattle.mm_basic.proofs.Reading.{one_sight, seen_by}
 
 -- the digests of an instance of Basic, which opens no segment
-abbrev pub shut : (digest register : List ℕ) → ℕ → Digests
+abbrev shut : (digest register : List ℕ) → ℕ → Digests
 shut digest register count = record { digest = digest; flag = false; register = register; count = count }
 
 -- what is found, where this offer is accepted
-abbrev pub found_as : Instance → Digests → Content → Bool → Batch → Found
+abbrev found_as : Instance → Digests → Content → Bool → Batch → Found
 found_as i d offered true b = Repeat ((by_digests i).answer true d d offered b)
 found_as i d offered false b = Change (record {
   next = cell_spelling (cell_at i (made i d (Commit b)));
@@ -60,7 +33,7 @@ found_as i d offered false b = Change (record {
 })
 
 -- this is found, where that is found by digests
-abbrev pub IsFound : Instance → Digests → Batch → Result call.Found Refusal → Result Found Refusal → Type 0
+abbrev IsFound : Instance → Digests → Batch → Result call.Found Refusal → Result Found Refusal → Type 0
 IsFound i d b (Err why) found = found ≡ Err why
 IsFound i d b (Ok it) found = (found ≡ Ok (found_as i d it.offered it.again b)) ⊎ (found ≡ Err refusal.Memory)
 
@@ -146,7 +119,8 @@ found_basic meaning key digest register count o id position state tag b found m 
     let examined_to = found_examined meaning key digest register count o id position state b (weighed s t v fits) found
     (λ (e : weighed s t v fits ≡ Ok false). fresh_summary o.bytes digest (normal b) (weighed_only s t v fits false e).verdict)
     (λ (e : weighed s t v fits ≡ Ok true). again_summary o.bytes digest (normal b) (weighed_only s t v fits true e).verdict) m in
-    subst (λ (f : Bool). IsFound (basic meaning key) (shut digest register count) (normal b) (call_words.found_with offered (weighed s t v f))
+    subst (λ (f : Bool). IsFound (basic meaning key) (shut digest register count) (normal b)
+    (call_words.found_with offered (weighed s t v f))
     found) same examined_to
 
 found_placed : (meaning : Meaning) (key digest register : List ℕ) (count : ℕ) (place : Place) (id position : ℕ) (state tag : List ℕ)
@@ -191,7 +165,7 @@ found_shut meaning key digest register count old offer b found spells cell f =
     (subst (λ (s : Seen). OrMemory (found_in meaning s b) found) sight f.finds.found_is)
 
 -- What is found at digests that a platform's cell has, whatever its register holds.
-pub found_here : (meaning : Meaning) (key : List ℕ) (d : Digests) (register : List ℕ) (old : Standing) (offer : List ℕ) (b : Batch)
+found_here : (meaning : Meaning) (key : List ℕ) (d : Digests) (register : List ℕ) (old : Standing) (offer : List ℕ) (b : Batch)
     (found : Result Found Refusal)
     → IsCell (cell_at (basic meaning key) d) → old.cell ≡ Some (cell_spelling (cell_at (basic meaning key) d))
     → Finds meaning old offer b found
@@ -208,78 +182,58 @@ found_here meaning key d register old offer b found spells cell f =
     (found_shut meaning key d.digest register d.count old offer b found
     (subst (λ (c : Cell). IsCell c) same spells) (cell ∙ ap (λ (c : Cell). Some (cell_spelling c)) same) f)
 
--- what an accepted offer was found to be
-pub record IsAnswered (i : Instance) (d : Digests) (b : Batch) (found : Result call.Found Refusal) (answer : BatchAnswer) : Type 0 where
-  pub offered : Content
-  pub found_is : found ≡ Ok (record { offered = offered; again = true })
-  pub answer_is : answer ≡ (by_digests i).answer true d d offered b
+-- the steps of a call behind its reading step
+abbrev pub writing : Bool → Batch → List Step
+writing false b = []
+writing true b = Writes (Commit b) ∷ []
 
-answered_by : (i : Instance) (d : Digests) (b : Batch) (offered : Content) (again : Bool) (answer : BatchAnswer)
-    → Repeat answer ≡ found_as i d offered again b → IsAnswered i d b (Ok (record { offered = offered; again = again })) answer
-answered_by i d b offered true answer e = record { offered = offered; found_is = refl; answer_is = cc }
-answered_by i d b offered false answer e = absurd (cc)
-
-pub answered : (i : Instance) (d : Digests) (b : Batch) (found : Result call.Found Refusal) (answer : BatchAnswer)
-    → IsFound i d b found (Ok (Repeat answer)) → IsAnswered i d b found answer
-answered i d b (Err why) answer f = absurd (cc)
-answered i d b (Ok it) answer (inl f) =
-    let e : Repeat answer ≡ found_as i d it.offered it.again b = cc in answered_by i d b it.offered it.again answer e
-answered i d b (Ok it) answer (inr f) = absurd (cc)
-
-pub record IsReady (i : Instance) (d : Digests) (b : Batch) (found : Result call.Found Refusal) (ready : Ready) : Type 0 where
-  pub offered : Content
-  pub found_is : found ≡ Ok (record { offered = offered; again = false })
-  pub next_is : ready.next ≡ cell_spelling (cell_at i (made i d (Commit b)))
-  pub answer_is : ready.answer ≡ (by_digests i).answer false d d offered b
-
-ready_is : (i : Instance) (d : Digests) (b : Batch) (offered : Content) (ready other : Ready) → ready ≡ other
-    → other.next ≡ cell_spelling (cell_at i (made i d (Commit b))) → other.answer ≡ (by_digests i).answer false d d offered b
-    → IsReady i d b (Ok (record { offered = offered; again = false })) ready
-ready_is i d b offered ready other e next answer = record {
-  offered = offered;
-  found_is = refl;
-  next_is = ap (λ (r : Ready). r.next) e ∙ next;
-  answer_is = ap (λ (r : Ready). r.answer) e ∙ answer;
+-- The writing step commits the batch.
+is_write : (meaning : Meaning) (key : List ℕ) (d : Digests) (b : Batch) → IsCell (cell_at (basic meaning key) d)
+    → IsWrite (basic meaning key) d (cell_spelling (cell_at (basic meaning key) (made (basic meaning key) d (Commit b)))) (Commit b)
+is_write meaning key d b is = record {
+  spells = record { summary = length-link d.digest b; key = is.key; barrier = is.barrier; variant = is.variant };
+  cell = refl;
+  register = refl;
+  shows = λ (items : List Item). refl;
 }
 
-ready_by : (i : Instance) (d : Digests) (b : Batch) (offered : Content) (again : Bool) (ready : Ready)
-    → Change ready ≡ found_as i d offered again b → IsReady i d b (Ok (record { offered = offered; again = again })) ready
-ready_by i d b offered true ready e = absurd (cc)
-ready_by i d b offered false ready e =
-    let other : Ready = record {
-      next = cell_spelling (cell_at i (made i d (Commit b)));
-      answer = (by_digests i).answer false d d offered b;
-    } in
-    let same : ready ≡ other = cc in
-    ready_is i d b offered ready other same refl refl
+as_given : (meaning : Meaning) (key : List ℕ) (d : Digests) (b : Batch) (offered : Content) (again : Bool)
+    → IsCell (cell_at (basic meaning key) d)
+    → AsFound basic_call (basic meaning key) d b (Ok (record { offered = offered; again = again }))
+    (Ok (found_as (basic meaning key) d offered again b))
+    (writing (call_words.is_fresh (Ok (record { offered = offered; again = again }))) b)
+as_given meaning key d b offered true is = (true, record { offered = offered; found_is = refl; answer_is = refl }, tt)
+as_given meaning key d b offered false is = (
+  false,
+  record { offered = offered; found_is = refl; answer_is = refl },
+  (is_write meaning key d b is, refl, λ _. tt),
+)
 
-pub is_ready : (i : Instance) (d : Digests) (b : Batch) (found : Result call.Found Refusal) (ready : Ready)
-    → IsFound i d b found (Ok (Change ready)) → IsReady i d b found ready
-is_ready i d b (Err why) ready f = absurd (cc)
-is_ready i d b (Ok it) ready (inl f) =
-    let e : Change ready ≡ found_as i d it.offered it.again b = cc in ready_by i d b it.offered it.again ready e
-is_ready i d b (Ok it) ready (inr f) = absurd (cc)
+-- what is found is what the call finds by digests, or memory is wanting
+abbrev pub IsSeen : Meaning → List ℕ → Digests → Batch → Result call.Found Refusal → Result Found Refusal → Type 0
+IsSeen meaning key d b x found =
+    let y : Result call.Found Refusal = call_words.found_unless_wanting x (lacks_in found) in
+    AsFound basic_call (basic meaning key) d b y found (writing (call_words.is_fresh y) b)
 
--- a refusal is what is found, or want of memory
-abbrev pub lacks_by : Refusal → Bool
-lacks_by refusal.Memory = true
-lacks_by refusal.Long = false
-lacks_by (refusal.Device fault) = false
-lacks_by refusal.Blank = false
-lacks_by refusal.Cell = false
-lacks_by refusal.Lost = false
-lacks_by refusal.Form = false
-lacks_by refusal.Kind = false
-lacks_by refusal.State = false
-lacks_by refusal.Tag = false
-lacks_by refusal.Stale = false
-lacks_by refusal.Full = false
+as_found : (meaning : Meaning) (key : List ℕ) (d : Digests) (b : Batch) (x : Result call.Found Refusal) (found : Result Found Refusal)
+    → IsCell (cell_at (basic meaning key) d) → IsFound (basic meaning key) d b x found → IsSeen meaning key d b x found
+as_found meaning key d b (Err why) found is f =
+    subst (λ (r : Result Found Refusal). IsSeen meaning key d b (Err why) r) (sym f) (refl, refl)
+as_found meaning key d b (Ok it) found is (inl f) =
+    subst (λ (r : Result Found Refusal). IsSeen meaning key d b (Ok it) r) (sym f) (as_given meaning key d b it.offered it.again is)
+as_found meaning key d b (Ok it) found is (inr f) =
+    subst (λ (r : Result Found Refusal). IsSeen meaning key d b (Ok it) r) (sym f) (refl, refl)
 
-lacking : (it : call.Found) (why : Refusal) → why ≡ refusal.Memory → call_words.found_unless_wanting (Ok it) (lacks_by why) ≡ Err why
-lacking it why e = subst (λ (w : Refusal). call_words.found_unless_wanting (Ok it) (lacks_by w) ≡ Err w) (sym e) refl
-
-pub refused : (i : Instance) (d : Digests) (b : Batch) (found : Result call.Found Refusal) (why : Refusal) → IsFound i d b found (Err why)
-    → call_words.found_unless_wanting found (lacks_by why) ≡ Err why
-refused i d b (Err other) why f = let e : why ≡ other = cc in ap (λ (w : Refusal). Err w) (sym e)
-refused i d b (Ok it) why (inl f) = absurd (cc)
-refused i d b (Ok it) why (inr f) = let e : why ≡ refusal.Memory = cc in lacking it why e
+-- at the digests of a platform's cell, whatever others put into the register before it was read
+pub seen_here : (meaning : Meaning) (key : List ℕ) (d : Digests) (values : List (List ℕ)) (old : Standing) (offer : List ℕ) (b : Batch)
+    (found : Result Found Refusal) → StandsAt (basic meaning key) old d → Finds meaning old offer b found
+    → let seen : Digests = all_made (by_digests (basic meaning key)) d (map Foreign values) in
+    IsSeen meaning key seen (normal b) (call.found_at (basic meaning key) (by_digests (basic meaning key)) seen (normal b) offer) found
+seen_here meaning key d values old offer b found s f =
+    let i : Instance = basic meaning key in
+    let r : List ℕ = fold extended_of d.register values in
+    subst (λ (x : Digests). IsSeen meaning key x (normal b) (call.found_at i (by_digests i) x (normal b) offer) found)
+    (sym (brought_digests i d values))
+    (as_found meaning key (record d { register = r }) (normal b)
+    (call.found_at i (by_digests i) (record d { register = r }) (normal b) offer) found s.spells
+    (found_here meaning key d r old offer b found s.spells s.cell f))

@@ -1,46 +1,20 @@
 -- A right offer that the verdict accepts is answered.
-use Rattle.std.proofs.Common.{◌≡◌, ℕ, ◌+◌, ◌≤◌, Bool, true, false, List, Option, None, Some, Result, Ok, Err, IsOk, ◌⊎◌, refl, sym, ap, ◌∙◌, subst, inl, inr}
-use Rattle.std.specs.Prelude.{is_some, nat_le}
-use Rattle.std.specs.Str.{bytes_eq}
+use Rattle.mm_basic.proofs.Below.{◌≡◌, ℕ, ◌+◌, ◌≤◌, Bool, true, false, List, Option, None, Some, Result, Ok, Err, IsOk, ◌⊎◌, refl, sym, ap}
+use Rattle.mm_basic.proofs.Below.{◌∙◌, subst, inl, inr, is_some, nat_le, bytes_eq, bytes_eq-Decides, last_position, Basic, zero_bytes}
+use Rattle.mm_basic.proofs.Below.{StepFault, Standing, Meaning, Batch, size_of, normal, Cell, Place, InBasic, InOpt, cell_spelling, Content}
+use Rattle.mm_basic.proofs.Below.{Snapshot, ReadsParts, snapshot_front, tag_of, summary_of, Instance, basic, History, judge}
+use Rattle.mm_basic.proofs.Below.{verdict_by_digests, basic_verdict, StandsFor, IsRight, cell_of, BatchAnswer, Refusal, Memory, Verdict}
+use Rattle.mm_basic.proofs.Below.{Blames, IsAccepted, IsAnswered, examined, Ended, Answered, Refused, Broken, EndsTo, Calls, result_of}
+use Rattle.mm_basic.proofs.Below.{fault_of, fault_in, OrMemory, Given, steps_give, refused_result, IsGiven, offered_of, weighs, Found}
+use Rattle.mm_basic.proofs.Below.{answer_of, committed_cell, found_from, found_in, acts_for, answer_in, basic_call, summary_in, verdict_of}
+use Rattle.mm_basic.proofs.Below.{Seen, Both, Finds}
 use Rattle.std.proofs.lemmas.Bool.{le-leb}
-use Rattle.std.proofs.lemmas.Slice.Eq.{bytes_eq-Decides}
-use Rattle.mm_base.specs.Limits.{last_position}
-use Rattle.mm_digest.specs.declared.variant.Variant.TheVariants.{Basic}
-use Rattle.mm_digest.specs.Messages.{zero_bytes}
 use Rattle.mm_digest.specs.LengthLaws.{length-hmac_of}
-use Rattle.mm_platform.specs.declared.fault.StepFault.{StepFault}
-use Rattle.mm_platform.specs.Standing.{Standing}
-use Rattle.mm_module.specs.Meaning.{Meaning}
-use Rattle.mm_module.specs.Batch.{Batch, size_of, normal}
-use Rattle.mm_seal.specs.declared.cell.Cell.{Cell}
-use Rattle.mm_seal.specs.declared.snapshot.Place.{Place}
-use Rattle.mm_seal.specs.declared.snapshot.Place.TheVariants.{Basic as InBasic, Opt as InOpt}
-use Rattle.mm_seal.specs.Cell.{cell_spelling}
-use Rattle.mm_seal.specs.Snapshot.{Content, Snapshot, ReadsParts, snapshot_front, sealed_of, tag_of}
-use Rattle.mm_model.specs.Chains.{summary_of}
-use Rattle.mm_model.specs.Instance.{Instance}
-use Rattle.mm_model.specs.InstanceWords.{basic}
-use Rattle.mm_model.specs.History.{History}
-use Rattle.mm_model.specs.Judge.{judge, verdict_by_digests, basic_verdict}
+use Rattle.mm_seal.specs.Snapshot.{sealed_of}
 use Rattle.mm_model.specs.Messages.{IsClearFor}
 use Rattle.mm_model.specs.Places.{Names, IsPlaceOf}
-use Rattle.mm_model.specs.Standing.{StandsFor, IsRight, cell_of}
-use Rattle.mm_model.specs.declared.answer.BatchAnswer.{BatchAnswer}
-use Rattle.mm_model.specs.declared.refusal.Refusal.{Refusal}
-use Rattle.mm_model.specs.declared.refusal.Refusal.TheVariants.{Memory}
-use Rattle.mm_model.specs.declared.verdict.Verdict.{Verdict}
-use Rattle.mm_model.proofs.Basic.{basic_is_judged}
-use Rattle.mm_call.specs.Leaving.{Blames, IsAccepted, IsAnswered}
-use Rattle.mm_call.specs.Order.{examined}
-use Rattle.mm_call.specs.Refusals.{fault_of, fault_in, handed_on, OrMemory}
-use Rattle.mm_call.specs.WeighingLaws.{IsGiven, offered_of, weighs}
-use Rattle.mm_basic.specs.declared.found.Found.{Found}
-use Rattle.mm_basic.specs.Answers.{answer_of, committed_cell, found_from, found_in}
-use Rattle.mm_basic.specs.Asks.{Ends, Calls}
+use Rattle.mm_model.specs.BasicLaws.{basic_is_judged}
 use Rattle.mm_basic.specs.Complete.{IsComplete}
-use Rattle.mm_basic.specs.Order.{summary_in, verdict_of}
-use Rattle.mm_basic.specs.Seen.{Seen, Both}
-use Rattle.mm_basic.specs.Steps.{Finds}
 use Rattle.mm_basic.proofs.Asking.{blames}
 use Rattle.mm_basic.proofs.Reading.{seen_by, one_sight}
 
@@ -116,29 +90,33 @@ refused_only (Some fault) old new why e h m = inr (inr (ap is_some e, h))
 memory_only : (why : Refusal) → IsFound (Err why) → why ≡ Memory
 memory_only why f = elim f [ inl is ↦ absurd (cc) | inr e ↦ cc ]
 
-handed_answered : (written : Result BatchAnswer StepFault) (old new : Standing)
-    → Blames (fault_in (handed_on written)) old.faults new.faults → IsAnswered (handed_on written) old new
-handed_answered (Ok answer) old new h = inl refl
-handed_answered (Err fault) old new h = inr (inr (refl, h))
+given_answered : (ended : Ended) (answer : BatchAnswer) (old new : Standing) → Given answer ended
+    → Blames (fault_in (result_of ended)) old.faults new.faults → IsAnswered (result_of ended) old new
+given_answered (Answered it) answer old new g h = inl refl
+given_answered (Refused why) answer old new g h = absurd g
+given_answered (Broken fault position) answer old new g h = inr (inr (refl, h))
 
-ends_answered : (found : Result Found Refusal) (old middle new : Standing) (result : Result BatchAnswer Refusal)
-    → (fault_in found ≡ None → IsFound found) → Ends found middle new result → Blames (fault_in result) old.faults new.faults
-    → IsAnswered result old new
-ends_answered (Err why) old middle new result f e h =
-    subst (λ (r : Result BatchAnswer Refusal). IsAnswered r old new) (sym e.1)
+ends_answered : (found : Result Found Refusal) (old middle new : Standing) (ended : Ended)
+    → (fault_in found ≡ None → IsFound found) → EndsTo basic_call found middle new ended
+    → Blames (fault_in (result_of ended)) old.faults new.faults → IsAnswered (result_of ended) old new
+ends_answered (Err why) old middle new ended f e h =
+    let is : result_of ended ≡ Err why = ap result_of e.1 ∙ refused_result why in
+    subst (λ (r : Result BatchAnswer Refusal). IsAnswered r old new) (sym is)
     (refused_only (fault_of why) old new why refl
-    (subst (λ (r : Result BatchAnswer Refusal). Blames (fault_in r) old.faults new.faults) e.1 h) (λ (n : fault_of why ≡ None).
+    (subst (λ (r : Result BatchAnswer Refusal). Blames (fault_in r) old.faults new.faults) is h) (λ (n : fault_of why ≡ None).
     memory_only why (f n)))
-ends_answered (Ok found) old middle new result f e h =
-    subst (λ (r : Result BatchAnswer Refusal). IsAnswered r old new) (sym e.gives)
-    (handed_answered e.written old new
-    (subst (λ (r : Result BatchAnswer Refusal). Blames (fault_in r) old.faults new.faults) e.gives h))
+ends_answered (Ok found) old middle new ended f e h =
+    given_answered ended (answer_in found) old new (steps_give (acts_for found) (answer_in found) middle new ended e) h
 
 pub complete : (meaning : Meaning) (old new : Standing) (offer : List ℕ) (b : Batch) (result : Result BatchAnswer Refusal)
-    → Calls meaning old new offer b result → IsComplete meaning old new offer b result
+    → Calls basic_call meaning old new offer b result → IsComplete meaning old new offer b result
 complete meaning old new offer b result c short key y all content s right names clear accepts fits =
-    let a = c.asks short in
-    ends_answered a.found old a.middle new result
+    let k = c.asks short in
+    let a = k.asks in
+    subst (λ (r : Result BatchAnswer Refusal). IsAnswered r old new) (sym k.gives)
+    (ends_answered a.found old a.middle new k.ended
     (λ (quiet : fault_in a.found ≡ None). finds_right meaning key y all old offer content b a.found (a.reads.finds quiet) s right names
     clear accepts fits)
-    a.ends (blames meaning old new offer b result c)
+    a.ends
+    (subst (λ (r : Result BatchAnswer Refusal). Blames (fault_in r) old.faults new.faults) k.gives
+    (blames meaning old new offer b result c)))

@@ -1,27 +1,11 @@
 -- What is found, by what the offer is examined to.
-use Rattle.std.proofs.Common.{◌≡◌, ℕ, Bool, true, false, List, Result, Ok, Err, IsTrue, refl, sym, subst, inl, inr, arith}
+use Rattle.mm_basic.proofs.Below.{◌≡◌, ℕ, Bool, true, false, List, Result, Ok, Err, IsTrue, refl, sym, subst, inl, inr, arith, Meaning}
+use Rattle.mm_basic.proofs.Below.{IsLawful, Batch, normal, Blank, Unspelled, Form, Kind, InBasic, Content, Snapshot, IsFit, length-link}
+use Rattle.mm_basic.proofs.Below.{Refusal, Verdict, digest_of, Found, Repeat, Change, Seen, NoCell, OtherCell, NoOffer, Both, examined}
+use Rattle.mm_basic.proofs.Below.{summary_in, verdict_of, linked, answer_of, committed_cell, found_from, found_in, OrMemory, FindsIn}
+use Rattle.mm_basic.proofs.Below.{weighed_only}
 use Rattle.std.proofs.lemmas.Bool.Decides.{nat_tests}
-use Rattle.mm_module.specs.Meaning.{Meaning, IsLawful}
-use Rattle.mm_module.specs.Batch.{Batch, normal}
-use Rattle.mm_seal.specs.declared.cell.CellFault.TheVariants.{Blank, Cell as Unspelled}
-use Rattle.mm_seal.specs.declared.snapshot.PartsFault.TheVariants.{Form, Kind}
-use Rattle.mm_seal.specs.declared.snapshot.Place.TheVariants.{Basic as InBasic}
-use Rattle.mm_seal.specs.Snapshot.{Content, Snapshot}
-use Rattle.mm_model.specs.Fit.{IsFit}
-use Rattle.mm_model.specs.ChainLaws.{length-link}
-use Rattle.mm_model.proofs.Fitting.{is_fit}
-use Rattle.mm_model.specs.declared.refusal.Refusal.{Refusal}
-use Rattle.mm_model.specs.declared.verdict.Verdict.{Verdict}
-use Rattle.mm_model.specs.PlacesWords.{digest_of}
-use Rattle.mm_basic.specs.declared.found.Found.{Found}
-use Rattle.mm_basic.specs.declared.found.Found.TheVariants.{Repeat, Change}
-use Rattle.mm_basic.specs.Seen.{Seen, NoCell, OtherCell, NoOffer, Both}
-use Rattle.mm_call.specs.Order.{examined}
-use Rattle.mm_basic.specs.Order.{summary_in, verdict_of}
-use Rattle.mm_basic.specs.Answers.{linked, answer_of, committed_cell, found_from, found_in}
-use Rattle.mm_call.specs.Refusals.{OrMemory}
-use Rattle.mm_basic.specs.Steps.{FindsIn}
-use Rattle.mm_call.specs.WeighingLaws.{weighed_only}
+use Rattle.mm_model.specs.FitLaws.{is_fit}
 
 -- an answer found says whether it is a repeat's, and is fit
 abbrev pub IsShaped : Batch → Result Found Refusal → Type 0

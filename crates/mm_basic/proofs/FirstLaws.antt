@@ -1,18 +1,7 @@
 -- The first cell and snapshot.
-use Rattle.std.proofs.Common.{◌≡◌, ℕ, false, List, [], refl, sym, ap, ◌∙◌}
-use Rattle.mm_digest.specs.declared.digest.Digest.{Digest}
-use Rattle.mm_digest.specs.declared.variant.Variant.TheVariants.{Basic}
-use Rattle.mm_digest.specs.Messages.{zero_bytes, start_of}
-use Rattle.mm_module.specs.Meaning.{Meaning}
-use Rattle.mm_seal.specs.declared.cell.Cell.{Cell}
-use Rattle.mm_seal.specs.declared.snapshot.Place.TheVariants.{Basic as InBasic}
-use Rattle.mm_seal.specs.Cell.{cell_spelling}
-use Rattle.mm_seal.specs.Snapshot.{Content, sealed_of}
+use Rattle.mm_basic.proofs.Below.{◌≡◌, ℕ, false, List, [], refl, sym, ap, ◌∙◌, Digest, Basic, zero_bytes, start_of, Meaning, Cell, InBasic}
+use Rattle.mm_basic.proofs.Below.{cell_spelling, Content, sealed_of, basic, first_history, digest_of, cell_of, issued_bytes}
 use Rattle.mm_model.specs.Chains.{summary_of}
-use Rattle.mm_model.specs.InstanceWords.{basic}
-use Rattle.mm_model.specs.History.{first_history}
-use Rattle.mm_model.specs.PlacesWords.{digest_of}
-use Rattle.mm_model.specs.Standing.{cell_of, issued_bytes}
 
 no_batches : (id : ℕ) → summary_of id [] ≡ start_of Basic id
 unfolding summary_of

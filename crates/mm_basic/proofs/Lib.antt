@@ -1,12 +1,13 @@
-pub mod Links
-pub mod Findings
-pub mod Asking
-pub mod FirstLaws
-pub mod Reading
-pub mod Completeness
-pub mod Asked
-pub mod Turning
-pub mod Calling
-pub mod Ending
-pub mod Going
-pub mod Preparing
+pub mod Above
+mod Below
+mod Links
+mod Findings
+mod Asking
+mod FirstLaws
+mod Reading
+mod Completeness
+mod Asked
+mod Turning
+mod Calling
+mod Ending
+mod Going

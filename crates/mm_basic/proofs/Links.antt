@@ -1,7 +1,6 @@
 -- The summary after a batch, by the digests of its request or of its text.
-use Rattle.std.proofs.Common.{◌≡◌, ℕ, Bool, true, false, List, refl, if◌then◌else◌, ap, ◌∙◌}
+use Rattle.mm_basic.proofs.Below.{◌≡◌, ℕ, Bool, true, false, List, refl, if◌then◌else◌, ap, ◌∙◌, One, Many, normal}
 use Rattle.mm_digest.specs.MessagesWords.{successor_of, successor_batch_of}
-use Rattle.mm_module.specs.Batch.{One, Many, normal}
 use Rattle.mm_module.specs.BatchWords.{has_tab}
 use Rattle.mm_model.specs.Chains.{link}
 

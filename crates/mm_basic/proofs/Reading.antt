@@ -1,14 +1,9 @@
 -- There is one way to see a cell and an offer.
-use Rattle.std.proofs.Common.{◌≡◌, ℕ, List, Result, Ok, Err, sym, ap, ◌∙◌, subst}
-use Rattle.mm_digest.specs.declared.variant.Variant.TheVariants.{Basic}
-use Rattle.mm_seal.specs.declared.cell.Cell.{Cell}
+use Rattle.mm_basic.proofs.Below.{◌≡◌, ℕ, List, Result, Ok, Err, sym, ap, ◌∙◌, subst, Basic, Cell, SpellsCell, ReadsCell, PartsFault}
+use Rattle.mm_basic.proofs.Below.{Snapshot, ReadsParts, IsCellOf, Seen, NoCell, OtherCell, NoOffer, Both, IsSeen}
 use Rattle.mm_seal.specs.declared.cell.CellFault.{CellFault}
-use Rattle.mm_seal.specs.Cell.{SpellsCell, ReadsCell}
-use Rattle.mm_seal.specs.declared.snapshot.PartsFault.{PartsFault}
-use Rattle.mm_seal.specs.Snapshot.{Snapshot, ReadsParts}
 use Rattle.mm_seal.specs.CellLaws.{reads_cell-same}
 use Rattle.mm_seal.specs.SnapshotLaws.{reads_parts-same}
-use Rattle.mm_basic.specs.Seen.{IsCellOf, Seen, NoCell, OtherCell, NoOffer, Both, IsSeen}
 
 -- how a cell of this module and an offer that is taken apart are seen
 abbrev pub seen_by : Cell → Result Snapshot PartsFault → Seen

@@ -1,21 +1,10 @@
 -- The faults of turns.
-use Rattle.std.proofs.Common.{◌≡◌, List, ℕ, Option, None, Some, Result, Ok, Err, refl, sym, ap, ◌∙◌, subst}
+use Rattle.mm_basic.proofs.Below.{◌≡◌, List, ℕ, Option, None, Some, Result, Ok, Err, refl, sym, ap, ◌∙◌, subst, StepFault, Standing}
+use Rattle.mm_basic.proofs.Below.{Meaning, Batch, BatchAnswer, Refusal, Found, Repeat, Change, Ready, fault_in, Blames, blamed}
 use Rattle.std.specs.Result.{result_err}
-use Rattle.mm_platform.specs.declared.fault.StepFault.{StepFault}
-use Rattle.mm_platform.specs.Standing.{Standing}
-use Rattle.mm_module.specs.Meaning.{Meaning}
-use Rattle.mm_module.specs.Batch.{Batch}
-use Rattle.mm_model.specs.declared.answer.BatchAnswer.{BatchAnswer}
-use Rattle.mm_model.specs.declared.refusal.Refusal.{Refusal}
-use Rattle.mm_basic.specs.declared.found.Found.{Found}
-use Rattle.mm_basic.specs.declared.found.Found.TheVariants.{Repeat, Change}
-use Rattle.mm_basic.specs.declared.found.Ready.{Ready}
 use Rattle.mm_basic.specs.declared.call.Turn.{Turn}
 use Rattle.mm_basic.specs.Turns.{Turns, turn_fault, turn_of, last_turn}
-use Rattle.mm_call.specs.Refusals.{fault_in}
-use Rattle.mm_call.specs.Leaving.{Blames}
 use Rattle.mm_basic.proofs.Asking.{read_blamed}
-use Rattle.mm_call.specs.LeavingLaws.{blamed}
 
 found_fault : (found : Result Found Refusal) → turn_fault (turn_of found) ≡ fault_in found
 found_fault (Err why) = refl

@@ -4,7 +4,6 @@ pub mod Answers
 pub mod Steps
 pub mod Turns
 pub mod Asks
-pub mod Prepares
 pub mod Complete
 pub mod Asked
 pub mod Moved

@@ -3,7 +3,8 @@
 ghost use Rattle.std.specs.Prelude.{◌≡◌, None, true, false, IfOk, IfErr};
 ghost use Rattle.mm_module.specs.Batches.{batch_of};
 ghost use Rattle.mm_model.specs.Long.{is_long};
-ghost use Rattle.mm_basic.specs.Asks.{AsksTo};
+ghost use Rattle.mm_call.specs.Calls.{AsksTo};
+ghost use Rattle.mm_basic.specs.Asks.{basic_call};
 
 use crate::found::{Found, Ready};
 use crate::step::{read, write, write_last};
@@ -203,7 +204,7 @@ fn read_and_write<M: Module, P: Platform>(
     keys: &mut KeptKey,
 ) -> Ended
     requires { is_long (batch_of batch) ≡ false }
-    ensures { AsksTo (M.meaning «module».now) (P.standing platform.old) (P.standing platform.new)
+    ensures { AsksTo basic_call (M.meaning «module».now) (P.standing platform.old) (P.standing platform.new)
         offer.now (batch_of batch.entry) result }
 {
     match read(alloc, module, platform, offer, batch, keys) {

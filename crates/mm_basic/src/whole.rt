@@ -9,9 +9,9 @@ ghost use Rattle.mm_model.specs.Long.{is_long};
 ghost use Rattle.mm_call.specs.Refusals.{fault_in};
 ghost use Rattle.mm_call.specs.CallsOn.{CallsOn};
 ghost use Rattle.mm_basic.specs.Steps.{Reads};
-ghost use Rattle.mm_basic.specs.Prepares.{IsCallSoFar};
+ghost use Rattle.mm_call.specs.Calls.{Calls, Commits, IsCallSoFar};
 ghost use Rattle.mm_basic.specs.Asked.{AskedInBasic};
-ghost use Rattle.mm_basic.specs.Asks.{Calls, CommitsFound};
+ghost use Rattle.mm_basic.specs.Asks.{basic_call};
 ghost use Rattle.mm_call.specs.Leaving.{Blames, whole_in};
 
 use crate::call::begin;
@@ -66,7 +66,7 @@ pub fn prepare<M: Module, P: Platform>(
         Reads (M.meaning «module».now) (P.standing platform.old) (P.standing platform.new)
         offer.now (One request.now) result }
     ensures goes { is_long (One request.now) ≡ false →
-        IsCallSoFar (M.meaning «module».now) (P.standing platform.old) (P.standing platform.new)
+        IsCallSoFar basic_call (M.meaning «module».now) (P.standing platform.old) (P.standing platform.new)
         offer.now (One request.now) result }
     ensures faults { Blames (fault_in result)
         (P.standing platform.old).faults (P.standing platform.new).faults }
@@ -87,7 +87,7 @@ fn prepare_batch<M: Module, P: Platform>(
         Reads (M.meaning «module».now) (P.standing platform.old) (P.standing platform.new)
         offer.now (batch_of batch.entry) result }
     ensures goes { is_long (batch_of batch.entry) ≡ false →
-        IsCallSoFar (M.meaning «module».now) (P.standing platform.old) (P.standing platform.new)
+        IsCallSoFar basic_call (M.meaning «module».now) (P.standing platform.old) (P.standing platform.new)
         offer.now (batch_of batch.entry) result }
     ensures faults { Blames (fault_in result)
         (P.standing platform.old).faults (P.standing platform.new).faults }
@@ -95,33 +95,48 @@ fn prepare_batch<M: Module, P: Platform>(
     if mm_model::is_long(&batch) {
         return Err(Refusal::Long);
     }
-    match read(alloc, module, platform, offer, batch, &mut KeptKey::new()) {
+    match read_alone(alloc, module, platform, offer, batch) {
         Err(refusal) => Err(refusal),
         Ok(found) => Ok(Prepared { found }),
     }
 }
 
+// Makes the reading step under a key that is absorbed for it alone.
+fn read_alone<M: Module, P: Platform>(
+    alloc: Global,
+    module: &M,
+    platform: &mut P,
+    offer: &[u8],
+    batch: Batch<'_>,
+) -> Result<Found, Refusal>
+    requires { is_long (batch_of batch) ≡ false }
+    ensures { Reads (M.meaning «module».now) (P.standing platform.old) (P.standing platform.new)
+        offer.now (batch_of batch.entry) result }
+{
+    read(alloc, module, platform, offer, batch, &mut KeptKey::new())
+}
+
 impl Prepared {
     /// Makes the writing step, which commits the request; a repeat has none. Takes no memory.
     pub fn commit<P: Platform>(self, platform: &mut P) -> Result<Committed, StepFault>
-        ensures commits { CommitsFound self
+        ensures commits { Commits basic_call self
             (P.standing platform.old) (P.standing platform.new) result }
         ensures faults { Blames (result_err result)
             (P.standing platform.old).faults (P.standing platform.new).faults }
     {
-        self.commit_found(platform)
+        commit_found(self.found, platform)
     }
+}
 
-    fn commit_found<P: Platform>(self, platform: &mut P) -> Result<Committed, StepFault>
-        ensures { CommitsFound self (P.standing platform.old) (P.standing platform.new) result }
-    {
-        match self.found {
-            Found::Repeat(answer) => Ok(Committed { answer }),
-            Found::Change(ready) => match write(ready, platform) {
-                Err(fault) => Err(fault),
-                Ok(answer) => Ok(Committed { answer }),
-            },
-        }
+fn commit_found<P: Platform>(found: Found, platform: &mut P) -> Result<Committed, StepFault>
+    ensures { Commits basic_call found (P.standing platform.old) (P.standing platform.new) result }
+{
+    match found {
+        Found::Repeat(answer) => Ok(Committed { answer }),
+        Found::Change(ready) => match write(ready, platform) {
+            Err(fault) => Err(fault),
+            Ok(answer) => Ok(Committed { answer }),
+        },
     }
 }
 
@@ -142,7 +157,7 @@ fn call<M: Module, P: Platform>(
     offer: &[u8],
     batch: Batch<'_>,
 ) -> Result<BatchAnswer, Refusal>
-    ensures calls { Calls (M.meaning «module».now) (P.standing platform.old)
+    ensures calls { Calls basic_call (M.meaning «module».now) (P.standing platform.old)
         (P.standing platform.new) offer.now (batch_of batch.entry) result }
     ensures goes { is_long (batch_of batch.entry) ≡ false →
         CallsOn Basic (M.meaning «module».now) (P.standing platform.old)

@@ -1,39 +1,15 @@
 -- Basic: a call is by digests what it is by lists, on every course.
-use Rattle.std.proofs.Common.{ℕ, ◌≡◌, Bool, true, false, List, [], ◌∷◌, ◌++◌, map, None, Result, Ok, Err, refl, sym, ap, ◌∙◌, subst}
-use Rattle.std.specs.Prelude.{if◌then◌else◌}
-use Rattle.std.specs.List.{AllByRecursion, Contains}
-use Rattle.mm_digest.specs.declared.variant.Variant.TheVariants.{Basic}
-use Rattle.mm_module.specs.Meaning.{Meaning}
-use Rattle.mm_module.specs.Batch.{Batch}
-use Rattle.mm_seal.specs.Snapshot.{Content}
-use Rattle.mm_seal.specs.declared.snapshot.Place.{Place}
-use Rattle.mm_seal.specs.declared.snapshot.Place.TheVariants.{Basic as InBasic, Opt as InOpt}
-use Rattle.mm_model.specs.Chains.{link, link_message, summary_of}
-use Rattle.mm_model.specs.Instance.{Instance}
-use Rattle.mm_model.specs.InstanceWords.{basic}
-use Rattle.mm_model.specs.History.{Entry, History, Move, Commit, Foreign, joined}
-use Rattle.mm_model.specs.Steps.{Step, Reads, Writes, ask_steps}
-use Rattle.mm_model.specs.Messages.{IsClear, Within, values_in}
-use Rattle.mm_model.specs.Moves.{Digests}
-use Rattle.mm_model.specs.Places.{IsPlaceOf, Names}
-use Rattle.mm_model.specs.PlacesWords.{digest_of}
-use Rattle.mm_model.specs.declared.refusal.Refusal.{Refusal}
-use Rattle.mm_model.specs.ListLaws.{each_append}
-use Rattle.mm_model.specs.Standing.{IsGenuine}
-use Rattle.mm_call.specs.Levels.{by_lists, by_digests, all_made, Agrees}
-use Rattle.mm_call.specs.Found.{Found, found_at, right_content}
-use Rattle.mm_call.specs.FoundWords.{found_unless_wanting, is_fresh}
-use Rattle.mm_call.specs.Courses.{End, Done, Fails, Fate, Course, Walked, step_moves, after_step, walk}
-use Rattle.mm_call.specs.Called.{called}
-use Rattle.mm_call.specs.CalledWords.{called_with}
-use Rattle.mm_call.specs.Asked.{IsPlain, IsWithin, right_messages}
-use Rattle.mm_call.specs.Laws.{IsSameCall, BasicCallsAgree}
-use Rattle.mm_call.specs.MoveLaws.{IsBasicMove, agrees-made, plain-made, same_batches, more_batches}
-use Rattle.mm_call.proofs.Finding.{Holds, Asking, Placed, found_same, placed, right_of_found}
+use Rattle.mm_call.proofs.Below.{ℕ, ◌≡◌, Bool, true, false, List, [], ◌∷◌, ◌++◌, map, None, Result, Ok, Err, refl, sym, ap, ◌∙◌, subst}
+use Rattle.mm_call.proofs.Below.{if◌then◌else◌, AllByRecursion, Contains, Basic, Meaning, Batch, Content, Place, InBasic, InOpt, link}
+use Rattle.mm_call.proofs.Below.{link_message, summary_of, Instance, basic, Entry, History, Move, Foreign, joined, ask_steps, IsClear}
+use Rattle.mm_call.proofs.Below.{Within, values_in, Digests, IsPlaceOf, Names, digest_of, Refusal, each_append, IsGenuine, by_lists}
+use Rattle.mm_call.proofs.Below.{by_digests, all_made, Agrees, Found, found_at, right_content, found_unless_wanting, is_fresh, Fate, Course}
+use Rattle.mm_call.proofs.Below.{Walked, walk, called, called_with, IsPlain, IsWithin, right_messages, IsSameCall, BasicCallsAgree}
+use Rattle.mm_call.proofs.Below.{IsBasicMove, agrees-made, plain-made, same_batches, more_batches, Commits, nothing, batch, basic_commits}
+use Rattle.mm_call.proofs.Below.{foreign_first, GoesAlong, walk_along}
+use Rattle.mm_call.proofs.Finding.{Holds, Asking, found_same, placed}
 use Rattle.mm_call.proofs.Calling.{summary_then, listed_push, listed_same, called_message}
-use Rattle.mm_call.specs.WalkLaws.{Commits, nothing, batch, basic_commits, foreign_first, finished}
-use Rattle.mm_call.specs.AlongLaws.{GoesAlong, walk_along}
-use Rattle.mm_call.proofs.Endings.{Ends, again_of, fresh_of, ending_same}
+use Rattle.mm_call.proofs.Endings.{Points, Ends, again_of, fresh_of, ending_same}
 
 abbrev pub AreBasic : List Move → Type 0
 AreBasic moves = AllByRecursion IsBasicMove moves
@@ -55,8 +31,7 @@ walk_basic fates flag true b = walk_along AreBasic basic_along fates 1 (ask_step
 
 -- a plain history has no values that count
 pub plain_outside : (others : List (List ℕ)) (closed : List (List Entry)) (is_open : Bool) (items : List Entry) → closed ≡ []
-    → is_open ≡ false
-    → AllByRecursion (Contains others) (values_in (joined closed ++ (if is_open then items else [])))
+    → is_open ≡ false → AllByRecursion (Contains others) (values_in (joined closed ++ (if is_open then items else [])))
 plain_outside others closed is_open items none shut =
     let P : List (List Entry) → Type 0 = λ c. AllByRecursion (Contains others) (values_in (joined c ++ (if is_open then items else []))) in
     let Q : Bool → Type 0 = λ o. AllByRecursion (Contains others) (values_in (joined {A = Entry} [] ++ (if o then items else []))) in
@@ -66,18 +41,6 @@ place_any : (i : Instance) (y y' : History) (named : List Batch) (place : Place)
     → IsPlaceOf Basic i y' named place
 place_any i y y' named (InBasic s) is = is
 place_any i y y' named (InOpt a e) is = absurd is
-
--- a history with the same batches is named by the same snapshots
-names_any : (meaning : Meaning) (key : List ℕ) (y y' : History) (offered : Content) → y'.batches ≡ y.batches
-    → Names (basic meaning key) y offered → Names (basic meaning key) y' offered
-names_any meaning key y y' offered e n = record {
-  named = n.named;
-  rest = n.rest;
-  first = e ∙ n.first;
-  position = n.position;
-  state = n.state;
-  place = place_any (basic meaning key) y y' n.named offered.place n.place;
-}
 
 -- what is found, where memory isn't wanting
 pub unlacked : (found : Result Found Refusal) (lacks : Bool) (f : Found) → found_unless_wanting found lacks ≡ Ok f → found ≡ Ok f
@@ -104,139 +67,140 @@ record Starts (all others : List (List ℕ)) (asked : List Batch) (i : Instance)
   within : IsWithin all others asked i y
   is_asked : Contains asked b
   sees : seen.digest ≡ d.digest
-  placed_at : (f : Found) → found ≡ Ok f → Placed i y b f
+  placed_at : (f : Found) → found ≡ Ok f → Points i y.batches b f
   message : (f : Found) → found ≡ Ok f → f.again ≡ false → Contains all (link_message (summary_of i.meaning.id y.batches) b)
 
--- what is asked of the history after the moves of a walk
-within_after : (meaning : Meaning) (key : List ℕ) (all others : List (List ℕ)) (asked : List Batch) (y : History) (d seen : Digests)
-    (b : Batch)
-    (walked : Walked) (found : Result Found Refusal) → Starts all others asked (basic meaning key) y d seen b found
-    → AreBasic walked.moves → Commits b (is_fresh found) walked
-    → IsWithin all others asked (basic meaning key) (all_made (by_lists (basic meaning key)) y walked.moves)
-within_after meaning key all others asked y d seen b walked found s moves (nothing none unless) =
-    let i = basic meaning key in
-    let end = all_made (by_lists i) y walked.moves in
-    let plain : IsPlain end = plain-made meaning key walked.moves y moves s.within.sound in
-    let same = same_batches i walked.moves y none in record {
-      sound = plain;
-      outside = plain_outside others end.closed end.is_open end.items plain.closed plain.shut;
-      listed = listed_same meaning key all y end s.within.listed same;
-      batches = subst (AllByRecursion (Contains asked)) (sym same) s.within.batches;
-    }
-within_after meaning key all others asked y d seen b walked (Ok f) s moves (batch one fresh) =
-    let i = basic meaning key in
-    let end = all_made (by_lists i) y walked.moves in
-    let plain : IsPlain end = plain-made meaning key walked.moves y moves s.within.sound in
-    let more = more_batches i walked.moves y b one in record {
-      sound = plain;
-      outside = plain_outside others end.closed end.is_open end.items plain.closed plain.shut;
-      listed = listed_push meaning key all y end b s.within.listed (s.message f refl (fresh_of f.again fresh)) more;
-      batches = subst (AllByRecursion (Contains asked)) (sym more)
-          (each_append (Contains asked) y.batches (b ∷ []) s.within.batches (s.is_asked, tt));
-    }
-within_after meaning key all others asked y d seen b walked (Err why) s moves (batch one fresh) = cc
-
--- what is known at the end
-ends_of : (meaning : Meaning) (key : List ℕ) (all others : List (List ℕ)) (asked : List Batch) (y : History) (d seen : Digests) (b : Batch)
-    (walked : Walked) (found : Result Found Refusal) → Starts all others asked (basic meaning key) y d seen b found
-    → Commits b (is_fresh found) walked → Ends (basic meaning key) y seen b walked found
-ends_of meaning key all others asked y d seen b walked found s c = record {
-  points = λ f is. let p = s.placed_at f is in
-      record { named = p.named; position = p.position; state = p.state; fresh = p.fresh; repeat = p.repeat };
-  place = λ f is whole.
-      let p = s.placed_at f is in
-      let C : Result Found Refusal → Type 0 = λ x. Commits b (is_fresh x) walked in
-      ap (λ v. InBasic (digest_of v))
-      (end_summary (basic meaning key) meaning.id y b f.again seen.digest p.named walked (s.sees ∙ s.agrees.digest) p.fresh p.repeat
-      (subst C is c) whole);
-}
-
-walked_same : (meaning : Meaning) (key : List ℕ) (all others : List (List ℕ)) (asked : List Batch) (y sees : History) (d seen : Digests)
-    (course : Course) (b : Batch) (found : Result Found Refusal) → Starts all others asked (basic meaning key) y d seen b found
-    → IsSameCall all others asked (basic meaning key)
-    (called_with (basic meaning key) (by_lists (basic meaning key)) y sees course b found)
-    (called_with (basic meaning key) (by_digests (basic meaning key)) d seen course b found)
-walked_same meaning key all others asked y sees d seen course b found s =
-    let i = basic meaning key in
-    let w : Walked = walk course.fates 1 (ask_steps Basic false (is_fresh found) b) in
-    let moves = walk_basic course.fates false (is_fresh found) b in
-    let commits = basic_commits course.fates false (is_fresh found) b in record {
-      ending = ending_same i y sees seen (all_made (by_digests i) d w.moves) b w w.broken found refl
-          (ends_of meaning key all others asked y d seen b w found s commits) commits;
-      moves = refl;
-      steps = refl;
-      writes = refl;
-      agrees = agrees-made meaning key w.moves y d moves s.agrees;
-      within = within_after meaning key all others asked y d seen b w found s moves commits;
-    }
-
--- others' values alone change no summary
-foreign_digest : (meaning : Meaning) (key : List ℕ) (values : List (List ℕ)) (d : Digests)
-    → (all_made (by_digests (basic meaning key)) d (map Foreign values ++ [])).digest ≡ d.digest
-foreign_digest meaning key [] d = refl
-foreign_digest meaning key (v ∷ values) d = foreign_digest meaning key values ((by_digests (basic meaning key)).made d (Foreign v))
-
 -- what the law of Basic needs: nothing of the moves
-pub record IsBasicAsked (all others : List (List ℕ)) (asked : List Batch) (i : Instance) (y : History) (offer : List ℕ) (b : Batch) : Type 0
-  where
-    pub clear : IsClear all
-    pub within : IsWithin all others asked i y
-    pub is_asked : Contains asked b
-    pub genuine : IsGenuine i y offer
-    pub offered : Within (right_messages i b (right_content i offer)) all
+pub record IsBasicAsked (all others : List (List ℕ)) (asked : List Batch) (i : Instance) (y : History) (offer : List ℕ)
+    (b : Batch) : Type 0 where
+  pub clear : IsClear all
+  pub within : IsWithin all others asked i y
+  pub is_asked : Contains asked b
+  pub genuine : IsGenuine i y offer
+  pub offered : Within (right_messages i b (right_content i offer)) all
 
-pub basic_same : (meaning : Meaning) (key : List ℕ) (all others : List (List ℕ)) (asked : List Batch) (y : History) (d : Digests)
-    (course : Course) (offer : List ℕ) (b : Batch)
-    → Agrees (basic meaning key) y d → IsBasicAsked all others asked (basic meaning key) y offer b
-    → IsSameCall all others asked (basic meaning key) (called (basic meaning key) (by_lists (basic meaning key)) y course offer b)
-    (called (basic meaning key) (by_digests (basic meaning key)) d course offer b)
-basic_same meaning key all others asked y d course offer b agrees a =
-    let i = basic meaning key in
-    let values = (course.fates 1).brings in
-    let moves : List Move = map Foreign values ++ [] in
-    let sees : History = all_made (by_lists i) y moves in
-    let seen : Digests = all_made (by_digests i) d moves in
-    let quiet : AreBasic moves = basic-append (map Foreign values) [] (basic-foreign values) tt in
-    let same : sees.batches ≡ y.batches = same_batches i moves y (foreign_first values []) in
-    let holds : Holds all i sees seen = record {
-      agrees = agrees-made meaning key moves y d quiet agrees;
-      plain = plain-made meaning key moves y quiet a.within.sound;
-      listed = listed_same meaning key all y sees a.within.listed same;
-    } in
-    let asking : Asking all i sees offer b = record {
-      clear = a.clear;
-      listed = a.offered;
-      genuine = λ content right. names_any meaning key y sees content same (a.genuine content right);
-    } in
-    let lists : Result Found Refusal = found_at i (by_lists i) sees b offer in
-    let found : Result Found Refusal = found_unless_wanting lists course.lacks in
-    let agree : found_unless_wanting (found_at i (by_digests i) seen b offer) course.lacks ≡ found =
-    ap (λ x. found_unless_wanting x course.lacks) (found_same meaning key all sees seen offer b holds asking) in
-    let starts : Starts all others asked i y d seen b found = record {
-      agrees = agrees;
-      within = a.within;
-      is_asked = a.is_asked;
-      sees = foreign_digest meaning key values d;
-      placed_at = λ f is.
-          let p = placed meaning key all sees offer b asking f (unlacked lists course.lacks f is) in
-          record {
-            named = p.named;
-            position = p.position;
-            state = p.state;
-            place = place_any i sees y p.named f.offered.place p.place;
-            fresh = λ x. p.fresh x ∙ same;
-            repeat = λ x. p.repeat x ∙ same;
-          };
-      message = λ f is fresh.
-          let was = unlacked lists course.lacks f is in
-          let p = placed meaning key all sees offer b asking f was in
-          called_message meaning key all y b f.offered.place p.named
-          (right_of_found meaning key all sees offer b asking f was)
-          (place_any i sees y p.named f.offered.place p.place) (p.fresh fresh ∙ same);
-    } in
-    let P : Result Found Refusal → Type 0 = λ x. IsSameCall all others asked i
-    (called_with i (by_lists i) y sees course b found) (called_with i (by_digests i) d seen course b x) in
-    subst P (sym agree) (walked_same meaning key all others asked y sees d seen course b found starts)
+module _ (meaning : Meaning) (key : List ℕ) where
+  abbrev I : Instance
+  I = basic meaning key
+
+  -- a history with the same batches is named by the same snapshots
+  names_any : (y y' : History) (offered : Content) → y'.batches ≡ y.batches → Names I y offered → Names I y' offered
+  names_any y y' offered e n = record {
+    named = n.named;
+    rest = n.rest;
+    first = e ∙ n.first;
+    position = n.position;
+    state = n.state;
+    place = place_any I y y' n.named offered.place n.place;
+  }
+
+  -- what is asked of the history after the moves of a walk
+  within_after : (all others : List (List ℕ)) (asked : List Batch) (y : History) (d seen : Digests) (b : Batch) (walked : Walked)
+      (found : Result Found Refusal) → Starts all others asked I y d seen b found → AreBasic walked.moves
+      → Commits b (is_fresh found) walked → IsWithin all others asked I (all_made (by_lists I) y walked.moves)
+  within_after all others asked y d seen b walked found s moves (nothing none unless) =
+      let end = all_made (by_lists I) y walked.moves in
+      let plain : IsPlain end = plain-made meaning key walked.moves y moves s.within.sound in
+      let same = same_batches I walked.moves y none in record {
+        sound = plain;
+        outside = plain_outside others end.closed end.is_open end.items plain.closed plain.shut;
+        listed = listed_same meaning key all y end s.within.listed same;
+        batches = subst (AllByRecursion (Contains asked)) (sym same) s.within.batches;
+      }
+  within_after all others asked y d seen b walked (Ok f) s moves (batch one fresh) =
+      let end = all_made (by_lists I) y walked.moves in
+      let plain : IsPlain end = plain-made meaning key walked.moves y moves s.within.sound in
+      let more = more_batches I walked.moves y b one in record {
+        sound = plain;
+        outside = plain_outside others end.closed end.is_open end.items plain.closed plain.shut;
+        listed = listed_push meaning key all y end b s.within.listed (s.message f refl (fresh_of f.again fresh)) more;
+        batches = subst (AllByRecursion (Contains asked)) (sym more)
+            (each_append (Contains asked) y.batches (b ∷ []) s.within.batches (s.is_asked, tt));
+      }
+  within_after all others asked y d seen b walked (Err why) s moves (batch one fresh) = cc
+
+  -- what is known at the end
+  ends_of : (all others : List (List ℕ)) (asked : List Batch) (y : History) (d seen : Digests) (b : Batch) (walked : Walked)
+      (found : Result Found Refusal) → Starts all others asked I y d seen b found → Commits b (is_fresh found) walked
+      → Ends I y seen b walked found
+  ends_of all others asked y d seen b walked found s c = record {
+    points = s.placed_at;
+    place = λ f is whole.
+        let p = s.placed_at f is in
+        let C : Result Found Refusal → Type 0 = λ x. Commits b (is_fresh x) walked in
+        ap (λ v. InBasic (digest_of v))
+        (end_summary I meaning.id y b f.again seen.digest p.named walked (s.sees ∙ s.agrees.digest) p.fresh p.repeat (subst C is c) whole);
+  }
+
+  walked_same : (all others : List (List ℕ)) (asked : List Batch) (y sees : History) (d seen : Digests) (course : Course) (b : Batch)
+      (found : Result Found Refusal) → Starts all others asked I y d seen b found
+      → IsSameCall all others asked I (called_with I (by_lists I) y sees course b found)
+      (called_with I (by_digests I) d seen course b found)
+  walked_same all others asked y sees d seen course b found s =
+      let w : Walked = walk course.fates 1 (ask_steps Basic false (is_fresh found) b) in
+      let moves = walk_basic course.fates false (is_fresh found) b in
+      let commits = basic_commits course.fates false (is_fresh found) b in record {
+        ending = ending_same I y sees seen (all_made (by_digests I) d w.moves) b w w.broken found refl
+            (ends_of all others asked y d seen b w found s commits) commits;
+        moves = refl;
+        steps = refl;
+        writes = refl;
+        agrees = agrees-made meaning key w.moves y d moves s.agrees;
+        within = within_after all others asked y d seen b w found s moves commits;
+      }
+
+  -- others' values alone change no summary
+  foreign_digest : (values : List (List ℕ)) (d : Digests) → (all_made (by_digests I) d (map Foreign values ++ [])).digest ≡ d.digest
+  foreign_digest [] d = refl
+  foreign_digest (v ∷ values) d = foreign_digest values ((by_digests I).made d (Foreign v))
+
+  pub basic_same : (all others : List (List ℕ)) (asked : List Batch) (y : History) (d : Digests) (course : Course) (offer : List ℕ)
+      (b : Batch) → Agrees I y d → IsBasicAsked all others asked I y offer b
+      → IsSameCall all others asked I (called I (by_lists I) y course offer b) (called I (by_digests I) d course offer b)
+  basic_same all others asked y d course offer b agrees a =
+      let values = (course.fates 1).brings in
+      let moves : List Move = map Foreign values ++ [] in
+      let sees : History = all_made (by_lists I) y moves in
+      let seen : Digests = all_made (by_digests I) d moves in
+      let quiet : AreBasic moves = basic-append (map Foreign values) [] (basic-foreign values) tt in
+      let same : sees.batches ≡ y.batches = same_batches I moves y (foreign_first values []) in
+      let holds : Holds all I sees seen = record {
+        agrees = agrees-made meaning key moves y d quiet agrees;
+        plain = plain-made meaning key moves y quiet a.within.sound;
+        listed = listed_same meaning key all y sees a.within.listed same;
+      } in
+      let asking : Asking all I sees offer b = record {
+        clear = a.clear;
+        listed = a.offered;
+        genuine = λ content right. names_any y sees content same (a.genuine content right);
+      } in
+      let lists : Result Found Refusal = found_at I (by_lists I) sees b offer in
+      let found : Result Found Refusal = found_unless_wanting lists course.lacks in
+      let agree : found_unless_wanting (found_at I (by_digests I) seen b offer) course.lacks ≡ found =
+      ap (λ x. found_unless_wanting x course.lacks) (found_same meaning key all sees seen offer b holds asking) in
+      let starts : Starts all others asked I y d seen b found = record {
+        agrees = agrees;
+        within = a.within;
+        is_asked = a.is_asked;
+        sees = foreign_digest values d;
+        placed_at = λ f is.
+            let p = placed all I sees offer b asking f (unlacked lists course.lacks f is) in
+            record {
+              named = p.named;
+              position = p.position;
+              state = p.state;
+              fresh = λ x. p.fresh x ∙ same;
+              repeat = λ x. p.repeat x ∙ same;
+            };
+        message = λ f is fresh.
+            let was = unlacked lists course.lacks f is in
+            let p = placed all I sees offer b asking f was in
+            called_message meaning key all y b f.offered.place p.named p.listed
+            (place_any I sees y p.named f.offered.place p.place) (p.fresh fresh ∙ same);
+      } in
+      let P : Result Found Refusal → Type 0 = λ x. IsSameCall all others asked I
+      (called_with I (by_lists I) y sees course b found) (called_with I (by_digests I) d seen course b x) in
+      subst P (sym agree) (walked_same all others asked y sees d seen course b found starts)
 
 pub basic_calls_agree : BasicCallsAgree
 basic_calls_agree meaning key all others asked y d course offer b agrees a =

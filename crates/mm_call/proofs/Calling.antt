@@ -1,29 +1,11 @@
 -- What a call answers, by lists and by digests; and, in Basic, the messages of a history that goes on by the batch.
-use Rattle.std.proofs.Common.{ℕ, ◌≡◌, ◌+◌, ◌-◌, Bool, true, false, List, [], ◌∷◌, ◌++◌, length, drop, refl, sym, ap, ◌∙◌, subst, arith}
-use Rattle.std.specs.Prelude.{if◌then◌else◌}
-use Rattle.std.specs.List.{Contains}
-use Rattle.std.proofs.lemmas.Grind.{flat_map-append}
-use Rattle.std.proofs.lemmas.List.{append-nil}
-use Rattle.mm_digest.specs.declared.variant.Variant.TheVariants.{Basic}
-use Rattle.mm_digest.specs.Messages.{start_of}
-use Rattle.mm_module.specs.Meaning.{Meaning, state_after, outputs_from}
-use Rattle.mm_module.specs.MeaningWords.{state_from}
-use Rattle.mm_module.specs.Batch.{Batch, members_of, size_of}
-use Rattle.mm_module.specs.RunLaws.{state_after-append, outputs_from-append, length-outputs_from}
-use Rattle.mm_seal.specs.Snapshot.{Content, sealed_of}
-use Rattle.mm_seal.specs.declared.snapshot.Place.{Place}
-use Rattle.mm_seal.specs.declared.snapshot.Place.TheVariants.{Basic as InBasic, Opt as InOpt}
-use Rattle.mm_model.specs.Chains.{link, link_message, summary_of, trail}
-use Rattle.mm_model.specs.Instance.{Instance}
-use Rattle.mm_model.specs.InstanceWords.{basic}
-use Rattle.mm_model.specs.History.{History, requests_of, total_of}
-use Rattle.mm_model.specs.Messages.{Within, history_messages, offer_messages}
-use Rattle.mm_model.specs.Places.{IsPlaceOf, issued_place}
-use Rattle.mm_model.specs.declared.answer.BatchAnswer.{BatchAnswer}
-use Rattle.mm_model.specs.ChainLaws.{trail_push}
-use Rattle.mm_model.specs.DigestLaws.{summary-push}
-use Rattle.mm_model.proofs.MovedDigests.{total-push}
-use Rattle.mm_call.specs.Answers.{answer_at, answer_on}
+use Rattle.mm_call.proofs.Below.{ℕ, ◌≡◌, ◌+◌, ◌-◌, Bool, true, false, List, [], ◌∷◌, ◌++◌, length, drop, refl, sym, ap, ◌∙◌, subst, arith}
+use Rattle.mm_call.proofs.Below.{if◌then◌else◌, Contains, flat_map-append, append-nil, Basic, start_of, Meaning, state_after, outputs_from}
+use Rattle.mm_call.proofs.Below.{state_from, Batch, members_of, size_of, state_after-append, outputs_from-append, length-outputs_from}
+use Rattle.mm_call.proofs.Below.{Content, sealed_of, Place, InBasic, InOpt, link, link_message, trail, Instance, basic, History}
+use Rattle.mm_call.proofs.Below.{requests_of, total_of, Within, history_messages, offer_messages, IsPlaceOf, issued_place, BatchAnswer}
+use Rattle.mm_call.proofs.Below.{trail_push, summary-push, total-push, answer_at, answer_on}
+use Rattle.mm_model.specs.Chains.{summary_of}
 
 pub requests-append : (bs cs : List Batch) → requests_of (bs ++ cs) ≡ requests_of bs ++ requests_of cs
 requests-append bs cs = flat_map-append members_of bs cs
@@ -67,8 +49,7 @@ said_last meaning batches named b e =
     (members_of b) =
     ap (outputs_from meaning meaning.first) requests ∙ outputs_from-append meaning meaning.first (requests_of named) (members_of b) in
     ap (λ n. drop n (outputs_from meaning meaning.first (requests_of batches))) (before_last batches named b e)
-    ∙ ap (drop (total_of named)) outputs
-    ∙ drop-at (total_of named) (outputs_from meaning meaning.first (requests_of named)) _
+    ∙ ap (drop (total_of named)) outputs ∙ drop-at (total_of named) (outputs_from meaning meaning.first (requests_of named)) _
     (sym (length-outputs_from meaning meaning.first (requests_of named)))
 
 pub answer-lists : (i : Instance) (y : History) (named : List Batch) (b : Batch) (again : Bool) → y.batches ≡ named ++ b ∷ []
@@ -112,9 +93,8 @@ summary_then id batches named b false digest e fresh repeat =
     ap (λ x. link x b) (e ∙ ap (summary_of id) (sym (fresh refl))) ∙ sym (summary-push id named b)
 
 -- the batches at the end of a call that isn't broken off, or that committed its batch
-pub ended_batches : (batches named committed : List Batch) (b : Batch) (again : Bool)
-    → (again ≡ false → named ≡ batches) → (again ≡ true → named ++ b ∷ [] ≡ batches)
-    → (again ≡ true → committed ≡ []) → (again ≡ false → committed ≡ b ∷ [])
+pub ended_batches : (batches named committed : List Batch) (b : Batch) (again : Bool) → (again ≡ false → named ≡ batches)
+    → (again ≡ true → named ++ b ∷ [] ≡ batches) → (again ≡ true → committed ≡ []) → (again ≡ false → committed ≡ b ∷ [])
     → batches ++ committed ≡ named ++ b ∷ []
 ended_batches batches named committed b true fresh repeat none one =
     ap (λ v. batches ++ v) (none refl) ∙ append-nil batches ∙ sym (repeat refl)
@@ -137,9 +117,9 @@ listed_same meaning key all y y' listed e =
     (listed.0, subst P (sym e) listed.1)
 
 -- the message of a batch that is asked at the end of the history
-pub called_message : (meaning : Meaning) (key : List ℕ) (all : List (List ℕ)) (y : History) (b : Batch) (place : Place) (named : List Batch)
-    → Within (offer_messages (basic meaning key) place b) all → IsPlaceOf Basic (basic meaning key) y named place → named ≡ y.batches
-    → Contains all (link_message (summary_of meaning.id y.batches) b)
+pub called_message : (meaning : Meaning) (key : List ℕ) (all : List (List ℕ)) (y : History) (b : Batch) (place : Place)
+    (named : List Batch) → Within (offer_messages (basic meaning key) place b) all → IsPlaceOf Basic (basic meaning key) y named place
+    → named ≡ y.batches → Contains all (link_message (summary_of meaning.id y.batches) b)
 called_message meaning key all y b (InBasic s) named called is e =
     let P : List ℕ → Type 0 = λ v. Contains all (link_message v b) in
     subst P (is ∙ ap (summary_of meaning.id) e) called.0

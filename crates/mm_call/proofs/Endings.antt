@@ -1,23 +1,9 @@
 -- A call ends by digests as it does by lists.
-use Rattle.std.proofs.Common.{ℕ, ◌≡◌, ◌+◌, Bool, true, false, List, [], ◌∷◌, ◌++◌, Option, None, Some, Result, Ok, Err, refl, sym, ap, ◌∙◌, arith}
-use Rattle.std.specs.Prelude.{if◌then◌else◌}
-use Rattle.mm_platform.specs.declared.fault.StepFault.{StepFault}
-use Rattle.mm_module.specs.Meaning.{state_after}
-use Rattle.mm_module.specs.Batch.{Batch, size_of}
-use Rattle.mm_model.specs.Instance.{Instance}
-use Rattle.mm_model.specs.History.{History, requests_of, total_of}
-use Rattle.mm_model.specs.Moves.{Digests}
-use Rattle.mm_model.specs.Places.{issued_place}
-use Rattle.mm_model.specs.declared.refusal.Refusal.{Refusal}
-use Rattle.mm_model.proofs.MovedDigests.{total-push}
-use Rattle.mm_call.specs.Levels.{by_lists, by_digests, all_made, place_then}
-use Rattle.mm_call.specs.Found.{Found}
-use Rattle.mm_call.specs.FoundWords.{is_fresh}
-use Rattle.mm_call.specs.Courses.{Walked, commits}
-use Rattle.mm_call.specs.Called.{Answers, Breaks, ended_by}
-use Rattle.mm_call.specs.CalledWords.{kept_at}
-use Rattle.mm_call.specs.MoveLaws.{committed_in, batches-made, more_batches}
-use Rattle.mm_call.specs.WalkLaws.{Commits, nothing, batch, commits-none}
+use Rattle.mm_call.proofs.Below.{ℕ, ◌≡◌, ◌+◌, Bool, true, false, List, [], ◌∷◌, ◌++◌, Option, None, Some, Result, Ok, Err, refl, sym, ap}
+use Rattle.mm_call.proofs.Below.{◌∙◌, arith, if◌then◌else◌, StepFault, state_after, Batch, size_of, Instance, History, requests_of}
+use Rattle.mm_call.proofs.Below.{total_of, Digests, issued_place, Refusal, total-push, by_lists, by_digests, all_made, place_then, Found}
+use Rattle.mm_call.proofs.Below.{is_fresh, Walked, commits, Answers, Breaks, ended_by, kept_at, committed_in, batches-made, more_batches}
+use Rattle.mm_call.proofs.Below.{Commits, nothing, batch, commits-none}
 use Rattle.mm_call.proofs.Calling.{answer-lists, answer-digests, ended_batches}
 
 pub again_of : (again : Bool) → (if again then false else true) ≡ false → again ≡ true
@@ -53,30 +39,27 @@ pub record Ends (i : Instance) (y : History) (seen : Digests) (b : Batch) (walke
 
 answers_same : (i : Instance) (y : History) (seen : Digests) (b : Batch) (walked : Walked) (f : Found) → Ends i y seen b walked (Ok f)
     → walked.broken ≡ None → (f.again ≡ true → committed_in walked.moves ≡ []) → (f.again ≡ false → committed_in walked.moves ≡ b ∷ [])
-    → (s : Digests) (t : History)
-    → (by_digests i).answer f.again seen s f.offered b ≡ (by_lists i).answer f.again t (all_made (by_lists i) y walked.moves) f.offered b
+    → (s : Digests) (t : History) → (by_digests i).answer f.again seen s f.offered b
+    ≡ (by_lists i).answer f.again t (all_made (by_lists i) y walked.moves) f.offered b
 answers_same i y seen b walked f ends whole none one s t =
     let p = ends.points f refl in
     let end : History = all_made (by_lists i) y walked.moves in
     let batches = batches-made i walked.moves y
     ∙ ended_batches y.batches p.named (committed_in walked.moves) b f.again p.fresh p.repeat none one in
     answer-digests i p.named b f.again f.offered (place_then i.variant seen.flag f.again i seen b)
-    (issued_place i.variant end.is_open i end)
-    p.position p.state (ends.place f refl whole)
+    (issued_place i.variant end.is_open i end) p.position p.state (ends.place f refl whole)
     ∙ sym (answer-lists i end p.named b f.again batches)
 
 -- the position of a batch that was committed
 position_same : (i : Instance) (y : History) (b : Batch) (walked : Walked) (f : Found) → Points i y.batches b f → f.again ≡ false
-    → committed_in walked.moves ≡ b ∷ []
-    → f.offered.position + size_of b ≡ total_of (all_made (by_lists i) y walked.moves).batches
+    → committed_in walked.moves ≡ b ∷ [] → f.offered.position + size_of b ≡ total_of (all_made (by_lists i) y walked.moves).batches
 position_same i y b walked f p fresh one =
     let total = ap total_of (more_batches i walked.moves y b one) ∙ total-push y.batches b in
     let named = p.position ∙ ap total_of (p.fresh fresh) in
     omega arith
 
 pub ending_same : (i : Instance) (y t : History) (seen s : Digests) (b : Batch) (walked : Walked) (broken : Option StepFault)
-    (found : Result Found Refusal)
-    → walked.broken ≡ broken → Ends i y seen b walked found → Commits b (is_fresh found) walked
+    (found : Result Found Refusal) → walked.broken ≡ broken → Ends i y seen b walked found → Commits b (is_fresh found) walked
     → ended_by (by_digests i) seen s b found walked.moves broken
     ≡ ended_by (by_lists i) t (all_made (by_lists i) y walked.moves) b found walked.moves broken
 ending_same i y t seen s b walked (Some fault) (Err why) e ends c = refl

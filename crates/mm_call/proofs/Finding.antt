@@ -1,72 +1,21 @@
--- Basic: a call finds the same by digests as by lists, and what it finds names the history.
-use Rattle.std.proofs.Common.{ℕ, ◌≡◌, ◌+◌, Bool, true, false, ◌&&◌, List, [], ◌∷◌, ◌++◌, Option, Some, Result, Ok, Err, refl, sym, ap, ◌∙◌, subst, arith}
-use Rattle.std.specs.Prelude.{if◌then◌else◌, nat_eq}
-use Rattle.std.specs.Str.{bytes_eq}
-use Rattle.mm_digest.specs.declared.variant.Variant.TheVariants.{Basic}
-use Rattle.mm_digest.specs.Messages.{zero_bytes}
-use Rattle.mm_module.specs.Meaning.{Meaning, state_after}
-use Rattle.mm_module.specs.Batch.{Batch, size_of}
+-- What a call finds: the same by digests as by lists, where the verdicts on right offers are the same; and what it finds names the
+-- history.
+use Rattle.mm_call.proofs.Below.{ℕ, ◌≡◌, ◌+◌, Bool, true, false, ◌&&◌, List, [], ◌∷◌, ◌++◌, Option, Result, Ok, Err, refl, sym, ap, ◌∙◌}
+use Rattle.mm_call.proofs.Below.{subst, arith, if◌then◌else◌, nat_eq, nat_le, bytes_eq, last_position, zero_bytes, Meaning, state_after}
+use Rattle.mm_call.proofs.Below.{Batch, size_of, parts_of, Content, Snapshot, tag_of, Instance, basic, History, Entry, requests_of}
+use Rattle.mm_call.proofs.Below.{total_of, joined, Life, Live, Spoiled, LostLife, life_of, is_lost, is_last, judged, judge}
+use Rattle.mm_call.proofs.Below.{verdict_by_digests, IsPlaceOf, Names, Within, IsClear, AreNoGuards, history_messages, offer_messages}
+use Rattle.mm_call.proofs.Below.{values_in, Digests, IsGenuine, IsRight, Refusal, at_the_end, before_the_last, right_content, Found}
+use Rattle.mm_call.proofs.Below.{found_by_verdict, found_at, found_with, by_lists, by_digests, Agrees, IsPlain, right_messages}
 use Rattle.mm_seal.specs.declared.snapshot.PartsFault.{PartsFault}
 use Rattle.mm_seal.specs.declared.snapshot.PartsFault.TheVariants.{Form, Kind}
-use Rattle.mm_seal.specs.Snapshot.{Content, Snapshot, tag_of}
-use Rattle.mm_model.specs.Instance.{Instance}
-use Rattle.mm_model.specs.InstanceWords.{basic}
-use Rattle.mm_model.specs.History.{History, Entry, requests_of, total_of, joined}
-use Rattle.mm_model.specs.Life.{Live}
-use Rattle.mm_model.specs.Judge.{is_last, judged, judge, verdict_by_digests}
-use Rattle.mm_model.specs.Places.{IsPlaceOf, Names}
-use Rattle.mm_model.specs.Messages.{Within, IsClear, AreNoGuards, history_messages, offer_messages, values_in}
-use Rattle.mm_model.specs.Standing.{IsGenuine}
 use Rattle.mm_model.specs.declared.verdict.Verdict.{Verdict}
-use Rattle.mm_model.specs.declared.refusal.Refusal.{Refusal}
 use Rattle.mm_model.specs.declared.refusal.Refusal.TheVariants as refusal
-use Rattle.mm_model.proofs.Basic.{basic_is_judged}
-use Rattle.mm_model.specs.BatchLaws.{at_the_end, before_the_last}
+use Rattle.mm_model.specs.BasicLaws.{basic_is_judged}
 use Rattle.mm_call.specs.Order.{admitted, examined}
 use Rattle.mm_call.specs.OrderWords.{weighed}
 use Rattle.mm_call.specs.WeighingLaws.{weighed_alike}
-use Rattle.mm_seal.specs.Parts.{parts_of}
-use Rattle.mm_call.specs.Found.{right_content, Found, found_by_verdict, found_at}
-use Rattle.mm_call.specs.FoundWords.{content_if_right, found_with}
-use Rattle.mm_model.specs.Moves.{Digests}
-use Rattle.mm_call.specs.Levels.{by_lists, by_digests, Agrees}
-use Rattle.mm_call.specs.Asked.{IsPlain, right_messages}
-use Rattle.mm_call.proofs.Reading.{is_right}
-
--- what holds before each event: the digests are those of the history; and its messages are in the list
-pub record Holds (all : List (List ℕ)) (i : Instance) (y : History) (d : Digests) : Type 0 where
-  pub agrees : Agrees i y d
-  pub plain : IsPlain y
-  pub listed : Within (history_messages i y) all
-
-no_counting : (barrier : List ℕ) (closed : List (List Entry)) (is_open : Bool) (items : List Entry) (batches : List Batch) → closed ≡ []
-    → is_open ≡ false
-    → AreNoGuards barrier (values_in (joined closed ++ (if is_open then items else []))) batches
-no_counting barrier closed is_open items batches none shut =
-    let P : List (List Entry) → Type 0 = λ c. AreNoGuards barrier (values_in (joined c ++ (if is_open then items else []))) batches in
-    let Q : Bool → Type 0 = λ o. AreNoGuards barrier (values_in (joined {A = Entry} [] ++ (if o then items else []))) batches in
-    subst P (sym none) (subst Q (sym shut) (λ d b c e _. absurd (omega (arith, c.1))))
-
--- the verdict by digests on a right offer is the verdict on the history
-verdict_same : (meaning : Meaning) (key : List ℕ) (all : List (List ℕ)) (y : History) (d : Digests) (offered : Content) (b : Batch)
-    → IsClear all → Holds all (basic meaning key) y d → Within (offer_messages (basic meaning key) offered.place b) all
-    → Names (basic meaning key) y offered
-    → (by_digests (basic meaning key)).verdict d offered b ≡ (by_lists (basic meaning key)).verdict y offered b
-verdict_same meaning key all y d offered b clear h called names =
-    ap (λ f. verdict_by_digests zero_bytes f d.digest d.register offered.place b) h.agrees.flag
-    ∙ ap (λ x. verdict_by_digests zero_bytes false x d.register offered.place b) h.agrees.digest
-    ∙ basic_is_judged meaning key d.register y offered b all
-    (record {
-      clear = clear;
-      history = h.listed;
-      call = called;
-      foreign = no_counting zero_bytes y.closed y.is_open y.items (b ∷ y.batches) h.plain.closed h.plain.shut;
-    }) names
-
-pub right_is : (i : Instance) (parts : Result Snapshot PartsFault) (snapshot : Snapshot) → parts ≡ Ok snapshot
-    → i.meaning.is_spelled snapshot.content.state ≡ true → bytes_eq snapshot.tag (tag_of i.key snapshot.content) ≡ true
-    → content_if_right i parts ≡ Some snapshot.content
-right_is i parts snapshot e state tagged = rw (e, state, tagged) refl
+use Rattle.mm_call.specs.OfferLaws.{is_right, right_is}
 
 -- what is asked of an offer at a state, and what is known of it
 pub record Asking (all : List (List ℕ)) (i : Instance) (y : History) (bytes : List ℕ) (b : Batch) : Type 0 where
@@ -74,47 +23,7 @@ pub record Asking (all : List (List ℕ)) (i : Instance) (y : History) (bytes : 
   pub listed : Within (right_messages i b (right_content i bytes)) all
   pub genuine : IsGenuine i y bytes
 
-right_named : (meaning : Meaning) (key : List ℕ) (all : List (List ℕ)) (y : History) (bytes : List ℕ) (b : Batch) (snapshot : Snapshot)
-    → Asking all (basic meaning key) y bytes b → parts_of Basic meaning.id bytes ≡ Ok snapshot
-    → meaning.is_spelled snapshot.content.state ≡ true → bytes_eq snapshot.tag (tag_of key snapshot.content) ≡ true
-    → Names (basic meaning key) y snapshot.content × Within (offer_messages (basic meaning key) snapshot.content.place b) all
-right_named meaning key all y bytes b snapshot asking e state tagged =
-    let i = basic meaning key in
-    let right = right_is i (parts_of Basic meaning.id bytes) snapshot e state tagged in
-    let P : Option Content → Type 0 = λ c. Within (right_messages i b c) all in
-    (asking.genuine snapshot.content (is_right i bytes snapshot e state tagged), subst P right asking.listed)
-
-found_from_same : (meaning : Meaning) (key : List ℕ) (all : List (List ℕ)) (y : History) (d : Digests) (bytes : List ℕ) (b : Batch)
-    (parts : Result Snapshot PartsFault) → parts_of Basic meaning.id bytes ≡ parts
-    → Holds all (basic meaning key) y d → Asking all (basic meaning key) y bytes b
-    → found_by_verdict (basic meaning key) (by_digests (basic meaning key)) d b parts ≡ found_by_verdict (basic meaning key)
-    (by_lists (basic meaning key)) y b parts
-found_from_same meaning key all y d bytes b (Err Form) e h asking = refl
-found_from_same meaning key all y d bytes b (Err Kind) e h asking = refl
-found_from_same meaning key all y d bytes b (Ok snapshot) e h asking =
-    ap (found_with snapshot.content)
-    (weighed_alike (meaning.is_spelled snapshot.content.state) (bytes_eq snapshot.tag (tag_of key snapshot.content)) _ _ _
-    (λ state tagged. let named = right_named meaning key all y bytes b snapshot asking e state tagged in
-    verdict_same meaning key all y d snapshot.content b asking.clear h named.1 named.0))
-
-pub found_same : (meaning : Meaning) (key : List ℕ) (all : List (List ℕ)) (y : History) (d : Digests) (bytes : List ℕ) (b : Batch)
-    → Holds all (basic meaning key) y d → Asking all (basic meaning key) y bytes b
-    → found_at (basic meaning key) (by_digests (basic meaning key)) d b bytes ≡ found_at (basic meaning key) (by_lists (basic meaning key))
-    y b bytes
-found_same meaning key all y d bytes b h asking =
-    let i = basic meaning key in
-    ap (λ f. if f && bytes_eq d.register zero_bytes then Err refusal.Lost
-    else found_by_verdict i (by_digests i) d b (parts_of Basic meaning.id bytes)) h.agrees.flag
-    ∙ found_from_same meaning key all y d bytes b (parts_of Basic meaning.id bytes) refl h asking
-
--- What is found is at the end of the history, or before its last batch, which is then the one that is asked.
-pub record Placed (i : Instance) (y : History) (b : Batch) (found : Found) : Type 0 where
-  pub named : List Batch
-  pub position : found.offered.position ≡ total_of named
-  pub state : found.offered.state ≡ state_after i.meaning (requests_of named)
-  pub place : IsPlaceOf i.variant i y named found.offered.place
-  pub fresh : found.again ≡ false → named ≡ y.batches
-  pub repeat : found.again ≡ true → named ++ b ∷ [] ≡ y.batches
+-- What an accepted offer tells.
 
 pub admitted_tells : (here repeat fits again : Bool) → admitted (judged Live here repeat) fits ≡ Ok again
     → (again ≡ false → here ≡ true) × (again ≡ true → repeat ≡ true)
@@ -123,6 +32,11 @@ admitted_tells true repeat false again e = cc
 admitted_tells false true true again e = (λ a. cc, λ _. refl)
 admitted_tells false true false again e = cc
 admitted_tells false false fits again e = cc
+
+admitted_lives : (life : Life) (here repeat fits again : Bool) → admitted (judged life here repeat) fits ≡ Ok again → life ≡ Live
+admitted_lives Live here repeat fits again e = refl
+admitted_lives Spoiled here repeat fits again e = cc
+admitted_lives LostLife here repeat fits again e = cc
 
 pub weighed_tells : (spelled tagged : Bool) (v : Verdict) (fits again : Bool) → weighed spelled tagged v fits ≡ Ok again
     → (spelled ≡ true) × (tagged ≡ true) × (admitted v fits ≡ Ok again)
@@ -137,57 +51,141 @@ found_with_tells offered (Ok again) found e =
     (ap (λ (f : Found). f.offered) (sym same), ap (λ (f : Found). Ok f.again) same)
 found_with_tells offered (Err why) found e = cc
 
-placed_from : (meaning : Meaning) (key : List ℕ) (all : List (List ℕ)) (y : History) (bytes : List ℕ) (b : Batch)
-    (parts : Result Snapshot PartsFault) → parts_of Basic meaning.id bytes ≡ parts → Asking all (basic meaning key) y bytes b
-    → (found : Found) → found_by_verdict (basic meaning key) (by_lists (basic meaning key)) y b parts ≡ Ok found
-    → Placed (basic meaning key) y b found
-placed_from meaning key all y bytes b (Err Form) e asking found is = cc
-placed_from meaning key all y bytes b (Err Kind) e asking found is = cc
-placed_from meaning key all y bytes b (Ok snapshot) e asking found is =
-    let i = basic meaning key in
-    let t = found_with_tells snapshot.content (examined meaning key snapshot b (judge Basic y snapshot.content.position b)) found is in
-    let w = weighed_tells (meaning.is_spelled snapshot.content.state) (bytes_eq snapshot.tag (tag_of key snapshot.content)) _ _ found.again
-    t.1 in
-    let names = (right_named meaning key all y bytes b snapshot asking e w.0 w.1).0 in
-    let a = admitted_tells (nat_eq snapshot.content.position (total_of y.batches))
-    (nat_eq (snapshot.content.position + size_of b) (total_of y.batches) && is_last y.batches b) _ found.again w.2 in
-    let P : Content → Type 0 = λ c. IsPlaceOf Basic i y names.named c.place in
-    record {
-      named = names.named;
-      position = ap (λ (c : Content). c.position) t.0 ∙ names.position;
-      state = ap (λ (c : Content). c.state) t.0 ∙ names.state;
-      place = subst P (sym t.0) names.place;
-      fresh =
-          λ x. (at_the_end y.batches names.named names.rest names.first).0 (ap (λ p. nat_eq p (total_of y.batches)) (sym names.position)
-          ∙ a.0 x);
-      repeat = λ x. (before_the_last y.batches names.named names.rest b names.first).0
-          (ap (λ p. nat_eq (p + size_of b) (total_of y.batches) && is_last y.batches b) (sym names.position) ∙ a.1 x);
-    }
+-- where power was lost nothing is found
+pub unless_lost : (lost : Bool) (found : Result Found Refusal) (f : Found) → (if lost then Err refusal.Lost else found) ≡ Ok f
+    → found ≡ Ok f
+unless_lost true found f e = cc
+unless_lost false found f e = e
 
-pub placed : (meaning : Meaning) (key : List ℕ) (all : List (List ℕ)) (y : History) (bytes : List ℕ) (b : Batch)
-    → Asking all (basic meaning key) y bytes b
-    → (found : Found) → found_at (basic meaning key) (by_lists (basic meaning key)) y b bytes ≡ Ok found
-    → Placed (basic meaning key) y b found
-placed meaning key all y bytes b asking found is =
-    placed_from meaning key all y bytes b (parts_of Basic meaning.id bytes) refl asking found is
+module _ (i : Instance) (y : History) (bytes : List ℕ) (b : Batch) where
+  -- the history is live, the offer right, and its position the last one, or the one before the batch that is asked again
+  pub record Accepted (found : Found) : Type 0 where
+    pub live : life_of i.variant y ≡ Live
+    pub read : (snapshot : Snapshot) × (parts_of i.variant i.meaning.id bytes ≡ Ok snapshot) × (found.offered ≡ snapshot.content)
+    pub spelled : i.meaning.is_spelled read.0.content.state ≡ true
+    pub tagged : bytes_eq read.0.tag (tag_of i.key read.0.content) ≡ true
+    pub here : found.again ≡ false → nat_eq found.offered.position (total_of y.batches) ≡ true
+    pub repeats : found.again ≡ true
+        → nat_eq (found.offered.position + size_of b) (total_of y.batches) && is_last y.batches b ≡ true
 
--- what is found was rightly offered, so that the messages of its call are listed
-right_from : (meaning : Meaning) (key : List ℕ) (all : List (List ℕ)) (y : History) (bytes : List ℕ) (b : Batch)
-    (parts : Result Snapshot PartsFault) → parts_of Basic meaning.id bytes ≡ parts → Asking all (basic meaning key) y bytes b
-    → (found : Found) → found_by_verdict (basic meaning key) (by_lists (basic meaning key)) y b parts ≡ Ok found
-    → Within (offer_messages (basic meaning key) found.offered.place b) all
-right_from meaning key all y bytes b (Err Form) e asking found is = cc
-right_from meaning key all y bytes b (Err Kind) e asking found is = cc
-right_from meaning key all y bytes b (Ok snapshot) e asking found is =
-    let t = found_with_tells snapshot.content (examined meaning key snapshot b (judge Basic y snapshot.content.position b)) found is in
-    let w = weighed_tells (meaning.is_spelled snapshot.content.state) (bytes_eq snapshot.tag (tag_of key snapshot.content)) _ _ found.again
-    t.1 in
-    let P : Content → Type 0 = λ c. Within (offer_messages (basic meaning key) c.place b) all in
-    subst P (sym t.0) (right_named meaning key all y bytes b snapshot asking e w.0 w.1).1
+  accepted_from : (parts : Result Snapshot PartsFault) → parts_of i.variant i.meaning.id bytes ≡ parts → (found : Found)
+      → found_by_verdict i (by_lists i) y b parts ≡ Ok found → Accepted found
+  accepted_from (Err Form) e found is = cc
+  accepted_from (Err Kind) e found is = cc
+  accepted_from (Ok snapshot) e found is =
+      let content = snapshot.content in
+      let t = found_with_tells content (examined i.meaning i.key snapshot b (judge i.variant y content.position b)) found is in
+      let w = weighed_tells (i.meaning.is_spelled content.state) (bytes_eq snapshot.tag (tag_of i.key content)) _ _ found.again t.1 in
+      let here = nat_eq content.position (total_of y.batches) in
+      let repeat = nat_eq (content.position + size_of b) (total_of y.batches) && is_last y.batches b in
+      let fits = nat_le (content.position + size_of b) last_position in
+      let live = admitted_lives (life_of i.variant y) here repeat fits found.again w.2 in
+      let a = admitted_tells here repeat fits found.again (ap (λ l. admitted (judged l here repeat) fits) (sym live) ∙ w.2) in
+      record {
+        live = live;
+        read = (snapshot, e, t.0);
+        spelled = w.0;
+        tagged = w.1;
+        here = λ x. ap (λ (c : Content). nat_eq c.position (total_of y.batches)) t.0 ∙ a.0 x;
+        repeats = λ x. ap (λ (c : Content). nat_eq (c.position + size_of b) (total_of y.batches) && is_last y.batches b) t.0 ∙ a.1 x;
+      }
 
-pub right_of_found : (meaning : Meaning) (key : List ℕ) (all : List (List ℕ)) (y : History) (bytes : List ℕ) (b : Batch)
-    → Asking all (basic meaning key) y bytes b
-    → (found : Found) → found_at (basic meaning key) (by_lists (basic meaning key)) y b bytes ≡ Ok found
-    → Within (offer_messages (basic meaning key) found.offered.place b) all
-right_of_found meaning key all y bytes b asking found is =
-    right_from meaning key all y bytes b (parts_of Basic meaning.id bytes) refl asking found is
+  pub accepted : (found : Found) → found_at i (by_lists i) y b bytes ≡ Ok found → Accepted found
+  accepted found is =
+      accepted_from (parts_of i.variant i.meaning.id bytes) refl found (unless_lost (is_lost (life_of i.variant y)) _ found is)
+
+  -- it was rightly offered
+  pub right_at : (found : Found) → found_at i (by_lists i) y b bytes ≡ Ok found → IsRight i bytes found.offered
+  right_at found is =
+      let a = accepted found is in
+      subst (λ (c : Content). IsRight i bytes c) (sym a.read.2) (is_right i bytes a.read.0 a.read.1 a.spelled a.tagged)
+
+-- What is found is at the end of the history, or before its last batch, which is then the one that is asked.
+pub record Placed (all : List (List ℕ)) (i : Instance) (y : History) (b : Batch) (found : Found) : Type 0 where
+  pub named : List Batch
+  pub position : found.offered.position ≡ total_of named
+  pub state : found.offered.state ≡ state_after i.meaning (requests_of named)
+  pub place : IsPlaceOf i.variant i y named found.offered.place
+  pub listed : Within (offer_messages i found.offered.place b) all
+  pub live : life_of i.variant y ≡ Live
+  pub fresh : found.again ≡ false → named ≡ y.batches
+  pub repeat : found.again ≡ true → named ++ b ∷ [] ≡ y.batches
+
+module _ (all : List (List ℕ)) (i : Instance) (y : History) (bytes : List ℕ) (b : Batch) where
+  right_named : (snapshot : Snapshot) → Asking all i y bytes b → parts_of i.variant i.meaning.id bytes ≡ Ok snapshot
+      → i.meaning.is_spelled snapshot.content.state ≡ true → bytes_eq snapshot.tag (tag_of i.key snapshot.content) ≡ true
+      → Names i y snapshot.content × Within (offer_messages i snapshot.content.place b) all
+  right_named snapshot asking e state tagged =
+      let right = right_is i (parts_of i.variant i.meaning.id bytes) snapshot e state tagged in
+      let P : Option Content → Type 0 = λ c. Within (right_messages i b c) all in
+      (asking.genuine snapshot.content (is_right i bytes snapshot e state tagged), subst P right asking.listed)
+
+  pub placed : Asking all i y bytes b → (found : Found) → found_at i (by_lists i) y b bytes ≡ Ok found → Placed all i y b found
+  placed asking found is =
+      let a = accepted i y bytes b found is in
+      let right = right_named a.read.0 asking a.read.1 a.spelled a.tagged in
+      let names : Names i y found.offered = subst (Names i y) (sym a.read.2) right.0 in
+      record {
+        named = names.named;
+        position = names.position;
+        state = names.state;
+        place = names.place;
+        listed = subst (λ (c : Content). Within (offer_messages i c.place b) all) (sym a.read.2) right.1;
+        live = a.live;
+        fresh = λ x. (at_the_end y.batches names.named names.rest names.first).0
+            (ap (λ p. nat_eq p (total_of y.batches)) (sym names.position) ∙ a.here x);
+        repeat = λ x. (before_the_last y.batches names.named names.rest b names.first).0
+            (ap (λ p. nat_eq (p + size_of b) (total_of y.batches) && is_last y.batches b) (sym names.position) ∙ a.repeats x);
+      }
+
+  -- the verdict by digests on a right offer is the verdict on the history
+  abbrev pub VerdictsAgree : Digests → Type 0
+  VerdictsAgree d = (offered : Content) → Within (offer_messages i offered.place b) all → Names i y offered
+      → (by_digests i).verdict d offered b ≡ (by_lists i).verdict y offered b
+
+  found_from_same : (d : Digests) (parts : Result Snapshot PartsFault) → parts_of i.variant i.meaning.id bytes ≡ parts
+      → Asking all i y bytes b → VerdictsAgree d → found_by_verdict i (by_digests i) d b parts ≡ found_by_verdict i (by_lists i) y b parts
+  found_from_same d (Err Form) e asking same = refl
+  found_from_same d (Err Kind) e asking same = refl
+  found_from_same d (Ok snapshot) e asking same =
+      ap (found_with snapshot.content)
+      (weighed_alike (i.meaning.is_spelled snapshot.content.state) (bytes_eq snapshot.tag (tag_of i.key snapshot.content)) _ _ _
+      (λ state tagged. let named = right_named snapshot asking e state tagged in same snapshot.content named.1 named.0))
+
+  pub found_by : (d : Digests) → Asking all i y bytes b → VerdictsAgree d → (by_digests i).is_lost d ≡ is_lost (life_of i.variant y)
+      → found_at i (by_digests i) d b bytes ≡ found_at i (by_lists i) y b bytes
+  found_by d asking same lost =
+      ap (λ f. if f then Err refusal.Lost else found_by_verdict i (by_digests i) d b (parts_of i.variant i.meaning.id bytes)) lost
+      ∙ ap (λ x. if is_lost (life_of i.variant y) then Err refusal.Lost else x)
+      (found_from_same d (parts_of i.variant i.meaning.id bytes) refl asking same)
+
+-- Basic
+
+-- what holds before each event: the digests are those of the history; and its messages are in the list
+pub record Holds (all : List (List ℕ)) (i : Instance) (y : History) (d : Digests) : Type 0 where
+  pub agrees : Agrees i y d
+  pub plain : IsPlain y
+  pub listed : Within (history_messages i y) all
+
+no_counting : (barrier : List ℕ) (closed : List (List Entry)) (is_open : Bool) (items : List Entry) (batches : List Batch) → closed ≡ []
+    → is_open ≡ false → AreNoGuards barrier (values_in (joined closed ++ (if is_open then items else []))) batches
+no_counting barrier closed is_open items batches none shut =
+    let P : List (List Entry) → Type 0 = λ c. AreNoGuards barrier (values_in (joined c ++ (if is_open then items else []))) batches in
+    let Q : Bool → Type 0 = λ o. AreNoGuards barrier (values_in (joined {A = Entry} [] ++ (if o then items else []))) batches in
+    subst P (sym none) (subst Q (sym shut) (λ d b c e _. absurd (omega (arith, c.1))))
+
+pub found_same : (meaning : Meaning) (key : List ℕ) (all : List (List ℕ)) (y : History) (d : Digests) (bytes : List ℕ) (b : Batch)
+    → Holds all (basic meaning key) y d → Asking all (basic meaning key) y bytes b
+    → found_at (basic meaning key) (by_digests (basic meaning key)) d b bytes
+    ≡ found_at (basic meaning key) (by_lists (basic meaning key)) y b bytes
+found_same meaning key all y d bytes b h asking =
+    found_by all (basic meaning key) y bytes b d asking
+    (λ offered called names. ap (λ f. verdict_by_digests zero_bytes f d.digest d.register offered.place b) h.agrees.flag
+    ∙ ap (λ x. verdict_by_digests zero_bytes false x d.register offered.place b) h.agrees.digest
+    ∙ basic_is_judged meaning key d.register y offered b all
+    (record {
+      clear = asking.clear;
+      history = h.listed;
+      call = called;
+      foreign = no_counting zero_bytes y.closed y.is_open y.items (b ∷ y.batches) h.plain.closed h.plain.shut;
+    }) names) (ap (λ f. f && bytes_eq d.register zero_bytes) h.agrees.flag)

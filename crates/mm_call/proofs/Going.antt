@@ -1,26 +1,8 @@
 -- What a call comes to by digests, from the trail of its steps.
-use Rattle.std.proofs.Common.{◌≡◌, ℕ, List, [], ◌∷◌, map, Result, Option, refl, sym, ap, ◌∙◌, subst}
-use Rattle.std.specs.List.{fold}
-use Rattle.mm_digest.specs.Messages.{extended_of}
-use Rattle.mm_platform.specs.declared.fault.StepFault.{StepFault}
-use Rattle.mm_platform.specs.Standing.{Standing}
-use Rattle.mm_module.specs.Batch.{Batch}
-use Rattle.mm_model.specs.Instance.{Instance}
-use Rattle.mm_model.specs.History.{Move, Foreign}
-use Rattle.mm_model.specs.Moves.{Digests}
-use Rattle.mm_model.specs.Steps.{ask_steps}
-use Rattle.mm_model.specs.declared.answer.BatchAnswer.{BatchAnswer}
-use Rattle.mm_model.specs.declared.refusal.Refusal.{Refusal}
-use Rattle.mm_call.specs.Levels.{all_made, by_digests}
-use Rattle.mm_call.specs.Found.{Found, found_at}
-use Rattle.mm_call.specs.FoundWords.{found_unless_wanting, is_fresh}
-use Rattle.mm_call.specs.Courses.{Course, Walked, walk}
-use Rattle.mm_call.specs.Called.{ended_by, called_by, called, seen_at, given_for}
-use Rattle.mm_call.specs.CalledWords.{called_with}
-use Rattle.mm_call.specs.Standing.{StandsAt}
-use Rattle.mm_call.specs.CallsOn.{GoesBy}
-use Rattle.mm_call.specs.Trails.{Trail, Leads}
-use Rattle.mm_call.specs.TrailLaws.{leads}
+use Rattle.mm_call.proofs.Below.{◌≡◌, ℕ, List, [], ◌∷◌, map, Result, Option, refl, sym, ap, ◌∙◌, subst, fold, extended_of, StepFault}
+use Rattle.mm_call.proofs.Below.{Standing, Batch, Instance, Move, Foreign, Digests, ask_steps, BatchAnswer, Refusal, all_made, by_digests}
+use Rattle.mm_call.proofs.Below.{Found, found_at, found_unless_wanting, is_fresh, Course, Walked, walk, ended_by, called_by, called}
+use Rattle.mm_call.proofs.Below.{seen_at, given_for, called_with, StandsAt, GoesBy, Trail, Leads, leads}
 
 -- what the call sees at its last reading step
 abbrev pub sees : Instance → Digests → Course → Digests
@@ -35,8 +17,7 @@ led_by : (i : Instance) (d : Digests) (c : Course) (b : Batch) (old new : Standi
     → result ≡ given_for (ended_by (by_digests i) (sees i d c) (all_made (by_digests i) d w.moves) b found w.moves fault)
     → GoesBy i d (called_by (by_digests i) d (sees i d c) b found w) old new result
 led_by i d c b old new result found fault w l gives = record {
-  gives =
-      gives ∙ ap (λ (f : Option StepFault). given_for
+  gives = gives ∙ ap (λ (f : Option StepFault). given_for
       (ended_by (by_digests i) (sees i d c) (all_made (by_digests i) d w.moves) b found w.moves f)) (sym l.broken);
   stands = l.stands;
   items = l.items;
@@ -45,11 +26,11 @@ led_by i d c b old new result found fault w l gives = record {
 }
 
 -- A call goes by digests, where it finds this and its steps are a trail that ends with this fault.
-pub went : (i : Instance) (d : Digests) (c : Course) (offer : List ℕ) (b : Batch) (old new : Standing) (result : Result BatchAnswer Refusal)
-    (found : Result Found Refusal) (fault : Option StepFault) → finds i d c offer b ≡ found → StandsAt i old d
-    → Trail i d c.fates 1 (ask_steps i.variant d.flag (is_fresh found) b) old new fault
-    → ((moves : List Move)
-    → result ≡ given_for (ended_by (by_digests i) (sees i d c) (all_made (by_digests i) d moves) b found moves fault))
+pub went : (i : Instance) (d : Digests) (c : Course) (offer : List ℕ) (b : Batch) (old new : Standing)
+    (result : Result BatchAnswer Refusal) (found : Result Found Refusal) (fault : Option StepFault) → finds i d c offer b ≡ found
+    → StandsAt i old d → Trail i d c.fates 1 (ask_steps i.variant d.flag (is_fresh found) b) old new fault
+    →
+    ((moves : List Move) → result ≡ given_for (ended_by (by_digests i) (sees i d c) (all_made (by_digests i) d moves) b found moves fault))
     → GoesBy i d (called i (by_digests i) d c offer b) old new result
 went i d c offer b old new result found fault e s t gives =
     let w : Walked = walk c.fates 1 (ask_steps i.variant d.flag (is_fresh found) b) in

@@ -1,37 +1,17 @@
 -- Opt: a call with no segment open whose batch isn't taken for new. It neither reads what the register holds nor empties
 -- it: so nothing of its moves counts, and nothing is asked of the register.
-use Rattle.std.proofs.Common.{◌≡◌, ℕ, Bool, true, false, List, [], ◌++◌, map, Some, Result, Ok, Err, refl, sym, ap, ◌∙◌, subst, ◌⊎◌, inl, inr}
-use Rattle.std.specs.List.{AllByRecursion, Contains}
-use Rattle.std.specs.Option.{option_map}
-use Rattle.std.proofs.lemmas.List.{append-nil, map-append}
-use Rattle.mm_digest.specs.declared.variant.Variant.TheVariants.{Opt}
-use Rattle.mm_platform.specs.Standing.{Item, Standing}
-use Rattle.mm_module.specs.Meaning.{Meaning}
-use Rattle.mm_module.specs.Batch.{Batch}
-use Rattle.mm_model.specs.Instance.{Instance}
-use Rattle.mm_model.specs.InstanceWords.{opt}
-use Rattle.mm_model.specs.History.{Value, History, Move, Foreign}
-use Rattle.mm_model.specs.Messages.{Within}
-use Rattle.mm_model.specs.Moves.{Digests, digests_of}
-use Rattle.mm_model.specs.Steps.{ask_steps}
-use Rattle.mm_model.specs.declared.refusal.Refusal.{Refusal}
-use Rattle.mm_call.specs.Asked.{counted_part, counted_moves, from_reset, moves_messages, foreign_in, IsAsked}
-use Rattle.mm_call.specs.Called.{called, seen_at}
-use Rattle.mm_call.specs.Courses.{End, Done, Fails, Fate, Course, walk}
-use Rattle.mm_call.specs.Found.{Found, found_at}
-use Rattle.mm_call.specs.FoundWords.{found_unless_wanting, is_fresh}
-use Rattle.mm_call.specs.Levels.{by_lists, by_digests}
-use Rattle.mm_call.specs.Premises.{AreAsked, AreShown, IsIdle}
-use Rattle.mm_call.specs.Standing.{shown}
-use Rattle.mm_call.specs.Tied.{standing_items}
+use Rattle.mm_call.proofs.Below.{◌≡◌, ℕ, Bool, true, false, List, [], ◌++◌, map, Some, Result, Ok, Err, refl, sym, ap, ◌∙◌, subst, ◌⊎◌, inl}
+use Rattle.mm_call.proofs.Below.{inr, AllByRecursion, Contains, option_map, append-nil, map-append, Opt, Item, Standing, Meaning, Batch}
+use Rattle.mm_call.proofs.Below.{Instance, opt, Value, History, Move, Foreign, Within, Digests, digests_of, ask_steps, Refusal}
+use Rattle.mm_call.proofs.Below.{counted_part, counted_moves, from_reset, moves_messages, foreign_in, IsAsked, called, seen_at, End, Done}
+use Rattle.mm_call.proofs.Below.{Fails, Fate, Course, walk, Found, found_at, found_unless_wanting, is_fresh, by_lists, by_digests, AreAsked}
+use Rattle.mm_call.proofs.Below.{AreShown, IsIdle, shown, standing_items, asked_by, asked_of, finished, from_reset-foreign}
 use Rattle.mm_call.proofs.OptHolding.{is_agrees}
 use Rattle.mm_call.proofs.OptLaw.{sight_is}
 use Rattle.mm_call.proofs.OptAgree.{opt_calls_agree_by_lists}
 use Rattle.mm_call.proofs.OptShapes.{two_reads}
 use Rattle.mm_call.proofs.OptShut.{bare, found_lists}
-use Rattle.mm_call.specs.ShowingLaws.{asked_by, asked_of}
 use Rattle.mm_call.proofs.Tied.{opt_tied}
-use Rattle.mm_call.specs.WalkLaws.{finished, from_reset-foreign}
 
 foreign_only : (values : List (List ℕ)) → from_reset (map Foreign values) ≡ []
 foreign_only values = ap from_reset (sym (append-nil (map Foreign values))) ∙ from_reset-foreign values []
@@ -45,8 +25,7 @@ reads_only : (v w : List (List ℕ)) (e f : End) → OnlyForeign (two_reads v e 
 reads_only v w Done Done =
     record {
       values = v ++ w;
-      are = ap (λ (ms : List Move). map Foreign v ++ ms) (append-nil (map Foreign w))
-          ∙ sym (map-append Foreign v w);
+      are = ap (λ (ms : List Move). map Foreign v ++ ms) (append-nil (map Foreign w)) ∙ sym (map-append Foreign v w);
     }
 reads_only v w Done (Fails fault made) = record { values = v ++ w; are = sym (map-append Foreign v w) }
 reads_only v w (Fails fault made) f = record { values = v; are = refl }
@@ -69,58 +48,6 @@ never_fresh (Err why) lacks f = refl
 never_fresh (Ok found) false f = f
 never_fresh (Ok found) true f = refl
 
--- what is found doesn't change by what others put into the register before the reading steps
-found_seen : (meaning : Meaning) (key barrier : List ℕ) (y : History) (c : Course) (offer : List ℕ) (b : Batch) → y.is_open ≡ false
-    → found_at (opt meaning key barrier) (by_lists (opt meaning key barrier))
-    (seen_at (opt meaning key barrier) (by_lists (opt meaning key barrier)) y c) b offer
-    ≡ found_at (opt meaning key barrier) (by_lists (opt meaning key barrier)) y b offer
-found_seen meaning key barrier y c offer b e =
-    let i : Instance = opt meaning key barrier in
-    ap (λ (z : History). found_at i (by_lists i) z b offer) (sight_is i y c)
-    ∙ found_lists meaning key barrier y ((y.items ++ map Value (c.fates 1).brings) ++ map Value (c.fates 2).brings) b offer e
-    ∙ sym (found_lists meaning key barrier y y.items b offer e)
-
-pub idle_moves : (meaning : Meaning) (key barrier : List ℕ) (y : History) (c : Course) (offer : List ℕ) (b : Batch)
-    → IsIdle (opt meaning key barrier) y offer b
-    → OnlyForeign (called (opt meaning key barrier) (by_lists (opt meaning key barrier)) y c offer b).moves
-idle_moves meaning key barrier y c offer b idle =
-    let i : Instance = opt meaning key barrier in
-    let at : Result Found Refusal = found_at i (by_lists i) (seen_at i (by_lists i) y c) b offer in
-    let not_new : is_fresh at ≡ false = ap is_fresh (found_seen meaning key barrier y c offer b idle.shut) ∙ idle.not_new in
-    walked_only c.fates y.is_open (is_fresh (found_unless_wanting at c.lacks)) b idle.shut (never_fresh at c.lacks not_new)
-
-pub asked_idle : (meaning : Meaning) (key barrier : List ℕ) (all others : List (List ℕ)) (asked : List Batch) (y : History) (c : Course)
-    (offer : List ℕ) (b : Batch) → AreAsked all others asked (opt meaning key barrier) y offer b
-    → IsIdle (opt meaning key barrier) y offer b
-    → IsAsked all others asked (opt meaning key barrier) y
-    (called (opt meaning key barrier) (by_digests (opt meaning key barrier)) (digests_of (opt meaning key barrier) y) c offer b).moves
-    offer b
-asked_idle meaning key barrier all others asked y c offer b a idle =
-    let i : Instance = opt meaning key barrier in
-    let d : Digests = digests_of i y in
-    let moves : List Move = (called i (by_lists i) y c offer b).moves in
-    let none : counted_moves y.is_open moves ≡ [] = none_count y.is_open moves idle.shut (idle_moves meaning key barrier y c offer b idle)
-    in
-    let is_asked : IsAsked all others asked i y moves offer b = asked_by i all others asked y moves offer b a
-    (subst (λ (ms : List Move). Within (moves_messages i (counted_part y) ms) all) (sym none) tt)
-    (subst (λ (ms : List Move). AllByRecursion (Contains others) (foreign_in ms)) (sym none) tt) in
-    let same = opt_calls_agree_by_lists meaning key barrier all others asked y d c offer b (is_agrees i y d refl) is_asked in
-    subst (λ (ms : List Move). IsAsked all others asked i y ms offer b) (sym same.moves) is_asked
-
--- an idle call leaves a history on which it is idle again
-pub idle_again : (meaning : Meaning) (key barrier : List ℕ) (y after : History) (offer : List ℕ) (b : Batch) → bare after ≡ bare y
-    → IsIdle (opt meaning key barrier) y offer b → IsIdle (opt meaning key barrier) after offer b
-idle_again meaning key barrier y after offer b same idle =
-    let i : Instance = opt meaning key barrier in
-    let shut : after.is_open ≡ false = ap (λ (x : History). x.is_open) same ∙ idle.shut in
-    record {
-      shut = shut;
-      not_new =
-          ap is_fresh (found_lists meaning key barrier after after.items b offer shut
-          ∙ ap (λ (x : History). found_at i (by_lists i) x b offer) same
-          ∙ sym (found_lists meaning key barrier y y.items b offer idle.shut)) ∙ idle.not_new;
-    }
-
 idle_by : {A : Type 0} (i : Instance) (y : History) (offer : List ℕ) (b : Batch) (flag fresh : Bool) → y.is_open ≡ flag
     → is_fresh (found_at i (by_lists i) y b offer) ≡ fresh → ((IsIdle i y offer b → ⊥) → A) → A ⊎ IsIdle i y offer b
 idle_by i y offer b true fresh e f unless = inl (unless (λ k. let clash : true ≡ false = sym e ∙ k.shut in absurd (cc)))
@@ -131,25 +58,60 @@ pub unless_idle : {A : Type 0} (i : Instance) (y : History) (offer : List ℕ) (
     → A ⊎ IsIdle i y offer b
 unless_idle i y offer b unless = idle_by i y offer b y.is_open (is_fresh (found_at i (by_lists i) y b offer)) refl refl unless
 
--- what is asked of a call, by what is asked of the items that the register shows, unless the call is idle
-pub asked_for : (meaning : Meaning) (key barrier : List ℕ) (all others : List (List ℕ)) (asked : List Batch) (y : History) (c : Course)
-    (offer : List ℕ) (b : Batch) (old new : Standing) (items more : List Item)
-    → AreAsked all others asked (opt meaning key barrier) y offer b
-    → ((IsIdle (opt meaning key barrier) y offer b → ⊥) → AreShown all others (opt meaning key barrier) y more) → old.items ≡ Some items
-    → new.items ≡ option_map
-    (shown (opt meaning key barrier) (digests_of (opt meaning key barrier) y)
-    (called (opt meaning key barrier) (by_digests (opt meaning key barrier)) (digests_of (opt meaning key barrier) y) c offer b).moves)
-    old.items
-    → new.items ≡ Some (standing_items y.is_open items ++ more)
-    → IsAsked all others asked (opt meaning key barrier) y
-    (called (opt meaning key barrier) (by_digests (opt meaning key barrier)) (digests_of (opt meaning key barrier) y) c offer b).moves
-    offer b
-asked_for meaning key barrier all others asked y c offer b old new items more a shown_so known goes ends =
-    let i : Instance = opt meaning key barrier in
-    let d : Digests = digests_of i y in
-    elim (unless_idle i y offer b shown_so) [
-      | inl shown_are ↦ asked_of meaning key barrier all others asked y (called i (by_digests i) d c offer b).moves offer b old new items
-          more a shown_are known goes ends
-          (opt_tied meaning key barrier y d c offer b refl)
-      | inr idle ↦ asked_idle meaning key barrier all others asked y c offer b a idle
-    ]
+module _ (meaning : Meaning) (key barrier : List ℕ) where
+  abbrev I : Instance
+  I = opt meaning key barrier
+
+  -- what is found doesn't change by what others put into the register before the reading steps
+  found_seen : (y : History) (c : Course) (offer : List ℕ) (b : Batch) → y.is_open ≡ false
+      → found_at I (by_lists I) (seen_at I (by_lists I) y c) b offer ≡ found_at I (by_lists I) y b offer
+  found_seen y c offer b e =
+      ap (λ (z : History). found_at I (by_lists I) z b offer) (sight_is I y c)
+      ∙ found_lists meaning key barrier y ((y.items ++ map Value (c.fates 1).brings) ++ map Value (c.fates 2).brings) b offer e
+      ∙ sym (found_lists meaning key barrier y y.items b offer e)
+
+  pub idle_moves : (y : History) (c : Course) (offer : List ℕ) (b : Batch) → IsIdle I y offer b
+      → OnlyForeign (called I (by_lists I) y c offer b).moves
+  idle_moves y c offer b idle =
+      let at : Result Found Refusal = found_at I (by_lists I) (seen_at I (by_lists I) y c) b offer in
+      let not_new : is_fresh at ≡ false = ap is_fresh (found_seen y c offer b idle.shut) ∙ idle.not_new in
+      walked_only c.fates y.is_open (is_fresh (found_unless_wanting at c.lacks)) b idle.shut (never_fresh at c.lacks not_new)
+
+  pub asked_idle : (all others : List (List ℕ)) (asked : List Batch) (y : History) (c : Course) (offer : List ℕ) (b : Batch)
+      → AreAsked all others asked I y offer b → IsIdle I y offer b
+      → IsAsked all others asked I y (called I (by_digests I) (digests_of I y) c offer b).moves offer b
+  asked_idle all others asked y c offer b a idle =
+      let d : Digests = digests_of I y in
+      let moves : List Move = (called I (by_lists I) y c offer b).moves in
+      let none : counted_moves y.is_open moves ≡ [] = none_count y.is_open moves idle.shut (idle_moves y c offer b idle) in
+      let is_asked : IsAsked all others asked I y moves offer b = asked_by I all others asked y moves offer b a
+      (subst (λ (ms : List Move). Within (moves_messages I (counted_part y) ms) all) (sym none) tt)
+      (subst (λ (ms : List Move). AllByRecursion (Contains others) (foreign_in ms)) (sym none) tt) in
+      let same = opt_calls_agree_by_lists meaning key barrier all others asked y d c offer b (is_agrees I y d refl) is_asked in
+      subst (λ (ms : List Move). IsAsked all others asked I y ms offer b) (sym same.moves) is_asked
+
+  -- an idle call leaves a history on which it is idle again
+  pub idle_again : (y after : History) (offer : List ℕ) (b : Batch) → bare after ≡ bare y → IsIdle I y offer b → IsIdle I after offer b
+  idle_again y after offer b same idle =
+      let shut : after.is_open ≡ false = ap (λ (x : History). x.is_open) same ∙ idle.shut in
+      record {
+        shut = shut;
+        not_new = ap is_fresh (found_lists meaning key barrier after after.items b offer shut
+            ∙ ap (λ (x : History). found_at I (by_lists I) x b offer) same
+            ∙ sym (found_lists meaning key barrier y y.items b offer idle.shut)) ∙ idle.not_new;
+      }
+
+  -- what is asked of a call, by what is asked of the items that the register shows, unless the call is idle
+  pub asked_for : (all others : List (List ℕ)) (asked : List Batch) (y : History) (c : Course) (offer : List ℕ) (b : Batch)
+      (old new : Standing) (items more : List Item) → AreAsked all others asked I y offer b
+      → ((IsIdle I y offer b → ⊥) → AreShown all others I y more) → old.items ≡ Some items
+      → new.items ≡ option_map (shown I (digests_of I y) (called I (by_digests I) (digests_of I y) c offer b).moves) old.items
+      → new.items ≡ Some (standing_items y.is_open items ++ more)
+      → IsAsked all others asked I y (called I (by_digests I) (digests_of I y) c offer b).moves offer b
+  asked_for all others asked y c offer b old new items more a shown_so known goes ends =
+      let d : Digests = digests_of I y in
+      elim (unless_idle I y offer b shown_so) [
+        | inl shown_are ↦ asked_of meaning key barrier all others asked y (called I (by_digests I) d c offer b).moves offer b old new items
+            more a shown_are known goes ends (opt_tied meaning key barrier y d c offer b refl)
+        | inr idle ↦ asked_idle all others asked y c offer b a idle
+      ]

@@ -1,24 +1,10 @@
 -- What a call that ended so gives, and what its moves committed.
-use Rattle.std.proofs.Common.{◌≡◌, ℕ, Bool, true, false, List, [], ◌∷◌, ◌++◌, map, Option, None, Some, Result, Ok, Err, refl, sym, ap, ◌∙◌, subst}
-use Rattle.std.specs.Prelude.{IsSome}
-use Rattle.std.specs.Option.{option_map}
-use Rattle.mm_base.specs.Faults.{counted}
-use Rattle.mm_platform.specs.declared.fault.StepFault.{StepFault}
+use Rattle.mm_call.proofs.Below.{◌≡◌, ℕ, Bool, true, false, List, [], ◌∷◌, ◌++◌, map, Option, None, Some, Result, Ok, Err, refl, sym, ap}
+use Rattle.mm_call.proofs.Below.{◌∙◌, subst, IsSome, option_map, counted, StepFault, Plan, Standing, plan_after, Act, Goes, is_on_at}
+use Rattle.mm_call.proofs.Below.{will_be_on, Move, Foreign, Refusal, Memory, Long, Device, Blank, Cell, Lost, Form, Kind, State, Tag, Stale}
+use Rattle.mm_call.proofs.Below.{Full, fault_of, Fails, commits, kept_at, result_of, ended_with, refused_as, kept_by, StaysOn, IsAt}
 use Rattle.mm_platform.specs.declared.plan.Stop.{Stop}
 use Rattle.mm_platform.specs.declared.plan.Stop.TheVariants.{Quiet, Cut, Drop, Fail}
-use Rattle.mm_platform.specs.Standing.{Plan, Standing, plan_after}
-use Rattle.mm_platform.specs.Steps.{Act, Goes, is_on_at, will_be_on}
-use Rattle.mm_module.specs.Batch.{Batch}
-use Rattle.mm_model.specs.History.{Move, Commit, Foreign}
-use Rattle.mm_model.specs.declared.answer.BatchAnswer.{BatchAnswer}
-use Rattle.mm_model.specs.declared.refusal.Refusal.{Refusal}
-use Rattle.mm_model.specs.declared.refusal.Refusal.TheVariants.{Memory, Long, Device, Blank, Cell, Lost, Form, Kind, State, Tag, Stale, Full}
-use Rattle.mm_call.specs.Refusals.{fault_of, handed_on}
-use Rattle.mm_call.specs.Courses.{Fails, commits}
-use Rattle.mm_call.specs.CoursesWords.{made_move}
-use Rattle.mm_call.specs.CalledWords.{kept_at}
-use Rattle.mm_call.specs.Ended.{result_of, ended_with, refused_as, committed_as, kept_by, StaysOn}
-use Rattle.mm_call.specs.TellingLaws.{IsAt}
 
 -- the fault of a refusal is that of a device
 pub device_only : (why : Refusal) (fault : StepFault) → fault_of why ≡ Some fault → why ≡ Device fault
@@ -43,12 +29,6 @@ ended_result (Some fault) why e = ap (λ (w : Refusal). Err w) (sym (device_only
 pub refused_result : (why : Refusal) → result_of (refused_as why) ≡ Err why
 refused_result why = ended_result (fault_of why) why refl
 
--- what the step that commits gives is handed on
-pub committed_result : (position : Option ℕ) (written : Result BatchAnswer StepFault)
-    → result_of (committed_as position written) ≡ handed_on written
-committed_result position (Ok answer) = refl
-committed_result position (Err fault) = refl
-
 -- values of others commit nothing
 pub foreign_commits : (values : List (List ℕ)) → commits (map Foreign values) ≡ false
 foreign_commits [] = refl
@@ -57,11 +37,6 @@ foreign_commits (v ∷ values) = foreign_commits values
 pub commits_then : (values : List (List ℕ)) (moves : List Move) → commits (map Foreign values ++ moves) ≡ commits moves
 commits_then [] moves = refl
 commits_then (v ∷ values) moves = commits_then values moves
-
--- a write that failed has committed where its effect was made
-pub written_commits : (made : Bool) (b : Batch) (values : List (List ℕ)) → commits (made_move made (Commit b) ++ map Foreign values) ≡ made
-written_commits true b values = refl
-written_commits false b values = foreign_commits values
 
 -- the position that a failed step has committed
 pub kept_none : (fault : StepFault) (made : Bool) → None ≡ kept_by (Fails fault made) None

@@ -1,24 +1,30 @@
-pub mod Members
-pub mod Ending
-pub mod Reading
-pub mod Finding
-pub mod Calling
-pub mod OptMessages
-pub mod OptHolding
-pub mod OptFinding
-pub mod OptWalks
-pub mod OptReady
-pub mod OptPlaces
-pub mod Endings
-pub mod Going
-pub mod BasicLaw
+pub mod Above
+mod Below
+mod Members
+mod Finding
+mod Calling
+mod OptMessages
+mod OptHolding
+mod OptFinding
+mod OptWalks
+mod OptReady
+mod OptPlaces
+mod Endings
+mod Going
+mod BasicLaw
 pub mod OptShapes
-pub mod OptShut
-pub mod OptLaw
-pub mod OptAgree
-pub mod OptMay
-pub mod Continuing
-pub mod Checkpoints
-pub mod Keeping
-pub mod Tied
-pub mod Idle
+mod OptShut
+mod OptLaw
+mod OptAgree
+mod OptMay
+mod Continuing
+mod Checkpoints
+mod Keeping
+mod Committing
+mod Completing
+mod Tied
+mod Idle
+mod Coming
+pub mod OptAlike
+mod OptShown
+mod OptLeaves

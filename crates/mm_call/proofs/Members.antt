@@ -1,13 +1,8 @@
 -- A batch that runs member by member.
-use Rattle.std.proofs.Common.{◌≡◌, ℕ, ◌+◌, ◌<◌, List, [], ◌∷◌, ◌++◌, length, drop, Some, IsTrue, refl, sym, ap, ◌∙◌, suc, add-one, drop-cons, append_assoc, ◌≤◌}
-use Rattle.std.specs.List.{slice_get}
-use Rattle.std.proofs.lemmas.List.{append-nil, drop_all}
+use Rattle.mm_call.proofs.Below.{◌≡◌, ℕ, ◌+◌, ◌<◌, List, [], ◌∷◌, ◌++◌, length, drop, Some, IsTrue, sym, ap, ◌∙◌, suc, add-one, drop-cons}
+use Rattle.mm_call.proofs.Below.{append_assoc, ◌≤◌, slice_get, Meaning, IsLawful, outputs_from, state_from, limit_of, state_from-is_spelled}
+use Rattle.mm_call.proofs.Below.{RanSome}
 use Rattle.std.proofs.lemmas.Option.{slice_get_within, get_or_from_slice_get}
-use Rattle.mm_module.specs.Meaning.{Meaning, IsLawful, outputs_from}
-use Rattle.mm_module.specs.MeaningWords.{state_from}
-use Rattle.mm_base.specs.Limits.{limit_of}
-use Rattle.mm_module.specs.RunLaws.{state_from-is_spelled}
-use Rattle.mm_call.specs.Ran.{RanSome}
 
 pub drop_at : (xs : List (List ℕ)) (i : ℕ) (m : List ℕ) → slice_get xs i ≡ Some m → drop i xs ≡ m ∷ drop (i + 1) xs
 drop_at xs i m e =
@@ -15,9 +10,8 @@ drop_at xs i m e =
     rw (add-one, drop-cons xs i m) (ap (λ (v : List ℕ). v ∷ drop (suc i) xs) (get_or_from_slice_get xs i m m e))
 
 -- one member more
-pub ran_more : (meaning : Meaning) → IsLawful meaning
-    → (start : List ℕ) (members : List (List ℕ)) (i : ℕ) (state : List ℕ) (outputs : List (List ℕ)) (m : List ℕ)
-    → RanSome meaning start members i state outputs → slice_get members i ≡ Some m
+pub ran_more : (meaning : Meaning) → IsLawful meaning → (start : List ℕ) (members : List (List ℕ)) (i : ℕ) (state : List ℕ)
+    (outputs : List (List ℕ)) (m : List ℕ) → RanSome meaning start members i state outputs → slice_get members i ≡ Some m
     → RanSome meaning start members (i + 1) (meaning.next state m) (outputs ++ meaning.says state m ∷ [])
 ran_more meaning lawful start members i state outputs m ran at =
     let d : drop i members ≡ m ∷ drop (i + 1) members = drop_at members i m at in
@@ -29,10 +23,10 @@ ran_more meaning lawful start members i state outputs m ran at =
     }
 
 -- one member more, by what its step gave
-pub ran_on : (meaning : Meaning) → IsLawful meaning
-    → (start : List ℕ) (members : List (List ℕ)) (i : ℕ) (state read next said : List ℕ) (outputs longer : List (List ℕ)) (m : List ℕ)
-    → RanSome meaning start members i state outputs → slice_get members i ≡ Some m → read ≡ state → next ≡ meaning.next read m
-    → said ≡ meaning.says read m → longer ≡ outputs ++ said ∷ [] → RanSome meaning start members (i + 1) next longer
+pub ran_on : (meaning : Meaning) → IsLawful meaning → (start : List ℕ) (members : List (List ℕ)) (i : ℕ) (state read next said : List ℕ)
+    (outputs longer : List (List ℕ)) (m : List ℕ) → RanSome meaning start members i state outputs → slice_get members i ≡ Some m
+    → read ≡ state → next ≡ meaning.next read m → said ≡ meaning.says read m → longer ≡ outputs ++ said ∷ []
+    → RanSome meaning start members (i + 1) next longer
 ran_on meaning lawful start members i state read next said outputs longer m ran at read_is next_is said_is longer_is =
     rw (longer_is, said_is, next_is, read_is) (ran_more meaning lawful start members i state outputs m ran at)
 

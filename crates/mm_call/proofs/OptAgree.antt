@@ -1,28 +1,13 @@
 -- Opt: a call is by digests what it is by lists, on every course.
-use Rattle.std.proofs.Common.{ℕ, ◌≡◌, Bool, true, false, List, [], ◌∷◌, ◌++◌, map, Result, Ok, refl, sym, ap, ◌∙◌, subst, inl, inr}
-use Rattle.std.specs.List.{AllByRecursion, Contains, fold}
-use Rattle.mm_digest.specs.declared.variant.Variant.TheVariants.{Opt}
-use Rattle.mm_digest.specs.Messages.{extended_of}
-use Rattle.mm_module.specs.Meaning.{Meaning}
-use Rattle.mm_module.specs.Batch.{Batch}
-use Rattle.mm_model.specs.InstanceWords.{opt}
-use Rattle.mm_model.specs.History.{Value, History, Move, Foreign, Reset}
-use Rattle.mm_model.specs.Steps.{Step, Reads, ask_steps}
-use Rattle.mm_model.specs.Messages.{Within}
-use Rattle.mm_model.specs.MessagesWords.{move_messages}
-use Rattle.mm_model.specs.Moves.{Digests}
-use Rattle.mm_model.specs.declared.refusal.Refusal.{Refusal}
-use Rattle.mm_model.specs.ListLaws.{each_right}
-use Rattle.mm_call.specs.Levels.{by_lists, by_digests, all_made, Agrees}
-use Rattle.mm_call.specs.Found.{Found, found_at}
-use Rattle.mm_call.specs.FoundWords.{found_unless_wanting, is_fresh}
-use Rattle.mm_call.specs.Courses.{Fate, Course, Walked, walk}
-use Rattle.mm_call.specs.Called.{Called, called, called_by}
-use Rattle.mm_call.specs.Asked.{from_reset, moves_messages, foreign_in, IsWithin, IsAsked}
-use Rattle.mm_call.specs.Laws.{IsSameCall, OptCallsAgree}
-use Rattle.mm_call.proofs.Finding.{Asking}
-use Rattle.mm_call.proofs.OptFinding.{Placed, IsLive, found_same, placed}
-use Rattle.mm_call.specs.WalkLaws.{opt_commits, changing, asks, taking_is, foreign_made, from_reset-foreign}
+use Rattle.mm_call.proofs.Below.{ℕ, ◌≡◌, Bool, true, false, List, [], ◌∷◌, ◌++◌, map, Result, Ok, refl, sym, ap, ◌∙◌, subst, inl, inr}
+use Rattle.mm_call.proofs.Below.{AllByRecursion, Contains, fold, Opt, extended_of, Meaning, Batch, Instance, opt, Value, History, Move}
+use Rattle.mm_call.proofs.Below.{Foreign, Reset, Step, Reads, ask_steps, Within, move_messages, Digests, Refusal, each_right, by_lists}
+use Rattle.mm_call.proofs.Below.{by_digests, all_made, Agrees, Found, found_at, found_unless_wanting, is_fresh, Fate, Course, Walked, walk}
+use Rattle.mm_call.proofs.Below.{Called, called, called_by, from_reset, moves_messages, foreign_in, IsWithin, IsAsked, IsSameCall}
+use Rattle.mm_call.proofs.Below.{OptCallsAgree, opt_commits, changing, asks, taking_is, foreign_made, from_reset-foreign, IsGenuine}
+use Rattle.mm_call.proofs.Below.{IsSound, opt_names}
+use Rattle.mm_call.proofs.Finding.{Asking, Placed, placed}
+use Rattle.mm_call.proofs.OptFinding.{IsLive, found_same}
 use Rattle.mm_call.proofs.OptWalks.{AllFine, holds_made, walk_fine, AreOwn}
 use Rattle.mm_call.proofs.OptReady.{IsDue, ready_opening}
 use Rattle.mm_call.proofs.Endings.{ending_same}
@@ -30,9 +15,6 @@ use Rattle.mm_call.proofs.OptShapes.{opening, Shape, still, reset, shape}
 use Rattle.mm_call.proofs.OptShut.{bare, bare_digests, found_lists, found_digests, foreign_digests, foreign_reset, foreign_agrees, holds_shut, within_of, within_items, reset_may}
 use Rattle.mm_call.proofs.BasicLaw.{unlacked}
 use Rattle.mm_call.proofs.OptLaw.{Counts, Lists, ByDigests, AreSame, shut_counts, due_of, apart_of, inside, ends_of, steps_walk, sight_is, sight_agrees, before}
-use Rattle.mm_model.specs.Standing.{IsGenuine}
-use Rattle.mm_model.specs.Sound.{IsSound}
-use Rattle.mm_model.proofs.Named.{opt_names}
 
 -- a bare history is named by the same snapshots
 genuine_bare : (meaning : Meaning) (key barrier : List ℕ) (y : History) (offer : List ℕ) → y.is_open ≡ false → IsSound y
@@ -46,30 +28,29 @@ own_opening : (b : Batch) → AreOwn (opening b)
 own_opening b = (refl, (refl, tt))
 
 module _ (meaning : Meaning) (key barrier : List ℕ) (all others : List (List ℕ)) (asked : List Batch) where
+  abbrev I : Instance
+  I = opt meaning key barrier
+
   -- what stands after the moves of a call
   shut_after : (y : History) (d : Digests) (fates : ℕ → Fate) (b : Batch) (fresh : Bool) (moves : List Move) → y.is_open ≡ false
-      → Agrees (opt meaning key barrier) y d → IsWithin all others asked (opt meaning key barrier) y
-      → (fresh ≡ true → IsDue all asked barrier (bare y) b × IsLive (bare y)) → Shape fates fresh b moves
-      → Counts meaning key barrier all others asked false (bare y) moves
-      → Agrees (opt meaning key barrier) (all_made (by_lists (opt meaning key barrier)) y moves)
-      (all_made (by_digests (opt meaning key barrier)) d moves)
-      × IsWithin all others asked (opt meaning key barrier) (all_made (by_lists (opt meaning key barrier)) y moves)
+      → Agrees I y d → IsWithin all others asked I y → (fresh ≡ true → IsDue all asked barrier (bare y) b × IsLive (bare y))
+      → Shape fates fresh b moves → Counts meaning key barrier all others asked false (bare y) moves
+      → Agrees I (all_made (by_lists I) y moves)
+      (all_made (by_digests I) d moves) × IsWithin all others asked I (all_made (by_lists I) y moves)
   shut_after y d fates b fresh moves e agrees within due (still values is) counts =
-      let i = opt meaning key barrier in
-      let W : History → Type 0 = IsWithin all others asked i in
-      let kept : W (all_made (by_lists i) y (map Foreign values)) =
-      subst W (sym (taking_is i values y)) (within_items meaning key barrier all others asked y (y.items ++ map Value values) e within) in
-      subst (λ m. Agrees i (all_made (by_lists i) y m) (all_made (by_digests i) d m) × W (all_made (by_lists i) y m)) (sym is)
+      let W : History → Type 0 = IsWithin all others asked I in
+      let kept : W (all_made (by_lists I) y (map Foreign values)) =
+      subst W (sym (taking_is I values y)) (within_items meaning key barrier all others asked y (y.items ++ map Value values) e within) in
+      subst (λ m. Agrees I (all_made (by_lists I) y m) (all_made (by_digests I) d m) × W (all_made (by_lists I) y m)) (sym is)
       (foreign_agrees meaning key barrier values y d agrees, kept)
   shut_after y d fates b fresh moves e agrees within due (reset values rest is k) counts =
-      let i = opt meaning key barrier in
       let O : List Move → Type 0 = λ m. AllByRecursion (Contains others) (foreign_in m) in
       let begins : from_reset moves ≡ Reset ∷ rest = ap from_reset is ∙ from_reset-foreign values (Reset ∷ rest) in
-      let whole = subst (λ m. Within (moves_messages i (bare y) m) all) begins counts.0 in
-      let messages : Within (moves_messages i (bare y) rest) all =
-      each_right (Contains all) (move_messages i (bare y) Reset) (moves_messages i (bare y) rest) whole in
+      let whole = subst (λ m. Within (moves_messages I (bare y) m) all) begins counts.0 in
+      let messages : Within (moves_messages I (bare y) rest) all =
+      each_right (Contains all) (move_messages I (bare y) Reset) (moves_messages I (bare y) rest) whole in
       let outside : O rest = subst O begins counts.1 in
-      let F : List Move → Type 0 = AllFine all others asked i (bare y) in
+      let F : List Move → Type 0 = AllFine all others asked I (bare y) in
       let fine : F rest = elim k [
         | inl none ↦ subst F (sym none) tt
         | inr more ↦
@@ -79,62 +60,57 @@ module _ (meaning : Meaning) (key barrier : List ℕ) (all others : List (List �
       ] in
       let end = holds_made meaning key barrier all others asked rest (bare y) (bare_digests d)
       (holds_shut meaning key barrier all others asked y d e agrees within) fine messages in
-      let lists : all_made (by_lists i) y moves ≡ all_made (by_lists i) (bare y) rest =
-      ap (all_made (by_lists i) y) is ∙ foreign_made i values (Reset ∷ rest) y in
-      let digests : all_made (by_digests i) d moves ≡ all_made (by_digests i) (bare_digests d) rest =
-      ap (all_made (by_digests i) d) is ∙ foreign_reset i values rest d in (
-        subst (λ x. Agrees i x (all_made (by_digests i) d moves)) (sym lists)
-            (subst (λ x. Agrees i (all_made (by_lists i) (bare y) rest) x) (sym digests) end.agrees),
-        subst (IsWithin all others asked i) (sym lists)
-            (within_of meaning key barrier all others asked (all_made (by_lists i) (bare y) rest)
-            (all_made (by_digests i) (bare_digests d) rest) end),
+      let lists : all_made (by_lists I) y moves ≡ all_made (by_lists I) (bare y) rest =
+      ap (all_made (by_lists I) y) is ∙ foreign_made I values (Reset ∷ rest) y in
+      let digests : all_made (by_digests I) d moves ≡ all_made (by_digests I) (bare_digests d) rest =
+      ap (all_made (by_digests I) d) is ∙ foreign_reset I values rest d in (
+        subst (λ x. Agrees I x (all_made (by_digests I) d moves)) (sym lists)
+            (subst (λ x. Agrees I (all_made (by_lists I) (bare y) rest) x) (sym digests) end.agrees),
+        subst (IsWithin all others asked I) (sym lists)
+            (within_of meaning key barrier all others asked (all_made (by_lists I) (bare y) rest)
+            (all_made (by_digests I) (bare_digests d) rest) end),
       )
 
-  shut : (y : History) (d : Digests) (c : Course) (offer : List ℕ) (b : Batch) → y.is_open ≡ false → Agrees (opt meaning key barrier) y d
+  shut : (y : History) (d : Digests) (c : Course) (offer : List ℕ) (b : Batch) → y.is_open ≡ false → Agrees I y d
       → AreSame meaning key barrier all others asked false y d c offer b
   shut y d c offer b e agrees x k a =
-      let i = opt meaning key barrier in
       let v = (c.fates 1).brings in
       let w = (c.fates 2).brings in
-      let sees : History = all_made (by_lists i) y (before c) in
-      let seen : Digests = all_made (by_digests i) d (before c) in
+      let sees : History = all_made (by_lists I) y (before c) in
+      let seen : Digests = all_made (by_digests I) d (before c) in
       let found : Result Found Refusal = found_unless_wanting (Lists meaning key barrier all others asked y c offer b) c.lacks in
       let other : Result Found Refusal = found_unless_wanting (ByDigests meaning key barrier all others asked d c offer b) c.lacks in
       let h = holds_shut meaning key barrier all others asked y d e agrees a.within in
-      let asking : Asking all i (bare y) offer b = record {
+      let asking : Asking all I (bare y) offer b = record {
         clear = a.clear;
         listed = a.offered;
         genuine = genuine_bare meaning key barrier y offer e a.within.sound a.genuine;
       } in
-      let lists : Lists meaning key barrier all others asked y c offer b ≡ found_at i (by_lists i) (bare y) b offer =
-      ap (λ x. found_at i (by_lists i) x b offer) (sight_is i y c)
+      let lists : Lists meaning key barrier all others asked y c offer b ≡ found_at I (by_lists I) (bare y) b offer =
+      ap (λ x. found_at I (by_lists I) x b offer) (sight_is I y c)
       ∙ found_lists meaning key barrier y ((y.items ++ map Value v) ++ map Value w) b offer e in
       let register : List ℕ = fold extended_of (fold extended_of d.register v) w in
       let seen_is : seen ≡ record d { register = register } =
-      foreign_digests i v (map Foreign w ++ []) d ∙ foreign_digests i w [] (record d { register = fold extended_of d.register v }) in
-      let digests : ByDigests meaning key barrier all others asked d c offer b ≡ found_at i (by_digests i) (bare_digests d) b offer =
-      ap (λ x. found_at i (by_digests i) x b offer) seen_is ∙ found_digests meaning key barrier d register b offer (agrees.flag ∙ e) in
+      foreign_digests I v (map Foreign w ++ []) d ∙ foreign_digests I w [] (record d { register = fold extended_of d.register v }) in
+      let digests : ByDigests meaning key barrier all others asked d c offer b ≡ found_at I (by_digests I) (bare_digests d) b offer =
+      ap (λ x. found_at I (by_digests I) x b offer) seen_is ∙ found_digests meaning key barrier d register b offer (agrees.flag ∙ e) in
       let agree : other ≡ found = ap (λ x. found_unless_wanting x c.lacks)
       (digests ∙ found_same meaning key barrier all others asked (bare y) (bare_digests d) offer b
-      (apart_of meaning key barrier all others asked y _ offer b a) a.is_asked h
-      asking ∙ sym lists) in
-      let placed_at : (f : Found) → found ≡ Ok f → Placed all i (bare y) b f = λ f is.
-      placed meaning key barrier all (bare y) offer b asking f
+      (apart_of meaning key barrier all others asked y _ offer b a) a.is_asked h asking ∙ sym lists) in
+      let placed_at : (f : Found) → found ≡ Ok f → Placed all I (bare y) b f = λ f is. placed all I (bare y) offer b asking f
       (sym lists ∙ unlacked (Lists meaning key barrier all others asked y c offer b) c.lacks f is) in
       let walked : Walked = steps_walk c false found b in
       let counts : Counts meaning key barrier all others asked false (bare y) walked.moves =
       subst (λ z. Counts meaning key barrier all others asked false (bare y) (steps_walk c false z b).moves) (k agree)
-      (shut_counts meaning key barrier all others asked y (steps_walk c false x b).moves offer b e a)
-      in
+      (shut_counts meaning key barrier all others asked y (steps_walk c false x b).moves offer b e a) in
       let after = shut_after y d c.fates b (is_fresh found) walked.moves e agrees a.within
       (due_of meaning key barrier all others asked (bare y) b found h.sound a.is_asked placed_at)
       (shape c.fates (is_fresh found) b) counts in
       let ends = ends_of meaning key barrier all y (bare y) seen c b false found e refl placed_at
       (λ f is x. cc) (sight_agrees meaning key barrier y d c agrees) in
-      let same : IsSameCall all others asked i (called_by (by_lists i) y sees b found walked)
-      (called_by (by_digests i) d seen b found walked) = record {
-        ending =
-            ending_same i y sees seen (all_made (by_digests i) d walked.moves) b walked walked.broken found refl ends
+      let same : IsSameCall all others asked I (called_by (by_lists I) y sees b found walked)
+      (called_by (by_digests I) d seen b found walked) = record {
+        ending = ending_same I y sees seen (all_made (by_digests I) d walked.moves) b walked walked.broken found refl ends
             (opt_commits c.fates false (is_fresh found) b);
         moves = refl;
         steps = refl;
@@ -142,27 +118,26 @@ module _ (meaning : Meaning) (key barrier : List ℕ) (all others : List (List �
         agrees = after.0;
         within = after.1;
       } in
-      let P : Result Found Refusal → Type 0 = λ x. IsSameCall all others asked i
-      (called_by (by_lists i) y sees b found walked) (called_by (by_digests i) d seen b x (steps_walk c false x b)) in
+      let P : Result Found Refusal → Type 0 = λ x. IsSameCall all others asked I
+      (called_by (by_lists I) y sees b found walked) (called_by (by_digests I) d seen b x (steps_walk c false x b)) in
       subst P (sym agree) same
 
-  by_flag : (flag : Bool) (y : History) (d : Digests) (c : Course) (offer : List ℕ) (b : Batch) → y.is_open ≡ flag
-      → Agrees (opt meaning key barrier) y d
+  by_flag : (flag : Bool) (y : History) (d : Digests) (c : Course) (offer : List ℕ) (b : Batch) → y.is_open ≡ flag → Agrees I y d
       → AreSame meaning key barrier all others asked flag y d c offer b
   by_flag true y d c offer b e agrees x k a = inside meaning key barrier all others asked y d c offer b e agrees x k a
   by_flag false y d c offer b e agrees x k a = shut y d c offer b e agrees x k a
 
 -- the law, by the moves of the steps that follow from what is found by digests or by lists
 agree_by : (meaning : Meaning) (key barrier : List ℕ) (all others : List (List ℕ)) (asked : List Batch) (y : History) (d : Digests)
-    (c : Course) (offer : List ℕ) (b : Batch)
-    → Agrees (opt meaning key barrier) y d → (x : Result Found Refusal) (flag : Bool) → flag ≡ y.is_open
-    → (found_unless_wanting (ByDigests meaning key barrier all others asked d c offer b) c.lacks ≡ found_unless_wanting
-    (Lists meaning key barrier all others asked y c offer b) c.lacks
-    → x ≡ found_unless_wanting (Lists meaning key barrier all others asked y c offer b) c.lacks)
-    → IsAsked all others asked (opt meaning key barrier) y (walk c.fates 1 (ask_steps Opt flag (is_fresh x) b)).moves offer b
-    → IsSameCall all others asked (opt meaning key barrier)
-    (called (opt meaning key barrier) (by_lists (opt meaning key barrier)) y c offer b)
-    (called (opt meaning key barrier) (by_digests (opt meaning key barrier)) d c offer b)
+    (c : Course) (offer : List ℕ) (b : Batch) → Agrees (opt meaning key barrier) y d → (x : Result Found Refusal) (flag : Bool)
+    → flag ≡ y.is_open
+    →
+    (found_unless_wanting (ByDigests meaning key barrier all others asked d c offer b) c.lacks ≡ found_unless_wanting (Lists meaning key
+    barrier all others asked y c offer b) c.lacks → x ≡ found_unless_wanting (Lists meaning key barrier all others asked y c offer b)
+    c.lacks) → IsAsked all others asked (opt meaning key barrier) y (walk c.fates 1
+    (ask_steps Opt flag (is_fresh x) b)).moves offer b → IsSameCall all others asked (opt meaning key barrier) (called
+    (opt meaning key barrier) (by_lists (opt meaning key barrier)) y c offer b) (called (opt meaning key barrier)
+    (by_digests (opt meaning key barrier)) d c offer b)
 agree_by meaning key barrier all others asked y d c offer b agrees x flag same_flag k a =
     let i = opt meaning key barrier in
     let sees : History = all_made (by_lists i) y (before c) in
@@ -172,8 +147,7 @@ agree_by meaning key barrier all others asked y d c offer b agrees x flag same_f
     let Listed : List Step → Called History = λ steps. called_by (by_lists i) y sees b found (walk c.fates 1 steps) in
     let Digested : List Step → Called Digests = λ steps. called_by (by_digests i) d seen b other (walk c.fates 1 steps) in
     let to : (f : Bool) (z : Result Found Refusal) → f ≡ y.is_open → ask_steps Opt f (is_fresh z) b ≡ Reads ∷ Reads
-    ∷ changing y.is_open (is_fresh z) b =
-    λ f z e. asks f (is_fresh z) b ∙ ap (λ g. Reads ∷ Reads ∷ changing g (is_fresh z) b) e in
+    ∷ changing y.is_open (is_fresh z) b = λ f z e. asks f (is_fresh z) b ∙ ap (λ g. Reads ∷ Reads ∷ changing g (is_fresh z) b) e in
     let same = by_flag meaning key barrier all others asked y.is_open y d c offer b refl agrees x k
     (subst (λ s. IsAsked all others asked i y (walk c.fates 1 s).moves offer b) (to flag x same_flag) a) in
     subst (λ s. IsSameCall all others asked i (Listed s) (Digested (ask_steps Opt d.flag (is_fresh other) b)))
@@ -188,8 +162,7 @@ opt_calls_agree meaning key barrier all others asked y d c offer b agrees a =
 
 -- the same, by the moves of the call by lists
 pub opt_calls_agree_by_lists : (meaning : Meaning) (key barrier : List ℕ) (all others : List (List ℕ)) (asked : List Batch) (y : History)
-    (d : Digests) (c : Course) (offer : List ℕ) (b : Batch)
-    → Agrees (opt meaning key barrier) y d
+    (d : Digests) (c : Course) (offer : List ℕ) (b : Batch) → Agrees (opt meaning key barrier) y d
     → IsAsked all others asked (opt meaning key barrier) y
     (called (opt meaning key barrier) (by_lists (opt meaning key barrier)) y c offer b).moves offer b
     → IsSameCall all others asked (opt meaning key barrier)

@@ -1,30 +1,14 @@
 -- Opt: the moves of a call may be made, one after another.
-use Rattle.std.proofs.Common.{ℕ, ◌≡◌, Bool, List, [], ◌∷◌, Result, refl, sym, subst, arith}
-use Rattle.std.specs.List.{Contains}
-use Rattle.mm_digest.specs.declared.variant.Variant.TheVariants.{Opt}
-use Rattle.mm_digest.specs.Messages.{extended_message}
-use Rattle.mm_module.specs.Meaning.{Meaning}
-use Rattle.mm_module.specs.Batch.{Batch}
-use Rattle.mm_model.specs.Chains.{guard, guard_message, register_of}
-use Rattle.mm_model.specs.ChainsWords.{own_values}
-use Rattle.mm_model.specs.History.{History, Move, moved}
-use Rattle.mm_model.specs.Instance.{Instance}
-use Rattle.mm_model.specs.InstanceWords.{opt}
-use Rattle.mm_model.specs.Moves.{MayMove}
-use Rattle.mm_model.specs.Steps.{Step, Reads, ask_steps}
-use Rattle.mm_model.specs.ListLaws.{each_self}
-use Rattle.mm_call.specs.Asked.{foreign_in}
-use Rattle.mm_call.specs.Courses.{Course, walk}
-use Rattle.mm_call.specs.Found.{found_at}
-use Rattle.mm_call.specs.FoundWords.{found_unless_wanting, is_fresh}
-use Rattle.mm_call.specs.Levels.{by_lists, all_made}
+use Rattle.mm_call.proofs.Below.{ℕ, List, [], ◌∷◌, refl, sym, subst, arith, Contains, Opt, extended_message, Meaning, Batch, guard}
+use Rattle.mm_call.proofs.Below.{guard_message, register_of, own_values, History, Move, moved, Instance, opt, MayMove, Step, Reads}
+use Rattle.mm_call.proofs.Below.{ask_steps, each_self, foreign_in, Course, walk, found_at, found_unless_wanting, is_fresh, by_lists}
+use Rattle.mm_call.proofs.Below.{all_made, asks, changing}
 use Rattle.mm_call.proofs.BasicLaw.{unlacked}
 use Rattle.mm_call.proofs.Endings.{fresh_found}
 use Rattle.mm_call.proofs.OptFinding.{IsLive, live_found}
 use Rattle.mm_call.proofs.OptLaw.{before, sight, sight_is}
 use Rattle.mm_call.proofs.OptReady.{ready_third}
 use Rattle.mm_call.proofs.OptWalks.{AllFine, Ready, own_asked, walk_fine}
-use Rattle.mm_call.specs.WalkLaws.{asks, changing}
 
 -- moves that may be made one after another
 abbrev pub AllMay : Instance → History → List Move → Type 0
@@ -44,9 +28,9 @@ second_in x y xs = (1, omega arith, refl)
 
 -- the moves of a call that asks for a batch may be made
 pub ask_may : (meaning : Meaning) (key barrier : List ℕ) (y : History) (c : Course) (bytes : List ℕ) (b : Batch)
-    → (let i = opt meaning key barrier in
-    let found = found_unless_wanting (found_at i (by_lists i) (all_made (by_lists i) y (before c)) b bytes) c.lacks in
-    AllMay i y (walk c.fates 1 (ask_steps Opt y.is_open (is_fresh found) b)).moves)
+    →
+    (let i = opt meaning key barrier in let found = found_unless_wanting (found_at i (by_lists i) (all_made (by_lists i) y (before c)) b
+    bytes) c.lacks in AllMay i y (walk c.fates 1 (ask_steps Opt y.is_open (is_fresh found) b)).moves)
 ask_may meaning key barrier y c bytes b =
     let i = opt meaning key barrier in
     let seen : History = all_made (by_lists i) y (before c) in

@@ -1,28 +1,13 @@
 -- Opt: where the messages of a history are listed, and those of a move are, the messages after the move are listed.
-use Rattle.std.proofs.Common.{ℕ, ◌≡◌, ◌+◌, ◌-◌, ◌≤◌, true, false, List, [], ◌∷◌, ◌++◌, length, map, take, drop, refl, sym, ap, ◌∙◌, subst, arith, append_assoc, length-append, length-drop, inl, inr}
-use Rattle.std.specs.List.{flat_map, Contains}
-use Rattle.std.proofs.lemmas.Grind.{flat_map-append}
-use Rattle.std.proofs.lemmas.List.{append-nil, map-append, take-append-le, drop-append-le}
-use Rattle.mm_digest.specs.declared.variant.Variant.TheVariants.{Opt}
-use Rattle.mm_digest.specs.Messages.{zero_bytes, start_message, start_of, extended_message, anchored_message}
-use Rattle.mm_module.specs.Meaning.{Meaning}
-use Rattle.mm_module.specs.Batch.{Batch}
-use Rattle.mm_model.specs.Chains.{trail, guard_message, closing_message, guard, register_of, anchor_of}
-use Rattle.mm_model.specs.ChainsWords.{own_values}
-use Rattle.mm_model.specs.Instance.{Instance}
-use Rattle.mm_model.specs.InstanceWords.{opt}
-use Rattle.mm_model.specs.History.{Entry, Own, Value, History, joined, value_of, renamed, register_value_of}
-use Rattle.mm_model.specs.HistoryWords.{values_of, cell_digest_of}
-use Rattle.mm_model.specs.Sound.{IsSound, IsClean, batches_in}
-use Rattle.mm_model.specs.Moves.{IsOpening}
-use Rattle.mm_model.specs.Messages.{Within, closed_runs, runs_of, register_trail, history_messages}
-use Rattle.mm_model.specs.ChainLaws.{trail_push}
-use Rattle.mm_model.proofs.Listing.{items_grow, run_grows, guards_grow}
-use Rattle.mm_model.proofs.Whole.{renamed-push}
-use Rattle.mm_model.specs.ListLaws.{each_left, each_right, each_append}
-use Rattle.mm_model.specs.SegmentLaws.{true_not_false}
-use Rattle.mm_model.specs.HistoryLaws.{own_values-append, values_of-append, length-batches_in}
-use Rattle.mm_model.proofs.OptJudge.{shut_current}
+use Rattle.mm_call.proofs.Below.{ℕ, ◌≡◌, ◌+◌, ◌-◌, ◌≤◌, true, false, List, [], ◌∷◌, ◌++◌, length, map, take, drop, refl, sym, ap, ◌∙◌}
+use Rattle.mm_call.proofs.Below.{subst, arith, append_assoc, length-append, length-drop, inl, inr, flat_map, Contains, flat_map-append}
+use Rattle.mm_call.proofs.Below.{append-nil, map-append, take-append-le, drop-append-le, Opt, start_message, start_of, extended_message}
+use Rattle.mm_call.proofs.Below.{anchored_message, Meaning, Batch, trail, guard_message, closing_message, guard, own_values, Instance, opt}
+use Rattle.mm_call.proofs.Below.{Entry, Own, Value, History, joined, renamed, register_value_of, values_of, cell_digest_of, IsSound}
+use Rattle.mm_call.proofs.Below.{IsClean, batches_in, IsOpening, Within, closed_runs, runs_of, register_trail, history_messages, trail_push}
+use Rattle.mm_call.proofs.Below.{items_grow, run_grows, guards_grow, renamed-push, own_values-append, values_of-append, length-batches_in}
+use Rattle.mm_call.proofs.Below.{each_left, each_right, each_append, true_not_false, shut_current}
+use Rattle.mm_model.specs.Chains.{register_of, anchor_of}
 
 -- the messages of runs of batches, of segments
 abbrev pub run_trails : List ℕ → List (List Batch) → List (List ℕ)
@@ -61,8 +46,8 @@ listing_of meaning key barrier all y h =
       closings = each_right C (guards ++ runs ++ closed ++ items) closings h.1;
     }
 
-pub listed_of : (meaning : Meaning) (key barrier : List ℕ) (all : List (List ℕ)) (y : History)
-    → Listing all (opt meaning key barrier) y → Within (history_messages (opt meaning key barrier) y) all
+pub listed_of : (meaning : Meaning) (key barrier : List ℕ) (all : List (List ℕ)) (y : History) → Listing all (opt meaning key barrier) y
+    → Within (history_messages (opt meaning key barrier) y) all
 listed_of meaning key barrier all y l =
     let C : List ℕ → Type 0 = Contains all in
     let guards = map (guard_message barrier) y.batches in
@@ -71,8 +56,7 @@ listed_of meaning key barrier all y l =
     let items = register_trail (values_of barrier y.items) in
     let closings = trail closing_message (start_of Opt meaning.id) (map (values_of barrier) y.closed) in (
       l.starts,
-      each_append C (guards ++ runs ++ closed ++ items) closings
-          (each_append C (guards ++ runs ++ closed) items
+      each_append C (guards ++ runs ++ closed ++ items) closings (each_append C (guards ++ runs ++ closed) items
           (each_append C (guards ++ runs) closed (each_append C guards runs l.guards l.runs) l.closed) l.items) l.closings,
     )
 
@@ -92,8 +76,7 @@ taken bs cs =
 
 runs_split : (y : History) (bs : List Batch) → y.batches ≡ bs ++ y.current → runs_of y ≡ closed_runs y.closed bs ++ y.current ∷ []
 runs_split y bs e =
-    ap (λ v. closed_runs y.closed v ++ y.current ∷ [])
-    (ap (λ v. take (length v - length y.current) v) e ∙ taken bs y.current)
+    ap (λ v. closed_runs y.closed v ++ y.current ∷ []) (ap (λ v. take (length v - length y.current) v) e ∙ taken bs y.current)
 
 closed_runs_push : (closed : List (List Entry)) (segment : List Entry) (bs cs : List Batch) → length bs ≡ length (joined closed)
     → closed_runs (closed ++ segment ∷ []) (bs ++ cs) ≡ closed_runs closed bs ++ cs ∷ []
@@ -116,8 +99,8 @@ closed_runs_push (s ∷ t ∷ closed) segment bs cs e =
 
 -- lists with one more at the end
 trails_parts : (barrier : List ℕ) (all : List (List ℕ)) (runs : List (List Batch)) (run : List Batch)
-    → Within (run_trails barrier (runs ++ run ∷ [])) all → Within (run_trails barrier runs) all
-    × Within (register_trail (own_values barrier run)) all
+    → Within (run_trails barrier (runs ++ run ∷ [])) all
+    → Within (run_trails barrier runs) all × Within (register_trail (own_values barrier run)) all
 trails_parts barrier all runs run h =
     let C : List ℕ → Type 0 = Contains all in
     let f : List Batch → List (List ℕ) = λ r. register_trail (own_values barrier r) in
@@ -126,9 +109,8 @@ trails_parts barrier all runs run h =
       each_left C (f run) [] (each_right C (flat_map f runs) (flat_map f (run ∷ [])) split),
     )
 
-trails_join : (barrier : List ℕ) (all : List (List ℕ)) (runs : List (List Batch)) (run : List Batch)
-    → Within (run_trails barrier runs) all → Within (register_trail (own_values barrier run)) all
-    → Within (run_trails barrier (runs ++ run ∷ [])) all
+trails_join : (barrier : List ℕ) (all : List (List ℕ)) (runs : List (List Batch)) (run : List Batch) → Within (run_trails barrier runs) all
+    → Within (register_trail (own_values barrier run)) all → Within (run_trails barrier (runs ++ run ∷ [])) all
 trails_join barrier all runs run a b =
     let C : List ℕ → Type 0 = Contains all in
     let f : List Batch → List (List ℕ) = λ r. register_trail (own_values barrier r) in
@@ -174,73 +156,69 @@ pub record Commits (all : List (List ℕ)) (barrier : List ℕ) (y : History) (b
   pub guards : Contains all (guard_message barrier b)
   pub run : Contains all (extended_message (register_of (own_values barrier y.current)) (guard barrier b))
 
-pub listed_open : (meaning : Meaning) (key barrier : List ℕ) (all : List (List ℕ)) (y : History) (b : Batch) → IsSound y → y.is_open ≡ true
-    → Commits all barrier y b → Contains all (extended_message (register_value_of (opt meaning key barrier) y) (guard barrier b))
-    → Listing all (opt meaning key barrier) y
-    → Listing all (opt meaning key barrier)
-    (record y { batches = y.batches ++ b ∷ []; current = y.current ++ b ∷ []; items = y.items ++ Own b ∷ [] })
-listed_open meaning key barrier all y b sound is_open commits message l =
-    let y' : History = record y { batches = y.batches ++ b ∷ []; current = y.current ++ b ∷ []; items = y.items ++ Own b ∷ [] } in
-    let bs = batches_in (joined y.closed) in
-    let whole = (clean_open y sound is_open).batches in
-    let whole' : y'.batches ≡ bs ++ y'.current = ap (λ v. v ++ b ∷ []) whole ∙ append_assoc bs y.current (b ∷ []) in
-    let W : List (List Batch) → Type 0 = λ r. Within (run_trails barrier r) all in
-    let parts = trails_parts barrier all (closed_runs y.closed bs) y.current (subst W (runs_split y bs whole) l.runs) in
-    record {
-      starts = l.starts;
-      guards = guards_grow barrier all y.batches b l.guards commits.guards;
-      runs = subst W (sym (runs_split y' bs whole'))
-          (trails_join barrier all (closed_runs y.closed bs) (y.current ++ b ∷ []) parts.0
-          (run_grows barrier all y.current b parts.1 commits.run));
-      closed = l.closed;
-      items = items_grow barrier all y.items (Own b) l.items message;
-      closings = l.closings;
-    }
+module _ (meaning : Meaning) (key barrier : List ℕ) where
+  abbrev I : Instance
+  I = opt meaning key barrier
 
-pub listed_opening : (meaning : Meaning) (key barrier : List ℕ) (all : List (List ℕ)) (y : History) (b : Batch) → IsSound y
-    → y.is_open ≡ false
-    → IsOpening (opt meaning key barrier) y b → Commits all barrier y b
-    → Listing all (opt meaning key barrier) y
-    → Listing all (opt meaning key barrier)
-    (record y { batches = y.batches ++ b ∷ []; current = b ∷ []; is_open = true; items = renamed y.items b })
-listed_opening meaning key barrier all y b sound shut o commits l =
-    let y' : History = record y { batches = y.batches ++ b ∷ []; current = b ∷ []; is_open = true; items = renamed y.items b } in
-    let none = shut_current y sound shut in
-    let whole : y.batches ≡ y.batches ++ y.current = sym (append-nil y.batches) ∙ ap (λ v. y.batches ++ v) (sym none) in
-    let W : List (List Batch) → Type 0 = λ r. Within (run_trails barrier r) all in
-    let parts = trails_parts barrier all (closed_runs y.closed y.batches) y.current (subst W (runs_split y y.batches whole) l.runs) in
-    let R : List Batch → Type 0 = λ r. Within (register_trail (own_values barrier r)) all in
-    let I : List (List ℕ) → Type 0 = λ v. Within (register_trail v) all in
-    record {
-      starts = l.starts;
-      guards = guards_grow barrier all y.batches b l.guards commits.guards;
-      runs = subst W (sym (runs_split y' y.batches refl))
-          (trails_join barrier all (closed_runs y.closed y.batches) (b ∷ []) parts.0
-          (subst R (ap (λ v. v ++ b ∷ []) none) (run_grows barrier all y.current b parts.1 commits.run)));
-      closed = l.closed;
-      items = subst I (sym (renamed-values barrier y.items o.front b o.items)) l.items;
-      closings = l.closings;
-    }
+  pub listed_open : (all : List (List ℕ)) (y : History) (b : Batch) → IsSound y → y.is_open ≡ true → Commits all barrier y b
+      → Contains all (extended_message (register_value_of I y) (guard barrier b)) → Listing all I y
+      → Listing all I (record y { batches = y.batches ++ b ∷ []; current = y.current ++ b ∷ []; items = y.items ++ Own b ∷ [] })
+  listed_open all y b sound is_open commits message l =
+      let y' : History = record y { batches = y.batches ++ b ∷ []; current = y.current ++ b ∷ []; items = y.items ++ Own b ∷ [] } in
+      let bs = batches_in (joined y.closed) in
+      let whole = (clean_open y sound is_open).batches in
+      let whole' : y'.batches ≡ bs ++ y'.current = ap (λ v. v ++ b ∷ []) whole ∙ append_assoc bs y.current (b ∷ []) in
+      let W : List (List Batch) → Type 0 = λ r. Within (run_trails barrier r) all in
+      let parts = trails_parts barrier all (closed_runs y.closed bs) y.current (subst W (runs_split y bs whole) l.runs) in
+      record {
+        starts = l.starts;
+        guards = guards_grow barrier all y.batches b l.guards commits.guards;
+        runs = subst W (sym (runs_split y' bs whole')) (trails_join barrier all (closed_runs y.closed bs) (y.current ++ b ∷ []) parts.0
+            (run_grows barrier all y.current b parts.1 commits.run));
+        closed = l.closed;
+        items = items_grow barrier all y.items (Own b) l.items message;
+        closings = l.closings;
+      }
 
-pub listed_closed : (meaning : Meaning) (key barrier : List ℕ) (all : List (List ℕ)) (y : History) → IsSound y → y.is_open ≡ true
-    → Contains all (anchored_message (cell_digest_of (opt meaning key barrier) Opt y) (register_value_of (opt meaning key barrier) y))
-    → Listing all (opt meaning key barrier) y
-    → Listing all (opt meaning key barrier) (record y { closed = y.closed ++ y.items ∷ []; current = []; is_open = false })
-listed_closed meaning key barrier all y sound is_open message l =
-    let y' : History = record y { closed = y.closed ++ y.items ∷ []; current = []; is_open = false } in
-    let bs = batches_in (joined y.closed) in
-    let clean = clean_open y sound is_open in
-    let W : List (List Batch) → Type 0 = λ r. Within (run_trails barrier r) all in
-    let old = subst W (runs_split y bs clean.batches) l.runs in
-    let runs : closed_runs (y.closed ++ y.items ∷ []) y.batches ≡ closed_runs y.closed bs ++ y.current ∷ [] =
-    ap (closed_runs (y.closed ++ y.items ∷ [])) clean.batches
-    ∙ closed_runs_push y.closed y.items bs y.current (length-batches_in (joined y.closed) clean.clean) in
-    record {
-      starts = l.starts;
-      guards = l.guards;
-      runs = subst W (sym (runs_split y' y.batches (sym (append-nil y.batches)) ∙ ap (λ v. v ++ [] ∷ []) runs))
-          (trails_join barrier all (closed_runs y.closed bs ++ y.current ∷ []) [] old tt);
-      closed = segments_join barrier all y.closed y.items l.closed l.items;
-      items = l.items;
-      closings = closings_push barrier meaning.id all y.closed y.items l.closings message;
-    }
+  pub listed_opening : (all : List (List ℕ)) (y : History) (b : Batch) → IsSound y → y.is_open ≡ false → IsOpening I y b
+      → Commits all barrier y b → Listing all I y
+      → Listing all I (record y { batches = y.batches ++ b ∷ []; current = b ∷ []; is_open = true; items = renamed y.items b })
+  listed_opening all y b sound shut o commits l =
+      let y' : History = record y { batches = y.batches ++ b ∷ []; current = b ∷ []; is_open = true; items = renamed y.items b } in
+      let none = shut_current y sound shut in
+      let whole : y.batches ≡ y.batches ++ y.current = sym (append-nil y.batches) ∙ ap (λ v. y.batches ++ v) (sym none) in
+      let W : List (List Batch) → Type 0 = λ r. Within (run_trails barrier r) all in
+      let parts = trails_parts barrier all (closed_runs y.closed y.batches) y.current (subst W (runs_split y y.batches whole) l.runs) in
+      let R : List Batch → Type 0 = λ r. Within (register_trail (own_values barrier r)) all in
+      let I : List (List ℕ) → Type 0 = λ v. Within (register_trail v) all in
+      record {
+        starts = l.starts;
+        guards = guards_grow barrier all y.batches b l.guards commits.guards;
+        runs = subst W (sym (runs_split y' y.batches refl)) (trails_join barrier all (closed_runs y.closed y.batches) (b ∷ []) parts.0
+            (subst R (ap (λ v. v ++ b ∷ []) none) (run_grows barrier all y.current b parts.1 commits.run)));
+        closed = l.closed;
+        items = subst I (sym (renamed-values barrier y.items o.front b o.items)) l.items;
+        closings = l.closings;
+      }
+
+  pub listed_closed : (all : List (List ℕ)) (y : History) → IsSound y → y.is_open ≡ true
+      → Contains all (anchored_message (cell_digest_of I Opt y) (register_value_of I y)) → Listing all I y
+      → Listing all I (record y { closed = y.closed ++ y.items ∷ []; current = []; is_open = false })
+  listed_closed all y sound is_open message l =
+      let y' : History = record y { closed = y.closed ++ y.items ∷ []; current = []; is_open = false } in
+      let bs = batches_in (joined y.closed) in
+      let clean = clean_open y sound is_open in
+      let W : List (List Batch) → Type 0 = λ r. Within (run_trails barrier r) all in
+      let old = subst W (runs_split y bs clean.batches) l.runs in
+      let runs : closed_runs (y.closed ++ y.items ∷ []) y.batches ≡ closed_runs y.closed bs ++ y.current ∷ [] =
+      ap (closed_runs (y.closed ++ y.items ∷ [])) clean.batches
+      ∙ closed_runs_push y.closed y.items bs y.current (length-batches_in (joined y.closed) clean.clean) in
+      record {
+        starts = l.starts;
+        guards = l.guards;
+        runs = subst W (sym (runs_split y' y.batches (sym (append-nil y.batches)) ∙ ap (λ v. v ++ [] ∷ []) runs))
+            (trails_join barrier all (closed_runs y.closed bs ++ y.current ∷ []) [] old tt);
+        closed = segments_join barrier all y.closed y.items l.closed l.items;
+        items = l.items;
+        closings = closings_push barrier meaning.id all y.closed y.items l.closings message;
+      }

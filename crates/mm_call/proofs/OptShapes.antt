@@ -1,13 +1,8 @@
 -- Opt: what the moves of a walk are. A call inside a segment reads, and goes on or is cut off; one with no segment open
 -- lets others extend the register, and then may reset it and go on.
-use Rattle.std.proofs.Common.{ℕ, ◌≡◌, Bool, true, false, List, [], ◌∷◌, ◌++◌, map, Some, refl, sym, ap, ◌∙◌, append_assoc, ◌⊎◌, inl, inr}
-use Rattle.std.proofs.lemmas.List.{append-nil, map-append}
-use Rattle.mm_platform.specs.declared.fault.StepFault.{StepFault}
-use Rattle.mm_module.specs.Batch.{Batch}
-use Rattle.mm_model.specs.History.{Move, Commit, Foreign, Placed, Reset}
-use Rattle.mm_model.specs.Steps.{Step, Reads, Changes, Writes}
-use Rattle.mm_call.specs.Courses.{End, Done, Fails, Fate, Walked, after_step, walk}
-use Rattle.mm_call.specs.WalkLaws.{finished, changing}
+use Rattle.mm_call.proofs.Below.{ℕ, ◌≡◌, Bool, true, false, List, [], ◌∷◌, ◌++◌, map, Some, refl, sym, ap, ◌∙◌, append_assoc, ◌⊎◌, inl, inr}
+use Rattle.mm_call.proofs.Below.{append-nil, map-append, StepFault, Batch, Move, Commit, Foreign, Placed, Reset, Step, Reads, Changes}
+use Rattle.mm_call.proofs.Below.{Writes, End, Done, Fails, Fate, Walked, after_step, walk, finished, changing}
 
 -- two reading steps, and the rest
 abbrev pub two_reads : List (List ℕ) → End → List (List ℕ) → End → Walked → Walked
@@ -64,5 +59,4 @@ pub shape : (fates : ℕ → Fate) (fresh : Bool) (b : Batch)
     → Shape fates fresh b (walk fates 1 (Reads ∷ Reads ∷ changing false fresh b)).moves
 shape fates fresh b =
     shape_reads fates fresh b (fates 1).brings (fates 1).ends (walk fates 2 (Reads ∷ changing false fresh b))
-    (shape_reads fates fresh b (fates 2).brings (fates 2).ends (walk fates 3 (changing false fresh b))
-    (shape_changing fates fresh b))
+    (shape_reads fates fresh b (fates 2).brings (fates 2).ends (walk fates 3 (changing false fresh b)) (shape_changing fates fresh b))

@@ -1,27 +1,12 @@
 -- Opt: while no segment is open, neither the register nor its items count.
-use Rattle.std.proofs.Common.{ℕ, ◌≡◌, ◌+◌, Bool, true, false, ◌&&◌, List, [], ◌∷◌, ◌++◌, map, Result, Err, refl, sym, ap, ◌∙◌, subst}
-use Rattle.std.specs.Prelude.{if◌then◌else◌, nat_eq}
-use Rattle.std.specs.List.{AllByRecursion, Contains, fold}
-use Rattle.mm_digest.specs.declared.variant.Variant.TheVariants.{Opt}
-use Rattle.mm_digest.specs.Messages.{zero_bytes, extended_of}
-use Rattle.mm_module.specs.Meaning.{Meaning}
-use Rattle.mm_module.specs.Batch.{Batch, size_of}
-use Rattle.mm_model.specs.Instance.{Instance}
-use Rattle.mm_model.specs.InstanceWords.{opt}
-use Rattle.mm_model.specs.History.{Entry, History, Move, Foreign, Reset, moved, joined, total_of}
-use Rattle.mm_model.specs.Life.{Life, life_by, life_of, is_empty, are_own, has_value, is_lost}
-use Rattle.mm_model.specs.Judge.{judged, is_last}
-use Rattle.mm_model.specs.Sound.{IsSound}
-use Rattle.mm_model.specs.Messages.{Within, history_messages, values_in}
-use Rattle.mm_model.specs.Moves.{Digests, made, MayMove, IsAllowed, Brings, IsOutside}
-use Rattle.mm_model.specs.declared.refusal.Refusal.{Refusal}
+use Rattle.mm_call.proofs.Below.{ℕ, ◌≡◌, ◌+◌, Bool, true, false, ◌&&◌, List, [], ◌∷◌, ◌++◌, map, Result, Err, refl, sym, ap, ◌∙◌, subst}
+use Rattle.mm_call.proofs.Below.{if◌then◌else◌, nat_eq, AllByRecursion, Contains, fold, Opt, zero_bytes, extended_of, Meaning, Batch}
+use Rattle.mm_call.proofs.Below.{size_of, Instance, opt, Entry, History, Move, Foreign, Reset, moved, joined, total_of, Life, life_by}
+use Rattle.mm_call.proofs.Below.{life_of, is_empty, are_own, has_value, is_lost, judged, is_last, IsSound, Within, history_messages}
+use Rattle.mm_call.proofs.Below.{values_in, Digests, made, MayMove, IsAllowed, Brings, IsOutside, Refusal, parts_of, sound_items}
+use Rattle.mm_call.proofs.Below.{sound_moved, outside_moved, Level, by_lists, by_digests, all_made, Agrees, Found, found_by_verdict}
+use Rattle.mm_call.proofs.Below.{found_at, counted_part, IsWithin}
 use Rattle.mm_model.specs.declared.refusal.Refusal.TheVariants as refusal
-use Rattle.mm_seal.specs.Parts.{parts_of}
-use Rattle.mm_model.proofs.Moves.{sound_items, sound_moved}
-use Rattle.mm_model.proofs.MovedDigests.{outside_moved}
-use Rattle.mm_call.specs.Levels.{Level, by_lists, by_digests, all_made, Agrees}
-use Rattle.mm_call.specs.Found.{Found, found_by_verdict, found_at}
-use Rattle.mm_call.specs.Asked.{counted_part, IsWithin}
 use Rattle.mm_call.proofs.OptMessages.{listing_of, listed_of}
 use Rattle.mm_call.proofs.OptHolding.{Holds, opt_agrees_moved, foreign_may}
 
@@ -60,15 +45,12 @@ found_alive i y life b offer =
     if is_lost life then Err refusal.Lost else found_by_verdict i level y b (parts_of i.variant i.meaning.id offer)
 
 pub found_lists : (meaning : Meaning) (key barrier : List ℕ) (y : History) (items : List Entry) (b : Batch) (offer : List ℕ)
-    → y.is_open ≡ false
-    → found_at (opt meaning key barrier) (by_lists (opt meaning key barrier)) (record y { items = items }) b offer
+    → y.is_open ≡ false → found_at (opt meaning key barrier) (by_lists (opt meaning key barrier)) (record y { items = items }) b offer
     ≡ found_at (opt meaning key barrier) (by_lists (opt meaning key barrier)) (bare y) b offer
-found_lists meaning key barrier y items b offer e =
-    ap (λ life. found_alive (opt meaning key barrier) y life b offer) (life_bare y items e)
+found_lists meaning key barrier y items b offer e = ap (λ life. found_alive (opt meaning key barrier) y life b offer) (life_bare y items e)
 
 pub found_digests : (meaning : Meaning) (key barrier : List ℕ) (d : Digests) (register : List ℕ) (b : Batch) (offer : List ℕ)
-    → d.flag ≡ false
-    → found_at (opt meaning key barrier) (by_digests (opt meaning key barrier)) (record d { register = register }) b offer
+    → d.flag ≡ false → found_at (opt meaning key barrier) (by_digests (opt meaning key barrier)) (record d { register = register }) b offer
     ≡ found_at (opt meaning key barrier) (by_digests (opt meaning key barrier)) (bare_digests d) b offer
 found_digests meaning key barrier d register b offer e =
     let i = opt meaning key barrier in
@@ -77,8 +59,8 @@ found_digests meaning key barrier d register b offer e =
 
 -- what others put into the register, by digests
 pub foreign_digests : (i : Instance) (values : List (List ℕ)) (moves : List Move) (d : Digests)
-    → all_made (by_digests i) d (map Foreign values ++ moves) ≡ all_made (by_digests i)
-    (record d { register = fold extended_of d.register values }) moves
+    → all_made (by_digests i) d (map Foreign values ++ moves)
+    ≡ all_made (by_digests i) (record d { register = fold extended_of d.register values }) moves
 foreign_digests i [] moves d = refl
 foreign_digests i (v ∷ values) moves d = foreign_digests i values moves (made i d (Foreign v))
 
@@ -87,8 +69,8 @@ pub foreign_reset : (i : Instance) (values : List (List ℕ)) (moves : List Move
 foreign_reset i values moves d = foreign_digests i values (Reset ∷ moves) d
 
 pub foreign_agrees : (meaning : Meaning) (key barrier : List ℕ) (values : List (List ℕ)) (y : History) (d : Digests)
-    → Agrees (opt meaning key barrier) y d
-    → Agrees (opt meaning key barrier) (all_made (by_lists (opt meaning key barrier)) y (map Foreign values))
+    → Agrees (opt meaning key barrier) y d → Agrees (opt meaning key barrier)
+    (all_made (by_lists (opt meaning key barrier)) y (map Foreign values))
     (all_made (by_digests (opt meaning key barrier)) d (map Foreign values))
 foreign_agrees meaning key barrier [] y d a = a
 foreign_agrees meaning key barrier (v ∷ values) y d a =
@@ -107,8 +89,7 @@ reset_brings others y false = tt
 
 -- the messages of a history with other items
 pub listed_bare : (meaning : Meaning) (key barrier : List ℕ) (all : List (List ℕ)) (y : History)
-    → Within (history_messages (opt meaning key barrier) y) all
-    → Within (history_messages (opt meaning key barrier) (bare y)) all
+    → Within (history_messages (opt meaning key barrier) y) all → Within (history_messages (opt meaning key barrier) (bare y)) all
 listed_bare meaning key barrier all y h =
     let l = listing_of meaning key barrier all y h in
     listed_of meaning key barrier all (bare y)
@@ -121,10 +102,13 @@ listed_counted meaning key barrier all y true h = h
 listed_counted meaning key barrier all y false h = listed_bare meaning key barrier all y h
 
 module _ (meaning : Meaning) (key barrier : List ℕ) (all others : List (List ℕ)) (asked : List Batch) where
-  pub holds_open : (y : History) (d : Digests) → y.is_open ≡ true → Agrees (opt meaning key barrier) y d
-      → IsWithin all others asked (opt meaning key barrier) y → Holds all others asked (opt meaning key barrier) y d
+  abbrev I : Instance
+  I = opt meaning key barrier
+
+  pub holds_open : (y : History) (d : Digests) → y.is_open ≡ true → Agrees I y d → IsWithin all others asked I y
+      → Holds all others asked I y d
   holds_open y d e a w =
-      let P : History → Type 0 = λ x. Within (history_messages (opt meaning key barrier) x) all in record {
+      let P : History → Type 0 = λ x. Within (history_messages I x) all in record {
         agrees = a;
         sound = w.sound;
         outside = w.outside;
@@ -132,11 +116,10 @@ module _ (meaning : Meaning) (key barrier : List ℕ) (all others : List (List �
         batches = w.batches;
       }
 
-  pub holds_shut : (y : History) (d : Digests) → y.is_open ≡ false → Agrees (opt meaning key barrier) y d
-      → IsWithin all others asked (opt meaning key barrier) y → Holds all others asked (opt meaning key barrier) (bare y) (bare_digests d)
+  pub holds_shut : (y : History) (d : Digests) → y.is_open ≡ false → Agrees I y d → IsWithin all others asked I y
+      → Holds all others asked I (bare y) (bare_digests d)
   holds_shut y d e a w =
-      let i = opt meaning key barrier in
-      let P : History → Type 0 = λ x. Within (history_messages i x) all in
+      let P : History → Type 0 = λ x. Within (history_messages I x) all in
       let may = reset_may meaning key barrier y e in record {
         agrees = opt_agrees_moved meaning key barrier y d Reset may a;
         sound = sound_moved meaning key barrier y Reset w.sound may;
@@ -146,8 +129,7 @@ module _ (meaning : Meaning) (key barrier : List ℕ) (all others : List (List �
       }
 
   -- what holds is all that is asked of a history
-  pub within_of : (y : History) (d : Digests) → Holds all others asked (opt meaning key barrier) y d
-      → IsWithin all others asked (opt meaning key barrier) y
+  pub within_of : (y : History) (d : Digests) → Holds all others asked I y d → IsWithin all others asked I y
   within_of y d h = record {
     sound = h.sound;
     outside = h.outside;
@@ -167,8 +149,7 @@ pub sound_shut : (y : History) (items : List Entry) → y.is_open ≡ false → 
 sound_shut y items e sound = sound_items y items sound (λ is_open. let clash = sym e ∙ is_open in absurd (cc))
 
 pub within_items : (meaning : Meaning) (key barrier : List ℕ) (all others : List (List ℕ)) (asked : List Batch) (y : History)
-    (items : List Entry)
-    → y.is_open ≡ false → IsWithin all others asked (opt meaning key barrier) y
+    (items : List Entry) → y.is_open ≡ false → IsWithin all others asked (opt meaning key barrier) y
     → IsWithin all others asked (opt meaning key barrier) (record y { items = items })
 within_items meaning key barrier all others asked y items e w =
     let i = opt meaning key barrier in

@@ -1,22 +1,11 @@
 -- Opt: the moves of a walk may be made, where its steps are ready; and the history at its end.
-use Rattle.std.proofs.Common.{ℕ, ◌≡◌, ◌+◌, Bool, true, false, List, [], ◌∷◌, ◌++◌, map, None, refl, sym, ap, ◌∙◌, subst, append_assoc}
-use Rattle.std.specs.List.{AllByRecursion, Contains}
-use Rattle.mm_digest.specs.declared.variant.Variant.TheVariants.{Opt}
-use Rattle.mm_module.specs.Meaning.{Meaning}
-use Rattle.mm_module.specs.Batch.{Batch}
-use Rattle.mm_model.specs.Instance.{Instance}
-use Rattle.mm_model.specs.InstanceWords.{opt}
-use Rattle.mm_model.specs.History.{History, Move, Foreign, moved}
-use Rattle.mm_model.specs.Messages.{Within}
-use Rattle.mm_model.specs.MessagesWords.{move_messages}
-use Rattle.mm_model.specs.Moves.{Digests, made}
-use Rattle.mm_model.specs.Steps.{Step, Reads, Changes, Writes, ask_steps, checkpoint_steps}
-use Rattle.mm_model.specs.ListLaws.{each_left, each_right}
-use Rattle.mm_call.specs.Levels.{by_lists, by_digests, all_made}
-use Rattle.mm_call.specs.Courses.{End, Done, Fails, Fate, Walked, after_step, walk}
-use Rattle.mm_call.specs.Asked.{moves_messages, foreign_in}
+use Rattle.mm_call.proofs.Below.{ℕ, ◌≡◌, ◌+◌, Bool, true, false, List, [], ◌∷◌, ◌++◌, map, None, refl, sym, ap, ◌∙◌, subst, append_assoc}
+use Rattle.mm_call.proofs.Below.{AllByRecursion, Contains, Opt, Meaning, Batch, Instance, opt, History, Move, Foreign, moved, Within}
+use Rattle.mm_call.proofs.Below.{move_messages, Digests, made, Step, Reads, Changes, Writes, ask_steps, checkpoint_steps, each_left}
+use Rattle.mm_call.proofs.Below.{each_right, by_lists, by_digests, all_made, End, Done, Fails, Fate, Walked, after_step, walk}
+use Rattle.mm_call.proofs.Below.{moves_messages, foreign_in, taking, taking_is, foreign_made, foreign_in-first, foreign_in-append}
+use Rattle.mm_call.proofs.Below.{foreign_in-foreign}
 use Rattle.mm_call.proofs.OptHolding.{Holds, IsFine, holds_moved, foreign_fine}
-use Rattle.mm_call.specs.WalkLaws.{taking, taking_is, foreign_made, foreign_in-first, foreign_in-append, foreign_in-foreign}
 
 -- each of the moves may be made, one after another
 abbrev pub AllFine : List (List ℕ) → List (List ℕ) → List Batch → Instance → History → List Move → Type 0
@@ -33,15 +22,12 @@ fine-append i all others asked (x ∷ xs) ys y a b = (a.0, fine-append i all oth
 abbrev pub Ready : List (List ℕ) → List (List ℕ) → List Batch → Instance → (ℕ → Fate) → ℕ → List Step → History → Type 0
 Ready all others asked i fates n [] y = Unit {0}
 Ready all others asked i fates n (Reads ∷ steps) y =
-    AllByRecursion (Contains others) (fates n).brings
-    → Ready all others asked i fates (n + 1) steps (taking y (fates n).brings)
+    AllByRecursion (Contains others) (fates n).brings → Ready all others asked i fates (n + 1) steps (taking y (fates n).brings)
 Ready all others asked i fates n (Changes m ∷ steps) y =
-    AllByRecursion (Contains others) (fates n).brings
-    → IsFine all others asked i (taking y (fates n).brings) m
+    AllByRecursion (Contains others) (fates n).brings → IsFine all others asked i (taking y (fates n).brings) m
     × Ready all others asked i fates (n + 1) steps (moved i (taking y (fates n).brings) m)
 Ready all others asked i fates n (Writes m ∷ steps) y =
-    IsFine all others asked i y m
-    × (AllByRecursion (Contains others) (fates n).brings
+    IsFine all others asked i y m × (AllByRecursion (Contains others) (fates n).brings
     → Ready all others asked i fates (n + 1) steps (taking (moved i y m) (fates n).brings))
 
 -- the history at the end of a call that isn't broken off
@@ -70,8 +56,8 @@ writes_path : (i : Instance) (values : List (List ℕ)) (ends : End) (m : Move) 
 writes_path i values Done m rest y end h e = foreign_made i values rest.moves (moved i y m) ∙ h e
 writes_path i values (Fails fault made) m rest y end h e = cc
 
-pub path_is : (i : Instance) (fates : ℕ → Fate) (steps : List Step) (n : ℕ) (y : History)
-    → (walk fates n steps).broken ≡ None → all_made (by_lists i) y (walk fates n steps).moves ≡ path_end i fates n steps y
+pub path_is : (i : Instance) (fates : ℕ → Fate) (steps : List Step) (n : ℕ) (y : History) → (walk fates n steps).broken ≡ None
+    → all_made (by_lists i) y (walk fates n steps).moves ≡ path_end i fates n steps y
 path_is i fates [] n y e = refl
 path_is i fates (Reads ∷ steps) n y e =
     reads_path i (fates n).brings (fates n).ends (walk fates (n + 1) steps) y _
@@ -84,37 +70,32 @@ path_is i fates (Writes m ∷ steps) n y e =
     (path_is i fates steps (n + 1) (taking (moved i y m) (fates n).brings)) e
 
 module _ (meaning : Meaning) (key barrier : List ℕ) (all others : List (List ℕ)) (asked : List Batch) where
-  pub holds_made : (moves : List Move) (y : History) (d : Digests)
-      → Holds all others asked (opt meaning key barrier) y d → AllFine all others asked (opt meaning key barrier) y moves
-      → Within (moves_messages (opt meaning key barrier) y moves) all
-      → Holds all others asked (opt meaning key barrier)
-      (all_made (by_lists (opt meaning key barrier)) y moves) (all_made (by_digests (opt meaning key barrier)) d moves)
+  abbrev I : Instance
+  I = opt meaning key barrier
+
+  pub holds_made : (moves : List Move) (y : History) (d : Digests) → Holds all others asked I y d → AllFine all others asked I y moves
+      → Within (moves_messages I y moves) all → Holds all others asked I (all_made (by_lists I) y moves) (all_made (by_digests I) d moves)
   holds_made [] y d h fine messages = h
   holds_made (m ∷ moves) y d h fine messages =
-      let i = opt meaning key barrier in
       let C : List ℕ → Type 0 = Contains all in
-      holds_made moves (moved i y m) (made i d m)
-      (holds_moved meaning key barrier all others asked y d m h fine.0
-      (each_left C (move_messages i y m) (moves_messages i (moved i y m) moves) messages))
-      fine.1 (each_right C (move_messages i y m) (moves_messages i (moved i y m) moves) messages)
+      holds_made moves (moved I y m) (made I d m) (holds_moved meaning key barrier all others asked y d m h fine.0
+      (each_left C (move_messages I y m) (moves_messages I (moved I y m) moves) messages))
+      fine.1 (each_right C (move_messages I y m) (moves_messages I (moved I y m) moves) messages)
 
   pub foreign_all : (values : List (List ℕ)) (y : History) → AllByRecursion (Contains others) values
-      → AllFine all others asked (opt meaning key barrier) y (map Foreign values)
+      → AllFine all others asked I y (map Foreign values)
   foreign_all [] y h = tt
   foreign_all (v ∷ values) y h = (
     foreign_fine meaning key barrier all others asked y v h.0,
-    foreign_all values (moved (opt meaning key barrier) y (Foreign v)) h.1,
+    foreign_all values (moved I y (Foreign v)) h.1,
   )
 
   -- moves behind foreign values
-  pub foreign_then : (values : List (List ℕ)) (moves : List Move) (y : History)
-      → AllByRecursion (Contains others) values → AllFine all others asked (opt meaning key barrier) (taking y values) moves
-      → AllFine all others asked (opt meaning key barrier) y (map Foreign values ++ moves)
+  pub foreign_then : (values : List (List ℕ)) (moves : List Move) (y : History) → AllByRecursion (Contains others) values
+      → AllFine all others asked I (taking y values) moves → AllFine all others asked I y (map Foreign values ++ moves)
   foreign_then values moves y outside fine =
-      let i = opt meaning key barrier in
-      let P : History → Type 0 = λ x. AllFine all others asked i x moves in
-      fine-append i all others asked (map Foreign values) moves y (foreign_all values y outside)
-      (subst P (sym (taking_is i values y)) fine)
+      let P : History → Type 0 = λ x. AllFine all others asked I x moves in
+      fine-append I all others asked (map Foreign values) moves y (foreign_all values y outside) (subst P (sym (taking_is I values y)) fine)
 
   -- what others put in among the moves of a step and of the rest
   abbrev pub Outside : List Move → Type 0
@@ -128,9 +109,8 @@ module _ (meaning : Meaning) (key barrier : List ℕ) (all others : List (List �
       (each_left (Contains others) values (foreign_in moves) w, each_right (Contains others) values (foreign_in moves) w)
 
   reads_fine : (values : List (List ℕ)) (ends : End) (rest : Walked) (y : History) → Outside (after_step Reads values ends rest).moves
-      → (AllByRecursion (Contains others) values → Outside rest.moves
-      → AllFine all others asked (opt meaning key barrier) (taking y values) rest.moves)
-      → AllFine all others asked (opt meaning key barrier) y (after_step Reads values ends rest).moves
+      → (AllByRecursion (Contains others) values → Outside rest.moves → AllFine all others asked I (taking y values) rest.moves)
+      → AllFine all others asked I y (after_step Reads values ends rest).moves
   reads_fine values Done rest y outside later =
       let o = front_outside values rest.moves outside in
       foreign_then values rest.moves y o.0 (later o.0 o.1)
@@ -138,14 +118,11 @@ module _ (meaning : Meaning) (key barrier : List ℕ) (all others : List (List �
       foreign_all values y (subst (AllByRecursion (Contains others)) (foreign_in-foreign values) outside)
 
   changes_fine : (values : List (List ℕ)) (ends : End) (m : Move) (rest : Walked) (y : History) → foreign_in (m ∷ []) ≡ []
-      → Outside (after_step (Changes m) values ends rest).moves
-      → (AllByRecursion (Contains others) values → IsFine all others asked (opt meaning key barrier) (taking y values) m
-      × (Outside rest.moves
-      → AllFine all others asked (opt meaning key barrier) (moved (opt meaning key barrier) (taking y values) m) rest.moves))
-      → AllFine all others asked (opt meaning key barrier) y (after_step (Changes m) values ends rest).moves
+      → Outside (after_step (Changes m) values ends rest).moves →
+      (AllByRecursion (Contains others) values → IsFine all others asked I (taking y values) m × (Outside rest.moves → AllFine all others
+      asked I (moved I (taking y values) m) rest.moves)) → AllFine all others asked I y (after_step (Changes m) values ends rest).moves
   changes_fine values Done m rest y own outside h =
-      let i = opt meaning key barrier in
-      let P : List Move → Type 0 = λ v. AllFine all others asked i y v in
+      let P : List Move → Type 0 = λ v. AllFine all others asked I y v in
       let o = front_outside values (m ∷ rest.moves) (subst Outside (append_assoc (map Foreign values) (m ∷ []) rest.moves) outside) in
       let later = subst (AllByRecursion (Contains others)) (foreign_in-append (m ∷ []) rest.moves
       ∙ ap (λ w. w ++ foreign_in rest.moves) own) o.1 in
@@ -157,19 +134,19 @@ module _ (meaning : Meaning) (key barrier : List ℕ) (all others : List (List �
       let o = front_outside values [] outside in foreign_then values [] y o.0 tt
 
   writes_fine : (values : List (List ℕ)) (ends : End) (m : Move) (rest : Walked) (y : History) → foreign_in (m ∷ []) ≡ []
-      → Outside (after_step (Writes m) values ends rest).moves → IsFine all others asked (opt meaning key barrier) y m
-      → (AllByRecursion (Contains others) values → Outside rest.moves
-      → AllFine all others asked (opt meaning key barrier) (taking (moved (opt meaning key barrier) y m) values) rest.moves)
-      → AllFine all others asked (opt meaning key barrier) y (after_step (Writes m) values ends rest).moves
+      → Outside (after_step (Writes m) values ends rest).moves → IsFine all others asked I y m
+      →
+      (AllByRecursion (Contains others) values → Outside rest.moves → AllFine all others asked I (taking (moved I y m) values) rest.moves)
+      → AllFine all others asked I y (after_step (Writes m) values ends rest).moves
   writes_fine values Done m rest y own outside fine later =
       let w = subst (AllByRecursion (Contains others)) (foreign_in-append (m ∷ []) (map Foreign values ++ rest.moves)
       ∙ ap (λ w. w ++ foreign_in (map Foreign values ++ rest.moves)) own) outside in
       let o = front_outside values rest.moves w in
-      (fine, foreign_then values rest.moves (moved (opt meaning key barrier) y m) o.0 (later o.0 o.1))
+      (fine, foreign_then values rest.moves (moved I y m) o.0 (later o.0 o.1))
   writes_fine values (Fails fault true) m rest y own outside fine later =
       let w = subst (AllByRecursion (Contains others)) (foreign_in-append (m ∷ []) (map Foreign values)
       ∙ ap (λ w. w ++ foreign_in (map Foreign values)) own ∙ foreign_in-foreign values) outside in
-      (fine, foreign_all values (moved (opt meaning key barrier) y m) w)
+      (fine, foreign_all values (moved I y m) w)
   writes_fine values (Fails fault false) m rest y own outside fine later =
       foreign_all values y (subst (AllByRecursion (Contains others)) (foreign_in-foreign values) outside)
 

@@ -106,8 +106,8 @@ changing_each true false b = tt
 changing_each false false b = tt
 
 -- a call closes no segment
-pub opt_closes : (fates : ℕ → Fate) (flag fresh : Bool) (b : Batch)
-    → closes (walk fates 1 (Reads ∷ Reads ∷ changing flag fresh b)).moves ≡ false
+pub opt_closes : (fates : ℕ → Fate) (flag fresh : Bool) (b : Batch) → closes (walk fates 1 (Reads ∷ Reads ∷ changing flag fresh b)).moves
+    ≡ false
 opt_closes fates flag fresh b =
     walk_along ClosesNone shut_along fates 1 (Reads ∷ Reads ∷ changing flag fresh b) (changing_each flag fresh b)
 

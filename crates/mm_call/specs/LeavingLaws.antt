@@ -9,7 +9,7 @@ use Rattle.mm_platform.specs.CallLaws.{beside-none}
 use Rattle.mm_model.specs.declared.answer.Answer.{Answer}
 use Rattle.mm_model.specs.declared.answer.BatchAnswer.{BatchAnswer}
 use Rattle.mm_call.specs.Refusals.{fault_in, handed_on}
-use Rattle.mm_call.specs.Leaving.{IsUntouched, LeavesUntouched, Blames, whole}
+use Rattle.mm_call.specs.Leaving.{IsUntouched, Blames, whole}
 
 pub same_untouched : (old : Standing) → IsUntouched old old
 same_untouched old = record {
@@ -33,10 +33,6 @@ read_untouched old new g = record {
   faults = g.ends.faults;
 }
 
-pub written_untouched : (written : Result BatchAnswer StepFault) (old new : Standing) → LeavesUntouched (handed_on written) old new
-written_untouched (Ok answer) old new = tt
-written_untouched (Err fault) old new = λ (h : Some fault ≡ None). absurd (cc)
-
 pub blamed : (fault : Option StepFault) (old new : Standing) (made : Bool) → EndsBy fault old new made → Blames fault old.faults new.faults
 blamed None old new made e = e.faults
 blamed (Some Failed) old new made e = e.faults
@@ -49,10 +45,6 @@ blamed_later fault first before now e b = subst (λ (n : ℕ). Blames fault n no
 pub fault_handed : (written : Result BatchAnswer StepFault) → fault_in (handed_on written) ≡ result_err written
 fault_handed (Ok answer) = refl
 fault_handed (Err fault) = refl
-
-pub written_blamed : (written : Result BatchAnswer StepFault) (old new : Standing) → Blames (result_err written) old.faults new.faults
-    → Blames (fault_in (handed_on written)) old.faults new.faults
-written_blamed written old new b = subst (λ (f : Option StepFault). Blames f old.faults new.faults) (sym (fault_handed written)) b
 
 -- the answer to a batch of one is that to its request
 pub wholly : (all : BatchAnswer) (answer : Answer) → answer.again ≡ all.again → answer.position ≡ all.position

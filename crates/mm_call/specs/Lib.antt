@@ -14,6 +14,7 @@ pub mod Trails
 pub mod Laws
 pub mod Checkpoints
 pub mod Ended
+pub mod Calls
 pub mod Tied
 pub mod Premises
 pub mod CoursesWords
@@ -30,3 +31,5 @@ pub mod WeighingLaws
 pub mod TellingLaws
 pub mod ShowingLaws
 pub mod LeavingLaws
+pub mod Coming
+pub mod OfferLaws

@@ -57,8 +57,7 @@ agrees-moved meaning key y d (Foreign v) is a =
           ∙ ap register_of (sym (values_of-append zero_bytes y.items (Value v ∷ [])));
       count = a.count;
     }
-agrees-moved meaning key y d Power is a =
-    record { digest = a.digest; flag = a.flag; register = sym reads_zero; count = a.count }
+agrees-moved meaning key y d Power is a = record { digest = a.digest; flag = a.flag; register = sym reads_zero; count = a.count }
 agrees-moved meaning key y d (Placed b) is a = absurd is
 agrees-moved meaning key y d Reset is a = absurd is
 agrees-moved meaning key y d Close is a = absurd is
@@ -73,15 +72,15 @@ plain-moved meaning key y Reset is p = absurd is
 plain-moved meaning key y Close is p = absurd is
 
 pub agrees-made : (meaning : Meaning) (key : List ℕ) (moves : List Move) (y : History) (d : Digests) → AllByRecursion IsBasicMove moves
-    → Agrees (basic meaning key) y d
-    → Agrees (basic meaning key) (all_made (by_lists (basic meaning key)) y moves) (all_made (by_digests (basic meaning key)) d moves)
+    → Agrees (basic meaning key) y d → Agrees (basic meaning key) (all_made (by_lists (basic meaning key)) y moves)
+    (all_made (by_digests (basic meaning key)) d moves)
 agrees-made meaning key [] y d is a = a
 agrees-made meaning key (m ∷ moves) y d is a =
     agrees-made meaning key moves (moved (basic meaning key) y m) (made (basic meaning key) d m) is.1
     (agrees-moved meaning key y d m is.0 a)
 
-pub plain-made : (meaning : Meaning) (key : List ℕ) (moves : List Move) (y : History) → AllByRecursion IsBasicMove moves
-    → IsPlain y → IsPlain (all_made (by_lists (basic meaning key)) y moves)
+pub plain-made : (meaning : Meaning) (key : List ℕ) (moves : List Move) (y : History) → AllByRecursion IsBasicMove moves → IsPlain y
+    → IsPlain (all_made (by_lists (basic meaning key)) y moves)
 plain-made meaning key [] y is p = p
 plain-made meaning key (m ∷ moves) y is p =
     plain-made meaning key moves (moved (basic meaning key) y m) is.1 (plain-moved meaning key y m is.0 p)
@@ -103,8 +102,8 @@ commit_adds Basic is_open y b = refl
 commit_adds Opt true y b = refl
 commit_adds Opt false y b = refl
 
-pub batches-made : (i : Instance) (moves : List Move) (y : History) → (all_made (by_lists i) y moves).batches ≡ y.batches
-    ++ committed_in moves
+pub batches-made : (i : Instance) (moves : List Move) (y : History) → (all_made (by_lists i) y moves).batches
+    ≡ y.batches ++ committed_in moves
 batches-made i [] y = sym (append-nil y.batches)
 batches-made i (Commit b ∷ moves) y =
     batches-made i moves (moved i y (Commit b)) ∙ ap (λ v. v ++ committed_in moves) (commit_adds i.variant y.is_open y b)

@@ -31,10 +31,8 @@ shown_same (Some ys) f xs front more other e g h =
     same_rest front other more (sym g ∙ ap f (sym same) ∙ there)
 
 pub asked_by : (i : Instance) (all others : List (List ℕ)) (asked : List Batch) (y : History) (moves : List Move) (offer : List ℕ)
-    (b : Batch) → AreAsked all others asked i y offer b
-    → Within (moves_messages i (counted_part y) (counted_moves y.is_open moves)) all
-    → AllByRecursion (Contains others) (foreign_in (counted_moves y.is_open moves))
-    → IsAsked all others asked i y moves offer b
+    (b : Batch) → AreAsked all others asked i y offer b → Within (moves_messages i (counted_part y) (counted_moves y.is_open moves)) all
+    → AllByRecursion (Contains others) (foreign_in (counted_moves y.is_open moves)) → IsAsked all others asked i y moves offer b
 asked_by i all others asked y moves offer b a messages values = record {
   clear = a.clear;
   apart = a.apart;
@@ -58,11 +56,9 @@ asked_of meaning key barrier all others asked y moves offer b old new items more
     let i : Instance = opt meaning key barrier in
     let same : other ≡ more = shown_same old.items (shown i (digests_of i y) moves) items (standing_items y.is_open items) more other known
     (shown_is items) (sym goes ∙ ends) in
-    asked_by i all others asked y moves offer b a
-    (subst (λ (ms : List (List ℕ)). Within ms all)
+    asked_by i all others asked y moves offer b a (subst (λ (ms : List (List ℕ)). Within ms all)
     (sym (tied.messages ∙ ap (λ (x : List Item). trail extended_message (register_value_of i (counted_part y)) (item_values x)) same))
-    s.messages)
-    (subst (λ (vs : List (List ℕ)). AllByRecursion (Contains others) vs) (sym (tied.values ∙ ap foreign_items same)) s.values)
+    s.messages) (subst (λ (vs : List (List ℕ)). AllByRecursion (Contains others) vs) (sym (tied.values ∙ ap foreign_items same)) s.values)
 asked_of meaning key barrier all others asked y moves offer b old new items more a s known goes ends (nothing is) =
     let i : Instance = opt meaning key barrier in
     asked_by i all others asked y moves offer b a
@@ -82,7 +78,6 @@ counts_open i y d moves e (nothing is) =
     record {
       more = [];
       tied = record { messages = ap (moves_messages i (counted_part y)) is; values = ap foreign_in is };
-      are =
-          λ items. ap (λ (ms : List Move). shown i d ms items) empty ∙ sym (append-nil items)
+      are = λ items. ap (λ (ms : List Move). shown i d ms items) empty ∙ sym (append-nil items)
           ∙ ap (λ (f : Bool). standing_items f items ++ []) (sym e);
     }

@@ -36,8 +36,8 @@ pub foreign_values : (values : List (List ℕ)) → item_values (map foreign_ite
 foreign_values [] = refl
 foreign_values (v ∷ values) = ap (λ (vs : List (List ℕ)). v ∷ vs) (foreign_values values)
 
-read_more : (xs more : List Item)
-    → register_after (item_values (xs ++ more)) ≡ fold extended_of (register_after (item_values xs)) (item_values more)
+read_more : (xs more : List Item) → register_after (item_values (xs ++ more))
+    ≡ fold extended_of (register_after (item_values xs)) (item_values more)
 read_more xs more =
     ap (λ (vs : List (List ℕ)). register_after vs) (map-append (λ (item : Item). item.value) xs more)
     ∙ fold-append extended_of zero_bytes (item_values xs) (item_values more)
@@ -132,20 +132,16 @@ brought : (i : Instance) (d : Digests) (values : List (List ℕ)) (old new : Sta
     → new.items ≡ beside values old.items → StepLeads i d (map Foreign values) old new
 brought i d values old new s cell items =
     leads_to i d (with_register d (fold extended_of d.register values)) (map Foreign values) old new (foreign_made i d values)
-    s.spells (cell ∙ s.cell)
-    (reads_then i.variant (reads_of old.items) (reads_of new.items) d.register (fold extended_of d.register values)
-    (λ e. ap reads_of items ∙ reads_beside old.items values d.register e) s.reads)
-    (items ∙ items_brought i d values old.items)
+    s.spells (cell ∙ s.cell) (reads_then i.variant (reads_of old.items) (reads_of new.items) d.register (fold extended_of d.register values)
+    (λ e. ap reads_of items ∙ reads_beside old.items values d.register e) s.reads) (items ∙ items_brought i d values old.items)
 
 change_shown : (i : Instance) (d : Digests) (act : Act) (m : Move) (values : List (List ℕ)) (items : Option (List Item))
     → IsChange i d act m → items_after act true (beside values items) ≡ option_map (shown i d (map Foreign values ++ m ∷ [])) items
 change_shown i d act m values None c = items_of act None
 change_shown i d act m values (Some xs) c =
-    items_of act (Some (xs ++ map foreign_item values))
-    ∙ ap Some (sym (shown-append i d (map Foreign values) (m ∷ []) xs
+    items_of act (Some (xs ++ map foreign_item values)) ∙ ap Some (sym (shown-append i d (map Foreign values) (m ∷ []) xs
     ∙ ap (λ (e : Digests). shown i e (m ∷ []) (shown i d (map Foreign values) xs)) (foreign_made i d values)
-    ∙ ap (λ (ys : List Item). shown_by i.variant d.flag i m ys) (foreign_shown i d values xs)
-    ∙ c.shows (xs ++ map foreign_item values)))
+    ∙ ap (λ (ys : List Item). shown_by i.variant d.flag i m ys) (foreign_shown i d values xs) ∙ c.shows (xs ++ map foreign_item values)))
 
 -- a change of the register
 changed : (i : Instance) (d : Digests) (act : Act) (m : Move) (values : List (List ℕ)) (old new : Standing) → StandsAt i old d
@@ -157,13 +153,10 @@ changed i d act m values old new s c cell items =
     let same : cell_at i e ≡ cell_at i d = c.cell r in
     leads_to i d e (map Foreign values ++ m ∷ []) old new
     (all_made-append i d (map Foreign values) (m ∷ []) ∙ ap (λ (x : Digests). made i x m) (foreign_made i d values))
-    (subst (λ (x : Cell). IsCell x) (sym same) s.spells)
-    (cell ∙ s.cell ∙ ap (λ (x : Cell). Some (cell_spelling x)) (sym same))
-    (reads_then i.variant (reads_of old.items) (reads_of new.items) d.register e.register
-    (λ h. ap reads_of items
+    (subst (λ (x : Cell). IsCell x) (sym same) s.spells) (cell ∙ s.cell ∙ ap (λ (x : Cell). Some (cell_spelling x)) (sym same))
+    (reads_then i.variant (reads_of old.items) (reads_of new.items) d.register e.register (λ h. ap reads_of items
     ∙ reads_after act (beside values old.items) r (reads_beside old.items values d.register h)
-    ∙ ap (λ (x : List ℕ). Some x) (sym (c.register r))) s.reads)
-    (items ∙ change_shown i d act m values old.items c)
+    ∙ ap (λ (x : List ℕ). Some x) (sym (c.register r))) s.reads) (items ∙ change_shown i d act m values old.items c)
 
 write_shown : (i : Instance) (d : Digests) (bytes : List ℕ) (m : Move) (values : List (List ℕ)) (items : Option (List Item))
     → IsWrite i d bytes m → beside values items ≡ option_map (shown i d (m ∷ map Foreign values)) items
@@ -182,13 +175,11 @@ written : (i : Instance) (d : Digests) (bytes : List ℕ) (m : Move) (values : L
     → StepLeads i d (m ∷ map Foreign values) old new
 written i d bytes m values old new s w cell items =
     let e : Digests = made i d m in
-    leads_to i d (with_register e (fold extended_of e.register values)) (m ∷ map Foreign values) old new
-    (foreign_made i e values) w.spells
+    leads_to i d (with_register e (fold extended_of e.register values)) (m ∷ map Foreign values) old new (foreign_made i e values) w.spells
     (cell ∙ some_written bytes (cell_spelling (cell_at i d)) old.cell s.cell ∙ ap (λ (x : List ℕ). Some x) w.cell)
     (reads_then i.variant (reads_of old.items) (reads_of new.items) d.register (fold extended_of e.register values)
     (λ h. ap reads_of items ∙ reads_beside old.items values d.register h
-    ∙ ap (λ (x : List ℕ). Some (fold extended_of x values)) (sym w.register)) s.reads)
-    (items ∙ write_shown i d bytes m values old.items w)
+    ∙ ap (λ (x : List ℕ). Some (fold extended_of x values)) (sym w.register)) s.reads) (items ∙ write_shown i d bytes m values old.items w)
 
 -- what a step leaves, by whether its effect was made
 step_leads : (act : Act) (step : Step) (is_made : Bool) (i : Instance) (d : Digests) (values : List (List ℕ)) (old new : Standing)
@@ -315,9 +306,10 @@ done i d step values rest old middle new fault s l =
 -- the end of a step by its answer
 ended : (answer : Option StepFault) (i : Instance) (d : Digests) (fate : Fate) (step : Step) (rest : Walked) (old middle new : Standing)
     (fault : Option StepFault) (going : Type 0) → StandsAt i old d → Stepped i d fate step old middle answer
-    → (going → StandsAt i middle (all_made (by_digests i) d (step_moves step true fate.brings))
-    → Leads i (all_made (by_digests i) d (step_moves step true fate.brings)) rest middle new fault)
-    → Rest answer going ((new ≡ middle) × (fault ≡ answer)) → Leads i d (after_step step fate.brings fate.ends rest) old new fault
+    →
+    (going → StandsAt i middle (all_made (by_digests i) d (step_moves step true fate.brings)) → Leads i (all_made (by_digests i) d
+    (step_moves step true fate.brings)) rest middle new fault) → Rest answer going ((new ≡ middle) × (fault
+    ≡ answer)) → Leads i d (after_step step fate.brings fate.ends rest) old new fault
 ended None i d fate step rest old middle new fault going s t h r =
     let ends : StepEnds i d step (step_moves step true fate.brings) old middle =
     subst (λ (m : Bool). StepEnds i d step (step_moves step m fate.brings) old middle) t.goes.ends.made

@@ -27,8 +27,7 @@ committed-foreign [] = refl
 committed-foreign (v ∷ values) = committed-foreign values
 
 pub foreign_first : (values : List (List ℕ)) (rest : List Move) → committed_in (map Foreign values ++ rest) ≡ committed_in rest
-foreign_first values rest =
-    committed-append (map Foreign values) rest ∙ ap (λ v. v ++ committed_in rest) (committed-foreign values)
+foreign_first values rest = committed-append (map Foreign values) rest ∙ ap (λ v. v ++ committed_in rest) (committed-foreign values)
 
 pub commits-none : (moves : List Move) → committed_in moves ≡ [] → commits moves ≡ false
 commits-none [] e = refl
@@ -87,11 +86,9 @@ quiet_step step values Done rest b fresh quiet (batch e is) =
 quiet_step step values (Fails fault made) rest b fresh quiet c = nothing (quiet made values) (λ e. cc)
 
 -- the step that commits the batch, the last one
-last_step : (step : Step) (values : List (List ℕ)) (ends : End) (b : Batch)
-    → committed_in (step_moves step true values) ≡ b ∷ [] → committed_in (step_moves step false values) ≡ []
-    → Commits b true (after_step step values ends finished)
-last_step step values Done b one none =
-    batch (committed-append (step_moves step true values) [] ∙ ap (λ v. v ++ []) one) refl
+last_step : (step : Step) (values : List (List ℕ)) (ends : End) (b : Batch) → committed_in (step_moves step true values) ≡ b ∷ []
+    → committed_in (step_moves step false values) ≡ [] → Commits b true (after_step step values ends finished)
+last_step step values Done b one none = batch (committed-append (step_moves step true values) [] ∙ ap (λ v. v ++ []) one) refl
 last_step step values (Fails fault true) b one none = batch one refl
 last_step step values (Fails fault false) b one none = nothing none (λ e. cc)
 
@@ -137,8 +134,8 @@ changing_commits fates false true b =
     (last_step (Writes (Commit b)) (fates 5).brings (fates 5).ends b (written_one b (fates 5).brings) (committed-foreign (fates 5).brings)))
 
 -- a call of Opt commits nothing, or its batch
-pub opt_commits : (fates : ℕ → Fate) (flag fresh : Bool) (b : Batch)
-    → Commits b fresh (walk fates 1 (Reads ∷ Reads ∷ changing flag fresh b))
+pub opt_commits : (fates : ℕ → Fate) (flag fresh : Bool)
+    (b : Batch) → Commits b fresh (walk fates 1 (Reads ∷ Reads ∷ changing flag fresh b))
 opt_commits fates flag fresh b =
     quiet_step Reads (fates 1).brings (fates 1).ends (walk fates 2 (Reads ∷ changing flag fresh b)) b fresh quiet_reads
     (quiet_step Reads (fates 2).brings (fates 2).ends (walk fates 3 (changing flag fresh b)) b fresh quiet_reads
@@ -194,8 +191,8 @@ pub from_reset-foreign : (values : List (List ℕ)) (moves : List Move) → from
 from_reset-foreign [] moves = refl
 from_reset-foreign (v ∷ values) moves = from_reset-foreign values moves
 
-pub messages-made : (i : Instance) (xs ys : List Move) (y : History)
-    → moves_messages i y (xs ++ ys) ≡ moves_messages i y xs ++ moves_messages i (all_made (by_lists i) y xs) ys
+pub messages-made : (i : Instance) (xs ys : List Move) (y : History) → moves_messages i y (xs ++ ys)
+    ≡ moves_messages i y xs ++ moves_messages i (all_made (by_lists i) y xs) ys
 messages-made i [] ys y = refl
 messages-made i (x ∷ xs) ys y =
     ap (λ v. move_messages i y x ++ v) (messages-made i xs ys (moved i y x)) ∙ sym (append_assoc (move_messages i y x) _ _)

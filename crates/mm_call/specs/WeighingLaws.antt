@@ -57,6 +57,5 @@ admits Stale a = absurd a
 
 pub weighs : (s t fits : Bool) (v : Verdict) → s ≡ true → t ≡ true → fits ≡ true → IsAccepted v → IsGiven (weighed s t v fits)
 weighs s t fits v p q r a =
-    subst (λ (x : Bool). IsGiven (weighed x t v fits)) (sym p)
-    (subst (λ (x : Bool). IsGiven (weighed true x v fits)) (sym q)
+    subst (λ (x : Bool). IsGiven (weighed x t v fits)) (sym p) (subst (λ (x : Bool). IsGiven (weighed true x v fits)) (sym q)
     (subst (λ (x : Bool). IsGiven (weighed true true v x)) (sym r) (admits v a)))

@@ -8,17 +8,16 @@ ghost use Rattle.mm_model.specs.Long.{is_long};
 ghost use Rattle.mm_call.specs.Order.{admitted, examined};
 
 use mm_base::LAST_POSITION;
-use mm_digest::HmacKey;
 use mm_model::{Refusal, Verdict};
 use mm_module::{Batch, Module};
-use mm_seal::Offered;
+use mm_seal::{Offered, SealingKey};
 
 /// Whether an offer is accepted, and as a repeat, by the verdict on it. State, Tag, Stale and Full come in this order.
 /// Takes no memory.
 #[inline(always)]
 pub fn examine<M: Module>(
     module: &M,
-    key: &HmacKey,
+    key: &SealingKey,
     offered: &Offered<'_>,
     batch: Batch<'_>,
     verdict: Verdict,
@@ -36,7 +35,7 @@ pub fn examine<M: Module>(
     if !module.state_is_spelled(body.state) {
         return Err(Refusal::State);
     }
-    if !offered.tag_right_under(key) {
+    if !key.tag_right(offered) {
         return Err(Refusal::Tag);
     }
     let fits = body.position + batch.len() as u64 <= LAST_POSITION;

@@ -12,10 +12,9 @@ ghost use Rattle.mm_call.specs.Answers.{answer_at};
 ghost use Rattle.mm_call.specs.Ran.{RanSome};
 
 use mm_base::{Bytes, Memory};
-use mm_digest::HmacKey;
 use mm_model::BatchAnswer;
 use mm_module::{Batch, Module, Outputs, Stepped};
-use mm_seal::{Body, Place, seal_under};
+use mm_seal::{Body, Place, SealingKey};
 use std::alloc::Global;
 
 /// The answer to a batch that runs from an offered state, with the place that it leads to.
@@ -23,7 +22,7 @@ use std::alloc::Global;
 pub fn answer<M: Module>(
     alloc: Global,
     module: &M,
-    key: &HmacKey,
+    key: &mut SealingKey,
     offered: &Body<'_>,
     place: Place,
     batch: Batch<'_>,
@@ -32,7 +31,7 @@ pub fn answer<M: Module>(
     requires spelled { IsTrue ((M.meaning «module».now).is_spelled offered.now.state.now) }
     requires fits { offered.now.position + size_of (batch_of batch) ≤ last_position }
     requires short { is_long (batch_of batch) ≡ false }
-    ensures { IfOk result (λ answer. answer ≡ answer_at (M.meaning «module».now) key.now
+    ensures { IfOk result (λ answer. answer ≡ answer_at (M.meaning «module».now) key.old
         (content_of offered.now) place (batch_of batch.entry) again) }
 {
     let Ran { state, outputs } = run_batch(alloc, module, offered.state, batch)?;
@@ -43,7 +42,7 @@ pub fn answer<M: Module>(
         position,
         state: state.as_slice(),
     };
-    let snapshot = seal_under(alloc, key, &body)?;
+    let snapshot = key.seal(alloc, &body)?;
     Ok(BatchAnswer {
         again,
         position,

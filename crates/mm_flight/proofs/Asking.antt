@@ -1,46 +1,29 @@
 -- The same of a call of either core; and what its code says.
-use Rattle.std.proofs.Common.{◌≡◌, ℕ, ◌≤◌, true, List, Option, None, Some, refl, sym, ap, ◌∙◌, subst, arith}
-use Rattle.std.specs.Option.{option_map}
-use Rattle.mm_base.specs.Faults.{counted}
+use Rattle.mm_flight.proofs.Below.{◌≡◌, ℕ, ◌≤◌, true, List, Option, None, Some, refl, sym, ap, ◌∙◌, subst, arith, option_map, counted}
+use Rattle.mm_flight.proofs.Below.{StepFault, Meddle, Quiet, Plan, Standing, stopping, Act, Goes, Meaning, Batch, BatchAnswer, Refusal}
+use Rattle.mm_flight.proofs.Below.{Ended, Answered, Broken, CallsTo, refused_as, is_broken, fault_of, Ready, Stage, plan_by, under}
 use Rattle.mm_digest.specs.declared.variant.Variant.{Variant}
 use Rattle.mm_digest.specs.declared.variant.Variant.TheVariants as variant
-use Rattle.mm_platform.specs.declared.fault.StepFault.{StepFault}
-use Rattle.mm_platform.specs.declared.plan.Meddle.{Meddle}
 use Rattle.mm_platform.specs.declared.plan.Stop.{Stop}
-use Rattle.mm_platform.specs.declared.plan.Stop.TheVariants.{Quiet}
-use Rattle.mm_platform.specs.Standing.{Plan, Standing}
-use Rattle.mm_platform.specs.Memory.{stopping}
-use Rattle.mm_platform.specs.Steps.{Act, Goes}
-use Rattle.mm_module.specs.Meaning.{Meaning}
-use Rattle.mm_module.specs.Batch.{Batch}
-use Rattle.mm_model.specs.declared.answer.BatchAnswer.{BatchAnswer}
-use Rattle.mm_model.specs.declared.refusal.Refusal.{Refusal}
-use Rattle.mm_call.specs.declared.ended.Ended.{Ended}
-use Rattle.mm_call.specs.declared.ended.Ended.TheVariants.{Answered, Broken}
-use Rattle.mm_call.specs.Ended.{CallsTo, refused_as, is_broken}
-use Rattle.mm_call.specs.Refusals.{fault_of}
-use Rattle.mm_basic.specs.declared.found.Ready.{Ready}
 use Rattle.mm_basic.specs.declared.call.Turn as basic_turn
 use Rattle.mm_basic.specs.declared.call.Turn.TheVariants as in_basic
 use Rattle.mm_basic.specs.Steps as basic_steps
 use Rattle.mm_basic.specs.Turns as basic_turns
 use Rattle.mm_basic.specs.Moved.{AdvancedInBasic, FinishedInBasic}
-use Rattle.mm_basic.proofs.Going as basic_going
+use Rattle.mm_basic.proofs.Above as basic_going
 use Rattle.mm_opt.specs.declared.call.Turn as opt_turn
 use Rattle.mm_opt.specs.declared.call.Turn.TheVariants as in_opt
-use Rattle.mm_opt.specs.declared.stage.Stage.{Stage}
 use Rattle.mm_opt.specs.declared.stage.Stage.TheVariants as stage
 use Rattle.mm_opt.specs.declared.stage.Change.TheVariants as change
 use Rattle.mm_opt.specs.Steps as opt_steps
 use Rattle.mm_opt.specs.Turns as opt_turns
 use Rattle.mm_opt.specs.Moved.{AdvancedInOpt, FinishedInOpt}
-use Rattle.mm_opt.proofs.Finishing as opt_finishing
+use Rattle.mm_opt.proofs.Above as opt_finishing
 use Rattle.mm_flight.specs.declared.ask.AskCall.{AskCall}
 use Rattle.mm_flight.specs.declared.ask.AskCall.TheVariants.{Basic, Opt}
 use Rattle.mm_flight.specs.declared.ask.AskTurn.{AskTurn}
 use Rattle.mm_flight.specs.declared.ask.AskTurn.TheVariants.{Going, Done, Refused}
 use Rattle.mm_flight.specs.Asks.{begun, ask_number, of_basic, of_opt, AskTurns, MayAsk, ask_fault, AdvancedAsk, AskFinishes, FinishedAsk}
-use Rattle.mm_flight.specs.InFlight.{plan_by, under}
 use Rattle.mm_flight.proofs.Replanning.{Replans, Moves, AlwaysFails}
 use Rattle.mm_flight.proofs.BasicTurning.{basic_replanned, basic_moves, basic_then, basic_answers, basic_refuses, basic_fails, basic_faultless, basic_breaks}
 use Rattle.mm_flight.proofs.OptTurning.{opt_replanned, opt_moves, opt_then}

@@ -1,30 +1,15 @@
 -- Turns of a call of Basic: under another plan; with what is left behind them; as its end; and a step that fails.
-use Rattle.std.proofs.Common.{◌≡◌, ℕ, true, List, Option, None, Some, Result, Ok, Err, refl, sym, ap, ◌∙◌, subst}
-use Rattle.std.specs.Result.{result_err}
-use Rattle.mm_base.specs.Faults.{counted}
-use Rattle.mm_platform.specs.declared.fault.StepFault.{StepFault}
-use Rattle.mm_platform.specs.declared.plan.Meddle.{Meddle}
-use Rattle.mm_platform.specs.declared.plan.Stop.TheVariants.{Quiet}
-use Rattle.mm_platform.specs.Standing.{Plan, Standing}
-use Rattle.mm_platform.specs.Steps.{ReadCell, WriteCell, Goes}
-use Rattle.mm_module.specs.Meaning.{Meaning}
-use Rattle.mm_module.specs.Batch.{Batch}
-use Rattle.mm_model.specs.declared.answer.BatchAnswer.{BatchAnswer}
-use Rattle.mm_model.specs.declared.refusal.Refusal.{Refusal}
-use Rattle.mm_model.specs.declared.refusal.Refusal.TheVariants.{Device}
-use Rattle.mm_call.specs.declared.ended.Ended.{Ended}
-use Rattle.mm_call.specs.declared.ended.Ended.TheVariants.{Answered, Broken}
-use Rattle.mm_call.specs.Ended.{refused_as, committed_as, is_broken}
-use Rattle.mm_call.specs.Refusals.{fault_of, fault_in}
+use Rattle.mm_flight.proofs.Below.{◌≡◌, ℕ, true, List, Option, None, Some, Result, Ok, Err, refl, sym, ap, ◌∙◌, subst, result_err, counted}
+use Rattle.mm_flight.proofs.Below.{StepFault, Meddle, Quiet, Plan, Standing, ReadCell, WriteCell, Goes, Meaning, Batch, BatchAnswer}
+use Rattle.mm_flight.proofs.Below.{Refusal, Device, Ended, Answered, Broken, refused_as, is_broken, fault_of, fault_in, Ready, goes_on}
+use Rattle.mm_flight.proofs.Below.{breaks_off, EndsTo, AsksTo, plan_by, under}
 use Rattle.mm_basic.specs.declared.found.Found.{Found}
 use Rattle.mm_basic.specs.declared.found.Found.TheVariants.{Repeat, Change}
-use Rattle.mm_basic.specs.declared.found.Ready.{Ready}
 use Rattle.mm_basic.specs.declared.call.Turn.{Turn}
 use Rattle.mm_basic.specs.declared.call.Turn.TheVariants.{Going, Done, Refused}
 use Rattle.mm_basic.specs.Steps.{Finds, Reads, Writes, act_of, step_number}
 use Rattle.mm_basic.specs.Turns.{turn_of, last_turn, turn_fault, Turns}
-use Rattle.mm_basic.specs.Asks.{EndsTo, WritesTo, AsksTo, Finishes}
-use Rattle.mm_flight.specs.InFlight.{plan_by, under}
+use Rattle.mm_basic.specs.Asks.{basic_call, WritesTo, Finishes}
 use Rattle.mm_flight.proofs.Replanning.{Replans, replanned, Moves, quiet_step, AlwaysFails, broken_by}
 
 -- under another plan that says the same of the step
@@ -83,7 +68,7 @@ basic_moves (Some ready) meaning old new offer b next t = absurd (last_never t.w
 
 reads_then : (meaning : Meaning) (old mid new : Standing) (offer : List ℕ) (b : Batch) (next : Option Ready) (ended : Ended)
     → IsReadied meaning old mid offer b next → Finishes meaning next mid new offer b ended
-    → AsksTo meaning old new offer b ended
+    → AsksTo basic_call meaning old new offer b ended
 reads_then meaning old mid new offer b next ended r f = record {
   middle = mid;
   found = Ok (Change r.ready);
@@ -102,7 +87,7 @@ basic_then (Some ready) meaning old mid new offer b next ended t f = absurd (las
 
 first_answers : (found : Result Found Refusal) (meaning : Meaning) (old new : Standing) (offer : List ℕ) (b : Batch)
     (answer : BatchAnswer) → Reads meaning old new offer b found → Done answer ≡ turn_of found
-    → AsksTo meaning old new offer b (Answered answer)
+    → AsksTo basic_call meaning old new offer b (Answered answer)
 first_answers (Err why) meaning old new offer b answer r e = absurd (cc)
 first_answers (Ok (Repeat it)) meaning old new offer b answer r e =
     let same : answer ≡ it = cc in record { middle = new; found = Ok (Repeat it); reads = r; ends = (refl, ap Answered same) }
@@ -111,7 +96,7 @@ first_answers (Ok (Change ready)) meaning old new offer b answer r e = absurd (c
 last_answers : (written : Result BatchAnswer StepFault) (ready : Ready) (old new : Standing) (answer : BatchAnswer)
     → Writes ready old new written → Done answer ≡ last_turn written → WritesTo ready old new (Answered answer)
 last_answers (Ok it) ready old new answer w e =
-    let same : answer ≡ it = cc in record { written = Ok it; writes = w; gives = ap Answered same }
+    let same : answer ≡ it = cc in goes_on new w.goes (refl, ap Answered (same ∙ w.gives))
 last_answers (Err fault) ready old new answer w e = absurd (cc)
 
 pub basic_answers : (ready : Option Ready) (meaning : Meaning) (old new : Standing) (offer : List ℕ) (b : Batch) (answer : BatchAnswer)
@@ -121,7 +106,7 @@ basic_answers (Some ready) meaning old new offer b answer t = last_answers t.wri
 
 first_refuses : (found : Result Found Refusal) (meaning : Meaning) (old new : Standing) (offer : List ℕ) (b : Batch) (why : Refusal)
     → Reads meaning old new offer b found → Refused why ≡ turn_of found
-    → AsksTo meaning old new offer b (refused_as why)
+    → AsksTo basic_call meaning old new offer b (refused_as why)
 first_refuses (Err it) meaning old new offer b why r e =
     let same : why ≡ it = cc in record { middle = new; found = Err it; reads = r; ends = (refl, ap refused_as same) }
 first_refuses (Ok (Repeat it)) meaning old new offer b why r e = absurd (cc)
@@ -152,14 +137,7 @@ basic_fails None meaning old new offer b fault g = (
     ends = (refl, refl);
   },
 )
-basic_fails (Some ready) meaning old new offer b fault g = (
-  Some ready.answer.position,
-  record {
-    written = Err fault;
-    writes = record { goes = g; gives = tt };
-    gives = refl;
-  },
-)
+basic_fails (Some ready) meaning old new offer b fault g = (Some ready.answer.position, breaks_off fault g refl)
 
 -- no fault comes where none is planned
 
@@ -184,17 +162,16 @@ basic_faultless (Some ready) meaning old new offer b turn meddles made on planne
 -- a call whose next step fails is broken off
 
 read_breaks : (found : Result Found Refusal) (old mid new : Standing) (ended : Ended) → AlwaysFails old
-    → Goes ReadCell old mid (fault_in found) → EndsTo found mid new ended → is_broken ended ≡ true
+    → Goes ReadCell old mid (fault_in found) → EndsTo basic_call found mid new ended → is_broken ended ≡ true
 read_breaks (Err why) old mid new ended fails g e = broken_by (fault_of why) why ended (fails ReadCell mid (fault_of why) g) e.1
 read_breaks (Ok found) old mid new ended fails g e = absurd (fails ReadCell mid None g refl)
 
-write_breaks : (written : Result BatchAnswer StepFault) (ready : Ready) (old new : Standing) (ended : Ended) → AlwaysFails old
-    → Goes (WriteCell ready.next) old new (result_err written)
-    → ended ≡ committed_as (Some ready.answer.position) written → is_broken ended ≡ true
-write_breaks (Ok answer) ready old new ended fails g e = absurd (fails (WriteCell ready.next) new None g refl)
-write_breaks (Err fault) ready old new ended fails g e = ap is_broken e
+write_breaks : (ready : Ready) (old new : Standing) (ended : Ended) → AlwaysFails old → WritesTo ready old new ended
+    → is_broken ended ≡ true
+write_breaks ready old new ended fails (goes_on mid g s) = absurd (fails (WriteCell ready.next) mid None g refl)
+write_breaks ready old new ended fails (breaks_off fault g e) = ap is_broken e
 
 pub basic_breaks : (ready : Option Ready) (meaning : Meaning) (old new : Standing) (offer : List ℕ) (b : Batch) (ended : Ended)
     → AlwaysFails old → Finishes meaning ready old new offer b ended → is_broken ended ≡ true
 basic_breaks None meaning old new offer b ended fails f = read_breaks f.found old f.middle new ended fails f.reads.goes f.ends
-basic_breaks (Some ready) meaning old new offer b ended fails f = write_breaks f.written ready old new ended fails f.writes.goes f.gives
+basic_breaks (Some ready) meaning old new offer b ended fails f = write_breaks ready old new ended fails f

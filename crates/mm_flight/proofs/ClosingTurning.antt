@@ -1,13 +1,7 @@
 -- Turns of a checkpoint: under another plan; with what is left behind them; as its end; and a step that fails.
-use Rattle.std.proofs.Common.{◌≡◌, ℕ, ◌+◌, Bool, true, List, Option, None, Some, Result, Ok, Err, refl, ap, ◌∙◌, subst}
-use Rattle.std.specs.Result.{result_err}
-use Rattle.mm_base.specs.Faults.{counted}
-use Rattle.mm_platform.specs.declared.fault.StepFault.{StepFault}
-use Rattle.mm_platform.specs.declared.plan.Meddle.{Meddle}
-use Rattle.mm_platform.specs.declared.plan.Stop.TheVariants.{Quiet}
-use Rattle.mm_platform.specs.Standing.{Plan, Standing}
-use Rattle.mm_platform.specs.Steps.{ReadCell, WriteCell, ReadRegister, cell_after, Goes}
-use Rattle.mm_seal.specs.declared.cell.Cell.{Cell}
+use Rattle.mm_flight.proofs.Below.{◌≡◌, ℕ, ◌+◌, Bool, true, List, Option, None, Some, Result, Ok, Err, refl, ap, ◌∙◌, subst, result_err}
+use Rattle.mm_flight.proofs.Below.{counted, StepFault, Meddle, Quiet, Plan, Standing, ReadCell, WriteCell, ReadRegister, cell_after, Goes}
+use Rattle.mm_flight.proofs.Below.{Cell, closing_acts_at, plan_by, under}
 use Rattle.mm_opt.specs.declared.segment.Checkpointed.{Checkpointed}
 use Rattle.mm_opt.specs.declared.segment.Checkpointed.TheVariants as checkpointed
 use Rattle.mm_opt.specs.declared.segment.CheckpointRefusal.{CheckpointRefusal}
@@ -20,8 +14,6 @@ use Rattle.mm_opt.specs.declared.closing.CheckpointTurn.{CheckpointTurn}
 use Rattle.mm_opt.specs.declared.closing.CheckpointTurn.TheVariants.{Going, Done, Refused}
 use Rattle.mm_opt.specs.Checkpoints.{closing_act_of, closing_number_of, closing_fault_in, closing_handed_on, FindsSegment, Looks, FindsClosing, Weighs, EndsClosing, EndsLooking, ClosesSegment, WeighsAndCloses, FinishesClosing}
 use Rattle.mm_opt.specs.CheckpointTurns.{looked_turn, weighed_turn, closed_turn, ClosingTurns, closing_fault_turned}
-use Rattle.mm_opt.proofs.Acting.{closing_acts_at}
-use Rattle.mm_flight.specs.InFlight.{plan_by, under}
 use Rattle.mm_flight.proofs.Replanning.{Replans, replanned, Moves, quiet_step}
 
 -- under another plan that says the same of the step

@@ -1,19 +1,14 @@
 -- How a call in flight begins, takes in others' values and goes on, and how it ends.
-use Rattle.std.proofs.Common.{◌≡◌, ℕ, ◌+◌, ◌<◌, ◌≤◌, Bool, true, false, List, [], ◌∷◌, ◌++◌, map, Option, Some, refl, sym, ap, ◌∙◌, subst, arith}
+use Rattle.mm_flight.proofs.Below.{◌≡◌, ℕ, ◌+◌, ◌<◌, ◌≤◌, Bool, true, false, List, [], ◌∷◌, ◌++◌, map, Option, Some, refl, sym, ap, ◌∙◌}
+use Rattle.mm_flight.proofs.Below.{subst, arith, option_map, counted, Meddle, Quiet, Plan, Standing, meddling, plan_by, under, SaySame}
+use Rattle.mm_flight.proofs.Below.{GoesOnAs, InFlight}
 use Rattle.std.specs.Prelude.{◌==◌, filter}
 use Rattle.std.proofs.lemmas.Bool.{ne_eqb}
 use Rattle.std.proofs.lemmas.List.{append-nil}
 use Rattle.std.proofs.lemmas.List.Elements.{filter-append}
-use Rattle.std.specs.Option.{option_map}
-use Rattle.mm_base.specs.Faults.{counted}
 use Rattle.mm_digest.specs.declared.digest.Digest.{Digest}
-use Rattle.mm_platform.specs.declared.plan.Meddle.{Meddle}
-use Rattle.mm_platform.specs.declared.plan.Stop.TheVariants.{Quiet}
-use Rattle.mm_platform.specs.Standing.{Plan, Standing}
 use Rattle.mm_platform.specs.StandingWords.{due}
-use Rattle.mm_platform.specs.Memory.{meddling}
 use Rattle.mm_call.specs.TellingLaws.{IsAt, then_at, room_at}
-use Rattle.mm_flight.specs.InFlight.{plan_by, under, SaySame, GoesOnAs, InFlight}
 use Rattle.mm_flight.proofs.Replanning.{Replans, Moves, counted_few}
 
 -- a call before its first step

@@ -1,7 +1,9 @@
-pub mod Replanning
-pub mod BasicTurning
-pub mod OptTurning
-pub mod OptEnding
-pub mod ClosingTurning
-pub mod Asking
-pub mod Flying
+pub mod Above
+mod Below
+mod Replanning
+mod BasicTurning
+mod OptTurning
+mod OptEnding
+mod ClosingTurning
+mod Asking
+mod Flying

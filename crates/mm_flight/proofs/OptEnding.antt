@@ -1,46 +1,25 @@
 -- The end of a call of Opt: the turn that is its last; a step that fails; and where no fault comes.
-use Rattle.std.proofs.Common.{◌≡◌, ℕ, true, List, Option, None, Some, Result, Ok, Err, refl, sym, ap, ◌∙◌, subst}
-use Rattle.std.specs.Result.{result_err}
-use Rattle.mm_platform.specs.declared.fault.StepFault.{StepFault}
-use Rattle.mm_platform.specs.declared.plan.Meddle.{Meddle}
-use Rattle.mm_platform.specs.declared.plan.Stop.TheVariants.{Quiet}
-use Rattle.mm_platform.specs.Standing.{Standing}
-use Rattle.mm_platform.specs.Steps.{Act, ReadCell, WriteCell, ReadRegister, ResetRegister, ExtendRegister, Goes}
-use Rattle.mm_module.specs.Meaning.{Meaning}
-use Rattle.mm_module.specs.Batch.{Batch}
-use Rattle.mm_seal.specs.declared.cell.Cell.{Cell}
-use Rattle.mm_model.specs.declared.answer.BatchAnswer.{BatchAnswer}
-use Rattle.mm_model.specs.declared.refusal.Refusal.{Refusal}
-use Rattle.mm_model.specs.declared.refusal.Refusal.TheVariants.{Device}
-use Rattle.mm_call.specs.declared.ended.Ended.{Ended}
-use Rattle.mm_call.specs.declared.ended.Ended.TheVariants.{Answered, Broken}
-use Rattle.mm_call.specs.Ended.{refused_as, committed_as, is_broken}
-use Rattle.mm_call.specs.Refusals.{fault_of, fault_in}
-use Rattle.mm_opt.specs.declared.found.Opening.{Opening}
-use Rattle.mm_opt.specs.declared.found.Found.{Found}
-use Rattle.mm_opt.specs.declared.found.Found.TheVariants.{Repeat, Inside, Opens}
-use Rattle.mm_opt.specs.declared.stage.Stage.{Stage}
+use Rattle.mm_flight.proofs.Below.{◌≡◌, ℕ, true, List, [], ◌∷◌, Option, None, Some, Result, Ok, Err, refl, sym, ap, ◌∙◌, subst, result_err}
+use Rattle.mm_flight.proofs.Below.{StepFault, Meddle, Quiet, Standing, Act, ReadCell, WriteCell, ReadRegister, ResetRegister}
+use Rattle.mm_flight.proofs.Below.{ExtendRegister, Goes, Meaning, Batch, Cell, BatchAnswer, Refusal, Device, Ended, Answered, Broken}
+use Rattle.mm_flight.proofs.Below.{refused_as, is_broken, fault_of, fault_in, Opening, Found, Repeat, Inside, Opens, Stage, Turn, Done}
+use Rattle.mm_flight.proofs.Below.{Refused, act_of, ReadsOwnCell, Makes, seen_turn, found_turn, emptied_turn, placed_turn, last_turn, Turns}
+use Rattle.mm_flight.proofs.Below.{fault_turned, goes_on, breaks_off, StepsTo, EndsTo, AsksTo, ReadsOn, opt_call, Finishes, acts_at}
+use Rattle.mm_flight.proofs.Below.{plan_by}
 use Rattle.mm_opt.specs.declared.stage.Stage.TheVariants as stage
 use Rattle.mm_opt.specs.declared.stage.Change.TheVariants as change
-use Rattle.mm_opt.specs.declared.call.Turn.{Turn}
-use Rattle.mm_opt.specs.declared.call.Turn.TheVariants.{Done, Refused}
-use Rattle.mm_opt.specs.Steps.{act_of, ReadsOwnCell}
-use Rattle.mm_opt.specs.Turns.{seen_turn, found_turn, emptied_turn, placed_turn, last_turn, Turns, fault_turned}
-use Rattle.mm_opt.specs.Asks.{ReadsOn}
-use Rattle.mm_opt.specs.Finishes.{PlacedTo, EmptiedTo, EndsTo, AsksTo, Finishes}
-use Rattle.mm_opt.proofs.Acting.{acts_at}
-use Rattle.mm_flight.specs.InFlight.{plan_by}
 use Rattle.mm_flight.proofs.Replanning.{quiet_step, AlwaysFails, broken_by}
 
 -- the call's end, as the turn that is its last gives it
 
-last_as : (written : Result BatchAnswer StepFault) (commits : Option ℕ) (answer : BatchAnswer) → Done answer ≡ last_turn written
-    → Answered answer ≡ committed_as commits written
-last_as (Ok it) commits answer e = let same : answer ≡ it = cc in ap Answered same
-last_as (Err fault) commits answer e = absurd (cc)
+last_answers : (written : Result BatchAnswer StepFault) (act : Act) (it : BatchAnswer) (old new : Standing) (answer : BatchAnswer)
+    → Makes act it old new written → Done answer ≡ last_turn written → StepsTo (act ∷ []) it old new (Answered answer)
+last_answers (Ok given) act it old new answer m e =
+    let same : answer ≡ given = cc in goes_on new m.goes (refl, ap Answered (same ∙ m.gives))
+last_answers (Err fault) act it old new answer m e = absurd (cc)
 
 found_answers : (found : Result Found Refusal) (new : Standing) (answer : BatchAnswer) → Done answer ≡ found_turn found
-    → EndsTo found new new (Answered answer)
+    → EndsTo opt_call found new new (Answered answer)
 found_answers (Err why) new answer e = absurd (cc)
 found_answers (Ok (Repeat it)) new answer e = let same : answer ≡ it = cc in (refl, ap Answered same)
 found_answers (Ok (Inside ready)) new answer e = absurd (cc)
@@ -63,18 +42,12 @@ pub opt_answers : (call : Stage) (meaning : Meaning) (old new : Standing) (offer
 opt_answers stage.Begun meaning old new offer b answer t = absurd (seen_never t.outcome answer t.gives)
 opt_answers (stage.Seen cell) meaning old new offer b answer t = record
     { middle = new; found = t.outcome; reads = t.step; ends = found_answers t.outcome new answer t.gives }
-opt_answers (stage.Changing (change.Inside ready)) meaning old new offer b answer t = record {
-  written = t.outcome;
-  extends = t.step;
-  gives = last_as t.outcome (Some ready.answer.position) answer t.gives;
-}
+opt_answers (stage.Changing (change.Inside ready)) meaning old new offer b answer t =
+    last_answers t.outcome (ExtendRegister ready.value.bytes) ready.answer old new answer t.step t.gives
 opt_answers (stage.Changing (change.Emptying opening)) meaning old new offer b answer t = absurd (emptied_never t.outcome answer t.gives)
 opt_answers (stage.Changing (change.Placing opening)) meaning old new offer b answer t = absurd (placed_never t.outcome answer t.gives)
-opt_answers (stage.Changing (change.Writing opening)) meaning old new offer b answer t = record {
-  written = t.outcome;
-  writes = t.step;
-  gives = last_as t.outcome (Some opening.answer.position) answer t.gives;
-}
+opt_answers (stage.Changing (change.Writing opening)) meaning old new offer b answer t =
+    last_answers t.outcome (WriteCell opening.next) opening.answer old new answer t.step t.gives
 
 -- a refusal that hands no fault on comes by a reading step
 
@@ -86,7 +59,7 @@ cell_refuses (Ok cell) why e = absurd (cc)
 cell_refuses (Err it) why e = let same : it ≡ why = cc in ap (λ (x : Refusal). Err x) same
 
 found_refuses : (found : Result Found Refusal) (new : Standing) (why : Refusal) → Refused why ≡ found_turn found
-    → EndsTo found new new (refused_as why)
+    → EndsTo opt_call found new new (refused_as why)
 found_refuses (Err it) new why e = let same : why ≡ it = cc in (refl, ap refused_as same)
 found_refuses (Ok (Repeat answer)) new why e = absurd (cc)
 found_refuses (Ok (Inside ready)) new why e = absurd (cc)
@@ -105,7 +78,7 @@ placed_refuses (Ok it) why e none = cc
 placed_refuses (Err fault) why e none = refused_by why fault (cc) none
 
 seen_refuses : (meaning : Meaning) (old new : Standing) (offer : List ℕ) (b : Batch) (cell : Result Cell Refusal) (why : Refusal)
-    → ReadsOwnCell meaning.id old new cell → cell ≡ Err why → AsksTo meaning old new offer b (refused_as why)
+    → ReadsOwnCell meaning.id old new cell → cell ≡ Err why → AsksTo opt_call meaning old new offer b (refused_as why)
 seen_refuses meaning old new offer b cell why r e = record {
   middle = new;
   found = Err why;
@@ -162,40 +135,11 @@ opt_fails (stage.Seen cell) meaning old new offer b fault g = (
     ends = (refl, refl);
   },
 )
-opt_fails (stage.Changing (change.Inside ready)) meaning old new offer b fault g = (
-  Some ready.answer.position,
-  record {
-    written = Err fault;
-    extends = record { goes = g; gives = tt };
-    gives = refl;
-  },
-)
-opt_fails (stage.Changing (change.Emptying opening)) meaning old new offer b fault g = (
-  None,
-  record {
-    middle = new;
-    emptied = Err fault;
-    empties = record { goes = g; gives = tt };
-    on = (refl, refl);
-  },
-)
-opt_fails (stage.Changing (change.Placing opening)) meaning old new offer b fault g = (
-  None,
-  record {
-    middle = new;
-    placed = Err fault;
-    places = record { goes = g; gives = tt };
-    on = (refl, refl);
-  },
-)
-opt_fails (stage.Changing (change.Writing opening)) meaning old new offer b fault g = (
-  Some opening.answer.position,
-  record {
-    written = Err fault;
-    writes = record { goes = g; gives = tt };
-    gives = refl;
-  },
-)
+opt_fails (stage.Changing (change.Inside ready)) meaning old new offer b fault g = (Some ready.answer.position, breaks_off fault g refl)
+opt_fails (stage.Changing (change.Emptying opening)) meaning old new offer b fault g = (None, breaks_off fault g refl)
+opt_fails (stage.Changing (change.Placing opening)) meaning old new offer b fault g = (None, breaks_off fault g refl)
+opt_fails (stage.Changing (change.Writing opening)) meaning old new offer b fault g =
+    (Some opening.answer.position, breaks_off fault g refl)
 
 -- no fault comes where none is planned
 pub opt_faultless : (call : Stage) (meaning : Meaning) (old new : Standing) (offer : List ℕ) (b : Batch) (turn : Turn)
@@ -208,37 +152,26 @@ opt_faultless call meaning old new offer b turn meddles made on planned t =
 -- a call whose next step fails is broken off
 
 refused_end : (found : Result Found Refusal) (why : Refusal) (old new : Standing) (ended : Ended) → found ≡ Err why
-    → EndsTo found old new ended → ended ≡ refused_as why
-refused_end found why old new ended e ends = (subst (λ (x : Result Found Refusal). EndsTo x old new ended) e ends).1
+    → EndsTo opt_call found old new ended → ended ≡ refused_as why
+refused_end found why old new ended e ends = (subst (λ (x : Result Found Refusal). EndsTo opt_call x old new ended) e ends).1
 
 sees_breaks : (cell : Result Cell Refusal) (found : Result Found Refusal) (meaning : Meaning) (old mid next new : Standing)
     (offer : List ℕ) (b : Batch) (ended : Ended) → AlwaysFails old → Goes ReadCell old mid (fault_in cell)
-    → ReadsOn meaning cell mid next offer b found → EndsTo found next new ended → is_broken ended ≡ true
+    → ReadsOn meaning cell mid next offer b found → EndsTo opt_call found next new ended → is_broken ended ≡ true
 sees_breaks (Err why) found meaning old mid next new offer b ended fails g on ends =
     broken_by (fault_of why) why ended (fails ReadCell mid (fault_of why) g) (refused_end found why next new ended on.1 ends)
 sees_breaks (Ok cell) found meaning old mid next new offer b ended fails g on ends = absurd (fails ReadCell mid None g refl)
 
 reads_breaks : (found : Result Found Refusal) (old mid next new : Standing) (ended : Ended) → AlwaysFails old
-    → Goes ReadRegister old mid (fault_in found) → EndsTo found next new ended → is_broken ended ≡ true
+    → Goes ReadRegister old mid (fault_in found) → EndsTo opt_call found next new ended → is_broken ended ≡ true
 reads_breaks (Err why) old mid next new ended fails g ends = broken_by (fault_of why) why ended (fails ReadRegister mid (fault_of why) g)
     ends.1
 reads_breaks (Ok found) old mid next new ended fails g ends = absurd (fails ReadRegister mid None g refl)
 
-last_breaks : (act : Act) (written : Result BatchAnswer StepFault) (commits : Option ℕ) (old new : Standing) (ended : Ended)
-    → AlwaysFails old → Goes act old new (result_err written) → ended ≡ committed_as commits written → is_broken ended ≡ true
-last_breaks act (Ok answer) commits old new ended fails g e = absurd (fails act new None g refl)
-last_breaks act (Err fault) commits old new ended fails g e = ap is_broken e
-
-empties_breaks : (emptied : Result Opening StepFault) (old mid new : Standing) (ended : Ended) → AlwaysFails old
-    → Goes ResetRegister old mid (result_err emptied) → EmptiedTo emptied mid new ended → is_broken ended ≡ true
-empties_breaks (Ok opening) old mid new ended fails g e = absurd (fails ResetRegister mid None g refl)
-empties_breaks (Err fault) old mid new ended fails g e = ap is_broken e.1
-
-places_breaks : (placed : Result Opening StepFault) (opening : Opening) (old mid new : Standing) (ended : Ended) → AlwaysFails old
-    → Goes (ExtendRegister opening.value.bytes) old mid (result_err placed) → PlacedTo placed mid new ended
-    → is_broken ended ≡ true
-places_breaks (Ok it) opening old mid new ended fails g e = absurd (fails (ExtendRegister opening.value.bytes) mid None g refl)
-places_breaks (Err fault) opening old mid new ended fails g e = ap is_broken e.1
+changes_break : (act : Act) (acts : List Act) (answer : BatchAnswer) (old new : Standing) (ended : Ended) → AlwaysFails old
+    → StepsTo (act ∷ acts) answer old new ended → is_broken ended ≡ true
+changes_break act acts answer old new ended fails (goes_on mid g s) = absurd (fails act mid None g refl)
+changes_break act acts answer old new ended fails (breaks_off fault g e) = ap is_broken e
 
 pub opt_breaks : (call : Stage) (meaning : Meaning) (old new : Standing) (offer : List ℕ) (b : Batch) (ended : Ended) → AlwaysFails old
     → Finishes meaning call old new offer b ended → is_broken ended ≡ true
@@ -246,11 +179,11 @@ opt_breaks stage.Begun meaning old new offer b ended fails f =
     sees_breaks f.reads.cell f.found meaning old f.reads.middle f.middle new offer b ended fails f.reads.reads.goes f.reads.on f.ends
 opt_breaks (stage.Seen cell) meaning old new offer b ended fails f = reads_breaks f.found old f.reads.middle f.middle new ended fails
     f.reads.goes f.ends
-opt_breaks (stage.Changing (change.Inside ready)) meaning old new offer b ended fails f =
-    last_breaks (ExtendRegister ready.value.bytes) f.written (Some ready.answer.position) old new ended fails f.extends.goes f.gives
-opt_breaks (stage.Changing (change.Emptying opening)) meaning old new offer b ended fails f = empties_breaks f.emptied old f.middle new
-    ended fails f.empties.goes f.on
-opt_breaks (stage.Changing (change.Placing opening)) meaning old new offer b ended fails f = places_breaks f.placed opening old f.middle
-    new ended fails f.places.goes f.on
-opt_breaks (stage.Changing (change.Writing opening)) meaning old new offer b ended fails f =
-    last_breaks (WriteCell opening.next) f.written (Some opening.answer.position) old new ended fails f.writes.goes f.gives
+opt_breaks (stage.Changing (change.Inside ready)) meaning old new offer b ended fails s =
+    changes_break (ExtendRegister ready.value.bytes) [] ready.answer old new ended fails s
+opt_breaks (stage.Changing (change.Emptying opening)) meaning old new offer b ended fails s =
+    changes_break ResetRegister (ExtendRegister opening.value.bytes ∷ WriteCell opening.next ∷ []) opening.answer old new ended fails s
+opt_breaks (stage.Changing (change.Placing opening)) meaning old new offer b ended fails s =
+    changes_break (ExtendRegister opening.value.bytes) (WriteCell opening.next ∷ []) opening.answer old new ended fails s
+opt_breaks (stage.Changing (change.Writing opening)) meaning old new offer b ended fails s =
+    changes_break (WriteCell opening.next) [] opening.answer old new ended fails s

@@ -1,31 +1,13 @@
 -- Turns of a call of Opt: under another plan, and with what is left behind them.
-use Rattle.std.proofs.Common.{◌≡◌, ℕ, ◌+◌, Bool, List, Option, Result, Ok, Err, refl, sym, ap, ◌∙◌, subst}
-use Rattle.std.specs.Result.{result_err}
-use Rattle.mm_base.specs.Faults.{counted}
-use Rattle.mm_platform.specs.declared.fault.StepFault.{StepFault}
-use Rattle.mm_platform.specs.Standing.{Plan, Standing}
-use Rattle.mm_platform.specs.Steps.{Act, ReadCell, WriteCell, ReadRegister, ResetRegister, ExtendRegister, cell_after}
-use Rattle.mm_module.specs.Meaning.{Meaning}
-use Rattle.mm_module.specs.Batch.{Batch}
-use Rattle.mm_seal.specs.declared.cell.Cell.{Cell}
-use Rattle.mm_model.specs.declared.answer.BatchAnswer.{BatchAnswer}
-use Rattle.mm_model.specs.declared.refusal.Refusal.{Refusal}
-use Rattle.mm_call.specs.declared.ended.Ended.{Ended}
-use Rattle.mm_call.specs.Refusals.{fault_in}
+use Rattle.mm_flight.proofs.Below.{◌≡◌, ℕ, ◌+◌, Bool, List, Option, Result, Ok, Err, refl, sym, ap, ◌∙◌, subst, result_err, counted}
+use Rattle.mm_flight.proofs.Below.{StepFault, Plan, Standing, Act, ReadCell, WriteCell, ReadRegister, ResetRegister, ExtendRegister}
+use Rattle.mm_flight.proofs.Below.{cell_after, Meaning, Batch, Cell, BatchAnswer, Refusal, Ended, fault_in, Opening, Found, Repeat, Inside}
+use Rattle.mm_flight.proofs.Below.{Opens, Stage, Turn, Going, act_of, step_number, FindsCell, ReadsOwnCell, Finds, MakesRoom, Makes}
+use Rattle.mm_flight.proofs.Below.{Empties, Places, seen_turn, found_turn, emptied_turn, placed_turn, last_turn, Turns, goes_on, EndsTo}
+use Rattle.mm_flight.proofs.Below.{AsksTo, opt_call, ChangesTo, SeesTo, Finishes, acts_at, under}
 use Rattle.mm_opt.specs.declared.found.Ready.{Ready}
-use Rattle.mm_opt.specs.declared.found.Opening.{Opening}
-use Rattle.mm_opt.specs.declared.found.Found.{Found}
-use Rattle.mm_opt.specs.declared.found.Found.TheVariants.{Repeat, Inside, Opens}
-use Rattle.mm_opt.specs.declared.stage.Stage.{Stage}
 use Rattle.mm_opt.specs.declared.stage.Stage.TheVariants as stage
 use Rattle.mm_opt.specs.declared.stage.Change.TheVariants as change
-use Rattle.mm_opt.specs.declared.call.Turn.{Turn}
-use Rattle.mm_opt.specs.declared.call.Turn.TheVariants.{Going}
-use Rattle.mm_opt.specs.Steps.{act_of, step_number, FindsCell, ReadsOwnCell, Finds, MakesRoom, Makes, Empties, Places}
-use Rattle.mm_opt.specs.Turns.{seen_turn, found_turn, emptied_turn, placed_turn, last_turn, Turns}
-use Rattle.mm_opt.specs.Finishes.{PlacesTo, OpensTo, EndsTo, AsksTo, SeesTo, Finishes}
-use Rattle.mm_opt.proofs.Acting.{acts_at}
-use Rattle.mm_flight.specs.InFlight.{under}
 use Rattle.mm_flight.proofs.Replanning.{Replans, replanned, Moves}
 
 -- under another plan that says the same of the step
@@ -184,7 +166,7 @@ opt_moves (stage.Changing (change.Writing opening)) meaning old new offer b next
 
 seen_then : (meaning : Meaning) (old mid new : Standing) (offer : List ℕ) (b : Batch) (next : Stage) (ended : Ended)
     → LeadsTo (ReadsOwnCell meaning.id old mid) to_seen next → Finishes meaning next mid new offer b ended
-    → AsksTo meaning old new offer b ended
+    → AsksTo opt_call meaning old new offer b ended
 seen_then meaning old mid new offer b next ended l f =
     let sees : SeesTo meaning l.it mid new offer b ended = subst (λ (x : Stage). Finishes meaning x mid new offer b ended) l.is f in
     record {
@@ -195,33 +177,27 @@ seen_then meaning old mid new offer b next ended l f =
     }
 
 changes_then : (found : Result Found Refusal) (meaning : Meaning) (mid new : Standing) (offer : List ℕ) (b : Batch) (next : Stage)
-    (ended : Ended) → Changes found next → Finishes meaning next mid new offer b ended → EndsTo found mid new ended
+    (ended : Ended) → Changes found next → Finishes meaning next mid new offer b ended → EndsTo opt_call found mid new ended
 changes_then found meaning mid new offer b next ended (inside ready f e) l =
-    subst (λ (x : Result Found Refusal). EndsTo x mid new ended) (sym f)
+    subst (λ (x : Result Found Refusal). EndsTo opt_call x mid new ended) (sym f)
     (subst (λ (x : Stage). Finishes meaning x mid new offer b ended) e l)
 changes_then found meaning mid new offer b next ended (opens opening f e) l =
-    subst (λ (x : Result Found Refusal). EndsTo x mid new ended) (sym f)
+    subst (λ (x : Result Found Refusal). EndsTo opt_call x mid new ended) (sym f)
     (subst (λ (x : Stage). Finishes meaning x mid new offer b ended) e l)
 
 emptied_then : (opening : Opening) (meaning : Meaning) (old mid new : Standing) (offer : List ℕ) (b : Batch) (next : Stage)
     (ended : Ended) → LeadsTo (Empties opening old mid) to_placing next → Finishes meaning next mid new offer b ended
-    → OpensTo opening old new ended
-emptied_then opening meaning old mid new offer b next ended l f = record {
-  middle = mid;
-  emptied = Ok l.it;
-  empties = l.step;
-  on = subst (λ (x : Stage). Finishes meaning x mid new offer b ended) l.is f;
-}
+    → ChangesTo (change.Emptying opening) old new ended
+emptied_then opening meaning old mid new offer b next ended l f =
+    goes_on mid l.step.goes (subst (λ (o : Opening). ChangesTo (change.Placing o) mid new ended) l.step.gives
+    (subst (λ (x : Stage). Finishes meaning x mid new offer b ended) l.is f))
 
 placed_then : (opening : Opening) (meaning : Meaning) (old mid new : Standing) (offer : List ℕ) (b : Batch) (next : Stage)
     (ended : Ended) → LeadsTo (Places opening old mid) to_writing next → Finishes meaning next mid new offer b ended
-    → PlacesTo opening old new ended
-placed_then opening meaning old mid new offer b next ended l f = record {
-  middle = mid;
-  placed = Ok l.it;
-  places = l.step;
-  on = subst (λ (x : Stage). Finishes meaning x mid new offer b ended) l.is f;
-}
+    → ChangesTo (change.Placing opening) old new ended
+placed_then opening meaning old mid new offer b next ended l f =
+    goes_on mid l.step.goes (subst (λ (o : Opening). ChangesTo (change.Writing o) mid new ended) l.step.gives
+    (subst (λ (x : Stage). Finishes meaning x mid new offer b ended) l.is f))
 
 pub opt_then : (call : Stage) (meaning : Meaning) (old mid new : Standing) (offer : List ℕ) (b : Batch) (next : Stage) (ended : Ended)
     → Turns meaning call old mid offer b (Going next)

@@ -1,16 +1,8 @@
 -- A device step that goes as its plan says goes so under each plan that says the same of it.
-use Rattle.std.proofs.Common.{◌≡◌, ℕ, ◌+◌, ◌<◌, true, Bool, List, Option, None, Some, refl, sym, ap, ◌∙◌, subst, arith}
-use Rattle.mm_base.specs.Faults.{counted}
-use Rattle.mm_platform.specs.declared.fault.StepFault.{StepFault}
+use Rattle.mm_flight.proofs.Below.{◌≡◌, ℕ, ◌+◌, ◌<◌, true, Bool, List, Option, None, Some, refl, sym, ap, ◌∙◌, subst, arith, counted}
+use Rattle.mm_flight.proofs.Below.{StepFault, Meddle, Quiet, Plan, Standing, Act, Goes, EndsBy, GoesByPlan, will_answer, will_be_made}
+use Rattle.mm_flight.proofs.Below.{will_be_on, will_bring, Ended, ended_with, is_broken, Refusal, plan_by, under, SaySame}
 use Rattle.mm_platform.specs.declared.fault.StepFault.TheVariants.{Failed, Off}
-use Rattle.mm_platform.specs.declared.plan.Meddle.{Meddle}
-use Rattle.mm_platform.specs.declared.plan.Stop.TheVariants.{Quiet}
-use Rattle.mm_platform.specs.Standing.{Plan, Standing}
-use Rattle.mm_platform.specs.Steps.{Act, Goes, EndsBy, GoesByPlan, will_answer, will_be_made, will_be_on, will_bring}
-use Rattle.mm_call.specs.declared.ended.Ended.{Ended}
-use Rattle.mm_call.specs.Ended.{ended_with, is_broken}
-use Rattle.mm_model.specs.declared.refusal.Refusal.{Refusal}
-use Rattle.mm_flight.specs.InFlight.{plan_by, under, SaySame}
 
 pub counted_few : (made : ℕ) → made < 255 → counted made ≡ made + 1
 counted_few made few = omega arith

@@ -1,18 +1,8 @@
 -- The messages of a history of Opt, by kind, and what its life tells of its four tests.
-use Rattle.std.proofs.Common.{ℕ, ◌≡◌, Bool, true, false, ◌&&◌, List, [], ◌∷◌, ◌++◌, map, refl, sym, ◌⊎◌, inl, inr}
-use Rattle.std.specs.List.{AllByRecursion, Contains, flat_map}
-use Rattle.mm_digest.specs.declared.variant.Variant.TheVariants.{Opt}
-use Rattle.mm_digest.specs.Messages.{start_message, start_of}
-use Rattle.mm_model.specs.Chains.{trail, guard_message, closing_message}
-use Rattle.mm_model.specs.ChainsWords.{own_values}
-use Rattle.mm_model.specs.Instance.{Instance}
-use Rattle.mm_model.specs.History.{History}
-use Rattle.mm_model.specs.HistoryWords.{values_of}
-use Rattle.mm_model.specs.Life.{Live, Spoiled, Lost, life_by, is_lost as is_lost_life}
-use Rattle.mm_model.specs.Messages.{Within, register_trail, messages_of, runs_of}
-use Rattle.mm_model.specs.ListLaws.{each_left, each_right}
-use Rattle.mm_model.specs.SegmentLaws.{true_not_false}
-use Rattle.mm_model.specs.FormLaws.{Listed}
+use Rattle.mm_model.proofs.Below.{ℕ, ◌≡◌, Bool, true, false, ◌&&◌, List, [], ◌∷◌, ◌++◌, map, refl, sym, ◌⊎◌, inl, inr, AllByRecursion}
+use Rattle.mm_model.proofs.Below.{Contains, flat_map, Opt, start_message, start_of, trail, guard_message, closing_message, own_values}
+use Rattle.mm_model.proofs.Below.{Instance, History, values_of, Live, Spoiled, Lost, life_by, is_lost_life, Within, register_trail}
+use Rattle.mm_model.proofs.Below.{messages_of, runs_of, each_left, each_right, true_not_false, Listed}
 use Rattle.mm_model.proofs.Paths.{RunsListed}
 
 each_flat : {A B : Type 0} (P : B → Type 0) (f : A → List B) (xs : List A) → AllByRecursion P (flat_map f xs)
@@ -38,8 +28,7 @@ pub record HistoryListed (i : Instance) (y : History) (all : List (List ℕ)) : 
 
 pub history_listed : (i : Instance) (y : History) (all : List (List ℕ)) → Within (messages_of Opt i y) all → HistoryListed i y all
 history_listed i y all h =
-    let C = Contains all in
-    let guards = map (guard_message i.barrier) y.batches in
+    let C = Contains all in let guards = map (guard_message i.barrier) y.batches in
     let runs = flat_map (λ run. register_trail (own_values i.barrier run)) (runs_of y) in
     let closed = flat_map (λ segment. register_trail (values_of i.barrier segment)) y.closed in
     let items = register_trail (values_of i.barrier y.items) in
@@ -80,24 +69,18 @@ live_spoiled e = cc
 pub live_parts : (f p o m : Bool) → life_by f p o m ≡ Live → LiveParts f p o m
 live_parts true true o m e = absurd (lost_live e)
 live_parts true false true false e = record { clean = refl; own = λ _. refl; held = λ _. refl }
-live_parts true false true true e = absurd (life_clash e)
-live_parts true false false m e = absurd (life_clash e)
 live_parts false p o false e =
     record { clean = refl; own = λ t. absurd (true_not_false (sym t)); held = λ t. absurd (true_not_false (sym t)) }
-live_parts false p o true e = absurd (life_clash e)
+live_parts _ _ _ _ e = absurd (life_clash e)
 
 pub spoiled_parts : (f p o m : Bool) → life_by f p o m ≡ Spoiled → (m ≡ true) ⊎ ((f ≡ true) × (p ≡ false) × (o ≡ false))
 spoiled_parts true true o m e = absurd (lost_spoiled e)
-spoiled_parts true false true false e = absurd (live_spoiled e)
 spoiled_parts true false true true e = inl refl
 spoiled_parts true false false m e = inr (refl, refl, refl)
-spoiled_parts false p o false e = absurd (live_spoiled e)
 spoiled_parts false p o true e = inl refl
+spoiled_parts _ _ _ false e = absurd (live_spoiled e)
 
 pub lost_test : (f p o m : Bool) → (f && p) ≡ is_lost_life (life_by f p o m)
-lost_test true true o m = refl
 lost_test true false true false = refl
-lost_test true false true true = refl
-lost_test true false false m = refl
 lost_test false p o false = refl
-lost_test false p o true = refl
+lost_test _ _ _ _ = refl

@@ -1,22 +1,14 @@
 -- Loops over owned batches and entries.
-use Rattle.std.proofs.Common.{ℕ, zero, suc, ◌≡◌, ◌+◌, ◌<◌, ◌≤◌, Bool, true, false, ◌&&◌, ◌||◌, List, [], ◌∷◌, ◌++◌, length, take, drop, get_or, refl, sym, ap, ◌∙◌, arith}
-use Rattle.std.specs.Prelude.{Vec}
-use Rattle.std.proofs.lemmas.List.{map-append, take_more, drop_more, drop_all, length-map}
-use Rattle.mm_module.specs.Batch.{Batch}
+use Rattle.mm_model.proofs.Below.{ℕ, zero, suc, ◌≡◌, ◌+◌, ◌<◌, ◌≤◌, Bool, true, false, ◌&&◌, ◌||◌, List, [], ◌∷◌, ◌++◌, length, take, drop}
+use Rattle.mm_model.proofs.Below.{get_or, refl, sym, ap, ◌∙◌, arith, Vec, map-append, take_more, drop_more, drop_all, length-map, Batch}
+use Rattle.mm_model.proofs.Below.{kept_batch, kept_batches, kept_entry, kept_entries, kept_segments, stands_for, Entry, joined, and_parts}
+use Rattle.mm_model.proofs.Below.{same_batch, has_value, are_own, is_last, true_not_false, has_value-append}
 use Rattle.mm_model.specs.declared.kept.KeptBatch.{KeptBatch}
 use Rattle.mm_model.specs.declared.kept.KeptEntry.{KeptEntry}
-use Rattle.mm_model.specs.Kept.{kept_batch, kept_batches, kept_entry, kept_entries, kept_segments, stands_for}
-use Rattle.mm_model.specs.History.{Entry, joined}
 use Rattle.mm_model.specs.History as own
-use Rattle.std.proofs.lemmas.Bool.{and_parts}
-use Rattle.mm_model.specs.Life.{same_batch, has_value, are_own}
-use Rattle.mm_model.specs.Judge.{is_last}
-use Rattle.mm_model.specs.SegmentLaws.{true_not_false}
-use Rattle.mm_model.specs.HistoryLaws.{has_value-append}
 
 segment_cut : {A : Type 0} (segments : List (Vec KeptEntry A)) (i : ℕ) (segment : Vec KeptEntry A) → i < length segments
-    → segment ≡ get_or segments i segment
-    → has_value (joined (kept_segments (drop i segments))) ≡ (has_value (kept_entries segment.items)
+    → segment ≡ get_or segments i segment → has_value (joined (kept_segments (drop i segments))) ≡ (has_value (kept_entries segment.items)
     || has_value (joined (kept_segments (drop (i + 1) segments))))
 segment_cut {A} segments i segment l is =
     ap (λ (v : List (Vec KeptEntry A)). has_value (joined (kept_segments v))) (drop_more segments i segment l)
@@ -42,11 +34,9 @@ no_segment_here segments i segment l is v so_far =
 -- entries and batches of different numbers are not the same
 own_lengths : (entries : List Entry) (batches : List Batch) → are_own entries batches ≡ true → length entries ≡ length batches
 own_lengths [] [] o = refl
-own_lengths [] (b ∷ batches) o = absurd (true_not_false (sym o))
-own_lengths (own.Own b ∷ entries) [] o = absurd (true_not_false (sym o))
 own_lengths (own.Own b ∷ entries) (c ∷ batches) o =
     let h = own_lengths entries batches ((and_parts (same_batch b c) (are_own entries batches) o).1) in omega (arith, h)
-own_lengths (own.Value d ∷ entries) batches o = absurd (true_not_false (sym o))
+own_lengths _ _ o = absurd (true_not_false (sym o))
 
 false_unless : (b : Bool) → (b ≡ true → ⊥) → false ≡ b
 false_unless true h = absurd (h refl)
@@ -61,8 +51,6 @@ other_lengths entries batches n =
 -- the last batch, by its index
 pub last_at : (batches : List KeptBatch) (n : ℕ) (last : KeptBatch) (b : Batch) → length batches ≡ n + 1 → last ≡ get_or batches n last
     → same_batch (kept_batch last) b ≡ is_last (kept_batches batches) b
-last_at [] n last b l is = absurd (omega (arith, l))
 last_at (x ∷ []) zero last b l is = ap (λ (k : KeptBatch). same_batch (kept_batch k) b) is
-last_at (x ∷ []) (suc n) last b l is = absurd (omega (arith, l))
-last_at (x ∷ y ∷ batches) zero last b l is = absurd (omega (arith, l))
 last_at (x ∷ y ∷ batches) (suc n) last b l is = last_at (y ∷ batches) n last b (omega (arith, l)) is
+last_at _ _ last b l is = absurd (omega (arith, l))

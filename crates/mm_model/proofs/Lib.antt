@@ -1,16 +1,13 @@
-pub mod Basic
-pub mod Runs
-pub mod LongLaws
-pub mod Paths
-pub mod Opt
-pub mod HistoryParts
-pub mod OptJudge
-pub mod StandsHere
-pub mod Moves
-pub mod MovedDigests
-pub mod Named
-pub mod KeptLaws
-pub mod Whole
-pub mod Listing
-pub mod FreshLists
-pub mod Fitting
+pub mod Above
+mod Below
+mod Runs
+mod Paths
+mod Opt
+mod HistoryParts
+mod OptJudge
+mod StandsHere
+mod Moves
+mod Named
+mod KeptLaws
+mod Listing
+mod FreshLists

@@ -1,31 +1,18 @@
 -- Opt: where the messages of a history, of a move and of its batch are listed, those of the history after it are.
-use Rattle.std.proofs.Common.{ℕ, ◌≡◌, ◌-◌, ◌≤◌, Bool, true, false, List, [], ◌∷◌, ◌++◌, length, map, take, drop, refl, sym, ap, ◌∙◌, subst, arith, length-append}
-use Rattle.std.specs.List.{AllByRecursion, Contains, flat_map}
-use Rattle.std.proofs.lemmas.List.{append-nil, map-append, length-drop, take-append-le, drop-append-le, take_all, take_at, drop_at}
-use Rattle.mm_digest.specs.declared.variant.Variant.TheVariants.{Opt}
-use Rattle.mm_digest.specs.Messages.{start_of, extended_message, anchored_message}
-use Rattle.mm_module.specs.Batch.{Batch}
-use Rattle.mm_module.specs.Meaning.{Meaning}
-use Rattle.mm_model.specs.Chains.{trail, guard_message, closing_message, guard, register_of, anchor_of}
-use Rattle.mm_model.specs.ChainsWords.{own_values}
-use Rattle.mm_model.specs.Instance.{Instance}
-use Rattle.mm_model.specs.InstanceWords.{opt}
-use Rattle.mm_model.specs.History.{Entry, Own, Value, History, Move, Commit, Foreign, Placed, Reset, Close, Power, joined, value_of, renamed, moved}
-use Rattle.mm_model.specs.HistoryWords.{values_of}
-use Rattle.mm_model.specs.Sound.{IsSound, IsClean, batches_in}
-use Rattle.mm_model.specs.Messages.{Within, register_trail, closed_runs, runs_of, messages_of, moving_messages}
+use Rattle.mm_model.proofs.Below.{ℕ, ◌≡◌, ◌-◌, ◌≤◌, Bool, true, false, List, [], ◌∷◌, ◌++◌, length, map, take, drop, refl, sym, ap, ◌∙◌}
+use Rattle.mm_model.proofs.Below.{subst, arith, length-append, AllByRecursion, Contains, flat_map, append-nil, map-append, length-drop}
+use Rattle.mm_model.proofs.Below.{take-append-le, drop-append-le, take_all, take_at, drop_at, Opt, start_of, extended_message}
+use Rattle.mm_model.proofs.Below.{anchored_message, Batch, Meaning, trail, guard_message, closing_message, guard, own_values, Instance, opt}
+use Rattle.mm_model.proofs.Below.{Entry, Own, Value, History, Move, Commit, Foreign, Placed, Reset, Close, Power, joined, value_of, renamed}
+use Rattle.mm_model.proofs.Below.{moved, values_of, IsSound, IsClean, batches_in, Within, register_trail, closed_runs, runs_of, messages_of}
+use Rattle.mm_model.proofs.Below.{moving_messages, IsAllowed, MayMove, batch_messages, each_append, each_left, each_right, trail_push}
+use Rattle.mm_model.proofs.Below.{nothing_left, listed_value, own_values-append, values_of-append, length-batches_in, values_renamed}
+use Rattle.mm_model.specs.Chains.{register_of, anchor_of}
 use Rattle.mm_model.specs.MessagesWords.{move_messages}
-use Rattle.mm_model.specs.Moves.{IsAllowed, MayMove, batch_messages}
-use Rattle.mm_model.specs.ListLaws.{each_append, each_left, each_right}
-use Rattle.mm_model.specs.ChainLaws.{trail_push}
-use Rattle.mm_model.specs.SegmentLaws.{nothing_left}
-use Rattle.mm_model.specs.FormLaws.{listed_value}
-use Rattle.mm_model.specs.HistoryLaws.{own_values-append, values_of-append, length-batches_in}
 use Rattle.mm_model.proofs.Paths.{RunsListed, current_clean}
 use Rattle.mm_model.proofs.OptJudge.{shut_current}
 use Rattle.mm_model.proofs.HistoryParts.{HistoryListed, history_listed}
 use Rattle.mm_model.proofs.Moves.{moving, moving_is, open_current}
-use Rattle.mm_model.proofs.MovedDigests.{values_renamed}
 
 flat_each : {A B : Type 0} (P : B → Type 0) (f : A → List B) (xs : List A) → AllByRecursion (λ x. AllByRecursion P (f x)) xs
     → AllByRecursion P (flat_map f xs)
@@ -36,29 +23,9 @@ unmap_each : {A B : Type 0} (P : B → Type 0) (f : A → B) (xs : List A) → A
 unmap_each P f [] h = tt
 unmap_each P f (x ∷ xs) h = (h.0, unmap_each P f xs h.1)
 
-listed_history : (i : Instance) (y : History) (all : List (List ℕ)) → HistoryListed i y all → Within (messages_of Opt i y) all
-listed_history i y all h =
-    let C = Contains all in
-    let guards = map (guard_message i.barrier) y.batches in
-    let runs = flat_map (λ run. register_trail (own_values i.barrier run)) (runs_of y) in
-    let closed = flat_map (λ segment. register_trail (values_of i.barrier segment)) y.closed in
-    let items = register_trail (values_of i.barrier y.items) in
-    let closings = trail closing_message (start_of Opt i.meaning.id) (map (values_of i.barrier) y.closed) in (
-      h.starts,
-      each_append C (guards ++ runs ++ closed ++ items) closings
-          (each_append C (guards ++ runs ++ closed) items
-          (each_append C (guards ++ runs) closed
-          (each_append C guards runs h.guards (flat_each C (λ run. register_trail (own_values i.barrier run)) (runs_of y) h.runs))
-          (flat_each C (λ segment. register_trail (values_of i.barrier segment)) y.closed
-          (unmap_each (λ vs. Within (register_trail vs) all) (values_of i.barrier) y.closed h.listed.inner)))
-          h.listed.last)
-          h.listed.outer,
-    )
-
 pub items_grow : (barrier : List ℕ) (all : List (List ℕ)) (items : List Entry) (e : Entry)
-    → Within (register_trail (values_of barrier items)) all
-    → Contains all (extended_message (register_of (values_of barrier items)) (value_of barrier e))
-    → Within (register_trail (values_of barrier (items ++ e ∷ []))) all
+    → Within (register_trail (values_of barrier items)) all → Contains all (extended_message (register_of (values_of barrier items))
+    (value_of barrier e)) → Within (register_trail (values_of barrier (items ++ e ∷ []))) all
 items_grow barrier all items e w c =
     subst (λ (v : List (List ℕ)). Within (register_trail v) all) (sym (values_of-append barrier items (e ∷ [])))
     (listed_value all (values_of barrier items) (value_of barrier e) w c)
@@ -69,50 +36,67 @@ run_grows barrier all run b w c =
     subst (λ (v : List (List ℕ)). Within (register_trail v) all) (sym (own_values-append barrier run (b ∷ [])))
     (listed_value all (own_values barrier run) (guard barrier b) w c)
 
--- the items alone change
-items_listed : (i : Instance) (y : History) (items : List Entry) (all : List (List ℕ)) → HistoryListed i y all
-    → Within (register_trail (values_of i.barrier items)) all → HistoryListed i (record y { items = items }) all
-items_listed i y items all h w = record {
-  starts = h.starts;
-  guards = h.guards;
-  runs = h.runs;
-  listed = record { inner = h.listed.inner; outer = h.listed.outer; last = w };
-}
+module _ (i : Instance) where
+  listed_history : (y : History) (all : List (List ℕ)) → HistoryListed i y all → Within (messages_of Opt i y) all
+  listed_history y all h =
+      let C = Contains all in let guards = map (guard_message i.barrier) y.batches in
+      let runs = flat_map (λ run. register_trail (own_values i.barrier run)) (runs_of y) in
+      let closed = flat_map (λ segment. register_trail (values_of i.barrier segment)) y.closed in
+      let items = register_trail (values_of i.barrier y.items) in
+      let closings = trail closing_message (start_of Opt i.meaning.id) (map (values_of i.barrier) y.closed) in (
+        h.starts,
+        each_append C
+            (guards ++ runs ++ closed ++ items) closings
+            (each_append C (guards ++ runs ++ closed) items (each_append C (guards ++ runs) closed (each_append C guards runs h.guards
+            (flat_each C (λ run. register_trail (own_values i.barrier run)) (runs_of y) h.runs))
+            (flat_each C (λ segment. register_trail (values_of i.barrier segment)) y.closed
+            (unmap_each (λ vs. Within (register_trail vs) all)
+            (values_of i.barrier) y.closed h.listed.inner))) h.listed.last) h.listed.outer,
+      )
 
-pub guards_grow : (barrier : List ℕ) (all : List (List ℕ)) (batches : List Batch) (b : Batch)
-    → Within (map (guard_message barrier) batches) all → Contains all (guard_message barrier b)
-    → Within (map (guard_message barrier) (batches ++ b ∷ [])) all
-guards_grow barrier all batches b w c =
-    subst (λ (v : List (List ℕ)). Within v all) (sym (map-append (guard_message barrier) batches (b ∷ [])))
-    (each_append (Contains all) (map (guard_message barrier) batches) (guard_message barrier b ∷ []) w (c, tt))
+  -- the items alone change
+  items_listed : (y : History) (items : List Entry) (all : List (List ℕ)) → HistoryListed i y all
+      → Within (register_trail (values_of i.barrier items)) all → HistoryListed i (record y { items = items }) all
+  items_listed y items all h w = record {
+    starts = h.starts;
+    guards = h.guards;
+    runs = h.runs;
+    listed = record { inner = h.listed.inner; outer = h.listed.outer; last = w };
+  }
 
 -- the batches before the open segment stay, where both grow by one
 front_stays : (batches current : List Batch) (b : Batch)
     → take (length (batches ++ b ∷ []) - length (current ++ b ∷ [])) (batches ++ b ∷ []) ≡ take (length batches - length current) batches
 front_stays batches current b =
-    let whole = length-append batches (b ∷ []) in
-    let part = length-append current (b ∷ []) in
+    let whole = length-append batches (b ∷ []) in let part = length-append current (b ∷ []) in
     let same : length (batches ++ b ∷ []) - length (current ++ b ∷ []) ≡ length batches - length current = omega (arith, whole, part) in
     let fits : length batches - length current ≤ length batches = omega arith in
     ap (λ (n : ℕ). take n (batches ++ b ∷ [])) same ∙ take-append-le (length batches - length current) batches (b ∷ []) fits
 
-runs_commit : (barrier : List ℕ) (all : List (List ℕ)) (y : History) (current : List Batch) (is_open : Bool) (items : List Entry)
-    (b : Batch) → current ≡ y.current ++ b ∷ [] → AllByRecursion (RunsListed barrier all) (runs_of y)
-    → Contains all (extended_message (register_of (own_values barrier y.current)) (guard barrier b))
-    → AllByRecursion (RunsListed barrier all)
-    (runs_of (record y { batches = y.batches ++ b ∷ []; current = current; is_open = is_open; items = items }))
-runs_commit barrier all y current is_open items b grown runs c =
-    let k = length y.batches - length y.current in
-    let closed = each_left (RunsListed barrier all) (closed_runs y.closed (take k y.batches)) (y.current ∷ []) runs in
-    let open_run = (each_right (RunsListed barrier all) (closed_runs y.closed (take k y.batches)) (y.current ∷ []) runs).0 in
-    subst (λ (v : List Batch). AllByRecursion (RunsListed barrier all)
-    (closed_runs y.closed (take (length (y.batches ++ b ∷ []) - length v) (y.batches ++ b ∷ [])) ++ v ∷ [])) (sym grown)
-    (each_append (RunsListed barrier all)
-    (closed_runs y.closed (take (length (y.batches ++ b ∷ []) - length (y.current ++ b ∷ [])) (y.batches ++ b ∷ [])))
-    ((y.current ++ b ∷ []) ∷ [])
-    (subst (λ (v : List Batch). AllByRecursion (RunsListed barrier all) (closed_runs y.closed v)) (sym (front_stays y.batches y.current b))
-    closed)
-    (run_grows barrier all y.current b open_run c, tt))
+module _ (barrier : List ℕ) (all : List (List ℕ)) where
+  pub guards_grow : (batches : List Batch) (b : Batch) → Within (map (guard_message barrier) batches) all
+      → Contains all (guard_message barrier b) → Within (map (guard_message barrier) (batches ++ b ∷ [])) all
+  guards_grow batches b w c =
+      subst (λ (v : List (List ℕ)). Within v all) (sym (map-append (guard_message barrier) batches (b ∷ [])))
+      (each_append (Contains all) (map (guard_message barrier) batches) (guard_message barrier b ∷ []) w (c, tt))
+
+  runs_commit : (y : History) (current : List Batch) (is_open : Bool) (items : List Entry) (b : Batch) → current ≡ y.current ++ b ∷ []
+      → AllByRecursion (RunsListed barrier all) (runs_of y) → Contains all (extended_message (register_of (own_values barrier y.current))
+      (guard barrier b)) → AllByRecursion (RunsListed barrier all) (runs_of (record y {
+        batches = y.batches ++ b ∷ [];
+        current = current;
+        is_open = is_open;
+        items = items;
+      }))
+  runs_commit y current is_open items b grown runs c =
+      let k = length y.batches - length y.current in
+      let closed = each_left (RunsListed barrier all) (closed_runs y.closed (take k y.batches)) (y.current ∷ []) runs in
+      let open_run = (each_right (RunsListed barrier all) (closed_runs y.closed (take k y.batches)) (y.current ∷ []) runs).0 in
+      subst (λ (v : List Batch). AllByRecursion (RunsListed barrier all) (closed_runs y.closed (take (length (y.batches ++ b ∷ []) - length
+      v) (y.batches ++ b ∷ [])) ++ v ∷ [])) (sym grown) (each_append (RunsListed barrier all)
+      (closed_runs y.closed (take (length (y.batches ++ b ∷ []) - length (y.current ++ b ∷ [])) (y.batches ++ b ∷ [])))
+      ((y.current ++ b ∷ []) ∷ []) (subst (λ (v : List Batch). AllByRecursion (RunsListed barrier all) (closed_runs y.closed v))
+      (sym (front_stays y.batches y.current b)) closed) (run_grows barrier all y.current b open_run c, tt))
 
 commit_listed : (i : Instance) (y : History) (current : List Batch) (is_open : Bool) (items : List Entry) (b : Batch) (all : List (List ℕ))
     → current ≡ y.current ++ b ∷ [] → HistoryListed i y all → Within (register_trail (values_of i.barrier items)) all
@@ -135,11 +119,11 @@ runs_push P (c ∷ []) segment bs more l h p =
     let size : length bs ≡ length c = l ∙ ap length (append-nil c) in
     (subst P (sym (take_at bs more (length c) size)) h.0, (subst P (sym (drop_at bs more (length c) size)) p, tt))
 runs_push P (c ∷ d ∷ closed) segment bs more l h p =
-    let whole = length-append c (joined (d ∷ closed)) in
-    let fits : length c ≤ length bs = omega (arith, l, whole) in
+    let whole = length-append c (joined (d ∷ closed)) in let fits : length c ≤ length bs = omega (arith, l, whole) in
     let dropped = length-drop (length c) bs in (
       subst P (sym (take-append-le (length c) bs more fits)) h.0,
-      subst (λ (v : List Batch). AllByRecursion P (closed_runs (d ∷ (closed ++ segment ∷ [])) v))
+      subst
+          (λ (v : List Batch). AllByRecursion P (closed_runs (d ∷ (closed ++ segment ∷ [])) v))
           (sym (drop-append-le (length c) bs more fits))
           (runs_push P (d ∷ closed) segment (drop (length c) bs) more (omega (arith, l, whole, dropped)) h.1 p),
     )
@@ -150,13 +134,9 @@ close_listed : (i : Instance) (y : History) (all : List (List ℕ)) → IsClean 
     → HistoryListed i (record y { closed = y.closed ++ y.items ∷ []; current = []; is_open = false }) all
 unfolding anchor_of register_of
 close_listed i y all clean h c =
-    let V = values_of i.barrier in
-    let R = RunsListed i.barrier all in
-    let bs = batches_in (joined y.closed) in
-    let k = length y.batches - length y.current in
-    let count = ap length clean.batches in
-    let cut = length-append bs y.current in
-    let size : length bs ≡ k = omega (arith, count, cut) in
+    let V = values_of i.barrier in let R = RunsListed i.barrier all in let bs = batches_in (joined y.closed) in
+    let k = length y.batches - length y.current in let count = ap length clean.batches in
+    let cut = length-append bs y.current in let size : length bs ≡ k = omega (arith, count, cut) in
     let front : take k y.batches ≡ bs = ap (take k) clean.batches ∙ take_at bs y.current k size in
     let closed = subst (λ (v : List Batch). AllByRecursion R (closed_runs y.closed v)) front
     (each_left R (closed_runs y.closed (take k y.batches)) (y.current ∷ []) h.runs) in
@@ -168,9 +148,8 @@ close_listed i y all clean h c =
       starts = h.starts;
       guards = h.guards;
       runs = each_append R (closed_runs (y.closed ++ y.items ∷ []) (take (length y.batches - 0) y.batches)) ([] ∷ [])
-          (subst (λ (v : List Batch). AllByRecursion R (closed_runs (y.closed ++ y.items ∷ []) v)) (sym whole)
-          (runs_push R y.closed y.items bs y.current (length-batches_in (joined y.closed) clean.clean) closed open_run))
-          (tt, tt);
+          (subst (λ (v : List Batch). AllByRecursion R (closed_runs (y.closed ++ y.items ∷ []) v)) (sym whole) (runs_push R y.closed y.items
+          bs y.current (length-batches_in (joined y.closed) clean.clean) closed open_run)) (tt, tt);
       listed = record {
         inner = subst (λ (v : List (List (List ℕ))). AllByRecursion (λ vs. Within (register_trail vs) all) v) (sym is)
             (each_append (λ vs. Within (register_trail vs) all) (map V y.closed) (V y.items ∷ []) h.listed.inner (h.listed.last, tt));
@@ -188,22 +167,18 @@ listed_at i y true (Commit b) all sound f may h w m =
     (items_grow i.barrier all y.items (Own b) h.listed.last w.0) m
 listed_at i y false (Commit b) all sound f may h w m =
     commit_listed i y (b ∷ []) true (renamed y.items b) b all (ap (λ (v : List Batch). v ++ b ∷ []) (sym (shut_current y sound f))) h
-    (subst (λ (v : List (List ℕ)). Within (register_trail v) all)
-    (sym (ap (λ (v : List Entry). values_of i.barrier (renamed v b)) may.items ∙ values_renamed i.barrier may.front b
-    ∙ ap (values_of i.barrier) (sym may.items))) h.listed.last) m
-listed_at i y true (Foreign d) all sound f may h w m =
-    items_listed i y (y.items ++ Value d ∷ []) all h (items_grow i.barrier all y.items (Value d) h.listed.last w.0)
-listed_at i y false (Foreign d) all sound f may h w m =
-    items_listed i y (y.items ++ Value d ∷ []) all h (items_grow i.barrier all y.items (Value d) h.listed.last w.0)
+    (subst (λ (v : List (List ℕ)). Within (register_trail v) all) (sym (ap (λ (v : List Entry). values_of i.barrier (renamed v b)) may.items
+    ∙ values_renamed i.barrier may.front b ∙ ap (values_of i.barrier) (sym may.items))) h.listed.last) m
 listed_at i y true (Placed b) all sound f may h w m = absurd may
 listed_at i y false (Placed b) all sound f may h w m =
     items_listed i y (y.items ++ Value (guard i.barrier b) ∷ []) all h
     (items_grow i.barrier all y.items (Value (guard i.barrier b)) h.listed.last w.0)
 listed_at i y flag Reset all sound f may h w m = items_listed i y [] all h tt
-listed_at i y true Close all sound f may h w m =
-    close_listed i y all (current_clean y sound (open_current y sound f)) h w.0
+listed_at i y true Close all sound f may h w m = close_listed i y all (current_clean y sound (open_current y sound f)) h w.0
 listed_at i y false Close all sound f may h w m = absurd may
 listed_at i y flag Power all sound f may h w m = items_listed i y [] all h tt
+listed_at i y _ (Foreign d) all sound f may h w m =
+    items_listed i y (y.items ++ Value d ∷ []) all h (items_grow i.barrier all y.items (Value d) h.listed.last w.0)
 
 pub opt_messages : (meaning : Meaning) (key barrier : List ℕ) (y : History) (m : Move) (all : List (List ℕ)) → IsSound y
     → MayMove (opt meaning key barrier) y m → Within (messages_of Opt (opt meaning key barrier) y) all
@@ -211,6 +186,5 @@ pub opt_messages : (meaning : Meaning) (key barrier : List ℕ) (y : History) (m
     → Within (messages_of Opt (opt meaning key barrier) (moved (opt meaning key barrier) y m)) all
 opt_messages meaning key barrier y m all sound may h w b =
     let i = opt meaning key barrier in
-    subst (λ (z : History). Within (messages_of Opt i z) all) (moving_is meaning key barrier y m)
-    (listed_history i (moving y.is_open i y m) all
-    (listed_at i y y.is_open m all sound refl may (history_listed i y all h) w b))
+    subst (λ (z : History). Within (messages_of Opt i z) all) (moving_is meaning key barrier y m) (listed_history i (moving y.is_open i y m)
+    all (listed_at i y y.is_open m all sound refl may (history_listed i y all h) w b))

@@ -1,28 +1,20 @@
--- What each move keeps.
-use Rattle.std.proofs.Common.{ℕ, ◌≡◌, Bool, true, false, ◌||◌, List, [], ◌∷◌, ◌++◌, refl, sym, ap, ◌∙◌, subst, inl, inr, append_assoc}
-use Rattle.std.proofs.lemmas.List.{append-nil}
-use Rattle.std.proofs.lemmas.Bool.{and_from, and_parts}
-use Rattle.mm_digest.specs.declared.variant.Variant.TheVariants.{Opt}
-use Rattle.mm_module.specs.Batch.{Batch}
-use Rattle.mm_module.specs.Meaning.{Meaning}
-use Rattle.mm_model.specs.Chains.{guard}
-use Rattle.mm_model.specs.Instance.{Instance}
-use Rattle.mm_model.specs.InstanceWords.{opt}
-use Rattle.mm_model.specs.History.{Entry, Own, Value, History, Move, Commit, Foreign, Placed, Reset, Close, Power, joined, renamed, moved, committed}
-use Rattle.mm_model.specs.Life.{is_empty, has_value, are_own, same_batch}
-use Rattle.mm_model.specs.Sound.{IsSound, AreItems, batches_in}
-use Rattle.mm_model.specs.Moves.{IsOpening, IsAllowed, MayMove}
-use Rattle.mm_model.specs.ListLaws.{each_append}
-use Rattle.mm_model.specs.BatchLaws.{same_batch-Decides}
-use Rattle.mm_model.specs.SegmentLaws.{true_not_false, joined-push}
-use Rattle.mm_model.specs.HistoryLaws.{has_value-append, batches_in-append}
+-- What each move keeps and does: soundness, the digests, and the values that it leaves that stand for no batch.
+use Rattle.mm_model.proofs.Below.{ℕ, ◌≡◌, Bool, true, false, ◌||◌, List, [], ◌∷◌, ◌++◌, refl, sym, ap, ◌∙◌, subst, inl, inr, append_assoc}
+use Rattle.mm_model.proofs.Below.{map, append-nil, map-append, and_from, and_parts, Opt, Basic, Batch, Meaning, guard, register_of}
+use Rattle.mm_model.proofs.Below.{anchor_of, Instance, opt, basic, Entry, Own, Value, History, Move, Commit, Foreign, Placed, Reset, Close}
+use Rattle.mm_model.proofs.Below.{Power, joined, renamed, moved, committed, register_value_of, is_empty, has_value, are_own, same_batch}
+use Rattle.mm_model.proofs.Below.{IsSound, AreItems, batches_in, IsOpening, IsAllowed, MayMove, Digests, digests_of, made, committing}
+use Rattle.mm_model.proofs.Below.{IsOutside, Brings, each_append, each_left, same_batch-Decides, total-push, true_not_false, joined-push}
+use Rattle.mm_model.proofs.Below.{has_value-append, batches_in-append, register_more, values_renamed, renamed-push, if◌then◌else◌}
+use Rattle.mm_model.proofs.Below.{AllByRecursion, Contains, zero_bytes, extended_of, anchored_of, values_of, cell_digest_of, values_in}
+use Rattle.mm_model.proofs.Below.{summary-push, anchor-push, reads_zero}
 use Rattle.mm_model.proofs.Paths.{current_clean, empty_cases, marred_has}
 use Rattle.mm_model.proofs.OptJudge.{shut_current}
+use Rattle.mm_model.specs.Symbolic.{commit_moves, moved_by, with_batch}
 
 has_value-push : (es : List Entry) (d : List ℕ) → has_value (es ++ Value d ∷ []) ≡ true
-has_value-push [] d = refl
 has_value-push (Own b ∷ es) d = has_value-push es d
-has_value-push (Value c ∷ es) d = refl
+has_value-push _ d = refl
 
 has_value-own : (es : List Entry) (b : Batch) → has_value es ≡ true → has_value (es ++ Own b ∷ []) ≡ true
 has_value-own [] b h = absurd (true_not_false (sym h))
@@ -31,116 +23,90 @@ has_value-own (Value c ∷ es) b h = refl
 
 are_own-push : (es : List Entry) (bs : List Batch) (b : Batch) → are_own es bs ≡ true → are_own (es ++ Own b ∷ []) (bs ++ b ∷ []) ≡ true
 are_own-push [] [] b h = and_from (same_batch b b) true ((same_batch-Decides b b).1 refl) refl
-are_own-push [] (c ∷ bs) b h = absurd (true_not_false (sym h))
-are_own-push (Own c ∷ es) [] b h = absurd (true_not_false (sym h))
 are_own-push (Own c ∷ es) (d ∷ bs) b h =
     let both = and_parts (same_batch c d) (are_own es bs) h in
     and_from (same_batch c d) (are_own (es ++ Own b ∷ []) (bs ++ b ∷ [])) both.0 (are_own-push es bs b both.1)
-are_own-push (Value c ∷ es) bs b h = absurd (true_not_false (sym h))
+are_own-push _ _ b h = absurd (true_not_false (sym h))
 
 own_clean : (es : List Entry) (bs : List Batch) → are_own es bs ≡ true → has_value es ≡ false
 own_clean [] bs h = refl
-own_clean (Own b ∷ es) [] h = absurd (true_not_false (sym h))
 own_clean (Own b ∷ es) (c ∷ bs) h = own_clean es bs ((and_parts (same_batch b c) (are_own es bs) h).1)
-own_clean (Value d ∷ es) bs h = absurd (true_not_false (sym h))
+own_clean _ _ h = absurd (true_not_false (sym h))
 
 own_batches : (es : List Entry) (bs : List Batch) → are_own es bs ≡ true → batches_in es ≡ bs
 own_batches [] [] h = refl
-own_batches [] (b ∷ bs) h = absurd (true_not_false (sym h))
-own_batches (Own b ∷ es) [] h = absurd (true_not_false (sym h))
 own_batches (Own b ∷ es) (c ∷ bs) h =
     let both = and_parts (same_batch b c) (are_own es bs) h in
     ap (λ x. x ∷ batches_in es) ((same_batch-Decides b c).0 both.0) ∙ ap (λ x. c ∷ x) (own_batches es bs both.1)
-own_batches (Value d ∷ es) bs h = absurd (true_not_false (sym h))
+own_batches _ _ h = absurd (true_not_false (sym h))
 
 longer_some : (bs : List Batch) (b : Batch) → is_empty (bs ++ b ∷ []) ≡ false
 longer_some [] b = refl
 longer_some (c ∷ bs) b = refl
 
-pub open_current : (y : History) → IsSound y → y.is_open ≡ true → is_empty y.current ≡ false
-open_current y sound f =
-    elim (empty_cases y.current) [
-      | inl none ↦ absurd (true_not_false (sym f ∙ sound.shut_is (ap is_empty none)))
-      | inr some ↦ some
-    ]
-
--- the register's items alone change, and hold a value that stands for no batch
-pub sound_items : (y : History) (items : List Entry) → IsSound y → (y.is_open ≡ true → AreItems items y.current)
-    → IsSound (record y { items = items })
-sound_items y items sound h =
-    record {
-      open_is = sound.open_is;
-      shut_is = sound.shut_is;
-      filled = sound.filled;
-      history = elim sound.history [
-        | inl c ↦ inl (record { clean = c.clean; batches = c.batches })
-        | inr m ↦ inr (record {
-          before = m.before;
-          last = m.last;
-          rest = m.rest;
-          split = m.split;
-          clean = m.clean;
-          marred = m.marred;
-          shut = m.shut;
-          batches = m.batches;
-        })
-      ];
-      register = h;
-    }
-
-sound_commit : (y : History) (b : Batch) → IsSound y → y.is_open ≡ true → is_empty y.items ≡ false
-    → IsSound (record y { batches = y.batches ++ b ∷ []; current = y.current ++ b ∷ []; items = y.items ++ Own b ∷ [] })
-sound_commit y b sound f some =
-    let clean = current_clean y sound (open_current y sound f) in
-    record {
-      open_is = λ _. f;
-      shut_is = λ e. absurd (true_not_false (sym e ∙ longer_some y.current b));
-      filled = sound.filled;
-      history = inl (record {
-        clean = clean.clean;
-        batches = ap (λ (v : List Batch). v ++ b ∷ []) clean.batches ∙ append_assoc (batches_in (joined y.closed)) y.current (b ∷ []);
-      });
-      register = λ _. elim (sound.register f) [
-        | inl own ↦ inl (are_own-push y.items y.current b own)
-        | inr others ↦ elim others [
-          | inl none ↦ absurd (true_not_false (ap is_empty (sym none) ∙ some))
-          | inr has ↦ inr (inr (has_value-own y.items b has))
-        ]
-      ];
-    }
-
 renamed_items : (items : List Entry) (b : Batch) → batches_in items ≡ [] → AreItems (renamed items b) (b ∷ [])
-renamed_items [] b none = inl (and_from (same_batch b b) true ((same_batch-Decides b b).1 refl) refl)
-renamed_items (x ∷ []) b none = inl (and_from (same_batch b b) true ((same_batch-Decides b b).1 refl) refl)
 renamed_items (Own c ∷ y ∷ items) b none = absurd (true_not_false (sym (ap is_empty none)))
 renamed_items (Value d ∷ y ∷ items) b none = inr (inr refl)
+renamed_items _ b none = inl (and_from (same_batch b b) true ((same_batch-Decides b b).1 refl) refl)
 
 opening_bare : (i : Instance) (y : History) (b : Batch) → IsOpening i y b → batches_in y.items ≡ []
 opening_bare i y b o =
     ap batches_in o.items ∙ batches_in-append o.front (Value (guard i.barrier b) ∷ []) ∙ append-nil (batches_in o.front) ∙ o.others
 
-pub opening_clean : (y : History) → IsSound y → has_value (joined y.closed) ≡ false → y.is_open ≡ false
-    → y.batches ≡ batches_in (joined y.closed)
-opening_clean y sound clean shut =
-    elim sound.history [
-      | inl c ↦ c.batches ∙ ap (λ (v : List Batch). batches_in (joined y.closed) ++ v) (shut_current y sound shut)
-          ∙ append-nil (batches_in (joined y.closed))
-      | inr m ↦ absurd (true_not_false (sym (marred_has y m) ∙ clean))
-    ]
+module _ (y : History) where
+  pub open_current : IsSound y → y.is_open ≡ true → is_empty y.current ≡ false
+  open_current sound f =
+      elim (empty_cases y.current) [ inl none ↦ absurd (true_not_false (sym f ∙ sound.shut_is (ap is_empty none))) | inr some ↦ some ]
 
-sound_opening : (i : Instance) (y : History) (b : Batch) → IsSound y → y.is_open ≡ false → IsOpening i y b
-    → IsSound (record y { batches = y.batches ++ b ∷ []; current = b ∷ []; is_open = true; items = renamed y.items b })
-sound_opening i y b sound shut o =
-    record {
-      open_is = λ _. refl;
-      shut_is = λ e. absurd (true_not_false (sym e));
-      filled = sound.filled;
-      history = inl (record {
-        clean = o.clean;
-        batches = ap (λ (v : List Batch). v ++ b ∷ []) (opening_clean y sound o.clean shut);
-      });
-      register = λ _. renamed_items y.items b (opening_bare i y b o);
-    }
+  -- the register's items alone change, and hold a value that stands for no batch
+  pub sound_items : (items : List Entry) → IsSound y → (y.is_open ≡ true → AreItems items y.current) → IsSound (record y { items = items })
+  sound_items items sound h = record {
+    open_is = sound.open_is;
+    shut_is = sound.shut_is;
+    filled = sound.filled;
+    history = elim sound.history [
+      | inl c ↦ inl (record { clean = c.clean; batches = c.batches })
+      | inr m ↦ inr (record {
+        before = m.before;
+        last = m.last;
+        rest = m.rest;
+        split = m.split;
+        clean = m.clean;
+        marred = m.marred;
+        shut = m.shut;
+        batches = m.batches;
+      })
+    ];
+    register = h;
+  }
+
+  sound_commit : (b : Batch) → IsSound y → y.is_open ≡ true → is_empty y.items ≡ false
+      → IsSound (record y { batches = y.batches ++ b ∷ []; current = y.current ++ b ∷ []; items = y.items ++ Own b ∷ [] })
+  sound_commit b sound f some =
+      let clean = current_clean y sound (open_current sound f) in
+      record {
+        open_is = λ _. f;
+        shut_is = λ e. absurd (true_not_false (sym e ∙ longer_some y.current b));
+        filled = sound.filled;
+        history = inl (record {
+          clean = clean.clean;
+          batches = ap (λ (v : List Batch). v ++ b ∷ []) clean.batches ∙ append_assoc (batches_in (joined y.closed)) y.current (b ∷ []);
+        });
+        register = λ _. elim (sound.register f) [
+          | inl own ↦ inl (are_own-push y.items y.current b own)
+          | inr others ↦ elim others [
+            | inl none ↦ absurd (true_not_false (ap is_empty (sym none) ∙ some))
+            | inr has ↦ inr (inr (has_value-own y.items b has))
+          ]
+        ];
+      }
+
+  pub opening_clean : IsSound y → has_value (joined y.closed) ≡ false → y.is_open ≡ false → y.batches ≡ batches_in (joined y.closed)
+  opening_clean sound clean shut = elim sound.history [
+    | inl c ↦ c.batches ∙ ap (λ (v : List Batch). batches_in (joined y.closed) ++ v) (shut_current y sound shut)
+        ∙ append-nil (batches_in (joined y.closed))
+    | inr m ↦ absurd (true_not_false (sym (marred_has y m) ∙ clean))
+  ]
 
 sound_close : (y : History) → IsSound y → y.is_open ≡ true → is_empty y.items ≡ false
     → IsSound (record y { closed = y.closed ++ y.items ∷ []; current = []; is_open = false })
@@ -184,28 +150,149 @@ moving flag i y Reset = moved i y Reset
 moving flag i y Close = moved i y Close
 moving flag i y Power = moved i y Power
 
-sound_at : (i : Instance) (y : History) (flag : Bool) (m : Move) → IsSound y → y.is_open ≡ flag → IsAllowed Opt flag i y m
-    → IsSound (moving flag i y m)
-sound_at i y true (Commit b) sound f may = sound_commit y b sound f may
-sound_at i y false (Commit b) sound f may = sound_opening i y b sound f may
-sound_at i y flag (Foreign d) sound f may = sound_items y (y.items ++ Value d ∷ []) sound (λ _. inr (inr (has_value-push y.items d)))
-sound_at i y flag (Placed b) sound f may =
-    sound_items y (y.items ++ Value (guard i.barrier b) ∷ []) sound (λ _. inr (inr (has_value-push y.items (guard i.barrier b))))
-sound_at i y flag Reset sound f may = sound_items y [] sound (λ _. inr (inl refl))
-sound_at i y true Close sound f may = sound_close y sound f may
-sound_at i y false Close sound f may = absurd may
-sound_at i y flag Power sound f may = sound_items y [] sound (λ _. inr (inl refl))
+module _ (i : Instance) where
+  sound_opening : (y : History) (b : Batch) → IsSound y → y.is_open ≡ false → IsOpening i y b
+      → IsSound (record y { batches = y.batches ++ b ∷ []; current = b ∷ []; is_open = true; items = renamed y.items b })
+  sound_opening y b sound shut o = record {
+    open_is = λ _. refl;
+    shut_is = λ e. absurd (true_not_false (sym e));
+    filled = sound.filled;
+    history = inl (record { clean = o.clean; batches = ap (λ (v : List Batch). v ++ b ∷ []) (opening_clean y sound o.clean shut) });
+    register = λ _. renamed_items y.items b (opening_bare i y b o);
+  }
+
+  sound_at : (y : History) (flag : Bool) (m : Move) → IsSound y → y.is_open ≡ flag → IsAllowed Opt flag i y m → IsSound (moving flag i y m)
+  sound_at y true (Commit b) sound f may = sound_commit y b sound f may
+  sound_at y false (Commit b) sound f may = sound_opening y b sound f may
+  sound_at y flag (Foreign d) sound f may = sound_items y (y.items ++ Value d ∷ []) sound (λ _. inr (inr (has_value-push y.items d)))
+  sound_at y flag (Placed b) sound f may =
+      sound_items y (y.items ++ Value (guard i.barrier b) ∷ []) sound (λ _. inr (inr (has_value-push y.items (guard i.barrier b))))
+  sound_at y true Close sound f may = sound_close y sound f may
+  sound_at y false Close sound f may = absurd may
+  sound_at y flag _ sound f may = sound_items y [] sound (λ _. inr (inl refl))
 
 pub moving_is : (meaning : Meaning) (key barrier : List ℕ) (y : History) (m : Move)
     → moving y.is_open (opt meaning key barrier) y m ≡ moved (opt meaning key barrier) y m
 moving_is meaning key barrier y (Commit b) = refl
-moving_is meaning key barrier y (Foreign d) = refl
-moving_is meaning key barrier y (Placed b) = refl
-moving_is meaning key barrier y Reset = refl
-moving_is meaning key barrier y Close = refl
-moving_is meaning key barrier y Power = refl
+moving_is meaning key barrier y _ = refl
 
 pub sound_moved : (meaning : Meaning) (key barrier : List ℕ) (y : History) (m : Move) → IsSound y → MayMove (opt meaning key barrier) y m
     → IsSound (moved (opt meaning key barrier) y m)
 sound_moved meaning key barrier y m sound may =
     subst IsSound (moving_is meaning key barrier y m) (sound_at (opt meaning key barrier) y y.is_open m sound refl may)
+
+register_renamed : (barrier : List ℕ) (items front : List Entry) (b : Batch) → items ≡ front ++ Value (guard barrier b) ∷ []
+    → register_of (values_of barrier (renamed items b)) ≡ register_of (values_of barrier items)
+register_renamed barrier items front b e =
+    ap (λ (v : List Entry). register_of (values_of barrier (renamed v b))) e
+    ∙ ap register_of (values_renamed barrier front b) ∙ ap (λ (v : List Entry). register_of (values_of barrier v)) (sym e)
+
+pub basic_digests : (meaning : Meaning) (key : List ℕ) (y : History) (m : Move) → MayMove (basic meaning key) y m
+    → digests_of (basic meaning key) (moved (basic meaning key) y m) ≡ made (basic meaning key) (digests_of (basic meaning key) y) m
+basic_digests meaning key y (Commit b) may =
+    λ j. record (digests_of (basic meaning key) y) { digest = summary-push meaning.id y.batches b j; count = total-push y.batches b j }
+basic_digests meaning key y (Foreign d) may =
+    λ j. record (digests_of (basic meaning key) y) { register = register_more zero_bytes y.items (Value d) j }
+basic_digests meaning key y Power may = λ j. record (digests_of (basic meaning key) y) { register = reads_zero j }
+basic_digests meaning key y _ may = absurd may
+
+module _ (meaning : Meaning) (key barrier : List ℕ) (y : History) where
+  abbrev before : Digests
+  before = digests_of (opt meaning key barrier) y
+
+  -- a commit in Opt, by whether a segment is open
+  commit_digests : (b : Batch) (flag : Bool) → IsAllowed Opt flag (opt meaning key barrier) y (Commit b)
+      → digests_of (opt meaning key barrier) (committed Opt flag y b) ≡ committing Opt flag (opt meaning key barrier) before b
+  commit_digests b true may = λ j. record before { register = register_more barrier y.items (Own b) j; count = total-push y.batches b j }
+  commit_digests b false may = λ j. record before {
+    flag = true;
+    register = register_renamed barrier y.items may.front b may.items j;
+    count = total-push y.batches b j;
+  }
+
+  close_digest : anchor_of meaning.id (map (values_of barrier) (y.closed ++ y.items ∷ []))
+      ≡ anchored_of (anchor_of meaning.id (map (values_of barrier) y.closed)) (register_of (values_of barrier y.items))
+  close_digest =
+      ap (anchor_of meaning.id) (map-append (values_of barrier) y.closed (y.items ∷ []))
+      ∙ anchor-push meaning.id (map (values_of barrier) y.closed) (values_of barrier y.items)
+
+  pub opt_digests : (m : Move) → MayMove (opt meaning key barrier) y m
+      → digests_of (opt meaning key barrier) (moved (opt meaning key barrier) y m) ≡ made (opt meaning key barrier) before m
+  opt_digests (Commit b) may = commit_digests b y.is_open may
+  opt_digests (Foreign d) may = λ j. record before { register = register_more barrier y.items (Value d) j }
+  opt_digests (Placed b) may = λ j. record before { register = register_more barrier y.items (Value (guard barrier b)) j }
+  opt_digests Close may = λ j. record before { digest = close_digest j; flag = false }
+  opt_digests _ may = λ j. record before { register = reads_zero j }
+
+-- the values that stand for no batch
+values_in-append : (es fs : List Entry) → values_in (es ++ fs) ≡ values_in es ++ values_in fs
+values_in-append [] fs = refl
+values_in-append (Own b ∷ es) fs = values_in-append es fs
+values_in-append (Value d ∷ es) fs = ap (λ v. d ∷ v) (values_in-append es fs)
+
+-- outside, by whether a segment is open
+abbrev OutsideAt : List (List ℕ) → Bool → List (List Entry) → List Entry → Type 0
+OutsideAt others flag closed items = AllByRecursion (Contains others) (values_in (joined closed ++ (if flag then items else [])))
+
+outside_more : (others : List (List ℕ)) (flag : Bool) (closed : List (List Entry)) (items : List Entry) (e : Entry)
+    → OutsideAt others flag closed items → (flag ≡ true → AllByRecursion (Contains others) (values_in (e ∷ [])))
+    → OutsideAt others flag closed (items ++ e ∷ [])
+outside_more others true closed items e h new =
+    subst (λ (v : List (List ℕ)). AllByRecursion (Contains others) v)
+    (sym (values_in-append (joined closed ++ items) (e ∷ [])) ∙ ap values_in (append_assoc (joined closed) items (e ∷ [])))
+    (each_append (Contains others) (values_in (joined closed ++ items)) (values_in (e ∷ [])) h (new refl))
+outside_more others false closed items e h new = h
+
+outside_less : (others : List (List ℕ)) (flag : Bool) (closed : List (List Entry)) (items : List Entry) → OutsideAt others flag closed items
+    → OutsideAt others flag closed []
+outside_less others true closed items h =
+    subst (λ (v : List (List ℕ)). AllByRecursion (Contains others) v) (ap values_in (sym (append-nil (joined closed))))
+    (each_left (Contains others) (values_in (joined closed)) (values_in items)
+    (subst (λ (v : List (List ℕ)). AllByRecursion (Contains others) v) (values_in-append (joined closed) items) h))
+outside_less others false closed items h = h
+
+outside_at : (i : Instance) (others : List (List ℕ)) (y : History) (flag : Bool) (m : Move) → y.is_open ≡ flag
+    → OutsideAt others flag y.closed y.items → IsAllowed Opt flag i y m → Brings Opt flag others y m → IsOutside others (moving flag i y m)
+outside_at i others y flag (Foreign d) f h may b =
+    subst (λ (x : Bool). OutsideAt others x y.closed (y.items ++ Value d ∷ [])) (sym f)
+    (outside_more others flag y.closed y.items (Value d) h (λ _. (b, tt)))
+outside_at i others y true (Commit b) f h may k =
+    subst (λ (x : Bool). OutsideAt others x y.closed (y.items ++ Own b ∷ [])) (sym f)
+    (outside_more others true y.closed y.items (Own b) h (λ _. tt))
+outside_at i others y false (Commit b) f h may k =
+    subst (λ (v : List (List ℕ)). AllByRecursion (Contains others) v) (sym (values_in-append (joined y.closed) (renamed y.items b)))
+    (each_append (Contains others) (values_in (joined y.closed)) (values_in (renamed y.items b))
+    (subst (λ (v : List Entry). AllByRecursion (Contains others) (values_in v)) (append-nil (joined y.closed)) h) k)
+outside_at i others y false (Placed b) f h may k =
+    subst (λ (x : Bool). OutsideAt others x y.closed (y.items ++ Value (guard i.barrier b) ∷ [])) (sym f) h
+outside_at i others y false Reset f h may k = subst (λ (x : Bool). OutsideAt others x y.closed []) (sym f) h
+outside_at i others y true Close f h may k =
+    subst (λ (v : List Entry). AllByRecursion (Contains others) (values_in v))
+    (sym (joined-push y.closed y.items) ∙ sym (append-nil (joined (y.closed ++ y.items ∷ [])))) h
+outside_at i others y flag Power f h may k =
+    subst (λ (x : Bool). OutsideAt others x y.closed []) (sym f) (outside_less others flag y.closed y.items h)
+outside_at i others y _ _ f h may k = absurd may
+
+pub outside_moved : (meaning : Meaning) (key barrier : List ℕ) (others : List (List ℕ)) (y : History) (m : Move) → IsOutside others y
+    → MayMove (opt meaning key barrier) y m → Brings Opt y.is_open others y m → IsOutside others (moved (opt meaning key barrier) y m)
+outside_moved meaning key barrier others y m h may b =
+    subst (IsOutside others) (moving_is meaning key barrier y m) (outside_at (opt meaning key barrier) others y y.is_open m refl h may b)
+
+pub basic_whole : (meaning : Meaning) (key : List ℕ) (y : History) (b : Batch)
+    → with_batch Basic y b ≡ moved_by (basic meaning key) y (commit_moves Basic y.is_open b)
+basic_whole meaning key y b = refl
+
+whole_at : (meaning : Meaning) (key barrier : List ℕ) (y : History) (flag : Bool) (b : Batch) → with_batch Opt (record y { is_open = flag })
+    b ≡ moved_by (opt meaning key barrier) (record y { is_open = flag }) (commit_moves Opt flag b)
+whole_at meaning key barrier y true b = refl
+whole_at meaning key barrier y false b = λ j. record {
+  batches = y.batches ++ b ∷ [];
+  closed = y.closed;
+  current = b ∷ [];
+  is_open = true;
+  items = sym (renamed-push y.items (Value (guard barrier b)) b) j;
+}
+
+pub opt_whole : (meaning : Meaning) (key barrier : List ℕ) (y : History) (b : Batch)
+    → with_batch Opt y b ≡ moved_by (opt meaning key barrier) y (commit_moves Opt y.is_open b)
+opt_whole meaning key barrier y b = whole_at meaning key barrier y y.is_open b

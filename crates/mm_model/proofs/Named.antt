@@ -1,52 +1,53 @@
 -- A snapshot that names a position names it after each move; the snapshot of an answer names the last position.
-use Rattle.std.proofs.Common.{ℕ, ◌≡◌, ◌≤◌, Bool, true, false, List, [], ◌∷◌, ◌++◌, length, refl, sym, ap, ◌∙◌, subst, inl, inr, arith, append_assoc, length-append}
-use Rattle.std.proofs.lemmas.List.{append-nil, append_cancel_right}
-use Rattle.mm_digest.specs.declared.variant.Variant.TheVariants.{Basic, Opt}
-use Rattle.mm_module.specs.Batch.{Batch}
-use Rattle.mm_module.specs.Meaning.{Meaning}
-use Rattle.mm_seal.specs.declared.snapshot.Place.{Place}
-use Rattle.mm_seal.specs.declared.snapshot.Place.TheVariants.{Basic as InBasic, Opt as InOpt}
-use Rattle.mm_seal.specs.Snapshot.{Content}
-use Rattle.mm_model.specs.Chains.{guard}
-use Rattle.mm_model.specs.Instance.{Instance}
-use Rattle.mm_model.specs.InstanceWords.{basic, opt}
-use Rattle.mm_model.specs.History.{Entry, Own, Value, History, Move, Commit, Foreign, Placed, Reset, Close, Power, joined, moved, renamed}
-use Rattle.mm_model.specs.Life.{has_value}
-use Rattle.mm_model.specs.Sound.{IsSound, IsClean, batches_in}
-use Rattle.mm_model.specs.Places.{InClosed, IsPoint, at_anchor, in_closed, in_current, IsPlaceOf, Names, issued, issued_place}
-use Rattle.mm_model.specs.Moves.{IsAllowed, MayMove}
-use Rattle.mm_model.specs.SegmentLaws.{true_not_false, joined-append}
-use Rattle.mm_model.specs.HistoryLaws.{length-batches_in}
+use Rattle.mm_model.proofs.Below.{ℕ, ◌≡◌, ◌≤◌, Bool, true, false, List, [], ◌∷◌, ◌++◌, length, refl, sym, ap, ◌∙◌, subst, ◌⊎◌, inl, inr}
+use Rattle.mm_model.proofs.Below.{arith, append_assoc, length-append, append-nil, append_cancel_right, Basic, Opt, Batch, Meaning, Place}
+use Rattle.mm_model.proofs.Below.{InBasic, InOpt, Content, guard, Instance, basic, opt, Entry, Own, Value, History, Move, Commit, Foreign}
+use Rattle.mm_model.proofs.Below.{Placed, Reset, Close, Power, joined, moved, renamed, has_value, IsSound, IsClean, batches_in, AtAnchor}
+use Rattle.mm_model.proofs.Below.{InClosed, IsPoint, at_anchor, in_closed, in_current, IsPlaceOf, Names, issued, issued_place, IsAllowed}
+use Rattle.mm_model.proofs.Below.{MayMove, true_not_false, joined-append, length-batches_in}
 use Rattle.mm_model.proofs.Paths.{current_clean, marred_has}
 use Rattle.mm_model.proofs.OptJudge.{shut_current}
 use Rattle.mm_model.proofs.Moves.{moving, moving_is, open_current, opening_clean}
 
+-- a place at an anchor or in a closed segment, in a history with these closed segments and perhaps more
+module _ (i : Instance) (key : List ℕ) (y z : History) (more : List (List Entry)) (longer : z.closed ≡ y.closed ++ more)
+    (named : List Batch) (a e : List ℕ) where
+  anchor_kept : AtAnchor i y named a e → IsPoint (record i { key = key }) z named a e
+  anchor_kept p = at_anchor (record {
+    before = p.before;
+    later = p.later ++ more;
+    split = longer ∙ ap (λ (v : List (List Entry)). v ++ more) p.split ∙ append_assoc p.before p.later more;
+    clean = p.clean;
+    counted = p.counted;
+    anchor_is = p.anchor_is;
+    extension_is = p.extension_is;
+  })
+
+  closed_kept : (p : InClosed i y named a e) → (length p.taken ≤ length p.segment) ⊎ ((p.later ++ more ≡ []) × (z.current ≡ []))
+      → IsPoint (record i { key = key }) z named a e
+  closed_kept p within = in_closed (record {
+    before = p.before;
+    segment = p.segment;
+    later = p.later ++ more;
+    done = p.done;
+    taken = p.taken;
+    split = longer ∙ ap (λ (v : List (List Entry)). v ++ more) p.split ∙ append_assoc p.before (p.segment ∷ p.later) more;
+    named_is = p.named_is;
+    counted = p.counted;
+    begun = p.begun;
+    within = within;
+    anchor_is = p.anchor_is;
+    extension_is = p.extension_is;
+  })
+
 -- neither the key nor the register's items are part of a place
 pub point_kept : (i : Instance) (key : List ℕ) (y : History) (items : List Entry) (named : List Batch) (a e : List ℕ)
     → IsPoint i y named a e → IsPoint (record i { key = key }) (record y { items = items }) named a e
-point_kept i key y items named a e (at_anchor p) = at_anchor (record {
-  before = p.before;
-  later = p.later;
-  split = p.split;
-  clean = p.clean;
-  counted = p.counted;
-  anchor_is = p.anchor_is;
-  extension_is = p.extension_is;
-})
-point_kept i key y items named a e (in_closed p) = in_closed (record {
-  before = p.before;
-  segment = p.segment;
-  later = p.later;
-  done = p.done;
-  taken = p.taken;
-  split = p.split;
-  named_is = p.named_is;
-  counted = p.counted;
-  begun = p.begun;
-  within = p.within;
-  anchor_is = p.anchor_is;
-  extension_is = p.extension_is;
-})
+point_kept i key y items named a e (at_anchor p) =
+    anchor_kept i key y (record y { items = items }) [] (sym (append-nil y.closed)) named a e p
+point_kept i key y items named a e (in_closed p) =
+    closed_kept i key y (record y { items = items }) [] (sym (append-nil y.closed)) named a e p
+    (elim p.within [ inl inside ↦ inl inside | inr last ↦ inr (append-nil p.later ∙ last.0, last.1) ])
 point_kept i key y items named a e (in_current p) = in_current (record {
   done = p.done;
   taken = p.taken;
@@ -66,54 +67,33 @@ point_items i y items named a e p = point_kept i i.key y items named a e p
 -- in a clean history a place in a closed segment ends within it
 ends_within : (i : Instance) (y : History) (named rest : List Batch) (a e : List ℕ) → IsClean y → y.batches ≡ named ++ rest
     → (p : InClosed i y named a e) → length p.taken ≤ length p.segment
-ends_within i y named rest a e clean first p =
-    elim p.within [
-      | inl within ↦ within
-      | inr last ↦
-          let whole : joined y.closed ≡ joined p.before ++ (p.segment ++ joined p.later) =
-          ap joined p.split ∙ joined-append p.before (p.segment ∷ p.later) in
-          let none : length (joined p.later) ≡ 0 = ap (λ (v : List (List Entry)). length (joined v)) last.0 in
-          let sizes = ap length whole in
-          let parts = length-append (joined p.before) (p.segment ++ joined p.later) in
-          let inner = length-append p.segment (joined p.later) in
-          let count = length-batches_in (joined y.closed) clean.clean in
-          let all = ap length clean.batches in
-          let cut = length-append (batches_in (joined y.closed)) y.current in
-          let nothing : length y.current ≡ 0 = ap length last.1 in
-          let names = ap length p.named_is in
-          let split = length-append p.done p.taken in
-          let rests = ap length first in
-          let ends = length-append named rest in
-          omega (arith, sizes, parts, inner, count, all, cut, nothing, names, split, rests, ends, none, p.counted)
-    ]
+ends_within i y named rest a e clean first p = elim p.within [
+  | inl within ↦ within
+  | inr last ↦
+      let whole : joined y.closed ≡ joined p.before ++ (p.segment ++ joined p.later) =
+      ap joined p.split ∙ joined-append p.before (p.segment ∷ p.later) in
+      let none : length (joined p.later) ≡ 0 = ap (λ (v : List (List Entry)). length (joined v)) last.0 in
+      let sizes = ap length whole in
+      let parts = length-append (joined p.before) (p.segment ++ joined p.later) in
+      let inner = length-append p.segment (joined p.later) in
+      let count = length-batches_in (joined y.closed) clean.clean in let all = ap length clean.batches in
+      let cut = length-append (batches_in (joined y.closed)) y.current in
+      let nothing : length y.current ≡ 0 = ap length last.1 in let names = ap length p.named_is in
+      let split = length-append p.done p.taken in let rests = ap length first in
+      let ends = length-append named rest in
+      omega (arith, sizes, parts, inner, count, all, cut, nothing, names, split, rests, ends, none, p.counted)
+]
 
 -- a batch more in the open segment, or a new one
 point_commit : (i : Instance) (y : History) (current : List Batch) (is_open : Bool) (items : List Entry) (b : Batch)
     (named rest : List Batch) (a e : List ℕ) → IsClean y → y.batches ≡ named ++ rest → current ≡ y.current ++ b ∷ [] → IsPoint i y named a e
     → IsPoint i (record y { batches = y.batches ++ b ∷ []; current = current; is_open = is_open; items = items }) named a e
-point_commit i y current is_open items b named rest a e clean first grown (at_anchor p) = at_anchor (record {
-  before = p.before;
-  later = p.later;
-  split = p.split;
-  clean = p.clean;
-  counted = p.counted;
-  anchor_is = p.anchor_is;
-  extension_is = p.extension_is;
-})
-point_commit i y current is_open items b named rest a e clean first grown (in_closed p) = in_closed (record {
-  before = p.before;
-  segment = p.segment;
-  later = p.later;
-  done = p.done;
-  taken = p.taken;
-  split = p.split;
-  named_is = p.named_is;
-  counted = p.counted;
-  begun = p.begun;
-  within = inl (ends_within i y named rest a e clean first p);
-  anchor_is = p.anchor_is;
-  extension_is = p.extension_is;
-})
+point_commit i y current is_open items b named rest a e clean first grown (at_anchor p) =
+    let z : History = record y { batches = y.batches ++ b ∷ []; current = current; is_open = is_open; items = items } in
+    anchor_kept i i.key y z [] (sym (append-nil y.closed)) named a e p
+point_commit i y current is_open items b named rest a e clean first grown (in_closed p) =
+    let z : History = record y { batches = y.batches ++ b ∷ []; current = current; is_open = is_open; items = items } in
+    closed_kept i i.key y z [] (sym (append-nil y.closed)) named a e p (inl (ends_within i y named rest a e clean first p))
 point_commit i y current is_open items b named rest a e clean first grown (in_current p) = in_current (record {
   done = p.done;
   taken = p.taken;
@@ -131,29 +111,12 @@ point_commit i y current is_open items b named rest a e clean first grown (in_cu
 -- the open segment becomes the last closed one
 point_close : (i : Instance) (y : History) (named rest : List Batch) (a e : List ℕ) → IsClean y → y.batches ≡ named ++ rest
     → IsPoint i y named a e → IsPoint i (record y { closed = y.closed ++ y.items ∷ []; current = []; is_open = false }) named a e
-point_close i y named rest a e clean first (at_anchor p) = at_anchor (record {
-  before = p.before;
-  later = p.later ++ y.items ∷ [];
-  split = ap (λ (v : List (List Entry)). v ++ y.items ∷ []) p.split ∙ append_assoc p.before p.later (y.items ∷ []);
-  clean = p.clean;
-  counted = p.counted;
-  anchor_is = p.anchor_is;
-  extension_is = p.extension_is;
-})
-point_close i y named rest a e clean first (in_closed p) = in_closed (record {
-  before = p.before;
-  segment = p.segment;
-  later = p.later ++ y.items ∷ [];
-  done = p.done;
-  taken = p.taken;
-  split = ap (λ (v : List (List Entry)). v ++ y.items ∷ []) p.split ∙ append_assoc p.before (p.segment ∷ p.later) (y.items ∷ []);
-  named_is = p.named_is;
-  counted = p.counted;
-  begun = p.begun;
-  within = inl (ends_within i y named rest a e clean first p);
-  anchor_is = p.anchor_is;
-  extension_is = p.extension_is;
-})
+point_close i y named rest a e clean first (at_anchor p) =
+    let z : History = record y { closed = y.closed ++ y.items ∷ []; current = []; is_open = false } in
+    anchor_kept i i.key y z (y.items ∷ []) refl named a e p
+point_close i y named rest a e clean first (in_closed p) =
+    let z : History = record y { closed = y.closed ++ y.items ∷ []; current = []; is_open = false } in
+    closed_kept i i.key y z (y.items ∷ []) refl named a e p (inl (ends_within i y named rest a e clean first p))
 point_close i y named rest a e clean first (in_current p) = in_closed (record {
   before = y.closed;
   segment = y.items;
@@ -171,11 +134,7 @@ point_close i y named rest a e clean first (in_current p) = in_closed (record {
 })
 
 clean_here : (y : History) → IsSound y → has_value (joined y.closed) ≡ false → IsClean y
-clean_here y sound clean =
-    elim sound.history [
-      | inl h ↦ h
-      | inr h ↦ absurd (true_not_false (sym (marred_has y h) ∙ clean))
-    ]
+clean_here y sound clean = elim sound.history [ inl h ↦ h | inr h ↦ absurd (true_not_false (sym (marred_has y h) ∙ clean)) ]
 
 point_at : (i : Instance) (y : History) (flag : Bool) (m : Move) (named rest : List Batch) (a e : List ℕ) → IsSound y → y.is_open ≡ flag
     → IsAllowed Opt flag i y m → y.batches ≡ named ++ rest → IsPoint i y named a e → IsPoint i (moving flag i y m) named a e
@@ -187,86 +146,21 @@ point_at i y false (Commit b) named rest a e sound f may first p =
     (ap (λ (v : List Batch). v ++ b ∷ []) (sym (shut_current y sound f))) p
 point_at i y flag (Foreign d) named rest a e sound f may first p = point_items i y (y.items ++ Value d ∷ []) named a e p
 point_at i y flag (Placed b) named rest a e sound f may first p = point_items i y (y.items ++ Value (guard i.barrier b) ∷ []) named a e p
-point_at i y flag Reset named rest a e sound f may first p = point_items i y [] named a e p
 point_at i y true Close named rest a e sound f may first p =
     point_close i y named rest a e (current_clean y sound (open_current y sound f)) first p
 point_at i y false Close named rest a e sound f may first p = absurd may
-point_at i y flag Power named rest a e sound f may first p = point_items i y [] named a e p
+point_at i y flag _ named rest a e sound f may first p = point_items i y [] named a e p
 
 -- which batches a move adds
 added : Move → List Batch
 added (Commit b) = b ∷ []
-added (Foreign d) = []
-added (Placed b) = []
-added Reset = []
-added Close = []
-added Power = []
+added _ = []
 
 batches_at : (i : Instance) (y : History) (flag : Bool) (m : Move) → (moving flag i y m).batches ≡ y.batches ++ added m
 unfolding added
 batches_at i y true (Commit b) = refl
 batches_at i y false (Commit b) = refl
-batches_at i y flag (Foreign d) = sym (append-nil y.batches)
-batches_at i y flag (Placed b) = sym (append-nil y.batches)
-batches_at i y flag Reset = sym (append-nil y.batches)
-batches_at i y flag Close = sym (append-nil y.batches)
-batches_at i y flag Power = sym (append-nil y.batches)
-
-place_at : (meaning : Meaning) (key barrier : List ℕ) (y : History) (m : Move) (named rest : List Batch) (place : Place) → IsSound y
-    → MayMove (opt meaning key barrier) y m → y.batches ≡ named ++ rest → IsPlaceOf Opt (opt meaning key barrier) y named place
-    → IsPlaceOf Opt (opt meaning key barrier) (moving y.is_open (opt meaning key barrier) y m) named place
-place_at meaning key barrier y m named rest (InBasic s) sound may first p = absurd p
-place_at meaning key barrier y m named rest (InOpt a e) sound may first p =
-    point_at (opt meaning key barrier) y y.is_open m named rest a.bytes e.bytes sound refl may first p
-
-pub opt_names : (meaning : Meaning) (key barrier : List ℕ) (y : History) (m : Move) (offered : Content) → IsSound y
-    → MayMove (opt meaning key barrier) y m → Names (opt meaning key barrier) y offered
-    → Names (opt meaning key barrier) (moved (opt meaning key barrier) y m) offered
-opt_names meaning key barrier y m offered sound may n =
-    let i = opt meaning key barrier in
-    subst (λ (z : History). Names i z offered) (moving_is meaning key barrier y m) (record {
-      named = n.named;
-      rest = n.rest ++ added m;
-      first = batches_at i y y.is_open m ∙ ap (λ (v : List Batch). v ++ added m) n.first ∙ append_assoc n.named n.rest (added m);
-      position = n.position;
-      state = n.state;
-      place = place_at meaning key barrier y m n.named n.rest offered.place sound may n.first n.place;
-    })
-
-basic_place : (meaning : Meaning) (key : List ℕ) (y z : History) (named : List Batch) (place : Place)
-    → IsPlaceOf Basic (basic meaning key) y named place → IsPlaceOf Basic (basic meaning key) z named place
-basic_place meaning key y z named (InBasic s) p = p
-basic_place meaning key y z named (InOpt a e) p = absurd p
-
-basic_batches : (meaning : Meaning) (key : List ℕ) (y : History) (m : Move) → (moved (basic meaning key) y m).batches ≡ y.batches ++ added m
-unfolding added
-basic_batches meaning key y (Commit b) = refl
-basic_batches meaning key y (Foreign d) = sym (append-nil y.batches)
-basic_batches meaning key y (Placed b) = sym (append-nil y.batches)
-basic_batches meaning key y Reset = sym (append-nil y.batches)
-basic_batches meaning key y Close = sym (append-nil y.batches)
-basic_batches meaning key y Power = sym (append-nil y.batches)
-
-pub basic_names : (meaning : Meaning) (key : List ℕ) (y : History) (m : Move) (offered : Content) → Names (basic meaning key) y offered
-    → Names (basic meaning key) (moved (basic meaning key) y m) offered
-basic_names meaning key y m offered n = record {
-  named = n.named;
-  rest = n.rest ++ added m;
-  first = basic_batches meaning key y m ∙ ap (λ (v : List Batch). v ++ added m) n.first ∙ append_assoc n.named n.rest (added m);
-  position = n.position;
-  state = n.state;
-  place = basic_place meaning key y (moved (basic meaning key) y m) n.named offered.place n.place;
-}
-
-pub basic_issued : (meaning : Meaning) (key : List ℕ) (y : History) → Names (basic meaning key) y (issued (basic meaning key) y)
-basic_issued meaning key y = record {
-  named = y.batches;
-  rest = [];
-  first = sym (append-nil y.batches);
-  position = refl;
-  state = refl;
-  place = refl;
-}
+batches_at i y flag _ = sym (append-nil y.batches)
 
 issued_point : (i : Instance) (y : History) (flag : Bool) → IsSound y → has_value (joined y.closed) ≡ false → y.is_open ≡ flag
     → IsPlaceOf Opt i y y.batches (issued_place Opt flag i y)
@@ -295,13 +189,58 @@ issued_point i y false sound clean f =
       extension_is = refl;
     })
 
-pub opt_issued : (meaning : Meaning) (key barrier : List ℕ) (y : History) → IsSound y → has_value (joined y.closed) ≡ false
-    → Names (opt meaning key barrier) y (issued (opt meaning key barrier) y)
-opt_issued meaning key barrier y sound clean = record {
-  named = y.batches;
-  rest = [];
-  first = sym (append-nil y.batches);
-  position = refl;
-  state = refl;
-  place = issued_point (opt meaning key barrier) y y.is_open sound clean refl;
-}
+module _ (meaning : Meaning) (key : List ℕ) where
+  place_at : (barrier : List ℕ) (y : History) (m : Move) (named rest : List Batch) (place : Place) → IsSound y
+      → MayMove (opt meaning key barrier) y m → y.batches ≡ named ++ rest → IsPlaceOf Opt (opt meaning key barrier) y named place
+      → IsPlaceOf Opt (opt meaning key barrier) (moving y.is_open (opt meaning key barrier) y m) named place
+  place_at barrier y m named rest (InBasic s) sound may first p = absurd p
+  place_at barrier y m named rest (InOpt a e) sound may first p =
+      point_at (opt meaning key barrier) y y.is_open m named rest a.bytes e.bytes sound refl may first p
+
+  pub opt_names : (barrier : List ℕ) (y : History) (m : Move) (offered : Content) → IsSound y → MayMove (opt meaning key barrier) y m
+      → Names (opt meaning key barrier) y offered → Names (opt meaning key barrier) (moved (opt meaning key barrier) y m) offered
+  opt_names barrier y m offered sound may n =
+      let i = opt meaning key barrier in
+      subst (λ (z : History). Names i z offered) (moving_is meaning key barrier y m) (record {
+        named = n.named;
+        rest = n.rest ++ added m;
+        first = batches_at i y y.is_open m ∙ ap (λ (v : List Batch). v ++ added m) n.first ∙ append_assoc n.named n.rest (added m);
+        position = n.position;
+        state = n.state;
+        place = place_at barrier y m n.named n.rest offered.place sound may n.first n.place;
+      })
+
+  basic_place : (y z : History) (named : List Batch) (place : Place) → IsPlaceOf Basic (basic meaning key) y named place
+      → IsPlaceOf Basic (basic meaning key) z named place
+  basic_place y z named (InBasic s) p = p
+  basic_place y z named (InOpt a e) p = absurd p
+
+  basic_batches : (y : History) (m : Move) → (moved (basic meaning key) y m).batches ≡ y.batches ++ added m
+  unfolding added
+  basic_batches y (Commit b) = refl
+  basic_batches y _ = sym (append-nil y.batches)
+
+  pub basic_names : (y : History) (m : Move) (offered : Content) → Names (basic meaning key) y offered
+      → Names (basic meaning key) (moved (basic meaning key) y m) offered
+  basic_names y m offered n = record {
+    named = n.named;
+    rest = n.rest ++ added m;
+    first = basic_batches y m ∙ ap (λ (v : List Batch). v ++ added m) n.first ∙ append_assoc n.named n.rest (added m);
+    position = n.position;
+    state = n.state;
+    place = basic_place y (moved (basic meaning key) y m) n.named offered.place n.place;
+  }
+
+  pub basic_issued : (y : History) → Names (basic meaning key) y (issued (basic meaning key) y)
+  basic_issued y = record { named = y.batches; rest = []; first = sym (append-nil y.batches); position = refl; state = refl; place = refl }
+
+  pub opt_issued : (barrier : List ℕ) (y : History) → IsSound y → has_value (joined y.closed) ≡ false
+      → Names (opt meaning key barrier) y (issued (opt meaning key barrier) y)
+  opt_issued barrier y sound clean = record {
+    named = y.batches;
+    rest = [];
+    first = sym (append-nil y.batches);
+    position = refl;
+    state = refl;
+    place = issued_point (opt meaning key barrier) y y.is_open sound clean refl;
+  }

@@ -1,44 +1,42 @@
 -- Opt: the verdict by digests is the verdict on the history.
-use Rattle.std.proofs.Common.{ℕ, ◌≡◌, Bool, true, false, ◌||◌, List, [], ◌∷◌, ◌++◌, refl, sym, ap, ◌∙◌, subst, ◌⊎◌, inl, inr}
-use Rattle.std.specs.Prelude.{if◌then◌else◌}
-use Rattle.std.specs.Bool.{Decides}
-use Rattle.std.specs.Str.{bytes_eq}
-use Rattle.std.specs.List.{Contains, list_any}
-use Rattle.mm_digest.specs.Messages.{zero_bytes, anchored_message, anchored_of}
-use Rattle.mm_model.specs.Chains.{register_of, anchor_of}
-use Rattle.mm_model.specs.Life.{is_empty}
-use Rattle.mm_model.specs.Judge.{Point, forms_of, fits_fresh, fits_again}
-use Rattle.mm_model.specs.Messages.{Within, IsClear, register_trail, form_messages, point_messages}
-use Rattle.mm_model.specs.ListLaws.{each_left, each_right}
-use Rattle.mm_model.specs.DigestLaws.{anchor-push}
-use Rattle.mm_model.specs.BatchLaws.{same_tests}
-use Rattle.mm_model.specs.SegmentLaws.{Fresh, Again, true_not_false}
-use Rattle.mm_model.specs.FormLaws.{Listed, Clears, point_of, fresh_tells, again_tells, zero_register, listed_segment, reads_zero}
+use Rattle.mm_model.proofs.Below.{ℕ, ◌≡◌, Bool, true, false, ◌||◌, List, [], ◌∷◌, ◌++◌, refl, sym, ap, ◌∙◌, subst, ◌⊎◌, inl, inr}
+use Rattle.mm_model.proofs.Below.{if◌then◌else◌, Decides, bytes_eq, Contains, list_any, zero_bytes, anchored_message, anchored_of}
+use Rattle.mm_model.proofs.Below.{register_of, anchor_of, is_empty, Point, forms_of, fits_fresh, fits_again, Within, IsClear}
+use Rattle.mm_model.proofs.Below.{register_trail, form_messages, point_messages, each_left, each_right, anchor-push, same_tests, Fresh}
+use Rattle.mm_model.proofs.Below.{Again, true_not_false, Listed, Clears, point_of, fresh_tells, again_tells, zero_register, listed_segment}
+use Rattle.mm_model.proofs.Below.{reads_zero}
 
 either : {A B : Type 0} (x y : Bool) → Decides x A → Decides y B → Decides (x || (y || false)) (A ⊎ B)
 either true y a b = (λ _. inl (a.0 refl), λ _. refl)
 either false true a b = (λ _. inr (b.0 refl), λ _. refl)
 either false false a b = (
   λ e. absurd (true_not_false (sym e)),
-  λ h. elim h [ inl p ↦ absurd (true_not_false (sym (a.1 p))) | inr q ↦ absurd (true_not_false (sym (b.1 q))) ],
+  λ h. elim h [
+    | inl p ↦ absurd (true_not_false (sym (a.1 p)))
+    | inr q ↦
+        absurd (true_not_false (sym (b.1 q)))
+  ],
 )
 
 alone : {A B : Type 0} (x : Bool) → Decides x A → (B → ⊥) → Decides (x || false) (A ⊎ B)
 alone true a b = (λ _. inl (a.0 refl), λ _. refl)
 alone false a b = (
   λ e. absurd (true_not_false (sym e)),
-  λ h. elim h [ inl p ↦ absurd (true_not_false (sym (a.1 p))) | inr q ↦ absurd (b q) ],
+  λ h. elim h [
+    | inl p ↦ absurd (true_not_false (sym (a.1 p)))
+    | inr q ↦ absurd (b q)
+  ],
 )
 
 -- a test on some form of a place: on the first, or where its extension isn't zero on the second
 on_forms : (A B : Type 0) (test : Point → Bool) (a e : List ℕ) (rest : List (List ℕ)) (is_zero : Bool) → is_zero ≡ is_empty rest
-    → Decides (test (record { anchor = a; extension = e })) A
-    → (is_empty rest ≡ false → Decides (test (record { anchor = anchored_of a e; extension = zero_bytes })) B)
-    → Decides (list_any test
-    (record { anchor = a; extension = e } ∷ (if is_zero then [] else record { anchor = anchored_of a e; extension = zero_bytes } ∷ [])))
-    (A ⊎ (is_empty rest ≡ false) × B)
-on_forms A B test a e rest true r da db =
-    alone (test (record { anchor = a; extension = e })) da (λ q. true_not_false (r ∙ q.0))
+    → Decides (test (record { anchor = a; extension = e })) A → (is_empty rest ≡ false
+    → Decides (test (record { anchor = anchored_of a e; extension = zero_bytes })) B)
+    → Decides (list_any test (record { anchor = a; extension = e } ∷ (if is_zero then [] else record {
+      anchor = anchored_of a e;
+      extension = zero_bytes;
+    } ∷ []))) (A ⊎ (is_empty rest ≡ false) × B)
+on_forms A B test a e rest true r da db = alone (test (record { anchor = a; extension = e })) da (λ q. true_not_false (r ∙ q.0))
 on_forms A B test a e rest false r da db =
     let there = db (sym r) in
     let second : Decides (test (record { anchor = anchored_of a e; extension = zero_bytes })) ((is_empty rest ≡ false) × B) =
@@ -65,56 +63,50 @@ pub record SecondListed (id : ℕ) (all : List (List ℕ)) (before : List (List 
   pub closes : Contains all (anchored_message (anchor_of id before) (register_of rest))
   pub forms : Within (form_messages (anchored_of (anchor_of id before) (register_of rest)) zero_bytes v) all
 
-pub second_listed : (id : ℕ) (all : List (List ℕ)) → IsClear all → (before : List (List (List ℕ))) (rest : List (List ℕ)) (v : List ℕ)
-    → Listed id all before rest → Within (point_messages (anchor_of id before) (register_of rest) v) all → is_empty rest ≡ false
-    → SecondListed id all before rest v
-second_listed id all clear before rest v l m some =
-    let a = anchor_of id before in
-    let e = register_of rest in
-    let second = each_right (Contains all) (form_messages a e v)
-    (if bytes_eq e zero_bytes then [] else anchored_message a e ∷ form_messages (anchored_of a e) zero_bytes v) m in
-    let there = subst (λ (b : Bool). Within (if b then [] else anchored_message a e ∷ form_messages (anchored_of a e) zero_bytes v) all)
-    (zero_tells all clear rest l.last ∙ some) second in
-    record { closes = there.0; forms = there.1 }
+module _ (id : ℕ) where
+  pub second_listed : (all : List (List ℕ)) → IsClear all → (before : List (List (List ℕ))) (rest : List (List ℕ)) (v : List ℕ)
+      → Listed id all before rest → Within (point_messages (anchor_of id before) (register_of rest) v) all → is_empty rest ≡ false
+      → SecondListed id all before rest v
+  second_listed all clear before rest v l m some =
+      let a = anchor_of id before in let e = register_of rest in
+      let second = each_right (Contains all) (form_messages a e v)
+      (if bytes_eq e zero_bytes then [] else anchored_message a e ∷ form_messages (anchored_of a e) zero_bytes v) m in
+      let there = subst (λ (b : Bool). Within (if b then [] else anchored_message a e ∷ form_messages (anchored_of a e) zero_bytes v) all)
+      (zero_tells all clear rest l.last ∙ some) second in
+      record { closes = there.0; forms = there.1 }
 
--- the second form is the point at the anchor after one more segment
-second_is : (id : ℕ) (before : List (List (List ℕ))) (rest : List (List ℕ))
-    → point_of id (before ++ rest ∷ [])
-    [] ≡ record { anchor = anchored_of (anchor_of id before) (register_of rest); extension = zero_bytes }
-second_is id before rest = λ j. record { anchor = anchor-push id before rest j; extension = reads_zero j }
+  -- the second form is the point at the anchor after one more segment
+  second_is : (before : List (List (List ℕ))) (rest : List (List ℕ)) → point_of id (before ++ rest ∷ []) [] ≡ record {
+    anchor = anchored_of (anchor_of id before) (register_of rest);
+    extension = zero_bytes;
+  }
+  second_is before rest = λ j. record { anchor = anchor-push id before rest j; extension = reads_zero j }
 
-pub fresh_somehow : (id : ℕ) (all : List (List ℕ)) → Clears id all
-    → (flag : Bool) (closed : List (List (List ℕ))) (items : List (List ℕ)) (before : List (List (List ℕ))) (rest : List (List ℕ))
-    → Listed id all closed items → Listed id all before rest
-    → (is_empty rest ≡ false → Contains all (anchored_message (anchor_of id before) (register_of rest)))
-    → Decides (list_any (fits_fresh flag (anchor_of id closed) (register_of items)) (forms_of (anchor_of id before) (register_of rest)))
-    (FreshSomehow flag closed items before rest)
-fresh_somehow id all clears flag closed items before rest k l closes =
-    on_forms (Fresh flag closed items before rest) (Fresh flag closed items (before ++ rest ∷ []) [])
-    (fits_fresh flag (anchor_of id closed) (register_of items)) (anchor_of id before) (register_of rest) rest
-    (bytes_eq (register_of rest) zero_bytes) (zero_tells all clears.clear rest l.last)
-    (fresh_tells id all clears flag closed items before rest k l)
-    (λ some.
-    let listed = listed_segment id all before rest l.inner l.outer l.last (closes some) in
-    subst (λ (x : Point). Decides (fits_fresh flag (anchor_of id closed) (register_of items) x)
-    (Fresh flag closed items (before ++ rest ∷ []) []))
-    (second_is id before rest) (fresh_tells id all clears flag closed items (before ++ rest ∷ []) [] k listed))
+  pub fresh_somehow : (all : List (List ℕ)) → Clears id all → (flag : Bool) (closed : List (List (List ℕ))) (items : List (List ℕ))
+      (before : List (List (List ℕ))) (rest : List (List ℕ)) → Listed id all closed items → Listed id all before rest
+      → (is_empty rest ≡ false → Contains all (anchored_message (anchor_of id before) (register_of rest)))
+      → Decides (list_any (fits_fresh flag (anchor_of id closed) (register_of items)) (forms_of (anchor_of id before) (register_of rest)))
+      (FreshSomehow flag closed items before rest)
+  fresh_somehow all clears flag closed items before rest k l closes =
+      on_forms (Fresh flag closed items before rest) (Fresh flag closed items (before ++ rest ∷ []) [])
+      (fits_fresh flag (anchor_of id closed) (register_of items)) (anchor_of id before) (register_of rest) rest (bytes_eq (register_of rest)
+      zero_bytes) (zero_tells all clears.clear rest l.last) (fresh_tells id all clears flag closed items before rest k l) (λ some.
+      let listed = listed_segment id all before rest l.inner l.outer l.last (closes some) in
+      subst (λ (x : Point). Decides (fits_fresh flag (anchor_of id closed) (register_of items) x) (Fresh flag closed items
+      (before ++ rest ∷ []) [])) (second_is before rest) (fresh_tells id all clears flag closed items (before ++ rest ∷ []) [] k listed))
 
-pub again_somehow : (id : ℕ) (all : List (List ℕ)) → Clears id all
-    → (flag : Bool) (closed : List (List (List ℕ))) (items : List (List ℕ)) (before : List (List (List ℕ))) (rest : List (List ℕ))
-    (v : List ℕ) → Listed id all closed items → Listed id all before rest
+pub again_somehow : (id : ℕ) (all : List (List ℕ)) → Clears id all → (flag : Bool) (closed : List (List (List ℕ))) (items : List (List ℕ))
+    (before : List (List (List ℕ))) (rest : List (List ℕ)) (v : List ℕ) → Listed id all closed items → Listed id all before rest
     → Within (point_messages (anchor_of id before) (register_of rest) v) all
     → Decides (list_any (fits_again flag (anchor_of id closed) (register_of items) v) (forms_of (anchor_of id before) (register_of rest)))
     (AgainSomehow flag closed items v before rest)
 again_somehow id all clears flag closed items before rest v k l m =
     on_forms (Again flag closed items v before rest) (Again flag closed items v (before ++ rest ∷ []) [])
-    (fits_again flag (anchor_of id closed) (register_of items) v) (anchor_of id before) (register_of rest) rest
-    (bytes_eq (register_of rest) zero_bytes) (zero_tells all clears.clear rest l.last)
-    (again_tells id all clears flag closed items v before rest k l
-    (each_left (Contains all) (form_messages (anchor_of id before) (register_of rest) v)
-    (if bytes_eq (register_of rest) zero_bytes then [] else anchored_message (anchor_of id before) (register_of rest)
-    ∷ form_messages (anchored_of (anchor_of id before) (register_of rest)) zero_bytes v) m))
-    (λ some.
+    (fits_again flag (anchor_of id closed) (register_of items) v) (anchor_of id before) (register_of rest) rest (bytes_eq (register_of rest)
+    zero_bytes) (zero_tells all clears.clear rest l.last) (again_tells id all clears flag closed items v before rest k l
+    (each_left (Contains all) (form_messages (anchor_of id before) (register_of rest) v) (if bytes_eq (register_of rest) zero_bytes then []
+    else anchored_message (anchor_of id before) (register_of rest) ∷ form_messages (anchored_of (anchor_of id before) (register_of rest))
+    zero_bytes v) m)) (λ some.
     let second = second_listed id all clears.clear before rest v l m some in
     let listed = listed_segment id all before rest l.inner l.outer l.last second.closes in
     let forms : Within (form_messages (anchor_of id (before ++ rest ∷ [])) (register_of []) v) all =

@@ -1,24 +1,12 @@
 -- Opt: a place of a sound history as a path, some first closed segments and some batches after them.
-use Rattle.std.proofs.Common.{ℕ, zero, suc, ◌≡◌, ◌-◌, ◌≤◌, Bool, true, false, ◌||◌, List, [], ◌∷◌, ◌++◌, length, map, take, drop, refl, sym, ap, ◌∙◌, subst, ◌⊎◌, inl, inr, arith, append_assoc, length-append}
-use Rattle.std.proofs.lemmas.List.{append-nil, append_cancel_right, length-map, length-drop, drop-append-le}
-use Rattle.std.proofs.lemmas.Bool.{or_parts}
-use Rattle.std.specs.List.{AllByRecursion}
-use Rattle.mm_digest.specs.Messages.{zero_bytes, extended_message}
-use Rattle.mm_module.specs.Batch.{Batch}
-use Rattle.mm_model.specs.Chains.{guard, register_of}
-use Rattle.mm_model.specs.ChainsWords.{own_values}
-use Rattle.mm_model.specs.Instance.{Instance}
-use Rattle.mm_model.specs.History.{Entry, History, joined, value_of}
-use Rattle.mm_model.specs.HistoryWords.{values_of}
-use Rattle.mm_model.specs.Life.{is_empty, has_value}
-use Rattle.mm_model.specs.Places.{AtAnchor, InClosed, InCurrent, IsPoint, at_anchor, in_closed, in_current, anchor_after}
-use Rattle.mm_model.specs.Messages.{Within, register_trail, closed_runs, runs_of}
-use Rattle.mm_model.specs.Sound.{IsSound, IsClean, IsMarred, batches_in}
-use Rattle.mm_model.specs.ListLaws.{each_left, each_right}
-use Rattle.mm_model.specs.ChainLaws.{trail_front}
-use Rattle.mm_model.specs.SegmentLaws.{same_halves, joined-append, joined-push, true_not_false, nothing_left, Reaches}
-use Rattle.mm_model.specs.FormLaws.{reads_zero}
-use Rattle.mm_model.specs.HistoryLaws.{own_values-append, has_value-append, batches_in-append, length-batches_in, values_of-clean, sooner}
+use Rattle.mm_model.proofs.Below.{ℕ, zero, suc, ◌≡◌, ◌-◌, ◌≤◌, Bool, true, false, ◌||◌, List, [], ◌∷◌, ◌++◌, length, map, take, drop, refl}
+use Rattle.mm_model.proofs.Below.{sym, ap, ◌∙◌, subst, ◌⊎◌, inl, inr, arith, append_assoc, length-append, append-nil, append_cancel_right}
+use Rattle.mm_model.proofs.Below.{length-map, length-drop, drop-append-le, or_parts, AllByRecursion, zero_bytes, extended_message, Batch}
+use Rattle.mm_model.proofs.Below.{guard, register_of, own_values, Instance, Entry, History, joined, value_of, values_of, is_empty}
+use Rattle.mm_model.proofs.Below.{has_value, AtAnchor, InClosed, InCurrent, IsPoint, at_anchor, in_closed, in_current, anchor_after, Within}
+use Rattle.mm_model.proofs.Below.{register_trail, closed_runs, runs_of, IsSound, IsClean, IsMarred, batches_in, each_left, each_right}
+use Rattle.mm_model.proofs.Below.{trail_front, same_halves, joined-append, joined-push, true_not_false, nothing_left, Reaches, reads_zero}
+use Rattle.mm_model.proofs.Below.{own_values-append, has_value-append, batches_in-append, length-batches_in, values_of-clean, sooner}
 
 -- the batches begin with those of these segments, which hold no value that stands for none
 pub record Begins (y : History) (before : List (List Entry)) : Type 0 where
@@ -26,80 +14,72 @@ pub record Begins (y : History) (before : List (List Entry)) : Type 0 where
   pub tail : List Batch
   pub is : y.batches ≡ batches_in (joined before) ++ tail
 
-pub begins_clean : (y : History) (before later : List (List Entry)) → IsClean y → y.closed ≡ before ++ later → Begins y before
-begins_clean y before later h split =
-    let whole : joined y.closed ≡ joined before ++ joined later = ap joined split ∙ joined-append before later in
-    let tests = or_parts (has_value (joined before)) (has_value (joined later))
-    (sym (has_value-append (joined before) (joined later)) ∙ ap has_value (sym whole) ∙ h.clean) in
-    record {
-      clean = tests.0;
-      tail = batches_in (joined later) ++ y.current;
-      is = h.batches ∙ ap (λ (v : List Entry). batches_in v ++ y.current) whole
-          ∙ ap (λ (v : List Batch). v ++ y.current) (batches_in-append (joined before) (joined later))
-          ∙ append_assoc (batches_in (joined before)) (batches_in (joined later)) y.current;
-    }
-
-begins_marred : (y : History) (before later : List (List Entry)) → IsMarred y → y.closed ≡ before ++ later → is_empty later ≡ false
-    → Begins y before
-begins_marred y before later h split some =
-    let s = sooner before later h.before h.last (sym split ∙ h.split) some in
-    let whole : joined h.before ≡ joined before ++ joined s.between = ap joined s.is ∙ joined-append before s.between in
-    let tests = or_parts (has_value (joined before)) (has_value (joined s.between))
-    (sym (has_value-append (joined before) (joined s.between)) ∙ ap has_value (sym whole) ∙ h.clean) in
-    record {
-      clean = tests.0;
-      tail = batches_in (joined s.between) ++ h.rest;
-      is = h.batches ∙ ap (λ (v : List Entry). batches_in v ++ h.rest) whole
-          ∙ ap (λ (v : List Batch). v ++ h.rest) (batches_in-append (joined before) (joined s.between))
-          ∙ append_assoc (batches_in (joined before)) (batches_in (joined s.between)) h.rest;
-    }
-
--- a marred history's closed segments hold a value that stands for no batch
-pub marred_has : (y : History) → IsMarred y → has_value (joined y.closed) ≡ true
-marred_has y h =
-    ap (λ (v : List (List Entry)). has_value (joined v)) h.split
-    ∙ ap has_value (joined-push h.before h.last)
-    ∙ has_value-append (joined h.before) h.last
-    ∙ ap (λ (b : Bool). b || has_value h.last) h.clean ∙ h.marred
-
 -- a list is empty or it isn't
 pub empty_cases : {A : Type 0} (xs : List A) → (xs ≡ []) ⊎ (is_empty xs ≡ false)
 empty_cases [] = inl refl
 empty_cases (x ∷ xs) = inr refl
 
-begins : (y : History) (before later : List (List Entry)) → IsSound y → y.closed ≡ before ++ later
-    → (has_value (joined before) ≡ false) ⊎ (is_empty later ≡ false) → Begins y before
-begins y before later sound split why =
-    elim sound.history [
-      | inl h ↦ begins_clean y before later h split
-      | inr h ↦
-          elim (empty_cases later) [
-            | inr some ↦ begins_marred y before later h split some
-            | inl none ↦
-                absurd (elim why [
-                  | inl clean ↦
-                      true_not_false (sym (marred_has y h)
-                      ∙ ap (λ (v : List (List Entry)). has_value (joined v)) (split ∙ ap (λ v. before ++ v) none ∙ append-nil before)
-                      ∙ clean)
-                  | inr some ↦ true_not_false (ap is_empty (sym none) ∙ some)
-                ])
-          ]
-    ]
+module _ (y : History) where
+  pub begins_clean : (before later : List (List Entry)) → IsClean y → y.closed ≡ before ++ later → Begins y before
+  begins_clean before later h split =
+      let whole : joined y.closed ≡ joined before ++ joined later = ap joined split ∙ joined-append before later in
+      let tests = or_parts (has_value (joined before)) (has_value (joined later))
+      (sym (has_value-append (joined before) (joined later)) ∙ ap has_value (sym whole) ∙ h.clean) in
+      record {
+        clean = tests.0;
+        tail = batches_in (joined later) ++ y.current;
+        is = h.batches ∙ ap (λ (v : List Entry). batches_in v ++ y.current) whole
+            ∙ ap (λ (v : List Batch). v ++ y.current) (batches_in-append (joined before) (joined later))
+            ∙ append_assoc (batches_in (joined before)) (batches_in (joined later)) y.current;
+      }
 
--- first batches as many as the entries of these segments are the segments' batches
-done_is : (y : History) (before : List (List Entry)) (done more : List Batch) → Begins y before → y.batches ≡ done ++ more
-    → length done ≡ length (joined before) → done ≡ batches_in (joined before)
-done_is y before done more h e l =
-    (same_halves done (batches_in (joined before)) more h.tail
-    (l ∙ sym (length-batches_in (joined before) h.clean)) (sym e ∙ h.is)).0
+  begins_marred : (before later : List (List Entry)) → IsMarred y → y.closed ≡ before ++ later → is_empty later ≡ false → Begins y before
+  begins_marred before later h split some =
+      let s = sooner before later h.before h.last (sym split ∙ h.split) some in
+      let whole : joined h.before ≡ joined before ++ joined s.between = ap joined s.is ∙ joined-append before s.between in
+      let tests = or_parts (has_value (joined before)) (has_value (joined s.between))
+      (sym (has_value-append (joined before) (joined s.between)) ∙ ap has_value (sym whole) ∙ h.clean) in
+      record {
+        clean = tests.0;
+        tail = batches_in (joined s.between) ++ h.rest;
+        is = h.batches ∙ ap (λ (v : List Entry). batches_in v ++ h.rest) whole
+            ∙ ap (λ (v : List Batch). v ++ h.rest) (batches_in-append (joined before) (joined s.between))
+            ∙ append_assoc (batches_in (joined before)) (batches_in (joined s.between)) h.rest;
+      }
+
+  -- a marred history's closed segments hold a value that stands for no batch
+  pub marred_has : IsMarred y → has_value (joined y.closed) ≡ true
+  marred_has h =
+      ap (λ (v : List (List Entry)). has_value (joined v)) h.split ∙ ap has_value (joined-push h.before h.last)
+      ∙ has_value-append (joined h.before) h.last ∙ ap (λ (b : Bool). b || has_value h.last) h.clean ∙ h.marred
+
+  begins : (before later : List (List Entry)) → IsSound y → y.closed ≡ before ++ later → (has_value (joined before) ≡ false)
+      ⊎ (is_empty later ≡ false) → Begins y before
+  begins before later sound split why = elim sound.history [
+    | inl h ↦ begins_clean before later h split
+    | inr h ↦ elim (empty_cases later) [
+      | inr some ↦ begins_marred before later h split some
+      | inl none ↦ absurd (elim why [
+        | inl clean ↦
+            true_not_false (sym (marred_has h) ∙ ap (λ (v : List (List Entry)). has_value (joined v)) (split
+            ∙ ap (λ v. before ++ v) none ∙ append-nil before) ∙ clean)
+        | inr some ↦ true_not_false (ap is_empty (sym none) ∙ some)
+      ])
+    ]
+  ]
+
+  -- first batches as many as the entries of these segments are the segments' batches
+  done_is : (before : List (List Entry)) (done more : List Batch) → Begins y before → y.batches ≡ done ++ more
+      → length done ≡ length (joined before) → done ≡ batches_in (joined before)
+  done_is before done more h e l =
+      (same_halves done (batches_in (joined before)) more h.tail (l ∙ sym (length-batches_in (joined before) h.clean)) (sym e ∙ h.is)).0
 
 flat_is : (barrier : List ℕ) (y : History) (before : List (List Entry)) (done taken named : List Batch) → Begins y before
     → done ≡ batches_in (joined before) → named ≡ done ++ taken → values_of barrier (joined before)
     ++ own_values barrier taken ≡ own_values barrier named
 flat_is barrier y before done taken named h d n =
-    ap (λ (v : List (List ℕ)). v ++ own_values barrier taken) (values_of-clean barrier (joined before) h.clean
-    ∙ ap (own_values barrier) (sym d))
-    ∙ sym (own_values-append barrier done taken) ∙ ap (own_values barrier) (sym n)
+    ap (λ (v : List (List ℕ)). v ++ own_values barrier taken) (values_of-clean barrier (joined before) h.clean ∙ ap (own_values barrier)
+    (sym d)) ∙ sym (own_values-append barrier done taken) ∙ ap (own_values barrier) (sym n)
 
 pub record Path (i : Instance) (y : History) (named : List Batch) (a e : List ℕ) (all : List (List ℕ)) : Type 0 where
   pub before : List (List Entry)
@@ -145,11 +125,7 @@ path_at_anchor i y named rest a e all sound first p =
 
 -- what a current segment tells: the history is clean
 pub current_clean : (y : History) → IsSound y → is_empty y.current ≡ false → IsClean y
-current_clean y sound some =
-    elim sound.history [
-      | inl h ↦ h
-      | inr h ↦ absurd (true_not_false (sym (sound.open_is some) ∙ h.shut))
-    ]
+current_clean y sound some = elim sound.history [ inl h ↦ h | inr h ↦ absurd (true_not_false (sym (sound.open_is some) ∙ h.shut)) ]
 
 pub begun_longer : (taken more : List Batch) → is_empty taken ≡ false → is_empty (taken ++ more) ≡ false
 begun_longer [] more b = absurd (true_not_false b)
@@ -193,14 +169,12 @@ run_holds : (P : List Batch → Type 0) (before : List (List Entry)) (segment : 
 run_holds P [] segment later bs done more e l h =
     run_first P segment later bs more (e ∙ ap (λ (v : List Batch). v ++ more) (nothing_left done l)) h
 run_holds P (s ∷ []) segment later bs done more e l h =
-    let whole = length-append s [] in
-    let fits : length s ≤ length done = omega (arith, l, whole) in
+    let whole = length-append s [] in let fits : length s ≤ length done = omega (arith, l, whole) in
     let dropped = length-drop (length s) done in
     let cut : drop (length s) bs ≡ drop (length s) done ++ more = ap (drop (length s)) e ∙ drop-append-le (length s) done more fits in
     run_holds P [] segment later (drop (length s) bs) (drop (length s) done) more cut (omega (arith, l, whole, dropped)) h.1
 run_holds P (s ∷ t ∷ before) segment later bs done more e l h =
-    let whole = length-append s (joined (t ∷ before)) in
-    let fits : length s ≤ length done = omega (arith, l, whole) in
+    let whole = length-append s (joined (t ∷ before)) in let fits : length s ≤ length done = omega (arith, l, whole) in
     let dropped = length-drop (length s) done in
     let cut : drop (length s) bs ≡ drop (length s) done ++ more = ap (drop (length s)) e ∙ drop-append-le (length s) done more fits in
     run_holds P (t ∷ before) segment later (drop (length s) bs) (drop (length s) done) more cut (omega (arith, l, whole, dropped)) h.1
@@ -213,71 +187,58 @@ record TakesWhole (n : ℕ) (xs ys : List Batch) : Type 0 where
 takes_whole : (n : ℕ) (xs ys : List Batch) → length xs ≤ n → TakesWhole n xs ys
 takes_whole n [] ys l = record { more = take n ys; is = refl }
 takes_whole zero (x ∷ xs) ys l = absurd (omega (arith, l))
-takes_whole (suc n) (x ∷ xs) ys l =
-    let h = takes_whole n xs ys (omega (arith, l)) in
-    record { more = h.more; is = ap (λ v. x ∷ v) h.is }
+takes_whole (suc n) (x ∷ xs) ys l = let h = takes_whole n xs ys (omega (arith, l)) in record { more = h.more; is = ap (λ v. x ∷ v) h.is }
 
 run_listed : (barrier : List ℕ) (all : List (List ℕ)) (segment : List Entry) (later : List (List Entry)) (taken more : List Batch)
     → (length taken ≤ length segment) ⊎ (later ≡ []) → RunsListed barrier all (run_at segment later (taken ++ more))
     → RunsListed barrier all taken
 run_listed barrier all segment [] taken more fits w = listed_front barrier all taken more w
-run_listed barrier all segment (next ∷ later) taken more fits w =
-    elim fits [
-      | inl within ↦
-          let t = takes_whole (length segment) taken more within in
-          listed_front barrier all taken t.more (subst (RunsListed barrier all) t.is w)
-      | inr none ↦ absurd (true_not_false (sym (ap is_empty none)))
-    ]
+run_listed barrier all segment (next ∷ later) taken more fits w = elim fits [
+  | inl within ↦
+      let t = takes_whole (length segment) taken more within in
+      listed_front barrier all taken t.more (subst (RunsListed barrier all) t.is w)
+  | inr none ↦ absurd (true_not_false (sym (ap is_empty none)))
+]
 
-none_longer : (y : History) (named rest : List Batch) → y.batches ≡ named ++ rest → y.current ≡ []
-    → length named ≤ length y.batches - length y.current
-none_longer y named rest e none =
-    let whole = ap length e in
-    let parts = length-append named rest in
-    let nothing : length y.current ≡ 0 = ap length none in
-    omega (arith, whole, parts, nothing)
+module _ (y : History) where
+  none_longer : (named rest : List Batch) → y.batches ≡ named ++ rest → y.current ≡ [] → length named ≤ length y.batches - length y.current
+  none_longer named rest e none =
+      let whole = ap length e in let parts = length-append named rest in
+      let nothing : length y.current ≡ 0 = ap length none in
+      omega (arith, whole, parts, nothing)
 
-marred_current : (y : History) → IsSound y → IsMarred y → y.current ≡ []
-marred_current y sound h =
-    elim (empty_cases y.current) [
-      | inl none ↦ none
-      | inr some ↦ absurd (true_not_false (sym (sound.open_is some) ∙ h.shut))
-    ]
+  marred_current : IsSound y → IsMarred y → y.current ≡ []
+  marred_current sound h =
+      elim (empty_cases y.current) [ inl none ↦ none | inr some ↦ absurd (true_not_false (sym (sound.open_is some) ∙ h.shut)) ]
 
 -- a path into a closed segment ends before the open one
 ends_before_current : (i : Instance) (y : History) (named rest : List Batch) (a e : List ℕ) → IsSound y → y.batches ≡ named ++ rest
     → (p : InClosed i y named a e) → length named ≤ length y.batches - length y.current
-ends_before_current i y named rest a e sound first p =
-    elim sound.history [
-      | inr h ↦ none_longer y named rest first (marred_current y sound h)
-      | inl h ↦
-          elim p.within [
-            | inr last ↦ none_longer y named rest first last.1
-            | inl within ↦
-                let whole : joined y.closed ≡ joined p.before ++ (p.segment ++ joined p.later) =
-                ap joined p.split ∙ joined-append p.before (p.segment ∷ p.later) in
-                let sizes = ap length whole in
-                let parts = length-append (joined p.before) (p.segment ++ joined p.later) in
-                let inner = length-append p.segment (joined p.later) in
-                let count = length-batches_in (joined y.closed) h.clean in
-                let all = ap length h.batches in
-                let cut = length-append (batches_in (joined y.closed)) y.current in
-                let names = ap length p.named_is in
-                let split = length-append p.done p.taken in
-                omega (arith, sizes, parts, inner, count, all, cut, names, split, within, p.counted)
-          ]
-    ]
+ends_before_current i y named rest a e sound first p = elim sound.history [
+  | inr h ↦ none_longer y named rest first (marred_current y sound h)
+  | inl h ↦ elim p.within [
+    | inr last ↦ none_longer y named rest first last.1
+    | inl within ↦
+        let whole : joined y.closed ≡ joined p.before ++ (p.segment ++ joined p.later) =
+        ap joined p.split ∙ joined-append p.before (p.segment ∷ p.later) in
+        let sizes = ap length whole in
+        let parts = length-append (joined p.before) (p.segment ++ joined p.later) in
+        let inner = length-append p.segment (joined p.later) in
+        let count = length-batches_in (joined y.closed) h.clean in let all = ap length h.batches in
+        let cut = length-append (batches_in (joined y.closed)) y.current in let names = ap length p.named_is in
+        let split = length-append p.done p.taken in
+        omega (arith, sizes, parts, inner, count, all, cut, names, split, within, p.counted)
+  ]
+]
 
 reaches_closed : (i : Instance) (y : History) (named : List Batch) (a e : List ℕ) → IsSound y → (p : InClosed i y named a e)
     → Reaches y.is_open (map (values_of i.barrier) (p.segment ∷ p.later)) (length (own_values i.barrier p.taken))
-reaches_closed i y named a e sound p =
-    elim p.within [
-      | inl within ↦
-          let taken = length-map p.taken (guard i.barrier) in
-          let segment = length-map p.segment (value_of i.barrier) in
-          inl (omega (arith, within, taken, segment))
-      | inr last ↦ inr (ap (map (values_of i.barrier)) last.0, sound.shut_is (ap is_empty last.1))
-    ]
+reaches_closed i y named a e sound p = elim p.within [
+  | inl within ↦
+      let taken = length-map p.taken (guard i.barrier) in let segment = length-map p.segment (value_of i.barrier) in
+      inl (omega (arith, within, taken, segment))
+  | inr last ↦ inr (ap (map (values_of i.barrier)) last.0, sound.shut_is (ap is_empty last.1))
+]
 
 path_in_closed : (i : Instance) (y : History) (named rest : List Batch) (a e : List ℕ) (all : List (List ℕ)) → IsSound y
     → y.batches ≡ named ++ rest → AllByRecursion (RunsListed i.barrier all) (runs_of y) → InClosed i y named a e → Path i y named a e all
@@ -293,8 +254,7 @@ path_in_closed i y named rest a e all sound first runs p =
     let closed = each_left (RunsListed i.barrier all) (closed_runs y.closed (take k y.batches)) (y.current ∷ []) runs in
     let run = run_holds (RunsListed i.barrier all) p.before p.segment p.later (take k y.batches) p.done (p.taken ++ t.more) bs p.counted
     (subst (λ (v : List (List Entry)). AllByRecursion (RunsListed i.barrier all) (closed_runs v (take k y.batches))) p.split closed) in
-    let fits : (length p.taken ≤ length p.segment) ⊎ (p.later ≡ []) =
-    elim p.within [ inl within ↦ inl within | inr last ↦ inr last.0 ] in
+    let fits : (length p.taken ≤ length p.segment) ⊎ (p.later ≡ []) = elim p.within [ inl within ↦ inl within | inr last ↦ inr last.0 ] in
     record {
       before = p.before;
       later = p.segment ∷ p.later;

@@ -1,7 +1,5 @@
 -- A machine that runs one more request.
-use Rattle.std.proofs.Common.{ℕ, ◌≡◌, List, [], ◌∷◌, ◌++◌, sym, ap, ◌∙◌, subst}
-use Rattle.std.specs.Prelude.{IsTrue}
-use Rattle.mm_module.specs.Meaning.{Meaning, IsLawful, state_after, said_after}
+use Rattle.mm_model.proofs.Below.{ℕ, ◌≡◌, List, [], ◌∷◌, ◌++◌, sym, ap, ◌∙◌, subst, IsTrue, Meaning, IsLawful, state_after, said_after}
 use Rattle.mm_module.specs.RunLaws.{state_after-push, said_after-push, state_after-is_spelled}
 use Rattle.mm_model.specs.Run.{IsRun}
 

@@ -22,12 +22,10 @@ pub not_both : (b : Bool) → b ≡ true → b ≡ false → ⊥
 not_both b t f = cc
 
 pub same_batch-Decides : (b c : Batch) → Decides (same_batch b c) (b ≡ c)
-same_batch-Decides (One r) (One s) =
-    (λ e. ap One ((bytes_eq-Decides r s).0 e), λ e. (bytes_eq-Decides r s).1 (cc))
+same_batch-Decides (One r) (One s) = (λ e. ap One ((bytes_eq-Decides r s).0 e), λ e. (bytes_eq-Decides r s).1 (cc))
 same_batch-Decides (One r) (Many t) = (λ e. absurd (not_both false e refl), λ e. absurd (cc))
 same_batch-Decides (Many t) (One r) = (λ e. absurd (not_both false e refl), λ e. absurd (cc))
-same_batch-Decides (Many t) (Many u) =
-    (λ e. ap Many ((bytes_eq-Decides t u).0 e), λ e. (bytes_eq-Decides t u).1 (cc))
+same_batch-Decides (Many t) (Many u) = (λ e. ap Many ((bytes_eq-Decides t u).0 e), λ e. (bytes_eq-Decides t u).1 (cc))
 
 pub record EndsWith (batches : List Batch) (b : Batch) : Type 0 where
   pub front : List Batch
@@ -35,11 +33,8 @@ pub record EndsWith (batches : List Batch) (b : Batch) : Type 0 where
 
 pub is_last_tells : (batches : List Batch) (b : Batch) → is_last batches b ≡ true → EndsWith batches b
 is_last_tells [] b e = absurd (not_both false e refl)
-is_last_tells (c ∷ []) b e =
-    record { front = []; is = ap (λ x. x ∷ []) ((same_batch-Decides c b).0 e) }
-is_last_tells (c ∷ d ∷ batches) b e =
-    let h = is_last_tells (d ∷ batches) b e in
-    record { front = c ∷ h.front; is = ap (λ xs. c ∷ xs) h.is }
+is_last_tells (c ∷ []) b e = record { front = []; is = ap (λ x. x ∷ []) ((same_batch-Decides c b).0 e) }
+is_last_tells (c ∷ d ∷ batches) b e = let h = is_last_tells (d ∷ batches) b e in record { front = c ∷ h.front; is = ap (λ xs. c ∷ xs) h.is }
 
 pub is_last_of : (front : List Batch) (b : Batch) → is_last (front ++ b ∷ []) b ≡ true
 is_last_of [] b = (same_batch-Decides b b).1 refl
@@ -57,6 +52,9 @@ total-append (b ∷ bs) cs =
     let rest = total-append bs cs in
     omega (arith, whole, part, rest)
 
+pub total-push : (bs : List Batch) (b : Batch) → total_of (bs ++ b ∷ []) ≡ total_of bs + size_of b
+total-push bs b = omega (arith, total-append bs (b ∷ []), total-cons b [])
+
 pub total-nil : (bs : List Batch) → total_of bs ≡ 0 → bs ≡ []
 total-nil [] e = refl
 total-nil (b ∷ bs) e = absurd (omega (arith, total-cons b bs, size_of-pos b))
@@ -73,37 +71,36 @@ same_fronts (b ∷ bs) (c ∷ cs) ds es e t =
     let rest : bs ≡ cs = same_fronts bs cs ds es tails shorter in
     cc
 
--- the first part of a list counts as the whole exactly where it is the whole
-pub at_the_end : (batches named rest : List Batch) → batches ≡ named ++ rest
-    → Decides (nat_eq (total_of named) (total_of batches)) (named ≡ batches)
-at_the_end batches named rest e = (
-  λ t.
-      let counts : total_of named ≡ total_of batches = (Decides-eqb (total_of named) (total_of batches)).0 t in
-      let none : total_of rest ≡ 0 = omega (arith, counts, ap total_of e, total-append named rest) in
-      let nothing = total-nil rest none in
-      same_fronts named batches rest [] (sym e ∙ sym (append-nil batches)) counts,
-  λ s. (Decides-eqb (total_of named) (total_of batches)).1 (ap total_of s),
-)
+module _ (batches named : List Batch) where
+  -- the first part of a list counts as the whole exactly where it is the whole
+  pub at_the_end : (rest : List Batch) → batches ≡ named ++ rest → Decides (nat_eq (total_of named) (total_of batches)) (named ≡ batches)
+  at_the_end rest e = (
+    λ t.
+        let counts : total_of named ≡ total_of batches = (Decides-eqb (total_of named) (total_of batches)).0 t in
+        let none : total_of rest ≡ 0 = omega (arith, counts, ap total_of e, total-append named rest) in
+        let nothing = total-nil rest none in
+        same_fronts named batches rest [] (sym e ∙ sym (append-nil batches)) counts,
+    λ s. (Decides-eqb (total_of named)
+        (total_of batches)).1 (ap total_of s),
+  )
 
--- the first part, and then b, count as the whole and b is the last, exactly where they are the whole
-pub before_the_last : (batches named rest : List Batch) (b : Batch) → batches ≡ named ++ rest
-    → Decides (nat_eq (total_of named + size_of b) (total_of batches) && is_last batches b) (named ++ b ∷ [] ≡ batches)
-before_the_last batches named rest b e = (
-  λ t.
-      let both = and_parts (nat_eq (total_of named + size_of b) (total_of batches)) (is_last batches b) t in
-      let counts : total_of named + size_of b ≡ total_of batches =
-      (Decides-eqb (total_of named + size_of b) (total_of batches)).0 both.0 in
-      let h = is_last_tells batches b both.1 in
-      let one : total_of (b ∷ []) ≡ size_of b + 0 = total-cons b [] in
-      let fronts : total_of named ≡ total_of h.front =
-      omega (arith, counts, ap total_of h.is, total-append h.front (b ∷ []), one) in
-      let same : named ≡ h.front = same_fronts named h.front rest (b ∷ []) (sym e ∙ h.is) fronts in
-      ap (λ (xs : List Batch). xs ++ b ∷ []) same ∙ sym h.is,
-  λ s.
-      let one : total_of (b ∷ []) ≡ size_of b + 0 = total-cons b [] in
-      let counts : total_of named + size_of b ≡ total_of batches =
-      omega (arith, ap total_of s, total-append named (b ∷ []), one) in
-      and_from (nat_eq (total_of named + size_of b) (total_of batches)) (is_last batches b)
-      ((Decides-eqb (total_of named + size_of b) (total_of batches)).1 counts)
-      (subst (λ (xs : List Batch). is_last xs b ≡ true) s (is_last_of named b)),
-)
+  -- the first part, and then b, count as the whole and b is the last, exactly where they are the whole
+  pub before_the_last : (rest : List Batch) (b : Batch) → batches ≡ named ++ rest
+      → Decides (nat_eq (total_of named + size_of b) (total_of batches) && is_last batches b) (named ++ b ∷ [] ≡ batches)
+  before_the_last rest b e = (
+    λ t.
+        let both = and_parts (nat_eq (total_of named + size_of b) (total_of batches)) (is_last batches b) t in
+        let counts : total_of named + size_of b ≡ total_of batches =
+        (Decides-eqb (total_of named + size_of b) (total_of batches)).0 both.0 in
+        let h = is_last_tells batches b both.1 in
+        let one : total_of (b ∷ []) ≡ size_of b + 0 = total-cons b [] in
+        let fronts : total_of named ≡ total_of h.front = omega (arith, counts, ap total_of h.is, total-append h.front (b ∷ []), one) in
+        let same : named ≡ h.front = same_fronts named h.front rest (b ∷ []) (sym e ∙ h.is) fronts in
+        ap (λ (xs : List Batch). xs ++ b ∷ []) same ∙ sym h.is,
+    λ s.
+        let one : total_of (b ∷ []) ≡ size_of b + 0 = total-cons b [] in
+        let counts : total_of named + size_of b ≡ total_of batches = omega (arith, ap total_of s, total-append named (b ∷ []), one) in
+        and_from (nat_eq (total_of named + size_of b) (total_of batches)) (is_last batches b)
+        ((Decides-eqb (total_of named + size_of b) (total_of batches)).1 counts) (subst (λ (xs : List Batch). is_last xs b ≡ true) s
+        (is_last_of named b)),
+  )

@@ -83,42 +83,36 @@ never_back f start Fine all telling xs x w e =
 
 same_none : {A : Type 0} (f : List ℕ → A → List ℕ) (start : List ℕ) (Fine : A → Type 0) (all : List (List ℕ)) → Telling f start Fine all
     → SameFrom f start Fine all []
-same_none f start Fine all telling ys fx fy wx wy e =
-    elim (ends ys) [
-      | inl none ↦ sym none
-      | inr h ↦
-          absurd (never_back f start Fine all telling h.front h.last
-          (subst (λ (v : List _). Within (trail f start v) all) h.is wy)
-          (sym (e ∙ ap (after f start) h.is)))
-    ]
+same_none f start Fine all telling ys fx fy wx wy e = elim (ends ys) [
+  | inl none ↦ sym none
+  | inr h ↦
+      absurd (never_back f start Fine all telling h.front h.last (subst (λ (v : List _). Within (trail f start v) all) h.is wy)
+      (sym (e ∙ ap (after f start) h.is)))
+]
 
 same_more : {A : Type 0} (f : List ℕ → A → List ℕ) (start : List ℕ) (Fine : A → Type 0) (all : List (List ℕ)) → Telling f start Fine all
     → IsClear all → (xs : List A) (x : A) → SameFrom f start Fine all xs → SameFrom f start Fine all (xs ++ x ∷ [])
-same_more {A} f start Fine all telling clear xs x same ys fx fy wx wy e =
-    elim (ends ys) [
-      | inl none ↦
-          absurd (never_back f start Fine all telling xs x wx (e ∙ ap (after f start) none))
-      | inr h ↦
-          let wy' = subst (λ (v : List A). Within (trail f start v) all) h.is wy in
-          let fy' = subst (λ (v : List A). AllByRecursion Fine v) h.is fy in
-          let digests : sha256 (f (after f start xs) x) ≡ sha256 (f (after f start h.front) h.last) =
-          sym (after-push f start xs x) ∙ e ∙ ap (after f start) h.is ∙ after-push f start h.front h.last in
-          let messages = clear.apart (f (after f start xs) x) (f (after f start h.front) h.last)
-          (trail_last f start xs x all wx) (trail_last f start h.front h.last all wy') digests in
-          let parts = telling.tells (after f start xs) (after f start h.front) x h.last
-          (length-after f start xs telling.sized) (length-after f start h.front telling.sized)
-          ((each_right Fine xs (x ∷ []) fx).0) ((each_right Fine h.front (h.last ∷ []) fy').0) messages in
-          let fronts : xs ≡ h.front = same h.front (each_left Fine xs (x ∷ []) fx)
-          (each_left Fine h.front (h.last ∷ []) fy') (trail_front f start xs (x ∷ []) all wx)
-          (trail_front f start h.front (h.last ∷ []) all wy') parts.0 in
-          let lasts : x ≡ h.last = parts.1 in
-          let is : ys ≡ h.front ++ h.last ∷ [] = h.is in
-          cc
-    ]
+same_more {A} f start Fine all telling clear xs x same ys fx fy wx wy e = elim (ends ys) [
+  | inl none ↦ absurd (never_back f start Fine all telling xs x wx (e ∙ ap (after f start) none))
+  | inr h ↦
+      let wy' = subst (λ (v : List A). Within (trail f start v) all) h.is wy in
+      let fy' = subst (λ (v : List A). AllByRecursion Fine v) h.is fy in
+      let digests : sha256 (f (after f start xs) x) ≡ sha256 (f (after f start h.front) h.last) =
+      sym (after-push f start xs x) ∙ e ∙ ap (after f start) h.is ∙ after-push f start h.front h.last in
+      let messages = clear.apart (f (after f start xs) x) (f (after f start h.front) h.last)
+      (trail_last f start xs x all wx) (trail_last f start h.front h.last all wy') digests in
+      let parts = telling.tells (after f start xs) (after f start h.front) x h.last
+      (length-after f start xs telling.sized) (length-after f start h.front telling.sized)
+      ((each_right Fine xs (x ∷ []) fx).0) ((each_right Fine h.front (h.last ∷ []) fy').0) messages in
+      let fronts : xs ≡ h.front = same h.front (each_left Fine xs (x ∷ []) fx) (each_left Fine h.front (h.last ∷ []) fy')
+      (trail_front f start xs (x ∷ []) all wx) (trail_front f start h.front (h.last ∷ []) all wy') parts.0 in
+      let lasts : x ≡ h.last = parts.1 in
+      let is : ys ≡ h.front ++ h.last ∷ [] = h.is in
+      cc
+]
 
 -- equal ends, equal lists
 pub same_chains : {A : Type 0} (f : List ℕ → A → List ℕ) (start : List ℕ) (Fine : A → Type 0) (all : List (List ℕ))
     → Telling f start Fine all → IsClear all → (xs : List A) → SameFrom f start Fine all xs
 same_chains f start Fine all telling clear xs =
-    by_last (SameFrom f start Fine all) (same_none f start Fine all telling)
-    (same_more f start Fine all telling clear) xs
+    by_last (SameFrom f start Fine all) (same_none f start Fine all telling) (same_more f start Fine all telling clear) xs

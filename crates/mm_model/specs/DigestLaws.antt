@@ -19,51 +19,28 @@ pub heads_of : (a b : ℕ) (xs ys : List ℕ) → a ∷ xs ≡ b ∷ ys → a �
 heads_of a b xs ys e = cc
 
 pub tagged_parts : (tag tag' : ℕ) (s t x y : List ℕ) → length s ≡ 32 → length t ≡ 32 → tag ∷ (s ++ x) ≡ tag' ∷ (t ++ y) → (s ≡ t) × (x ≡ y)
-tagged_parts tag tag' s t x y ls lt e =
-    let tails : s ++ x ≡ t ++ y = cc in
-    append-injective s t x y (ls ∙ sym lt) tails
+tagged_parts tag tag' s t x y ls lt e = let tails : s ++ x ≡ t ++ y = cc in append-injective s t x y (ls ∙ sym lt) tails
 
 link_tells : (s t : List ℕ) (b c : Batch) → length s ≡ 32 → length t ≡ 32 → link_message s b ≡ link_message t c → (s ≡ t) × (b ≡ c)
-link_tells s t (One x) (One y) ls lt e =
-    let both = tagged_parts 1 1 s t x y ls lt e in (both.0, ap One both.1)
+link_tells s t (One x) (One y) ls lt e = let both = tagged_parts 1 1 s t x y ls lt e in (both.0, ap One both.1)
 link_tells s t (One x) (Many y) ls lt e = absurd (omega (arith, heads_of 1 4 (s ++ x) (t ++ y) e))
 link_tells s t (Many x) (One y) ls lt e = absurd (omega (arith, heads_of 4 1 (s ++ x) (t ++ y) e))
-link_tells s t (Many x) (Many y) ls lt e =
-    let both = tagged_parts 4 4 s t x y ls lt e in (both.0, ap Many both.1)
+link_tells s t (Many x) (Many y) ls lt e = let both = tagged_parts 4 4 s t x y ls lt e in (both.0, ap Many both.1)
 
 link_starts_not : (id : ℕ) (s : List ℕ) (b : Batch) → link_message s b ≢ start_message Basic id
 link_starts_not id s (One x) e = omega (arith, heads_of 1 0 (s ++ x) (1 ∷ id ∷ []) e)
 link_starts_not id s (Many x) e = omega (arith, heads_of 4 0 (s ++ x) (1 ∷ id ∷ []) e)
 
-link_telling : (id : ℕ) (all : List (List ℕ)) → IsClear all → Contains all (start_message Basic id)
-    → Telling link_message (start_of Basic id) (λ _. Unit {0}) all
-unfolding start_of
-link_telling id all clear starts =
-    record {
-      sized = length-start_of Basic id;
-      leaves = λ s b c e. link_starts_not id s b (clear.apart (link_message s b) (start_message Basic id) c starts e);
-      tells = λ s t b c ls lt u v e. link_tells s t b c ls lt e;
-    }
-
 extended_telling : (all : List (List ℕ)) → IsClear all → Telling extended_message zero_bytes (λ _. Unit {0}) all
-extended_telling all clear =
-    record {
-      sized = length-zero_bytes;
-      leaves = λ s v c e. clear.nonzero (extended_message s v) c e;
-      tells = λ s t v w ls lt u u' e. append-injective s t v w (ls ∙ sym lt) e;
-    }
+extended_telling all clear = record {
+  sized = length-zero_bytes;
+  leaves = λ s v c e. clear.nonzero (extended_message s v) c e;
+  tells = λ s t v w ls lt u u' e. append-injective s t v w (ls ∙ sym lt) e;
+}
 
 each_unit : {A : Type 0} (xs : List A) → AllByRecursion (λ (x : A). Unit {0}) xs
 each_unit [] = tt
 each_unit (x ∷ xs) = (tt, each_unit xs)
-
-pub same_summaries : (id : ℕ) (all : List (List ℕ)) → IsClear all → Contains all (start_message Basic id) → (bs cs : List Batch)
-    → Within (trail link_message (start_of Basic id) bs) all → Within (trail link_message (start_of Basic id) cs) all
-    → summary_of id bs ≡ summary_of id cs → bs ≡ cs
-unfolding summary_of
-same_summaries id all clear starts bs cs wb wc e =
-    same_chains link_message (start_of Basic id) (λ _. Unit {0}) all (link_telling id all clear starts) clear bs cs
-    (each_unit bs) (each_unit cs) wb wc e
 
 -- equal register values, equal lists
 pub same_registers : (all : List (List ℕ)) → IsClear all → (vs ws : List (List ℕ)) → Within (register_trail vs) all
@@ -73,72 +50,82 @@ same_registers all clear vs ws wv ww e =
     same_chains extended_message zero_bytes (λ _. Unit {0}) all (extended_telling all clear) clear vs ws
     (each_unit vs) (each_unit ws) wv ww e
 
-closing_telling : (id : ℕ) (all : List (List ℕ)) → IsClear all → Contains all (start_message Opt id)
-    → Telling closing_message (start_of Opt id) (λ vs. Within (register_trail vs) all) all
-unfolding start_of register_of
-closing_telling id all clear starts =
-    record {
-      sized = length-start_of Opt id;
-      leaves = λ a vs c e.
-          let same : closing_message a vs ≡ start_message Opt id =
-          clear.apart (closing_message a vs) (start_message Opt id) c starts e in
-          omega (arith, heads_of 3 0 (a ++ after extended_message zero_bytes vs) (2 ∷ id ∷ []) same);
-      tells = λ a b vs ws la lb lv lw e.
-          let both = tagged_parts 3 3 a b (after extended_message zero_bytes vs) (after extended_message zero_bytes ws) la lb e in
-          (both.0, same_registers all clear vs ws lv lw both.1);
-    }
+module _ (id : ℕ) (all : List (List ℕ)) where
+  link_telling : IsClear all → Contains all (start_message Basic id) → Telling link_message (start_of Basic id) (λ _. Unit {0}) all
+  unfolding start_of
+  link_telling clear starts = record {
+    sized = length-start_of Basic id;
+    leaves = λ s b c e. link_starts_not id s b (clear.apart (link_message s b) (start_message Basic id) c starts e);
+    tells = λ s t b c ls lt u v e. link_tells s t b c ls lt e;
+  }
 
--- equal anchors, equal segments
-pub same_anchors : (id : ℕ) (all : List (List ℕ)) → IsClear all → Contains all (start_message Opt id) → (ls ks : List (List (List ℕ)))
-    → AllByRecursion (λ vs. Within (register_trail vs) all) ls → AllByRecursion (λ vs. Within (register_trail vs) all) ks
-    → Within (trail closing_message (start_of Opt id) ls) all → Within (trail closing_message (start_of Opt id) ks) all
-    → anchor_of id ls ≡ anchor_of id ks → ls ≡ ks
-unfolding anchor_of
-same_anchors id all clear starts ls ks fl fk wl wk e =
-    same_chains closing_message (start_of Opt id) (λ vs. Within (register_trail vs) all) all
-    (closing_telling id all clear starts) clear ls ks fl fk wl wk e
+  pub same_summaries : IsClear all → Contains all (start_message Basic id) → (bs cs : List Batch)
+      → Within (trail link_message (start_of Basic id) bs) all → Within (trail link_message (start_of Basic id) cs) all
+      → summary_of id bs ≡ summary_of id cs → bs ≡ cs
+  unfolding summary_of
+  same_summaries clear starts bs cs wb wc e =
+      same_chains link_message (start_of Basic id) (λ _. Unit {0}) all (link_telling clear starts) clear bs cs
+      (each_unit bs) (each_unit cs) wb wc e
+
+  closing_telling : IsClear all → Contains all (start_message Opt id) → Telling closing_message (start_of Opt id)
+      (λ vs. Within (register_trail vs) all) all
+  unfolding start_of register_of
+  closing_telling clear starts = record {
+    sized = length-start_of Opt id;
+    leaves = λ a vs c e.
+        let same : closing_message a vs ≡ start_message Opt id = clear.apart (closing_message a vs) (start_message Opt id) c starts e in
+        omega (arith, heads_of 3 0 (a ++ after extended_message zero_bytes vs) (2 ∷ id ∷ []) same);
+    tells = λ a b vs ws la lb lv lw e.
+        let both = tagged_parts 3 3 a b (after extended_message zero_bytes vs) (after extended_message zero_bytes ws) la lb e in
+        (both.0, same_registers all clear vs ws lv lw both.1);
+  }
+
+  -- equal anchors, equal segments
+  pub same_anchors : IsClear all → Contains all (start_message Opt id) → (ls ks : List (List (List ℕ)))
+      → AllByRecursion (λ vs. Within (register_trail vs) all) ls → AllByRecursion (λ vs. Within (register_trail vs) all) ks
+      → Within (trail closing_message (start_of Opt id) ls) all → Within (trail closing_message (start_of Opt id) ks) all
+      → anchor_of id ls ≡ anchor_of id ks → ls ≡ ks
+  unfolding anchor_of
+  same_anchors clear starts ls ks fl fk wl wk e =
+      same_chains closing_message (start_of Opt id) (λ vs. Within (register_trail vs) all) all
+      (closing_telling clear starts) clear ls ks fl fk wl wk e
 
 -- a register that took in a value doesn't read zero
 pub register_nonzero : (all : List (List ℕ)) → IsClear all → (vs : List (List ℕ)) → Within (register_trail vs) all
     → register_of vs ≡ zero_bytes → vs ≡ []
 unfolding register_of
-register_nonzero all clear vs w e =
-    same_registers all clear vs [] w tt e
+register_nonzero all clear vs w e = same_registers all clear vs [] w tt e
 
-guard_tells : (barrier : List ℕ) (b c : Batch) → guard_message barrier b ≡ guard_message barrier c → b ≡ c
-guard_tells barrier (One x) (One y) e =
-    let tails : barrier ++ x ≡ barrier ++ y = cc in ap One (append_cancel_left barrier x y tails)
-guard_tells barrier (One x) (Many y) e = absurd (omega (arith, heads_of 2 5 (barrier ++ x) (barrier ++ y) e))
-guard_tells barrier (Many x) (One y) e = absurd (omega (arith, heads_of 5 2 (barrier ++ x) (barrier ++ y) e))
-guard_tells barrier (Many x) (Many y) e =
-    let tails : barrier ++ x ≡ barrier ++ y = cc in ap Many (append_cancel_left barrier x y tails)
+module _ (barrier : List ℕ) where
+  guard_tells : (b c : Batch) → guard_message barrier b ≡ guard_message barrier c → b ≡ c
+  guard_tells (One x) (One y) e = let tails : barrier ++ x ≡ barrier ++ y = cc in ap One (append_cancel_left barrier x y tails)
+  guard_tells (One x) (Many y) e = absurd (omega (arith, heads_of 2 5 (barrier ++ x) (barrier ++ y) e))
+  guard_tells (Many x) (One y) e = absurd (omega (arith, heads_of 5 2 (barrier ++ x) (barrier ++ y) e))
+  guard_tells (Many x) (Many y) e = let tails : barrier ++ x ≡ barrier ++ y = cc in ap Many (append_cancel_left barrier x y tails)
 
--- equal guards, equal batches
-pub same_guards : (barrier : List ℕ) (all : List (List ℕ)) → IsClear all → (b c : Batch) → Contains all (guard_message barrier b)
-    → Contains all (guard_message barrier c) → guard barrier b ≡ guard barrier c → b ≡ c
-unfolding guard
-same_guards barrier all clear b c hb hc e =
-    guard_tells barrier b c (clear.apart (guard_message barrier b) (guard_message barrier c) hb hc e)
+  -- equal guards, equal batches
+  pub same_guards : (all : List (List ℕ)) → IsClear all → (b c : Batch) → Contains all (guard_message barrier b)
+      → Contains all (guard_message barrier c) → guard barrier b ≡ guard barrier c → b ≡ c
+  unfolding guard
+  same_guards all clear b c hb hc e = guard_tells b c (clear.apart (guard_message barrier b) (guard_message barrier c) hb hc e)
 
-pub same_own_values : (barrier : List ℕ) (all : List (List ℕ)) → IsClear all → (bs cs : List Batch)
-    → Within (map (guard_message barrier) bs) all → Within (map (guard_message barrier) cs) all
-    → own_values barrier bs ≡ own_values barrier cs → bs ≡ cs
-same_own_values barrier all clear [] [] wb wc e = refl
-same_own_values barrier all clear [] (c ∷ cs) wb wc e = absurd (cc)
-same_own_values barrier all clear (b ∷ bs) [] wb wc e = absurd (cc)
-same_own_values barrier all clear (b ∷ bs) (c ∷ cs) wb wc e =
-    let heads : guard barrier b ≡ guard barrier c = cc in
-    let tails : own_values barrier bs ≡ own_values barrier cs = cc in
-    let first : b ≡ c = same_guards barrier all clear b c wb.0 wc.0 heads in
-    let others : bs ≡ cs = same_own_values barrier all clear bs cs wb.1 wc.1 tails in
-    cc
+  pub same_own_values : (all : List (List ℕ)) → IsClear all → (bs cs : List Batch) → Within (map (guard_message barrier) bs) all
+      → Within (map (guard_message barrier) cs) all → own_values barrier bs ≡ own_values barrier cs → bs ≡ cs
+  same_own_values all clear [] [] wb wc e = refl
+  same_own_values all clear [] (c ∷ cs) wb wc e = absurd (cc)
+  same_own_values all clear (b ∷ bs) [] wb wc e = absurd (cc)
+  same_own_values all clear (b ∷ bs) (c ∷ cs) wb wc e =
+      let heads : guard barrier b ≡ guard barrier c = cc in
+      let tails : own_values barrier bs ≡ own_values barrier cs = cc in
+      let first : b ≡ c = same_guards all clear b c wb.0 wc.0 heads in
+      let others : bs ≡ cs = same_own_values all clear bs cs wb.1 wc.1 tails in
+      cc
 
 -- equal links, equal batches
 pub same_links : (all : List (List ℕ)) → IsClear all → (s t : List ℕ) (b c : Batch) → length s ≡ 32 → length t ≡ 32
     → Contains all (link_message s b) → Contains all (link_message t c) → link s b ≡ link t c → b ≡ c
 unfolding link
-same_links all clear s t b c ls lt hb hc e =
-    (link_tells s t b c ls lt (clear.apart (link_message s b) (link_message t c) hb hc e)).1
+same_links all clear s t b c ls lt hb hc e = (link_tells s t b c ls lt (clear.apart (link_message s b) (link_message t c) hb hc e)).1
 
 pub summary-push : (id : ℕ) (bs : List Batch) (b : Batch) → summary_of id (bs ++ b ∷ []) ≡ link (summary_of id bs) b
 unfolding summary_of link

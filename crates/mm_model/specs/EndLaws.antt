@@ -55,5 +55,4 @@ pub basic_messages : (meaning : Meaning) (key : List ℕ) (y : History) (b : Bat
     → Within (history_messages (basic meaning key) y) all → Contains all (link_message (summary_of meaning.id y.batches) b)
     → Within (history_messages (basic meaning key) (moved (basic meaning key) y (Commit b))) all
 unfolding summary_of
-basic_messages meaning key y b all h c =
-    (h.0, trail_push link_message (start_of Basic meaning.id) y.batches b all h.1 c)
+basic_messages meaning key y b all h c = (h.0, trail_push link_message (start_of Basic meaning.id) y.batches b all h.1 c)

@@ -34,14 +34,8 @@ pub same_anchor : (id : ℕ) (all : List (List ℕ)) → Clears id all → (ls k
 same_anchor id all clears ls ks vs ws l k = (
   λ t. same_anchors id all clears.clear clears.starts ls ks l.inner k.inner l.outer k.outer
       ((bytes_eq-Decides (anchor_of id ls) (anchor_of id ks)).0 t),
-  λ e. (bytes_eq-Decides (anchor_of id ls) (anchor_of id ks)).1 (ap (anchor_of id) e),
-)
-
-pub same_register : (all : List (List ℕ)) → IsClear all → (vs ws : List (List ℕ)) → Within (register_trail vs) all
-    → Within (register_trail ws) all → Decides (bytes_eq (register_of vs) (register_of ws)) (vs ≡ ws)
-same_register all clear vs ws l k = (
-  λ t. same_registers all clear vs ws l k ((bytes_eq-Decides (register_of vs) (register_of ws)).0 t),
-  λ e. (bytes_eq-Decides (register_of vs) (register_of ws)).1 (ap register_of e),
+  λ e. (bytes_eq-Decides (anchor_of id ls) (anchor_of id ks)).1
+      (ap (anchor_of id) e),
 )
 
 -- what a register reads before every value is zero
@@ -49,23 +43,22 @@ pub reads_zero : register_of [] ≡ zero_bytes
 unfolding register_of
 reads_zero = refl
 
-pub zero_register : (all : List (List ℕ)) → IsClear all → (vs : List (List ℕ)) → Within (register_trail vs) all
-    → Decides (bytes_eq (register_of vs) zero_bytes) (vs ≡ [])
-zero_register all clear vs l = (
-  λ t. register_nonzero all clear vs l ((bytes_eq-Decides (register_of vs) zero_bytes).0 t),
-  λ e. (bytes_eq-Decides (register_of vs) zero_bytes).1 (ap register_of e ∙ reads_zero),
-)
+module _ (all : List (List ℕ)) where
+  pub same_register : IsClear all → (vs ws : List (List ℕ)) → Within (register_trail vs) all → Within (register_trail ws) all
+      → Decides (bytes_eq (register_of vs) (register_of ws)) (vs ≡ ws)
+  same_register clear vs ws l k = (
+    λ t. same_registers all clear vs ws l k ((bytes_eq-Decides (register_of vs) (register_of ws)).0 t),
+    λ e.
+        (bytes_eq-Decides (register_of vs) (register_of ws)).1 (ap register_of e),
+  )
 
-pub fresh_tells : (id : ℕ) (all : List (List ℕ)) → Clears id all
-    → (flag : Bool) (closed : List (List (List ℕ))) (items : List (List ℕ)) (before : List (List (List ℕ))) (rest : List (List ℕ))
-    → Listed id all closed items → Listed id all before rest
-    → Decides (fits_fresh flag (anchor_of id closed) (register_of items) (point_of id before rest)) (Fresh flag closed items before rest)
-fresh_tells id all clears true closed items before rest k l =
-    Decides-and (bytes_eq (anchor_of id before) (anchor_of id closed)) (bytes_eq (register_of rest) (register_of items))
-    (same_anchor id all clears before closed rest items l k) (same_register all clears.clear rest items l.last k.last)
-fresh_tells id all clears false closed items before rest k l =
-    Decides-and (bytes_eq (anchor_of id before) (anchor_of id closed)) (bytes_eq (register_of rest) zero_bytes)
-    (same_anchor id all clears before closed rest items l k) (zero_register all clears.clear rest l.last)
+  pub zero_register : IsClear all → (vs : List (List ℕ)) → Within (register_trail vs) all → Decides (bytes_eq (register_of vs) zero_bytes)
+      (vs ≡ [])
+  zero_register clear vs l = (
+    λ t. register_nonzero all clear vs l ((bytes_eq-Decides (register_of vs) zero_bytes).0 t),
+    λ e.
+        (bytes_eq-Decides (register_of vs) zero_bytes).1 (ap register_of e ∙ reads_zero),
+  )
 
 -- the register's messages with one more value
 pub listed_value : (all : List (List ℕ)) (rest : List (List ℕ)) (v : List ℕ) → Within (register_trail rest) all
@@ -73,37 +66,44 @@ pub listed_value : (all : List (List ℕ)) (rest : List (List ℕ)) (v : List �
 unfolding register_of
 listed_value all rest v l c = trail_push extended_message zero_bytes rest v all l c
 
--- the messages with the values closed into one more segment
-pub listed_segment : (id : ℕ) (all : List (List ℕ)) (before : List (List (List ℕ))) (values : List (List ℕ))
-    → AllByRecursion (λ vs. Within (register_trail vs) all) before → Within (trail closing_message (start_of Opt id) before) all
-    → Within (register_trail values) all → Contains all (anchored_message (anchor_of id before) (register_of values))
-    → Listed id all (before ++ values ∷ []) []
-unfolding register_of anchor_of
-listed_segment id all before values inner outer last c =
-    record {
-      inner = each_append (λ vs. Within (register_trail vs) all) before (values ∷ []) inner (last, tt);
-      outer = trail_push closing_message (start_of Opt id) before values all outer c;
-      last = tt;
-    }
+module _ (id : ℕ) (all : List (List ℕ)) where
+  pub fresh_tells : Clears id all → (flag : Bool) (closed : List (List (List ℕ))) (items : List (List ℕ)) (before : List (List (List ℕ)))
+      (rest : List (List ℕ)) → Listed id all closed items → Listed id all before rest
+      → Decides (fits_fresh flag (anchor_of id closed) (register_of items) (point_of id before rest)) (Fresh flag closed items before rest)
+  fresh_tells clears true closed items before rest k l =
+      Decides-and (bytes_eq (anchor_of id before) (anchor_of id closed)) (bytes_eq (register_of rest) (register_of items))
+      (same_anchor id all clears before closed rest items l k) (same_register all clears.clear rest items l.last k.last)
+  fresh_tells clears false closed items before rest k l =
+      Decides-and (bytes_eq (anchor_of id before) (anchor_of id closed)) (bytes_eq (register_of rest) zero_bytes)
+      (same_anchor id all clears before closed rest items l k) (zero_register all clears.clear rest l.last)
 
-pub again_tells : (id : ℕ) (all : List (List ℕ)) → Clears id all
-    → (flag : Bool) (closed : List (List (List ℕ))) (items : List (List ℕ)) (v : List ℕ) (before : List (List (List ℕ)))
-    (rest : List (List ℕ)) → Listed id all closed items → Listed id all before rest
-    → Within (form_messages (anchor_of id before) (register_of rest) v) all
-    → Decides (fits_again flag (anchor_of id closed) (register_of items) v (point_of id before rest))
-    (Again flag closed items v before rest)
-again_tells id all clears true closed items v before rest k l m =
-    let longer = listed_value all rest v l.last m.0 in
-    Decides-and (bytes_eq (anchor_of id before) (anchor_of id closed)) (bytes_eq (extended_of (register_of rest) v) (register_of items))
-    (same_anchor id all clears before closed rest items l k)
-    (subst (λ (d : List ℕ). Decides (bytes_eq d (register_of items)) (rest ++ v ∷ [] ≡ items)) (register-push rest v)
-    (same_register all clears.clear (rest ++ v ∷ []) items longer k.last))
-again_tells id all clears false closed items v before rest k l m =
-    let longer = listed_value all rest v l.last m.0 in
-    let called : Contains all (anchored_message (anchor_of id before) (register_of (rest ++ v ∷ []))) =
-    subst (λ (d : List ℕ). Contains all (anchored_message (anchor_of id before) d)) (sym (register-push rest v)) m.1.0 in
-    let closes = listed_segment id all before (rest ++ v ∷ []) l.inner l.outer longer called in
-    let is : anchor_of id (before ++ (rest ++ v ∷ []) ∷ []) ≡ anchored_of (anchor_of id before) (extended_of (register_of rest) v) =
-    anchor-push id before (rest ++ v ∷ []) ∙ ap (anchored_of (anchor_of id before)) (register-push rest v) in
-    subst (λ (d : List ℕ). Decides (bytes_eq d (anchor_of id closed)) (before ++ (rest ++ v ∷ []) ∷ [] ≡ closed)) is
-    (same_anchor id all clears (before ++ (rest ++ v ∷ []) ∷ []) closed [] items closes k)
+  -- the messages with the values closed into one more segment
+  pub listed_segment : (before : List (List (List ℕ))) (values : List (List ℕ)) → AllByRecursion (λ vs. Within (register_trail vs) all)
+      before → Within (trail closing_message (start_of Opt id) before) all → Within (register_trail values) all
+      → Contains all (anchored_message (anchor_of id before) (register_of values)) → Listed id all (before ++ values ∷ []) []
+  unfolding register_of anchor_of
+  listed_segment before values inner outer last c = record {
+    inner = each_append (λ vs. Within (register_trail vs) all) before (values ∷ []) inner (last, tt);
+    outer = trail_push closing_message (start_of Opt id) before values all outer c;
+    last = tt;
+  }
+
+  pub again_tells : Clears id all → (flag : Bool) (closed : List (List (List ℕ))) (items : List (List ℕ)) (v : List ℕ)
+      (before : List (List (List ℕ))) (rest : List (List ℕ)) → Listed id all closed items → Listed id all before rest
+      → Within (form_messages (anchor_of id before) (register_of rest) v) all
+      → Decides (fits_again flag (anchor_of id closed) (register_of items) v (point_of id before rest)) (Again flag closed items v before
+      rest)
+  again_tells clears true closed items v before rest k l m =
+      let longer = listed_value all rest v l.last m.0 in
+      Decides-and (bytes_eq (anchor_of id before) (anchor_of id closed)) (bytes_eq (extended_of (register_of rest) v) (register_of items))
+      (same_anchor id all clears before closed rest items l k) (subst (λ (d : List ℕ). Decides (bytes_eq d (register_of items))
+      (rest ++ v ∷ [] ≡ items)) (register-push rest v) (same_register all clears.clear (rest ++ v ∷ []) items longer k.last))
+  again_tells clears false closed items v before rest k l m =
+      let longer = listed_value all rest v l.last m.0 in
+      let called : Contains all (anchored_message (anchor_of id before) (register_of (rest ++ v ∷ []))) =
+      subst (λ (d : List ℕ). Contains all (anchored_message (anchor_of id before) d)) (sym (register-push rest v)) m.1.0 in
+      let closes = listed_segment before (rest ++ v ∷ []) l.inner l.outer longer called in
+      let is : anchor_of id (before ++ (rest ++ v ∷ []) ∷ []) ≡ anchored_of (anchor_of id before) (extended_of (register_of rest) v) =
+      anchor-push id before (rest ++ v ∷ []) ∙ ap (anchored_of (anchor_of id before)) (register-push rest v) in
+      subst (λ (d : List ℕ). Decides (bytes_eq d (anchor_of id closed)) (before ++ (rest ++ v ∷ []) ∷ [] ≡ closed)) is
+      (same_anchor id all clears (before ++ (rest ++ v ∷ []) ∷ []) closed [] items closes k)

@@ -67,14 +67,12 @@ committed Opt true y b =
     record y {
       batches = y.batches ++ b ∷ [];
       current = y.current ++ b ∷ [];
-      items = y.items
-          ++ Own b ∷ [];
+      items = y.items ++ Own b ∷ [];
     }
 committed Opt false y b =
     record y {
       batches = y.batches ++ b ∷ [];
-      current = b
-          ∷ [];
+      current = b ∷ [];
       is_open = true;
       items = renamed y.items b;
     }

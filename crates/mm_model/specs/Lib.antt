@@ -31,3 +31,6 @@ pub mod ChainLaws
 pub mod EndLaws
 pub mod DigestLaws
 pub mod FormLaws
+pub mod FitLaws
+pub mod BasicLaws
+pub mod LongLaws

@@ -12,17 +12,15 @@ pub record HasLast {A : Type 0} (xs : List A) : Type 0 where
 -- a list is empty or has a last item
 pub ends : {A : Type 0} (xs : List A) → (xs ≡ []) ⊎ HasLast xs
 ends [] = inl refl
-ends (x ∷ xs) =
-    elim (ends xs) [
-      | inl e ↦ inr (record { front = []; last = x; is = ap (λ v. x ∷ v) e })
-      | inr h ↦ inr (record { front = x ∷ h.front; last = h.last; is = ap (λ v. x ∷ v) h.is })
-    ]
+ends (x ∷ xs) = elim (ends xs) [
+  | inl e ↦ inr (record { front = []; last = x; is = ap (λ v. x ∷ v) e })
+  | inr h ↦ inr (record { front = x ∷ h.front; last = h.last; is = ap (λ v. x ∷ v) h.is })
+]
 
 grown : {A : Type 0} (P : List A → Type 0) → ((xs : List A) (x : A) → P xs → P (xs ++ x ∷ [])) → (done rest : List A) → P done
     → P (done ++ rest)
 grown P step done [] p = subst P (sym (append-nil done)) p
-grown P step done (x ∷ rest) p =
-    subst P (append_assoc done (x ∷ []) rest) (grown P step (done ++ x ∷ []) rest (step done x p))
+grown P step done (x ∷ rest) p = subst P (append_assoc done (x ∷ []) rest) (grown P step (done ++ x ∷ []) rest (step done x p))
 
 -- what holds of the empty list, and goes on to one more item at the end, holds of each list
 pub by_last : {A : Type 0} (P : List A → Type 0) → P [] → ((xs : List A) (x : A) → P xs → P (xs ++ x ∷ [])) → (xs : List A) → P xs
@@ -46,5 +44,6 @@ each_self front [] = tt
 each_self {A} front (x ∷ xs) =
     let P : List A → Type 0 = λ w. AllByRecursion (Contains w) xs in (
       Contains-append_right front (x ∷ xs) x (0, omega arith, refl),
-      subst P (append_assoc front (x ∷ []) xs) (each_self (front ++ x ∷ []) xs),
+      subst
+          P (append_assoc front (x ∷ []) xs) (each_self (front ++ x ∷ []) xs),
     )

@@ -38,8 +38,7 @@ nothing_left (x ∷ xs) e = absurd (omega (arith, e))
 -- segments that are not empty hold nothing only where there is none
 pub no_segments : {A : Type 0} (xs : List (List A)) → AllByRecursion (λ x. is_empty x ≡ false) xs → length (joined xs) ≡ 0 → xs ≡ []
 no_segments [] filled e = refl
-no_segments (x ∷ xs) filled e =
-    absurd (let l = not_empty x filled.0 in let m = length-append x (joined xs) in omega (arith, l, m, e))
+no_segments (x ∷ xs) filled e = absurd (let l = not_empty x filled.0 in let m = length-append x (joined xs) in omega (arith, l, m, e))
 
 -- what a platform has taken in after its closed segments: the register's items while a segment is open
 abbrev pub taken_in : {A : Type 0} → Bool → List A → List A
@@ -57,8 +56,7 @@ Again false closed items v before rest = before ++ (rest ++ v ∷ []) ∷ [] ≡
 
 pub fresh_joins : {A : Type 0} (flag : Bool) (closed : List (List A)) (items : List A) (before : List (List A)) (rest : List A)
     → Fresh flag closed items before rest → joined before ++ rest ≡ joined closed ++ taken_in flag items
-fresh_joins flag closed items before rest f =
-    ap (λ v. joined v ++ rest) f.0 ∙ ap (λ v. joined closed ++ v) f.1
+fresh_joins flag closed items before rest f = ap (λ v. joined v ++ rest) f.0 ∙ ap (λ v. joined closed ++ v) f.1
 
 pub again_joins : {A : Type 0} (flag : Bool) (closed : List (List A)) (items : List A) (v : A) (before : List (List A)) (rest : List A)
     → Again flag closed items v before rest → (joined before ++ rest) ++ v ∷ [] ≡ joined closed ++ taken_in flag items
@@ -81,23 +79,18 @@ IsHeld false items = Unit {0}
 only_one : {A : Type 0} (segment : List A) (later : List (List A)) (n : ℕ) → AllByRecursion (λ x. is_empty x ≡ false) later
     → (n ≤ length segment) ⊎ ((later ≡ []) × (false ≡ false)) → n ≡ length segment + length (joined later) → later ≡ []
 only_one segment later n filled reach e =
-    elim reach [
-      | inl within ↦ no_segments later filled (omega (arith, within, e))
-      | inr last ↦ last.0
-    ]
+    elim reach [ inl within ↦ no_segments later filled (omega (arith, within, e)) | inr last ↦ last.0 ]
 
 -- a path ends within the next segment where a segment is open, or another one follows
 at_most : {A : Type 0} (flag : Bool) (segment : List A) (later : List (List A)) (n : ℕ)
     → (n ≤ length segment) ⊎ ((later ≡ []) × (flag ≡ false)) → (is_empty later ≡ false) ⊎ (flag ≡ true) → n ≤ length segment
-at_most flag segment later n reach goes =
-    elim reach [
-      | inl within ↦ within
-      | inr last ↦
-          elim goes [
-            | inl some ↦ absurd (true_not_false (ap is_empty (sym last.0) ∙ some))
-            | inr is_open ↦ absurd (true_not_false (sym is_open ∙ last.1))
-          ]
-    ]
+at_most flag segment later n reach goes = elim reach [
+  | inl within ↦ within
+  | inr last ↦ elim goes [
+    | inl some ↦ absurd (true_not_false (ap is_empty (sym last.0) ∙ some))
+    | inr is_open ↦ absurd (true_not_false (sym is_open ∙ last.1))
+  ]
+]
 
 -- Where the values up to the end of the path are all that counts, it is fresh, or it is once its segment is closed.
 -- By the segments after the path.
@@ -106,23 +99,23 @@ fresh_after : {A : Type 0} (flag : Bool) (before : List (List A)) (items rest : 
     → rest ≡ joined later ++ taken_in flag items → Fresh flag (before ++ later) items before rest ⊎ (is_empty rest ≡ false)
     × Fresh flag (before ++ later) items (before ++ rest ∷ []) []
 fresh_after flag before items rest [] filled held reach e = inl (sym (append-nil before), e)
-fresh_after true before items rest (segment ∷ later) filled held reach e =
-    absurd (
+fresh_after true before items rest (segment ∷ later) filled held reach e = absurd (
     let l = ap length e in
     let m = length-append (segment ++ joined later) items in
     let k = length-append segment (joined later) in
     let h = not_empty items held in
-    elim reach [
-      | inl within ↦ omega (arith, l, m, k, h, within)
-      | inr last ↦ absurd (true_not_false last.1)
-    ])
+    elim reach [ inl within ↦ omega (arith, l, m, k, h, within) | inr last ↦ absurd (true_not_false last.1) ])
 fresh_after false before items rest (segment ∷ later) filled held reach e =
     let whole : rest ≡ segment ++ joined later = e ∙ append-nil (segment ++ joined later) in
     let none = only_one segment later (length rest) filled.1 reach (ap length whole ∙ length-append segment (joined later)) in
     let same : rest ≡ segment = whole ∙ ap (λ v. segment ++ joined v) none ∙ append-nil segment in
     inr (
       ap is_empty same ∙ filled.0,
-      (ap (λ (v : List _). before ++ v ∷ []) same ∙ ap (λ (v : List (List _)). before ++ segment ∷ v) (sym none), refl),
+      (
+        ap (λ (v : List _). before ++ v ∷ []) same ∙ ap (λ (v : List (List _)). before ++ segment ∷ v)
+            (sym none),
+        refl,
+      ),
     )
 
 -- Where one more value makes the values up to the end of the path all that counts, it leads there from the path, or
@@ -144,8 +137,7 @@ again_after true before items v rest (segment ∷ []) filled held reach e =
     let size : length rest ≡ length segment = omega (arith, l, m, k, h, within) in
     let parts = same_halves rest segment (v ∷ []) items size all in
     inr (ap is_empty parts.0 ∙ filled.0, (ap (λ (w : List _). before ++ w ∷ []) parts.0, parts.1))
-again_after true before items v rest (segment ∷ next ∷ later) filled held reach e =
-    absurd (
+again_after true before items v rest (segment ∷ next ∷ later) filled held reach e = absurd (
     let l = ap length e in
     let m = length-append rest (v ∷ []) in
     let k = length-append (segment ++ (next ++ joined later)) items in
@@ -173,9 +165,8 @@ again_after false before items v rest (segment ∷ next ∷ later) filled held r
     let last : v ∷ [] ≡ next = parts.1 ∙ ap (λ w. next ++ joined w) none ∙ append-nil next in
     inr (
       ap is_empty parts.0 ∙ filled.0,
-      append_assoc before (rest ∷ []) ((v ∷ []) ∷ [])
-          ∙ ap (λ (w : List _). before ++ w ∷ (v ∷ []) ∷ []) parts.0
-          ∙ ap (λ (w : List _). before ++ segment ∷ w ∷ []) last
+      append_assoc before (rest ∷ []) ((v ∷ []) ∷ []) ∙ ap (λ (w : List _). before ++ w ∷ (v ∷ []) ∷ [])
+          parts.0 ∙ ap (λ (w : List _). before ++ segment ∷ w ∷ []) last
           ∙ ap (λ (w : List (List _)). before ++ segment ∷ next ∷ w) (sym none),
     )
 
@@ -184,11 +175,9 @@ pub fresh_from : {A : Type 0} (flag : Bool) (closed before later : List (List A)
     → joined before ++ rest ≡ joined closed ++ taken_in flag items → Fresh flag closed items before rest ⊎ (is_empty rest ≡ false)
     × Fresh flag closed items (before ++ rest ∷ []) []
 fresh_from {A} flag closed before later items rest split filled held reach e =
-    let tails : rest ≡ joined later ++ taken_in flag items =
-    append_cancel_left (joined before) rest (joined later ++ taken_in flag items)
-    (e ∙ ap (λ (v : List (List A)). joined v ++ taken_in flag items) split
-    ∙ ap (λ (v : List A). v ++ taken_in flag items) (joined-append before later)
-    ∙ append_assoc (joined before) (joined later) (taken_in flag items)) in
+    let tails : rest ≡ joined later ++ taken_in flag items = append_cancel_left (joined before) rest (joined later ++ taken_in flag items)
+    (e ∙ ap (λ (v : List (List A)). joined v ++ taken_in flag items) split ∙ ap (λ (v : List A). v ++ taken_in flag items)
+    (joined-append before later) ∙ append_assoc (joined before) (joined later) (taken_in flag items)) in
     subst (λ (c : List (List A)). Fresh flag c items before rest ⊎ (is_empty rest ≡ false) × Fresh flag c items (before ++ rest ∷ []) [])
     (sym split) (fresh_after flag before items rest later filled held reach tails)
 
@@ -197,11 +186,9 @@ pub again_from : {A : Type 0} (flag : Bool) (closed before later : List (List A)
     → (joined before ++ rest) ++ v ∷ [] ≡ joined closed ++ taken_in flag items
     → Again flag closed items v before rest ⊎ (is_empty rest ≡ false) × Again flag closed items v (before ++ rest ∷ []) []
 again_from {A} flag closed before later items v rest split filled held reach e =
-    let tails : rest ++ v ∷ [] ≡ joined later ++ taken_in flag items =
-    append_cancel_left (joined before) (rest ++ v ∷ []) (joined later ++ taken_in flag items)
-    (sym (append_assoc (joined before) rest (v ∷ [])) ∙ e ∙ ap (λ (w : List (List A)). joined w ++ taken_in flag items) split
-    ∙ ap (λ (w : List A). w ++ taken_in flag items) (joined-append before later)
-    ∙ append_assoc (joined before) (joined later) (taken_in flag items)) in
-    subst (λ (c : List (List A)). Again flag c items v before rest ⊎ (is_empty rest ≡ false)
-    × Again flag c items v (before ++ rest ∷ []) [])
-    (sym split) (again_after flag before items v rest later filled held reach tails)
+    let tails : rest ++ v ∷ [] ≡ joined later ++ taken_in flag items = append_cancel_left (joined before) (rest ++ v ∷ [])
+    (joined later ++ taken_in flag items) (sym (append_assoc (joined before) rest (v ∷ [])) ∙ e
+    ∙ ap (λ (w : List (List A)). joined w ++ taken_in flag items) split ∙ ap (λ (w : List A). w ++ taken_in flag items)
+    (joined-append before later) ∙ append_assoc (joined before) (joined later) (taken_in flag items)) in
+    subst (λ (c : List (List A)). Again flag c items v before rest ⊎ (is_empty rest ≡ false) × Again flag c items v (before ++ rest ∷ [])
+    []) (sym split) (again_after flag before items v rest later filled held reach tails)

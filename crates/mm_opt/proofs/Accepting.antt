@@ -1,48 +1,15 @@
 -- What is found on a platform that stands at some digests is what the call by digests finds.
-use Rattle.std.proofs.Common.{◌≡◌, ℕ, ◌+◌, Bool, true, false, List, length, Result, Ok, Err, refl, sym, ap, ◌∙◌, subst, inl, inr}
-use Rattle.std.specs.Prelude.{if◌then◌else◌, nat_le}
-use Rattle.std.specs.Str.{bytes_eq}
-use Rattle.mm_base.specs.Limits.{last_position}
-use Rattle.mm_digest.specs.declared.variant.Variant.TheVariants.{Opt}
-use Rattle.mm_module.specs.Meaning.{Meaning}
-use Rattle.mm_module.specs.Batch.{Batch, size_of, normal}
-use Rattle.mm_module.specs.BatchLaws.{members_of-normal}
-use Rattle.mm_seal.specs.declared.snapshot.PartsFault.{PartsFault}
-use Rattle.mm_seal.specs.declared.snapshot.PartsFault.TheVariants.{Form, Kind}
+use Rattle.mm_opt.proofs.Below.{◌≡◌, ℕ, ◌+◌, Bool, true, false, List, length, Result, Ok, Err, refl, sym, ap, ◌∙◌, subst, inl, inr}
+use Rattle.mm_opt.proofs.Below.{if◌then◌else◌, nat_le, bytes_eq, last_position, Opt, Meaning, Batch, size_of, normal, members_of-normal}
+use Rattle.mm_opt.proofs.Below.{PartsFault, Form, Kind, InBasic, InOpt, Content, Snapshot, ReadsParts, variant_of, tag_of, guard, Instance}
+use Rattle.mm_opt.proofs.Below.{opt, verdict_by_digests, Digests, BatchAnswer, Refusal, Verdict, examined, weighed, OrMemory, by_digests}
+use Rattle.mm_opt.proofs.Below.{place_then, Accepted, accepted_from, accepted_at, found_with, accepted_in, cell_at, Accepts, is_memory}
+use Rattle.mm_opt.proofs.Below.{lacks_in, Found, Repeat, Inside, Opens, has_lost_power, verdict_at, verdict_of, answer_of, place_after}
+use Rattle.mm_opt.proofs.Below.{change_by, opened_cell, found_from, found_in_offer, found_unless, found_in, FindsIn}
 use Rattle.mm_seal.specs.declared.snapshot.Place.{Place}
-use Rattle.mm_seal.specs.declared.snapshot.Place.TheVariants.{Basic as InBasic, Opt as InOpt}
-use Rattle.mm_seal.specs.Snapshot.{Content, Snapshot, ReadsParts, variant_of, tag_of}
 use Rattle.mm_seal.specs.FieldLaws.{parts_are}
-use Rattle.mm_model.specs.Chains.{guard}
-use Rattle.mm_model.specs.Instance.{Instance}
-use Rattle.mm_model.specs.InstanceWords.{opt}
-use Rattle.mm_model.specs.Judge.{verdict_by_digests}
-use Rattle.mm_model.specs.Moves.{Digests}
-use Rattle.mm_model.specs.declared.answer.BatchAnswer.{BatchAnswer}
-use Rattle.mm_model.specs.declared.refusal.Refusal.{Refusal}
 use Rattle.mm_model.specs.declared.refusal.Refusal.TheVariants as refusal
-use Rattle.mm_model.specs.declared.verdict.Verdict.{Verdict}
-use Rattle.mm_call.specs.Order.{examined}
-use Rattle.mm_call.specs.OrderWords.{weighed}
 use Rattle.mm_call.specs.Answers.{answer_at}
-use Rattle.mm_call.specs.Refusals.{OrMemory}
-use Rattle.mm_call.specs.Levels.{by_digests, place_then}
-use Rattle.mm_call.specs.Found.{Found as Accepted, found_by_verdict as accepted_from, found_at as accepted_at}
-use Rattle.mm_call.specs.FoundWords.{found_with, found_unless_wanting as accepted_in}
-use Rattle.mm_call.specs.Standing.{cell_at}
-use Rattle.mm_opt.specs.declared.found.Found.{Found}
-use Rattle.mm_opt.specs.declared.found.Found.TheVariants.{Repeat, Inside, Opens}
-use Rattle.mm_opt.specs.Order.{has_lost_power, verdict_at, verdict_of}
-use Rattle.mm_opt.specs.Answers.{answer_of, place_after, change_by, opened_cell, found_from, found_in_offer, found_unless, found_in}
-use Rattle.mm_opt.specs.Steps.{FindsIn}
-
--- an accepted offer, and the answer to it
-pub record Accepts (i : Instance) (seen : Digests) (b : Batch) (x : Result Accepted Refusal) (again : Bool) (answer : BatchAnswer) : Type 0
-  where
-    pub offered : Content
-    pub found_is : x ≡ Ok (record { offered = offered; again = again })
-    pub answer_is : answer ≡ answer_at i.meaning i.key offered
-        (place_then i.variant seen.flag again i seen b) b again
 
 -- what is found, by what the call by digests finds
 abbrev pub AsFound : Instance → Digests → Batch → Result Accepted Refusal → Result Found Refusal → Type 0
@@ -157,25 +124,6 @@ as_in meaning key barrier seen offer b taken reads =
     (parts_are Opt meaning.id offer taken reads)
     (as_unless (has_lost_power (cell_at i seen) seen.register) i seen (normal b) (accepted_from i (by_digests i) seen (normal b) taken)
     (found_in_offer meaning (cell_at i seen) seen.register taken b) (as_read taken meaning key barrier seen offer b reads))
-
--- memory was wanting
-abbrev pub is_memory : Refusal → Bool
-is_memory refusal.Memory = true
-is_memory refusal.Long = false
-is_memory (refusal.Device fault) = false
-is_memory refusal.Blank = false
-is_memory refusal.Cell = false
-is_memory refusal.Lost = false
-is_memory refusal.Form = false
-is_memory refusal.Kind = false
-is_memory refusal.State = false
-is_memory refusal.Tag = false
-is_memory refusal.Stale = false
-is_memory refusal.Full = false
-
-abbrev pub lacks_in : Result Found Refusal → Bool
-lacks_in (Ok found) = false
-lacks_in (Err why) = is_memory why
 
 given_with : (i : Instance) (seen : Digests) (b : Batch) (x : Result Accepted Refusal) (again : Bool) (answer : BatchAnswer)
     → Accepts i seen b x again answer → Accepts i seen b (accepted_in x false) again answer

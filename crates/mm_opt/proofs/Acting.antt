@@ -1,34 +1,16 @@
 -- Each turn makes exactly the device step that comes next.
-use Rattle.std.proofs.Common.{◌≡◌, ℕ, Bool, List, Option, None, Some, Result, Ok, Err, refl, sym, ap, ◌∙◌, subst, arith}
-use Rattle.std.specs.Result.{result_err}
-use Rattle.mm_platform.specs.declared.fault.StepFault.{StepFault}
+use Rattle.mm_opt.proofs.Below.{◌≡◌, ℕ, Bool, List, Option, None, Some, Result, Ok, Err, refl, sym, ap, ◌∙◌, subst, arith, result_err}
+use Rattle.mm_opt.proofs.Below.{StepFault, Standing, Act, ReadCell, WriteCell, ReadRegister, ResetRegister, ExtendRegister, EndsBy, Goes}
+use Rattle.mm_opt.proofs.Below.{Meaning, Batch, Cell, BatchAnswer, Refusal, fault_in, Blames, Opening, Found, Repeat, Inside, Opens}
+use Rattle.mm_opt.proofs.Below.{Checkpointed, CheckpointRefusal, Segment, Open, Shut, Stage, IsReady, MayGoOn, MakesRoom, closing_fault_in}
 use Rattle.mm_platform.specs.declared.fault.StepFault.TheVariants.{Failed, Off}
-use Rattle.mm_platform.specs.Standing.{Standing}
-use Rattle.mm_platform.specs.Steps.{Act, ReadCell, WriteCell, ReadRegister, ResetRegister, ExtendRegister, EndsBy, Goes}
-use Rattle.mm_module.specs.Meaning.{Meaning}
-use Rattle.mm_module.specs.Batch.{Batch}
-use Rattle.mm_seal.specs.declared.cell.Cell.{Cell}
-use Rattle.mm_model.specs.declared.answer.BatchAnswer.{BatchAnswer}
-use Rattle.mm_model.specs.declared.refusal.Refusal.{Refusal}
-use Rattle.mm_call.specs.Refusals.{fault_in}
-use Rattle.mm_call.specs.Leaving.{Blames}
-use Rattle.mm_opt.specs.declared.found.Opening.{Opening}
-use Rattle.mm_opt.specs.declared.found.Found.{Found}
-use Rattle.mm_opt.specs.declared.found.Found.TheVariants.{Repeat, Inside, Opens}
-use Rattle.mm_opt.specs.declared.segment.Checkpointed.{Checkpointed}
-use Rattle.mm_opt.specs.declared.segment.CheckpointRefusal.{CheckpointRefusal}
-use Rattle.mm_opt.specs.declared.segment.Segment.{Segment}
-use Rattle.mm_opt.specs.declared.segment.Segment.TheVariants.{Open, Shut}
-use Rattle.mm_opt.specs.declared.stage.Stage.{Stage}
 use Rattle.mm_opt.specs.declared.stage.Stage.TheVariants as stage
 use Rattle.mm_opt.specs.declared.stage.Change.TheVariants as change
 use Rattle.mm_opt.specs.declared.stage.CheckpointStage.{CheckpointStage}
 use Rattle.mm_opt.specs.declared.stage.CheckpointStage.TheVariants as checkpoint_stage
 use Rattle.mm_opt.specs.declared.call.Turn.{Turn}
 use Rattle.mm_opt.specs.declared.closing.CheckpointTurn.{CheckpointTurn}
-use Rattle.mm_opt.specs.Steps.{IsReady, MayGoOn, MakesRoom}
 use Rattle.mm_opt.specs.Turns.{seen_turn, found_turn, emptied_turn, placed_turn, last_turn, Turns, TurnMayGoOn, fault_turned, ActsAt}
-use Rattle.mm_opt.specs.Checkpoints.{closing_fault_in}
 use Rattle.mm_opt.specs.CheckpointTurns.{looked_turn, weighed_turn, closed_turn, ClosingTurns, closing_fault_turned, ClosingActsAt}
 
 seen_fault : (cell : Result Cell Refusal) → fault_in cell ≡ fault_turned (seen_turn cell)

@@ -1,27 +1,13 @@
 -- What a whole call leaves and counts.
-use Rattle.std.proofs.Common.{◌≡◌, ℕ, Bool, true, false, List, ◌++◌, Option, None, Result, Ok, Err, refl, sym, ap, ◌∙◌, subst, arith, inl, inr}
-use Rattle.mm_base.specs.Faults.{counted}
-use Rattle.mm_platform.specs.declared.fault.StepFault.{StepFault}
-use Rattle.mm_platform.specs.Standing.{Standing}
-use Rattle.mm_platform.specs.Steps.{Act, ReadCell, ReadRegister, Goes, beside}
+use Rattle.mm_opt.proofs.Below.{◌≡◌, ℕ, Bool, true, false, List, ◌++◌, Option, None, Result, Ok, Err, refl, sym, ap, ◌∙◌, subst, arith, inl}
+use Rattle.mm_opt.proofs.Below.{inr, counted, StepFault, Standing, Act, ReadCell, ReadRegister, Goes, beside, Meaning, Batch, Cell, is_long}
+use Rattle.mm_opt.proofs.Below.{BatchAnswer, Refusal, Long, Ended, goes_on, breaks_off, EndsTo, AsksTo, Calls, result_of, fault_of}
+use Rattle.mm_opt.proofs.Below.{fault_in, each_call, answered_result, ends_result, ends_untouched, IsUntouched, LeavesUntouched}
+use Rattle.mm_opt.proofs.Below.{read_untouched, same_untouched, Found, Repeat, Inside, Opens, ReadsOwnCell, ReadsRegister, MakesRoom}
+use Rattle.mm_opt.proofs.Below.{ReadsOn, Reads, opt_call, OneStep, TwoSteps, one_step, two_steps, three_steps, four_steps, five_steps}
+use Rattle.mm_opt.proofs.Below.{StepsAnswered, StepsRefused, StepsBy}
 use Rattle.mm_platform.specs.CallLaws.{beside-beside}
-use Rattle.mm_module.specs.Meaning.{Meaning}
-use Rattle.mm_module.specs.Batch.{Batch}
-use Rattle.mm_seal.specs.declared.cell.Cell.{Cell}
-use Rattle.mm_model.specs.Long.{is_long}
-use Rattle.mm_model.specs.declared.answer.BatchAnswer.{BatchAnswer}
-use Rattle.mm_model.specs.declared.refusal.Refusal.{Refusal}
 use Rattle.mm_model.specs.declared.refusal.Refusal.TheVariants as refusal
-use Rattle.mm_model.specs.declared.refusal.Refusal.TheVariants.{Long}
-use Rattle.mm_call.specs.Refusals.{fault_of, fault_in, handed_on}
-use Rattle.mm_call.specs.Leaving.{IsUntouched, LeavesUntouched}
-use Rattle.mm_call.specs.LeavingLaws.{read_untouched, same_untouched, written_untouched}
-use Rattle.mm_opt.specs.declared.found.Found.{Found}
-use Rattle.mm_opt.specs.declared.found.Found.TheVariants.{Repeat, Inside, Opens}
-use Rattle.mm_opt.specs.declared.found.Ready.{Ready}
-use Rattle.mm_opt.specs.declared.found.Opening.{Opening}
-use Rattle.mm_opt.specs.Steps.{ReadsOwnCell, ReadsRegister, MakesRoom, Extends, Empties, Places, Writes}
-use Rattle.mm_opt.specs.Asks.{ReadsOn, Reads, PlacedOn, EmptiedOn, CommitsFound, Ends, Calls, OneStep, TwoSteps, ThreeSteps, FourSteps, one_step, two_steps, three_steps, four_steps, five_steps, StepsAnswered, StepsRefused, StepsBy}
 use Rattle.mm_opt.proofs.Findings.{IsFirst, IsSecond, IsShaped, first_refused, shaped}
 
 pub register_untouched : (old new : Standing) → Goes ReadRegister old new None → IsUntouched old new
@@ -71,28 +57,17 @@ reads_refused (Err other) meaning old middle new offer b why g on h =
 reads_refused (Ok cell) meaning old middle new offer b why g on h =
     then_untouched old middle new (read_untouched old middle g) (register_refused meaning cell middle new offer b why on h)
 
-ends_untouched : (found : Result Found Refusal) (meaning : Meaning) (offer : List ℕ) (b : Batch) (old middle new : Standing)
-    (result : Result BatchAnswer Refusal) → Reads meaning old middle offer b found → Ends found middle new result
-    → LeavesUntouched result old new
-ends_untouched (Err why) meaning offer b old middle new result r e =
-    subst (λ (x : Result BatchAnswer Refusal). LeavesUntouched x old new) (sym e.1)
-    (λ (h : fault_of why ≡ None). subst (λ (s : Standing). IsUntouched old s) (sym e.0)
-    (reads_refused r.cell meaning old r.middle middle offer b why r.reads.goes r.on h))
-ends_untouched (Ok found) meaning offer b old middle new result r e =
-    subst (λ (x : Result BatchAnswer Refusal). LeavesUntouched x old new) (sym e.gives) (written_untouched e.written old new)
-
-calls_untouched : (t : Bool) (meaning : Meaning) (old new : Standing) (offer : List ℕ) (b : Batch) (result : Result BatchAnswer Refusal)
-    → is_long b ≡ t → Calls meaning old new offer b result → LeavesUntouched result old new
-calls_untouched true meaning old new offer b result is c =
-    let l = c.long is in
-    subst (λ (r : Result BatchAnswer Refusal). LeavesUntouched r old new) (sym l.1)
-    (λ (h : fault_of Long ≡ None). subst (λ (s : Standing). IsUntouched old s) (sym l.0) (same_untouched old))
-calls_untouched false meaning old new offer b result is c =
-    let a = c.asks is in ends_untouched a.found meaning offer b old a.middle new result a.reads a.ends
-
 pub untouched : (meaning : Meaning) (old new : Standing) (offer : List ℕ) (b : Batch) (result : Result BatchAnswer Refusal)
-    → Calls meaning old new offer b result → LeavesUntouched result old new
-untouched meaning old new offer b result c = calls_untouched (is_long b) meaning old new offer b result refl c
+    → Calls opt_call meaning old new offer b result → LeavesUntouched result old new
+untouched meaning old new offer b result c =
+    each_call opt_call meaning old new offer b (λ (s : Standing) (r : Result BatchAnswer Refusal). LeavesUntouched r old s) result
+    (λ (h : fault_of Long ≡ None). same_untouched old)
+    (λ (ended : Ended) (a : AsksTo opt_call meaning old new offer b ended).
+    ends_untouched opt_call a.found old a.middle new ended a.ends
+    (λ (why : Refusal) (is : a.found ≡ Err why) (quiet : fault_of why ≡ None).
+    reads_refused a.reads.cell meaning old a.reads.middle a.middle offer b why a.reads.reads.goes
+    (subst (λ (f : Result Found Refusal). ReadsOn meaning a.reads.cell a.reads.middle a.middle offer b f) is a.reads.on) quiet))
+    c
 
 -- what was found, once the register was read
 pub reads_shaped : (cell : Result Cell Refusal) (meaning : Meaning) (old new : Standing) (offer : List ℕ) (b : Batch) (found : Found)
@@ -164,71 +139,47 @@ reads_counted (Ok cell) meaning old middle new offer b found r on =
     second_counted meaning cell offer b (Ok found) old middle new (first_counted None old middle r.goes) on
 
 -- the changing steps
-extended_stepped : (written : Result BatchAnswer StepFault) (ready : Ready) (old middle new : Standing) → TwoSteps old middle
-    → ready.answer.again ≡ false → Extends ready middle new written → StepsBy (handed_on written) old new
-extended_stepped (Ok answer) ready old middle new two e x =
-    subst (λ (t : Bool). StepsAnswered t old new) (sym (ap (λ (a : BatchAnswer). a.again) x.gives ∙ e))
-    (inl (x.goes.steps ∙ ap counted two.0, x.goes.writes ∙ two.1))
-extended_stepped (Err fault) ready old middle new two e x = three_steps (x.goes.steps ∙ ap counted two.0, x.goes.writes ∙ two.1)
-
-written_stepped : (written : Result BatchAnswer StepFault) (opening : Opening) (old middle new : Standing) → FourSteps old middle
-    → opening.answer.again ≡ false → Writes opening middle new written → StepsBy (handed_on written) old new
-written_stepped (Ok answer) opening old middle new four e w =
-    subst (λ (t : Bool). StepsAnswered t old new) (sym (ap (λ (a : BatchAnswer). a.again) w.gives ∙ e))
-    (inr (w.goes.steps ∙ ap counted four.0, w.goes.writes ∙ ap counted four.1))
-written_stepped (Err fault) opening old middle new four e w =
-    five_steps (w.goes.steps ∙ ap counted four.0, w.goes.writes ∙ ap counted four.1)
-
-placed_stepped : (placed : Result Opening StepFault) (written : Result BatchAnswer StepFault) (opening : Opening)
-    (old middle next new : Standing) → ThreeSteps old middle → opening.answer.again ≡ false → Places opening middle next placed
-    → PlacedOn placed next new written → StepsBy (handed_on written) old new
-placed_stepped (Err fault) written opening old middle next new three e p on =
-    subst (λ (w : Result BatchAnswer StepFault). StepsBy (handed_on w) old new) (sym on.1)
-    (four_steps (
-      ap (λ (s : Standing). s.steps) on.0 ∙ p.goes.steps ∙ ap counted three.0,
-      ap (λ (s : Standing). s.writes) on.0
-          ∙ p.goes.writes ∙ three.1,
+commits_stepped : (found : Found) (old middle new : Standing) (ended : Ended) → TwoSteps old middle → IsShaped (Ok found)
+    → EndsTo opt_call (Ok found) middle new ended → StepsBy (result_of ended) old new
+commits_stepped (Repeat answer) old middle new ended two shape s =
+    answered_result (λ (x : Standing) (r : Result BatchAnswer Refusal). StepsBy r old x) answer middle new ended s
+    (subst (λ (t : Bool). StepsAnswered t old middle) (sym shape) two)
+commits_stepped (Inside ready) old middle new ended two shape (goes_on last g s) =
+    answered_result (λ (x : Standing) (r : Result BatchAnswer Refusal). StepsBy r old x) ready.answer last new ended s
+    (subst (λ (t : Bool). StepsAnswered t old last) (sym shape) (inl (g.steps ∙ ap counted two.0, g.writes ∙ two.1)))
+commits_stepped (Inside ready) old middle new ended two shape (breaks_off fault g e) =
+    subst (λ (v : Ended). StepsBy (result_of v) old new) (sym e) (three_steps (g.steps ∙ ap counted two.0, g.writes ∙ two.1))
+commits_stepped (Opens opening) old middle new ended two shape (breaks_off fault g e) =
+    subst (λ (v : Ended). StepsBy (result_of v) old new) (sym e) (three_steps (g.steps ∙ ap counted two.0, g.writes ∙ two.1))
+commits_stepped (Opens opening) old middle new ended two shape (goes_on next g (breaks_off fault h e)) =
+    subst (λ (v : Ended). StepsBy (result_of v) old new) (sym e)
+    (four_steps (h.steps ∙ ap counted (g.steps ∙ ap counted two.0), h.writes ∙ g.writes ∙ two.1))
+commits_stepped (Opens opening) old middle new ended two shape (goes_on next g (goes_on third h (breaks_off fault k e))) =
+    subst (λ (v : Ended). StepsBy (result_of v) old new) (sym e)
+    (five_steps (
+      k.steps ∙ ap counted (h.steps ∙ ap counted (g.steps ∙ ap counted two.0)),
+      k.writes ∙ ap counted (h.writes ∙ g.writes ∙ two.1),
     ))
-placed_stepped (Ok it) written opening old middle next new three e p on =
-    written_stepped written it old next new (p.goes.steps ∙ ap counted three.0, p.goes.writes ∙ three.1)
-    (ap (λ (o : Opening). o.answer.again) p.gives ∙ e) on
-
-emptied_stepped : (emptied : Result Opening StepFault) (written : Result BatchAnswer StepFault) (opening : Opening)
-    (old middle next new : Standing) → TwoSteps old middle → opening.answer.again ≡ false → Empties opening middle next emptied
-    → EmptiedOn emptied next new written → StepsBy (handed_on written) old new
-emptied_stepped (Err fault) written opening old middle next new two e p on =
-    subst (λ (w : Result BatchAnswer StepFault). StepsBy (handed_on w) old new) (sym on.1)
-    (three_steps (
-      ap (λ (s : Standing). s.steps) on.0 ∙ p.goes.steps ∙ ap counted two.0,
-      ap (λ (s : Standing). s.writes) on.0
-          ∙ p.goes.writes ∙ two.1,
-    ))
-emptied_stepped (Ok it) written opening old middle next new two e p on =
-    placed_stepped on.placed written it old next on.middle new (p.goes.steps ∙ ap counted two.0, p.goes.writes ∙ two.1)
-    (ap (λ (o : Opening). o.answer.again) p.gives ∙ e) on.places on.on
-
-commits_stepped : (found : Found) (written : Result BatchAnswer StepFault) (b : Batch) (old middle new : Standing) → TwoSteps old middle
-    → IsShaped (Ok found) → CommitsFound found middle new written → StepsBy (handed_on written) old new
-commits_stepped (Repeat answer) written b old middle new two shape c =
-    subst (λ (w : Result BatchAnswer StepFault). StepsBy (handed_on w) old new) (sym c.1)
-    (subst (λ (t : Bool). StepsAnswered t old new) (sym shape)
-    (subst (λ (s : Standing). TwoSteps old s) (sym c.0) two))
-commits_stepped (Inside ready) written b old middle new two shape c = extended_stepped written ready old middle new two shape c
-commits_stepped (Opens opening) written b old middle new two shape c =
-    emptied_stepped c.emptied written opening old middle c.middle new two shape c.empties c.on
+commits_stepped (Opens opening) old middle new ended two shape (goes_on next g (goes_on third h (goes_on last k s))) =
+    answered_result (λ (x : Standing) (r : Result BatchAnswer Refusal). StepsBy r old x) opening.answer last new ended s
+    (subst (λ (t : Bool). StepsAnswered t old last) (sym shape)
+    (inr (
+      k.steps ∙ ap counted (h.steps ∙ ap counted (g.steps ∙ ap counted two.0)),
+      k.writes ∙ ap counted (h.writes ∙ g.writes ∙ two.1),
+    )))
 
 ends_stepped : (found : Result Found Refusal) (meaning : Meaning) (offer : List ℕ) (b : Batch) (old middle new : Standing)
-    (result : Result BatchAnswer Refusal) → Reads meaning old middle offer b found → Ends found middle new result → StepsBy result old new
-ends_stepped (Err why) meaning offer b old middle new result r e =
-    subst (λ (x : Result BatchAnswer Refusal). StepsBy x old new) (sym e.1)
-    (subst (λ (s : Standing). StepsRefused why old s) (sym e.0)
-    (reads_stepped r.cell meaning old r.middle middle offer b why r.reads r.on))
-ends_stepped (Ok found) meaning offer b old middle new result r e =
-    subst (λ (x : Result BatchAnswer Refusal). StepsBy x old new) (sym e.gives)
-    (commits_stepped found e.written b old middle new (reads_counted r.cell meaning old r.middle middle offer b found r.reads r.on)
-    (reads_shaped r.cell meaning r.middle middle offer b found r.on) e.commits)
+    (ended : Ended) → Reads meaning old middle offer b found → EndsTo opt_call found middle new ended → StepsBy (result_of ended) old new
+ends_stepped (Err why) meaning offer b old middle new ended r e =
+    ends_result opt_call (λ (s : Standing) (x : Result BatchAnswer Refusal). StepsBy x old s) why middle new ended e
+    (reads_stepped r.cell meaning old r.middle middle offer b why r.reads r.on)
+ends_stepped (Ok found) meaning offer b old middle new ended r e =
+    commits_stepped found old middle new ended (reads_counted r.cell meaning old r.middle middle offer b found r.reads r.on)
+    (reads_shaped r.cell meaning r.middle middle offer b found r.on) e
 
 pub steps : (meaning : Meaning) (old new : Standing) (offer : List ℕ) (b : Batch) (result : Result BatchAnswer Refusal)
-    → Calls meaning old new offer b result → is_long b ≡ false → StepsBy result old new
+    → Calls opt_call meaning old new offer b result → is_long b ≡ false → StepsBy result old new
 steps meaning old new offer b result c is =
-    let a = c.asks is in ends_stepped a.found meaning offer b old a.middle new result a.reads a.ends
+    let k = c.asks is in
+    subst (λ (r : Result BatchAnswer Refusal). StepsBy r old new) (sym k.gives)
+    (ends_stepped k.asks.found meaning offer b old k.asks.middle new k.ended k.asks.reads k.asks.ends)

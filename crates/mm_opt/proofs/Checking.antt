@@ -1,49 +1,19 @@
 -- A checkpoint over a platform goes by digests: the course that it took, and the trail of its steps.
-use Rattle.std.proofs.Common.{◌≡◌, ℕ, Bool, true, false, List, [], ◌∷◌, map, Option, None, Some, Result, Ok, Err, refl, sym, ap, ◌∙◌, subst}
-use Rattle.std.specs.Prelude.{◌&&◌, is_some, IsSome}
-use Rattle.std.specs.Str.{bytes_eq}
-use Rattle.std.specs.List.{fold}
-use Rattle.std.specs.Result.{result_err}
-use Rattle.mm_digest.specs.declared.variant.Variant.{Variant}
-use Rattle.mm_digest.specs.declared.variant.Variant.TheVariants.{Basic, Opt}
-use Rattle.mm_digest.specs.Messages.{zero_bytes, extended_of}
-use Rattle.mm_platform.specs.declared.fault.StepFault.{StepFault}
-use Rattle.mm_platform.specs.Standing.{Plan, Standing}
-use Rattle.mm_platform.specs.Steps.{Act, ReadCell, WriteCell, ReadRegister, Goes}
-use Rattle.mm_platform.specs.Told.{next_plan}
-use Rattle.mm_module.specs.Meaning.{Meaning}
-use Rattle.mm_seal.specs.declared.cell.Cell.{Cell}
-use Rattle.mm_seal.specs.Cell.{IsCell}
-use Rattle.mm_model.specs.Instance.{Instance}
-use Rattle.mm_model.specs.InstanceWords.{basic, opt}
-use Rattle.mm_module.specs.Batch.{Batch}
-use Rattle.mm_model.specs.History.{History, Foreign, Close}
-use Rattle.mm_model.specs.Moves.{Digests, digests_of}
-use Rattle.mm_model.specs.Standing.{StandsFor}
-use Rattle.mm_model.specs.Steps.{Reads, Writes, checkpoint_steps}
-use Rattle.mm_call.specs.Levels.{all_made, by_lists, by_digests}
-use Rattle.mm_call.specs.Courses.{Course, Fate, closes, walk, seen_in}
-use Rattle.mm_call.specs.Called.{reading_steps}
-use Rattle.mm_call.specs.Checkpoints.{closing_of, checkpointed, IsClosedWithin, CheckpointsAgree}
-use Rattle.mm_call.specs.CheckpointsWords.{closed_by, checkpointed_with}
-use Rattle.mm_call.specs.Standing.{instance_by, cell_at, StandsAt}
-use Rattle.mm_call.specs.Trails.{Stepped}
-use Rattle.mm_call.specs.TrailLaws.{reads_of, reads_beside, with_register}
-use Rattle.mm_call.proofs.OptHolding.{agrees_is, is_agrees}
-use Rattle.mm_call.proofs.Continuing.{stands_at, stands_for}
-use Rattle.mm_call.proofs.Checkpoints.{basic_checkpoints_agree, opt_checkpoints_agree}
-use Rattle.mm_call.specs.Ended.{StaysOn}
-use Rattle.mm_call.proofs.Keeping.{planned_done, planned_broken}
-use Rattle.mm_call.specs.TellingLaws.{stepped, trail_last, met, AreMet, told_by, IsAt, begins_at, met_at, then_at}
-use Rattle.mm_opt.specs.declared.segment.Checkpointed.{Checkpointed}
-use Rattle.mm_opt.specs.declared.segment.CheckpointRefusal.{CheckpointRefusal}
+use Rattle.mm_opt.proofs.Below.{◌≡◌, ℕ, Bool, true, false, List, [], ◌∷◌, map, Option, None, Some, Result, Ok, Err, refl, sym, ap, ◌∙◌}
+use Rattle.mm_opt.proofs.Below.{subst, ◌&&◌, is_some, IsSome, bytes_eq, fold, result_err, Variant, Basic, Opt, zero_bytes, extended_of}
+use Rattle.mm_opt.proofs.Below.{StepFault, Plan, Standing, Act, ReadCell, WriteCell, ReadRegister, Goes, next_plan, Meaning, Cell, IsCell}
+use Rattle.mm_opt.proofs.Below.{Instance, basic, opt, Batch, History, Foreign, Close, Digests, digests_of, StandsFor, Writes}
+use Rattle.mm_opt.proofs.Below.{checkpoint_steps, all_made, by_lists, by_digests, Course, Fate, closes, walk, seen_in, reading_steps}
+use Rattle.mm_opt.proofs.Below.{closing_of, checkpointed, IsClosedWithin, CheckpointsAgree, closed_by, checkpointed_with, instance_by}
+use Rattle.mm_opt.proofs.Below.{cell_at, StandsAt, Stepped, reads_of, reads_beside, with_register, agrees_is, is_agrees, stands_at}
+use Rattle.mm_opt.proofs.Below.{stands_for, basic_checkpoints_agree, opt_checkpoints_agree, StaysOn, planned_done, planned_broken, stepped}
+use Rattle.mm_opt.proofs.Below.{trail_last, met, AreMet, told_by, IsAt, begins_at, met_at, then_at, Checkpointed, CheckpointRefusal}
+use Rattle.mm_opt.proofs.Below.{Segment, Open, Shut, closing_fault_of, closing_fault_in, Looks, closed_cell, closing_by, Weighs}
+use Rattle.mm_opt.proofs.Below.{closing_handed_on, EndsClosing, EndsLooking, ClosesSegment, closing_told, ChecksBy, ChecksFor, ChecksOn}
+use Rattle.mm_opt.proofs.Below.{fate_of}
+use Rattle.mm_model.specs.Steps.{Reads}
 use Rattle.mm_opt.specs.declared.segment.CheckpointRefusal.TheVariants as refusal
-use Rattle.mm_opt.specs.declared.segment.Segment.{Segment}
-use Rattle.mm_opt.specs.declared.segment.Segment.TheVariants.{Open, Shut}
-use Rattle.mm_opt.specs.Checkpoints.{closing_fault_of, closing_fault_in, Looks, closed_cell, closing_by, Weighs, closing_handed_on, EndsClosing, EndsLooking, ClosesSegment}
-use Rattle.mm_opt.specs.ChecksOn.{closing_told, ChecksBy, ChecksFor, ChecksOn}
 use Rattle.mm_opt.proofs.Stepping.{quietly, loudly, read_value, two_brought, seen_is}
-use Rattle.mm_opt.proofs.Coursing.{fate_of}
 use Rattle.mm_opt.proofs.CheckpointSteps.{on_course, handing, seen_segment, checks_first, checks_one, checks_second, checks_two, write_closed, same_refusal, opt_refused, opt_shut, opt_open, closing_steps, open_steps, open_said, closing_refused, closing_next, closed_told, handed, kept}
 
 -- The course

@@ -1,37 +1,14 @@
 -- The steps of a checkpoint over a platform, each by digests, and what is found by them.
-use Rattle.std.proofs.Common.{◌≡◌, ℕ, Bool, true, false, List, [], ◌∷◌, Option, None, Some, Result, Ok, Err, IfOk, refl, sym, ap, ◌∙◌, subst}
-use Rattle.std.specs.Result.{result_err}
-use Rattle.mm_digest.specs.declared.variant.Variant.{Variant}
-use Rattle.mm_digest.specs.declared.variant.Variant.TheVariants.{Basic, Opt}
-use Rattle.mm_digest.specs.LengthLaws.{length-anchored_of}
-use Rattle.mm_platform.specs.declared.fault.StepFault.{StepFault}
-use Rattle.mm_platform.specs.Standing.{Item, Standing}
-use Rattle.mm_module.specs.Meaning.{Meaning}
-use Rattle.mm_seal.specs.declared.cell.Cell.{Cell}
-use Rattle.mm_seal.specs.declared.cell.CellFault.{CellFault}
-use Rattle.mm_seal.specs.Cell.{IsCell, cell_spelling}
-use Rattle.mm_seal.specs.CellLaws.{reads_cell-same}
-use Rattle.mm_model.specs.Instance.{Instance}
-use Rattle.mm_model.specs.InstanceWords.{opt}
-use Rattle.mm_model.specs.History.{Move, Close}
-use Rattle.mm_model.specs.Moves.{Digests}
-use Rattle.mm_model.specs.Steps.{Step, Reads, Writes, checkpoint_steps}
-use Rattle.mm_call.specs.Levels.{all_made, by_digests}
-use Rattle.mm_call.specs.Courses.{Course, Fate, Walked, closes, walk, step_moves}
-use Rattle.mm_call.specs.Checkpoints.{Closing, closing_of, checkpointed_by}
-use Rattle.mm_call.specs.CheckpointsWords.{closed_by, checkpointed_with}
-use Rattle.mm_call.specs.Standing.{cell_at, StandsAt, shown_by}
-use Rattle.mm_call.specs.Trails.{IsWrite, Stepped, Trail}
-use Rattle.mm_call.specs.TrailLaws.{leads}
-use Rattle.mm_call.specs.TellingLaws.{trail_on, trail_fails, trail_last}
-use Rattle.mm_opt.specs.declared.segment.Checkpointed.{Checkpointed}
+use Rattle.mm_opt.proofs.Below.{◌≡◌, ℕ, Bool, true, false, List, [], ◌∷◌, Option, None, Some, Result, Ok, Err, IfOk, refl, sym, ap, ◌∙◌}
+use Rattle.mm_opt.proofs.Below.{subst, result_err, Variant, Basic, Opt, length-anchored_of, StepFault, Item, Standing, Meaning, Cell}
+use Rattle.mm_opt.proofs.Below.{CellFault, IsCell, cell_spelling, reads_cell-same, Instance, opt, Move, Close, Digests, Step, Writes}
+use Rattle.mm_opt.proofs.Below.{checkpoint_steps, all_made, by_digests, Course, Fate, Walked, closes, walk, step_moves, Closing, closing_of}
+use Rattle.mm_opt.proofs.Below.{checkpointed_by, closed_by, checkpointed_with, cell_at, StandsAt, shown_by, IsWrite, Stepped, Trail, leads}
+use Rattle.mm_opt.proofs.Below.{trail_on, trail_fails, trail_last, Checkpointed, CheckpointRefusal, Segment, Open, Shut, closing_fault_of}
+use Rattle.mm_opt.proofs.Below.{segment_by, segment_in, FindsSegment, closed_cell, closing_by, closing_handed_on, closing_told, ChecksBy}
+use Rattle.mm_model.specs.Steps.{Reads}
 use Rattle.mm_opt.specs.declared.segment.Checkpointed.TheVariants.{Done}
-use Rattle.mm_opt.specs.declared.segment.CheckpointRefusal.{CheckpointRefusal}
 use Rattle.mm_opt.specs.declared.segment.CheckpointRefusal.TheVariants as refusal
-use Rattle.mm_opt.specs.declared.segment.Segment.{Segment}
-use Rattle.mm_opt.specs.declared.segment.Segment.TheVariants.{Open, Shut}
-use Rattle.mm_opt.specs.Checkpoints.{closing_fault_of, segment_by, segment_in, FindsSegment, closed_cell, closing_by, closing_handed_on}
-use Rattle.mm_opt.specs.ChecksOn.{closing_told, ChecksBy}
 
 abbrev pub on_course : (ℕ → Fate) → Course
 on_course fates = record { fates = fates; lacks = false }

@@ -1,25 +1,13 @@
 -- What a checkpoint leaves and counts.
-use Rattle.std.proofs.Common.{◌≡◌, ℕ, Bool, true, false, List, None, Some, Result, Ok, Err, refl, sym, ap, ◌∙◌, subst}
-use Rattle.std.specs.Str.{bytes_eq}
-use Rattle.mm_base.specs.Faults.{counted}
-use Rattle.mm_digest.specs.declared.variant.Variant.{Variant}
-use Rattle.mm_digest.specs.declared.variant.Variant.TheVariants.{Basic, Opt}
-use Rattle.mm_digest.specs.Messages.{zero_bytes}
-use Rattle.mm_platform.specs.declared.fault.StepFault.{StepFault}
-use Rattle.mm_platform.specs.Standing.{Standing}
-use Rattle.mm_platform.specs.Steps.{ReadCell, ReadRegister, Goes}
-use Rattle.mm_seal.specs.declared.cell.Cell.{Cell}
-use Rattle.mm_seal.specs.declared.cell.CellFault.{CellFault}
+use Rattle.mm_opt.proofs.Below.{◌≡◌, ℕ, Bool, true, false, List, None, Some, Result, Ok, Err, refl, sym, ap, ◌∙◌, subst, bytes_eq, counted}
+use Rattle.mm_opt.proofs.Below.{Variant, Basic, Opt, zero_bytes, StepFault, Standing, ReadCell, ReadRegister, Goes, Cell, CellFault}
+use Rattle.mm_opt.proofs.Below.{IsUntouched, Blames, blamed, blamed_later, read_untouched, Checkpointed, CheckpointRefusal, Segment, Open}
+use Rattle.mm_opt.proofs.Below.{Shut, OneStep, TwoSteps, closing_fault_of, closing_fault_in, segment_by, segment_in, Looks, closing_by}
+use Rattle.mm_opt.proofs.Below.{Weighs, Closes, closing_handed_on, EndsClosing, EndsLooking, ClosesSegment, LeavesStill}
+use Rattle.mm_opt.proofs.Below.{ClosingStepsRefused, ClosingStepsBy}
 use Rattle.mm_seal.specs.declared.cell.CellFault.TheVariants as fault
-use Rattle.mm_call.specs.Leaving.{IsUntouched, Blames}
-use Rattle.mm_call.specs.LeavingLaws.{blamed, blamed_later, read_untouched}
-use Rattle.mm_opt.specs.declared.segment.Checkpointed.{Checkpointed}
-use Rattle.mm_opt.specs.declared.segment.CheckpointRefusal.{CheckpointRefusal}
 use Rattle.mm_opt.specs.declared.segment.CheckpointRefusal.TheVariants as refusal
-use Rattle.mm_opt.specs.declared.segment.Segment.{Segment}
-use Rattle.mm_opt.specs.declared.segment.Segment.TheVariants.{Open, Shut}
-use Rattle.mm_opt.specs.Asks.{OneStep, TwoSteps}
-use Rattle.mm_opt.specs.Checkpoints.{closing_fault_of, closing_fault_in, segment_by, segment_in, Looks, closing_by, Weighs, Closes, closing_handed_on, EndsClosing, EndsLooking, ClosesSegment, LeavesStill, one_step, two_steps, three_steps, ClosingStepsRefused, ClosingStepsBy}
+use Rattle.mm_opt.specs.Checkpoints.{one_step, two_steps, three_steps}
 use Rattle.mm_opt.proofs.Asking.{register_untouched, then_untouched, goes_quietly}
 
 closed_still : (written : Result Checkpointed StepFault) (next : List ℕ) (old middle new : Standing) → Closes next middle new written

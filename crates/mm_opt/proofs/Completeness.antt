@@ -1,58 +1,27 @@
 -- A right offer that the verdict on the history accepts is answered, where a call's steps bring nothing into a segment.
-use Rattle.std.proofs.Common.{◌≡◌, ℕ, ◌+◌, ◌≤◌, ◌^◌, ◌&&◌, Bool, true, false, List, [], ◌∷◌, ◌++◌, length, map, Option, None, Some, Result, Ok, Err, refl, sym, ap, ◌∙◌, subst, inl, inr, le-leb}
-use Rattle.std.specs.Prelude.{if◌then◌else◌, is_some, nat_eq, nat_le}
-use Rattle.std.specs.Str.{bytes_eq}
+use Rattle.mm_opt.proofs.Below.{◌≡◌, ℕ, ◌+◌, ◌≤◌, ◌^◌, Bool, true, false, List, [], ◌∷◌, ◌++◌, length, map, Option, None, Some, Result, Ok}
+use Rattle.mm_opt.proofs.Below.{Err, refl, sym, ap, ◌∙◌, subst, inl, inr, le-leb, if◌then◌else◌, is_some, nat_eq, nat_le, bytes_eq, Opt}
+use Rattle.mm_opt.proofs.Below.{StepFault, Item, Standing, Meaning, Batch, size_of, normal, members_of-normal, Content, tag_of, offered_of}
+use Rattle.mm_opt.proofs.Below.{Instance, opt, History, Move, Foreign, Value, total_of, judge, judged, is_last, Digests, digests_of}
+use Rattle.mm_opt.proofs.Below.{StandsFor, IsRight, ask_steps, BatchAnswer, Refusal, Verdict, Fresh, Again, Lost, Stale, called, ended_by}
+use Rattle.mm_opt.proofs.Below.{given_for, CallsOn, End, Done, Course, Walked, walk, found_by_verdict, found_at, found_with}
+use Rattle.mm_opt.proofs.Below.{found_unless_wanting, is_fresh, Blames, IsAccepted, IsAnswered, admitted, weighed, by_lists, by_digests}
+use Rattle.mm_opt.proofs.Below.{all_made, fault_in, shown, stands_at, asked_for, same_batches, is_agrees, before, sight_is, opt_calls_agree}
+use Rattle.mm_opt.proofs.Below.{two_reads, reading, past, cut, life_bare, opt_tied, changing, asks, foreign_first, foreign_in-first, Calls}
+use Rattle.mm_opt.proofs.Below.{opt_call}
+use Rattle.std.proofs.Common.{◌&&◌}
 use Rattle.std.proofs.lemmas.Slice.Eq.{bytes_eq-Decides}
-use Rattle.mm_digest.specs.declared.variant.Variant.TheVariants.{Opt}
-use Rattle.mm_platform.specs.declared.fault.StepFault.{StepFault}
-use Rattle.mm_platform.specs.Standing.{Item, Standing}
-use Rattle.mm_module.specs.Meaning.{Meaning}
-use Rattle.mm_module.specs.Batch.{Batch, size_of, normal}
-use Rattle.mm_module.specs.BatchLaws.{members_of-normal}
 use Rattle.mm_seal.specs.Parts.{parts_of}
-use Rattle.mm_seal.specs.Snapshot.{Content, tag_of, offered_of}
 use Rattle.mm_seal.specs.SealLaws.{sealed_parts}
-use Rattle.mm_model.specs.Instance.{Instance}
-use Rattle.mm_model.specs.InstanceWords.{opt}
-use Rattle.mm_model.specs.History.{History, Move, Foreign, Value, total_of}
-use Rattle.mm_model.specs.Judge.{judge, judged, is_last}
 use Rattle.mm_model.specs.Life.{Life, Live, Spoiled, Lost as LostLife, life_of, is_lost}
-use Rattle.mm_model.specs.Moves.{Digests, digests_of}
-use Rattle.mm_model.specs.Standing.{StandsFor, IsRight}
-use Rattle.mm_model.specs.Steps.{ask_steps}
-use Rattle.mm_model.specs.declared.answer.BatchAnswer.{BatchAnswer}
-use Rattle.mm_model.specs.declared.refusal.Refusal.{Refusal}
 use Rattle.mm_model.specs.declared.refusal.Refusal.TheVariants as refusal
-use Rattle.mm_model.specs.declared.verdict.Verdict.{Verdict}
-use Rattle.mm_model.specs.declared.verdict.Verdict.TheVariants.{Fresh, Again, Lost, Stale}
 use Rattle.mm_call.specs.Asked.{counted_moves, foreign_in, IsAsked}
-use Rattle.mm_call.specs.Called.{called, ended_by, given_for}
-use Rattle.mm_call.specs.CallsOn.{CallsOn}
-use Rattle.mm_call.specs.Courses.{End, Done, Course, Walked, walk}
-use Rattle.mm_call.specs.Found.{Found, found_by_verdict, found_at}
-use Rattle.mm_call.specs.FoundWords.{found_with, found_unless_wanting, is_fresh}
-use Rattle.mm_call.specs.Leaving.{Blames, IsAccepted, IsAnswered}
-use Rattle.mm_call.specs.Order.{admitted}
-use Rattle.mm_call.specs.OrderWords.{weighed}
-use Rattle.mm_call.specs.Levels.{by_lists, by_digests, all_made}
+use Rattle.mm_call.specs.Found.{Found}
 use Rattle.mm_call.specs.Premises.{AreAsked, AreShown}
-use Rattle.mm_call.specs.Refusals.{fault_in}
-use Rattle.mm_call.specs.Standing.{shown}
 use Rattle.mm_call.specs.Tied.{standing_items, foreign_items}
-use Rattle.mm_call.proofs.Continuing.{stands_at}
-use Rattle.mm_call.proofs.Idle.{asked_for}
-use Rattle.mm_call.specs.MoveLaws.{same_batches}
-use Rattle.mm_call.proofs.OptHolding.{is_agrees}
-use Rattle.mm_call.proofs.OptLaw.{before, sight_is}
-use Rattle.mm_call.proofs.OptAgree.{opt_calls_agree}
-use Rattle.mm_call.proofs.OptShapes.{two_reads, reading, past, cut}
-use Rattle.mm_call.proofs.OptShut.{life_bare}
 use Rattle.mm_call.specs.ShowingLaws.{shown_same, counts_open}
-use Rattle.mm_call.proofs.Tied.{opt_tied}
-use Rattle.mm_call.specs.WalkLaws.{changing, asks, foreign_first, foreign_in-first}
-use Rattle.mm_opt.specs.Asks.{Calls}
 use Rattle.mm_opt.specs.Complete.{AnswersAccepted}
-use Rattle.mm_opt.proofs.Calling.{calls_on}
+use Rattle.mm_opt.proofs.Going.{calls_on}
 
 -- What the verdict accepts.
 
@@ -245,7 +214,7 @@ accepted_answers meaning key barrier all others asked y old new offer batch resu
     k.gives
 
 pub complete : (meaning : Meaning) (old new : Standing) (offer : List ℕ) (b : Batch) (result : Result BatchAnswer Refusal)
-    → Calls meaning old new offer b result → Blames (fault_in result) old.faults new.faults
+    → Calls opt_call meaning old new offer b result → Blames (fault_in result) old.faults new.faults
     → AnswersAccepted meaning old new offer b result
 complete meaning old new offer b result calls blames short key barrier y all others asked items more content s known ends alone a shown_so
     right accepted fits =

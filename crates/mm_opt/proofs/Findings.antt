@@ -1,34 +1,13 @@
 -- What is found, and the room that is made after it.
-use Rattle.std.proofs.Common.{◌≡◌, ℕ, Bool, true, false, List, length, Option, None, Some, Result, Ok, Err, refl, sym, ap, ◌∙◌, subst, inl, inr}
-use Rattle.mm_platform.specs.declared.fault.StepFault.{StepFault}
-use Rattle.mm_platform.specs.Standing.{Item, Standing, item_values, register_after}
-use Rattle.mm_platform.specs.Steps.{ReadRegister, Goes}
-use Rattle.std.specs.Prelude.{◌+◌, nat_le}
-use Rattle.std.specs.Str.{bytes_eq}
-use Rattle.mm_base.specs.Limits.{last_position}
-use Rattle.mm_module.specs.Meaning.{Meaning}
-use Rattle.mm_module.specs.Batch.{Batch, size_of}
-use Rattle.mm_seal.specs.declared.cell.Cell.{Cell}
-use Rattle.mm_seal.specs.declared.cell.CellFault.{CellFault}
-use Rattle.mm_seal.specs.declared.cell.CellFault.TheVariants.{Blank, Cell as Unspelled}
-use Rattle.mm_seal.specs.declared.snapshot.PartsFault.{PartsFault}
-use Rattle.mm_seal.specs.declared.snapshot.PartsFault.TheVariants.{Form, Kind}
-use Rattle.mm_seal.specs.Snapshot.{Content, Snapshot, tag_of}
-use Rattle.mm_model.specs.declared.answer.BatchAnswer.{BatchAnswer}
-use Rattle.mm_model.specs.declared.refusal.Refusal.{Refusal}
+use Rattle.mm_opt.proofs.Below.{◌≡◌, ℕ, Bool, true, false, List, length, Option, None, Some, Result, Ok, Err, refl, sym, ap, ◌∙◌, subst}
+use Rattle.mm_opt.proofs.Below.{inl, inr, StepFault, Item, Standing, item_values, register_after, ReadRegister, Goes, nat_le, bytes_eq}
+use Rattle.mm_opt.proofs.Below.{last_position, Meaning, Batch, size_of, Cell, CellFault, Blank, Unspelled, PartsFault, Form, Kind, Content}
+use Rattle.mm_opt.proofs.Below.{Snapshot, tag_of, BatchAnswer, Refusal, Memory, Verdict, Fresh, Again, Lost, Stale, admitted, examined}
+use Rattle.mm_opt.proofs.Below.{weighed, fault_of, fault_in, OrMemory, Found, Repeat, Inside, Opens, is_cell_of, own_cell, cell_in}
+use Rattle.mm_opt.proofs.Below.{batch_value, has_lost_power, verdict_of, answer_of, change_by, found_from, found_in_offer, found_unless}
+use Rattle.mm_opt.proofs.Below.{found_in, opened_cell, ReadsOwnCell, FindsIn, MakesRoom, ReadsRegister}
+use Rattle.std.specs.Prelude.{◌+◌}
 use Rattle.mm_model.specs.declared.refusal.Refusal.TheVariants as refusal
-use Rattle.mm_model.specs.declared.refusal.Refusal.TheVariants.{Memory}
-use Rattle.mm_model.specs.declared.verdict.Verdict.{Verdict}
-use Rattle.mm_model.specs.declared.verdict.Verdict.TheVariants.{Fresh, Again, Lost, Stale}
-use Rattle.mm_call.specs.Order.{admitted, examined}
-use Rattle.mm_call.specs.OrderWords.{weighed}
-use Rattle.mm_call.specs.Refusals.{fault_of, fault_in, OrMemory}
-use Rattle.mm_opt.specs.declared.found.Found.{Found}
-use Rattle.mm_opt.specs.declared.found.Found.TheVariants.{Repeat, Inside, Opens}
-use Rattle.mm_opt.specs.Seen.{is_cell_of, own_cell, cell_in}
-use Rattle.mm_opt.specs.Order.{batch_value, has_lost_power, verdict_of}
-use Rattle.mm_opt.specs.Answers.{answer_of, change_by, found_from, found_in_offer, found_unless, found_in, opened_cell}
-use Rattle.mm_opt.specs.Steps.{ReadsOwnCell, FindsIn, MakesRoom, ReadsRegister}
 
 -- want of memory, twice
 or_then : (x : Result Found Refusal) (found : Found) (result : Result Found Refusal) → OrMemory x (Ok found) → OrMemory (Ok found) result

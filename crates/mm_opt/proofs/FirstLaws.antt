@@ -1,19 +1,8 @@
 -- The first cell and snapshot.
-use Rattle.std.proofs.Common.{◌≡◌, ℕ, false, List, [], ap, ◌∙◌}
+use Rattle.mm_opt.proofs.Below.{◌≡◌, ℕ, false, List, [], ap, ◌∙◌, Opt, zero_bytes, start_of, Meaning, Cell, InOpt, cell_spelling, Content}
+use Rattle.mm_opt.proofs.Below.{sealed_of, anchor_of, opt, first_history, cell_of, issued_bytes, anchor-nil}
 use Rattle.mm_digest.specs.declared.digest.Digest.{Digest}
-use Rattle.mm_digest.specs.declared.variant.Variant.TheVariants.{Opt}
-use Rattle.mm_digest.specs.Messages.{zero_bytes, start_of}
-use Rattle.mm_module.specs.Meaning.{Meaning}
-use Rattle.mm_seal.specs.declared.cell.Cell.{Cell}
-use Rattle.mm_seal.specs.declared.snapshot.Place.TheVariants.{Opt as InOpt}
-use Rattle.mm_seal.specs.Cell.{cell_spelling}
-use Rattle.mm_seal.specs.Snapshot.{Content, sealed_of}
-use Rattle.mm_model.specs.Chains.{anchor_of}
-use Rattle.mm_model.specs.InstanceWords.{opt}
-use Rattle.mm_model.specs.History.{first_history}
 use Rattle.mm_model.specs.PlacesWords.{digest_of}
-use Rattle.mm_model.specs.Standing.{cell_of, issued_bytes}
-use Rattle.mm_call.specs.MoveLaws.{anchor-nil}
 
 first_digest : (id said : ℕ) (anchor : Digest) → said ≡ id → anchor.bytes ≡ start_of Opt said → anchor ≡ digest_of (anchor_of id [])
 first_digest id said anchor id_is start_is = ap digest_of (start_is ∙ ap (start_of Opt) id_is ∙ anchor-nil id)

@@ -1,35 +1,14 @@
 -- Each answer is fit.
-use Rattle.std.proofs.Common.{◌≡◌, ℕ, Bool, true, false, List, length, Result, Ok, Err, IfOk, IsTrue, refl, sym, subst, inl, inr, arith}
-use Rattle.std.proofs.lemmas.Bool.Decides.{nat_tests}
-use Rattle.mm_digest.specs.LengthLaws.{length-zero_bytes, length-extended_of}
-use Rattle.mm_platform.specs.declared.fault.StepFault.{StepFault}
-use Rattle.mm_platform.specs.Standing.{Standing}
-use Rattle.mm_module.specs.Meaning.{Meaning, IsLawful}
-use Rattle.mm_module.specs.Batch.{Batch, One}
-use Rattle.mm_seal.specs.declared.cell.Cell.{Cell}
-use Rattle.mm_seal.specs.declared.cell.CellFault.{CellFault}
-use Rattle.mm_seal.specs.declared.cell.CellFault.TheVariants.{Blank, Cell as Unspelled}
-use Rattle.mm_seal.specs.declared.snapshot.PartsFault.{PartsFault}
-use Rattle.mm_seal.specs.declared.snapshot.PartsFault.TheVariants.{Form, Kind}
-use Rattle.mm_seal.specs.Cell.{IsCell, ReadsCell}
-use Rattle.mm_seal.specs.Snapshot.{Snapshot}
+use Rattle.mm_opt.proofs.Below.{◌≡◌, ℕ, Bool, true, false, List, length, Result, Ok, Err, IfOk, IsTrue, refl, sym, subst, inl, inr, arith}
+use Rattle.mm_opt.proofs.Below.{nat_tests, length-zero_bytes, length-extended_of, Standing, Meaning, IsLawful, Batch, One, Cell, CellFault}
+use Rattle.mm_opt.proofs.Below.{Blank, Unspelled, PartsFault, Form, Kind, IsCell, ReadsCell, Snapshot, is_long, BatchAnswer, Refusal}
+use Rattle.mm_opt.proofs.Below.{Verdict, examined, Ended, EndsTo, AsksTo, Calls, result_of, OrMemory, steps_give, each_call, ends_result}
+use Rattle.mm_opt.proofs.Below.{given_all, Found, is_cell_of, own_cell, cell_in, batch_value, has_lost_power, verdict_of, answer_of}
+use Rattle.mm_opt.proofs.Below.{change_by, opened_cell, extension_at, extension_after, place_after, found_from, found_in_offer}
+use Rattle.mm_opt.proofs.Below.{found_unless, found_in, ReadsStep, ReadsOn, Reads, acts_for, answer_in, opt_call}
 use Rattle.mm_model.specs.Fit.{IsFit}
-use Rattle.mm_model.specs.Long.{is_long}
-use Rattle.mm_model.specs.declared.answer.BatchAnswer.{BatchAnswer}
-use Rattle.mm_model.specs.declared.refusal.Refusal.{Refusal}
-use Rattle.mm_model.specs.declared.verdict.Verdict.{Verdict}
-use Rattle.mm_model.proofs.Fitting.{is_fit}
-use Rattle.mm_call.specs.Order.{examined}
-use Rattle.mm_call.specs.Refusals.{handed_on, OrMemory}
+use Rattle.mm_model.specs.FitLaws.{is_fit}
 use Rattle.mm_call.specs.WeighingLaws.{weighed_only}
-use Rattle.mm_opt.specs.declared.found.Opening.{Opening}
-use Rattle.mm_opt.specs.declared.found.Found.{Found}
-use Rattle.mm_opt.specs.declared.found.Found.TheVariants.{Repeat, Inside, Opens}
-use Rattle.mm_opt.specs.Seen.{is_cell_of, own_cell, cell_in}
-use Rattle.mm_opt.specs.Order.{batch_value, has_lost_power, verdict_of}
-use Rattle.mm_opt.specs.Answers.{answer_of, change_by, opened_cell, extension_at, extension_after, place_after, found_from, found_in_offer, found_unless, found_in}
-use Rattle.mm_opt.specs.Steps.{ReadsOwnCell as ReadsStep}
-use Rattle.mm_opt.specs.Asks.{ReadsOn, Reads, PlacedOn, EmptiedOn, CommitsFound, Ends, Calls}
 
 -- the extension of an answer's place
 extension_size : (flag : Bool) (register : List ℕ) → length register ≡ 32 → length (extension_at flag register) ≡ 32
@@ -55,9 +34,7 @@ accepted_fit meaning lawful cell register offered b verdict again is size e =
 
 abbrev IsFitFound : Batch → Result Found Refusal → Type 0
 IsFitFound b (Err why) = Unit {0}
-IsFitFound b (Ok (Repeat answer)) = IsFit b answer
-IsFitFound b (Ok (Inside ready)) = IsFit b ready.answer
-IsFitFound b (Ok (Opens opening)) = IsFit b opening.answer
+IsFitFound b (Ok found) = IsFit b (answer_in found)
 
 change_fit : (flag : Bool) (value next : List ℕ) (answer : BatchAnswer) (b : Batch) → IsFit b answer
     → IsFitFound b (Ok (change_by flag value next answer))
@@ -121,59 +98,22 @@ reads_fit (Ok seen) meaning lawful old middle new offer b found r on =
 abbrev pub IsFitIn : Batch → Result BatchAnswer Refusal → Type 0
 IsFitIn b result = IfOk result (λ answer. IsFit b answer)
 
-abbrev IsFitWritten : Batch → Result BatchAnswer StepFault → Type 0
-IsFitWritten b written = IfOk written (λ answer. IsFit b answer)
-
-handed_fit : (b : Batch) (written : Result BatchAnswer StepFault) → IsFitWritten b written → IsFitIn b (handed_on written)
-handed_fit b (Ok answer) fit = fit
-handed_fit b (Err fault) fit = tt
-
-given_fit : (b : Batch) (written : Result BatchAnswer StepFault) (it : BatchAnswer) → IfOk written (λ given. given ≡ it) → IsFit b it
-    → IsFitWritten b written
-given_fit b (Ok answer) it gives fit = subst (λ (a : BatchAnswer). IsFit b a) (sym gives) fit
-given_fit b (Err fault) it gives fit = tt
-
-placed_fit : (placed : Result Opening StepFault) (b : Batch) (opening : Opening) (old new : Standing)
-    (written : Result BatchAnswer StepFault) → IfOk placed (λ given. given ≡ opening) → PlacedOn placed old new written
-    → IsFit b opening.answer → IsFitWritten b written
-placed_fit (Err fault) b opening old new written gives on fit = subst (λ (w : Result BatchAnswer StepFault). IsFitWritten b w) (sym on.1) tt
-placed_fit (Ok it) b opening old new written gives on fit =
-    given_fit b written it.answer on.gives (subst (λ (o : Opening). IsFit b o.answer) (sym gives) fit)
-
-emptied_fit : (emptied : Result Opening StepFault) (b : Batch) (opening : Opening) (old new : Standing)
-    (written : Result BatchAnswer StepFault) → IfOk emptied (λ given. given ≡ opening) → EmptiedOn emptied old new written
-    → IsFit b opening.answer → IsFitWritten b written
-emptied_fit (Err fault) b opening old new written gives on fit =
-    subst (λ (w : Result BatchAnswer StepFault). IsFitWritten b w) (sym on.1) tt
-emptied_fit (Ok it) b opening old new written gives on fit =
-    placed_fit on.placed b it on.middle new written on.places.gives on.on (subst (λ (o : Opening). IsFit b o.answer) (sym gives) fit)
-
-commits_fit : (found : Found) (b : Batch) (old new : Standing) (written : Result BatchAnswer StepFault) → IsFitFound b (Ok found)
-    → CommitsFound found old new written → IsFitWritten b written
-commits_fit (Repeat answer) b old new written fit c = subst (λ (w : Result BatchAnswer StepFault). IsFitWritten b w) (sym c.1) fit
-commits_fit (Inside ready) b old new written fit c = given_fit b written ready.answer c.gives fit
-commits_fit (Opens opening) b old new written fit c = emptied_fit c.emptied b opening c.middle new written c.empties.gives c.on fit
-
 ends_fit : (found : Result Found Refusal) (meaning : Meaning) → IsLawful meaning
-    → (offer : List ℕ) (b : Batch) (old middle new : Standing) (result : Result BatchAnswer Refusal)
-    → Reads meaning old middle offer b found → Ends found middle new result → IsFitIn b result
-ends_fit (Err why) meaning lawful offer b old middle new result r e = subst (λ (x : Result BatchAnswer Refusal). IsFitIn b x) (sym e.1) tt
-ends_fit (Ok found) meaning lawful offer b old middle new result r e =
-    subst (λ (x : Result BatchAnswer Refusal). IsFitIn b x) (sym e.gives)
-    (handed_fit b e.written
-    (commits_fit found b middle new e.written (reads_fit r.cell meaning lawful old r.middle middle offer b found r.reads r.on)
-    e.commits))
-
-calls_fit : (t : Bool) (meaning : Meaning) → IsLawful meaning
-    → (old new : Standing) (offer : List ℕ) (b : Batch) (result : Result BatchAnswer Refusal) → is_long b ≡ t
-    → Calls meaning old new offer b result → IsFitIn b result
-calls_fit true meaning lawful old new offer b result is c = subst (λ (r : Result BatchAnswer Refusal). IsFitIn b r) (sym (c.long is).1) tt
-calls_fit false meaning lawful old new offer b result is c =
-    let a = c.asks is in ends_fit a.found meaning lawful offer b old a.middle new result a.reads a.ends
+    → (offer : List ℕ) (b : Batch) (old middle new : Standing) (ended : Ended)
+    → Reads meaning old middle offer b found → EndsTo opt_call found middle new ended → IsFitIn b (result_of ended)
+ends_fit (Err why) meaning lawful offer b old middle new ended r e =
+    ends_result opt_call (λ (s : Standing) (x : Result BatchAnswer Refusal). IsFitIn b x) why middle new ended e tt
+ends_fit (Ok found) meaning lawful offer b old middle new ended r e =
+    given_all (IsFit b) ended (answer_in found) (steps_give (acts_for found) (answer_in found) middle new ended e)
+    (reads_fit r.cell meaning lawful old r.middle middle offer b found r.reads r.on)
 
 pub fits : (meaning : Meaning) → IsLawful meaning → (old new : Standing) (offer : List ℕ) (b : Batch) (result : Result BatchAnswer Refusal)
-    → Calls meaning old new offer b result → IsFitIn b result
-fits meaning lawful old new offer b result c = calls_fit (is_long b) meaning lawful old new offer b result refl c
+    → Calls opt_call meaning old new offer b result → IsFitIn b result
+fits meaning lawful old new offer b result c =
+    each_call opt_call meaning old new offer b (λ (s : Standing) (r : Result BatchAnswer Refusal). IsFitIn b r) result tt
+    (λ (ended : Ended) (a : AsksTo opt_call meaning old new offer b ended).
+    ends_fit a.found meaning lawful offer b old a.middle new ended a.reads a.ends)
+    c
 
 -- a fit answer to one request
 pub one_output : (request : List ℕ) (result : Result BatchAnswer Refusal) → IsFitIn (One request) result

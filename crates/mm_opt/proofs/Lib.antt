@@ -1,21 +1,18 @@
-pub mod Guards
-pub mod FirstLaws
-pub mod Findings
-pub mod Asking
-pub mod Writing
-pub mod Fits
-pub mod Checkpointing
-pub mod Acting
-pub mod Accepting
-pub mod Coursing
-pub mod Stepping
-pub mod Going
-pub mod Calling
-pub mod CheckpointSteps
-pub mod Checking
-pub mod Giving
-pub mod Breaking
-pub mod Finishing
-pub mod Completeness
-pub mod Asked
-pub mod Preparing
+pub mod Above
+mod Below
+mod Guards
+mod FirstLaws
+mod Findings
+mod Asking
+mod Writing
+mod Fits
+mod Checkpointing
+mod Acting
+mod Accepting
+mod Stepping
+mod Going
+mod CheckpointSteps
+mod Checking
+mod Finishing
+mod Completeness
+mod Asked

@@ -1,79 +1,18 @@
 -- The steps of a call over a platform, each by digests, and what is read by the first two.
-use Rattle.std.proofs.Common.{◌≡◌, ℕ, Bool, true, false, List, [], ◌∷◌, ◌++◌, map, Option, None, Some, Result, Ok, Err, IfOk, refl, sym, ap, ◌∙◌, subst, arith}
-use Rattle.std.specs.Prelude.{◌&&◌, nat_eq}
-use Rattle.std.specs.List.{fold}
-use Rattle.std.specs.Result.{result_err}
+use Rattle.mm_opt.proofs.Below.{◌≡◌, ℕ, Bool, true, false, List, [], ◌∷◌, ◌++◌, map, Option, None, Some, Result, Ok, Err, IfOk, refl, sym}
+use Rattle.mm_opt.proofs.Below.{ap, ◌∙◌, subst, arith, ◌&&◌, nat_eq, fold, result_err, nat_tests, Variant, Opt, zero_bytes, extended_of}
+use Rattle.mm_opt.proofs.Below.{StepFault, Item, own_item, Standing, item_values, register_after, Act, ResetRegister, ExtendRegister, Goes}
+use Rattle.mm_opt.proofs.Below.{Meaning, Batch, Cell, CellFault, IsCell, cell_spelling, reads_cell-same, guard, Instance, opt, Move, Commit}
+use Rattle.mm_opt.proofs.Below.{Foreign, Placed, Reset, Digests, committing, made, Step, ask_steps, BatchAnswer, Refusal, fault_of}
+use Rattle.mm_opt.proofs.Below.{handed_on, all_made, by_digests, Accepted, is_fresh, Fate, Walked, walk, step_moves, ended_by, called_by}
+use Rattle.mm_opt.proofs.Below.{given_for, cell_at, StandsAt, shown_by, IsChange, IsWrite, MakesStep, Stepped, Trail, GoesBy, reads_of}
+use Rattle.mm_opt.proofs.Below.{with_register, foreign_made, all_made-append, leads, trail_on, is_opt, own_cell, cell_in, FindsCell}
+use Rattle.mm_opt.proofs.Below.{fate_of}
 use Rattle.std.proofs.lemmas.List.{append-nil}
-use Rattle.std.proofs.lemmas.Bool.Decides.{nat_tests}
-use Rattle.mm_digest.specs.declared.variant.Variant.{Variant}
-use Rattle.mm_digest.specs.declared.variant.Variant.TheVariants.{Opt}
-use Rattle.mm_digest.specs.Messages.{zero_bytes, extended_of}
-use Rattle.mm_platform.specs.declared.fault.StepFault.{StepFault}
-use Rattle.mm_platform.specs.Standing.{Item, own_item, Standing, item_values, register_after}
-use Rattle.mm_platform.specs.Steps.{Act, ResetRegister, ExtendRegister, Goes}
-use Rattle.mm_module.specs.Meaning.{Meaning}
-use Rattle.mm_module.specs.Batch.{Batch}
-use Rattle.mm_seal.specs.declared.cell.Cell.{Cell}
-use Rattle.mm_seal.specs.declared.cell.CellFault.{CellFault}
-use Rattle.mm_seal.specs.Cell.{IsCell, cell_spelling}
-use Rattle.mm_seal.specs.CellLaws.{reads_cell-same}
-use Rattle.mm_model.specs.Chains.{guard}
-use Rattle.mm_model.specs.Instance.{Instance}
-use Rattle.mm_model.specs.InstanceWords.{opt}
-use Rattle.mm_model.specs.History.{Move, Commit, Foreign, Placed, Reset}
-use Rattle.mm_model.specs.Moves.{Digests, committing, made}
-use Rattle.mm_model.specs.Steps.{Step, Reads, ask_steps}
-use Rattle.mm_model.specs.declared.answer.BatchAnswer.{BatchAnswer}
-use Rattle.mm_model.specs.declared.refusal.Refusal.{Refusal}
+use Rattle.mm_model.specs.Steps.{Reads}
 use Rattle.mm_model.specs.declared.refusal.Refusal.TheVariants as refusal
-use Rattle.mm_call.specs.Refusals.{fault_of, handed_on}
-use Rattle.mm_call.specs.Levels.{all_made, by_digests}
-use Rattle.mm_call.specs.Found.{Found as Accepted}
-use Rattle.mm_call.specs.FoundWords.{is_fresh}
-use Rattle.mm_call.specs.Courses.{Fate, Walked, walk, step_moves}
-use Rattle.mm_call.specs.Called.{ended_by, called_by, given_for}
-use Rattle.mm_call.specs.Standing.{cell_at, StandsAt, shown_by}
-use Rattle.mm_call.specs.Trails.{IsChange, IsWrite, MakesStep, Stepped, Trail}
-use Rattle.mm_call.specs.CallsOn.{GoesBy}
-use Rattle.mm_call.specs.TrailLaws.{reads_of, with_register, foreign_made, all_made-append, leads}
-use Rattle.mm_call.specs.TellingLaws.{trail_on}
-use Rattle.mm_opt.specs.Seen.{is_opt, own_cell, cell_in}
-use Rattle.mm_opt.specs.Steps.{FindsCell}
-use Rattle.mm_opt.proofs.Coursing.{fate_of}
 
 -- The steps of a call
-
-pub asks_none : (flag : Bool) (b : Batch) → ask_steps Opt flag false b ≡ Reads ∷ Reads ∷ []
-asks_none true b = refl
-asks_none false b = refl
-
--- a call whose steps made this trail
-pub conclude : (i : Instance) (d seen : Digests) (fates : ℕ → Fate) (b : Batch) (x : Result Accepted Refusal) (steps : List Step)
-    (old new : Standing) (fault : Option StepFault) (result : Result BatchAnswer Refusal) → StandsAt i old d
-    → ask_steps i.variant d.flag (is_fresh x) b ≡ steps → Trail i d fates 1 steps old new fault
-    → result ≡ given_for
-    (ended_by (by_digests i) seen (all_made (by_digests i) d (walk fates 1 steps).moves) b x (walk fates 1 steps).moves fault)
-    → GoesBy i d (called_by (by_digests i) d seen b x (walk fates 1 (ask_steps i.variant d.flag (is_fresh x) b))) old new result
-conclude i d seen fates b x steps old new fault result s e t is =
-    let l = leads i d fates 1 steps old new fault s t in
-    let w : Walked = walk fates 1 steps in
-    subst (λ (st : List Step). GoesBy i d (called_by (by_digests i) d seen b x (walk fates 1 st)) old new result) (sym e)
-    (record {
-      gives =
-          is ∙ ap (λ (f : Option StepFault). given_for (ended_by (by_digests i) seen (all_made (by_digests i) d w.moves) b x w.moves f))
-          (sym l.broken);
-      stands = l.stands;
-      items = l.items;
-      steps = l.steps;
-      writes = l.writes;
-    })
-
--- the digests after each reading step
-abbrev pub after_one : Instance → (ℕ → Fate) → Digests → Digests
-after_one i fates d = all_made (by_digests i) d (step_moves Reads true (fates 1).brings)
-
-abbrev pub after_two : Instance → (ℕ → Fate) → Digests → Digests
-after_two i fates d = all_made (by_digests i) (after_one i fates d) (step_moves Reads true (fates 2).brings)
 
 pub two_brought : (i : Instance) (d : Digests) (v w : List (List ℕ))
     → all_made (by_digests i) (all_made (by_digests i) d (map Foreign v)) (map Foreign w) ≡ with_register d
@@ -104,14 +43,6 @@ quietly None i d act step old after new g e makes room = record {
   room = room;
 }
 quietly (Some fault) i d act step old after new g e makes room = absurd (cc)
-
-pub two_reads : (i : Instance) (d : Digests) (fates : ℕ → Fate) (steps : List Step) (old first second new : Standing)
-    (fault : Option StepFault)
-    → Stepped i d (fates 1) Reads old first None → Stepped i (after_one i fates d) (fates 2) Reads first second None
-    → Trail i (after_two i fates d) fates 3 steps second new fault → Trail i d fates 1 (Reads ∷ Reads ∷ steps) old new fault
-two_reads i d fates steps old first second new fault s t rest =
-    trail_on i d fates 1 Reads (Reads ∷ steps) old first new fault s
-    (trail_on i (after_one i fates d) fates 2 Reads steps first second new fault t rest)
 
 -- The changing steps
 
@@ -208,41 +139,6 @@ pub read_value : (items : Option (List Item)) (r register : List ℕ) → reads_
     → ((xs : List Item) → items ≡ Some xs → register ≡ register_after (item_values xs)) → register ≡ r
 read_value None r register e h = cc
 read_value (Some xs) r register e h = let f : register_after (item_values xs) ≡ r = cc in h xs refl ∙ f
-
--- a refusal hands on a device's fault, or doesn't
-pub data Handing (why : Refusal) : Type 0 where
-  device : (fault : StepFault) → why ≡ refusal.Device fault → Handing why
-  other : fault_of why ≡ None → Handing why
-
-pub handing : (why : Refusal) → Handing why
-handing refusal.Memory = other refl
-handing refusal.Long = other refl
-handing (refusal.Device fault) = device fault refl
-handing refusal.Blank = other refl
-handing refusal.Cell = other refl
-handing refusal.Lost = other refl
-handing refusal.Form = other refl
-handing refusal.Kind = other refl
-handing refusal.State = other refl
-handing refusal.Tag = other refl
-handing refusal.Stale = other refl
-handing refusal.Full = other refl
-
--- what was ready is given, where no step failed
-abbrev pub GivenBy : BatchAnswer → Result BatchAnswer StepFault → Type 0
-GivenBy answer (Ok it) = it ≡ answer
-GivenBy answer (Err fault) = Unit {0}
-
-pub handed_told : (written : Result BatchAnswer StepFault) (i : Instance) (d seen s : Digests) (b : Batch) (accepted : Accepted)
-    (moves : List Move) (answer : BatchAnswer) → answer ≡ (by_digests i).answer accepted.again seen s accepted.offered b
-    → GivenBy answer written → handed_on written ≡ given_for (ended_by (by_digests i) seen s b (Ok accepted) moves (result_err written))
-handed_told (Ok it) i d seen s b accepted moves answer e gives = ap (λ (v : BatchAnswer). Ok v) (gives ∙ e)
-handed_told (Err fault) i d seen s b accepted moves answer e gives = refl
-
-pub made_given : (answer : BatchAnswer) (written : Result BatchAnswer StepFault) → IfOk written (λ given. given ≡ answer)
-    → GivenBy answer written
-made_given answer (Ok it) gives = gives
-made_given answer (Err fault) gives = tt
 
 pub same_cell : (c e : Cell) (x y : Result Cell Refusal) → x ≡ Ok c → y ≡ Ok e → x ≡ y → c ≡ e
 same_cell c e x y p q r = cc

@@ -1,32 +1,13 @@
 -- How often a call writes the cell, by the flag that the platform tells.
-use Rattle.std.proofs.Common.{◌≡◌, ℕ, Bool, true, false, List, Some, Result, Ok, Err, refl, sym, ap, ◌∙◌, subst, inl, inr}
-use Rattle.mm_base.specs.Faults.{counted}
-use Rattle.mm_platform.specs.declared.fault.StepFault.{StepFault}
-use Rattle.mm_platform.specs.Standing.{Standing}
-use Rattle.mm_module.specs.Meaning.{Meaning}
-use Rattle.mm_module.specs.Batch.{Batch}
-use Rattle.mm_seal.specs.declared.cell.Cell.{Cell}
-use Rattle.mm_seal.specs.declared.cell.CellFault.{CellFault}
-use Rattle.mm_seal.specs.declared.snapshot.PartsFault.{PartsFault}
-use Rattle.mm_seal.specs.declared.snapshot.PartsFault.TheVariants.{Form, Kind}
-use Rattle.mm_seal.specs.Cell.{IsCell, cell_spelling}
-use Rattle.mm_seal.specs.Snapshot.{Snapshot}
-use Rattle.mm_seal.specs.CellLaws.{reads_cell-same}
-use Rattle.mm_model.specs.Long.{is_long}
-use Rattle.mm_model.specs.declared.answer.BatchAnswer.{BatchAnswer}
-use Rattle.mm_model.specs.declared.refusal.Refusal.{Refusal}
+use Rattle.mm_opt.proofs.Below.{◌≡◌, ℕ, Bool, true, false, List, Option, None, Some, Result, Ok, Err, refl, sym, ap, ◌∙◌, subst, inl, inr}
+use Rattle.mm_opt.proofs.Below.{counted, StepFault, Standing, Meaning, Batch, Cell, CellFault, PartsFault, Form, Kind, IsCell}
+use Rattle.mm_opt.proofs.Below.{cell_spelling, Snapshot, reads_cell-same, is_long, BatchAnswer, Refusal, examined, Ended, Broken, goes_on}
+use Rattle.mm_opt.proofs.Below.{breaks_off, EndsTo, AsksTo, Calls, result_of, OrMemory, each_call, answered_result, ends_result, Found}
+use Rattle.mm_opt.proofs.Below.{Repeat, Inside, Opens, is_cell_of, own_cell, cell_in, batch_value, has_lost_power, verdict_of, answer_of}
+use Rattle.mm_opt.proofs.Below.{change_by, opened_cell, found_from, found_in_offer, found_unless, found_in, ReadsStep, FindsIn, ReadsOn}
+use Rattle.mm_opt.proofs.Below.{Reads, opt_call, TwoSteps, StepsMade, one_step, two_steps, three_steps, four_steps, five_steps}
+use Rattle.mm_opt.proofs.Below.{StepsAnswered, StepsRefused, StepsBy, WritesAtMostOnce, StepsFrom, AnswersFrom, WritesBy}
 use Rattle.mm_model.specs.declared.refusal.Refusal.TheVariants as refusal
-use Rattle.mm_call.specs.Order.{examined}
-use Rattle.mm_call.specs.Refusals.{handed_on, OrMemory}
-use Rattle.mm_opt.specs.declared.found.Ready.{Ready}
-use Rattle.mm_opt.specs.declared.found.Opening.{Opening}
-use Rattle.mm_opt.specs.declared.found.Found.{Found}
-use Rattle.mm_opt.specs.declared.found.Found.TheVariants.{Repeat, Inside, Opens}
-use Rattle.mm_opt.specs.Seen.{is_cell_of, own_cell, cell_in}
-use Rattle.mm_opt.specs.Order.{batch_value, has_lost_power, verdict_of}
-use Rattle.mm_opt.specs.Answers.{answer_of, change_by, opened_cell, found_from, found_in_offer, found_unless, found_in}
-use Rattle.mm_opt.specs.Steps.{ReadsOwnCell as ReadsStep, FindsIn, Extends, Empties, Places, Writes}
-use Rattle.mm_opt.specs.Asks.{ReadsOn, Reads, PlacedOn, EmptiedOn, CommitsFound, Ends, Calls, TwoSteps, ThreeSteps, FourSteps, StepsMade, one_step, two_steps, three_steps, four_steps, five_steps, StepsAnswered, StepsRefused, StepsBy, WritesAtMostOnce, StepsFrom, AnswersFrom, WritesBy}
 use Rattle.mm_opt.proofs.Findings.{IsShaped}
 use Rattle.mm_opt.proofs.Asking.{room_counted, reads_counted, reads_shaped, steps}
 
@@ -137,100 +118,88 @@ reads_write_none (Ok seen) meaning old middle new offer b found r on =
     (room_counted found on.middle new on.room).1 ∙ on.goes.writes ∙ r.goes.writes
 
 -- inside an open segment nothing is written
-commits_inside : (found : Found) (flag : Bool) (old new : Standing) (written : Result BatchAnswer StepFault) → IsByFlag flag (Ok found)
-    → CommitsFound found old new written → flag ≡ true → new.writes ≡ old.writes
-commits_inside (Repeat answer) flag old new written is c set = ap (λ (s : Standing). s.writes) c.0
-commits_inside (Inside ready) flag old new written is c set = c.goes.writes
-commits_inside (Opens opening) flag old new written is c set = let e : false ≡ true = sym is ∙ set in absurd (cc)
+commits_inside : (found : Found) (flag : Bool) (old new : Standing) (ended : Ended) → IsByFlag flag (Ok found)
+    → EndsTo opt_call (Ok found) old new ended → flag ≡ true → new.writes ≡ old.writes
+commits_inside (Repeat answer) flag old new ended is s set = ap (λ (x : Standing). x.writes) s.0
+commits_inside (Inside ready) flag old new ended is (goes_on last g s) set = ap (λ (x : Standing). x.writes) s.0 ∙ g.writes
+commits_inside (Inside ready) flag old new ended is (breaks_off fault g e) set = g.writes
+commits_inside (Opens opening) flag old new ended is s set = let e : false ≡ true = sym is ∙ set in absurd (cc)
 
 ends_inside : (found : Result Found Refusal) (meaning : Meaning) (offer : List ℕ) (b : Batch) (old middle new : Standing)
-    (result : Result BatchAnswer Refusal) (cell : Cell) → Reads meaning old middle offer b found → Ends found middle new result
+    (ended : Ended) (cell : Cell) → Reads meaning old middle offer b found → EndsTo opt_call found middle new ended
     → IsCell cell → old.cell ≡ Some (cell_spelling cell) → cell.flag ≡ true → new.writes ≡ old.writes
-ends_inside (Err why) meaning offer b old middle new result cell r e is told set =
+ends_inside (Err why) meaning offer b old middle new ended cell r e is told set =
     ap (λ (s : Standing). s.writes) e.0 ∙ reads_write_none r.cell meaning old r.middle middle offer b (Err why) r.reads r.on
-ends_inside (Ok found) meaning offer b old middle new result cell r e is told set =
-    commits_inside found cell.flag middle new e.written
-    (reads_by_flag r.cell meaning old r.middle middle offer b found cell r.reads r.on is told) e.commits set
+ends_inside (Ok found) meaning offer b old middle new ended cell r e is told set =
+    commits_inside found cell.flag middle new ended
+    (reads_by_flag r.cell meaning old r.middle middle offer b found cell r.reads r.on is told) e set
     ∙ reads_write_none r.cell meaning old r.middle middle offer b (Ok found) r.reads r.on
 
 -- the steps of an answer
-answers_inside : (written : Result BatchAnswer StepFault) (ready : Ready) (old middle new : Standing) → TwoSteps old middle
-    → ready.answer.again ≡ false → Extends ready middle new written → AnswersFrom true (handed_on written) old new
-answers_inside (Ok answer) ready old middle new two e x =
-    subst (λ (t : Bool). StepsFrom true t old new) (sym (ap (λ (a : BatchAnswer). a.again) x.gives ∙ e))
-    (x.goes.steps ∙ ap counted two.0, x.goes.writes ∙ two.1)
-answers_inside (Err fault) ready old middle new two e x = tt
+broken_answers : (flag : Bool) (old new : Standing) (ended : Ended) (fault : StepFault) (position : Option ℕ)
+    → ended ≡ Broken fault position → AnswersFrom flag (result_of ended) old new
+broken_answers flag old new ended fault position e = subst (λ (v : Ended). AnswersFrom flag (result_of v) old new) (sym e) tt
 
-answers_written : (written : Result BatchAnswer StepFault) (opening : Opening) (old middle new : Standing) → FourSteps old middle
-    → opening.answer.again ≡ false → Writes opening middle new written → AnswersFrom false (handed_on written) old new
-answers_written (Ok answer) opening old middle new four e w =
-    subst (λ (t : Bool). StepsFrom false t old new) (sym (ap (λ (a : BatchAnswer). a.again) w.gives ∙ e))
-    (w.goes.steps ∙ ap counted four.0, w.goes.writes ∙ ap counted four.1)
-answers_written (Err fault) opening old middle new four e w = tt
-
-answers_placed : (placed : Result Opening StepFault) (written : Result BatchAnswer StepFault) (opening : Opening)
-    (old middle next new : Standing) → ThreeSteps old middle → opening.answer.again ≡ false → Places opening middle next placed
-    → PlacedOn placed next new written → AnswersFrom false (handed_on written) old new
-answers_placed (Err fault) written opening old middle next new three e p on =
-    subst (λ (w : Result BatchAnswer StepFault). AnswersFrom false (handed_on w) old new) (sym on.1) tt
-answers_placed (Ok it) written opening old middle next new three e p on =
-    answers_written written it old next new (p.goes.steps ∙ ap counted three.0, p.goes.writes ∙ three.1)
-    (ap (λ (o : Opening). o.answer.again) p.gives ∙ e) on
-
-answers_emptied : (emptied : Result Opening StepFault) (written : Result BatchAnswer StepFault) (opening : Opening)
-    (old middle next new : Standing) → TwoSteps old middle → opening.answer.again ≡ false → Empties opening middle next emptied
-    → EmptiedOn emptied next new written → AnswersFrom false (handed_on written) old new
-answers_emptied (Err fault) written opening old middle next new two e p on =
-    subst (λ (w : Result BatchAnswer StepFault). AnswersFrom false (handed_on w) old new) (sym on.1) tt
-answers_emptied (Ok it) written opening old middle next new two e p on =
-    answers_placed on.placed written it old next on.middle new (p.goes.steps ∙ ap counted two.0, p.goes.writes ∙ two.1)
-    (ap (λ (o : Opening). o.answer.again) p.gives ∙ e) on.places on.on
-
-commits_answers : (found : Found) (flag : Bool) (written : Result BatchAnswer StepFault) (b : Batch) (old middle new : Standing)
-    → TwoSteps old middle → IsShaped (Ok found) → IsByFlag flag (Ok found) → CommitsFound found middle new written
-    → AnswersFrom flag (handed_on written) old new
-commits_answers (Repeat answer) flag written b old middle new two shape is c =
-    subst (λ (w : Result BatchAnswer StepFault). AnswersFrom flag (handed_on w) old new) (sym c.1)
-    (subst (λ (t : Bool). StepsFrom flag t old new) (sym shape)
-    (subst (λ (s : Standing). TwoSteps old s) (sym c.0) two))
-commits_answers (Inside ready) flag written b old middle new two shape is c =
-    subst (λ (t : Bool). AnswersFrom t (handed_on written) old new) (sym is) (answers_inside written ready old middle new two shape c)
-commits_answers (Opens opening) flag written b old middle new two shape is c =
-    subst (λ (t : Bool). AnswersFrom t (handed_on written) old new) (sym is)
-    (answers_emptied c.emptied written opening old middle c.middle new two shape c.empties c.on)
+commits_answers : (found : Found) (flag : Bool) (old middle new : Standing) (ended : Ended) → TwoSteps old middle → IsShaped (Ok found)
+    → IsByFlag flag (Ok found) → EndsTo opt_call (Ok found) middle new ended → AnswersFrom flag (result_of ended) old new
+commits_answers (Repeat answer) flag old middle new ended two shape is s =
+    answered_result (λ (x : Standing) (r : Result BatchAnswer Refusal). AnswersFrom flag r old x) answer middle new ended s
+    (subst (λ (t : Bool). StepsFrom flag t old middle) (sym shape) two)
+commits_answers (Inside ready) flag old middle new ended two shape is (breaks_off fault g e) =
+    broken_answers flag old new ended fault (Some ready.answer.position) e
+commits_answers (Inside ready) flag old middle new ended two shape is (goes_on last g s) =
+    answered_result (λ (x : Standing) (r : Result BatchAnswer Refusal). AnswersFrom flag r old x) ready.answer last new ended s
+    (subst (λ (t : Bool). StepsFrom t ready.answer.again old last) (sym is)
+    (subst (λ (t : Bool). StepsFrom true t old last) (sym shape) (g.steps ∙ ap counted two.0, g.writes ∙ two.1)))
+commits_answers (Opens opening) flag old middle new ended two shape is (breaks_off fault g e) =
+    broken_answers flag old new ended fault None e
+commits_answers (Opens opening) flag old middle new ended two shape is (goes_on next g (breaks_off fault h e)) =
+    broken_answers flag old new ended fault None e
+commits_answers (Opens opening) flag old middle new ended two shape is (goes_on next g (goes_on third h (breaks_off fault k e))) =
+    broken_answers flag old new ended fault (Some opening.answer.position) e
+commits_answers (Opens opening) flag old middle new ended two shape is (goes_on next g (goes_on third h (goes_on last k s))) =
+    answered_result (λ (x : Standing) (r : Result BatchAnswer Refusal). AnswersFrom flag r old x) opening.answer last new ended s
+    (subst (λ (t : Bool). StepsFrom t opening.answer.again old last) (sym is)
+    (subst (λ (t : Bool). StepsFrom false t old last) (sym shape) (
+      k.steps ∙ ap counted (h.steps ∙ ap counted (g.steps ∙ ap counted two.0)),
+      k.writes ∙ ap counted (h.writes ∙ g.writes ∙ two.1),
+    )))
 
 ends_answers : (found : Result Found Refusal) (meaning : Meaning) (offer : List ℕ) (b : Batch) (old middle new : Standing)
-    (result : Result BatchAnswer Refusal) (cell : Cell) → Reads meaning old middle offer b found → Ends found middle new result
-    → IsCell cell → old.cell ≡ Some (cell_spelling cell) → AnswersFrom cell.flag result old new
-ends_answers (Err why) meaning offer b old middle new result cell r e is told =
-    subst (λ (x : Result BatchAnswer Refusal). AnswersFrom cell.flag x old new) (sym e.1) tt
-ends_answers (Ok found) meaning offer b old middle new result cell r e is told =
-    subst (λ (x : Result BatchAnswer Refusal). AnswersFrom cell.flag x old new) (sym e.gives)
-    (commits_answers found cell.flag e.written b old middle new
+    (ended : Ended) (cell : Cell) → Reads meaning old middle offer b found → EndsTo opt_call found middle new ended
+    → IsCell cell → old.cell ≡ Some (cell_spelling cell) → AnswersFrom cell.flag (result_of ended) old new
+ends_answers (Err why) meaning offer b old middle new ended cell r e is told =
+    ends_result opt_call (λ (s : Standing) (x : Result BatchAnswer Refusal). AnswersFrom cell.flag x old s) why middle new ended e tt
+ends_answers (Ok found) meaning offer b old middle new ended cell r e is told =
+    commits_answers found cell.flag old middle new ended
     (reads_counted r.cell meaning old r.middle middle offer b found r.reads r.on)
     (reads_shaped r.cell meaning r.middle middle offer b found r.on)
-    (reads_by_flag r.cell meaning old r.middle middle offer b found cell r.reads r.on is told) e.commits)
+    (reads_by_flag r.cell meaning old r.middle middle offer b found cell r.reads r.on is told) e
 
-calls_write : (t : Bool) (meaning : Meaning) (old new : Standing) (offer : List ℕ) (b : Batch) (result : Result BatchAnswer Refusal)
-    → is_long b ≡ t → Calls meaning old new offer b result → WritesBy result old new
-calls_write true meaning old new offer b result long c =
-    let same : new.writes ≡ old.writes = ap (λ (s : Standing). s.writes) (c.long long).0 in
-    record {
-      once = inl same;
-      inside = λ (cell : Cell) (is : IsCell cell) (told : old.cell ≡ Some (cell_spelling cell)) (set : cell.flag ≡ true). same;
-      answers = λ (cell : Cell) (is : IsCell cell) (told : old.cell ≡ Some (cell_spelling cell)).
-          subst (λ (x : Result BatchAnswer Refusal). AnswersFrom cell.flag x old new) (sym (c.long long).1) tt;
-    }
-calls_write false meaning old new offer b result short c =
-    let a = c.asks short in
-    record {
-      once = stepped_once result old new (steps meaning old new offer b result c short);
-      inside = λ (cell : Cell) (is : IsCell cell) (told : old.cell ≡ Some (cell_spelling cell)) (set : cell.flag ≡ true).
-          ends_inside a.found meaning offer b old a.middle new result cell a.reads a.ends is told set;
-      answers = λ (cell : Cell) (is : IsCell cell) (told : old.cell ≡ Some (cell_spelling cell)).
-          ends_answers a.found meaning offer b old a.middle new result cell a.reads a.ends is told;
-    }
+-- how often a call writes, by what it gives
+abbrev WritesFrom : Standing → Standing → Result BatchAnswer Refusal → Type 0
+WritesFrom old new result =
+    ((cell : Cell) → IsCell cell → old.cell ≡ Some (cell_spelling cell) → cell.flag ≡ true → new.writes ≡ old.writes)
+    × ((cell : Cell) → IsCell cell → old.cell ≡ Some (cell_spelling cell) → AnswersFrom cell.flag result old new)
+
+writes_from : (meaning : Meaning) (old new : Standing) (offer : List ℕ) (b : Batch) (result : Result BatchAnswer Refusal)
+    → Calls opt_call meaning old new offer b result → WritesFrom old new result
+writes_from meaning old new offer b result c =
+    each_call opt_call meaning old new offer b (λ (s : Standing) (r : Result BatchAnswer Refusal). WritesFrom old s r) result
+    (λ cell is told set. refl, λ cell is told. tt)
+    (λ (ended : Ended) (a : AsksTo opt_call meaning old new offer b ended). (
+      λ cell is told set. ends_inside a.found meaning offer b old a.middle new ended cell a.reads a.ends is told set,
+      λ cell is told. ends_answers a.found meaning offer b old a.middle new ended cell a.reads a.ends is told,
+    ))
+    c
+
+calls_once : (t : Bool) (meaning : Meaning) (old new : Standing) (offer : List ℕ) (b : Batch) (result : Result BatchAnswer Refusal)
+    → is_long b ≡ t → Calls opt_call meaning old new offer b result → WritesAtMostOnce old new
+calls_once true meaning old new offer b result long c = inl (ap (λ (s : Standing). s.writes) (c.long long).0)
+calls_once false meaning old new offer b result short c = stepped_once result old new (steps meaning old new offer b result c short)
 
 pub writes : (meaning : Meaning) (old new : Standing) (offer : List ℕ) (b : Batch) (result : Result BatchAnswer Refusal)
-    → Calls meaning old new offer b result → WritesBy result old new
-writes meaning old new offer b result c = calls_write (is_long b) meaning old new offer b result refl c
+    → Calls opt_call meaning old new offer b result → WritesBy result old new
+writes meaning old new offer b result c =
+    let w = writes_from meaning old new offer b result c in
+    record { once = calls_once (is_long b) meaning old new offer b result refl c; inside = w.0; answers = w.1 }

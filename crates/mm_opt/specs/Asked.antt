@@ -8,17 +8,18 @@ use Rattle.mm_model.specs.Fit.{IsFit}
 use Rattle.mm_model.specs.Long.{is_long}
 use Rattle.mm_model.specs.declared.answer.BatchAnswer.{BatchAnswer}
 use Rattle.mm_model.specs.declared.refusal.Refusal.{Refusal}
+use Rattle.mm_call.specs.Calls.{Calls}
 use Rattle.mm_call.specs.CallsOn.{CallsOn}
 use Rattle.mm_call.specs.Leaving.{LeavesUntouched, Blames}
 use Rattle.mm_call.specs.Refusals.{fault_in}
-use Rattle.mm_opt.specs.Asks.{Calls, StepsBy, WritesBy}
+use Rattle.mm_opt.specs.Asks.{opt_call, StepsBy, WritesBy}
 use Rattle.mm_opt.specs.Complete.{AnswersAccepted}
 
 -- One call over a platform, that offered these bytes and asked for the batch.
 pub record AskedInOpt (meaning : Meaning) (old new : Standing) (offer : List ℕ) (b : Batch)
     (result : Result BatchAnswer Refusal) : Type 0 where
   -- the steps that were made, and what each gave; none where the batch is too long
-  pub calls : Calls meaning old new offer b result
+  pub calls : Calls opt_call meaning old new offer b result
   -- a refusal that hands on no device's fault has changed nothing
   pub untouched : LeavesUntouched result old new
   -- the count of faults rose exactly where a device's fault is handed on

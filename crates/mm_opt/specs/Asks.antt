@@ -1,8 +1,9 @@
 -- What a whole call does to the platform, and what it answers.
-use Rattle.std.specs.Prelude.{◌≡◌, ℕ, Bool, true, false, List, Some, Result, Ok, Err, ◌⊎◌}
+use Rattle.std.specs.Prelude.{◌≡◌, ℕ, Bool, true, false, List, [], ◌∷◌, Some, Result, Ok, Err, ◌⊎◌}
 use Rattle.mm_base.specs.Faults.{counted}
-use Rattle.mm_platform.specs.declared.fault.StepFault.{StepFault}
+use Rattle.mm_digest.specs.declared.variant.Variant.TheVariants.{Opt}
 use Rattle.mm_platform.specs.Standing.{Standing}
+use Rattle.mm_platform.specs.Steps.{Act, WriteCell, ResetRegister, ExtendRegister}
 use Rattle.mm_module.specs.Meaning.{Meaning}
 use Rattle.mm_module.specs.Batch.{Batch}
 use Rattle.mm_seal.specs.declared.cell.Cell.{Cell}
@@ -10,12 +11,10 @@ use Rattle.mm_seal.specs.Cell.{IsCell, cell_spelling}
 use Rattle.mm_model.specs.declared.answer.BatchAnswer.{BatchAnswer}
 use Rattle.mm_model.specs.declared.refusal.Refusal.{Refusal}
 use Rattle.mm_model.specs.declared.refusal.Refusal.TheVariants.{Memory, Long, Device, Blank, Cell as OtherCell, Lost, Form, Kind, State, Tag, Stale, Full}
-use Rattle.mm_model.specs.Long.{is_long}
-use Rattle.mm_call.specs.Refusals.{handed_on}
-use Rattle.mm_opt.specs.declared.found.Opening.{Opening}
+use Rattle.mm_call.specs.Calls.{CallOf}
 use Rattle.mm_opt.specs.declared.found.Found.{Found}
 use Rattle.mm_opt.specs.declared.found.Found.TheVariants.{Repeat, Inside, Opens}
-use Rattle.mm_opt.specs.Steps.{IsReady, ReadsOwnCell, ReadsRegister, Extends, Empties, Places, Writes}
+use Rattle.mm_opt.specs.Steps.{IsReady, ReadsOwnCell, ReadsRegister}
 
 -- The reading steps of a call.
 abbrev pub ReadsOn : Meaning → Result Cell Refusal → Standing → Standing → List ℕ → Batch
@@ -36,62 +35,22 @@ MayCommit (Repeat answer) standing = Unit {0}
 MayCommit (Inside ready) standing = IsReady standing
 MayCommit (Opens opening) standing = IsReady standing
 
--- The steps that open a segment, one after another; none comes after one that fails.
-abbrev pub PlacedOn : Result Opening StepFault → Standing → Standing → Result BatchAnswer StepFault
-    → Type 0
-PlacedOn (Err fault) old new written = (new ≡ old) × (written ≡ Err fault)
-PlacedOn (Ok opening) old new written = Writes opening old new written
+-- The steps that commit what was found: none for a repeat; in the open segment one, which extends
+-- the register; and the three that open a segment.
+abbrev pub acts_for : Found → List Act
+acts_for (Repeat answer) = []
+acts_for (Inside ready) = ExtendRegister ready.value.bytes ∷ []
+acts_for (Opens opening) =
+    ResetRegister ∷ ExtendRegister opening.value.bytes ∷ WriteCell opening.next ∷ []
 
-pub record PlacesAndWrites (opening : Opening) (old new : Standing)
-    (written : Result BatchAnswer StepFault) : Type 0 where
-  pub middle : Standing
-  pub placed : Result Opening StepFault
-  pub places : Places opening old middle placed
-  pub on : PlacedOn placed middle new written
+abbrev pub answer_in : Found → BatchAnswer
+answer_in (Repeat answer) = answer
+answer_in (Inside ready) = ready.answer
+answer_in (Opens opening) = opening.answer
 
-abbrev pub EmptiedOn : Result Opening StepFault → Standing → Standing → Result BatchAnswer StepFault
-    → Type 0
-EmptiedOn (Err fault) old new written = (new ≡ old) × (written ≡ Err fault)
-EmptiedOn (Ok opening) old new written = PlacesAndWrites opening old new written
-
-pub record OpensSegment (opening : Opening) (old new : Standing)
-    (written : Result BatchAnswer StepFault) : Type 0 where
-  pub middle : Standing
-  pub emptied : Result Opening StepFault
-  pub empties : Empties opening old middle emptied
-  pub on : EmptiedOn emptied middle new written
-
--- How a call goes on once its batch has run in memory: a repeat is answered, and a new batch is
--- committed.
-abbrev pub CommitsFound : Found → Standing → Standing → Result BatchAnswer StepFault → Type 0
-CommitsFound (Repeat answer) old new written = (new ≡ old) × (written ≡ Ok answer)
-CommitsFound (Inside ready) old new written = Extends ready old new written
-CommitsFound (Opens opening) old new written = OpensSegment opening old new written
-
-pub record Commits (found : Found) (old new : Standing)
-    (result : Result BatchAnswer Refusal) : Type 0 where
-  pub written : Result BatchAnswer StepFault
-  pub commits : CommitsFound found old new written
-  pub gives : result ≡ handed_on written
-
-abbrev pub Ends : Result Found Refusal → Standing → Standing → Result BatchAnswer Refusal → Type 0
-Ends (Err why) old new result = (new ≡ old) × (result ≡ Err why)
-Ends (Ok found) old new result = Commits found old new result
-
--- A call that isn't refused as Long: it reads the cell and the register, and goes on by what it
--- finds.
-pub record Asks (meaning : Meaning) (old new : Standing) (offer : List ℕ) (b : Batch)
-    (result : Result BatchAnswer Refusal) : Type 0 where
-  pub middle : Standing
-  pub found : Result Found Refusal
-  pub reads : Reads meaning old middle offer b found
-  pub ends : Ends found middle new result
-
--- A call: one that is too long is refused before its first step.
-pub record Calls (meaning : Meaning) (old new : Standing) (offer : List ℕ) (b : Batch)
-    (result : Result BatchAnswer Refusal) : Type 0 where
-  pub long : is_long b ≡ true → (new ≡ old) × (result ≡ Err Long)
-  pub asks : is_long b ≡ false → Asks meaning old new offer b result
+-- what Opt gives of its calls
+abbrev pub opt_call : CallOf Found
+opt_call = record { variant = Opt; reads = Reads; acts = acts_for; answer = answer_in }
 
 -- the room after the reading steps, for what is to be committed
 abbrev pub LeavesRoom : Result Found Refusal → Standing → Type 0

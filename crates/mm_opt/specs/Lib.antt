@@ -9,7 +9,6 @@ pub mod CheckpointTurns
 pub mod ChecksOn
 pub mod Finishes
 pub mod Complete
-pub mod Prepares
 pub mod Asked
 pub mod Moved
 pub mod Closed

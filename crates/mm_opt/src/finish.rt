@@ -5,8 +5,10 @@ ghost use Rattle.mm_call.specs.Ended.{committed_as};
 ghost use Rattle.mm_module.specs.Batches.{batch_of};
 ghost use Rattle.mm_model.specs.Long.{is_long};
 ghost use Rattle.mm_opt.specs.Steps.{IsReady, ReadsRegister};
-ghost use Rattle.mm_opt.specs.Asks.{LeavesRoom};
-ghost use Rattle.mm_opt.specs.Finishes.{ExtendsTo, WritesTo, PlacesTo, OpensTo, EndsTo, AsksTo, SeesTo};
+ghost use Rattle.mm_call.specs.Calls.{EndsTo, AsksTo};
+ghost use Rattle.mm_opt.specs.declared.stage.Change.TheVariants as change;
+ghost use Rattle.mm_opt.specs.Asks.{LeavesRoom, opt_call};
+ghost use Rattle.mm_opt.specs.Finishes.{ChangesTo, SeesTo};
 
 use crate::found::{Found, Opening, Ready};
 use crate::step::{empty, extend, place, read_register, write};
@@ -29,7 +31,7 @@ pub fn read_and_change<M: Module, P: Platform>(
     keys: &mut KeptKey,
 ) -> Ended
     requires { is_long (batch_of batch) ≡ false }
-    ensures { AsksTo (M.meaning «module».now) (P.standing platform.old) (P.standing platform.new)
+    ensures { AsksTo opt_call (M.meaning «module».now) (P.standing platform.old) (P.standing platform.new)
         offer.now (batch_of batch.entry) result }
 {
     let found = read(alloc, module, platform, offer, batch, keys);
@@ -77,7 +79,7 @@ fn found_in<M: Module, P: Platform>(
 #[inline(always)]
 pub fn finish_found<P: Platform>(found: Result<Found, Refusal>, platform: &mut P) -> Ended
     requires { LeavesRoom found (P.standing platform.old) }
-    ensures { EndsTo found (P.standing platform.old) (P.standing platform.new) result }
+    ensures { EndsTo opt_call found (P.standing platform.old) (P.standing platform.new) result }
 {
     match found {
         Err(refusal) => Ended::refused(refusal),
@@ -91,7 +93,7 @@ pub fn finish_found<P: Platform>(found: Result<Found, Refusal>, platform: &mut P
 #[inline(always)]
 pub fn extend_last<P: Platform>(ready: Ready, platform: &mut P) -> Ended
     requires { IsReady (P.standing platform.old) }
-    ensures { ExtendsTo ready (P.standing platform.old) (P.standing platform.new) result }
+    ensures { ChangesTo (change.Inside ready) (P.standing platform.old) (P.standing platform.new) result }
 {
     let position = ready.answer.position;
     committed(position, extend(ready, platform))
@@ -101,7 +103,7 @@ pub fn extend_last<P: Platform>(ready: Ready, platform: &mut P) -> Ended
 #[inline(always)]
 pub fn open<P: Platform>(opening: Opening, platform: &mut P) -> Ended
     requires { IsReady (P.standing platform.old) }
-    ensures { OpensTo opening (P.standing platform.old) (P.standing platform.new) result }
+    ensures { ChangesTo (change.Emptying opening) (P.standing platform.old) (P.standing platform.new) result }
 {
     match empty(opening, platform) {
         Err(fault) => Ended::Broken {
@@ -116,7 +118,7 @@ pub fn open<P: Platform>(opening: Opening, platform: &mut P) -> Ended
 #[inline(always)]
 pub fn place_on<P: Platform>(opening: Opening, platform: &mut P) -> Ended
     requires { IsReady (P.standing platform.old) }
-    ensures { PlacesTo opening (P.standing platform.old) (P.standing platform.new) result }
+    ensures { ChangesTo (change.Placing opening) (P.standing platform.old) (P.standing platform.new) result }
 {
     match place(opening, platform) {
         Err(fault) => Ended::Broken {
@@ -130,7 +132,7 @@ pub fn place_on<P: Platform>(opening: Opening, platform: &mut P) -> Ended
 /// The last step of an opening, which commits the batch.
 #[inline(always)]
 pub fn write_last<P: Platform>(opening: Opening, platform: &mut P) -> Ended
-    ensures { WritesTo opening (P.standing platform.old) (P.standing platform.new) result }
+    ensures { ChangesTo (change.Writing opening) (P.standing platform.old) (P.standing platform.new) result }
 {
     let position = opening.answer.position;
     committed(position, write(opening, platform))

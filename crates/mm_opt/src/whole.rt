@@ -9,8 +9,8 @@ ghost use Rattle.mm_call.specs.Refusals.{fault_in};
 ghost use Rattle.mm_call.specs.Leaving.{Blames, whole_in};
 ghost use Rattle.mm_opt.specs.declared.stage.Stage.TheVariants.{Begun};
 ghost use Rattle.mm_opt.specs.Asked.{AskedInOpt};
-ghost use Rattle.mm_opt.specs.Prepares.{IsCallSoFar};
-ghost use Rattle.mm_opt.specs.Asks.{Reads, ReadsOn, MayCommit, LeavesRoom, CommitsFound, Calls};
+ghost use Rattle.mm_call.specs.Calls.{Calls, Commits, IsCallSoFar};
+ghost use Rattle.mm_opt.specs.Asks.{Reads, ReadsOn, MayCommit, LeavesRoom, opt_call};
 
 use crate::call::{Call, begin};
 use crate::finish::finish_found;
@@ -67,7 +67,7 @@ pub fn prepare<M: Module, P: Platform>(
         Reads (M.meaning «module».now) (P.standing platform.old) (P.standing platform.new)
         offer.now (One request.now) result }
     ensures goes { is_long (One request.now) ≡ false →
-        IsCallSoFar (M.meaning «module».now) (P.standing platform.old) (P.standing platform.new)
+        IsCallSoFar opt_call (M.meaning «module».now) (P.standing platform.old) (P.standing platform.new)
         offer.now (One request.now) result }
     ensures room { LeavesRoom result (P.standing platform.new) }
     ensures faults { Blames (fault_in result)
@@ -89,7 +89,7 @@ fn prepare_batch<M: Module, P: Platform>(
         Reads (M.meaning «module».now) (P.standing platform.old) (P.standing platform.new)
         offer.now (batch_of batch.entry) result }
     ensures goes { is_long (batch_of batch.entry) ≡ false →
-        IsCallSoFar (M.meaning «module».now) (P.standing platform.old) (P.standing platform.new)
+        IsCallSoFar opt_call (M.meaning «module».now) (P.standing platform.old) (P.standing platform.new)
         offer.now (batch_of batch.entry) result }
     ensures room { LeavesRoom result (P.standing platform.new) }
     ensures faults { Blames (fault_in result)
@@ -98,29 +98,28 @@ fn prepare_batch<M: Module, P: Platform>(
     if mm_model::is_long(&batch) {
         return Err(Refusal::Long);
     }
-    match read_apart(alloc, module, platform, offer, batch, &mut KeptKey::new()) {
+    match read_apart(alloc, module, platform, offer, batch) {
         Err(refusal) => Err(refusal),
         Ok(found) => Ok(Prepared { found }),
     }
 }
 
-// Makes the reading steps of a call in two parts.
+// Makes the reading steps of a call in two parts, under a key that is absorbed for them alone.
 fn read_apart<M: Module, P: Platform>(
     alloc: Global,
     module: &M,
     platform: &mut P,
     offer: &[u8],
     batch: Batch<'_>,
-    keys: &mut KeptKey,
 ) -> Result<Found, Refusal>
     requires { is_long (batch_of batch) ≡ false }
     ensures reads { Reads (M.meaning «module».now) (P.standing platform.old)
         (P.standing platform.new) offer.now (batch_of batch.entry) result }
-    ensures goes { IsCallSoFar (M.meaning «module».now) (P.standing platform.old)
+    ensures goes { IsCallSoFar opt_call (M.meaning «module».now) (P.standing platform.old)
         (P.standing platform.new) offer.now (batch_of batch.entry) result }
     ensures room { LeavesRoom result (P.standing platform.new) }
 {
-    read(alloc, module, platform, offer, batch, keys)
+    read(alloc, module, platform, offer, batch, &mut KeptKey::new())
 }
 
 /// Makes the reading steps.
@@ -167,7 +166,7 @@ impl Prepared {
     /// `prepare` left.
     pub fn commit<P: Platform>(self, platform: &mut P) -> Result<Committed, StepFault>
         requires { MayCommit self (P.standing platform.old) }
-        ensures commits { CommitsFound self
+        ensures commits { Commits opt_call self
             (P.standing platform.old) (P.standing platform.new) result }
         ensures faults { Blames (result_err result)
             (P.standing platform.old).faults (P.standing platform.new).faults }
@@ -178,7 +177,7 @@ impl Prepared {
 
 fn commit_found<P: Platform>(found: Found, platform: &mut P) -> Result<Committed, StepFault>
     requires { MayCommit found (P.standing platform.old) }
-    ensures { CommitsFound found (P.standing platform.old) (P.standing platform.new) result }
+    ensures { Commits opt_call found (P.standing platform.old) (P.standing platform.new) result }
 {
     match finish_found(Ok(found), platform) {
         Ended::Answered(answer) => Ok(Committed { answer }),
@@ -204,7 +203,7 @@ fn call<M: Module, P: Platform>(
     offer: &[u8],
     batch: Batch<'_>,
 ) -> Result<BatchAnswer, Refusal>
-    ensures calls { Calls (M.meaning «module».now) (P.standing platform.old)
+    ensures calls { Calls opt_call (M.meaning «module».now) (P.standing platform.old)
         (P.standing platform.new) offer.now (batch_of batch.entry) result }
     ensures faults { Blames (fault_in result)
         (P.standing platform.old).faults (P.standing platform.new).faults }
@@ -226,7 +225,7 @@ fn finished<M: Module, P: Platform>(
 ) -> Result<BatchAnswer, Refusal>
     requires short { is_long (batch_of batch) ≡ false }
     requires begun { call ≡ Begun }
-    ensures calls { Calls (M.meaning «module».now) (P.standing platform.old)
+    ensures calls { Calls opt_call (M.meaning «module».now) (P.standing platform.old)
         (P.standing platform.new) offer.now (batch_of batch.entry) result }
     ensures faults { Blames (fault_in result)
         (P.standing platform.old).faults (P.standing platform.new).faults }

@@ -1,9 +1,5 @@
-use Rattle.std.proofs.Common.{ℕ, refl, subst, rules, IsTrue, Err, Ok}
-use Rattle.mm_digest.specs.declared.variant.Variant.TheVariants.{Basic}
-use Rattle.mm_seal.specs.Snapshot.{ReadsParts}
-use Rattle.mm_seal.specs.declared.cell.CellFault.TheVariants.{Blank, Cell as Unspelled}
-use Rattle.mm_seal.specs.declared.snapshot.PartsFault.TheVariants.{Form, Kind}
-use Rattle.mm_basic.specs.Seen.{IsCellOf, NoCell, NoOffer, Both}
+use Rattle.mm_basic.proofs.Below.{ℕ, refl, subst, rules, IsTrue, Err, Ok, Basic, ReadsParts, Blank, Unspelled, Form, Kind, IsCellOf, NoCell}
+use Rattle.mm_basic.proofs.Below.{NoOffer, Both}
 use Rattle.mm_basic.proofs.find.find.Goals as goal
 
 pub returns-in-Err-Blank-clause-finds : goal.returns-in-Err-Blank-clause-finds

@@ -1,28 +1,26 @@
-use Rattle.std.proofs.Common.{◌≡◌, false, Ok, Err}
-use Rattle.mm_module.specs.Batches.{batch_of}
-use Rattle.mm_model.specs.Long.{is_long}
+use Rattle.mm_basic.proofs.Below.{◌≡◌, false, Ok, Err, batch_of, is_long}
 use Rattle.mm_basic.proofs.Asking.{read_blamed}
-use Rattle.mm_basic.proofs.Preparing.{so_far}
+use Rattle.mm_basic.proofs.Going.{prepared}
 use Rattle.mm_basic.proofs.whole.prepare_batch.Goals as goal
 
 pub returns-in-Err-clause-goes : goal.returns-in-Err-clause-goes
 returns-in-Err-clause-goes g c =
     λ (short : is_long (batch_of c.args.batch) ≡ false).
-    so_far (g.M.Module.meaning c.args.module.now) (g.P.Device.standing c.args.platform.now)
-    (g.P.Device.standing c.read.new.platform) c.args.offer.now (batch_of c.args.batch) (Err c.in-Err.refusal) c.in-Err.ensures
+    prepared (g.M.Module.meaning c.args.module.now) (g.P.Device.standing c.args.platform.now)
+    (g.P.Device.standing c.read_alone.new.platform) c.args.offer.now (batch_of c.args.batch) (Err c.in-Err.refusal) c.in-Err.ensures
 
 pub returns-in-Ok-clause-goes : goal.returns-in-Ok-clause-goes
 returns-in-Ok-clause-goes g c =
     λ (short : is_long (batch_of c.args.batch) ≡ false).
-    so_far (g.M.Module.meaning c.args.module.now) (g.P.Device.standing c.args.platform.now)
-    (g.P.Device.standing c.read.new.platform) c.args.offer.now (batch_of c.args.batch) (Ok c.in-Ok.found) c.in-Ok.ensures
+    prepared (g.M.Module.meaning c.args.module.now) (g.P.Device.standing c.args.platform.now)
+    (g.P.Device.standing c.read_alone.new.platform) c.args.offer.now (batch_of c.args.batch) (Ok c.in-Ok.found) c.in-Ok.ensures
 
 pub returns-in-Err-clause-faults : goal.returns-in-Err-clause-faults
 returns-in-Err-clause-faults g c =
     read_blamed (g.M.Module.meaning c.args.module.now) (g.P.Device.standing c.args.platform.now)
-    (g.P.Device.standing c.read.new.platform) c.args.offer.now (batch_of c.args.batch) (Err c.in-Err.refusal) c.in-Err.ensures
+    (g.P.Device.standing c.read_alone.new.platform) c.args.offer.now (batch_of c.args.batch) (Err c.in-Err.refusal) c.in-Err.ensures
 
 pub returns-in-Ok-clause-faults : goal.returns-in-Ok-clause-faults
 returns-in-Ok-clause-faults g c =
     read_blamed (g.M.Module.meaning c.args.module.now) (g.P.Device.standing c.args.platform.now)
-    (g.P.Device.standing c.read.new.platform) c.args.offer.now (batch_of c.args.batch) (Ok c.in-Ok.found) c.in-Ok.ensures
+    (g.P.Device.standing c.read_alone.new.platform) c.args.offer.now (batch_of c.args.batch) (Ok c.in-Ok.found) c.in-Ok.ensures

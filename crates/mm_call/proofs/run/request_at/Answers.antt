@@ -1,6 +1,5 @@
-use Rattle.std.proofs.Common.{sym}
-use Rattle.mm_module.specs.Batches.{batch_of}
-use Rattle.mm_model.proofs.LongLaws.{members_are_lines}
+use Rattle.mm_call.proofs.Below.{sym, batch_of}
+use Rattle.mm_model.specs.LongLaws.{members_are_lines}
 use Rattle.mm_call.proofs.run.request_at.Goals as goal
 
 pub returns-clause-line : goal.returns-clause-line

@@ -1,5 +1,4 @@
-use Rattle.mm_module.specs.Batch.{members_of}
-use Rattle.mm_module.specs.Batches.{batch_of}
+use Rattle.mm_call.proofs.Below.{members_of, batch_of}
 use Rattle.mm_call.proofs.Members.{ran_on}
 use Rattle.mm_call.proofs.run.run_batch.Goals as goal
 

@@ -1,6 +1,4 @@
-use Rattle.mm_module.specs.Batch.{members_of}
-use Rattle.mm_module.specs.Batches.{batch_of}
-use Rattle.mm_call.specs.Ran.{RanSome}
+use Rattle.mm_call.proofs.Below.{members_of, batch_of, RanSome}
 use Rattle.mm_call.proofs.run.run_batch.Given as goal
 
 abbrev pub invariant-members : goal.invariant-members

@@ -1,6 +1,4 @@
-use Rattle.std.proofs.Common.{◌≡◌, drop}
-use Rattle.mm_model.specs.Life.{are_own}
-use Rattle.mm_model.specs.Kept.{kept_entries, kept_batches}
+use Rattle.mm_model.proofs.Below.{◌≡◌, drop, are_own, kept_entries, kept_batches}
 use Rattle.mm_model.proofs.kept.all_own.Given as goal
 
 abbrev pub invariant-entries : goal.invariant-entries

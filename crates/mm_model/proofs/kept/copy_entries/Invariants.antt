@@ -1,5 +1,4 @@
-use Rattle.std.proofs.Common.{◌≡◌, take}
-use Rattle.mm_model.specs.Kept.{kept_entries}
+use Rattle.mm_model.proofs.Below.{◌≡◌, take, kept_entries}
 use Rattle.mm_model.proofs.kept.copy_entries.Given as goal
 
 abbrev pub invariant-entries : goal.invariant-entries

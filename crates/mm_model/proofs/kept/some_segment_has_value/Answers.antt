@@ -1,6 +1,4 @@
-use Rattle.std.proofs.Common.{◌∙◌, sym, ap}
-use Rattle.mm_model.specs.Life.{has_value}
-use Rattle.mm_model.specs.Kept.{kept_entries}
+use Rattle.mm_model.proofs.Below.{◌∙◌, sym, ap, has_value, kept_entries}
 use Rattle.mm_model.proofs.KeptLaws.{segment_here, no_segment_here}
 use Rattle.mm_model.proofs.kept.some_segment_has_value.Goals as goal
 

@@ -1,6 +1,4 @@
-use Rattle.std.proofs.Common.{◌≡◌, drop}
-use Rattle.mm_model.specs.Life.{has_value}
-use Rattle.mm_model.specs.Kept.{kept_entries}
+use Rattle.mm_model.proofs.Below.{◌≡◌, drop, has_value, kept_entries}
 use Rattle.mm_model.proofs.kept.some_value.Given as goal
 
 abbrev pub invariant-entries : goal.invariant-entries

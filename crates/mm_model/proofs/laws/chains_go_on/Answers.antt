@@ -1,6 +1,5 @@
-use Rattle.std.proofs.Common.{refl}
+use Rattle.mm_model.proofs.Below.{refl, summary-push, register-push, anchor-push, register_folds}
 use Rattle.mm_model.specs.Chains.{summary_of, register_of, anchor_of}
-use Rattle.mm_model.specs.DigestLaws.{summary-push, register-push, anchor-push, register_folds}
 use Rattle.mm_model.proofs.laws.chains_go_on.Goals as goal
 
 pub returns-clause-summary : goal.returns-clause-summary

@@ -1,7 +1,5 @@
 use Rattle.mm_model.proofs.OptJudge.{opt_is_judged}
-use Rattle.mm_model.specs.EndLaws.{ended}
-use Rattle.mm_model.specs.Life.{Spoiled, Lost}
-use Rattle.std.proofs.Common.{◌∙◌}
+use Rattle.mm_model.proofs.Below.{ended, Spoiled, Lost, ◌∙◌}
 use Rattle.mm_model.proofs.laws.ended_histories_accept_nothing.Goals as goal
 
 pub returns-clause-spoiled : goal.returns-clause-spoiled

@@ -1,4 +1,4 @@
-use Rattle.mm_model.proofs.MovedDigests.{basic_digests, opt_digests}
+use Rattle.mm_model.proofs.Moves.{basic_digests, opt_digests}
 use Rattle.mm_model.proofs.move_laws.moves_are_device_steps.Goals as goal
 
 pub returns-clause-basic : goal.returns-clause-basic

@@ -1,5 +1,5 @@
 use Rattle.mm_model.specs.EndLaws.{first_outside}
-use Rattle.mm_model.proofs.MovedDigests.{outside_moved}
+use Rattle.mm_model.proofs.Moves.{outside_moved}
 use Rattle.mm_model.proofs.move_laws.moves_keep_values_outside.Goals as goal
 
 pub returns-clause-first : goal.returns-clause-first

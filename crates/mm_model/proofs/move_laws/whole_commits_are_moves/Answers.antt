@@ -1,4 +1,4 @@
-use Rattle.mm_model.proofs.Whole.{basic_whole, opt_whole}
+use Rattle.mm_model.proofs.Moves.{basic_whole, opt_whole}
 use Rattle.mm_model.proofs.move_laws.whole_commits_are_moves.Goals as goal
 
 pub returns-clause-basic : goal.returns-clause-basic

@@ -1,8 +1,4 @@
-use Rattle.std.proofs.Common.{Ok, subst}
-use Rattle.mm_module.specs.Batch.{One}
-use Rattle.mm_model.specs.declared.answer.BatchAnswer.{BatchAnswer}
-use Rattle.mm_call.specs.LeavingLaws.{wholly}
-use Rattle.mm_opt.specs.Asked.{AskedInOpt}
+use Rattle.mm_opt.proofs.Below.{Ok, subst, One, BatchAnswer, wholly, AskedInOpt}
 use Rattle.mm_opt.proofs.whole.ask.Goals as goal
 
 pub returns-in-Ok : goal.returns-in-Ok

@@ -1,11 +1,4 @@
-use Rattle.std.proofs.Common.{Result, subst, sym}
-use Rattle.mm_module.specs.Batches.{batch_of}
-use Rattle.mm_model.specs.declared.answer.BatchAnswer.{BatchAnswer}
-use Rattle.mm_model.specs.declared.refusal.Refusal.{Refusal}
-use Rattle.mm_call.specs.Leaving.{Blames}
-use Rattle.mm_call.specs.Refusals.{fault_in}
-use Rattle.mm_opt.specs.declared.stage.Stage.{Stage}
-use Rattle.mm_opt.specs.Steps.{MayGoOn}
+use Rattle.mm_opt.proofs.Below.{Result, subst, sym, batch_of, BatchAnswer, Refusal, Blames, fault_in, Stage, MayGoOn}
 use Rattle.mm_opt.proofs.Finishing.{calls_finished}
 use Rattle.mm_opt.proofs.whole.finished.Goals as goal
 

@@ -15,5 +15,4 @@ invariant_of-self-2 g c =
     c.in_ok-stepped.ensures.state c.in_ok-stepped.ensures.output c.in_ok-asked.ensures c.in_ok-push.ensures.items
 
 pub returns-clause-output : goal.returns-clause-output
-returns-clause-output g c =
-    (c.in_ok-said.ensures ∙ c.as_slice-2.ensures.value) ∙ (invariant_of-self-2 g c).output_is
+returns-clause-output g c = (c.in_ok-said.ensures ∙ c.as_slice-2.ensures.value) ∙ (invariant_of-self-2 g c).output_is

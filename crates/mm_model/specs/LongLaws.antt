@@ -25,8 +25,7 @@ not_lf byte e = grind (arith, nat_tests)
 
 unbroken : (text : List ℕ) → list_any is_lf text ≡ false → AllByRecursion (λ byte. byte ≢ 10) text
 unbroken [] e = tt
-unbroken (x ∷ xs) e =
-    (not_lf x (neither_left (is_lf x) (list_any is_lf xs) e), unbroken xs (neither_right (is_lf x) (list_any is_lf xs) e))
+unbroken (x ∷ xs) e = (not_lf x (neither_left (is_lf x) (list_any is_lf xs) e), unbroken xs (neither_right (is_lf x) (list_any is_lf xs) e))
 
 short : (n : ℕ) → nat_lt longest_request n ≡ false → n ≤ longest_request
 short n e = grind (arith, nat_tests)
@@ -42,9 +41,8 @@ record IsPiece (m text : List ℕ) : Type 0 where
 first_piece : (x m rest : List ℕ) → x ≡ m → IsPiece m (x ++ rest)
 first_piece x m rest e = record {
   size = omega (arith, length-append x rest, ap length e);
-  clean = λ (h : list_any is_lf (x ++ rest) ≡ false).
-      subst (λ (v : List ℕ). list_any is_lf v ≡ false) e
-      (neither_left (list_any is_lf x) (list_any is_lf rest) (sym (list_any-append is_lf x rest) ∙ h));
+  clean = λ (h : list_any is_lf (x ++ rest) ≡ false). subst (λ (v : List ℕ). list_any is_lf v ≡ false) e (neither_left (list_any is_lf x)
+      (list_any is_lf rest) (sym (list_any-append is_lf x rest) ∙ h));
 }
 
 later_piece : (x m rest : List ℕ) → IsPiece m rest → IsPiece m (x ++ (9 ∷ rest))
@@ -61,16 +59,14 @@ only_piece x m e = record {
 }
 
 piece : (pieces : List (List ℕ)) (i : ℕ) (m : List ℕ) → slice_get pieces i ≡ Some m → IsPiece m (join_with_byte 9 pieces)
-piece [] i m e = cc
 piece (x ∷ []) zero m e = let s : x ≡ m = cc in only_piece x m s
-piece (x ∷ []) (suc i) m e = cc
 piece (x ∷ y ∷ xs) zero m e = let s : x ≡ m = cc in first_piece x m (9 ∷ join_with_byte 9 (y ∷ xs)) s
 piece (x ∷ y ∷ xs) (suc i) m e = later_piece x m (join_with_byte 9 (y ∷ xs)) (piece (y ∷ xs) i m e)
+piece _ _ m e = cc
 
 pub members_are_lines : (b : Batch) → is_long b ≡ false → (i : ℕ) (m : List ℕ) → slice_get (members_of b) i ≡ Some m → IsLine m
 members_are_lines b e i m at =
-    let p : IsPiece m (batch_text b) =
-    subst (λ (v : List ℕ). IsPiece m v) (text_of-members_of b) (piece (members_of b) i m at) in
+    let p : IsPiece m (batch_text b) = subst (λ (v : List ℕ). IsPiece m v) (text_of-members_of b) (piece (members_of b) i m at) in
     let f = neither_left (nat_lt longest_request (length (batch_text b)) || list_any is_lf (batch_text b)) (nat_lt most_members (size_of b))
     e in
     let s : length (batch_text b) ≤ longest_request =

@@ -21,9 +21,8 @@ lines_from : (meaning : Meaning) → IsLawful meaning → (state : List ℕ) (re
     → All IsLine (outputs_from meaning state requests)
 lines_from meaning lawful state [] spelled = All-nil IsLine
 lines_from meaning lawful state (request ∷ requests) spelled =
-    All-cons IsLine (meaning.says state request) (outputs_from meaning (meaning.next state request) requests)
-    (lawful.says_lines state request spelled)
-    (lines_from meaning lawful (meaning.next state request) requests (lawful.goes_on state request spelled))
+    All-cons IsLine (meaning.says state request) (outputs_from meaning (meaning.next state request) requests) (lawful.says_lines state
+    request spelled) (lines_from meaning lawful (meaning.next state request) requests (lawful.goes_on state request spelled))
 
 limit_by : (is_narrow : Bool) → (if is_narrow then 65536 else 1048576) ≤ 1048576
 limit_by true = omega arith
@@ -44,10 +43,9 @@ sealed_size front state place limit tag e p s l t = omega arith
 pub sealed_of-most : (key : List ℕ) (content : Content) → IsContent content → length (sealed_of key content) ≤ 1048690
 unfolding sealed_of
 sealed_of-most key content is =
-    rw length-append
-    (sealed_size (length (snapshot_front content)) (length content.state) (place_length (variant_of content.place)) (limit_of content.id) _
-    (length-snapshot_front content is) (place_length-most (variant_of content.place)) is.state (limit_of-most content.id)
-    (length-hmac_of key (snapshot_front content)))
+    rw length-append (sealed_size (length (snapshot_front content)) (length content.state) (place_length (variant_of content.place))
+    (limit_of content.id) _ (length-snapshot_front content is) (place_length-most (variant_of content.place)) is.state
+    (limit_of-most content.id) (length-hmac_of key (snapshot_front content)))
 
 positive : (position size : ℕ) → 0 < size → 1 ≤ position + size
 positive position size h = omega arith

@@ -1,0 +1,171 @@
+-- What one call comes to by lists, in either variant.
+use Rattle.mm_call.proofs.Below.{◌≡◌, ℕ, Bool, true, false, List, [], ◌∷◌, ◌++◌, map, Option, None, Some, Result, Ok, Err, refl, sym, ap}
+use Rattle.mm_call.proofs.Below.{◌∙◌, subst, if◌then◌else◌, AllByRecursion, Contains, StepFault, Meaning, Batch, Content, Instance, basic}
+use Rattle.mm_call.proofs.Below.{opt, History, Move, Commit, Foreign, PlacedMove, Reset, Close, Power, moved, total_of, Within, digests_of}
+use Rattle.mm_call.proofs.Below.{Names, IsSound, issued_bytes, ask_steps, BatchAnswer, Refusal, basic_names, answer_on, by_lists}
+use Rattle.mm_call.proofs.Below.{by_digests, all_made, Found, found_at, found_unless_wanting, is_fresh, Course, Walked, walk, called}
+use Rattle.mm_call.proofs.Below.{seen_at, ended_by, given_for, from_reset, counted_part, counted_moves, moves_messages, foreign_in, IsAsked}
+use Rattle.mm_call.proofs.Below.{AreAsked, Comes, kept, grown, asked_by, same_batches, more_batches, Commits, nothing, batch, call_commits}
+use Rattle.mm_call.proofs.Below.{foreign_first, made-append}
+use Rattle.mm_call.proofs.BasicLaw.{AreBasic, unlacked, walk_basic}
+use Rattle.mm_call.proofs.Endings.{again_of, fresh_of, fresh_found}
+use Rattle.mm_call.proofs.Finding.{Asking, placed, right_at}
+use Rattle.mm_call.proofs.OptLaw.{names_foreign, sound_foreign}
+
+-- an answer is given where an offer was accepted and no step failed
+pub record Answered (i : Instance) (s : History) (b : Batch) (found : Result Found Refusal) (broken : Option StepFault)
+    (answer : BatchAnswer) : Type 0 where
+  pub it : Found
+  pub found_is : found ≡ Ok it
+  pub whole : broken ≡ None
+  pub answer_is : answer ≡ answer_on i s b it.again
+
+pub answered_only : (broken : Option StepFault) (i : Instance) (seen s : History) (b : Batch) (found : Result Found Refusal)
+    (moves : List Move) (answer : BatchAnswer) → given_for (ended_by (by_lists i) seen s b found moves broken) ≡ Ok answer
+    → Answered i s b found broken answer
+answered_only (Some fault) i seen s b found moves answer e = absurd (cc)
+answered_only None i seen s b (Err why) moves answer e = absurd (cc)
+answered_only None i seen s b (Ok it) moves answer e =
+    let same : answer_on i s b it.again ≡ answer = cc in
+    record { it = it; found_is = refl; whole = refl; answer_is = sym same }
+
+-- by whether it is a repeat
+told_as : (fresh flag : Bool) (i : Instance) (s : History) (b : Batch) (found : Result Found Refusal) (broken : Option StepFault)
+    (answer : BatchAnswer) → (a : Answered i s b found broken answer) → is_fresh found ≡ fresh
+    → ((if a.it.again then false else true) ≡ fresh → a.it.again ≡ flag) → (a.it.again ≡ flag) × (answer ≡ answer_on i s b flag)
+told_as fresh flag i s b found broken answer a e tells =
+    let again : a.it.again ≡ flag = tells (subst (λ (f : Result Found Refusal). is_fresh f ≡ fresh) a.found_is e) in
+    (again, a.answer_is ∙ ap (λ (f : Bool). answer_on i s b f) again)
+
+module _ (i : Instance) (all : List (List ℕ)) (y sees : History) (lacks : Bool) (offer : List ℕ) (b : Batch) where
+  comes_by : (w : Walked) (found : Result Found Refusal) → sees.batches ≡ y.batches → Asking all i sees offer b
+      → found_unless_wanting (found_at i (by_lists i) sees b offer) lacks ≡ found → Commits b (is_fresh found) w
+      → Comes i y offer b (all_made (by_lists i) y w.moves)
+      (given_for (ended_by (by_lists i) sees (all_made (by_lists i) y w.moves) b found w.moves w.broken))
+  comes_by w found same asking is (nothing none unless) =
+      let end : History = all_made (by_lists i) y w.moves in
+      kept (same_batches i w.moves y none)
+      (λ (answer : BatchAnswer) (gives : given_for (ended_by (by_lists i) sees end b found w.moves w.broken) ≡ Ok answer).
+      let a = answered_only w.broken i sees end b found w.moves answer gives in
+      let told = told_as false true i end b found w.broken answer a (unless a.whole) (again_of a.it.again) in
+      let was = unlacked (found_at i (by_lists i) sees b offer) lacks a.it (is ∙ a.found_is) in
+      let p = placed all i sees offer b asking a.it was in
+      record {
+        content = a.it.offered;
+        right = right_at i sees offer b a.it was;
+        ends = record { front = p.named; is = p.repeat told.0 ∙ same };
+        position = p.position;
+        answer_is = told.1;
+      })
+  comes_by w found same asking is (batch one fresh) =
+      let end : History = all_made (by_lists i) y w.moves in
+      let f = fresh_found found fresh in
+      let was = unlacked (found_at i (by_lists i) sees b offer) lacks f.0 (is ∙ f.1) in
+      let p = placed all i sees offer b asking f.0 was in
+      grown f.0.offered (right_at i sees offer b f.0 was) (p.position ∙ ap total_of (p.fresh f.2 ∙ same)) (more_batches i w.moves y b one)
+      (λ (answer : BatchAnswer) (gives : given_for (ended_by (by_lists i) sees end b found w.moves w.broken) ≡ Ok answer).
+      let a = answered_only w.broken i sees end b found w.moves answer gives in
+      (told_as true false i end b found w.broken answer a fresh (fresh_of a.it.again)).1)
+
+-- what a call comes to by lists, where what it sees are others' values more
+comes_seen : (i : Instance) (all : List (List ℕ)) (y : History) (c : Course) (offer : List ℕ) (b : Batch)
+    → (seen_at i (by_lists i) y c).batches ≡ y.batches → Asking all i (seen_at i (by_lists i) y c) offer b
+    → Comes i y offer b (called i (by_lists i) y c offer b).state (given_for (called i (by_lists i) y c offer b).ending)
+comes_seen i all y c offer b same asking =
+    let sees : History = seen_at i (by_lists i) y c in
+    let found : Result Found Refusal = found_unless_wanting (found_at i (by_lists i) sees b offer) c.lacks in
+    comes_by i all y sees c.lacks offer b (walk c.fates 1 (ask_steps i.variant y.is_open (is_fresh found) b)) found same asking refl
+    (call_commits i.variant c.fates y.is_open (is_fresh found) b)
+
+module _ (meaning : Meaning) (key : List ℕ) where
+  -- Nothing is asked of the moves of a call of Basic.
+
+  no_messages : (moves : List Move) (y : History) → moves_messages (basic meaning key) y moves ≡ []
+  no_messages [] y = refl
+  no_messages (m ∷ moves) y = no_messages moves (moved (basic meaning key) y m)
+
+  no_reset : (moves : List Move) → AreBasic moves → from_reset moves ≡ []
+  no_reset [] a = refl
+  no_reset (Commit b ∷ moves) a = no_reset moves a.1
+  no_reset (Foreign v ∷ moves) a = no_reset moves a.1
+  no_reset (PlacedMove b ∷ moves) a = absurd a.0
+  no_reset (Reset ∷ moves) a = absurd a.0
+  no_reset (Close ∷ moves) a = absurd a.0
+  no_reset (Power ∷ moves) a = no_reset moves a.1
+
+  none_counted : (is_open : Bool) (moves : List Move) → is_open ≡ false → AreBasic moves → counted_moves is_open moves ≡ []
+  none_counted true moves e a = absurd (cc)
+  none_counted false moves e a = no_reset moves a
+
+  pub basic_asked : (all others : List (List ℕ)) (asked : List Batch) (y : History) (c : Course) (offer : List ℕ) (b : Batch)
+      → AreAsked all others asked (basic meaning key) y offer b
+      → IsAsked all others asked (basic meaning key) y
+      (called (basic meaning key) (by_digests (basic meaning key)) (digests_of (basic meaning key) y) c offer b).moves offer b
+  basic_asked all others asked y c offer b a =
+      let i : Instance = basic meaning key in
+      let moves : List Move = (called i (by_digests i) (digests_of i y) c offer b).moves in
+      let none : counted_moves y.is_open moves ≡ [] = none_counted y.is_open moves a.within.sound.shut (walk_basic c.fates false _ b) in
+      asked_by i all others asked y moves offer b a
+      (subst (λ (ms : List (List ℕ)). Within ms all) (sym (no_messages (counted_moves y.is_open moves) (counted_part y))) tt)
+      (subst (λ (ms : List Move). AllByRecursion (Contains others) (foreign_in ms)) (sym none) tt)
+
+  -- what a snapshot names is named after moves too
+  pub names_made : (moves : List Move) (y : History) (content : Content) → Names (basic meaning key) y content
+      → Names (basic meaning key) (all_made (by_lists (basic meaning key)) y moves) content
+  names_made [] y content n = n
+  names_made (m ∷ moves) y content n = names_made moves (moved (basic meaning key) y m) content (basic_names meaning key y m content n)
+
+  pub basic_comes : (all others : List (List ℕ)) (asked : List Batch) (y : History) (c : Course) (offer : List ℕ) (b : Batch)
+      → AreAsked all others asked (basic meaning key) y offer b
+      → Comes (basic meaning key) y offer b (called (basic meaning key) (by_lists (basic meaning key)) y c offer b).state
+      (given_for (called (basic meaning key) (by_lists (basic meaning key)) y c offer b).ending)
+  basic_comes all others asked y c offer b a =
+      let i : Instance = basic meaning key in
+      let brought : List Move = map Foreign (c.fates 1).brings ++ [] in
+      comes_seen i all y c offer b (same_batches i brought y (foreign_first (c.fates 1).brings []))
+      (record {
+        clear = a.clear;
+        listed = a.offered;
+        genuine = λ content right. names_made brought y content (a.genuine content right);
+      })
+
+module _ (meaning : Meaning) (key barrier : List ℕ) where
+  sees_names : (v w : List (List ℕ)) (y : History) (content : Content) → IsSound y → Names (opt meaning key barrier) y content
+      → Names (opt meaning key barrier) (all_made (by_lists (opt meaning key barrier)) y (map Foreign v ++ (map Foreign w ++ []))) content
+  sees_names v w y content sound n =
+      let i : Instance = opt meaning key barrier in
+      let first : History = all_made (by_lists i) y (map Foreign v) in
+      subst (λ (z : History). Names i z content)
+      (sym (made-append (by_lists i) (map Foreign v) (map Foreign w ++ []) y ∙ made-append (by_lists i) (map Foreign w) [] first))
+      (names_foreign meaning key barrier w first content (sound_foreign meaning key barrier v y sound)
+      (names_foreign meaning key barrier v y content sound n))
+
+  -- what is asked of the offer, at the history that a call sees
+  pub seen_asking : (all others : List (List ℕ)) (asked : List Batch) (y : History) (v w : List (List ℕ)) (offer : List ℕ) (b : Batch)
+      → AreAsked all others asked (opt meaning key barrier) y offer b → Asking all (opt meaning key barrier)
+      (all_made (by_lists (opt meaning key barrier)) y (map Foreign v ++ (map Foreign w ++ []))) offer b
+  seen_asking all others asked y v w offer b a = record {
+    clear = a.clear;
+    listed = a.offered;
+    genuine = λ content right. sees_names v w y content a.within.sound (a.genuine content right);
+  }
+
+  pub opt_comes : (all others : List (List ℕ)) (asked : List Batch) (y : History) (c : Course) (offer : List ℕ) (b : Batch)
+      → AreAsked all others asked (opt meaning key barrier) y offer b
+      → Comes (opt meaning key barrier) y offer b (called (opt meaning key barrier) (by_lists (opt meaning key barrier)) y c offer b).state
+      (given_for (called (opt meaning key barrier) (by_lists (opt meaning key barrier)) y c offer b).ending)
+  opt_comes all others asked y c offer b a =
+      let i : Instance = opt meaning key barrier in
+      let v : List (List ℕ) = (c.fates 1).brings in
+      let w : List (List ℕ) = (c.fates 2).brings in
+      comes_seen i all y c offer b
+      (same_batches i (map Foreign v ++ (map Foreign w ++ [])) y (foreign_first v (map Foreign w ++ []) ∙ foreign_first w []))
+      (seen_asking all others asked y v w offer b a)
+
+-- what an answer says of the history
+pub answered_at : (i : Instance) (y after : History) (offer : List ℕ) (b : Batch) (answer : BatchAnswer)
+    → Comes i y offer b after (Ok answer) → (answer.position ≡ total_of after.batches) × (answer.snapshot ≡ issued_bytes i after)
+answered_at i y after offer b answer (kept same gives) =
+    let e = (gives answer refl).answer_is in (ap (λ (a : BatchAnswer). a.position) e, ap (λ (a : BatchAnswer). a.snapshot) e)
+answered_at i y after offer b answer (grown content right at more gives) =
+    let e = gives answer refl in (ap (λ (a : BatchAnswer). a.position) e, ap (λ (a : BatchAnswer). a.snapshot) e)

@@ -1,0 +1,215 @@
+-- Opt: what the register shows of a call, and what is asked of it.
+use Rattle.mm_call.proofs.Below.{◌≡◌, ℕ, Bool, true, false, List, [], ◌∷◌, ◌++◌, map, Option, None, Some, refl, sym, ap, ◌∙◌, subst}
+use Rattle.mm_call.proofs.Below.{if◌then◌else◌, AllByRecursion, Contains, option_map, append-nil, map-append, Opt, zero_bytes}
+use Rattle.mm_call.proofs.Below.{extended_message, Item, Standing, item_values, Meaning, Batch, after, trail, Instance, opt, Value, History}
+use Rattle.mm_call.proofs.Below.{Move, Commit, Foreign, Placed, Reset, Close, Power, first_history, register_value_of, entry_values, Within}
+use Rattle.mm_call.proofs.Below.{Digests, made, committing, digests_of, StandsFor, after-append, trail-append, register_folds, reads_zero}
+use Rattle.mm_call.proofs.Below.{each_left, each_right, by_digests, all_made, End, Done, Fails, Fate, Course, Walked, after_step, walk}
+use Rattle.mm_call.proofs.Below.{closes, called, cell_at, StandsAt, shown, from_reset, counted_part, counted_moves, AreShown, foreign_items}
+use Rattle.mm_call.proofs.Below.{standing_items, Tied, shows, committed_in, Counts, none, batch, finished, changing, opt_commits, taking}
+use Rattle.mm_call.proofs.Below.{committed-foreign, from_reset-foreign, Reads}
+use Rattle.mm_platform.specs.Standing as platform
+use Rattle.mm_model.specs.Chains.{register_of}
+use Rattle.mm_seal.specs.Cell.{IsCell, cell_spelling}
+use Rattle.mm_call.specs.Tied.{nothing}
+use Rattle.mm_call.proofs.OptShapes.{Shape, still, reset}
+use Rattle.mm_call.proofs.OptShut.{bare, bare_digests, counted_open, counted_shut}
+use Rattle.mm_call.proofs.Tied.{opt_tied, foreign_of-append}
+
+-- The ways of a call: it makes its reading steps alone; it is broken off before it commits; or it commits the batch.
+pub data Way (b : Batch) (w : Walked) : Type 0 where
+  only_reads : (values : List (List ℕ)) → w.moves ≡ map Foreign values → Way b w
+  breaks_off : committed_in w.moves ≡ [] → (w.broken ≡ None → ⊥) → Way b w
+  commits_it : committed_in w.moves ≡ b ∷ [] → Way b w
+
+-- the reading steps of a call bring others' values alone
+pub record Brought (moves : List Move) : Type 0 where
+  pub values : List (List ℕ)
+  pub are : moves ≡ map Foreign values
+
+pub reads_only : (values later : List (List ℕ)) (ends last : End)
+    → Brought (after_step Reads values ends (after_step Reads later last finished)).moves
+reads_only values later Done Done = record {
+  values = values ++ later;
+  are = ap (λ (ms : List Move). map Foreign values ++ ms) (append-nil (map Foreign later)) ∙ sym (map-append Foreign values later);
+}
+reads_only values later Done (Fails fault made) = record { values = values ++ later; are = sym (map-append Foreign values later) }
+reads_only values later (Fails fault made) last = record { values = values; are = refl }
+
+pub way : (fates : ℕ → Fate) (flag fresh : Bool) (b : Batch) → Way b (walk fates 1 (Reads ∷ Reads ∷ changing flag fresh b))
+way fates true false b = let r = reads_only (fates 1).brings (fates 2).brings (fates 1).ends (fates 2).ends in only_reads r.values r.are
+way fates false false b = let r = reads_only (fates 1).brings (fates 2).brings (fates 1).ends (fates 2).ends in only_reads r.values r.are
+way fates flag true b =
+    elim (opt_commits fates flag true b) [
+      | none e unless ↦ breaks_off e (λ whole. let clash : true ≡ false = unless whole in absurd (cc))
+      | batch e is ↦ commits_it e
+    ]
+
+-- From a set flag the register shows a call's values and extensions behind all that it had shown.
+pub record Pushes (i : Instance) (d : Digests) (moves : List Move) : Type 0 where
+  pub more : List Item
+  pub are : (items : List Item) → shown i d moves items ≡ items ++ more
+
+abbrev some_open : History
+some_open = record first_history { is_open = true }
+
+pushed_by : (i : Instance) (d : Digests) (moves : List Move) → Tied i some_open d moves → Pushes i d moves
+pushed_by i d moves (shows more tied are) = record { more = more; are = are }
+pushed_by i d moves (nothing is) =
+    record { more = []; are = λ items. ap (λ (ms : List Move). shown i d ms items) is ∙ sym (append-nil items) }
+
+-- a commit with no segment open comes behind a reset
+resets : (fates : ℕ → Fate) (fresh : Bool) (b : Batch) (moves : List Move) → Shape fates fresh b moves → committed_in moves ≡ b ∷ []
+    → from_reset moves ≡ [] → ⊥
+resets fates fresh b moves (still values is) c empty =
+    let one : committed_in (map Foreign values) ≡ b ∷ [] = ap committed_in (sym is) ∙ c in
+    let same : [] ≡ b ∷ [] = sym (committed-foreign values) ∙ one in
+    absurd (cc)
+resets fates fresh b moves (reset values rest is k) c empty =
+    let same : Reset ∷ rest ≡ [] = sym (from_reset-foreign values (Reset ∷ rest)) ∙ ap from_reset (sym is) ∙ empty in
+    absurd (cc)
+
+pub counts_opening : (i : Instance) (y : History) (d : Digests) (fates : ℕ → Fate) (fresh : Bool) (b : Batch) (moves : List Move)
+    → y.is_open ≡ false → Shape fates fresh b moves → committed_in moves ≡ b ∷ [] → Tied i y d moves → Counts i y d moves
+counts_opening i y d fates fresh b moves e s c (shows more tied are) = record { more = more; tied = tied; are = are }
+counts_opening i y d fates fresh b moves e s c (nothing is) =
+    absurd (resets fates fresh b moves s c (ap (λ (f : Bool). counted_moves f moves) (sym e) ∙ is))
+
+-- nothing counts of reading steps with no segment open
+pub none_counted : (y : History) (values : List (List ℕ)) (moves : List Move) → y.is_open ≡ false → moves ≡ map Foreign values
+    → counted_moves y.is_open moves ≡ []
+none_counted y values moves e is =
+    ap (λ (f : Bool). counted_moves f moves) e ∙ ap from_reset is ∙ ap from_reset (sym (append-nil (map Foreign values)))
+    ∙ from_reset-foreign values []
+
+-- What is asked of items, for those in front and those behind.
+
+trail_split : (s : List ℕ) (m k : List Item) → trail extended_message s (item_values (m ++ k))
+    ≡ trail extended_message s (item_values m) ++ trail extended_message (after extended_message s (item_values m)) (item_values k)
+trail_split s m k =
+    ap (trail extended_message s) (map-append (λ (item : Item). item.value) m k)
+    ∙ trail-append extended_message s (item_values m) (item_values k)
+
+pub shown_front : (all others : List (List ℕ)) (i : Instance) (y : History) (m k : List Item) → AreShown all others i y (m ++ k)
+    → AreShown all others i y m
+shown_front all others i y m k a =
+    let s : List ℕ = register_value_of i (counted_part y) in
+    record {
+      messages = each_left (Contains all) (trail extended_message s (item_values m))
+          (trail extended_message (after extended_message s (item_values m)) (item_values k))
+          (subst (λ (ms : List (List ℕ)). Within ms all) (trail_split s m k) a.messages);
+      values = each_left (Contains others) (foreign_items m) (foreign_items k)
+          (subst (AllByRecursion (Contains others)) (foreign_of-append m k) a.values);
+    }
+
+pub shown_back : (all others : List (List ℕ)) (i : Instance) (y z : History) (m k : List Item)
+    → register_value_of i (counted_part z) ≡ after extended_message (register_value_of i (counted_part y)) (item_values m)
+    → AreShown all others i y (m ++ k) → AreShown all others i z k
+shown_back all others i y z m k e a =
+    let s : List ℕ = register_value_of i (counted_part y) in
+    let t : List ℕ = after extended_message s (item_values m) in
+    record {
+      messages = subst (λ (r : List ℕ). Within (trail extended_message r (item_values k)) all) (sym e)
+          (each_right (Contains all) (trail extended_message s (item_values m)) (trail extended_message t (item_values k))
+          (subst (λ (ms : List (List ℕ)). Within ms all) (trail_split s m k) a.messages));
+      values = each_right (Contains others) (foreign_items m) (foreign_items k)
+          (subst (AllByRecursion (Contains others)) (foreign_of-append m k) a.values);
+    }
+
+-- with no segment open the register counts as empty
+pub shown_shut : (all others : List (List ℕ)) (i : Instance) (y z : History) (more : List Item) → y.is_open ≡ false → z.is_open ≡ false
+    → AreShown all others i y more → AreShown all others i z more
+shown_shut all others i y z more e f a =
+    let same : register_value_of i (counted_part y) ≡ register_value_of i (counted_part z) =
+    ap (register_value_of i) (counted_shut y e) ∙ sym (ap (register_value_of i) (counted_shut z f)) in
+    record {
+      messages = subst (λ (r : List ℕ). Within (trail extended_message r (item_values more)) all) same a.messages;
+      values = a.values;
+    }
+
+-- The register's value, by the items that a platform shows.
+
+start_value : (flag : Bool) (i : Instance) (y : History) (items : List Item)
+    → platform.register_after (item_values items) ≡ register_value_of i y
+    → platform.register_after (item_values (standing_items flag items))
+    ≡ register_value_of i (record y { items = if flag then y.items else [] })
+start_value true i y items e = e
+start_value false i y items e = sym reads_zero
+
+register-append : (xs ys : List (List ℕ)) → register_of (xs ++ ys) ≡ after extended_message (register_of xs) ys
+unfolding register_of
+register-append xs ys = after-append extended_message zero_bytes xs ys
+
+more_value : (xs more : List Item) → platform.register_after (item_values (xs ++ more))
+    ≡ after extended_message (platform.register_after (item_values xs)) (item_values more)
+more_value xs more =
+    ap platform.register_after (map-append (λ (item : Item). item.value) xs more) ∙ register_folds (item_values xs ++ item_values more)
+    ∙ register-append (item_values xs) (item_values more)
+    ∙ ap (λ (s : List ℕ). after extended_message s (item_values more)) (sym (register_folds (item_values xs)))
+
+-- A platform that shows other items while no segment is open stands for the history with these items.
+
+entry_values_of : (barrier : List ℕ) (values : List (List ℕ)) → entry_values barrier (map Value values) ≡ values
+entry_values_of barrier [] = refl
+entry_values_of barrier (v ∷ values) = ap (λ (vs : List (List ℕ)). v ∷ vs) (entry_values_of barrier values)
+
+module _ (meaning : Meaning) (key barrier : List ℕ) where
+  abbrev I : Instance
+  I = opt meaning key barrier
+
+  -- whether a segment is open after moves
+  committing_flag : (flag : Bool) (d : Digests) (b : Batch) → d.flag ≡ flag → (committing Opt flag I d b).flag ≡ true
+  committing_flag true d b e = e
+  committing_flag false d b e = refl
+
+  pub flag_kept : (moves : List Move) (d : Digests) → d.flag ≡ true → closes moves ≡ false → (all_made (by_digests I) d moves).flag ≡ true
+  flag_kept [] d f e = f
+  flag_kept (Commit b ∷ moves) d f e = flag_kept moves (made I d (Commit b)) (committing_flag d.flag d b refl) e
+  flag_kept (Foreign v ∷ moves) d f e = flag_kept moves (made I d (Foreign v)) f e
+  flag_kept (Placed b ∷ moves) d f e = flag_kept moves (made I d (Placed b)) f e
+  flag_kept (Reset ∷ moves) d f e = flag_kept moves (made I d Reset) f e
+  flag_kept (Close ∷ moves) d f e = absurd (cc)
+  flag_kept (Power ∷ moves) d f e = flag_kept moves (made I d Power) f e
+
+  pub flag_set : (moves : List Move) (d : Digests) (b : Batch) → committed_in moves ≡ b ∷ [] → closes moves ≡ false
+      → (all_made (by_digests I) d moves).flag ≡ true
+  flag_set [] d b c e = absurd (cc)
+  flag_set (Commit a ∷ moves) d b c e = flag_kept moves (made I d (Commit a)) (committing_flag d.flag d a refl) e
+  flag_set (Foreign v ∷ moves) d b c e = flag_set moves (made I d (Foreign v)) b c e
+  flag_set (Placed a ∷ moves) d b c e = flag_set moves (made I d (Placed a)) b c e
+  flag_set (Reset ∷ moves) d b c e = flag_set moves (made I d Reset) b c e
+  flag_set (Close ∷ moves) d b c e = absurd (cc)
+  flag_set (Power ∷ moves) d b c e = flag_set moves (made I d Power) b c e
+
+  pub pushed_open : (d : Digests) (c : Course) (offer : List ℕ) (b : Batch) → d.flag ≡ true
+      → Pushes I d (called I (by_digests I) d c offer b).moves
+  pushed_open d c offer b f =
+      pushed_by I d (called I (by_digests I) d c offer b).moves (opt_tied meaning key barrier some_open d c offer b f)
+
+  pub reads_value : (standing : Standing) (y : History) (items : List Item) → StandsFor I standing y → standing.items ≡ Some items
+      → platform.register_after (item_values items) ≡ register_value_of I y
+  reads_value standing y items s known =
+      let reads : Some (platform.register_after (item_values items)) ≡ Some (register_value_of I y) =
+      ap (λ (x : Option (List Item)). option_map (λ xs. platform.register_after (item_values xs)) x) (sym known) ∙ s.register in
+      cc
+
+  pub register_then : (y z : History) (old new : Standing) (items more : List Item) → StandsFor I old y → old.items ≡ Some items
+      → StandsFor I new z → new.items ≡ Some (standing_items y.is_open items ++ more) → z.is_open ≡ true
+      → register_value_of I (counted_part z) ≡ after extended_message (register_value_of I (counted_part y)) (item_values more)
+  register_then y z old new items more s known t shown_then e =
+      ap (register_value_of I) (counted_open z e) ∙ sym (reads_value new z (standing_items y.is_open items ++ more) t shown_then)
+      ∙ more_value (standing_items y.is_open items) more ∙ ap (λ (r : List ℕ). after extended_message r (item_values more))
+      (start_value y.is_open I y items (reads_value old y items s known))
+
+  pub stands_with : (y : History) (d : Digests) (standing : Standing) (items : List Item) → StandsAt I standing d
+      → bare_digests d ≡ bare_digests (digests_of I y) → standing.items ≡ Some items
+      → StandsFor I standing (taking (bare y) (item_values items))
+  stands_with y d standing items s e known =
+      let value : platform.register_after (item_values items) ≡ register_value_of I (taking (bare y) (item_values items)) =
+      register_folds (item_values items) ∙ ap register_of (sym (entry_values_of barrier (item_values items))) in
+      record {
+        spells = subst (λ (x : Digests). IsCell (cell_at I x)) e s.spells;
+        cell = s.cell ∙ ap (λ (x : Digests). Some (cell_spelling (cell_at I x))) e;
+        register = ap (λ (x : Option (List Item)). option_map (λ xs. platform.register_after (item_values xs)) x) known
+            ∙ ap (λ (r : List ℕ). Some r) value;
+      }

@@ -1,0 +1,103 @@
+-- What a right offer says, and the snapshot of the last position.
+use Rattle.std.proofs.Common.{◌≡◌, ℕ, ◌≤◌, ◌&&◌, Bool, true, false, List, ◌++◌, Option, None, Some, Result, Ok, Err, refl, sym, ap, ◌∙◌, subst}
+use Rattle.std.specs.Prelude.{if◌then◌else◌}
+use Rattle.std.specs.Str.{bytes_eq}
+use Rattle.std.proofs.lemmas.Slice.Eq.{bytes_eq-Decides}
+use Rattle.mm_base.specs.Limits.{last_position}
+use Rattle.mm_digest.specs.declared.variant.Variant.TheVariants.{Opt}
+use Rattle.mm_digest.specs.LengthLaws.{length-zero_bytes}
+use Rattle.mm_module.specs.Meaning.{Meaning, IsLawful, state_after}
+use Rattle.mm_module.specs.Batch.{Batch}
+use Rattle.mm_module.specs.RunLaws.{state_after-is_spelled}
+use Rattle.mm_seal.specs.declared.snapshot.PartsFault.{PartsFault}
+use Rattle.mm_seal.specs.Snapshot.{Content, Snapshot, IsContent, IsPlace, snapshot_front, sealed_of, tag_of}
+use Rattle.mm_seal.specs.Parts.{parts_of}
+use Rattle.mm_seal.specs.ReadingLaws.{spells_read}
+use Rattle.mm_seal.specs.SealLaws.{sealed_once}
+use Rattle.mm_model.specs.Instance.{Instance}
+use Rattle.mm_model.specs.InstanceWords.{basic, opt}
+use Rattle.mm_model.specs.History.{History, requests_of, total_of}
+use Rattle.mm_model.specs.Messages.{Within}
+use Rattle.mm_model.specs.Places.{issued, issued_place}
+use Rattle.mm_model.specs.Standing.{IsRight, issued_bytes}
+use Rattle.mm_model.specs.ChainLaws.{length-anchor_of, length-register_of, length-summary_of}
+use Rattle.mm_call.specs.Asked.{right_messages}
+use Rattle.mm_call.specs.FoundWords.{content_if_right}
+
+-- an offer whose state is the module's and whose tag is right is a right offer
+pub is_right : (i : Instance) (bytes : List ℕ) (snapshot : Snapshot) → parts_of i.variant i.meaning.id bytes ≡ Ok snapshot
+    → i.meaning.is_spelled snapshot.content.state ≡ true → bytes_eq snapshot.tag (tag_of i.key snapshot.content) ≡ true
+    → IsRight i bytes snapshot.content
+unfolding sealed_of
+is_right i bytes snapshot e state tagged =
+    let s = spells_read i.variant i.meaning.id bytes snapshot e in
+    let tag : snapshot.tag ≡ tag_of i.key snapshot.content = (bytes_eq-Decides snapshot.tag (tag_of i.key snapshot.content)).0 tagged in
+    record {
+      formed = s.0.0.content;
+      sealed = s.0.1 ∙ ap (λ t. snapshot_front snapshot.content ++ t) tag;
+      variant = s.1.0;
+      id = s.1.1;
+      state = state;
+    }
+
+-- so it is looked at as a right one
+pub right_is : (i : Instance) (parts : Result Snapshot PartsFault) (snapshot : Snapshot) → parts ≡ Ok snapshot
+    → i.meaning.is_spelled snapshot.content.state ≡ true → bytes_eq snapshot.tag (tag_of i.key snapshot.content) ≡ true
+    → content_if_right i parts ≡ Some snapshot.content
+right_is i parts snapshot e state tagged = rw (e, state, tagged) refl
+
+record IsSaid (s t : Bool) (x content : Content) : Type 0 where
+  spelled : s ≡ true
+  tagged : t ≡ true
+  same : x ≡ content
+
+said_if : (s t : Bool) (x content : Content) → (if s && t then Some x else None) ≡ Some content → IsSaid s t x content
+said_if false t x content e = absurd (cc)
+said_if true false x content e = absurd (cc)
+said_if true true x content e = record { spelled = refl; tagged = refl; same = cc }
+
+-- an offer that is looked at as a right one is right
+pub right_of : (i : Instance) (offer : List ℕ) (parts : Result Snapshot PartsFault) → parts_of i.variant i.meaning.id offer ≡ parts
+    → (content : Content) → content_if_right i parts ≡ Some content → IsRight i offer content
+right_of i offer (Err fault) e content is = absurd (cc)
+right_of i offer (Ok snapshot) e content is =
+    let a = said_if (i.meaning.is_spelled snapshot.content.state) (bytes_eq snapshot.tag (tag_of i.key snapshot.content)) snapshot.content
+    content is in
+    subst (λ (x : Content). IsRight i offer x) a.same (is_right i offer snapshot e a.spelled a.tagged)
+
+pub listed_by : (i : Instance) (y : History) (b : Batch) (all : List (List ℕ)) (seen : Option Content)
+    → ((content : Content) → seen ≡ Some content → Within (right_messages i b (Some content)) all) → Within (right_messages i b seen) all
+listed_by i y b all None h = tt
+listed_by i y b all (Some content) h = h content refl
+
+-- an offer says one thing
+pub one_content : (i : Instance) (offer : List ℕ) (x y : Content) → IsRight i offer x → IsRight i offer y → x ≡ y
+one_content i offer x y a b = sealed_once i.key i.key x y a.formed b.formed (sym a.sealed ∙ b.sealed)
+
+-- The snapshot of the last position is one, and an offer of its bytes says it.
+
+issued_by : (i : Instance) → IsLawful i.meaning → (y : History) → total_of y.batches ≤ last_position
+    → IsPlace (issued_place i.variant y.is_open i y) → IsContent (issued i y)
+issued_by i lawful y fits place = record {
+  place = place;
+  position = fits;
+  state = lawful.fits (state_after i.meaning (requests_of y.batches)) (state_after-is_spelled i.meaning lawful (requests_of y.batches));
+}
+
+pub basic_content : (meaning : Meaning) → IsLawful meaning → (key : List ℕ) (y : History) → total_of y.batches ≤ last_position
+    → IsContent (issued (basic meaning key) y)
+basic_content meaning lawful key y fits = issued_by (basic meaning key) lawful y fits (length-summary_of meaning.id y.batches)
+
+issued_sized : (flag : Bool) (meaning : Meaning) (key barrier : List ℕ) (y : History)
+    → IsPlace (issued_place Opt flag (opt meaning key barrier) y)
+issued_sized true meaning key barrier y = (length-anchor_of meaning.id _, length-register_of _)
+issued_sized false meaning key barrier y = (length-anchor_of meaning.id _, length-zero_bytes)
+
+pub opt_content : (meaning : Meaning) → IsLawful meaning → (key barrier : List ℕ) (y : History) → total_of y.batches ≤ last_position
+    → IsContent (issued (opt meaning key barrier) y)
+opt_content meaning lawful key barrier y fits =
+    issued_by (opt meaning key barrier) lawful y fits (issued_sized y.is_open meaning key barrier y)
+
+pub issued_once : (i : Instance) (offer : List ℕ) (y : History) (content : Content) → IsContent (issued i y) → offer ≡ issued_bytes i y
+    → IsRight i offer content → issued i y ≡ content
+issued_once i offer y content is e right = sealed_once i.key i.key (issued i y) content is right.formed (sym e ∙ right.sealed)

@@ -1,0 +1,37 @@
+-- The words and laws that the proofs of this crate take from specs/ and from the crates below.
+pub use Rattle.std.specs.Option.{option_map}
+pub use Rattle.std.specs.Result.{result_err}
+pub use Rattle.std.proofs.Common.{◌++◌, ◌+◌, ◌<◌, ◌∙◌, ◌∷◌, ◌≡◌, ◌≤◌, [], ap, arith, Bool, Err, false, List, map, None, Ok, Option, refl}
+pub use Rattle.std.proofs.Common.{Result, Some, subst, sym, true, ℕ}
+pub use Rattle.mm_base.specs.Faults.{counted}
+pub use Rattle.mm_seal.specs.declared.cell.Cell.{Cell}
+pub use Rattle.mm_platform.specs.Memory.{meddling, stopping}
+pub use Rattle.mm_platform.specs.Standing.{Plan, Standing}
+pub use Rattle.mm_platform.specs.Steps.{Act, cell_after, EndsBy, ExtendRegister, Goes, GoesByPlan, ReadCell, ReadRegister, ResetRegister}
+pub use Rattle.mm_platform.specs.Steps.{will_answer, will_be_made, will_be_on, will_bring, WriteCell}
+pub use Rattle.mm_platform.specs.declared.fault.StepFault.{StepFault}
+pub use Rattle.mm_platform.specs.declared.plan.Meddle.{Meddle}
+pub use Rattle.mm_platform.specs.declared.plan.Stop.TheVariants.{Quiet}
+pub use Rattle.mm_module.specs.Batch.{Batch}
+pub use Rattle.mm_module.specs.Meaning.{Meaning}
+pub use Rattle.mm_model.specs.declared.answer.BatchAnswer.{BatchAnswer}
+pub use Rattle.mm_model.specs.declared.refusal.Refusal.{Refusal}
+pub use Rattle.mm_model.specs.declared.refusal.Refusal.TheVariants.{Device}
+pub use Rattle.mm_call.specs.Calls.{AsksTo, breaks_off, EndsTo, goes_on, StepsTo}
+pub use Rattle.mm_call.specs.Ended.{CallsTo, ended_with, is_broken, refused_as}
+pub use Rattle.mm_call.specs.Refusals.{fault_in, fault_of}
+pub use Rattle.mm_call.specs.declared.ended.Ended.{Ended}
+pub use Rattle.mm_call.specs.declared.ended.Ended.TheVariants.{Answered, Broken}
+pub use Rattle.mm_basic.specs.declared.found.Ready.{Ready}
+pub use Rattle.mm_opt.specs.Asks.{opt_call, ReadsOn}
+pub use Rattle.mm_opt.specs.Finishes.{ChangesTo, Finishes, SeesTo}
+pub use Rattle.mm_opt.specs.Steps.{act_of, Empties, Finds, FindsCell, Makes, MakesRoom, Places, ReadsOwnCell, step_number}
+pub use Rattle.mm_opt.specs.Turns.{emptied_turn, fault_turned, found_turn, last_turn, placed_turn, seen_turn, Turns}
+pub use Rattle.mm_opt.specs.declared.call.Turn.{Turn}
+pub use Rattle.mm_opt.specs.declared.call.Turn.TheVariants.{Done, Going, Refused}
+pub use Rattle.mm_opt.specs.declared.found.Found.{Found}
+pub use Rattle.mm_opt.specs.declared.found.Found.TheVariants.{Inside, Opens, Repeat}
+pub use Rattle.mm_opt.specs.declared.found.Opening.{Opening}
+pub use Rattle.mm_opt.specs.declared.stage.Stage.{Stage}
+pub use Rattle.mm_opt.proofs.Above.{acts_at, closing_acts_at}
+pub use Rattle.mm_flight.specs.InFlight.{GoesOnAs, InFlight, plan_by, SaySame, under}

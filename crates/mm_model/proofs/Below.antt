@@ -1,0 +1,49 @@
+-- The words and laws that the proofs of this crate take from specs/ and from the crates below.
+pub use Rattle.std.specs.Bool.{Decides}
+pub use Rattle.std.specs.List.{AllByRecursion, Contains, flat_map, list_any}
+pub use Rattle.std.specs.Prelude.{if◌then◌else◌, IsTrue, nat_eq, Vec}
+pub use Rattle.std.specs.Str.{bytes_eq}
+pub use Rattle.std.proofs.Common.{◌&&◌, ◌++◌, ◌+◌, ◌-◌, ◌<◌, ◌||◌, ◌∙◌, ◌∷◌, ◌≡◌, ◌≢◌, ◌≤◌, ◌⊎◌, [], ap, append_assoc, arith, Bool, drop}
+pub use Rattle.std.proofs.Common.{false, get_or, inl, inr, length, length-append, List, map, refl, subst, suc, sym, take, true, zero, ℕ}
+pub use Rattle.std.proofs.lemmas.Bool.{and_from, and_parts, or_parts}
+pub use Rattle.std.proofs.lemmas.List.{append-nil, append_cancel_right, drop-append-le, drop_all, drop_at, drop_more, length-drop}
+pub use Rattle.std.proofs.lemmas.List.{length-map, map-append, take-append-le, take_all, take_at, take_more}
+pub use Rattle.mm_digest.specs.Messages.{anchored_message, anchored_of, extended_message, extended_of, start_message, start_of, zero_bytes}
+pub use Rattle.mm_digest.specs.declared.variant.Variant.TheVariants.{Basic, Opt}
+pub use Rattle.mm_seal.specs.Snapshot.{Content}
+pub use Rattle.mm_seal.specs.declared.snapshot.Place.{Place}
+pub use Rattle.mm_seal.specs.declared.snapshot.Place.TheVariants.{Basic as InBasic, Opt as InOpt}
+pub use Rattle.mm_module.specs.Batch.{Batch, size_of}
+pub use Rattle.mm_module.specs.Meaning.{IsLawful, Meaning, said_after, state_after}
+pub use Rattle.mm_model.specs.BasicLaws.{basic_here, verdicts}
+pub use Rattle.mm_model.specs.BatchLaws.{at_the_end, before_the_last, same_batch-Decides, same_tests, total-push}
+pub use Rattle.mm_model.specs.ChainLaws.{trail_front, trail_push}
+pub use Rattle.mm_model.specs.Chains.{anchor_of, closing_message, guard, guard_message, link, register_of, summary_of, trail}
+pub use Rattle.mm_model.specs.ChainsWords.{own_values}
+pub use Rattle.mm_model.specs.DigestLaws.{anchor-push, register-push, register_folds, same_own_values, summary-push}
+pub use Rattle.mm_model.specs.EndLaws.{ended}
+pub use Rattle.mm_model.specs.FormLaws.{again_tells, Clears, fresh_tells, Listed, listed_segment, listed_value, point_of, reads_zero}
+pub use Rattle.mm_model.specs.FormLaws.{zero_register}
+pub use Rattle.mm_model.specs.History.{Close, Commit, committed, Entry, Foreign, History, joined, Move, moved, Own, Placed, Power}
+pub use Rattle.mm_model.specs.History.{register_value_of, renamed, Reset, total_of, Value, value_of}
+pub use Rattle.mm_model.specs.HistoryLaws.{batches_in-append, has_value-append, joined-values, length-batches_in, meets, own_values-append}
+pub use Rattle.mm_model.specs.HistoryLaws.{register_more, renamed-push, sooner, values_of-append, values_of-clean, values_of-own}
+pub use Rattle.mm_model.specs.HistoryLaws.{values_renamed}
+pub use Rattle.mm_model.specs.HistoryWords.{cell_digest_of, values_of}
+pub use Rattle.mm_model.specs.Instance.{Instance}
+pub use Rattle.mm_model.specs.InstanceWords.{basic, opt}
+pub use Rattle.mm_model.specs.Judge.{fits_again, fits_fresh, forms_of, is_last, judge, judged, opt_verdict, Point, verdict_by}
+pub use Rattle.mm_model.specs.Judge.{verdict_by_digests}
+pub use Rattle.mm_model.specs.Kept.{kept_batch, kept_batches, kept_entries, kept_entry, kept_segments, stands_for}
+pub use Rattle.mm_model.specs.Life.{are_own, has_value, is_empty, is_lost as is_lost_life, Life, life_by, life_of, Live, Lost, same_batch}
+pub use Rattle.mm_model.specs.Life.{Spoiled}
+pub use Rattle.mm_model.specs.ListLaws.{each_append, each_left, each_right}
+pub use Rattle.mm_model.specs.Messages.{AreNoGuards, closed_runs, counting, form_messages, history_messages, IsClear, IsClearFor}
+pub use Rattle.mm_model.specs.Messages.{messages_of, moving_messages, point_messages, register_trail, runs_of, values_in, Within}
+pub use Rattle.mm_model.specs.Moves.{batch_messages, Brings, committing, Digests, digests_of, IsAllowed, IsOpening, IsOutside, made}
+pub use Rattle.mm_model.specs.Moves.{MayMove}
+pub use Rattle.mm_model.specs.Places.{anchor_after, at_anchor, AtAnchor, in_closed, in_current, InClosed, InCurrent, IsPlaceOf, IsPoint}
+pub use Rattle.mm_model.specs.Places.{issued, issued_place, Names}
+pub use Rattle.mm_model.specs.SegmentLaws.{Again, again_from, again_joins, Fresh, fresh_from, fresh_joins, IsHeld, joined-append}
+pub use Rattle.mm_model.specs.SegmentLaws.{joined-push, nothing_left, Reaches, same_halves, taken_in, true_not_false}
+pub use Rattle.mm_model.specs.Sound.{AreItems, batches_in, IsClean, IsMarred, IsSound}

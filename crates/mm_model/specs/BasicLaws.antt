@@ -1,0 +1,81 @@
+-- Basic: the verdict by digests is the verdict on the history.
+use Rattle.std.proofs.Common.{ℕ, ◌≡◌, ◌+◌, Bool, true, false, ◌&&◌, List, [], ◌∷◌, ◌++◌, refl, sym, ap, ◌∙◌, subst}
+use Rattle.std.specs.Prelude.{nat_eq}
+use Rattle.std.specs.Str.{bytes_eq}
+use Rattle.std.specs.List.{Contains}
+use Rattle.std.proofs.lemmas.Slice.Eq.{bytes_eq-Decides}
+use Rattle.mm_digest.specs.declared.variant.Variant.TheVariants.{Basic}
+use Rattle.mm_digest.specs.Messages.{zero_bytes, start_message, start_of}
+use Rattle.mm_module.specs.Batch.{Batch, size_of}
+use Rattle.mm_module.specs.Meaning.{Meaning}
+use Rattle.mm_model.specs.Chains.{trail, link_message, link, summary_of}
+use Rattle.mm_model.specs.InstanceWords.{basic}
+use Rattle.mm_model.specs.History.{History, total_of}
+use Rattle.mm_model.specs.HistoryWords.{cell_digest_of}
+use Rattle.mm_model.specs.Life.{Live}
+use Rattle.mm_model.specs.Judge.{is_last, judged, judge, verdict_by, basic_verdict, verdict_by_digests}
+use Rattle.mm_seal.specs.declared.snapshot.Place.{Place}
+use Rattle.mm_seal.specs.declared.snapshot.Place.TheVariants.{Basic as InBasic, Opt as InOpt}
+use Rattle.mm_seal.specs.Snapshot.{Content}
+use Rattle.mm_model.specs.Places.{IsPlaceOf, Names}
+use Rattle.mm_model.specs.Messages.{Within, IsClear, IsClearFor}
+use Rattle.mm_model.specs.ChainLaws.{trail_front, trail_push}
+use Rattle.mm_model.specs.DigestLaws.{same_summaries, summary-push}
+use Rattle.mm_model.specs.BatchLaws.{same_tests, at_the_end, before_the_last}
+
+pub verdicts : (x y : Bool) → verdict_by false x y ≡ judged Live x y
+verdicts false true = refl
+verdicts _ _ = refl
+
+module _ (id : ℕ) where
+  -- the summary of the first batches is that of all of them exactly where they count as many requests
+  pub basic_here : (batches named rest : List Batch) (all : List (List ℕ)) → IsClear all → Contains all (start_message Basic id)
+      → Within (trail link_message (start_of Basic id) batches) all → batches ≡ named ++ rest
+      → bytes_eq (summary_of id named) (summary_of id batches) ≡ nat_eq (total_of named) (total_of batches)
+  basic_here batches named rest all clear starts listed e =
+      let wn : Within (trail link_message (start_of Basic id) named) all = trail_front link_message (start_of Basic id) named rest all
+      (subst (λ (v : List Batch). Within (trail link_message (start_of Basic id) v) all) e listed) in
+      same_tests _ _ (λ h. (at_the_end batches named rest e).1 (same_summaries id all clear starts named batches wn listed
+      ((bytes_eq-Decides (summary_of id named) (summary_of id batches)).0 h))) (λ h. (bytes_eq-Decides (summary_of id named)
+      (summary_of id batches)).1 (ap (summary_of id) ((at_the_end batches named rest e).0 h)))
+
+  -- the verdict by digests on the summary of the first batches
+  basic_at : (batches named rest : List Batch) (b : Batch) (all : List (List ℕ)) → IsClear all → Contains all (start_message Basic id)
+      → Within (trail link_message (start_of Basic id) batches) all → Contains all (link_message (summary_of id named) b)
+      → batches ≡ named ++ rest → basic_verdict (summary_of id batches) (summary_of id named) b ≡ judged Live (nat_eq (total_of named)
+      (total_of batches)) (nat_eq (total_of named + size_of b) (total_of batches) && is_last batches b)
+  unfolding summary_of
+  basic_at batches named rest b all clear starts listed called e =
+      let t = trail link_message (start_of Basic id) in
+      let wn : Within (trail link_message (start_of Basic id) named) all = trail_front link_message (start_of Basic id) named rest all
+      (subst (λ (v : List Batch). Within (trail link_message (start_of Basic id) v) all) e listed) in
+      let wb : Within (trail link_message (start_of Basic id) (named ++ b ∷ [])) all =
+      trail_push link_message (start_of Basic id) named b all wn called in
+      let here = basic_here batches named rest all clear starts listed e in
+      let again : bytes_eq (link (summary_of id named) b) (summary_of id batches) ≡ (nat_eq (total_of named + size_of b) (total_of batches)
+      && is_last batches b) = same_tests _ _ (λ h. (before_the_last batches named rest b e).1 (same_summaries id all clear starts
+      (named ++ b ∷ []) batches wb listed (summary-push id named b ∙ (bytes_eq-Decides (link (summary_of id named) b)
+      (summary_of id batches)).0 h))) (λ h. (bytes_eq-Decides (link (summary_of id named) b) (summary_of id batches)).1
+      (sym (summary-push id named b) ∙ ap (summary_of id) ((before_the_last batches named rest b e).0 h))) in
+      ap (λ (x : Bool). verdict_by false x (bytes_eq (link (summary_of id named) b) (summary_of id batches))) here
+      ∙ ap (λ (x : Bool). verdict_by false (nat_eq (total_of named) (total_of batches)) x) again
+      ∙ verdicts (nat_eq (total_of named) (total_of batches)) (nat_eq (total_of named + size_of b) (total_of batches) && is_last batches b)
+
+basic_on : (meaning : Meaning) (key register : List ℕ) (y : History) (named rest : List Batch) (place : Place) (b : Batch)
+    (all : List (List ℕ)) → IsClearFor all (basic meaning key) y place b → y.batches ≡ named ++ rest
+    → IsPlaceOf Basic (basic meaning key) y named place
+    → verdict_by_digests zero_bytes false (summary_of meaning.id y.batches) register place b ≡ judge Basic y (total_of named) b
+basic_on meaning key register y named rest (InBasic s) b all clear e is =
+    let call : Contains all (link_message s.bytes b) = clear.call.0 in
+    let call' = subst (λ (v : List ℕ). Contains all (link_message v b)) is call in
+    ap (λ (v : List ℕ). basic_verdict (summary_of meaning.id y.batches) v b) is
+    ∙ basic_at meaning.id y.batches named rest b all clear.clear clear.history.0 clear.history.1 call' e
+basic_on meaning key register y named rest (InOpt a x) b all clear e is = absurd is
+
+pub basic_is_judged : (meaning : Meaning) (key register : List ℕ) (y : History) (offered : Content) (b : Batch) (all : List (List ℕ))
+    → IsClearFor all (basic meaning key) y offered.place b → Names (basic meaning key) y offered
+    → verdict_by_digests zero_bytes false (cell_digest_of (basic meaning key) Basic y) register offered.place b ≡ judge Basic y
+    offered.position b
+basic_is_judged meaning key register y offered b all clear names =
+    basic_on meaning key register y names.named names.rest offered.place b all clear names.first names.place
+    ∙ ap (λ (p : ℕ). judge Basic y p b) (sym names.position)

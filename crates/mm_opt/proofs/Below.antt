@@ -1,0 +1,99 @@
+-- The words and laws that the proofs of this crate take from specs/ and from the crates below.
+pub use Rattle.std.specs.List.{fold}
+pub use Rattle.std.specs.Prelude.{◌&&◌, if◌then◌else◌, is_some, IsSome, nat_eq, nat_le}
+pub use Rattle.std.specs.Result.{result_err}
+pub use Rattle.std.specs.Str.{bytes_eq}
+pub use Rattle.std.proofs.Common.{◌++◌, ◌+◌, ◌^◌, ◌∙◌, ◌∷◌, ◌≡◌, ◌≤◌, [], ap, arith, Bool, Err, false, IfOk, inl, inr, IsTrue, le-leb}
+pub use Rattle.std.proofs.Common.{length, List, map, None, Ok, Option, refl, Result, Some, subst, sym, true, ℕ}
+pub use Rattle.std.proofs.lemmas.Bool.Decides.{nat_tests}
+pub use Rattle.mm_base.specs.Faults.{counted}
+pub use Rattle.mm_base.specs.Limits.{last_position}
+pub use Rattle.mm_digest.specs.LengthLaws.{length-anchored_of, length-extended_of, length-zero_bytes}
+pub use Rattle.mm_digest.specs.Messages.{extended_of, start_of, zero_bytes}
+pub use Rattle.mm_digest.specs.declared.variant.Variant.{Variant}
+pub use Rattle.mm_digest.specs.declared.variant.Variant.TheVariants.{Basic, Opt}
+pub use Rattle.mm_seal.specs.Cell.{cell_spelling, IsCell, ReadsCell}
+pub use Rattle.mm_seal.specs.CellLaws.{reads_cell-same}
+pub use Rattle.mm_seal.specs.Snapshot.{Content, offered_of, ReadsParts, sealed_of, Snapshot, tag_of, variant_of}
+pub use Rattle.mm_seal.specs.declared.cell.Cell.{Cell}
+pub use Rattle.mm_seal.specs.declared.cell.CellFault.{CellFault}
+pub use Rattle.mm_seal.specs.declared.cell.CellFault.TheVariants.{Blank, Cell as Unspelled}
+pub use Rattle.mm_seal.specs.declared.snapshot.PartsFault.{PartsFault}
+pub use Rattle.mm_seal.specs.declared.snapshot.PartsFault.TheVariants.{Form, Kind}
+pub use Rattle.mm_seal.specs.declared.snapshot.Place.TheVariants.{Basic as InBasic, Opt as InOpt}
+pub use Rattle.mm_platform.specs.Standing.{Item, item_values, own_item, Plan, register_after, Standing}
+pub use Rattle.mm_platform.specs.Steps.{Act, beside, EndsBy, ExtendRegister, Goes, ReadCell, ReadRegister, ResetRegister, WriteCell}
+pub use Rattle.mm_platform.specs.Told.{next_plan}
+pub use Rattle.mm_platform.specs.declared.fault.StepFault.{StepFault}
+pub use Rattle.mm_module.specs.Batch.{Batch, normal, One, size_of}
+pub use Rattle.mm_module.specs.BatchLaws.{members_of-normal}
+pub use Rattle.mm_module.specs.Batches.{batch_of}
+pub use Rattle.mm_module.specs.Meaning.{IsLawful, Meaning}
+pub use Rattle.mm_model.specs.Chains.{anchor_of, guard}
+pub use Rattle.mm_model.specs.History.{Close, Commit, first_history, Foreign, History, Move, Placed, Reset, total_of, Value}
+pub use Rattle.mm_model.specs.Instance.{Instance}
+pub use Rattle.mm_model.specs.InstanceWords.{basic, opt}
+pub use Rattle.mm_model.specs.Judge.{is_last, judge, judged, verdict_by_digests}
+pub use Rattle.mm_model.specs.Long.{is_long}
+pub use Rattle.mm_model.specs.Moves.{committing, Digests, digests_of, made}
+pub use Rattle.mm_model.specs.Standing.{cell_of, IsRight, issued_bytes, StandsFor}
+pub use Rattle.mm_model.specs.Steps.{ask_steps, Changes, checkpoint_steps, Reads as Reading, Step, Writes}
+pub use Rattle.mm_model.specs.declared.answer.BatchAnswer.{BatchAnswer}
+pub use Rattle.mm_model.specs.declared.refusal.Refusal.{Refusal}
+pub use Rattle.mm_model.specs.declared.refusal.Refusal.TheVariants.{Long, Memory}
+pub use Rattle.mm_model.specs.declared.verdict.Verdict.{Verdict}
+pub use Rattle.mm_model.specs.declared.verdict.Verdict.TheVariants.{Again, Fresh, Lost, Stale}
+pub use Rattle.mm_call.specs.Called.{called, called_by, ended_by, given_for, reading_steps}
+pub use Rattle.mm_call.specs.Calls.{AsksTo, breaks_off, Calls, EndsTo, goes_on, IsCallSoFar, StepsTo}
+pub use Rattle.mm_call.specs.CallsOn.{CallsOn, GoesBy}
+pub use Rattle.mm_call.specs.Checkpoints.{checkpointed, checkpointed_by, CheckpointsAgree, Closing, closing_of, IsClosedWithin}
+pub use Rattle.mm_call.specs.CheckpointsWords.{checkpointed_with, closed_by}
+pub use Rattle.mm_call.specs.Courses.{closes, Course, Done, End, Fate, seen_in, step_moves, walk, Walked}
+pub use Rattle.mm_call.specs.Ended.{CallsTo, committed_as, refused_as, result_of, StaysOn}
+pub use Rattle.mm_call.specs.Found.{Found as Accepted, found_at, found_at as accepted_at, found_by_verdict}
+pub use Rattle.mm_call.specs.Found.{found_by_verdict as accepted_from}
+pub use Rattle.mm_call.specs.FoundWords.{found_unless_wanting, found_unless_wanting as accepted_in, found_with, is_fresh}
+pub use Rattle.mm_call.specs.Leaving.{Blames, IsAccepted, IsAnswered, IsUntouched, LeavesUntouched}
+pub use Rattle.mm_call.specs.LeavingLaws.{blamed, blamed_later, read_untouched, same_untouched, wholly}
+pub use Rattle.mm_call.specs.Levels.{all_made, by_digests, by_lists, place_then}
+pub use Rattle.mm_call.specs.MoveLaws.{anchor-nil, same_batches}
+pub use Rattle.mm_call.specs.Order.{admitted, examined}
+pub use Rattle.mm_call.specs.OrderWords.{weighed}
+pub use Rattle.mm_call.specs.Refusals.{fault_in, fault_of, handed_on, OrMemory}
+pub use Rattle.mm_call.specs.Standing.{cell_at, instance_by, shown, shown_by, StandsAt}
+pub use Rattle.mm_call.specs.TellingLaws.{AreMet, begins_at, IsAt, met, met_at, stepped, then_at, told_by, trail_fails, trail_last}
+pub use Rattle.mm_call.specs.TellingLaws.{trail_on}
+pub use Rattle.mm_call.specs.TrailLaws.{all_made-append, foreign_made, leads, reads_beside, reads_of, with_register}
+pub use Rattle.mm_call.specs.Trails.{IsChange, IsWrite, MakesStep, Stepped, Trail}
+pub use Rattle.mm_call.specs.WalkLaws.{asks, changing, foreign_first, foreign_in-first}
+pub use Rattle.mm_call.specs.declared.ended.Ended.{Ended}
+pub use Rattle.mm_call.specs.declared.ended.Ended.TheVariants.{Answered, Broken, Refused}
+pub use Rattle.mm_call.proofs.Above.{Accepts, agrees_is, answered_result, AsFound as AsMade, asked_for, basic_checkpoints_agree, before}
+pub use Rattle.mm_call.proofs.Above.{BlamesFor, calls_from, course_by, cut, each_call, ends_fates, ends_result, ends_untouched, fate_of}
+pub use Rattle.mm_call.proofs.Above.{finds, given_all, GoesTo, is_agrees, is_memory, lacks_in, life_bare, MakesAll, opt_calls_agree}
+pub use Rattle.mm_call.proofs.Above.{opt_checkpoints_agree, opt_tied, past, planned_broken, planned_done, reading, reading_blamed}
+pub use Rattle.mm_call.proofs.Above.{reading_tale, refused_reading, sees, sight_is, stands_at, stands_for, steps_blamed, steps_give, Tale}
+pub use Rattle.mm_call.proofs.Above.{tale_on, Told, told_on, told_reading, two_reads}
+pub use Rattle.mm_opt.specs.Answers.{answer_of, change_by, extension_after, extension_at, found_from, found_in, found_in_offer}
+pub use Rattle.mm_opt.specs.Answers.{found_unless, opened_cell, place_after}
+pub use Rattle.mm_opt.specs.Asked.{AskedInOpt}
+pub use Rattle.mm_opt.specs.Asks.{acts_for, answer_in, AnswersFrom, five_steps, four_steps, one_step, OneStep, opt_call, Reads, ReadsOn}
+pub use Rattle.mm_opt.specs.Asks.{StepsAnswered, StepsBy, StepsFrom, StepsMade, StepsRefused, three_steps, two_steps, TwoSteps}
+pub use Rattle.mm_opt.specs.Asks.{WritesAtMostOnce, WritesBy}
+pub use Rattle.mm_opt.specs.Checkpoints.{closed_cell, Closes, ClosesSegment, closing_by, closing_fault_in, closing_fault_of}
+pub use Rattle.mm_opt.specs.Checkpoints.{closing_handed_on, ClosingStepsBy, ClosingStepsRefused, EndsClosing, EndsLooking, FindsSegment}
+pub use Rattle.mm_opt.specs.Checkpoints.{LeavesStill, Looks, segment_by, segment_in, Weighs}
+pub use Rattle.mm_opt.specs.ChecksOn.{ChecksBy, ChecksFor, ChecksOn, closing_told}
+pub use Rattle.mm_opt.specs.Finishes.{acts_left, answer_left, ChangesTo, Finishes}
+pub use Rattle.mm_opt.specs.Order.{batch_value, has_lost_power, verdict_at, verdict_of}
+pub use Rattle.mm_opt.specs.Seen.{cell_in, is_cell_of, is_opt, own_cell}
+pub use Rattle.mm_opt.specs.Steps.{FindsCell, FindsIn, IsReady, Makes, MakesRoom, MayGoOn, ReadsOwnCell, ReadsOwnCell as ReadsStep}
+pub use Rattle.mm_opt.specs.Steps.{ReadsRegister}
+pub use Rattle.mm_opt.specs.declared.found.Found.{Found}
+pub use Rattle.mm_opt.specs.declared.found.Found.TheVariants.{Inside, Opens, Repeat}
+pub use Rattle.mm_opt.specs.declared.found.Opening.{Opening}
+pub use Rattle.mm_opt.specs.declared.segment.CheckpointRefusal.{CheckpointRefusal}
+pub use Rattle.mm_opt.specs.declared.segment.Checkpointed.{Checkpointed}
+pub use Rattle.mm_opt.specs.declared.segment.Segment.{Segment}
+pub use Rattle.mm_opt.specs.declared.segment.Segment.TheVariants.{Open, Shut}
+pub use Rattle.mm_opt.specs.declared.stage.Stage.{Stage}
