@@ -1,39 +1,22 @@
 -- A welcome offer is found, and a call that finds it and isn't broken off answers.
-use Rattle.std.proofs.Common.{◌≡◌, ℕ, ◌+◌, ◌&&◌, Bool, true, false, List, [], ◌∷◌, ◌++◌, None, Result, Ok, Err, refl, sym, ap, ◌∙◌, subst, le-leb}
-use Rattle.std.specs.Prelude.{if◌then◌else◌, nat_eq, nat_le}
+use Rattle.mm_callers.proofs.Below.{◌≡◌, ℕ, ◌+◌, ◌&&◌, Bool, true, false, List, [], ◌∷◌, ◌++◌, None, Result, Ok, Err, refl, sym, ap, ◌∙◌}
+use Rattle.mm_callers.proofs.Below.{subst, le-leb, if◌then◌else◌, nat_eq, nat_le, last_position, Variant, Batch, size_of, parts_of, Content}
+use Rattle.mm_callers.proofs.Below.{tag_of, offered_of, Instance, basic, opt, History, total_of, Life, Live, life_of, is_lost, Step}
+use Rattle.mm_callers.proofs.Below.{ask_steps, at_the_end, before_the_last, Refusal, Verdict, by_lists, all_made, Found, found_by_verdict}
+use Rattle.mm_callers.proofs.Below.{found_at, found_with, found_unless_wanting, End, Done, Fails, Fate, Course, Walked, after_step, walk}
+use Rattle.mm_callers.proofs.Below.{seen_at, ended_by, called_with, again_of, fresh_of, same_batches, more_batches, Commits, nothing, batch}
+use Rattle.mm_callers.proofs.Below.{basic_commits, opt_commits, asks, IsSmooth, IsOfferedAt, IsWelcome, batches_then, IsAnswer}
+use Rattle.mm_callers.proofs.Below.{BasicCallsAreComplete, OptCallsAreComplete}
 use Rattle.std.specs.Str.{bytes_eq}
 use Rattle.std.proofs.lemmas.Bool.{eq-eqb}
 use Rattle.std.proofs.lemmas.Slice.Eq.{bytes_eq-Decides}
-use Rattle.mm_base.specs.Limits.{last_position}
-use Rattle.mm_digest.specs.declared.variant.Variant.{Variant}
-use Rattle.mm_module.specs.Batch.{Batch, size_of}
-use Rattle.mm_seal.specs.Parts.{parts_of}
-use Rattle.mm_seal.specs.Snapshot.{Content, tag_of, offered_of}
 use Rattle.mm_seal.specs.SealLaws.{sealed_parts}
-use Rattle.mm_model.specs.Instance.{Instance}
-use Rattle.mm_model.specs.InstanceWords.{basic, opt}
-use Rattle.mm_model.specs.History.{History, total_of}
 use Rattle.mm_model.specs.Judge.{judge, judged, is_last}
-use Rattle.mm_model.specs.Life.{Life, Live, life_of, is_lost}
-use Rattle.mm_model.specs.Steps.{Step, ask_steps}
-use Rattle.mm_model.specs.BatchLaws.{at_the_end, before_the_last}
-use Rattle.mm_model.specs.declared.refusal.Refusal.{Refusal}
 use Rattle.mm_model.specs.declared.refusal.Refusal.TheVariants as refusal
-use Rattle.mm_model.specs.declared.verdict.Verdict.{Verdict}
 use Rattle.mm_model.specs.declared.verdict.Verdict.TheVariants.{Fresh, Again}
 use Rattle.mm_call.specs.Order.{admitted}
 use Rattle.mm_call.specs.OrderWords.{weighed}
-use Rattle.mm_call.specs.Levels.{by_lists, all_made}
-use Rattle.mm_call.specs.Found.{Found, found_by_verdict, found_at}
-use Rattle.mm_call.specs.FoundWords.{found_with, found_unless_wanting}
-use Rattle.mm_call.specs.Courses.{End, Done, Fails, Fate, Course, Walked, after_step, walk}
-use Rattle.mm_call.specs.Called.{seen_at, ended_by}
-use Rattle.mm_call.specs.CalledWords.{called_with}
-use Rattle.mm_call.proofs.Endings.{again_of, fresh_of}
-use Rattle.mm_call.specs.MoveLaws.{same_batches, more_batches}
-use Rattle.mm_call.specs.WalkLaws.{Commits, nothing, batch, basic_commits, opt_commits, asks}
-use Rattle.mm_callers.specs.Complete.{IsSmooth, IsOfferedAt, IsWelcome, batches_then, IsAnswer, BasicCallsAreComplete, OptCallsAreComplete}
-use Rattle.mm_callers.proofs.Twice.{not_again}
+use Rattle.mm_callers.proofs.Leaving.{not_again}
 
 -- the verdict on a welcome offer
 abbrev pub verdict_of : Bool → Verdict
@@ -84,8 +67,7 @@ welcome_found i y offer b again w =
     let spelled : i.meaning.is_spelled w.content.state ≡ true = w.right.state in
     let verdict = verdict_is i.variant y w.content.position b again w.live w.offered in
     ap (λ (l : Life). if is_lost l then Err refusal.Lost else found_by_verdict i (by_lists i) y b (parts_of i.variant i.meaning.id offer))
-    w.live
-    ∙ ap (found_by_verdict i (by_lists i) y b) parts
+    w.live ∙ ap (found_by_verdict i (by_lists i) y b) parts
     ∙ ap (found_with w.content) (given (i.meaning.is_spelled w.content.state) (bytes_eq (tag_of i.key w.content) (tag_of i.key w.content))
     (nat_le (w.content.position + size_of b) last_position) again (judge i.variant y w.content.position b) spelled
     ((bytes_eq-Decides (tag_of i.key w.content) (tag_of i.key w.content)).1 refl)
@@ -123,11 +105,11 @@ answers_found i y seen c b content again done commits =
     }
 
 pub complete : (i : Instance) (y : History) (c : Course) (offer : List ℕ) (b : Batch) (again : Bool) → IsSmooth c
-    → IsWelcome i (seen_at i (by_lists i) y c) offer b again
-    → ((fresh : Bool) → Commits b fresh (walk c.fates 1 (ask_steps i.variant y.is_open fresh b)))
+    → IsWelcome i (seen_at i (by_lists i) y c) offer b again →
+    ((fresh : Bool) → Commits b fresh (walk c.fates 1 (ask_steps i.variant y.is_open fresh b)))
     → IsAnswer i y b again
-    (called_with i (by_lists i) y (seen_at i (by_lists i) y c) c b
-    (found_unless_wanting (found_at i (by_lists i) (seen_at i (by_lists i) y c) b offer) c.lacks))
+    (called_with i (by_lists i) y (seen_at i (by_lists i) y c) c b (found_unless_wanting (found_at i (by_lists i) (seen_at i (by_lists i) y
+    c) b offer) c.lacks))
 complete i y c offer b again smooth w commits =
     let seen : History = seen_at i (by_lists i) y c in
     let found : found_unless_wanting (found_at i (by_lists i) seen b offer) c.lacks ≡ Ok (accepted w.content again) =

@@ -1,36 +1,25 @@
 -- What callers count, from the clauses of their calls.
-use Rattle.std.proofs.Common.{◌≡◌, ℕ, Bool, true, false, List, Some, Result, Ok, Err, refl, ap, subst}
-use Rattle.mm_digest.specs.declared.variant.Variant.{Variant}
-use Rattle.mm_digest.specs.declared.variant.Variant.TheVariants.{Basic, Opt}
-use Rattle.mm_platform.specs.declared.fault.StepFault.{StepFault}
-use Rattle.mm_platform.specs.Standing.{Standing}
-use Rattle.mm_platform.specs.Told.{quiet_plan}
-use Rattle.mm_module.specs.Meaning.{Meaning}
-use Rattle.mm_module.specs.Batch.{Batch, One}
-use Rattle.mm_model.specs.Long.{is_long}
-use Rattle.mm_model.specs.declared.answer.Answer.{Answer}
-use Rattle.mm_model.specs.declared.answer.BatchAnswer.{BatchAnswer}
-use Rattle.mm_model.specs.declared.refusal.Refusal.{Refusal}
-use Rattle.mm_model.specs.declared.refusal.Refusal.TheVariants.{Memory, Long, Device, Blank, Cell as OtherCell, Lost, Form, Kind, State, Tag, Stale, Full}
-use Rattle.mm_call.specs.Leaving.{Blames, whole_in}
-use Rattle.mm_call.specs.Refusals.{fault_in}
-use Rattle.mm_basic.specs.Asks.{Calls as BasicCalls, StepsBy as BasicSteps}
-use Rattle.mm_opt.specs.Asks.{Calls as OptCalls, StepsBy as OptSteps, StepsMade, one_step, two_steps, three_steps, four_steps, five_steps, StepsAnswered, StepsRefused}
-use Rattle.mm_callers.specs.Counts.{StepsOf, StepsFor, CountsCall, CountsAgain, again}
+use Rattle.mm_callers.proofs.Below.{◌≡◌, ℕ, Bool, true, false, List, Some, Result, Ok, Err, refl, ap, subst, Variant, Basic, Opt, StepFault}
+use Rattle.mm_callers.proofs.Below.{Standing, quiet_plan, Meaning, Batch, One, is_long, Answer, BatchAnswer, Refusal, Memory, Long, Device}
+use Rattle.mm_callers.proofs.Below.{Blank, OtherCell, Lost, Form, Kind, State, Tag, Stale, Full, Blames, whole_in, fault_in, StepsOf}
+use Rattle.mm_callers.proofs.Below.{StepsFor, CountsCall, CountsAgain, again}
+use Rattle.mm_call.specs.Calls.{Calls}
+use Rattle.mm_basic.specs.Asks.{basic_call, StepsBy as BasicSteps}
+use Rattle.mm_opt.specs.Asks.{opt_call, StepsBy as OptSteps, StepsMade, one_step, two_steps, three_steps, four_steps, five_steps, StepsAnswered, StepsRefused}
 
 -- too long a batch
 record IsTooLong (old new : Standing) (result : Result BatchAnswer Refusal) : Type 0 where
   same : new ≡ old
   gives : result ≡ Err Long
 
-steps_by : (t : Bool) (variant : Variant) (old new : Standing) (result : Result BatchAnswer Refusal) → (t ≡ true → IsTooLong old new result)
-    → (t ≡ false → StepsOf variant result old new) → StepsFor t variant result old new
+steps_by : (t : Bool) (variant : Variant) (old new : Standing) (result : Result BatchAnswer Refusal)
+    → (t ≡ true → IsTooLong old new result) → (t ≡ false → StepsOf variant result old new) → StepsFor t variant result old new
 steps_by true variant old new result long short =
     let l = long refl in (l.gives, ap (λ (s : Standing). s.steps) l.same, ap (λ (s : Standing). s.writes) l.same)
 steps_by false variant old new result long short = short refl
 
 pub basic_counts : (meaning : Meaning) (old new : Standing) (offer request : List ℕ) (result : Result Answer Refusal)
-    → BasicCalls meaning old new offer (One request) (whole_in result)
+    → Calls basic_call meaning old new offer (One request) (whole_in result)
     → (is_long (One request) ≡ false → BasicSteps (whole_in result) old new) → Blames (fault_in (whole_in result)) old.faults new.faults
     → CountsCall Basic (One request) old new (whole_in result)
 basic_counts meaning old new offer request result calls steps blames = record {
@@ -41,19 +30,18 @@ basic_counts meaning old new offer request result calls steps blames = record {
 }
 
 pub opt_counts : (meaning : Meaning) (old new : Standing) (offer request : List ℕ) (result : Result Answer Refusal)
-    → OptCalls meaning old new offer (One request) (whole_in result)
+    → Calls opt_call meaning old new offer (One request) (whole_in result)
     → (is_long (One request) ≡ false → OptSteps (whole_in result) old new) → Blames (fault_in (whole_in result)) old.faults new.faults
     → CountsCall Opt (One request) old new (whole_in result)
 opt_counts meaning old new offer request result calls steps blames = record {
-  steps =
-      steps_by (is_long (One request)) Opt old new (whole_in result) (λ e. record { same = (calls.long e).0; gives = (calls.long e).1 })
+  steps = steps_by (is_long (One request)) Opt old new (whole_in result) (λ e. record { same = (calls.long e).0; gives = (calls.long e).1 })
       steps;
   faults = blames;
 }
 
 pub counted_again : (variant : Variant) (b : Batch) (old middle new : Standing) (first : Refusal) (fault : StepFault)
-    (result : Result BatchAnswer Refusal) → first ≡ Device fault
-    → CountsCall variant b old middle (Err first) → CountsCall variant b middle new result → CountsAgain variant b old new result
+    (result : Result BatchAnswer Refusal) → first ≡ Device fault → CountsCall variant b old middle (Err first)
+    → CountsCall variant b middle new result → CountsAgain variant b old new result
 counted_again variant b old middle new first fault result is c d =
     again middle fault (subst (λ (why : Refusal). CountsCall variant b old middle (Err why)) is c) d
 

@@ -1,24 +1,11 @@
-pub mod Calls
-pub mod Again
-pub mod Twice
-pub mod Refusing
-pub mod Counting
-pub mod Asking
-pub mod BasicRefusing
-pub mod OptCalls
-pub mod OptAlike
-pub mod OptShown
-pub mod OptLeaves
-pub mod OptIdle
-pub mod OptAsking
-pub mod OptRefusing
-pub mod Completing
-pub mod OptComplete
-pub mod OptClosed
-pub mod OptClosing
-pub mod OptRepeats
-pub mod OptRepeating
-pub mod OptCheckRefusing
-pub mod OptRepeatRefusing
-pub mod OptRepeatAsking
-pub mod OptWelcome
+mod Below
+mod Leaving
+mod BasicCalls
+mod Completing
+mod Counting
+mod OptCalls
+mod OptClosing
+mod OptChecking
+mod OptComplete
+mod OptRepeats
+mod OptRepeating

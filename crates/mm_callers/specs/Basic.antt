@@ -17,16 +17,12 @@ use Rattle.mm_model.specs.declared.answer.BatchAnswer.{BatchAnswer}
 use Rattle.mm_model.specs.declared.refusal.Refusal.{Refusal}
 use Rattle.mm_model.specs.declared.refusal.Refusal.TheVariants.{Memory, Long}
 use Rattle.mm_call.specs.Answers.{answer_on}
+use Rattle.mm_call.specs.Coming.{EndsWith}
 use Rattle.mm_call.specs.Found.{Found, found_at}
 use Rattle.mm_call.specs.Leaving.{whole}
 use Rattle.mm_call.specs.Levels.{by_lists}
 use Rattle.mm_call.specs.Premises.{AreAsked}
 use Rattle.mm_call.specs.Refusals.{fault_of}
-
--- the batches end with this one
-pub record EndsWith (batches : List Batch) (b : Batch) : Type 0 where
-  pub front : List Batch
-  pub is : front ++ b ∷ [] ≡ batches
 
 -- The batch was committed once: it follows the history's batches, or it was their last one before.
 abbrev pub IsOnce : List Batch → Batch → List Batch → Type 0

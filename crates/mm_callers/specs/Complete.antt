@@ -13,7 +13,7 @@ use Rattle.mm_call.specs.Answers.{answer_on}
 use Rattle.mm_call.specs.Levels.{by_lists}
 use Rattle.mm_call.specs.Courses.{Done, Course}
 use Rattle.mm_call.specs.Called.{Answers, Called, called, seen_at}
-use Rattle.mm_callers.specs.Basic.{EndsWith}
+use Rattle.mm_call.specs.Coming.{EndsWith}
 
 -- no step fails, and memory isn't wanting
 pub record IsSmooth (course : Course) : Type 0 where
