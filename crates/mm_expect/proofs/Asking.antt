@@ -1,41 +1,17 @@
 -- A call by lists, step by step.
-use Rattle.std.proofs.Common.{◌≡◌, ℕ, ◌+◌, ◌<◌, ◌≤◌, Bool, true, false, List, [], ◌∷◌, ◌++◌, map, Option, None, Some, Result, Ok, Err, refl, sym, ap, ◌∙◌, subst, arith, append_assoc}
-use Rattle.std.specs.Prelude.{if◌then◌else◌, nat_eq, IfOk}
-use Rattle.std.proofs.lemmas.List.{append-nil}
-use Rattle.std.proofs.lemmas.Bool.Decides.{Decides-eqb}
-use Rattle.mm_base.specs.Limits.{last_position}
-use Rattle.mm_digest.specs.declared.variant.Variant.{Variant}
-use Rattle.mm_digest.specs.declared.variant.Variant.TheVariants.{Basic, Opt}
-use Rattle.mm_platform.specs.declared.fault.StepFault.{StepFault}
-use Rattle.mm_platform.specs.declared.plan.Meddle.{Meddle}
-use Rattle.mm_platform.specs.declared.plan.Stop.{Stop}
-use Rattle.mm_module.specs.Batch.{Batch, size_of}
+use Rattle.mm_expect.proofs.Below.{◌≡◌, ℕ, ◌+◌, ◌<◌, ◌≤◌, Bool, true, false, List, [], ◌∷◌, ◌++◌, map, Option, None, Some, Result, Ok, Err}
+use Rattle.mm_expect.proofs.Below.{refl, sym, ap, ◌∙◌, subst, arith, append_assoc, if◌then◌else◌, nat_eq, IfOk, append-nil, Decides-eqb}
+use Rattle.mm_expect.proofs.Below.{last_position, Variant, Basic, Opt, StepFault, Meddle, Stop, Batch, size_of, Instance, History, Move}
+use Rattle.mm_expect.proofs.Below.{Commit, Foreign, Placed, Reset, Close, Power, moved, total_of, is_last, Step, Reads, ask_steps, Refusal}
+use Rattle.mm_expect.proofs.Below.{is_last_of, total-push, answer_on, by_lists, all_made, Found, found_at, found_unless_wanting, is_fresh}
+use Rattle.mm_expect.proofs.Below.{End, Done, Fails, Fate, Walked, step_moves, after_step, walk, seen_in, commits, planned, Answers, Breaks}
+use Rattle.mm_expect.proofs.Below.{Called, reading_steps, position_of, ended_by, called, seen_at, kept_at, called_with, Ended, Answered}
+use Rattle.mm_expect.proofs.Below.{Refused, Broken, committed_in, same_batches, more_batches, Commits, nothing, batch, finished}
+use Rattle.mm_expect.proofs.Below.{commits-none, writing_commits, commits_batch, seen_none, reading_none, course_of, plan_of, Recorded}
+use Rattle.mm_expect.proofs.Below.{Went, recorded_instance, instance_with, Walks, again_in, Admits, changing_steps, changing_from}
+use Rattle.mm_expect.proofs.Below.{changes_on, ChangesBy, ending_of, new_ending, GoesOnNew, CallsBy}
 use Rattle.mm_module.specs.BatchLaws.{size_of-pos}
-use Rattle.mm_model.specs.Instance.{Instance}
-use Rattle.mm_model.specs.History.{History, Move, Commit, Foreign, Placed, Reset, Close, Power, moved, total_of}
-use Rattle.mm_model.specs.Judge.{is_last}
-use Rattle.mm_model.specs.Steps.{Step, Reads, ask_steps}
-use Rattle.mm_model.specs.declared.refusal.Refusal.{Refusal}
-use Rattle.mm_model.specs.BatchLaws.{is_last_of}
-use Rattle.mm_model.proofs.MovedDigests.{total-push}
-use Rattle.mm_call.specs.Answers.{answer_on}
-use Rattle.mm_call.specs.Levels.{by_lists, all_made}
-use Rattle.mm_call.specs.Found.{Found, found_at}
-use Rattle.mm_call.specs.FoundWords.{found_unless_wanting, is_fresh}
-use Rattle.mm_call.specs.Courses.{End, Done, Fails, Fate, Walked, step_moves, after_step, walk, seen_in, commits, planned}
-use Rattle.mm_call.specs.Called.{Answers, Breaks, Called, reading_steps, position_of, ended_by, called, seen_at}
-use Rattle.mm_call.specs.CalledWords.{kept_at, called_with}
-use Rattle.mm_call.specs.declared.ended.Ended.{Ended}
-use Rattle.mm_call.specs.declared.ended.Ended.TheVariants.{Answered, Refused, Broken}
-use Rattle.mm_call.specs.MoveLaws.{committed_in, same_batches, more_batches}
-use Rattle.mm_call.specs.WalkLaws.{Commits, nothing, batch, finished, commits-none, writing_commits, commits_batch, seen_none}
-use Rattle.mm_call.specs.AlongLaws.{reading_none}
 use Rattle.mm_call.specs.WalkLaws as walks
-use Rattle.mm_run.specs.Folds.{course_of}
-use Rattle.mm_run.specs.FoldsWords.{plan_of}
-use Rattle.mm_expect.specs.Recorded.{Recorded, Went, recorded_instance, instance_with}
-use Rattle.mm_expect.specs.Walking.{Walks}
-use Rattle.mm_expect.specs.Calls.{again_in, Admits, changing_steps, changing_from, changes_on, ChangesBy, ending_of, new_ending, GoesOnNew, CallsBy}
 use Rattle.mm_expect.proofs.Walking.{went_then, not_true}
 
 -- what the steps of a new batch commit
@@ -57,8 +33,7 @@ commits-append (Power ∷ xs) ys e = commits-append xs ys e
 
 -- the batches once a new batch was walked through
 whole_batches : (old new : Recorded) (walked : Walked) (b : Batch) → Commits b true walked → walked.broken ≡ None
-    → Went old new walked.moves
-    → new.history.batches ≡ old.history.batches ++ b ∷ []
+    → Went old new walked.moves → new.history.batches ≡ old.history.batches ++ b ∷ []
 whole_batches old new walked b (nothing none unless) whole went = let no : true ≡ false = unless whole in cc
 whole_batches old new walked b (batch one is) whole went =
     ap (λ (y : History). y.batches) went.history ∙ more_batches (recorded_instance old) walked.moves old.history b one
@@ -79,8 +54,7 @@ new_few old new stop meddles b w admits =
 
 -- whether the total rose tells whether the batch was committed
 kept_when : (same : Bool) (before total size : ℕ) (commit : Bool) → nat_eq total before ≡ same → (commit ≡ true → total ≡ before + size)
-    → 0 < size
-    → (commit ≡ false → total ≡ before) → (if same then None else Some total) ≡ kept_at commit total
+    → 0 < size → (commit ≡ false → total ≡ before) → (if same then None else Some total) ≡ kept_at commit total
 kept_when true before total size true e up pos stay =
     let a : total ≡ before = (Decides-eqb total before).0 e in absurd (omega (arith, a, up refl, pos))
 kept_when true before total size false e up pos stay = refl
@@ -153,8 +127,7 @@ module _ (fates : ℕ → Fate) where
 
   pub read_whole : (variant : Variant) (rest : List Step) → (walk fates 1 (reading_steps variant)).broken ≡ None
       → Then (walk fates 1 (reading_steps variant)) (walk fates (changing_from variant) rest) (walk fates 1 (reading_steps variant ++ rest))
-  read_whole Basic rest e =
-      after_whole Reads (fates 1).brings (fates 1).ends finished (walk fates 2 rest) (walk fates 2 rest) e
+  read_whole Basic rest e = after_whole Reads (fates 1).brings (fates 1).ends finished (walk fates 2 rest) (walk fates 2 rest) e
       (λ w. record { moves = refl; broken = refl })
   read_whole Opt rest e =
       after_whole Reads (fates 1).brings (fates 1).ends (after_step Reads (fates 2).brings (fates 2).ends finished) (walk fates 3 rest)
@@ -165,10 +138,8 @@ module _ (fates : ℕ → Fate) where
   pub read_seen : (variant : Variant) → (walk fates 1 (reading_steps variant)).broken ≡ None
       → (walk fates 1 (reading_steps variant)).moves ≡ seen_in fates (reading_steps variant) 1
   read_seen Basic e = after_seen (fates 1).brings (fates 1).ends finished [] e (λ w. refl)
-  read_seen Opt e =
-      after_seen (fates 1).brings (fates 1).ends (after_step Reads (fates 2).brings (fates 2).ends finished)
-      (map Foreign (fates 2).brings ++ []) e
-      (λ f. after_seen (fates 2).brings (fates 2).ends finished [] f (λ w. refl))
+  read_seen Opt e = after_seen (fates 1).brings (fates 1).ends (after_step Reads (fates 2).brings (fates 2).ends finished)
+      (map Foreign (fates 2).brings ++ []) e (λ f. after_seen (fates 2).brings (fates 2).ends finished [] f (λ w. refl))
 
 -- the steps of a call: the reading ones, and those behind them
 steps_are : (variant : Variant) (is_open fresh : Bool) (b : Batch)
@@ -215,17 +186,14 @@ module _ (a : Recorded) (stop : Stop) (meddles : List Meddle) (bytes : List ℕ)
   all = called at (by_lists at) a.history (course_of stop meddles) bytes b
 
   by_parts : (n : Recorded) (ended : Ended) (f : Result Found Refusal) (moves : List Move) (broken : Option StepFault)
-      → found_unless_wanting found false ≡ f
-      → (walked f).moves ≡ moves → (walked f).broken ≡ broken → Went a n moves
+      → found_unless_wanting found false ≡ f → (walked f).moves ≡ moves → (walked f).broken ≡ broken → Went a n moves
       → ending_of ended ≡ ended_by (by_lists at) seen (all_made (by_lists at) a.history moves) b f moves broken → CallsBy a n all ended
   by_parts n ended f moves broken is m br went ends =
       let C : Result Found Refusal
       → Type 0 = λ g. CallsBy a n (called_with at (by_lists at) a.history seen (course_of stop meddles) b g) ended in
-      subst C (sym is)
-      (record {
+      subst C (sym is) (record {
         went = subst (Went a n) (sym m) went;
-        ends = ends
-            ∙ ap (λ (v : List Move). ended_by (by_lists at) seen (all_made (by_lists at) a.history v) b f v broken) (sym m)
+        ends = ends ∙ ap (λ (v : List Move). ended_by (by_lists at) seen (all_made (by_lists at) a.history v) b f v broken) (sym m)
             ∙ ap (λ (v : Option StepFault). ended_by (by_lists at) seen (all_made (by_lists at) a.history (walked f).moves) b f
             (walked f).moves v) (sym br);
       })
@@ -246,8 +214,7 @@ module _ (a : Recorded) (stop : Stop) (meddles : List Meddle) (bytes : List ℕ)
       → found_at (recorded_instance n) (by_lists (recorded_instance n)) n.history b bytes ≡ found
   found_there n w =
       let same : recorded_instance n ≡ at = λ j. instance_with (w.went.variant j) (w.went.«module» j) in
-      ap (λ (k : Instance). found_at k (by_lists k) n.history b bytes) same
-      ∙ ap (λ (h : History). found_at at (by_lists at) h b bytes)
+      ap (λ (k : Instance). found_at k (by_lists k) n.history b bytes) same ∙ ap (λ (h : History). found_at at (by_lists at) h b bytes)
       (w.went.history ∙ ap (all_made (by_lists at) a.history) (read_seen fates a.variant (sym w.broken)))
 
   -- nothing comes behind the reading steps
@@ -255,8 +222,7 @@ module _ (a : Recorded) (stop : Stop) (meddles : List Meddle) (bytes : List ℕ)
   read_only f whole e =
       let T : List Step → Type 0 = λ s. Then reading finished (walk fates 1 s) in
       subst T (sym (steps_are a.variant a.history.is_open (is_fresh f) b ∙ ap (λ (k : Bool). reading_steps a.variant
-      ++ (if k then changing_steps a.variant a.history.is_open b else [])) e))
-      (read_whole fates a.variant [] whole)
+      ++ (if k then changing_steps a.variant a.history.is_open b else [])) e)) (read_whole fates a.variant [] whole)
 
   pub ask_refused : (n : Recorded) (why : Refusal) → Walks a n reading None
       → Err why ≡ again_in (found_at (recorded_instance n) (by_lists (recorded_instance n)) n.history b bytes)
@@ -284,8 +250,7 @@ module _ (a : Recorded) (stop : Stop) (meddles : List Meddle) (bytes : List ℕ)
 
   -- the ending of a new batch, behind the reading steps
   ends_new : (n m : Recorded) (f : Found) (moves : List Move) (broken : Option StepFault) → f.again ≡ false → Walks a n reading None
-      → Went n m moves
-      → new_ending m b moves broken
+      → Went n m moves → new_ending m b moves broken
       ≡ ended_by (by_lists at) seen (all_made (by_lists at) a.history (reading.moves ++ moves)) b (Ok f) (reading.moves ++ moves) broken
   ends_new n m f moves None new w went =
       let both = went_then a n m reading.moves moves w.went went in
@@ -315,8 +280,7 @@ module _ (a : Recorded) (stop : Stop) (meddles : List Meddle) (bytes : List ℕ)
   read_open : (variant : Variant) (y : History)
       → (all_made (by_lists at) y (walk fates 1 (reading_steps variant)).moves).is_open ≡ y.is_open
   read_open Basic y = step_open (fates 1).brings (fates 1).ends finished y (λ z e. e)
-  read_open Opt y =
-      step_open (fates 1).brings (fates 1).ends (after_step Reads (fates 2).brings (fates 2).ends finished) y
+  read_open Opt y = step_open (fates 1).brings (fates 1).ends (after_step Reads (fates 2).brings (fates 2).ends finished) y
       (λ z e. step_open (fates 2).brings (fates 2).ends finished z (λ u f. f) ∙ e)
 
   pub ask_new : (n m : Recorded) (ended : Ended) → Walks a n reading None
@@ -333,8 +297,7 @@ module _ (a : Recorded) (stop : Stop) (meddles : List Meddle) (bytes : List ℕ)
       let ends : ending_of ended ≡ new_ending m b more.moves more.broken = goes.ends
       ∙ ap (λ (v : Walked). new_ending m b v.moves v.broken) same in
       let fresh : is_fresh (Ok f.0) ≡ true = ap (λ (k : Bool). if k then false else true) f.2 in
-      let t : Then reading more (walked (Ok f.0)) =
-      (let T : List Step → Type 0 = λ s. Then reading more (walk fates 1 s) in
+      let t : Then reading more (walked (Ok f.0)) = (let T : List Step → Type 0 = λ s. Then reading more (walk fates 1 s) in
       subst T (sym (steps_are a.variant a.history.is_open (is_fresh (Ok f.0)) b ∙ ap (λ (k : Bool). reading_steps a.variant
       ++ (if k then changing_steps a.variant a.history.is_open b else [])) fresh))
       (read_whole fates a.variant (changing_steps a.variant a.history.is_open b) (sym w.broken))) in
@@ -358,9 +321,7 @@ kept_same total before now was n w e =
 
 pub kept_other : (total before now was : ℕ) → now ≡ total → was ≡ before → (now ≡ was → ⊥)
     → Some now ≡ (if nat_eq total before then None else Some total)
-kept_other total before now was n w e =
-    ap (λ (t : ℕ). Some t) n
-    ∙ sym (ap (λ (b : Bool). if b then None else Some total)
+kept_other total before now was n w e = ap (λ (t : ℕ). Some t) n ∙ sym (ap (λ (b : Bool). if b then None else Some total)
     (not_true (nat_eq total before) (λ t. e (n ∙ (Decides-eqb total before).0 t ∙ sym w))))
 
 -- what others put into the register commits nothing

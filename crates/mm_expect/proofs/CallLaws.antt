@@ -1,33 +1,12 @@
 -- Where the snapshot of an answer stands, by the marks; and a call in a schedule, by its parts.
-use Rattle.std.proofs.Common.{ℕ, ◌≡◌, Bool, true, false, List, [], ◌++◌, refl, sym, ap, ◌∙◌, append_assoc}
-use Rattle.std.specs.Prelude.{option_to_list}
+use Rattle.mm_expect.proofs.Below.{ℕ, ◌≡◌, Bool, true, false, List, [], ◌++◌, refl, sym, ap, ◌∙◌, append_assoc, option_to_list, Variant}
+use Rattle.mm_expect.proofs.Below.{Opt, zero_bytes, Meddle, Stop, Batch, InOpt, Instance, History, cell_digest_of, issued_place, digest_of}
+use Rattle.mm_expect.proofs.Below.{Ended, Answered, Refused, Broken, Called, right_content, by_lists, all_made, way_of, reply_of}
+use Rattle.mm_expect.proofs.Below.{snapshots_of, moves_then, after_stop, Marks, Said, CallsBy, ending_of, WentByCall, called_on, moves_if}
+use Rattle.mm_expect.proofs.Below.{marks_of, Recorded, Went, instance_with, recorded_instance}
 use Rattle.mm_digest.specs.declared.digest.Digest.{Digest}
-use Rattle.mm_digest.specs.declared.variant.Variant.{Variant}
-use Rattle.mm_digest.specs.declared.variant.Variant.TheVariants.{Opt}
-use Rattle.mm_digest.specs.Messages.{zero_bytes}
-use Rattle.mm_platform.specs.declared.plan.Meddle.{Meddle}
-use Rattle.mm_platform.specs.declared.plan.Stop.{Stop}
-use Rattle.mm_module.specs.Batch.{Batch}
-use Rattle.mm_seal.specs.declared.snapshot.Place.TheVariants.{Opt as InOpt}
-use Rattle.mm_model.specs.Instance.{Instance}
-use Rattle.mm_model.specs.History.{History}
-use Rattle.mm_model.specs.HistoryWords.{cell_digest_of}
-use Rattle.mm_model.specs.Places.{issued_place}
-use Rattle.mm_model.specs.PlacesWords.{digest_of}
-use Rattle.mm_call.specs.declared.ended.Ended.{Ended}
-use Rattle.mm_call.specs.declared.ended.Ended.TheVariants.{Answered, Refused, Broken}
 use Rattle.mm_call.specs.Asked.{right_messages}
-use Rattle.mm_call.specs.Called.{Called}
 use Rattle.mm_call.specs.Ended.{is_broken}
-use Rattle.mm_call.specs.Found.{right_content}
-use Rattle.mm_call.specs.Levels.{by_lists, all_made}
-use Rattle.mm_run.specs.Folds.{way_of, reply_of, snapshots_of, moves_then, after_stop}
-use Rattle.mm_expect.specs.declared.marks.Marks.{Marks}
-use Rattle.mm_expect.specs.declared.replies.Said.{Said}
-use Rattle.mm_expect.specs.Calls.{CallsBy, ending_of}
-use Rattle.mm_expect.specs.Coming.{WentByCall, called_on, moves_if}
-use Rattle.mm_expect.specs.Marks.{marks_of}
-use Rattle.mm_expect.specs.Recorded.{Recorded, Went, instance_with, recorded_instance}
 
 cell_at_anchor : (i : Instance) (y : History) (m : Marks) → m ≡ marks_of i y → i.variant ≡ Opt → m.cell ≡ digest_of (cell_digest_of i Opt y)
 cell_at_anchor i y m e v = ap (λ (x : Marks). x.cell) e ∙ ap (λ (x : Variant). digest_of (cell_digest_of i x y)) v
@@ -38,13 +17,11 @@ place_is i y flag v o = λ j. issued_place (sym v j) (sym o j) i y
 
 pub place_open : (i : Instance) (y : History) (m : Marks) → m ≡ marks_of i y → i.variant ≡ Opt → y.is_open ≡ true
     → InOpt m.cell m.own ≡ issued_place i.variant y.is_open i y
-place_open i y m e v o =
-    (λ j. InOpt (cell_at_anchor i y m e v j) (ap (λ (x : Marks). x.own) e j)) ∙ place_is i y true v o
+place_open i y m e v o = (λ j. InOpt (cell_at_anchor i y m e v j) (ap (λ (x : Marks). x.own) e j)) ∙ place_is i y true v o
 
 pub place_shut : (i : Instance) (y : History) (m : Marks) (zero : Digest) → m ≡ marks_of i y → zero.bytes ≡ zero_bytes → i.variant ≡ Opt
     → y.is_open ≡ false → InOpt m.cell zero ≡ issued_place i.variant y.is_open i y
-place_shut i y m zero e z v o =
-    (λ j. InOpt (cell_at_anchor i y m e v j) (digest_of (z j))) ∙ place_is i y false v o
+place_shut i y m zero e z v o = (λ j. InOpt (cell_at_anchor i y m e v j) (digest_of (z j))) ∙ place_is i y false v o
 
 -- a chronicle without the messages of its moves
 abbrev pub forgotten : Recorded → Recorded
@@ -73,8 +50,7 @@ pub went_by_call : (old went handed new : Recorded) (stop : Stop) (meddles : Lis
     → asked ≡ front ++ right_messages (recorded_instance old) b (right_content (recorded_instance old) bytes)
     → CallsBy (forgotten old) went (called_on old stop meddles bytes b) ended
     → handed.history ≡ went.history → handed.variant ≡ went.variant → handed.«module» ≡ went.«module»
-    → back ≡ asked ++ (went.extending ++ went.closing)
-    → Went handed new (moves_if (is_broken ended) (after_stop stop))
+    → back ≡ asked ++ (went.extending ++ went.closing) → Went handed new (moves_if (is_broken ended) (after_stop stop))
     → said.reply ≡ reply_of (way_of stop) (ending_of ended) → option_to_list said.snapshot ≡ snapshots_of (ending_of ended)
     → WentByCall old new stop meddles bytes b front back said
 went_by_call old went handed new stop meddles bytes b ended front asked back said listed calls hh hv hm handed_on restored replied sealed =

@@ -1,33 +1,14 @@
 -- A checkpoint by lists, step by step.
-use Rattle.std.proofs.Common.{◌≡◌, ℕ, Bool, true, false, List, [], ◌∷◌, ◌++◌, Option, None, Some, Result, Ok, Err, refl, sym, ap, ◌∙◌, subst}
-use Rattle.std.specs.Prelude.{IfOk}
-use Rattle.std.proofs.lemmas.List.{append-nil}
-use Rattle.mm_digest.specs.declared.variant.Variant.{Variant}
-use Rattle.mm_digest.specs.declared.variant.Variant.TheVariants.{Opt}
-use Rattle.mm_platform.specs.declared.fault.StepFault.{StepFault}
-use Rattle.mm_platform.specs.declared.plan.Meddle.{Meddle}
-use Rattle.mm_platform.specs.declared.plan.Stop.{Stop}
-use Rattle.mm_platform.specs.Steps.{fault_at, is_made_at}
-use Rattle.mm_model.specs.Instance.{Instance}
-use Rattle.mm_model.specs.History.{History, Move, Close}
-use Rattle.mm_model.specs.Life.{life_of, is_lost}
-use Rattle.mm_model.specs.Steps.{Step, Reads, Writes, checkpoint_steps}
-use Rattle.mm_call.specs.Levels.{by_lists, all_made}
-use Rattle.mm_call.specs.Courses.{Fate, Walked, after_step, walk, seen_in, closes, planned}
-use Rattle.mm_call.specs.CoursesWords.{end_of}
-use Rattle.mm_call.specs.Called.{reading_steps, seen_at}
+use Rattle.mm_expect.proofs.Below.{◌≡◌, ℕ, Bool, true, false, List, [], ◌∷◌, ◌++◌, Option, None, Some, Result, Ok, Err, refl, sym, ap, ◌∙◌}
+use Rattle.mm_expect.proofs.Below.{subst, IfOk, Variant, Opt, StepFault, Meddle, Stop, fault_at, is_made_at, Instance, History, Move, Close}
+use Rattle.mm_expect.proofs.Below.{life_of, is_lost, Step, Reads, Writes, checkpoint_steps, by_lists, all_made, Fate, Walked, after_step}
+use Rattle.mm_expect.proofs.Below.{walk, seen_in, closes, planned, end_of, reading_steps, seen_at, finished, closes-append, closes-foreign}
+use Rattle.mm_expect.proofs.Below.{ClosesNone, shut_along, walk_along, course_of, plan_of, last_steps, Closes, Stops, Recorded, Went}
+use Rattle.mm_expect.proofs.Below.{recorded_instance, Walks}
 use Rattle.mm_call.specs.Checkpoints as ghost_closing
 use Rattle.mm_call.specs.CheckpointsWords as ghost_closing_words
-use Rattle.mm_call.specs.WalkLaws.{finished}
-use Rattle.mm_call.specs.AlongLaws.{closes-append, closes-foreign, ClosesNone, shut_along, walk_along}
-use Rattle.mm_run.specs.Folds.{course_of}
-use Rattle.mm_run.specs.FoldsWords.{plan_of}
-use Rattle.mm_run.proofs.Naming.{last_steps}
 use Rattle.mm_expect.specs.declared.calls.Closing.{Closing}
-use Rattle.mm_expect.specs.declared.calls.Closing.TheVariants.{Closes, LostPower, Stops}
 use Rattle.mm_expect.specs.Closings.{closing_as, WentByCheckpoint, ShutBy}
-use Rattle.mm_expect.specs.Recorded.{Recorded, Went, recorded_instance}
-use Rattle.mm_expect.specs.Walking.{Walks}
 use Rattle.mm_expect.proofs.Asking.{Then, read_broken, read_whole, read_seen}
 use Rattle.mm_expect.proofs.Walking.{went_then}
 
@@ -40,12 +21,10 @@ two_close fates = walk_along ClosesNone shut_along fates 1 (reading_steps Opt) t
 -- a checkpoint that reads the cell alone
 
 pub shut_is : {E : Type 0} (a n : Recorded) (stop : Stop) (meddles : List Meddle) (unless : Closing) (variant : Variant) (is_open : Bool)
-    (r : Result Closing E)
-    → a.variant ≡ variant → a.history.is_open ≡ is_open
+    (r : Result Closing E) → a.variant ≡ variant → a.history.is_open ≡ is_open
     → ((lost : Bool) → checkpoint_steps variant is_open lost ≡ Reads ∷ [])
     → ((lost : Bool) → ghost_closing.closing_of variant is_open lost ≡ closing_as unless)
-    → IfOk r (ShutBy a n (walk (planned (plan_of stop meddles)) 1 (Reads ∷ [])) unless)
-    → IfOk r (WentByCheckpoint a n
+    → IfOk r (ShutBy a n (walk (planned (plan_of stop meddles)) 1 (Reads ∷ [])) unless) → IfOk r (WentByCheckpoint a n
     (ghost_closing.checkpointed (recorded_instance a) (by_lists (recorded_instance a)) a.history (course_of stop meddles)))
 shut_is a n stop meddles unless variant is_open (Err e) va op steps ends shut = tt
 shut_is a n stop meddles unless variant is_open (Ok closing) va op steps ends shut =
@@ -59,8 +38,7 @@ shut_is a n stop meddles unless variant is_open (Ok closing) va op steps ends sh
     let W : Walked = walk fates 1 (Reads ∷ []) in
     record {
       went = subst (λ (s : List Step). Went a n (walk fates 1 s).moves) (sym here) shut.went;
-      ends = shut.ends
-          ∙ ap (λ (k : Bool). ghost_closing_words.closed_by W.broken k (closing_as unless)) (sym (one_closes fates))
+      ends = shut.ends ∙ ap (λ (k : Bool). ghost_closing_words.closed_by W.broken k (closing_as unless)) (sym (one_closes fates))
           ∙ ap (ghost_closing_words.closed_by W.broken (closes W.moves)) (sym there)
           ∙ ap (λ (s : List Step). ghost_closing_words.closed_by (walk fates 1 s).broken (closes (walk fates 1 s).moves)
           (ghost_closing.closing_of a.variant a.history.is_open lost)) (sym here);
@@ -94,8 +72,7 @@ module _ (a : Recorded) (stop : Stop) (meddles : List Meddle) (va : a.variant �
 
   by_parts : (n : Recorded) (closing : Closing) (moves : List Move) (broken : Option StepFault)
       → (walk fates 1 (reading_steps Opt ++ last_steps lost)).moves ≡ moves
-      → (walk fates 1 (reading_steps Opt ++ last_steps lost)).broken ≡ broken
-      → Went a n moves
+      → (walk fates 1 (reading_steps Opt ++ last_steps lost)).broken ≡ broken → Went a n moves
       → closing_as closing ≡ ghost_closing_words.closed_by broken (closes moves) (ghost_closing.closing_of Opt true lost)
       → WentByCheckpoint a n all closing
   by_parts n closing moves broken m br went ends =
@@ -106,8 +83,8 @@ module _ (a : Recorded) (stop : Stop) (meddles : List Meddle) (va : a.variant �
         went = subst (λ (s : List Step). Went a n (walk fates 1 s).moves) (sym steps_are) (subst (Went a n) (sym m) went);
         ends = ends
             ∙ ap (λ (v : List Move). ghost_closing_words.closed_by broken (closes v) (ghost_closing.closing_of Opt true lost)) (sym m)
-            ∙ ap (λ (f : Option StepFault). ghost_closing_words.closed_by f (closes (walk fates 1 (reading_steps Opt ++ last_steps lost)).moves)
-            (ghost_closing.closing_of Opt true lost)) (sym br)
+            ∙ ap (λ (f : Option StepFault). ghost_closing_words.closed_by f
+            (closes (walk fates 1 (reading_steps Opt ++ last_steps lost)).moves) (ghost_closing.closing_of Opt true lost)) (sym br)
             ∙ ap (ghost_closing_words.closed_by (walk fates 1 (reading_steps Opt ++ last_steps lost)).broken
             (closes (walk fates 1 (reading_steps Opt ++ last_steps lost)).moves)) (sym there)
             ∙ ap (λ (s : List Step). ghost_closing_words.closed_by (walk fates 1 s).broken (closes (walk fates 1 s).moves)
@@ -118,14 +95,11 @@ module _ (a : Recorded) (stop : Stop) (meddles : List Meddle) (va : a.variant �
   check_broken n fault w =
       let same = read_broken fates Opt (last_steps lost) fault (sym w.broken) in
       by_parts n (Stops fault false) reading.moves (Some fault) (ap (λ (v : Walked). v.moves) same)
-      (ap (λ (v : Walked). v.broken) same ∙ sym w.broken)
-      w.went (ap (ghost_closing.Stops fault) (sym (two_close fates)))
+      (ap (λ (v : Walked). v.broken) same ∙ sym w.broken) w.went (ap (ghost_closing.Stops fault) (sym (two_close fates)))
 
   -- what the chronicle tells of power is what the checkpoint sees
   lost_there : (n : Recorded) → Walks a n reading None → is_lost (life_of n.variant n.history) ≡ lost
-  lost_there n w =
-      ap (λ (v : Variant). is_lost (life_of v n.history)) w.went.variant
-      ∙ ap (λ (h : History). is_lost (life_of a.variant h))
+  lost_there n w = ap (λ (v : Variant). is_lost (life_of v n.history)) w.went.variant ∙ ap (λ (h : History). is_lost (life_of a.variant h))
       (w.went.history ∙ ap (all_made (by_lists at) a.history) (read_seen fates Opt (sym w.broken)
       ∙ ap (λ (v : Variant). seen_in fates (reading_steps v) 1) (sym va)))
 
@@ -134,14 +108,6 @@ module _ (a : Recorded) (stop : Stop) (meddles : List Meddle) (va : a.variant �
   goes_last l e whole =
       subst (λ (k : Bool). Then reading (walk fates 3 (last_steps l)) (walk fates 1 (reading_steps Opt ++ last_steps k))) (sym e)
       (read_whole fates Opt (last_steps l) whole)
-
-  pub check_lost : (n : Recorded) → Walks a n reading None → is_lost (life_of n.variant n.history) ≡ true
-      → WentByCheckpoint a n all LostPower
-  check_lost n w e =
-      let l : lost ≡ true = sym (lost_there n w) ∙ e in
-      let t = goes_last true l (sym w.broken) in
-      by_parts n LostPower reading.moves None (t.moves ∙ append-nil reading.moves) t.broken w.went
-      (ap (ghost_closing.closing_of Opt true) (sym l))
 
   abbrev closing_walk : Walked
   closing_walk = walk fates 3 (Writes Close ∷ [])
@@ -152,8 +118,7 @@ module _ (a : Recorded) (stop : Stop) (meddles : List Meddle) (va : a.variant �
       let l : lost ≡ false = sym (lost_there n w) ∙ e in
       let t = goes_last false l (sym w.broken) in
       by_parts m Closes (reading.moves ++ closing_walk.moves) None t.moves (t.broken ∙ sym more.broken)
-      (went_then a n m reading.moves closing_walk.moves w.went more.went)
-      (ap (ghost_closing.closing_of Opt true) (sym l))
+      (went_then a n m reading.moves closing_walk.moves w.went more.went) (ap (ghost_closing.closing_of Opt true) (sym l))
 
   closes_made : (values : List (List ℕ)) (answer : Option StepFault) (made : Bool) (fault : StepFault)
       → (after_step (Writes Close) values (end_of answer made) finished).broken ≡ Some fault

@@ -1,34 +1,15 @@
 -- A schedule commits at most 2^48 requests.
-use Rattle.std.proofs.Common.{◌≡◌, ℕ, ◌+◌, ◌≤◌, Bool, true, false, List, [], ◌∷◌, Option, None, Some, Result, Ok, refl, sym, ap, ◌∙◌, subst, arith}
-use Rattle.std.specs.Prelude.{if◌then◌else◌}
-use Rattle.mm_base.specs.Limits.{last_position}
-use Rattle.mm_platform.specs.declared.plan.Meddle.{Meddle}
-use Rattle.mm_platform.specs.declared.plan.Stop.{Stop}
-use Rattle.mm_platform.specs.declared.plan.Stop.TheVariants.{Quiet, Cut, Drop, Fail}
-use Rattle.mm_module.specs.Batch.{Batch, size_of, normal}
-use Rattle.mm_model.specs.Instance.{Instance}
-use Rattle.mm_model.specs.History.{History, Move, first_history, total_of}
-use Rattle.mm_model.specs.Long.{is_long}
-use Rattle.mm_model.specs.Steps.{ask_steps}
-use Rattle.mm_model.specs.declared.refusal.Refusal.{Refusal}
-use Rattle.mm_model.proofs.MovedDigests.{total-push}
-use Rattle.mm_call.specs.Called.{Ending, Answers, Refuses, Breaks, reading_steps, called, seen_at}
-use Rattle.mm_call.specs.Checkpoints.{Closing, Closes, HasNone, NoSegment, LostPower, Stops, checkpointed}
-use Rattle.mm_call.specs.Courses.{Course, Walked, walk}
-use Rattle.mm_call.specs.Found.{Found, found_at}
-use Rattle.mm_call.specs.FoundWords.{found_unless_wanting, is_fresh}
-use Rattle.mm_call.specs.Levels.{by_lists, all_made}
-use Rattle.mm_call.proofs.BasicLaw.{unlacked}
-use Rattle.mm_call.specs.MoveLaws.{committed_in, same_batches, more_batches}
-use Rattle.mm_call.specs.WalkLaws.{Commits, nothing, batch, call_commits}
-use Rattle.mm_call.specs.AlongLaws.{checkpoint_none}
-use Rattle.mm_call.proofs.Endings.{fresh_found}
+use Rattle.mm_expect.proofs.Below.{◌≡◌, ℕ, ◌+◌, ◌≤◌, Bool, true, false, List, [], ◌∷◌, Option, None, Some, Result, Ok, refl, sym, ap, ◌∙◌}
+use Rattle.mm_expect.proofs.Below.{subst, arith, if◌then◌else◌, last_position, Meddle, Stop, Quiet, Cut, Drop, Fail, Batch, size_of, normal}
+use Rattle.mm_expect.proofs.Below.{Instance, History, Move, first_history, total_of, is_long, ask_steps, Refusal, total-push, Ending}
+use Rattle.mm_expect.proofs.Below.{Breaks, reading_steps, called, seen_at, Course, Walked, walk, Found, found_at, found_unless_wanting}
+use Rattle.mm_expect.proofs.Below.{is_fresh, by_lists, all_made, unlacked, committed_in, same_batches, more_batches, Commits, nothing}
+use Rattle.mm_expect.proofs.Below.{batch, call_commits, checkpoint_none, fresh_found, Event, Ask, Checkpoint, offered_bytes, course_of}
+use Rattle.mm_expect.proofs.Below.{after_stop, moves_then, closing_then, uncalled, outcome_by, asked, event_outcome, followed, first_issued}
+use Rattle.mm_expect.proofs.Below.{expected, Admits}
+use Rattle.mm_call.specs.Checkpoints.{Closing, Stops, checkpointed}
 use Rattle.mm_schedule.specs.declared.reply.Cause.TheVariants as cause
 use Rattle.mm_schedule.specs.declared.reply.Reply.TheVariants as reply
-use Rattle.mm_schedule.specs.Events.{Event, Ask, Checkpoint, Power, Extend}
-use Rattle.mm_run.specs.Offered.{offered_bytes}
-use Rattle.mm_run.specs.Folds.{course_of, after_stop, moves_then, closing_then, uncalled, outcome_by, asked, event_outcome, followed, first_issued, expected}
-use Rattle.mm_expect.specs.Calls.{Admits}
 use Rattle.mm_expect.proofs.Asking.{foreign_batches}
 use Rattle.mm_expect.proofs.FindLaws.{admits_found}
 
@@ -46,8 +27,7 @@ walked_few i y seen b found walked same admits (nothing none unless) few = still
 walked_few i y seen b found walked same admits (batch one is) few =
     let f = fresh_found found is in
     let a : Admits seen b false = subst (Admits seen b) f.2 (admits f.0 f.1) in
-    subst (λ n. n ≤ last_position)
-    (sym (ap total_of (more_batches i walked.moves y b one) ∙ total-push y.batches b
+    subst (λ n. n ≤ last_position) (sym (ap total_of (more_batches i walked.moves y b one) ∙ total-push y.batches b
     ∙ ap (λ (bs : List Batch). total_of bs + size_of b) (sym same))) a.fits
 
 called_few : (i : Instance) (y : History) (course : Course) (bytes : List ℕ) (b : Batch) → IsFew y
@@ -67,20 +47,15 @@ stop_quiet (Drop n) = refl
 stop_quiet (Fail n done) = refl
 
 then_quiet : (stop : Stop) (ending : Ending) → committed_in (moves_then stop ending) ≡ []
-then_quiet stop (Answers answer) = refl
-then_quiet stop (Refuses why) = refl
 then_quiet stop (Breaks fault kept) = stop_quiet stop
+then_quiet stop ending = refl
 
 closing_quiet : (stop : Stop) (closing : Closing) → committed_in (closing_then stop closing) ≡ []
-closing_quiet stop Closes = refl
-closing_quiet stop HasNone = refl
-closing_quiet stop NoSegment = refl
-closing_quiet stop LostPower = refl
 closing_quiet stop (Stops fault closed) = stop_quiet stop
+closing_quiet stop closing = refl
 
 asked_few : (i : Instance) (y : History) (issued : List (List ℕ)) (meddles : List Meddle) (stop : Stop) (bytes : List ℕ) (b : Batch)
-    (long : Bool) → IsFew y
-    → IsFew (if long then uncalled y issued (reply.No cause.Long) else outcome_by (by_lists i) stop issued
+    (long : Bool) → IsFew y → IsFew (if long then uncalled y issued (reply.No cause.Long) else outcome_by (by_lists i) stop issued
     (called i (by_lists i) y (course_of stop meddles) bytes (normal b))).state
 asked_few i y issued meddles stop bytes b true few = few
 asked_few i y issued meddles stop bytes b false few =
@@ -88,8 +63,7 @@ asked_few i y issued meddles stop bytes b false few =
     still_few i (moves_then stop o.ending) o.state (then_quiet stop o.ending) (called_few i y (course_of stop meddles) bytes (normal b) few)
 
 bytes_few : (i : Instance) (y : History) (issued : List (List ℕ)) (meddles : List Meddle) (stop : Stop) (bytes : Option (List ℕ))
-    (b : Batch) → IsFew y
-    → IsFew (asked i (by_lists i) y issued meddles stop bytes b).state
+    (b : Batch) → IsFew y → IsFew (asked i (by_lists i) y issued meddles stop bytes b).state
 bytes_few i y issued meddles stop None b few = few
 bytes_few i y issued meddles stop (Some bytes) b few = asked_few i y issued meddles stop bytes b (is_long b) few
 
@@ -100,8 +74,7 @@ few_event i y issued (Checkpoint meddles stop) few =
     let o = checkpointed i (by_lists i) y (course_of stop meddles) in
     still_few i (closing_then stop o.ending) o.state (closing_quiet stop o.ending)
     (still_few i o.moves y (checkpoint_none i.variant y.is_open _ (course_of stop meddles).fates) few)
-few_event i y issued Power few = few
-few_event i y issued (Extend value) few = few
+few_event i y issued event few = few
 
 few_followed : (i : Instance) (y : History) (issued : List (List ℕ)) (events : List Event) → IsFew y
     → IsFew (followed i (by_lists i) y issued events).state

@@ -1,27 +1,14 @@
 -- What is found of an offer.
-use Rattle.std.proofs.Common.{◌≡◌, ℕ, ◌+◌, ◌≤◌, Bool, true, false, ◌&&◌, List, Result, Ok, Err, refl, subst}
-use Rattle.std.specs.Prelude.{nat_eq, nat_le}
-use Rattle.std.specs.Str.{bytes_eq}
+use Rattle.mm_expect.proofs.Below.{◌≡◌, ℕ, ◌+◌, ◌≤◌, Bool, true, false, ◌&&◌, List, Result, Ok, Err, refl, subst, nat_eq, nat_le, bytes_eq}
+use Rattle.mm_expect.proofs.Below.{Decides-eqb, last_position, Batch, size_of, PartsFault, Snapshot, tag_of, parts_of, Instance, History}
+use Rattle.mm_expect.proofs.Below.{total_of, Life, Live, life_by, life_of, is_lost, is_last, judged, judge, by_lists, Found}
+use Rattle.mm_expect.proofs.Below.{found_by_verdict, found_at, admitted_tells, weighed_tells, found_with_tells, unless_lost, reached}
+use Rattle.mm_expect.proofs.Below.{Admits}
 use Rattle.std.proofs.lemmas.Bool.{and_parts, leb-true}
-use Rattle.std.proofs.lemmas.Bool.Decides.{Decides-eqb}
-use Rattle.mm_base.specs.Limits.{last_position}
-use Rattle.mm_module.specs.Batch.{Batch, size_of}
-use Rattle.mm_seal.specs.declared.snapshot.PartsFault.{PartsFault}
 use Rattle.mm_seal.specs.declared.snapshot.PartsFault.TheVariants.{Form, Kind}
-use Rattle.mm_seal.specs.Snapshot.{Snapshot, tag_of}
-use Rattle.mm_seal.specs.Parts.{parts_of}
-use Rattle.mm_model.specs.Instance.{Instance}
-use Rattle.mm_model.specs.History.{History, total_of}
-use Rattle.mm_model.specs.Life.{Life, Live, Spoiled, Lost as LostLife, life_by, life_of, is_lost}
-use Rattle.mm_model.specs.Judge.{is_last, judged, judge}
 use Rattle.mm_model.specs.declared.verdict.Verdict.{Verdict}
 use Rattle.mm_model.specs.declared.verdict.Verdict.TheVariants.{Fresh, Again, Lost, Stale}
 use Rattle.mm_call.specs.Order.{admitted, examined}
-use Rattle.mm_call.specs.Levels.{by_lists}
-use Rattle.mm_call.specs.Found.{Found, found_by_verdict, found_at}
-use Rattle.mm_call.proofs.Finding.{admitted_tells, weighed_tells, found_with_tells}
-use Rattle.mm_call.proofs.OptFinding.{unless_lost}
-use Rattle.mm_expect.specs.Calls.{reached, Admits}
 
 pub lost_when : (is_open is_bare is_own is_marred : Bool) → is_lost (life_by is_open is_bare is_own is_marred) ≡ (is_open && is_bare)
 lost_when true true own marred = refl
@@ -34,8 +21,7 @@ lost_when false bare own true = refl
 admitted_live : (life : Life) (here repeat fits again : Bool) → admitted (judged life here repeat) fits ≡ Ok again
     → (again ≡ false → here ≡ true) × (again ≡ true → repeat ≡ true)
 admitted_live Live here repeat fits again e = admitted_tells here repeat fits again e
-admitted_live Spoiled here repeat fits again e = cc
-admitted_live LostLife here repeat fits again e = cc
+admitted_live _ here repeat fits again e = cc
 
 fits_when : (again : Bool) (position total size : ℕ) (last : Bool) → position + size ≤ last_position
     → (again ≡ false → nat_eq position total ≡ true) → (again ≡ true → (nat_eq (position + size) total && last) ≡ true)
@@ -76,14 +62,14 @@ admitted_fits v n again e = leb-true n last_position (admitted_yes v (nat_le n l
 -- what is found admits the batch
 from_admits : (i : Instance) (y : History) (b : Batch) (parts : Result Snapshot PartsFault) (f : Found)
     → found_by_verdict i (by_lists i) y b parts ≡ Ok f → Admits y b f.again
-from_admits i y b (Err Form) f e = cc
-from_admits i y b (Err Kind) f e = cc
 from_admits i y b (Ok snapshot) f e =
     let t = found_with_tells snapshot.content (examined i.meaning i.key snapshot b (judge i.variant y snapshot.content.position b)) f e in
     let w = weighed_tells (i.meaning.is_spelled snapshot.content.state) (bytes_eq snapshot.tag (tag_of i.key snapshot.content)) _ _ f.again
     t.1 in
     admits_when i y b snapshot f.again t.1
     (admitted_fits (judge i.variant y snapshot.content.position b) (snapshot.content.position + size_of b) f.again w.2)
+from_admits i y b (Err Form) f e = cc
+from_admits i y b (Err Kind) f e = cc
 
 pub admits_found : (i : Instance) (y : History) (b : Batch) (bytes : List ℕ) (f : Found) → found_at i (by_lists i) y b bytes ≡ Ok f
     → Admits y b f.again

@@ -1,42 +1,24 @@
 -- Whether an offer is genuine, by whether what it says names a position.
-use Rattle.std.proofs.Common.{◌≡◌, ℕ, zero, suc, ◌≤◌, ◌&&◌, Bool, true, false, List, [], ◌∷◌, length, None, Some, Result, Ok, Err, refl, sym, ap, ◌∙◌, subst, arith, get_or}
-use Rattle.std.specs.Prelude.{if◌then◌else◌, slice_get}
-use Rattle.std.specs.Str.{bytes_eq}
-use Rattle.std.specs.List.{AllByRecursion}
+use Rattle.mm_expect.proofs.Below.{◌≡◌, ℕ, zero, suc, ◌≤◌, ◌&&◌, Bool, true, false, List, [], ◌∷◌, length, None, Some, Result, Ok, Err}
+use Rattle.mm_expect.proofs.Below.{refl, sym, ap, ◌∙◌, subst, arith, get_or, if◌then◌else◌, slice_get, bytes_eq, AllByRecursion, Basic, Opt}
+use Rattle.mm_expect.proofs.Below.{Meaning, IsLawful, state_after, state_after-is_spelled, Batch, InBasic, InOpt, PartsFault, parts_of}
+use Rattle.mm_expect.proofs.Below.{Content, Snapshot, IsContent, IsPlace, tag_of, offered_of, last_position, limit_of, Instance, basic, opt}
+use Rattle.mm_expect.proofs.Below.{History, requests_of, total_of, IsPoint, at_anchor, in_closed, in_current, IsPlaceOf, Names, IsRight}
+use Rattle.mm_expect.proofs.Below.{IsGenuine, total-append, right_content, content_if_right, IsIssued, IsDecided, EachOfferIsDecided}
+use Rattle.mm_expect.proofs.Below.{BasicIssuedAreGenuine, OptIssuedAreGenuine}
 use Rattle.std.proofs.lemmas.Slice.Eq.{bytes_eq-Decides}
-use Rattle.mm_digest.specs.declared.variant.Variant.TheVariants.{Basic, Opt}
 use Rattle.mm_digest.specs.LengthLaws.{length-zero_bytes}
-use Rattle.mm_module.specs.Meaning.{Meaning, IsLawful, state_after}
-use Rattle.mm_module.specs.RunLaws.{state_after-is_spelled}
-use Rattle.mm_module.specs.Batch.{Batch}
 use Rattle.mm_seal.specs.declared.snapshot.Place.{Place}
-use Rattle.mm_seal.specs.declared.snapshot.Place.TheVariants.{Basic as InBasic, Opt as InOpt}
-use Rattle.mm_seal.specs.declared.snapshot.PartsFault.{PartsFault}
-use Rattle.mm_seal.specs.Parts.{parts_of}
-use Rattle.mm_seal.specs.Snapshot.{Content, Snapshot, IsContent, IsPlace, tag_of, offered_of, sealed_of, snapshot_front}
+use Rattle.mm_seal.specs.Snapshot.{sealed_of, snapshot_front}
 use Rattle.mm_seal.specs.SealLaws.{sealed_parts, sealed_once}
-use Rattle.mm_base.specs.Limits.{last_position, limit_of}
-use Rattle.mm_model.specs.Instance.{Instance}
-use Rattle.mm_model.specs.InstanceWords.{basic, opt}
-use Rattle.mm_model.specs.History.{History, requests_of, total_of}
-use Rattle.mm_model.specs.Places.{IsPoint, at_anchor, in_closed, in_current, IsPlaceOf, Names}
-use Rattle.mm_model.specs.Standing.{IsRight, IsGenuine}
-use Rattle.mm_model.specs.BatchLaws.{total-append}
 use Rattle.mm_model.specs.ChainLaws.{length-summary_of, length-anchor_of, length-register_of}
-use Rattle.mm_call.specs.Found.{right_content}
-use Rattle.mm_call.specs.FoundWords.{content_if_right}
-use Rattle.mm_call.proofs.Finding.{right_is}
-use Rattle.mm_call.proofs.Reading.{is_right}
-use Rattle.mm_run.specs.Laws.{IsIssued}
-use Rattle.mm_expect.specs.Naming.{IsDecided}
-use Rattle.mm_expect.specs.Genuine.{EachOfferIsDecided, BasicIssuedAreGenuine, OptIssuedAreGenuine}
+use Rattle.mm_call.specs.OfferLaws.{right_is, is_right}
 
 -- A right offer says one thing, and what is said of an offer is right.
 
 said_of : (i : Instance) (bytes : List ℕ) (content : Content) → IsRight i bytes content → right_content i bytes ≡ Some content
 said_of i bytes content right =
-    let parts : parts_of i.variant i.meaning.id bytes ≡ Ok (offered_of i.key content) =
-    ap (parts_of i.variant i.meaning.id) right.sealed
+    let parts : parts_of i.variant i.meaning.id bytes ≡ Ok (offered_of i.key content) = ap (parts_of i.variant i.meaning.id) right.sealed
     ∙ sealed_parts i.key content i.variant i.meaning.id right.formed right.variant right.id in
     right_is i (parts_of i.variant i.meaning.id bytes) (offered_of i.key content) parts right.state
     ((bytes_eq-Decides (tag_of i.key content) (tag_of i.key content)).1 refl)

@@ -1,38 +1,14 @@
 -- Whether an offer is genuine.
-use Rattle.std.proofs.Common.{◌≡◌, ℕ, ◌-◌, Bool, true, List, length, Option, None, Some, refl, sym, ap, ◌∙◌, subst}
-use Rattle.std.specs.Prelude.{slice_get, Result, Ok, Err, IfOk}
-use Rattle.std.specs.List.{AllByRecursion}
-use Rattle.mm_digest.specs.declared.variant.Variant.{Variant}
-use Rattle.mm_digest.specs.declared.variant.Variant.TheVariants.{Basic, Opt}
-use Rattle.mm_module.specs.Meaning.{Meaning}
-use Rattle.mm_modules.specs.declared.any.AnyModule.{AnyModule}
-use Rattle.mm_modules.specs.Modules.{meaning_of}
-use Rattle.mm_modules.specs.ModulesLaws.{any_is_lawful}
-use Rattle.mm_seal.specs.Parts.{parts_of}
-use Rattle.mm_seal.specs.Snapshot.{Content}
-use Rattle.mm_model.specs.Instance.{Instance}
-use Rattle.mm_model.specs.Places.{Names}
-use Rattle.mm_model.specs.Standing.{IsGenuine}
-use Rattle.mm_call.specs.Found.{right_content}
-use Rattle.mm_model.specs.History.{History}
-use Rattle.mm_call.specs.Standing.{instance_by}
-use Rattle.mm_schedule.specs.declared.header.Header.{Header}
+use Rattle.mm_expect.proofs.Below.{◌≡◌, ℕ, ◌-◌, Bool, true, List, length, Option, None, Some, refl, sym, ap, ◌∙◌, subst, slice_get, IfOk}
+use Rattle.mm_expect.proofs.Below.{AllByRecursion, Variant, Basic, Opt, Meaning, AnyModule, meaning_of, any_is_lawful, parts_of, Content}
+use Rattle.mm_expect.proofs.Below.{Instance, opt, Names, IsGenuine, right_content, History, instance_by, Header, Event, offered_bytes}
+use Rattle.mm_expect.proofs.Below.{expected, world_of, world_key, world_barrier, IsIssued, IsGenuineEvent, basic_issued_named}
+use Rattle.mm_expect.proofs.Below.{opt_issued_named, IssuedAreGenuine, AreIssued, IsAmong, IsSaidAt, DecidesBytes, DecidesOffer}
+use Rattle.mm_expect.proofs.Below.{DecidesEvent, IsDecided, Recorded, barrier_of, instance_with, recorded_instance, Traced, IsAfter}
+use Rattle.std.specs.Prelude.{Result, Ok, Err}
 use Rattle.mm_schedule.specs.declared.event.Offer.{Offer}
 use Rattle.mm_schedule.specs.declared.event.Offer.TheVariants.{Number, Last}
-use Rattle.mm_schedule.specs.Events.{Event}
-use Rattle.mm_run.specs.Offered.{offered_bytes}
-use Rattle.mm_run.specs.Folds.{expected}
-use Rattle.mm_run.specs.Held.{world_of}
-use Rattle.mm_run.specs.HeldWords.{world_key, world_barrier}
-use Rattle.mm_run.specs.Laws.{IsIssued}
-use Rattle.mm_run.specs.Premises.{IsGenuineEvent}
 use Rattle.mm_run.specs.PremisesWords.{IsGenuineOffer}
-use Rattle.mm_run.proofs.Naming.{basic_issued_named, opt_issued_named}
-use Rattle.mm_expect.specs.Genuine.{IssuedAreGenuine}
-use Rattle.mm_expect.specs.Judged.{AreIssued, IsAmong, IsSaidAt, DecidesBytes, DecidesOffer, DecidesEvent}
-use Rattle.mm_expect.specs.Naming.{IsDecided}
-use Rattle.mm_expect.specs.Recorded.{Recorded, instance_with, recorded_instance}
-use Rattle.mm_expect.specs.Traced.{Traced, IsAfter}
 use Rattle.mm_expect.proofs.AfterLaws.{header_of, traced, instance_is}
 use Rattle.mm_expect.proofs.FewLaws.{few_expected}
 use Rattle.mm_expect.proofs.GenuineLaws.{offers_decided, right_of, basic_issued_genuine, opt_issued_genuine}
@@ -66,8 +42,7 @@ are_issued header events it at =
     let i = world_of header in
     let S : History → Type 0 = λ y. AreIssued i y it.issued in
     let T : List (List ℕ) → Type 0 = λ v. AreIssued i (expected i events).state v in
-    subst S (sym at.history_is)
-    (subst T (sym at.issued_is)
+    subst S (sym at.history_is) (subst T (sym at.issued_is)
     (record { few = few_expected i events; names = named_by header.variant (meaning_of header.«module») events }))
 
 pub event_decided : (old : Recorded) (issued : List (List ℕ)) (event : Event) (true_or_not : Bool) (header : Header) (events : List Event)
@@ -79,15 +54,13 @@ event_decided old issued event true_or_not header events decides at =
     (decides (subst (λ (i : Instance). AreIssued i old.history issued) (sym same) (are_issued header events (traced old issued) at)))
 
 pub genuine_some : {E : Type 0} (r : Result Bool E) (i : Instance) (y : History) (bytes : List ℕ) (content : Content)
-    → right_content i bytes ≡ Some content
-    → IfOk r (λ true_or_not. IsDecided true_or_not (Names i y content))
+    → right_content i bytes ≡ Some content → IfOk r (λ true_or_not. IsDecided true_or_not (Names i y content))
     → IfOk r (λ true_or_not. IsDecided true_or_not (IsGenuine i y bytes))
 genuine_some (Ok true_or_not) i y bytes content e d = (offers_decided i).right y bytes content true_or_not e d
 genuine_some (Err why) i y bytes content e d = tt
 
 pub decided_number : (variant : Variant) («module» : AnyModule) (y : History) (issued : List (List ℕ)) (offer : Offer) (number : ℕ)
-    → offer ≡ Number number
-    → DecidesOffer (instance_with variant «module») y issued offer true
+    → offer ≡ Number number → DecidesOffer (instance_with variant «module») y issued offer true
 decided_number variant «module» y issued offer number is =
     subst (λ (o : Offer). DecidesOffer (instance_with variant «module») y issued o true) (sym is)
     (λ are. issued_offer variant «module» y issued number are)
@@ -103,8 +76,7 @@ pub decided_none : (i : Instance) (y : History) (issued : List (List ℕ)) (offe
 decided_none i y issued offer e are = subst (IsGenuineOffer i y) (sym e) tt
 
 pub decided_among : (variant : Variant) («module» : AnyModule) (y : History) (issued : List (List ℕ)) (bytes : List ℕ)
-    → IsAmong bytes issued
-    → DecidesBytes (instance_with variant «module») y issued bytes true
+    → IsAmong bytes issued → DecidesBytes (instance_with variant «module») y issued bytes true
 decided_among variant «module» y issued bytes among are =
     issued_are variant «module» y issued among.0 bytes (any_is_lawful «module») are.few are.names among.1
 
@@ -118,8 +90,7 @@ said_names variant «module» y issued position content said are =
     (right_of i said.bytes (parts_of i.variant i.meaning.id said.bytes) refl content said.right)
 
 pub decided_beside : (b : Bool) (variant : Variant) («module» : AnyModule) (y : History) (issued : List (List ℕ)) (bytes : List ℕ)
-    (position : ℕ)
-    (content other : Content) → right_content (instance_with variant «module») bytes ≡ Some content
+    (position : ℕ) (content other : Content) → right_content (instance_with variant «module») bytes ≡ Some content
     → IsSaidAt (instance_with variant «module») issued position other
     → (Names (instance_with variant «module») y other → IsDecided b (Names (instance_with variant «module») y content))
     → DecidesBytes (instance_with variant «module») y issued bytes b
@@ -128,30 +99,37 @@ decided_beside b variant «module» y issued bytes position content other e said
     (d (said_names variant «module» y issued position other said are))
 
 pub decided_some : {E : Type 0} (r : Result Bool E) (i : Instance) (y : History) (issued : List (List ℕ)) (offer : Offer)
-    (bytes given : List ℕ)
-    → offered_bytes issued offer ≡ Some bytes → given ≡ bytes → IfOk r (DecidesBytes i y issued given)
+    (bytes given : List ℕ) → offered_bytes issued offer ≡ Some bytes → given ≡ bytes → IfOk r (DecidesBytes i y issued given)
     → IfOk r (DecidesOffer i y issued offer)
 decided_some (Ok b) i y issued offer bytes given e same d =
     λ are. subst (λ (f : Option (List ℕ)). IsDecided b (IsGenuineOffer i y f)) (sym e)
     (subst (λ (v : List ℕ). IsDecided b (IsGenuine i y v)) same (d are))
 decided_some (Err why) i y issued offer bytes given e same d = tt
 
--- what is decided of the lists is decided of what contracts see
-pub names_there : {E : Type 0} (r : Result Bool E) (variant : Variant) («module» : AnyModule) (lists : History) (seen : Recorded)
-    → variant ≡ seen.variant
-    → «module» ≡ seen.«module» → lists ≡ seen.history → (content : Content)
-    → IfOk r (λ b. IsDecided b (Names (instance_with variant «module») lists content))
-    → IfOk r (λ b. IsDecided b (Names (recorded_instance seen) seen.history content))
-names_there (Ok b) variant «module» lists seen v m h content d =
-    subst (λ (y : History). IsDecided b (Names (recorded_instance seen) y content)) h
-    (subst (λ (i : Instance). IsDecided b (Names i lists content)) (λ j. instance_with (v j) (m j)) d)
-names_there (Err why) variant «module» lists seen v m h content d = tt
+-- what is decided of the lists, whatever the key, is decided of what contracts see
 
--- the same beside what else is said
-pub beside_there : (b : Bool) (variant : Variant) («module» : AnyModule) (lists : History) (seen : Recorded) → variant ≡ seen.variant
-    → «module» ≡ seen.«module» → lists ≡ seen.history → (content other : Content)
-    → (Names (instance_with variant «module») lists other → IsDecided b (Names (instance_with variant «module») lists content))
-    → Names (recorded_instance seen) seen.history other → IsDecided b (Names (recorded_instance seen) seen.history content)
-beside_there b variant «module» lists seen v m h content other d =
-    subst (λ (y : History). Names (recorded_instance seen) y other → IsDecided b (Names (recorded_instance seen) y content)) h
-    (subst (λ (i : Instance). Names i lists other → IsDecided b (Names i lists content)) (λ j. instance_with (v j) (m j)) d)
+guarded_is : (variant : Variant) («module» : AnyModule) (barrier : List ℕ) → barrier ≡ barrier_of variant
+    → instance_by variant (meaning_of «module») world_key barrier ≡ instance_with variant «module»
+guarded_is Basic «module» barrier e = refl
+guarded_is Opt «module» barrier e = ap (opt (meaning_of «module») world_key) e
+
+module _ {old seen : Recorded} (barrier : List ℕ) (is : old ≡ seen) (guarded : barrier ≡ barrier_of old.variant) where
+  abbrev under : List ℕ → Instance
+  under key = instance_by old.variant (meaning_of old.«module») key barrier
+
+  pub names_there : {E : Type 0} (r : Result Bool E) (content : Content)
+      → IfOk r (λ b. (key : List ℕ) → IsDecided b (Names (under key) old.history content))
+      → IfOk r (λ b. IsDecided b (Names (recorded_instance seen) seen.history content))
+  names_there (Ok b) content d = subst (λ (r : Recorded). IsDecided b (Names (recorded_instance r) r.history content)) is
+      (subst (λ (i : Instance). IsDecided b (Names i old.history content)) (guarded_is old.variant old.«module» barrier guarded)
+      (d world_key))
+  names_there (Err why) content d = tt
+
+  -- the same beside what else is said
+  pub beside_there : (b : Bool) (content other : Content)
+      → ((key : List ℕ) → Names (under key) old.history other → IsDecided b (Names (under key) old.history content))
+      → Names (recorded_instance seen) seen.history other → IsDecided b (Names (recorded_instance seen) seen.history content)
+  beside_there b content other d =
+      subst (λ (r : Recorded). Names (recorded_instance r) r.history other → IsDecided b (Names (recorded_instance r) r.history content)) is
+      (subst (λ (i : Instance). Names i old.history other → IsDecided b (Names i old.history content))
+      (guarded_is old.variant old.«module» barrier guarded) (d world_key))

@@ -1,17 +1,12 @@
-pub mod KeptLaws
-pub mod MarkLaws
-pub mod Settling
-pub mod Walking
-pub mod FindLaws
-pub mod Asking
-pub mod FirstLaws
-pub mod NameLaws
-pub mod GenuineLaws
-pub mod CheckLaws
-pub mod AfterLaws
-pub mod PrintLaws
-pub mod TakenLaws
-pub mod PlaceLaws
-pub mod FewLaws
-pub mod JudgeLaws
-pub mod CallLaws
+mod Below
+mod Settling
+mod Walking
+mod FindLaws
+mod Asking
+mod GenuineLaws
+mod CheckLaws
+mod AfterLaws
+mod PrintLaws
+mod FewLaws
+mod JudgeLaws
+mod CallLaws

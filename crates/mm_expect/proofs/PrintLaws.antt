@@ -1,44 +1,18 @@
 -- Each expected reply can be printed, and an event issues at most one snapshot.
-use Rattle.std.proofs.Common.{◌≡◌, ℕ, ◌+◌, ◌-◌, ◌≤◌, Bool, true, false, List, [], ◌∷◌, length, Option, None, Some, Result, Ok, Err, refl, sym, ap, ◌∙◌, subst, arith}
-use Rattle.std.specs.Prelude.{if◌then◌else◌, All, IsTrue}
-use Rattle.std.proofs.lemmas.List.Elements.{All-nil, All-cons}
-use Rattle.mm_base.specs.Limits.{last_position, longest_request}
-use Rattle.mm_platform.specs.declared.fault.StepFault.{StepFault}
-use Rattle.mm_platform.specs.declared.plan.Meddle.{Meddle}
-use Rattle.mm_platform.specs.declared.plan.Stop.{Stop}
-use Rattle.mm_module.specs.Meaning.{Meaning, IsLawful, state_after, outputs_from}
-use Rattle.mm_module.specs.Batch.{Batch, members_of, size_of, normal}
-use Rattle.mm_module.specs.RunLaws.{state_after-is_spelled, length-outputs_from}
-use Rattle.mm_model.specs.Instance.{Instance}
-use Rattle.mm_model.specs.History.{History, requests_of, total_of}
-use Rattle.mm_model.specs.Judge.{is_last}
-use Rattle.mm_model.specs.Long.{is_long}
-use Rattle.mm_model.specs.Steps.{ask_steps}
-use Rattle.mm_model.specs.declared.refusal.Refusal.{Refusal}
-use Rattle.mm_model.specs.BatchLaws.{is_last_tells, is_last_of}
-use Rattle.mm_model.proofs.MovedDigests.{total-push}
-use Rattle.mm_call.specs.Answers.{answer_on}
-use Rattle.mm_call.specs.AnswersWords.{last_outputs}
-use Rattle.mm_call.specs.Called.{reading_steps, ended_by, position_of, called, seen_at}
-use Rattle.mm_call.specs.CalledWords.{kept_at}
+use Rattle.mm_expect.proofs.Below.{◌≡◌, ℕ, ◌+◌, ◌-◌, ◌≤◌, Bool, true, false, List, [], ◌∷◌, length, Option, None, Some, Result, Ok, Err}
+use Rattle.mm_expect.proofs.Below.{refl, sym, ap, ◌∙◌, subst, arith, if◌then◌else◌, All, IsTrue, All-nil, All-cons, last_position}
+use Rattle.mm_expect.proofs.Below.{longest_request, StepFault, Meddle, Stop, Meaning, IsLawful, state_after, outputs_from, Batch}
+use Rattle.mm_expect.proofs.Below.{members_of, size_of, normal, state_after-is_spelled, length-outputs_from, Instance, History, requests_of}
+use Rattle.mm_expect.proofs.Below.{total_of, is_last, is_long, ask_steps, Refusal, is_last_tells, is_last_of, total-push, answer_on}
+use Rattle.mm_expect.proofs.Below.{last_outputs, reading_steps, ended_by, position_of, called, seen_at, kept_at, Course, Walked, walk}
+use Rattle.mm_expect.proofs.Below.{commits, Found, found_at, found_unless_wanting, is_fresh, by_lists, all_made, unlacked, said_last}
+use Rattle.mm_expect.proofs.Below.{same_batches, more_batches, Commits, nothing, batch, call_commits, Event, Ask, Checkpoint, IsPrintable}
+use Rattle.mm_expect.proofs.Below.{offered_bytes, course_of, way_of, reply_of, closing_reply, uncalled, outcome_by, asked, event_outcome}
+use Rattle.mm_expect.proofs.Below.{told_reply, broken_reply, Admits}
 use Rattle.mm_call.specs.Checkpoints as ghost_closing
-use Rattle.mm_call.specs.Courses.{Course, Walked, walk, commits}
-use Rattle.mm_call.specs.Found.{Found, found_at}
-use Rattle.mm_call.specs.FoundWords.{found_unless_wanting, is_fresh}
-use Rattle.mm_call.specs.Levels.{by_lists, all_made}
-use Rattle.mm_call.proofs.BasicLaw.{unlacked}
-use Rattle.mm_call.proofs.Calling.{said_last}
-use Rattle.mm_call.specs.MoveLaws.{same_batches, more_batches}
-use Rattle.mm_call.specs.WalkLaws.{Commits, nothing, batch, call_commits}
 use Rattle.mm_schedule.specs.declared.reply.Way.{Way}
 use Rattle.mm_schedule.specs.declared.reply.Cause.TheVariants as cause
 use Rattle.mm_schedule.specs.declared.reply.Reply.TheVariants as reply
-use Rattle.mm_schedule.specs.Events.{Event, Ask, Checkpoint, Power, Extend}
-use Rattle.mm_schedule.specs.Replies.{IsPrintable}
-use Rattle.mm_run.specs.Offered.{offered_bytes}
-use Rattle.mm_run.specs.Folds.{course_of, way_of, reply_of, closing_reply, uncalled, outcome_by, asked, event_outcome}
-use Rattle.mm_run.specs.FoldsWords.{told_reply, broken_reply}
-use Rattle.mm_expect.specs.Calls.{Admits}
 use Rattle.mm_expect.proofs.Asking.{foreign_batches}
 use Rattle.mm_expect.proofs.FindLaws.{admits_found}
 
@@ -47,8 +21,7 @@ short_outputs : (meaning : Meaning) → IsLawful meaning → (state : List ℕ) 
 short_outputs meaning lawful state [] spelled = All-nil (λ (o : List ℕ). length o ≤ longest_request)
 short_outputs meaning lawful state (request ∷ requests) spelled =
     All-cons (λ (o : List ℕ). length o ≤ longest_request) (meaning.says state request)
-    (outputs_from meaning (meaning.next state request) requests)
-    (lawful.says_lines state request spelled).short
+    (outputs_from meaning (meaning.next state request) requests) (lawful.says_lines state request spelled).short
     (short_outputs meaning lawful (meaning.next state request) requests (lawful.goes_on state request spelled))
 
 back_again : (total size n : ℕ) → size ≤ total → n ≡ size → total ≤ last_position → total - n + n ≤ last_position
@@ -56,8 +29,7 @@ back_again total size n l e few = omega (arith, l, e, few)
 
 -- the reply that tells an answer to the last batch
 told_printable : (i : Instance) → IsLawful i.meaning → (y : History) (b : Batch) (again : Bool) → is_last y.batches b ≡ true
-    → total_of y.batches ≤ last_position
-    → IsPrintable (told_reply (answer_on i y b again))
+    → total_of y.batches ≤ last_position → IsPrintable (told_reply (answer_on i y b again))
 told_printable i lawful y b again last few =
     let h = is_last_tells y.batches b last in
     let start = state_after i.meaning (requests_of h.front) in
@@ -82,8 +54,7 @@ ends_by : (i : Instance) (y seen : History) (b : Batch) (again : Bool) (walked :
     × (total_of (all_made (by_lists i) y walked.moves).batches ≤ last_position)
 ends_by i y seen b true walked same admits (nothing none unless) whole =
     let stays = same_batches i walked.moves y none ∙ sym same in (
-      ap (λ (bs : List Batch). is_last bs b) stays
-          ∙ admits.repeats refl,
+      ap (λ (bs : List Batch). is_last bs b) stays ∙ admits.repeats refl,
       subst (λ n. n ≤ last_position) (sym (ap total_of stays)) admits.fits,
     )
 ends_by i y seen b true walked same admits (batch one is) whole = cc
@@ -146,5 +117,4 @@ pub printable : (i : Instance) → IsLawful i.meaning → (y : History) (issued 
 printable i lawful y issued (Ask meddles stop offer b) = bytes_printable i lawful y issued meddles stop (offered_bytes issued offer) b
 printable i lawful y issued (Checkpoint meddles stop) =
     closing_printable (way_of stop) (ghost_closing.checkpointed i (by_lists i) y (course_of stop meddles)).ending
-printable i lawful y issued Power = tt
-printable i lawful y issued (Extend value) = tt
+printable i lawful y issued event = tt

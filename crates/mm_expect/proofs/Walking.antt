@@ -1,30 +1,16 @@
 -- A chronicle goes on by moves, one after another.
-use Rattle.std.proofs.Common.{◌≡◌, ℕ, ◌+◌, ◌<◌, Bool, true, false, List, [], ◌∷◌, ◌++◌, length, map, take, get_or, filter, cond, Option, None, Some, refl, sym, ap, ◌∙◌, subst, append_assoc}
-use Rattle.std.specs.Prelude.{◌==◌, if◌then◌else◌, Result, Ok, Err, OnOk, IfOk}
-use Rattle.std.proofs.lemmas.List.{append-nil, map-append}
-use Rattle.std.proofs.lemmas.List.Elements.{filter_more}
-use Rattle.std.proofs.lemmas.Bool.Decides.{Decides-eqb}
-use Rattle.mm_platform.specs.declared.fault.StepFault.{StepFault}
+use Rattle.mm_expect.proofs.Below.{◌≡◌, ℕ, ◌+◌, ◌<◌, Bool, true, false, List, [], ◌∷◌, ◌++◌, length, map, take, get_or, filter, cond}
+use Rattle.mm_expect.proofs.Below.{Option, None, Some, refl, sym, ap, ◌∙◌, subst, append_assoc, ◌==◌, if◌then◌else◌, OnOk, IfOk, append-nil}
+use Rattle.mm_expect.proofs.Below.{map-append, filter_more, Decides-eqb, StepFault, Meddle, Stop, Fail, due, fault_at, is_made_at, Instance}
+use Rattle.mm_expect.proofs.Below.{History, Move, Foreign, moved, Step, by_lists, all_made, Fate, step_moves, after_step, walk, planned}
+use Rattle.mm_expect.proofs.Below.{made_move, end_of, made-append, plan_of, Recorded, Went, recorded_instance, instance_with, move_of}
+use Rattle.mm_expect.proofs.Below.{step_as, steps_of, Walks}
+use Rattle.std.specs.Prelude.{Result, Ok, Err}
 use Rattle.mm_platform.specs.declared.fault.StepFault.TheVariants.{Failed}
-use Rattle.mm_platform.specs.declared.plan.Meddle.{Meddle}
-use Rattle.mm_platform.specs.declared.plan.Stop.{Stop}
-use Rattle.mm_platform.specs.declared.plan.Stop.TheVariants.{Quiet, Cut, Drop, Fail}
-use Rattle.mm_platform.specs.StandingWords.{due}
-use Rattle.mm_platform.specs.Steps.{fault_at, is_made_at}
-use Rattle.mm_model.specs.Instance.{Instance}
-use Rattle.mm_model.specs.History.{History, Move, Foreign, moved}
-use Rattle.mm_model.specs.Steps.{Step}
-use Rattle.mm_call.specs.Levels.{by_lists, all_made}
-use Rattle.mm_call.specs.Courses.{Fate, step_moves, after_step, walk, planned}
-use Rattle.mm_call.specs.CoursesWords.{made_move, end_of}
-use Rattle.mm_call.specs.WalkLaws.{made-append}
-use Rattle.mm_run.specs.FoldsWords.{plan_of}
 use Rattle.mm_expect.specs.Numbered.{messages_if, messages_where}
-use Rattle.mm_expect.specs.Recorded.{Recorded, Went, recorded_instance, instance_with}
 use Rattle.mm_expect.specs.declared.course.Move as code
 use Rattle.mm_expect.specs.declared.course.Step as code_step
 use Rattle.mm_expect.specs.declared.course.Step.TheVariants.{Changes}
-use Rattle.mm_expect.specs.Walking.{move_of, step_as, steps_of, Walks}
 
 pub messages_where-append : (closing : Bool) (i : Instance) (xs ys : List Move) (y : History)
     → messages_where closing i y (xs ++ ys) ≡ messages_where closing i y xs ++ messages_where closing i (all_made (by_lists i) y xs) ys
@@ -40,8 +26,7 @@ same_instance a b moves w = λ j. instance_with (w.variant j) (w.«module» j)
 then_listed : (closing : Bool) (i k : Instance) (y z : History) (xs ys : List Move) (front middle after : List (List ℕ)) → k ≡ i
     → z ≡ all_made (by_lists i) y xs → middle ≡ front ++ messages_where closing i y xs
     → after ≡ middle ++ messages_where closing k z ys → after ≡ front ++ messages_where closing i y (xs ++ ys)
-then_listed closing i k y z xs ys front middle after same is first second =
-    second ∙ ap (λ v. v ++ messages_where closing k z ys) first
+then_listed closing i k y z xs ys front middle after same is first second = second ∙ ap (λ v. v ++ messages_where closing k z ys) first
     ∙ append_assoc front (messages_where closing i y xs) (messages_where closing k z ys)
     ∙ ap (λ v. front ++ (messages_where closing i y xs ++ v))
     (ap (λ (h : Instance). messages_where closing h z ys) same ∙ ap (λ (h : History). messages_where closing i h ys) is)
@@ -78,23 +63,20 @@ kept_value m false = refl
 
 -- the values that are due, one more meddle looked at
 due_taken : (step : ℕ) (meddles : List Meddle) (i : ℕ) (d : Meddle) (flag : Bool) → i < length meddles
-    → ((get_or meddles i d).step == step) ≡ flag
-    → map Foreign (due step (take (i + 1) meddles)) ≡ map Foreign (due step (take i meddles))
+    → ((get_or meddles i d).step == step) ≡ flag → map Foreign (due step (take (i + 1) meddles)) ≡ map Foreign (due step (take i meddles))
     ++ (if flag then Foreign (get_or meddles i d).value.bytes ∷ [] else [])
 due_taken step meddles i d flag l e =
     let m : Meddle = get_or meddles i d in
     let p : Meddle → Bool = λ x. x.step == step in
     let v : Meddle → List ℕ = λ x. x.value.bytes in
     let front : List Meddle = filter p (take i meddles) in
-    ap (λ (ms : List Meddle). map Foreign (map v ms))
-    (filter_more p meddles i d l ∙ ap (λ (b : Bool). front ++ cond b (m ∷ []) []) e)
+    ap (λ (ms : List Meddle). map Foreign (map v ms)) (filter_more p meddles i d l ∙ ap (λ (b : Bool). front ++ cond b (m ∷ []) []) e)
     ∙ ap (map Foreign) (map-append v front (cond flag (m ∷ []) []) ∙ ap (λ (vs : List (List ℕ)). map v front ++ vs) (kept_value m flag))
     ∙ added (map v front) m.value.bytes flag
 
 pub bring_one : (a b c : Recorded) (step : ℕ) (meddles : List Meddle) (i : ℕ) (d : Meddle) → i < length meddles
     → (get_or meddles i d).step ≡ step → Went a b (map Foreign (due step (take i meddles)))
-    → Went b c (Foreign (get_or meddles i d).value.bytes ∷ [])
-    → Went a c (map Foreign (due step (take (i + 1) meddles)))
+    → Went b c (Foreign (get_or meddles i d).value.bytes ∷ []) → Went a c (map Foreign (due step (take (i + 1) meddles)))
 bring_one a b c step meddles i d l e first second =
     subst (Went a c) (sym (due_taken step meddles i d true l ((Decides-eqb (get_or meddles i d).step step).1 e)))
     (went_then a b c _ _ first second)
@@ -102,9 +84,7 @@ bring_one a b c step meddles i d l e first second =
 pub bring_none : (a b : Recorded) (step : ℕ) (meddles : List Meddle) (i : ℕ) (d : Meddle) → i < length meddles
     → ((get_or meddles i d).step ≡ step → ⊥) → Went a b (map Foreign (due step (take i meddles)))
     → Went a b (map Foreign (due step (take (i + 1) meddles)))
-bring_none a b step meddles i d l e first =
-    subst (Went a b) (sym
-    (due_taken step meddles i d false l
+bring_none a b step meddles i d l e first = subst (Went a b) (sym (due_taken step meddles i d false l
     (not_true ((get_or meddles i d).step == step) (λ t. e ((Decides-eqb (get_or meddles i d).step step).0 t))) ∙ append-nil _)) first
 
 -- a step that answers no fault has its effect
@@ -114,10 +94,8 @@ made_at at step true done e none = cc
 made_at at step false done e none = refl
 
 pub made_where_whole : (stop : Stop) (step : ℕ) → fault_at stop step ≡ None → is_made_at stop step ≡ true
-made_where_whole Quiet step none = refl
-made_where_whole (Cut at) step none = refl
-made_where_whole (Drop at) step none = refl
 made_where_whole (Fail at done) step none = made_at at step (at == step) done refl none
+made_where_whole stop step none = refl
 
 module _ (a b c : Recorded) (stop : Stop) (meddles : List Meddle) (n : ℕ) (step : Step) (later : List Step) where
   abbrev fates : ℕ → Fate
@@ -128,8 +106,7 @@ module _ (a b c : Recorded) (stop : Stop) (meddles : List Meddle) (n : ℕ) (ste
   walks_whole fault whole first more =
       let W : Option StepFault
       → Type 0 = λ f. Walks a c (after_step step (due n meddles) (end_of f (is_made_at stop n)) (walk fates (n + 1) later)) fault in
-      subst W (sym whole)
-      (record {
+      subst W (sym whole) (record {
         went = went_then a b c (step_moves step true (due n meddles)) (walk fates (n + 1) later).moves
             (subst (λ (m : Bool). Went a b (step_moves step m (due n meddles))) (made_where_whole stop n whole) first) more.went;
         broken = more.broken;
@@ -139,13 +116,11 @@ module _ (a b c : Recorded) (stop : Stop) (meddles : List Meddle) (n : ℕ) (ste
       → Walks a c (walk fates n (step ∷ later)) (Some fault)
   walks_broken fault breaks first =
       let W : Option StepFault
-      → Type 0 = λ f. Walks a c (after_step step (due n meddles) (end_of f (is_made_at stop n)) (walk fates (n + 1) later)) (Some fault)
-      in
+      → Type 0 = λ f. Walks a c (after_step step (due n meddles) (end_of f (is_made_at stop n)) (walk fates (n + 1) later)) (Some fault) in
       subst W (sym breaks) (record { went = first; broken = refl })
 
 pub changes_then : {E : Type 0} (r : Result (Unit {0}) E) (a b c : Recorded) (action : code.Move) (made : Bool) (values : List (List ℕ))
-    (step : code_step.Step)
-    → step ≡ Changes action → OnOk r (Went b c (made_move made (move_of action))) → Went a b (map Foreign values)
+    (step : code_step.Step) → step ≡ Changes action → OnOk r (Went b c (made_move made (move_of action))) → Went a b (map Foreign values)
     → OnOk r (Went a c (step_moves (step_as step) made values))
 changes_then (Err e) a b c action made values step is second first = tt
 changes_then (Ok x) a b c action made values step is second first =

@@ -33,4 +33,5 @@ pub record WentByCheckpoint (old new : Recorded) (o : ghost_closing.Checkpointed
 pub record ShutBy (old new : Recorded) (walked : Walked) (unless : Closing)
     (closing : Closing) : Type 0 where
   pub went : Went old new walked.moves
-  pub ends : closing_as closing ≡ ghost_closing_words.closed_by walked.broken false (closing_as unless)
+  pub ends : closing_as closing
+      ≡ ghost_closing_words.closed_by walked.broken false (closing_as unless)

@@ -11,7 +11,7 @@ use Rattle.mm_model.specs.Places.{Names}
 use Rattle.mm_model.specs.Standing.{IsGenuine}
 use Rattle.mm_call.specs.Found.{right_content}
 use Rattle.mm_run.specs.Laws.{IsIssued}
-use Rattle.mm_expect.specs.Naming.{IsDecided}
+use Rattle.mm_history.specs.Naming.{IsDecided}
 
 -- An offer that isn't right is genuine; a right one exactly where what it says names a position.
 pub record OffersAreDecided (i : Instance) : Type 0 where

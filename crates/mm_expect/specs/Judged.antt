@@ -17,7 +17,7 @@ use Rattle.mm_run.specs.Offered.{offered_bytes}
 use Rattle.mm_run.specs.Premises.{IsGenuineEvent}
 use Rattle.mm_run.specs.PremisesWords.{IsGenuineOffer}
 use Rattle.mm_schedule.specs.declared.header.Header.{Header}
-use Rattle.mm_expect.specs.Naming.{IsDecided}
+use Rattle.mm_history.specs.Naming.{IsDecided}
 use Rattle.mm_expect.specs.Traced.{Traced, IsAfter}
 
 -- what holds of each history that a schedule leads to: few requests are committed, and each issued

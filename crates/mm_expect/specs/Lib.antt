@@ -1,12 +1,9 @@
 pub mod Numbered
-pub mod Marks
 pub mod Recorded
 pub mod Settled
 pub mod Walking
 pub mod Calls
 pub mod Closings
-pub mod Asked
-pub mod Naming
 pub mod Genuine
 pub mod Coming
 pub mod Traced

@@ -8,8 +8,8 @@ use Rattle.mm_modules.specs.declared.any.AnyModule.{AnyModule}
 use Rattle.mm_modules.specs.Modules.{meaning_of}
 use Rattle.mm_model.specs.History.{History, requests_of}
 use Rattle.mm_model.specs.Long.{is_long}
-use Rattle.mm_expect.specs.declared.marks.Marks.{Marks}
-use Rattle.mm_expect.specs.Marks.{marks_of}
+use Rattle.mm_history.specs.declared.marks.Marks.{Marks}
+use Rattle.mm_history.specs.Marks.{marks_of}
 use Rattle.mm_expect.specs.Recorded.{barrier_of, instance_with}
 
 -- the barrier and the marks are those of the history; and the module's states those after its

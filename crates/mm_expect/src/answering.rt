@@ -6,10 +6,10 @@ ghost use Rattle.mm_base.specs.Limits.{last_position};
 use crate::chronicle::Chronicle;
 use mm_base::{Bytes, Memory};
 use mm_call::{Ended, Ran, run_batch};
-use mm_digest::{HmacKey, Variant, zero};
+use mm_digest::{Variant, zero};
 use mm_model::BatchAnswer;
 use mm_module::{Batch, Module};
-use mm_seal::{Body, Place, seal_under};
+use mm_seal::{Body, Place, SealingKey, seal_under};
 
 impl Chronicle {
     ghost use Rattle.std.specs.Prelude.{◌≡◌, ◌≤◌, true, false, IfOk};
@@ -44,7 +44,7 @@ impl Chronicle {
     }
 
     /// The snapshot of an answer.
-    pub(crate) fn snapshot(&self, key: &HmacKey) -> Result<Bytes, Memory>
+    pub(crate) fn snapshot(&self, key: &SealingKey) -> Result<Bytes, Memory>
         requires key { key.now ≡ world_key }
         requires few { total_of self.now.history.batches ≤ last_position }
         ensures { IfOk result
@@ -62,7 +62,7 @@ impl Chronicle {
     /// The answer to the last batch, by whether it is a repeat.
     pub(crate) fn answer(
         &self,
-        key: &HmacKey,
+        key: &SealingKey,
         batch: Batch<'_>,
         again: bool,
     ) -> Result<Ended, Memory>

@@ -6,9 +6,10 @@ use crate::chronicle::Chronicle;
 use crate::course::{Course, Move, Step, is_made_at};
 use mm_base::Memory;
 use mm_call::Ended;
-use mm_digest::{HmacKey, Variant};
+use mm_digest::Variant;
 use mm_module::Batch;
 use mm_platform::StepFault;
+use mm_seal::SealingKey;
 
 impl Chronicle {
     ghost use Rattle.std.specs.Prelude.{◌≡◌, [], ◌∷◌, true, false, IfOk};
@@ -69,7 +70,7 @@ impl Chronicle {
     /// A call that offers these bytes and asks for the batch.
     pub(crate) fn call(
         &mut self,
-        key: &HmacKey,
+        key: &SealingKey,
         course: &Course<'_>,
         bytes: &[u8],
         batch: Batch<'_>,
@@ -98,7 +99,7 @@ impl Chronicle {
     // The rest of a call whose batch is a new one.
     fn call_new(
         &mut self,
-        key: &HmacKey,
+        key: &SealingKey,
         course: &Course<'_>,
         batch: Batch<'_>,
     ) -> Result<Ended, Memory>

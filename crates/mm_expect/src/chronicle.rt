@@ -2,12 +2,10 @@
 
 ghost use Rattle.std.specs.Prelude.{◌≡◌};
 
-use crate::lists::Lists;
-use crate::marks::{Marks, guard};
-use crate::messages::{anchored_message, joined};
 use mm_base::{Bytes, Memory};
 use mm_call::{Ran, run_batch};
 use mm_digest::{Digest, Variant, zero};
+use mm_history::{Lists, Marks, anchored_message, guard, joined};
 use mm_module::{Batch, Module};
 use mm_modules::AnyModule;
 use mm_run::world_barrier;

@@ -15,17 +15,18 @@ ghost use Rattle.mm_expect.specs.Recorded.{Went, recorded_instance};
 use crate::calls::Closing;
 use crate::chronicle::Chronicle;
 use crate::course::Course;
-use crate::messages::list_place;
 use crate::offers::{is_genuine, right_body};
 use crate::replies::{Said, closing_said, quiet, said_of, way};
 use mm_base::{Bytes, Memory};
 use mm_call::Ended;
-use mm_digest::{Digest, HmacKey};
+use mm_digest::Digest;
+use mm_history::list_place;
 use mm_model::{is_long, normal};
 use mm_module::Batch;
 use mm_platform::{Meddle, Stop};
 use mm_run::{offered, world_key};
 use mm_schedule::{Cause, Event, Header, Meddles, Offer, Reply};
+use mm_seal::SealingKey;
 use std::alloc::Global;
 use std::marker::Model;
 
@@ -44,7 +45,7 @@ pub struct Heard {
 #[derive(Drop)]
 pub struct Expecting {
     alloc: Global,
-    key: HmacKey,
+    key: SealingKey,
     chronicle: Chronicle,
     issued: Vec<Bytes>,
 }
@@ -76,7 +77,7 @@ fn listed(meddles: &Meddles) -> &[Meddle]
 // Lists the messages of what is asked, where the offer is right.
 fn list_asked(
     chronicle: &Chronicle,
-    key: &HmacKey,
+    key: &SealingKey,
     bytes: &[u8],
     batch: Batch<'_>,
     messages: &mut Vec<Bytes>,
@@ -112,7 +113,7 @@ fn restore(chronicle: &mut Chronicle, stop: Stop, is_broken: bool)
 // A call that offers these bytes: what is said, and its messages.
 fn call_and_list(
     chronicle: &mut Chronicle,
-    key: &HmacKey,
+    key: &SealingKey,
     course: &Course<'_>,
     bytes: &[u8],
     batch: Batch<'_>,
@@ -146,7 +147,7 @@ fn is_broken(ended: &Ended) -> bool
 // An event that asks for a batch of what is offered.
 fn follow_ask(
     chronicle: &mut Chronicle,
-    key: &HmacKey,
+    key: &SealingKey,
     issued: &[Bytes],
     offer: &Offer,
     course: &Course<'_>,
@@ -222,7 +223,7 @@ fn follow_extend(
 // One event.
 fn follow(
     chronicle: &mut Chronicle,
-    key: &HmacKey,
+    key: &SealingKey,
     issued: &[Bytes],
     event: &Event,
     messages: &mut Vec<Bytes>,
@@ -295,7 +296,7 @@ impl Expecting {
         ensures first { IfOk result (λ it. it ≡ first_traced header.now) }
         ensures after { IfOk result (IsAfter header.now []) }
     {
-        let key = HmacKey::new(&world_key());
+        let key = SealingKey::new(&world_key());
         let chronicle = Chronicle::new(alloc, header.variant, header.module)?;
         let snapshot = chronicle.snapshot(&key)?;
         let mut issued = Vec::new(alloc);

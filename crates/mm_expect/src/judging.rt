@@ -4,10 +4,10 @@ ghost use Rattle.std.specs.Prelude.{◌≡◌};
 
 use crate::chronicle::Chronicle;
 use mm_call::examine;
-use mm_digest::{HmacKey, Variant};
+use mm_digest::Variant;
 use mm_model::{Refusal, Verdict};
 use mm_module::{Batch, Module};
-use mm_seal::{PartsFault, parts};
+use mm_seal::{PartsFault, SealingKey, parts};
 
 impl Chronicle {
     ghost use Rattle.std.specs.Prelude.{◌≡◌, false, IfOk};
@@ -107,7 +107,7 @@ impl Chronicle {
     /// What a call finds: a refusal, or whether the batch is a repeat. Takes no memory.
     pub(crate) fn find(
         &self,
-        key: &HmacKey,
+        key: &SealingKey,
         bytes: &[u8],
         batch: Batch<'_>,
     ) -> Result<bool, Refusal>

@@ -8,10 +8,6 @@ mod chronicle;
 mod course;
 mod expecting;
 mod judging;
-mod lists;
-mod marks;
-mod messages;
-mod naming;
 mod offers;
 mod replies;
 

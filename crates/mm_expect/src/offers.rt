@@ -7,23 +7,31 @@ ghost use Rattle.mm_model.specs.Standing.{IsGenuine};
 ghost use Rattle.mm_call.specs.Found.{right_content};
 ghost use Rattle.mm_schedule.specs.Events.{event_of};
 ghost use Rattle.mm_run.specs.HeldWords.{world_key};
-ghost use Rattle.mm_expect.specs.Naming.{IsDecided};
+ghost use Rattle.mm_history.specs.Naming.{IsDecided};
+ghost use Rattle.mm_expect.specs.Genuine.{EachOfferIsDecided, BasicIssuedAreGenuine, OptIssuedAreGenuine};
 ghost use Rattle.mm_expect.specs.Judged.{position_in, is_found, IsAmong, IsSaidAt, DecidesBytes, DecidesOffer, DecidesEvent};
 ghost use Rattle.mm_expect.specs.Recorded.{recorded_instance};
 
 use crate::chronicle::Chronicle;
-use crate::naming::{is_named, is_named_beside};
 use mm_base::{Bytes, Memory};
-use mm_digest::HmacKey;
+use mm_history::{is_named, is_named_beside};
 use mm_module::Module;
 use mm_run::offered;
 use mm_schedule::{Event, Offer};
-use mm_seal::{Body, parts};
+use mm_seal::{Body, SealingKey, parts};
+
+/// An offer that isn't right is genuine, and a right one exactly where what it says names a position. An issued snapshot
+/// is genuine where each issued one names a position.
+pub fn offers_are_decided()
+    ensures offers { EachOfferIsDecided }
+    ensures basic { BasicIssuedAreGenuine }
+    ensures opt { OptIssuedAreGenuine }
+{}
 
 /// What a right offer says. None exactly where the offer isn't right.
 pub(crate) fn right_body<'a>(
     chronicle: &Chronicle,
-    key: &HmacKey,
+    key: &SealingKey,
     bytes: &'a [u8],
 ) -> Option<Body<'a>>
     requires { key.now ≡ world_key }
@@ -34,7 +42,7 @@ pub(crate) fn right_body<'a>(
         return None;
     };
     let body = offered.body();
-    if chronicle.module.state_is_spelled(body.state) && offered.tag_right_under(key) {
+    if chronicle.module.state_is_spelled(body.state) && key.tag_right(&offered) {
         Some(body)
     } else {
         None
@@ -42,7 +50,7 @@ pub(crate) fn right_body<'a>(
 }
 
 // Whether these bytes are genuine.
-fn are_genuine(chronicle: &Chronicle, key: &HmacKey, bytes: &[u8]) -> Result<bool, Memory>
+fn are_genuine(chronicle: &Chronicle, key: &SealingKey, bytes: &[u8]) -> Result<bool, Memory>
     requires { key.now ≡ world_key }
     ensures { IfOk result
         (λ yes. IsDecided yes
@@ -105,7 +113,7 @@ fn is_issued(chronicle: &Chronicle, issued: &[Bytes], bytes: &[u8]) -> bool
 // What an issued snapshot of this position says, if one is found.
 fn said_at<'a>(
     chronicle: &Chronicle,
-    key: &HmacKey,
+    key: &SealingKey,
     issued: &'a [Bytes],
     position: u64,
 ) -> Option<Body<'a>>
@@ -125,7 +133,7 @@ fn said_at<'a>(
 // the history.
 fn are_genuine_beside(
     chronicle: &Chronicle,
-    key: &HmacKey,
+    key: &SealingKey,
     issued: &[Bytes],
     bytes: &[u8],
 ) -> Result<bool, Memory>
@@ -153,7 +161,7 @@ fn are_genuine_beside(
 // Whether offered bytes are genuine. Those of an issued snapshot always are.
 fn are_issued_or_genuine(
     chronicle: &Chronicle,
-    key: &HmacKey,
+    key: &SealingKey,
     issued: &[Bytes],
     bytes: &[u8],
 ) -> Result<bool, Memory>
@@ -170,7 +178,7 @@ fn are_issued_or_genuine(
 // Whether what is offered is genuine. An issued snapshot always is.
 fn is_genuine_offer(
     chronicle: &Chronicle,
-    key: &HmacKey,
+    key: &SealingKey,
     issued: &[Bytes],
     offer: &Offer,
 ) -> Result<bool, Memory>
@@ -192,7 +200,7 @@ fn is_genuine_offer(
 /// Whether each right offer of an event names a position of the history.
 pub(crate) fn is_genuine(
     chronicle: &Chronicle,
-    key: &HmacKey,
+    key: &SealingKey,
     issued: &[Bytes],
     event: &Event,
 ) -> Result<bool, Memory>

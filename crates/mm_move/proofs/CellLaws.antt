@@ -1,21 +1,12 @@
 -- A cell is read exactly where its bytes are spelled.
-use Rattle.std.proofs.Common.{◌≡◌, ℕ, ◌++◌, Bool, true, false, List, length, get_or, Result, Ok, Err, refl, sym, ap, ◌∙◌, subst, arith}
-use Rattle.std.specs.Prelude.{◌==◌, slice_index, if◌then◌else◌}
-use Rattle.std.specs.Str.{bytes_eq}
-use Rattle.mm_base.specs.Limits.{cell_length}
-use Rattle.mm_digest.specs.declared.variant.Variant.{Variant}
-use Rattle.mm_digest.specs.declared.variant.Variant.TheVariants.{Basic, Opt}
-use Rattle.mm_digest.specs.Messages.{variant_byte}
-use Rattle.mm_seal.specs.declared.cell.Cell.{Cell}
-use Rattle.mm_seal.specs.declared.cell.CellFault.{CellFault}
-use Rattle.mm_seal.specs.declared.cell.CellFault.TheVariants.{Blank, Cell as Unspelled}
-use Rattle.mm_seal.specs.Cell.{IsCell, cell_spelling, blank_cell, flag_byte}
-use Rattle.mm_move.specs.declared.cell.Waiting.{Waiting}
+use Rattle.mm_move.proofs.Below.{◌≡◌, ℕ, ◌++◌, Bool, true, false, List, length, get_or, Result, Ok, Err, refl, sym, ap, ◌∙◌, subst, arith}
+use Rattle.mm_move.proofs.Below.{◌==◌, slice_index, if◌then◌else◌, bytes_eq, cell_length, Variant, Basic, Opt, variant_byte, Cell}
+use Rattle.mm_move.proofs.Below.{CellFault, Blank, Unspelled, IsCell, flag_byte, Waiting, MovedCell, variant_in, moved_spelling, IsWaiting}
+use Rattle.mm_move.proofs.Below.{IsRetired, IsMoved, SpellsMoved, waiting_in, retired_in, live_in, moved_in, fits, moved_by, CellsAreRead}
+use Rattle.mm_seal.specs.Cell.{cell_spelling, blank_cell}
 use Rattle.mm_move.specs.declared.cell.Retired.{Retired}
-use Rattle.mm_move.specs.declared.cell.MovedCell.{MovedCell}
 use Rattle.mm_move.specs.declared.cell.MovedCell.TheVariants as moved
-use Rattle.mm_move.specs.Fields.{variant_in}
-use Rattle.mm_move.specs.Cells.{waiting_spelling, retired_spelling, moved_spelling, IsWaiting, IsRetired, IsMoved, SpellsMoved, waiting_in, retired_in, live_in, moved_in, fits, is_spelled_by, moved_by, moved_of, CellsAreRead}
+use Rattle.mm_move.specs.Cells.{waiting_spelling, retired_spelling, is_spelled_by, moved_of}
 use Rattle.mm_move.proofs.Parts.{AreThree, three, length-part, both_true, and_parts, is_false, bytes_tell, bytes_are, fits_tell, fits_are}
 
 -- the variant of its own byte
@@ -30,15 +21,8 @@ flag_back false = refl
 waiting_back : (cell : Waiting) → IsWaiting cell → moved_in (waiting_spelling cell) ≡ moved.Waiting cell
 unfolding waiting_spelling
 waiting_back cell is =
-    let t = three cell.nonce cell.key cell.barrier is.nonce is.key is.barrier in
-    let v = variant_back cell.variant in
-    λ i. moved.Waiting (record {
-      variant = v i;
-      «module» = cell.module;
-      nonce = t.first i;
-      key = t.second i;
-      barrier = t.third i;
-    })
+    let t = three cell.nonce cell.key cell.barrier is.nonce is.key is.barrier in let v = variant_back cell.variant in
+    λ i. moved.Waiting (record { variant = v i; «module» = cell.module; nonce = t.first i; key = t.second i; barrier = t.third i })
 
 retired_back : (cell : Retired) → IsRetired cell → moved_in (retired_spelling cell) ≡ moved.Retired cell
 unfolding retired_spelling
@@ -57,8 +41,7 @@ live_back : (cell : Cell) → IsCell cell → moved_in (cell_spelling cell) ≡ 
 unfolding cell_spelling
 live_back cell is =
     let t = three cell.summary.bytes cell.key cell.barrier is.summary is.key is.barrier in
-    let v = variant_back cell.variant in
-    let f = flag_back cell.flag in
+    let v = variant_back cell.variant in let f = flag_back cell.flag in
     λ i. moved.Live (record {
       variant = v i;
       «module» = cell.module;
@@ -76,8 +59,7 @@ back (moved.Retired cell) is = retired_back cell is
 begins : (cell : MovedCell) → get_or (moved_spelling cell) 0 0 ≡ 0x4d
 unfolding cell_spelling waiting_spelling retired_spelling
 begins (moved.Live cell) = refl
-begins (moved.Waiting cell) = refl
-begins (moved.Retired cell) = refl
+begins _ = refl
 
 begins_blank : get_or blank_cell 0 0 ≡ 0
 unfolding blank_cell
@@ -88,9 +70,8 @@ zero_unlike_letter a b e f g = omega arith
 
 not_blank : (cell : MovedCell) → bytes_eq (moved_spelling cell) blank_cell ≡ false
 not_blank cell =
-    is_false (bytes_eq (moved_spelling cell) blank_cell) (λ e.
-    zero_unlike_letter (get_or blank_cell 0 0) (get_or (moved_spelling cell) 0 0) begins_blank (begins cell)
-    (ap (λ (x : List ℕ). get_or x 0 0) (sym (bytes_tell (moved_spelling cell) blank_cell e))))
+    is_false (bytes_eq (moved_spelling cell) blank_cell) (λ e. zero_unlike_letter (get_or blank_cell 0 0) (get_or (moved_spelling cell) 0 0)
+    begins_blank (begins cell) (ap (λ (x : List ℕ). get_or x 0 0) (sym (bytes_tell (moved_spelling cell) blank_cell e))))
 
 fitting : (cell : MovedCell) → IsMoved cell → fits cell ≡ true
 fitting (moved.Live cell) is = fits_are cell.variant cell.flag cell.barrier is.variant
@@ -104,8 +85,7 @@ moved_back cell is =
     let bytes : List ℕ = moved_spelling cell in
     let spelled : is_spelled_by bytes cell ≡ true =
     both_true (fits cell) (bytes_eq bytes bytes) (fitting cell is) (bytes_are bytes bytes refl) in
-    ap (λ (b : Bool). if b then Err Blank else moved_by bytes (moved_in bytes)) (not_blank cell)
-    ∙ ap (moved_by bytes) (back cell is)
+    ap (λ (b : Bool). if b then Err Blank else moved_by bytes (moved_in bytes)) (not_blank cell) ∙ ap (moved_by bytes) (back cell is)
     ∙ ap (λ (b : Bool). if b then Ok cell else Err Unspelled) spelled
 
 -- what a reading that succeeds has found
@@ -115,9 +95,8 @@ record IsRead (bytes : List ℕ) (cell : MovedCell) : Type 0 where
 
 read_by : (blank spelled : Bool) (one cell : MovedCell)
     → (if blank then Err Blank else (if spelled then Ok one else Err Unspelled)) ≡ Ok cell → (spelled ≡ true) × (one ≡ cell)
-read_by true spelled one cell e = cc
 read_by false true one cell e = (refl, cc)
-read_by false false one cell e = cc
+read_by _ _ one cell e = cc
 
 is_read : (bytes : List ℕ) (cell : MovedCell) → moved_of bytes ≡ Ok cell → IsRead bytes cell
 unfolding moved_of
@@ -160,7 +139,8 @@ moved_spells bytes cell size e =
 pub cells_are_read : CellsAreRead
 cells_are_read bytes cell size = (
   moved_spells bytes cell size,
-  λ (spells : SpellsMoved bytes cell). ap moved_of spells.1 ∙ moved_back cell spells.0,
+  λ (spells : SpellsMoved bytes cell). ap moved_of spells.1
+      ∙ moved_back cell spells.0,
 )
 
 -- how a reading goes on, test by test

@@ -1,5 +1,7 @@
-pub mod Parts
-pub mod CellLaws
-pub mod TicketLaws
-pub mod Moving
-pub mod Orders
+pub mod Above
+mod Below
+mod Parts
+mod CellLaws
+mod TicketLaws
+mod Moving
+mod Orders

@@ -1,5 +1,6 @@
 -- How a move's steps join, and what the whole leaves and counts.
-use Rattle.std.proofs.Common.{◌≡◌, ◌≢◌, ℕ, Bool, true, false, List, Option, None, Some, Result, Ok, Err, IsErr, inl, inr, refl, sym, ap, ◌∙◌, subst}
+use Rattle.mm_move.proofs.Below.{◌≡◌, ◌≢◌, ℕ, Bool, true, false, List, Option, None, Some, Result, Ok, Err, IsErr, inl, inr, refl, sym, ap}
+use Rattle.mm_move.proofs.Below.{◌∙◌, subst, Ready, MoveRefusal, move_fault_of, move_fault_in, OrNoMemory}
 use Rattle.mm_base.specs.Faults.{counted}
 use Rattle.mm_platform.specs.declared.fault.StepFault.{StepFault}
 use Rattle.mm_platform.specs.Standing.{Standing}
@@ -7,16 +8,12 @@ use Rattle.mm_platform.specs.Steps.{ReadCell, WriteCell, Goes}
 use Rattle.mm_model.specs.declared.refusal.Refusal.TheVariants.{Device}
 use Rattle.mm_call.specs.Leaving.{Blames, IsUntouched}
 use Rattle.mm_call.specs.LeavingLaws.{read_untouched, blamed, blamed_later}
-use Rattle.mm_move.specs.declared.ready.Ready.{Ready}
-use Rattle.mm_move.specs.declared.refusal.MoveRefusal.{MoveRefusal}
 use Rattle.mm_move.specs.declared.refusal.MoveRefusal.TheVariants.{Core}
-use Rattle.mm_move.specs.Refusals.{move_fault_of, move_fault_in, OrNoMemory}
 use Rattle.mm_move.specs.Moves.{BytesRead, ReadsBytes, answered, WritesCell, Makes, GoesOn, Finds, AfterRead, Moves, StepsRefused, MoveStepsBy, MovedAs}
 
 done_by : {A : Type 0} (finds : List ℕ → Result (Ready A) MoveRefusal) (old middle new : Standing) (bytes : List ℕ)
-    (found : Result (Ready A) MoveRefusal) (result : Result A MoveRefusal) (fault : Option StepFault)
-    → Goes ReadCell old middle fault → BytesRead fault old (Ok bytes) → OrNoMemory (finds bytes) found → GoesOn found middle new result
-    → Moves finds old new result
+    (found : Result (Ready A) MoveRefusal) (result : Result A MoveRefusal) (fault : Option StepFault) → Goes ReadCell old middle fault
+    → BytesRead fault old (Ok bytes) → OrNoMemory (finds bytes) found → GoesOn found middle new result → Moves finds old new result
 done_by finds old middle new bytes found result None g b f w = record {
   middle = middle;
   fault = None;
@@ -39,40 +36,36 @@ record Keeps {A : Type 0} (old new : Standing) (result : Result A MoveRefusal) :
 
 keeps_failed : {A : Type 0} (old new : Standing) (fault : StepFault) (result : Result A MoveRefusal) → Goes ReadCell old new (Some fault)
     → result ≡ Err (Core (Device fault)) → Keeps old new result
-keeps_failed {A} old new fault result g e =
-    subst (λ (r : Result A MoveRefusal). Keeps old new r) (sym e) (record {
-      untouched = λ h _. absurd (cc);
-      faults = blamed (Some fault) old new g.is_made g.ends;
-      steps = inl (g.steps, g.writes);
-    })
+keeps_failed {A} old new fault result g e = subst (λ (r : Result A MoveRefusal). Keeps old new r) (sym e) (record {
+  untouched = λ h _. absurd (cc);
+  faults = blamed (Some fault) old new g.is_made g.ends;
+  steps = inl (g.steps, g.writes);
+})
 
 keeps_refused : {A : Type 0} (old new : Standing) (why : MoveRefusal) (result : Result A MoveRefusal) → Goes ReadCell old new None
     → move_fault_of why ≡ None → result ≡ Err why → Keeps old new result
-keeps_refused {A} old new why result g h e =
-    subst (λ (r : Result A MoveRefusal). Keeps old new r) (sym e) (record {
-      untouched = λ _ _. read_untouched old new g;
-      faults = subst (λ (f : Option StepFault). Blames f old.faults new.faults) (sym h) g.ends.faults;
-      steps = subst (λ (f : Option StepFault). StepsRefused f old new) (sym h) (g.steps, g.writes);
-    })
+keeps_refused {A} old new why result g h e = subst (λ (r : Result A MoveRefusal). Keeps old new r) (sym e) (record {
+  untouched = λ _ _. read_untouched old new g;
+  faults = subst (λ (f : Option StepFault). Blames f old.faults new.faults) (sym h) g.ends.faults;
+  steps = subst (λ (f : Option StepFault). StepsRefused f old new) (sym h) (g.steps, g.writes);
+})
 
 keeps_answered : {A : Type 0} (old new : Standing) (answer : A) (result : Result A MoveRefusal) → Goes ReadCell old new None
     → result ≡ Ok answer → Keeps old new result
-keeps_answered {A} old new answer result g e =
-    subst (λ (r : Result A MoveRefusal). Keeps old new r) (sym e) (record {
-      untouched = λ _ (is : false ≡ true). absurd (cc);
-      faults = g.ends.faults;
-      steps = inl (g.steps, g.writes);
-    })
+keeps_answered {A} old new answer result g e = subst (λ (r : Result A MoveRefusal). Keeps old new r) (sym e) (record {
+  untouched = λ _ (is : false ≡ true). absurd (cc);
+  faults = g.ends.faults;
+  steps = inl (g.steps, g.writes);
+})
 
 keeps_written : {A : Type 0} (old middle new : Standing) (next : List ℕ) (answer : A) (result : Result A MoveRefusal)
     (fault : Option StepFault) → Goes ReadCell old middle None → Goes (WriteCell next) middle new fault → result ≡ answered answer fault
     → Keeps old new result
-keeps_written {A} old middle new next answer result None g w e =
-    subst (λ (r : Result A MoveRefusal). Keeps old new r) (sym e) (record {
-      untouched = λ _ (is : false ≡ true). absurd (cc);
-      faults = w.ends.faults ∙ g.ends.faults;
-      steps = inr (w.steps ∙ ap counted g.steps, w.writes ∙ ap counted g.writes);
-    })
+keeps_written {A} old middle new next answer result None g w e = subst (λ (r : Result A MoveRefusal). Keeps old new r) (sym e) (record {
+  untouched = λ _ (is : false ≡ true). absurd (cc);
+  faults = w.ends.faults ∙ g.ends.faults;
+  steps = inr (w.steps ∙ ap counted g.steps, w.writes ∙ ap counted g.writes);
+})
 keeps_written {A} old middle new next answer result (Some fault) g w e =
     subst (λ (r : Result A MoveRefusal). Keeps old new r) (sym e) (record {
       untouched = λ h _. absurd (cc);

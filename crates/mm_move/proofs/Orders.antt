@@ -1,28 +1,15 @@
 -- No order of refusals hands on a device's fault.
-use Rattle.std.proofs.Common.{◌≡◌, ℕ, Bool, true, false, List, Option, None, Some, Result, Ok, Err, refl}
-use Rattle.std.specs.Prelude.{◌||◌, not, if◌then◌else◌}
-use Rattle.std.specs.Str.{bytes_eq}
-use Rattle.mm_digest.specs.declared.digest.Digest.{Digest}
-use Rattle.mm_digest.specs.declared.variant.Variant.{Variant}
+use Rattle.mm_move.proofs.Below.{◌≡◌, ℕ, Bool, true, false, List, Option, None, Some, Result, Ok, Err, refl, ◌||◌, if◌then◌else◌, bytes_eq}
+use Rattle.mm_move.proofs.Below.{Digest, Variant, Cell, CellFault, Blank, Unspelled, PartsFault, Form, Kind, Content, Snapshot, tag_of}
+use Rattle.mm_move.proofs.Below.{MovedCell, Waiting, Ready, MoveRefusal, is_barred, is_other, stands_at, retired_from, offer_by}
+use Rattle.mm_move.proofs.Below.{right_offer, leaves_by, retires_in, ticket_by, right_ticket, arrives_by, has_arrived_by, accepts_in}
+use Rattle.mm_move.proofs.Below.{retired_spelling, move_fault_in, summary_in, TicketContent, TaggedTicket, ticket_tag, ticket_of}
+use Rattle.std.specs.Prelude.{not}
 use Rattle.mm_module.specs.Meaning.{Meaning}
-use Rattle.mm_seal.specs.declared.cell.Cell.{Cell}
-use Rattle.mm_seal.specs.declared.cell.CellFault.{CellFault}
-use Rattle.mm_seal.specs.declared.cell.CellFault.TheVariants.{Blank, Cell as Unspelled}
-use Rattle.mm_seal.specs.declared.snapshot.PartsFault.{PartsFault}
-use Rattle.mm_seal.specs.declared.snapshot.PartsFault.TheVariants.{Form, Kind}
 use Rattle.mm_seal.specs.Parts.{parts_of}
-use Rattle.mm_seal.specs.Snapshot.{Content, Snapshot, tag_of}
 use Rattle.mm_move.specs.declared.accepting.Accepted.{Accepted}
-use Rattle.mm_move.specs.declared.cell.MovedCell.{MovedCell}
 use Rattle.mm_move.specs.declared.cell.MovedCell.TheVariants.{Live, Waiting as Waits, Retired as Left}
-use Rattle.mm_move.specs.declared.cell.Waiting.{Waiting}
 use Rattle.mm_move.specs.declared.link.Link.{Link}
-use Rattle.mm_move.specs.declared.ready.Ready.{Ready}
-use Rattle.mm_move.specs.declared.refusal.MoveRefusal.{MoveRefusal}
-use Rattle.mm_move.specs.Orders.{is_barred, is_other, stands_at, retired_from, offer_by, right_offer, leaves_by, retires_in, ticket_by, right_ticket, arrives_by, has_arrived_by, accepts_in}
-use Rattle.mm_move.specs.Cells.{retired_spelling}
-use Rattle.mm_move.specs.Refusals.{move_fault_in}
-use Rattle.mm_move.specs.Tickets.{summary_in, TicketContent, TaggedTicket, ticket_tag, ticket_of}
 
 -- both branches of a refusal
 no_fault_if : {A : Type 0} (P : Result A MoveRefusal → Type 0) (test : Bool) (refused rest : Result A MoveRefusal) → P refused → P rest
@@ -34,49 +21,22 @@ abbrev Lacks : (A : Type 0) → Result A MoveRefusal → Type 0
 Lacks A r = move_fault_in r ≡ None
 
 offer_no_fault : (meaning : Meaning) (key : List ℕ) (parts : Result Snapshot PartsFault) → move_fault_in (offer_by meaning key parts) ≡ None
-offer_no_fault meaning key (Err Form) = refl
-offer_no_fault meaning key (Err Kind) = refl
 offer_no_fault meaning key (Ok offered) =
     no_fault_if (Lacks Content) (not (meaning.is_spelled offered.content.state)) _ _ refl
     (no_fault_if (Lacks Content) (not (bytes_eq offered.tag (tag_of key offered.content))) _ _ refl refl)
+offer_no_fault meaning key (Err Form) = refl
+offer_no_fault meaning key _ = refl
 
-leaves_no_fault : (variant : Variant) (link : Link) (nonce : List ℕ) (summary : Digest) (next : Option (List ℕ))
-    (offered : Result Content MoveRefusal) → move_fault_in offered ≡ None
-    → move_fault_in (leaves_by variant link nonce summary next offered) ≡ None
+leaves_no_fault : (variant : Variant) (link : Link) (nonce : List ℕ) (summary : Digest) (next : Option (List ℕ)) (offered : Result Content
+    MoveRefusal) → move_fault_in offered ≡ None → move_fault_in (leaves_by variant link nonce summary next offered) ≡ None
 leaves_no_fault variant link nonce summary next (Err why) h = h
 leaves_no_fault variant link nonce summary next (Ok offered) h =
     no_fault_if (Lacks (Ready (List ℕ))) (not (stands_at summary offered.place)) _ _ refl refl
 
-pub retires_no_fault : (meaning : Meaning) (variant : Variant) (link : Link) (nonce offer : List ℕ) (read : Result MovedCell CellFault)
-    → move_fault_in (retires_in meaning variant link nonce offer read) ≡ None
-retires_no_fault meaning variant link nonce offer (Err Blank) = refl
-retires_no_fault meaning variant link nonce offer (Err Unspelled) = refl
-retires_no_fault meaning variant link nonce offer (Ok (Waits cell)) = refl
-retires_no_fault meaning variant link nonce offer (Ok (Live cell)) =
-    no_fault_if (Lacks (Ready (List ℕ))) (is_other variant meaning.id cell.variant cell.module) _ _ refl
-    (no_fault_if (Lacks (Ready (List ℕ))) (is_barred variant cell.barrier link) _ _ refl
-    (no_fault_if (Lacks (Ready (List ℕ))) cell.flag _ _ refl
-    (leaves_no_fault variant link nonce cell.summary (Some (retired_spelling (retired_from cell nonce)))
-    (right_offer meaning variant cell.key offer) (offer_no_fault meaning cell.key (parts_of variant meaning.id offer)))))
-retires_no_fault meaning variant link nonce offer (Ok (Left cell)) =
-    no_fault_if (Lacks (Ready (List ℕ))) (is_other variant meaning.id cell.variant cell.module) _ _ refl
-    (no_fault_if (Lacks (Ready (List ℕ))) (not (bytes_eq cell.nonce nonce)) _ _ refl
-    (leaves_no_fault variant link nonce cell.summary None (right_offer meaning variant cell.key offer)
-    (offer_no_fault meaning cell.key (parts_of variant meaning.id offer))))
-
-ticket_no_fault : (meaning : Meaning) (key : List ℕ) (read : Result TaggedTicket PartsFault)
-    → move_fault_in (ticket_by meaning key read) ≡ None
-ticket_no_fault meaning key (Err Form) = refl
-ticket_no_fault meaning key (Err Kind) = refl
-ticket_no_fault meaning key (Ok offered) =
-    no_fault_if (Lacks TicketContent) (not (meaning.is_spelled offered.ticket.content.state)) _ _ refl
-    (no_fault_if (Lacks TicketContent) (not (bytes_eq offered.tag (ticket_tag key offered.ticket))) _ _ refl refl)
-
 arrives_no_fault : (cell : Waiting) (ticket : Result TicketContent MoveRefusal) → move_fault_in ticket ≡ None
     → move_fault_in (arrives_by cell ticket) ≡ None
 arrives_no_fault cell (Err why) h = h
-arrives_no_fault cell (Ok ticket) h =
-    no_fault_if (Lacks (Ready Accepted)) (not (bytes_eq ticket.nonce cell.nonce)) _ _ refl refl
+arrives_no_fault cell (Ok ticket) h = no_fault_if (Lacks (Ready Accepted)) (not (bytes_eq ticket.nonce cell.nonce)) _ _ refl refl
 
 has_arrived_no_fault : (cell : Cell) (ticket : Result TicketContent MoveRefusal) → move_fault_in ticket ≡ None
     → move_fault_in (has_arrived_by cell ticket) ≡ None
@@ -85,18 +45,37 @@ has_arrived_no_fault cell (Ok ticket) h =
     no_fault_if (Lacks (Ready Accepted)) (cell.flag || not (bytes_eq (summary_in ticket.content.place).bytes cell.summary.bytes))
     _ _ refl refl
 
-pub accepts_no_fault : (meaning : Meaning) (variant : Variant) (link : Link) (ticket : List ℕ) (read : Result MovedCell CellFault)
-    → move_fault_in (accepts_in meaning variant link ticket read) ≡ None
-accepts_no_fault meaning variant link ticket (Err Blank) = refl
-accepts_no_fault meaning variant link ticket (Err Unspelled) = refl
-accepts_no_fault meaning variant link ticket (Ok (Left cell)) = refl
-accepts_no_fault meaning variant link ticket (Ok (Waits cell)) =
-    no_fault_if (Lacks (Ready Accepted)) (is_other variant meaning.id cell.variant cell.module) _ _ refl
-    (no_fault_if (Lacks (Ready Accepted)) (is_barred variant cell.barrier link) _ _ refl
-    (arrives_no_fault cell (right_ticket meaning variant link.key ticket)
-    (ticket_no_fault meaning link.key (ticket_of variant meaning.id ticket))))
-accepts_no_fault meaning variant link ticket (Ok (Live cell)) =
-    no_fault_if (Lacks (Ready Accepted)) (is_other variant meaning.id cell.variant cell.module) _ _ refl
-    (no_fault_if (Lacks (Ready Accepted)) (is_barred variant cell.barrier link) _ _ refl
-    (has_arrived_no_fault cell (right_ticket meaning variant link.key ticket)
-    (ticket_no_fault meaning link.key (ticket_of variant meaning.id ticket))))
+module _ (meaning : Meaning) where
+  pub retires_no_fault : (variant : Variant) (link : Link) (nonce offer : List ℕ) (read : Result MovedCell CellFault)
+      → move_fault_in (retires_in meaning variant link nonce offer read) ≡ None
+  retires_no_fault variant link nonce offer (Ok (Live cell)) =
+      no_fault_if (Lacks (Ready (List ℕ))) (is_other variant meaning.id cell.variant cell.module) _ _ refl
+      (no_fault_if (Lacks (Ready (List ℕ))) (is_barred variant cell.barrier link) _ _ refl (no_fault_if (Lacks (Ready (List ℕ))) cell.flag _
+      _ refl (leaves_no_fault variant link nonce cell.summary (Some (retired_spelling (retired_from cell nonce)))
+      (right_offer meaning variant cell.key offer) (offer_no_fault meaning cell.key (parts_of variant meaning.id offer)))))
+  retires_no_fault variant link nonce offer (Ok (Left cell)) =
+      no_fault_if (Lacks (Ready (List ℕ))) (is_other variant meaning.id cell.variant cell.module) _ _ refl
+      (no_fault_if (Lacks (Ready (List ℕ))) (not (bytes_eq cell.nonce nonce)) _ _ refl (leaves_no_fault variant link nonce cell.summary None
+      (right_offer meaning variant cell.key offer) (offer_no_fault meaning cell.key (parts_of variant meaning.id offer))))
+  retires_no_fault variant link nonce offer (Err Blank) = refl
+  retires_no_fault variant link nonce offer _ = refl
+
+  ticket_no_fault : (key : List ℕ) (read : Result TaggedTicket PartsFault) → move_fault_in (ticket_by meaning key read) ≡ None
+  ticket_no_fault key (Ok offered) =
+      no_fault_if (Lacks TicketContent) (not (meaning.is_spelled offered.ticket.content.state)) _ _ refl
+      (no_fault_if (Lacks TicketContent) (not (bytes_eq offered.tag (ticket_tag key offered.ticket))) _ _ refl refl)
+  ticket_no_fault key (Err Form) = refl
+  ticket_no_fault key _ = refl
+
+  pub accepts_no_fault : (variant : Variant) (link : Link) (ticket : List ℕ) (read : Result MovedCell CellFault)
+      → move_fault_in (accepts_in meaning variant link ticket read) ≡ None
+  accepts_no_fault variant link ticket (Ok (Waits cell)) =
+      no_fault_if (Lacks (Ready Accepted)) (is_other variant meaning.id cell.variant cell.module) _ _ refl
+      (no_fault_if (Lacks (Ready Accepted)) (is_barred variant cell.barrier link) _ _ refl (arrives_no_fault cell
+      (right_ticket meaning variant link.key ticket) (ticket_no_fault link.key (ticket_of variant meaning.id ticket))))
+  accepts_no_fault variant link ticket (Ok (Live cell)) =
+      no_fault_if (Lacks (Ready Accepted)) (is_other variant meaning.id cell.variant cell.module) _ _ refl
+      (no_fault_if (Lacks (Ready Accepted)) (is_barred variant cell.barrier link) _ _ refl (has_arrived_no_fault cell
+      (right_ticket meaning variant link.key ticket) (ticket_no_fault link.key (ticket_of variant meaning.id ticket))))
+  accepts_no_fault variant link ticket (Err Blank) = refl
+  accepts_no_fault variant link ticket _ = refl

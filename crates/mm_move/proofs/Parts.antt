@@ -1,17 +1,10 @@
 -- Bytes taken apart at fixed places, and tests.
-use Rattle.std.proofs.Common.{◌≡◌, ℕ, ◌+◌, ◌-◌, ◌≤◌, Bool, true, false, ◌&&◌, not, List, ◌++◌, length, take, drop, refl, sym, ap, ◌∙◌, arith, length-take, length-drop}
-use Rattle.std.specs.Prelude.{nat_le, ◌==◌}
-use Rattle.std.specs.Str.{bytes_eq}
+use Rattle.mm_move.proofs.Below.{◌≡◌, ℕ, ◌+◌, ◌-◌, ◌≤◌, Bool, true, false, ◌&&◌, not, List, ◌++◌, length, take, drop, refl, sym, ap, ◌∙◌}
+use Rattle.mm_move.proofs.Below.{arith, length-take, length-drop, nat_le, ◌==◌, bytes_eq, append-nil, Variant, Basic, Opt, variant_byte}
+use Rattle.mm_move.proofs.Below.{zero_bytes, FitsVariant, fits_variant, part}
 use Rattle.std.proofs.Math.Seq.{take-append_seam, drop-append_seam, drop-append-add}
 use Rattle.std.proofs.lemmas.Bool.Decides.{nat_tests}
 use Rattle.std.proofs.lemmas.Slice.Eq.{bytes_eq-Decides}
-use Rattle.std.proofs.lemmas.List.{append-nil}
-use Rattle.mm_digest.specs.declared.variant.Variant.{Variant}
-use Rattle.mm_digest.specs.declared.variant.Variant.TheVariants.{Basic, Opt}
-use Rattle.mm_digest.specs.Messages.{variant_byte, zero_bytes}
-use Rattle.mm_seal.specs.Cell.{FitsVariant}
-use Rattle.mm_move.specs.Cells.{fits_variant}
-use Rattle.mm_move.specs.Fields.{part}
 
 pub take_front : (n : ℕ) (xs ys : List ℕ) → length xs ≡ n → take n (xs ++ ys) ≡ xs
 take_front n xs ys e = ap (λ (m : ℕ). take m (xs ++ ys)) (sym e) ∙ take-append_seam xs ys

@@ -108,8 +108,7 @@ leaves_by variant link nonce summary next (Ok offered) =
     refuse_if (not (stands_at summary offered.place)) (Core core.Stale)
     (Ok (record {
       next = next;
-      answer = sealed_ticket link.key
-          (ticket_for variant nonce summary offered);
+      answer = sealed_ticket link.key (ticket_for variant nonce summary offered);
     }))
 
 -- the cell that a retirement writes

@@ -1,25 +1,8 @@
 -- Basic: what is told by digests is what is expected.
-use Rattle.std.proofs.Common.{ℕ, List, [], refl, sym}
-use Rattle.std.specs.List.{Contains}
-use Rattle.mm_digest.specs.Messages.{start_message}
-use Rattle.mm_digest.specs.declared.variant.Variant.TheVariants.{Basic}
-use Rattle.mm_module.specs.Meaning.{Meaning}
-use Rattle.mm_module.specs.Batch.{Batch}
-use Rattle.mm_model.specs.Instance.{Instance}
-use Rattle.mm_model.specs.InstanceWords.{basic}
-use Rattle.mm_model.specs.History.{History, Foreign, Power as PowerMove, moved, first_history}
-use Rattle.mm_model.specs.Messages.{IsClear}
-use Rattle.mm_model.specs.Moves.{Digests, made}
-use Rattle.mm_model.specs.FormLaws.{reads_zero}
-use Rattle.mm_call.specs.Asked.{IsPlain}
-use Rattle.mm_call.specs.MoveLaws.{agrees-moved, plain-moved, summary-nil}
-use Rattle.mm_call.proofs.BasicLaw.{plain_outside, basic_same}
-use Rattle.mm_call.proofs.Checkpoints.{basic_checkpoint_same}
-use Rattle.mm_model.specs.ListLaws.{each_self}
-use Rattle.mm_run.specs.Folds.{course_of, first_issued, first_digests}
-use Rattle.mm_run.specs.PremisesWords.{foreign_values, asked_batches, run_messages}
-use Rattle.mm_run.specs.Laws.{BasicIsExpected}
-use Rattle.mm_run.specs.OneEvent.{Keeps, EventsAgree}
+use Rattle.mm_run.proofs.Below.{ℕ, List, [], refl, sym, Contains, start_message, Basic, Meaning, Batch, Instance, basic, History, Foreign}
+use Rattle.mm_run.proofs.Below.{PowerMove, moved, first_history, IsClear, Digests, made, reads_zero, IsPlain, agrees-moved, plain-moved}
+use Rattle.mm_run.proofs.Below.{summary-nil, plain_outside, basic_same, basic_checkpoint_same, each_self, course_of, first_issued}
+use Rattle.mm_run.proofs.Below.{first_digests, foreign_values, asked_batches, run_messages, BasicIsExpected, Keeps, EventsAgree}
 use Rattle.mm_run.proofs.Following.{Variants, event_same, follow_same}
 
 -- what a loss of power, or a value of others, leaves
@@ -38,8 +21,7 @@ power_keeps meaning key all others asked_for y d k =
     }
 
 foreign_keeps : (meaning : Meaning) (key : List ℕ) (all others : List (List ℕ)) (asked_for : List Batch) (y : History) (d : Digests)
-    (v : List ℕ)
-    → Keeps all others asked_for (basic meaning key) y d
+    (v : List ℕ) → Keeps all others asked_for (basic meaning key) y d
     → Keeps all others asked_for (basic meaning key) (moved (basic meaning key) y (Foreign v)) (made (basic meaning key) d (Foreign v))
 foreign_keeps meaning key all others asked_for y d v k =
     let end : History = moved (basic meaning key) y (Foreign v) in
@@ -80,8 +62,7 @@ basic_expected meaning key events clear genuine =
     let self = each_self [] all in
     follow_same all (foreign_values events) (asked_batches events) i
     (basic_gives meaning key all (foreign_values events) (asked_batches events) clear.clear) events first_history (first_digests i)
-    (first_issued i)
-    (starts meaning key all (foreign_values events) (asked_batches events) self.0) (each_self [] (foreign_values events))
+    (first_issued i) (starts meaning key all (foreign_values events) (asked_batches events) self.0) (each_self [] (foreign_values events))
     (each_self [] (asked_batches events)) self.1 genuine
 
 pub basic_events_agree : (meaning : Meaning) (key : List ℕ) → EventsAgree (basic meaning key)

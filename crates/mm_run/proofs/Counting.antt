@@ -1,61 +1,28 @@
 -- What an event comes to, in either variant: at most 64 requests are committed, the reply can be printed, and at most one
 -- snapshot is issued.
-use Rattle.std.proofs.Common.{◌≡◌, ℕ, ◌+◌, ◌≤◌, Bool, true, false, List, [], ◌∷◌, ◌++◌, length, IsTrue, Option, None, Some, Result, Ok, Err, refl, sym, ap, subst, arith, length-append}
-use Rattle.std.specs.Prelude.{All, if◌then◌else◌, ◌||◌, nat_lt}
-use Rattle.std.specs.List.{list_any}
-use Rattle.std.proofs.lemmas.Bool.Decides.{nat_tests}
-use Rattle.std.proofs.lemmas.List.Elements.{All-nil, All-cons}
-use Rattle.mm_base.specs.Limits.{last_position, longest_request, most_members}
-use Rattle.mm_digest.specs.declared.variant.Variant.{Variant}
-use Rattle.mm_digest.specs.declared.variant.Variant.TheVariants.{Basic, Opt}
-use Rattle.mm_module.specs.Meaning.{Meaning, IsLawful, outputs_from}
-use Rattle.mm_module.specs.Batch.{Batch, members_of, size_of, batch_text, normal}
-use Rattle.mm_module.specs.BatchLaws.{members_of-normal}
-use Rattle.mm_module.specs.RunLaws.{length-outputs_from}
-use Rattle.mm_platform.specs.declared.fault.StepFault.{StepFault}
-use Rattle.mm_platform.specs.declared.plan.Meddle.{Meddle}
-use Rattle.mm_platform.specs.declared.plan.Stop.{Stop}
-use Rattle.mm_platform.specs.declared.plan.Stop.TheVariants.{Quiet, Cut, Drop, Fail}
-use Rattle.mm_seal.specs.declared.snapshot.PartsFault.{PartsFault}
-use Rattle.mm_seal.specs.declared.snapshot.PartsFault.TheVariants.{Form, Kind}
-use Rattle.mm_seal.specs.Parts.{parts_of}
-use Rattle.mm_seal.specs.Snapshot.{Content, Snapshot}
+use Rattle.mm_run.proofs.Below.{◌≡◌, ℕ, ◌+◌, ◌≤◌, Bool, true, false, List, [], ◌∷◌, ◌++◌, length, IsTrue, Option, None, Some, Result, Ok}
+use Rattle.mm_run.proofs.Below.{Err, refl, sym, ap, subst, arith, length-append, All, if◌then◌else◌, ◌||◌, nat_lt, list_any, nat_tests}
+use Rattle.mm_run.proofs.Below.{All-nil, All-cons, last_position, longest_request, most_members, Variant, Basic, Opt, Meaning, IsLawful}
+use Rattle.mm_run.proofs.Below.{outputs_from, Batch, members_of, size_of, batch_text, normal, members_of-normal, length-outputs_from}
+use Rattle.mm_run.proofs.Below.{StepFault, Meddle, Stop, Quiet, Cut, Drop, Fail, PartsFault, Form, Kind, parts_of, Content, Snapshot}
+use Rattle.mm_run.proofs.Below.{Instance, Move, Commit, Foreign, Placed, Reset, Close, PowerMove, is_long, Digests, made, committing}
+use Rattle.mm_run.proofs.Below.{ask_steps, Refusal, Verdict, Fresh, Again, Lost, Stale, examined, weighed, by_digests, all_made, Found}
+use Rattle.mm_run.proofs.Below.{found_by_verdict, found_at, found_with, found_unless_wanting, is_fresh, Course, Walked, walk, Ending}
+use Rattle.mm_run.proofs.Below.{Answers, Refuses, Breaks, Called, ended_by, seen_at, called, Closing, Closes, HasNone, NoSegment, LostPower}
+use Rattle.mm_run.proofs.Below.{Stops, Checkpointed, checkpointed, checkpointed_with, committed_in, Commits, nothing, batch, call_commits}
+use Rattle.mm_run.proofs.Below.{unlacked, checkpoint_none, Event, Ask, Checkpoint, Way, offered_bytes, way_of, after_stop, course_of}
+use Rattle.mm_run.proofs.Below.{reply_of, snapshots_of, moves_then, outcome_by, uncalled, asked, closing_reply, closing_then}
+use Rattle.mm_run.proofs.Below.{closed_outcome, event_outcome, world_key, world_barrier}
 use Rattle.mm_seal.specs.ReadingLaws.{le_tells}
-use Rattle.mm_model.specs.Instance.{Instance}
-use Rattle.mm_model.specs.History.{Move, Commit, Foreign, Placed, Reset, Close, Power as PowerMove}
-use Rattle.mm_model.specs.Long.{is_long}
 use Rattle.mm_model.specs.LongWords.{is_lf}
-use Rattle.mm_model.specs.Moves.{Digests, made, committing}
-use Rattle.mm_model.specs.Steps.{ask_steps}
-use Rattle.mm_model.specs.declared.refusal.Refusal.{Refusal}
 use Rattle.mm_model.specs.declared.refusal.Refusal.TheVariants as refusal
-use Rattle.mm_model.specs.declared.verdict.Verdict.{Verdict}
-use Rattle.mm_model.specs.declared.verdict.Verdict.TheVariants.{Fresh, Again, Lost, Stale}
 use Rattle.mm_modules.specs.Modules.{meaning_of}
 use Rattle.mm_modules.specs.ModulesLaws.{any_is_lawful}
-use Rattle.mm_call.specs.Order.{examined}
-use Rattle.mm_call.specs.OrderWords.{weighed}
-use Rattle.mm_call.specs.Levels.{by_digests, all_made}
-use Rattle.mm_call.specs.Found.{Found, found_by_verdict, found_at}
-use Rattle.mm_call.specs.FoundWords.{found_with, found_unless_wanting, is_fresh}
-use Rattle.mm_call.specs.Courses.{Course, Walked, walk}
-use Rattle.mm_call.specs.Called.{Ending, Answers, Refuses, Breaks, Called, ended_by, seen_at, called}
-use Rattle.mm_call.specs.Checkpoints.{Closing, Closes, HasNone, NoSegment, LostPower, Stops, Checkpointed, checkpointed}
-use Rattle.mm_call.specs.CheckpointsWords.{checkpointed_with}
 use Rattle.mm_call.specs.Standing.{instance_by}
-use Rattle.mm_call.specs.MoveLaws.{committed_in}
-use Rattle.mm_call.specs.WalkLaws.{Commits, nothing, batch, call_commits}
-use Rattle.mm_call.proofs.BasicLaw.{unlacked}
-use Rattle.mm_call.specs.AlongLaws.{checkpoint_none}
-use Rattle.mm_schedule.specs.Events.{Event, Ask, Checkpoint, Power, Extend}
 use Rattle.mm_schedule.specs.Replies.{IsPrintable}
 use Rattle.mm_schedule.specs.declared.reply.Reply.TheVariants as reply
 use Rattle.mm_schedule.specs.declared.reply.Cause.TheVariants as cause
-use Rattle.mm_schedule.specs.declared.reply.Way.{Way}
-use Rattle.mm_run.specs.Offered.{offered_bytes}
-use Rattle.mm_run.specs.Folds.{way_of, after_stop, course_of, reply_of, snapshots_of, moves_then, outcome_by, uncalled, asked, closing_reply, closing_then, closed_outcome, event_outcome}
 use Rattle.mm_run.specs.Held.{Held, instance_of, outcome_in}
-use Rattle.mm_run.specs.HeldWords.{world_key, world_barrier}
 
 -- how many requests moves commit
 
@@ -91,17 +58,13 @@ stop_count i (Fail n done) d = refl
 
 then_count : (i : Instance) (stop : Stop) (ending : Ending) (d : Digests)
     → (all_made (by_digests i) d (moves_then stop ending)).count ≡ d.count
-then_count i stop (Answers answer) d = refl
-then_count i stop (Refuses why) d = refl
 then_count i stop (Breaks fault kept) d = stop_count i stop d
+then_count i stop ending d = refl
 
 closing_count : (i : Instance) (stop : Stop) (closing : Closing) (d : Digests)
     → (all_made (by_digests i) d (closing_then stop closing)).count ≡ d.count
-closing_count i stop Closes d = refl
-closing_count i stop HasNone d = refl
-closing_count i stop NoSegment d = refl
-closing_count i stop LostPower d = refl
 closing_count i stop (Stops fault closed) d = stop_count i stop d
+closing_count i stop closing d = refl
 
 called_few : (i : Instance) (d : Digests) (c : Course) (bytes : List ℕ) (b : Batch)
     → (called i (by_digests i) d c bytes b).state.count ≤ d.count + size_of b
@@ -129,13 +92,11 @@ none_more : (n : ℕ) → n ≤ n + most_members
 none_more n = omega arith
 
 outcome_few : (i : Instance) (d : Digests) (issued : List (List ℕ)) (stop : Stop) (o : Called Digests) (n : ℕ) → o.state.count ≤ d.count + n
-    → n ≤ most_members
-    → (outcome_by (by_digests i) stop issued o).state.count ≤ d.count + most_members
+    → n ≤ most_members → (outcome_by (by_digests i) stop issued o).state.count ≤ d.count + most_members
 outcome_few i d issued stop o n h k = omega (arith, then_count i stop o.ending o.state)
 
 asked_few : (i : Instance) (d : Digests) (issued : List (List ℕ)) (meddles : List Meddle) (stop : Stop) (bytes : List ℕ) (b : Batch)
-    (long : Bool) → is_long b ≡ long
-    → (if long then uncalled d issued (reply.No cause.Long) else outcome_by (by_digests i) stop issued
+    (long : Bool) → is_long b ≡ long → (if long then uncalled d issued (reply.No cause.Long) else outcome_by (by_digests i) stop issued
     (called i (by_digests i) d (course_of stop meddles) bytes (normal b))).state.count ≤ d.count + most_members
 asked_few i d issued meddles stop bytes b true e = none_more d.count
 asked_few i d issued meddles stop bytes b false e =
@@ -143,8 +104,7 @@ asked_few i d issued meddles stop bytes b false e =
     (called_few i d (course_of stop meddles) bytes (normal b)) (short_size b e)
 
 bytes_few : (i : Instance) (d : Digests) (issued : List (List ℕ)) (meddles : List Meddle) (stop : Stop) (bytes : Option (List ℕ))
-    (b : Batch)
-    → (asked i (by_digests i) d issued meddles stop bytes b).state.count ≤ d.count + most_members
+    (b : Batch) → (asked i (by_digests i) d issued meddles stop bytes b).state.count ≤ d.count + most_members
 bytes_few i d issued meddles stop None b = none_more d.count
 bytes_few i d issued meddles stop (Some bytes) b = asked_few i d issued meddles stop bytes b (is_long b) refl
 
@@ -158,16 +118,14 @@ check_few i d issued meddles stop is_lost =
       arith,
       closing_count i stop o.ending o.state,
       count-made i o.moves d,
-      ap sizes_of
-          (checkpoint_none i.variant d.flag is_lost c.fates),
+      ap sizes_of (checkpoint_none i.variant d.flag is_lost c.fates),
     )
 
 pub few_committed : (i : Instance) (d : Digests) (issued : List (List ℕ)) (event : Event)
     → (event_outcome i (by_digests i) d issued event).state.count ≤ d.count + most_members
 few_committed i d issued (Ask meddles stop offer b) = bytes_few i d issued meddles stop (offered_bytes issued offer) b
 few_committed i d issued (Checkpoint meddles stop) = check_few i d issued meddles stop _
-few_committed i d issued Power = none_more d.count
-few_committed i d issued (Extend value) = none_more d.count
+few_committed i d issued event = none_more d.count
 
 -- the reply can be printed: an output is a line, and no position is past the last
 
@@ -176,8 +134,7 @@ short_outputs : (meaning : Meaning) → IsLawful meaning → (state : List ℕ) 
 short_outputs meaning lawful state [] spelled = All-nil (λ (output : List ℕ). length output ≤ longest_request)
 short_outputs meaning lawful state (request ∷ members) spelled =
     All-cons (λ (output : List ℕ). length output ≤ longest_request) (meaning.says state request)
-    (outputs_from meaning (meaning.next state request) members)
-    ((lawful.says_lines state request spelled).short)
+    (outputs_from meaning (meaning.next state request) members) ((lawful.says_lines state request spelled).short)
     (short_outputs meaning lawful (meaning.next state request) members (lawful.goes_on state request spelled))
 
 -- an offer that is accepted has a spelled state and positions left for the batch
@@ -200,8 +157,7 @@ accepted true true Lost fits again e = absurd (cc)
 accepted true true Stale fits again e = absurd (cc)
 
 well_with : (meaning : Meaning) (b : Batch) (offered : Content) (e : Result Bool Refusal)
-    → ((again : Bool) → e ≡ Ok again → IsAccepted meaning offered b)
-    → IsFoundWell meaning b (found_with offered e)
+    → ((again : Bool) → e ≡ Ok again → IsAccepted meaning offered b) → IsFoundWell meaning b (found_with offered e)
 well_with meaning b offered (Err why) h = λ (it : Found) (f : Err why ≡ Ok it). absurd (cc)
 well_with meaning b offered (Ok again) h = λ (it : Found) (f : Ok (record { offered = offered; again = again }) ≡ Ok it).
     let same : offered ≡ it.offered = cc in
@@ -209,13 +165,13 @@ well_with meaning b offered (Ok again) h = λ (it : Found) (f : Ok (record { off
 
 well_from : (i : Instance) (seen : Digests) (b : Batch) (taken : Result Snapshot PartsFault)
     → IsFoundWell i.meaning b (found_by_verdict i (by_digests i) seen b taken)
-well_from i seen b (Err Form) = λ (it : Found) f. absurd (cc)
-well_from i seen b (Err Kind) = λ (it : Found) f. absurd (cc)
 well_from i seen b (Ok snapshot) =
     well_with i.meaning b snapshot.content (examined i.meaning i.key snapshot b ((by_digests i).verdict seen snapshot.content b))
     (λ (again : Bool) e.
     let a = accepted _ _ _ _ again e in
     record { spelled = a.0; fits = le_tells (snapshot.content.position + size_of b) last_position a.1 })
+well_from i seen b (Err Form) = λ (it : Found) f. absurd (cc)
+well_from i seen b (Err Kind) = λ (it : Found) f. absurd (cc)
 
 well_by : (meaning : Meaning) (b : Batch) (lost : Bool) (why : Refusal) (found : Result Found Refusal) → IsFoundWell meaning b found
     → IsFoundWell meaning b (if lost then Err why else found)
@@ -224,8 +180,7 @@ well_by meaning b false why found h = h
 
 well_found : (i : Instance) (seen : Digests) (b : Batch) (bytes : List ℕ) (lacks : Bool)
     → IsFoundWell i.meaning b (found_unless_wanting (found_at i (by_digests i) seen b bytes) lacks)
-well_found i seen b bytes lacks = λ (it : Found) e.
-    well_by i.meaning b ((by_digests i).is_lost seen) refusal.Lost
+well_found i seen b bytes lacks = λ (it : Found) e. well_by i.meaning b ((by_digests i).is_lost seen) refusal.Lost
     (found_by_verdict i (by_digests i) seen b (parts_of i.variant i.meaning.id bytes))
     (well_from i seen b (parts_of i.variant i.meaning.id bytes)) it (unlacked (found_at i (by_digests i) seen b bytes) lacks it e)
 
@@ -236,14 +191,13 @@ printed_broken how fault (Some position) = tt
 printed_ended : (i : Instance) → IsLawful i.meaning
     → (seen s : Digests) (how : Way) (b : Batch) (found : Result Found Refusal) (moves : List Move) (broken : Option StepFault)
     → IsFoundWell i.meaning b found → IsPrintable (reply_of how (ended_by (by_digests i) seen s b found moves broken))
-printed_ended i lawful seen s how b (Err why) moves (Some fault) h = printed_broken how fault _
-printed_ended i lawful seen s how b (Ok it) moves (Some fault) h = printed_broken how fault _
 printed_ended i lawful seen s how b (Err why) moves None h = tt
 printed_ended i lawful seen s how b (Ok it) moves None h =
     let a = h it refl in
     let size = length-outputs_from i.meaning it.offered.state (members_of b) in
     let fits = a.fits in
     (short_outputs i.meaning lawful it.offered.state (members_of b) a.spelled, omega (arith, size, fits))
+printed_ended i lawful seen s how b found moves (Some fault) h = printed_broken how fault _
 
 printed_called : (i : Instance) → IsLawful i.meaning → (d : Digests) (how : Way) (c : Course) (bytes : List ℕ) (b : Batch)
     → IsPrintable (reply_of how (called i (by_digests i) d c bytes b).ending)
@@ -280,8 +234,7 @@ pub printable : (i : Instance) → IsLawful i.meaning → (d : Digests) (issued 
 printable i lawful d issued (Ask meddles stop offer b) = printed_bytes i lawful d issued meddles stop (offered_bytes issued offer) b
 printable i lawful d issued (Checkpoint meddles stop) =
     printed_closing (way_of stop) (checkpointed i (by_digests i) d (course_of stop meddles)).ending
-printable i lawful d issued Power = tt
-printable i lawful d issued (Extend value) = tt
+printable i lawful d issued event = tt
 
 -- at most one snapshot is issued
 
@@ -294,25 +247,21 @@ ending_issues issued (Refuses why) = omega (arith, length-append issued (snapsho
 ending_issues issued (Breaks fault kept) = omega (arith, length-append issued (snapshots_of (Breaks fault kept)))
 
 asked_issues : (i : Instance) (d : Digests) (issued : List (List ℕ)) (meddles : List Meddle) (stop : Stop) (bytes : List ℕ) (b : Batch)
-    (long : Bool)
-    → length (if long then uncalled d issued (reply.No cause.Long) else outcome_by (by_digests i) stop issued
+    (long : Bool) → length (if long then uncalled d issued (reply.No cause.Long) else outcome_by (by_digests i) stop issued
     (called i (by_digests i) d (course_of stop meddles) bytes (normal b))).issued ≤ length issued + 1
 asked_issues i d issued meddles stop bytes b true = no_more (length issued)
 asked_issues i d issued meddles stop bytes b false =
     ending_issues issued (called i (by_digests i) d (course_of stop meddles) bytes (normal b)).ending
 
 bytes_issue : (i : Instance) (d : Digests) (issued : List (List ℕ)) (meddles : List Meddle) (stop : Stop) (bytes : Option (List ℕ))
-    (b : Batch)
-    → length (asked i (by_digests i) d issued meddles stop bytes b).issued ≤ length issued + 1
+    (b : Batch) → length (asked i (by_digests i) d issued meddles stop bytes b).issued ≤ length issued + 1
 bytes_issue i d issued meddles stop None b = no_more (length issued)
 bytes_issue i d issued meddles stop (Some bytes) b = asked_issues i d issued meddles stop bytes b (is_long b)
 
 pub issues_one : (i : Instance) (d : Digests) (issued : List (List ℕ)) (event : Event)
     → length (event_outcome i (by_digests i) d issued event).issued ≤ length issued + 1
 issues_one i d issued (Ask meddles stop offer b) = bytes_issue i d issued meddles stop (offered_bytes issued offer) b
-issues_one i d issued (Checkpoint meddles stop) = no_more (length issued)
-issues_one i d issued Power = no_more (length issued)
-issues_one i d issued (Extend value) = no_more (length issued)
+issues_one i d issued event = no_more (length issued)
 
 -- over a world
 

@@ -1,13 +1,10 @@
 -- Messages are told apart by the first bytes of their digests; and SHA-256 with each word computed once.
-use Rattle.std.proofs.Common.{ℕ, zero, suc, ◌≡◌, ◌≢◌, ◌+◌, ◌*◌, ◌/◌, take, drop, Bool, true, false, List, [], ◌∷◌, ◌++◌, length, map, refl, sym, ap, ◌∙◌, arith, inl, inr, ◌⊎◌}
-use Rattle.std.specs.Prelude.{if◌then◌else◌, nat_eq, slice_index}
-use Rattle.std.specs.List.{AllByRecursion, Contains}
-use Rattle.std.proofs.lemmas.Bool.Decides.{nat_tests}
-use Rattle.std.proofs.lemmas.List.Elements.{Contains-append_cases, Contains-push_cases}
-use Rattle.sha2.specs.Sha256.{sha256, next_word, first_words, schedule, rounds, add_state, compress, hash_after, digest_bytes, initial_hash_256, padded_message}
+use Rattle.mm_run.proofs.Below.{ℕ, zero, suc, ◌≡◌, ◌≢◌, ◌+◌, ◌*◌, ◌/◌, take, drop, Bool, true, false, List, [], ◌∷◌, ◌++◌, length, map}
+use Rattle.mm_run.proofs.Below.{refl, sym, ap, ◌∙◌, arith, inl, inr, ◌⊎◌, if◌then◌else◌, nat_eq, slice_index, AllByRecursion, Contains}
+use Rattle.mm_run.proofs.Below.{nat_tests, Contains-append_cases, Contains-push_cases, next_word, first_words, rounds, add_state}
+use Rattle.mm_run.proofs.Below.{digest_bytes, initial_hash_256, padded_message, IsClear, Within, each_at}
+use Rattle.sha2.specs.Sha256.{sha256, schedule, compress, hash_after}
 use Rattle.mm_digest.specs.Messages.{zero_bytes}
-use Rattle.mm_model.specs.Messages.{IsClear, Within}
-use Rattle.mm_call.proofs.OptFinding.{each_at}
 
 -- the first byte of a message's digest
 unfoldable pub first_byte : (List ℕ → List ℕ) → List ℕ → ℕ
@@ -42,15 +39,14 @@ apart_at hash a (m ∷ ms) e =
     (nat_eq_self a (first_byte hash m) t.0, apart_at hash a ms t.1)
 
 member : (x m : List ℕ) (xs : List (List ℕ)) → Contains (x ∷ xs) m → (x ≡ m) ⊎ Contains xs m
-member x m xs c =
-    elim (Contains-append_cases (x ∷ []) xs m c) [
-      | inl first ↦
-          elim (Contains-push_cases [] x m first) [
-            | inl none ↦ absurd (omega (arith, none.1))
-            | inr e ↦ inl e
-          ]
-      | inr later ↦ inr later
-    ]
+member x m xs c = elim (Contains-append_cases (x ∷ []) xs m c) [
+  | inl first ↦
+      elim (Contains-push_cases [] x m first) [
+        | inl none ↦ absurd (omega (arith, none.1))
+        | inr e ↦ inl e
+      ]
+  | inr later ↦ inr later
+]
 
 -- messages whose digests begin with bytes that are apart are apart
 same_by_first : (hash : List ℕ → List ℕ) (all : List (List ℕ)) → all_apart (map (first_byte hash) all) ≡ true

@@ -1,41 +1,21 @@
 -- A schedule gives the same by digests as by lists: one induction over events, for both variants.
-use Rattle.std.proofs.Common.{ℕ, ◌≡◌, ◌+◌, Bool, true, false, List, [], ◌∷◌, ◌++◌, map, Option, None, Some, refl, sym, ap, subst}
-use Rattle.std.specs.Prelude.{if◌then◌else◌}
-use Rattle.std.specs.List.{AllByRecursion, Contains}
-use Rattle.mm_platform.specs.declared.plan.Meddle.{Meddle}
-use Rattle.mm_platform.specs.declared.plan.Stop.{Stop}
-use Rattle.mm_platform.specs.declared.plan.Stop.TheVariants.{Quiet, Cut, Drop, Fail}
-use Rattle.mm_module.specs.Batch.{Batch, normal}
-use Rattle.mm_model.specs.Instance.{Instance}
-use Rattle.mm_model.specs.History.{History, Move, Foreign, Power as PowerMove, moved}
-use Rattle.mm_model.specs.Long.{is_long}
-use Rattle.mm_model.specs.Messages.{Within}
-use Rattle.mm_model.specs.Moves.{Digests, made}
-use Rattle.mm_model.specs.Standing.{IsGenuine}
-use Rattle.mm_model.specs.ListLaws.{each_left, each_right}
-use Rattle.mm_call.specs.Levels.{by_lists, by_digests, all_made, Agrees}
-use Rattle.mm_call.specs.Found.{right_content}
-use Rattle.mm_call.specs.Called.{Ending, Answers, Refuses, Breaks, Called, called}
-use Rattle.mm_call.specs.Checkpoints.{Closing, Closes, HasNone, NoSegment, LostPower, Stops, Checkpointed, checkpointed, IsSameCheckpoint}
-use Rattle.mm_call.specs.Asked.{moves_messages, right_messages, IsWithin}
-use Rattle.mm_call.specs.Laws.{IsSameCall}
-use Rattle.mm_schedule.specs.Events.{Event, Ask, Checkpoint, Power, Extend}
-use Rattle.mm_schedule.specs.declared.reply.Reply.{Reply}
+use Rattle.mm_run.proofs.Below.{ℕ, ◌≡◌, ◌+◌, Bool, true, false, List, [], ◌∷◌, ◌++◌, map, Option, None, Some, refl, sym, ap, subst}
+use Rattle.mm_run.proofs.Below.{if◌then◌else◌, AllByRecursion, Contains, Meddle, Stop, Cut, Batch, normal, Instance, History, Move, Foreign}
+use Rattle.mm_run.proofs.Below.{PowerMove, moved, is_long, Within, Digests, made, IsGenuine, each_left, each_right, by_lists, by_digests}
+use Rattle.mm_run.proofs.Below.{all_made, right_content, Ending, Breaks, Called, called, Closing, Stops, Checkpointed, checkpointed}
+use Rattle.mm_run.proofs.Below.{IsSameCheckpoint, moves_messages, right_messages, IsSameCall, Event, Ask, Checkpoint, Power, Extend, Reply}
+use Rattle.mm_run.proofs.Below.{offered_bytes, Outcome, way_of, after_stop, course_of, reply_of, snapshots_of, moves_then, outcome_by}
+use Rattle.mm_run.proofs.Below.{uncalled, asked, closing_reply, closing_then, closed_outcome, event_outcome, followed, moves_of}
+use Rattle.mm_run.proofs.Below.{event_messages, messages_from, foreign_of, batches_of, IsGenuineEvent, AreGenuine, ask_moves}
+use Rattle.mm_run.proofs.Below.{asking_messages, foreign_values, asked_batches, IsGenuineOffer, AgreesThroughout, Keeps, IsSameOutcome}
 use Rattle.mm_schedule.specs.declared.reply.Reply.TheVariants as reply
 use Rattle.mm_schedule.specs.declared.reply.Cause.TheVariants as cause
-use Rattle.mm_run.specs.Offered.{offered_bytes}
-use Rattle.mm_run.specs.Folds.{Outcome, way_of, after_stop, course_of, reply_of, snapshots_of, moves_then, outcome_by, uncalled, asked, closing_reply, closing_then, closed_outcome, event_outcome, followed}
-use Rattle.mm_run.specs.Premises.{moves_of, event_messages, messages_from, foreign_of, batches_of, IsGenuineEvent, AreGenuine}
-use Rattle.mm_run.specs.PremisesWords.{ask_moves, asking_messages, foreign_values, asked_batches, IsGenuineOffer}
-use Rattle.mm_run.specs.Laws.{AgreesThroughout}
-use Rattle.mm_run.specs.OneEvent.{Keeps, IsSameOutcome}
 
 -- What one variant gives: the laws of calls and of checkpoints on a planned course, by the moves by lists; and that a
 -- loss of power and a value of others keep what holds.
 pub record Variants (all others : List (List ℕ)) (asked_for : List Batch) (i : Instance) : Type 0 where
   pub calls : (y : History) (d : Digests) (stop : Stop) (meddles : List Meddle) (bytes : List ℕ) (b : Batch)
-      → Keeps all others asked_for i y d
-      → AllByRecursion (Contains others) (map (λ m. m.value.bytes) meddles) → Contains asked_for b
+      → Keeps all others asked_for i y d → AllByRecursion (Contains others) (map (λ m. m.value.bytes) meddles) → Contains asked_for b
       → Within (right_messages i b (right_content i bytes)) all → IsGenuine i y bytes
       → Within (moves_messages i y (called i (by_lists i) y (course_of stop meddles) bytes b).moves) all
       → IsSameCall all others asked_for i (called i (by_lists i) y (course_of stop meddles) bytes b)
@@ -55,8 +35,7 @@ unless_long true all messages listed e = cc
 unless_long false all messages listed e = listed
 
 unless_long_moves : (i : Instance) (y : History) (long : Bool) (all : List (List ℕ)) (moves : List Move)
-    → Within (moves_messages i y (if long then [] else moves)) all
-    → long ≡ false → Within (moves_messages i y moves) all
+    → Within (moves_messages i y (if long then [] else moves)) all → long ≡ false → Within (moves_messages i y moves) all
 unless_long_moves i y true all moves listed e = cc
 unless_long_moves i y false all moves listed e = listed
 
@@ -69,25 +48,19 @@ module _ (all others : List (List ℕ)) (asked_for : List Batch) (i : Instance) 
   -- what stands after a stop
   stop_keeps : (stop : Stop) (y : History) (d : Digests) → Keeps all others asked_for i y d
       → Keeps all others asked_for i (all_made (by_lists i) y (after_stop stop)) (all_made (by_digests i) d (after_stop stop))
-  stop_keeps Quiet y d k = k
   stop_keeps (Cut n) y d k = v.power y d k
-  stop_keeps (Drop n) y d k = k
-  stop_keeps (Fail n done) y d k = k
+  stop_keeps stop y d k = k
 
   ending_keeps : (stop : Stop) (ending : Ending) (y : History) (d : Digests) → Keeps all others asked_for i y d
       → Keeps all others asked_for i (all_made (by_lists i) y (moves_then stop ending)) (all_made (by_digests i) d (moves_then stop ending))
-  ending_keeps stop (Answers answer) y d k = k
-  ending_keeps stop (Refuses why) y d k = k
   ending_keeps stop (Breaks fault kept) y d k = stop_keeps stop y d k
+  ending_keeps stop ending y d k = k
 
   closing_keeps : (stop : Stop) (ending : Closing) (y : History) (d : Digests) → Keeps all others asked_for i y d
       → Keeps all others asked_for i (all_made (by_lists i) y (closing_then stop ending))
       (all_made (by_digests i) d (closing_then stop ending))
-  closing_keeps stop Closes y d k = k
-  closing_keeps stop HasNone y d k = k
-  closing_keeps stop NoSegment y d k = k
-  closing_keeps stop LostPower y d k = k
   closing_keeps stop (Stops fault closed) y d k = stop_keeps stop y d k
+  closing_keeps stop ending y d k = k
 
   outcome_same : (stop : Stop) (issued : List (List ℕ)) (o : Called History) (p : Called Digests) → IsSameCall all others asked_for i o p
       → IsSameOutcome all others asked_for i (outcome_by (by_lists i) stop issued o) (outcome_by (by_digests i) stop issued p)
@@ -96,8 +69,7 @@ module _ (all others : List (List ℕ)) (asked_for : List Batch) (i : Instance) 
     issued = ap (λ e. issued ++ snapshots_of e) s.ending;
     steps = s.steps;
     writes = s.writes;
-    keeps =
-        subst (λ e. Keeps all others asked_for i (all_made (by_lists i) o.state (moves_then stop o.ending))
+    keeps = subst (λ e. Keeps all others asked_for i (all_made (by_lists i) o.state (moves_then stop o.ending))
         (all_made (by_digests i) p.state (moves_then stop e))) (sym s.ending)
         (ending_keeps stop o.ending o.state p.state (record { agrees = s.agrees; within = s.within }));
   }
@@ -110,8 +82,7 @@ module _ (all others : List (List ℕ)) (asked_for : List Batch) (i : Instance) 
     issued = refl;
     steps = s.steps;
     writes = s.writes;
-    keeps =
-        subst (λ e. Keeps all others asked_for i (all_made (by_lists i) o.state (closing_then stop o.ending))
+    keeps = subst (λ e. Keeps all others asked_for i (all_made (by_lists i) o.state (closing_then stop o.ending))
         (all_made (by_digests i) p.state (closing_then stop e))) (sym s.ending)
         (closing_keeps stop o.ending o.state p.state (record { agrees = s.agrees; within = s.within }));
   }
@@ -127,16 +98,14 @@ module _ (all others : List (List ℕ)) (asked_for : List Batch) (i : Instance) 
   if_same false x y z w a b = b refl
 
   asked_same : (y : History) (d : Digests) (issued : List (List ℕ)) (meddles : List Meddle) (stop : Stop) (bytes : Option (List ℕ))
-      (b : Batch)
-      → Keeps all others asked_for i y d → AllByRecursion (Contains others) (map (λ m. m.value.bytes) meddles)
+      (b : Batch) → Keeps all others asked_for i y d → AllByRecursion (Contains others) (map (λ m. m.value.bytes) meddles)
       → AllByRecursion (Contains asked_for) (if is_long b then [] else normal b ∷ []) → Within (asking_messages i bytes b) all
       → IsGenuineOffer i y bytes → Within (moves_messages i y (ask_moves i y meddles stop bytes b)) all
       → IsSameOutcome all others asked_for i (asked i (by_lists i) y issued meddles stop bytes b)
       (asked i (by_digests i) d issued meddles stop bytes b)
   asked_same y d issued meddles stop None b k outside batches listed genuine messages = uncalled_same y d issued (reply.No cause.Snapshot) k
   asked_same y d issued meddles stop (Some bytes) b k outside batches listed genuine messages =
-      if_same (is_long b) _ _ _ _ (uncalled_same y d issued (reply.No cause.Long) k)
-      (λ short. outcome_same stop issued _ _
+      if_same (is_long b) _ _ _ _ (uncalled_same y d issued (reply.No cause.Long) k) (λ short. outcome_same stop issued _ _
       (v.calls y d stop meddles bytes (normal b) k outside (unless_long_batch (is_long b) asked_for (normal b) batches short)
       (unless_long (is_long b) all (right_messages i (normal b) (right_content i bytes)) listed short) genuine
       (unless_long_moves i y (is_long b) all (called i (by_lists i) y (course_of stop meddles) bytes (normal b)).moves messages short)))
@@ -175,8 +144,7 @@ module _ (all others : List (List ℕ)) (asked_for : List Batch) (i : Instance) 
       (each_right (Contains others) (foreign_of event) (foreign_values events) outside)
       (each_right (Contains asked_for) (batches_of event) (asked_batches events) among) back genuine.1 in
       let P : List (List ℕ)
-      → Type 0 = λ w. AgreesThroughout i (followed i (by_lists i) o.state o.issued events) (followed i (by_digests i) p.state w events)
-      in
+      → Type 0 = λ w. AgreesThroughout i (followed i (by_lists i) o.state o.issued events) (followed i (by_digests i) p.state w events) in
       let later = subst P (sym same.issued) rest in
       record {
         replies = λ j. same.reply j ∷ later.replies j;

@@ -1,23 +1,10 @@
 -- Each first part of the events is one run, where it meets the premises.
-use Rattle.std.proofs.Common.{◌∙◌, ℕ, List, [], ◌∷◌, ◌++◌, ap, sym, subst}
+use Rattle.mm_run.proofs.Below.{◌∙◌, ℕ, List, [], ◌∷◌, ◌++◌, ap, sym, subst, Contains-append_left, Contains, flat_map, by_digests, by_lists}
+use Rattle.mm_run.proofs.Below.{start_message, Meaning, Instance, basic, opt, History, first_history, requests_of, IsClear, Event, Runs}
+use Rattle.mm_run.proofs.Below.{Reply, event_outcome, expected, replies_by_digests, first_digests, first_issued, AgreesThroughout}
+use Rattle.mm_run.proofs.Below.{AreGenuine, IsClearRun, IsGenuineRun, batches_of, foreign_of, run_messages}
 use Rattle.std.proofs.lemmas.Grind.{flat_map-append}
-use Rattle.std.proofs.lemmas.List.Elements.{Contains-append_left}
-use Rattle.std.specs.List.{Contains, flat_map}
-use Rattle.mm_call.specs.Levels.{by_digests, by_lists}
-use Rattle.mm_digest.specs.Messages.{start_message}
-use Rattle.mm_module.specs.Meaning.{Meaning}
-use Rattle.mm_model.specs.Instance.{Instance}
-use Rattle.mm_model.specs.InstanceWords.{basic, opt}
-use Rattle.mm_model.specs.History.{History, first_history, requests_of}
-use Rattle.mm_model.specs.Messages.{IsClear}
-use Rattle.mm_schedule.specs.Events.{Event}
-use Rattle.mm_schedule.specs.Machine.{Runs}
-use Rattle.mm_schedule.specs.declared.reply.Reply.{Reply}
-use Rattle.mm_run.specs.Folds.{event_outcome, expected, replies_by_digests, first_digests, first_issued}
-use Rattle.mm_run.specs.Laws.{AgreesThroughout}
 use Rattle.mm_run.specs.OneRun.{FrontsAreOneRun}
-use Rattle.mm_run.specs.Premises.{AreGenuine, IsClearRun, IsGenuineRun, batches_of, foreign_of}
-use Rattle.mm_run.specs.PremisesWords.{run_messages}
 use Rattle.mm_run.proofs.BasicRuns.{basic_expected}
 use Rattle.mm_run.proofs.GoingOn.{goes_on, messages-append}
 use Rattle.mm_run.proofs.OptRuns.{opt_expected}
@@ -46,8 +33,7 @@ pub basic_fronts_run : (meaning : Meaning) (key : List ℕ) (events : List Event
 basic_fronts_run meaning key events = fronts_run (basic meaning key) (λ es. basic_expected meaning key es) events
 
 pub opt_fronts_run : (meaning : Meaning) (key barrier : List ℕ) (events : List Event) → FrontsAreOneRun (opt meaning key barrier) events
-opt_fronts_run meaning key barrier events =
-    fronts_run (opt meaning key barrier) (λ es. opt_expected meaning key barrier es) events
+opt_fronts_run meaning key barrier events = fronts_run (opt meaning key barrier) (λ es. opt_expected meaning key barrier es) events
 
 -- what is asked of more messages holds of some
 clear_front : (some more : List (List ℕ)) → IsClear (some ++ more) → IsClear some
@@ -58,16 +44,13 @@ clear_front some more c = record {
 
 first_of_all : {A : Type 0} (items : Event → List A) (front later : List Event) (x : A) → Contains (flat_map items front) x
     → Contains (flat_map items (front ++ later)) x
-first_of_all {A} items front later x here =
-    subst (λ (all : List A). Contains all x) (sym (flat_map-append items front later))
+first_of_all {A} items front later x here = subst (λ (all : List A). Contains all x) (sym (flat_map-append items front later))
     (Contains-append_left (flat_map items front) (flat_map items later) x here)
 
 -- The premises of a run are those of its first parts.
 pub clear_fronts : (i : Instance) (front later : List Event) → IsClearRun i (front ++ later) → IsClearRun i front
 clear_fronts i front later c = record {
-  clear = clear_front (run_messages i front) _
-      (subst IsClear
-      (ap (λ (ms : List (List ℕ)). start_message i.variant i.meaning.id ∷ ms)
+  clear = clear_front (run_messages i front) _ (subst IsClear (ap (λ (ms : List (List ℕ)). start_message i.variant i.meaning.id ∷ ms)
       (messages-append i front later first_history (first_issued i))) c.clear);
   apart = λ is d b value batch. c.apart is d b (first_of_all foreign_of front later d value) (first_of_all batches_of front later b batch);
 }

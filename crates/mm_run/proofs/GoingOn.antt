@@ -1,13 +1,7 @@
 -- A schedule goes on from what stands after its first events.
-use Rattle.std.proofs.Common.{ℕ, ◌≡◌, List, [], ◌∷◌, ◌++◌, refl, sym, ap, ◌∙◌, add_assoc, zero-add, append_assoc}
-use Rattle.mm_model.specs.Instance.{Instance}
-use Rattle.mm_model.specs.History.{History}
-use Rattle.mm_schedule.specs.Events.{Event}
-use Rattle.mm_call.specs.Levels.{Level, by_lists}
-use Rattle.mm_run.specs.Folds.{Outcome, event_outcome, Followed, followed_by, followed}
-use Rattle.mm_call.specs.Asked.{moves_messages}
-use Rattle.mm_run.specs.Premises.{event_messages, moves_of, messages_from}
-use Rattle.mm_run.specs.Laws.{continued}
+use Rattle.mm_run.proofs.Below.{ℕ, ◌≡◌, List, [], ◌∷◌, ◌++◌, refl, sym, ap, ◌∙◌, add_assoc, zero-add, append_assoc, Instance, History}
+use Rattle.mm_run.proofs.Below.{Event, Level, by_lists, Outcome, event_outcome, Followed, followed_by, followed, moves_messages}
+use Rattle.mm_run.proofs.Below.{event_messages, moves_of, messages_from, continued}
 
 nothing_first : {S : Type 0} (s : S) (issued : List (List ℕ)) (f : Followed S)
     → f ≡ continued (record { state = s; issued = issued; replies = []; steps = 0; writes = 0 }) f

@@ -1,14 +1,15 @@
-pub mod Flipping
-pub mod GoingOn
-pub mod FrontRuns
-pub mod Following
+pub mod Above
+mod Below
+mod Flipping
+mod GoingOn
+mod FrontRuns
+mod Following
 pub mod BasicRuns
 pub mod OptRuns
-pub mod Running
-pub mod Counting
-pub mod Naming
-pub mod FirstBytes
-pub mod MetPremises
-pub mod KeepingNames
-pub mod SegmentDigests
-pub mod MetSegments
+mod Running
+mod Counting
+mod Naming
+mod FirstBytes
+mod MetPremises
+mod SegmentDigests
+mod MetSegments

@@ -1,53 +1,20 @@
 -- The premises of the laws are met by a run of one request, as its digests show.
-use Rattle.std.proofs.Common.{ℕ, ◌≡◌, ◌+◌, Bool, true, false, ◌&&◌, List, [], ◌∷◌, ◌++◌, length, None, Some, Result, Ok, Err, refl, sym, ap, ◌∙◌, subst, arith}
-use Rattle.std.specs.Prelude.{if◌then◌else◌, slice_index, codes}
-use Rattle.std.specs.List.{Contains}
-use Rattle.std.specs.Str.{bytes_eq}
-use Rattle.std.proofs.lemmas.Bool.{and_parts}
-use Rattle.sha2.specs.Sha256.{sha256, first_words, rounds, digest_bytes}
-use Rattle.mm_digest.specs.declared.variant.Variant.TheVariants.{Basic, Opt}
-use Rattle.mm_digest.specs.Messages.{zero_bytes, start_message, start_of, extended_of, extended_message, anchored_message, anchored_of}
-use Rattle.mm_digest.specs.LengthLaws.{length-zero_bytes, length-start_of}
-use Rattle.mm_module.specs.Batch.{Batch, One}
-use Rattle.mm_module.specs.CounterTable.{counter}
-use Rattle.mm_module.specs.CounterLaws.{counter_is_lawful}
-use Rattle.mm_module.specs.Meaning.{Meaning, IsLawful}
-use Rattle.mm_schedule.specs.Events.{Ask}
-use Rattle.mm_schedule.specs.declared.event.Offer.TheVariants.{Last}
-use Rattle.mm_model.specs.Long.{is_long}
-use Rattle.mm_model.specs.Chains.{link_message, guard_message, guard, anchor_of}
-use Rattle.mm_model.specs.Instance.{Instance}
-use Rattle.mm_model.specs.InstanceWords.{basic, opt}
-use Rattle.mm_model.specs.History.{History, first_history, Move}
-use Rattle.mm_model.specs.Messages.{IsClear, Within, form_messages, point_messages, offer_messages}
-use Rattle.mm_model.specs.Places.{Names, anchor_after, issued}
-use Rattle.mm_model.specs.PlacesWords.{digest_of}
-use Rattle.mm_model.specs.Standing.{IsRight, IsGenuine, issued_bytes}
-use Rattle.mm_model.specs.Steps.{ask_steps}
-use Rattle.mm_model.specs.EndLaws.{first_sound}
-use Rattle.mm_model.specs.FormLaws.{reads_zero}
-use Rattle.mm_model.specs.ListLaws.{each_append}
-use Rattle.mm_model.proofs.Named.{basic_issued, opt_issued}
-use Rattle.mm_platform.specs.declared.plan.Stop.TheVariants.{Quiet}
-use Rattle.mm_seal.specs.declared.snapshot.PartsFault.{PartsFault}
-use Rattle.mm_seal.specs.declared.snapshot.Place.TheVariants.{Opt as InOpt}
-use Rattle.mm_seal.specs.Snapshot.{Content, IsContent, Snapshot, tag_of}
-use Rattle.mm_seal.specs.SealLaws.{sealed_once}
-use Rattle.mm_call.specs.Found.{found_at, right_content}
-use Rattle.mm_call.specs.FoundWords.{found_unless_wanting, is_fresh, content_if_right}
+use Rattle.mm_run.proofs.Below.{ℕ, ◌≡◌, Bool, true, false, ◌&&◌, List, [], ◌∷◌, ◌++◌, length, None, Some, Result, Ok, Err, refl, sym, ap}
+use Rattle.mm_run.proofs.Below.{◌∙◌, subst, arith, if◌then◌else◌, slice_index, codes, Contains, bytes_eq, and_parts, sha256, Basic, Opt}
+use Rattle.mm_run.proofs.Below.{start_message, extended_message, anchored_message, anchored_of, length-zero_bytes, length-start_of, Batch}
+use Rattle.mm_run.proofs.Below.{One, counter, counter_is_lawful, Meaning, IsLawful, Ask, Last, is_long, link_message, guard_message}
+use Rattle.mm_run.proofs.Below.{Instance, basic, opt, History, first_history, Move, IsClear, Within, form_messages, point_messages}
+use Rattle.mm_run.proofs.Below.{offer_messages, Names, anchor_after, issued, digest_of, IsRight, IsGenuine, issued_bytes, ask_steps}
+use Rattle.mm_run.proofs.Below.{first_sound, reads_zero, each_append, basic_issued, opt_issued, Quiet, PartsFault, InOpt, Content}
+use Rattle.mm_run.proofs.Below.{IsContent, Snapshot, tag_of, sealed_once, found_at, right_content, found_unless_wanting, is_fresh}
+use Rattle.mm_run.proofs.Below.{content_if_right, world_barrier, one_ask, course_of, by_lists, parts_of, right_messages, moves_messages}
+use Rattle.mm_run.proofs.Below.{IsClearRun, IsGenuineRun, run_messages, seen_at, walk, summary-nil}
+use Rattle.sha2.specs.Sha256.{first_words, rounds, digest_bytes}
+use Rattle.mm_digest.specs.Messages.{zero_bytes, start_of, extended_of}
+use Rattle.mm_model.specs.Chains.{guard, anchor_of}
 use Rattle.mm_run.specs.Held.{rising_from}
-use Rattle.mm_run.specs.HeldWords.{world_barrier}
-use Rattle.mm_run.specs.Laws.{one_ask}
-use Rattle.mm_run.specs.Folds.{course_of}
-use Rattle.mm_call.specs.Levels.{by_lists}
-use Rattle.mm_seal.specs.Parts.{parts_of}
-use Rattle.mm_call.specs.Asked.{right_messages, moves_messages}
 use Rattle.mm_run.proofs.FirstBytes.{first_byte, all_apart, clear_by_first, clear_within, digest_is}
-use Rattle.mm_run.specs.Premises.{IsClearRun, IsGenuineRun}
-use Rattle.mm_run.specs.PremisesWords.{run_messages}
-use Rattle.mm_call.specs.Courses.{walk}
-use Rattle.mm_call.specs.MoveLaws.{summary-nil}
-use Rattle.mm_call.proofs.Reading.{is_right}
+use Rattle.mm_call.specs.OfferLaws.{is_right}
 
 -- Basic: the digests of the run's messages
 
@@ -131,13 +98,11 @@ unfolding first_byte first_words rounds digest_bytes
 anchored_byte = ap (λ d. slice_index d 0) (sym (digest_is (anchored_message opt_start the_extension))) ∙ refl
 
 opt_messages : List (List ℕ)
-opt_messages =
-    start_message Opt 1 ∷ guard_message world_barrier (One (codes "add 5"))
+opt_messages = start_message Opt 1 ∷ guard_message world_barrier (One (codes "add 5"))
     ∷ extended_message zero_bytes (guard world_barrier (One (codes "add 5")))
     ∷ anchored_message (start_of Opt 1) (extended_of zero_bytes (guard world_barrier (One (codes "add 5")))) ∷ []
 
-opt_listed : Contains opt_messages (start_message Opt 1)
-    × Contains opt_messages (guard_message world_barrier (One (codes "add 5")))
+opt_listed : Contains opt_messages (start_message Opt 1) × Contains opt_messages (guard_message world_barrier (One (codes "add 5")))
     × Contains opt_messages (extended_message zero_bytes (guard world_barrier (One (codes "add 5"))))
     × Contains opt_messages (anchored_message (start_of Opt 1) (extended_of zero_bytes (guard world_barrier (One (codes "add 5")))))
 unfolding opt_messages
@@ -153,12 +118,10 @@ opt_clear =
     ap (λ g. f (anchored_message (start_of Opt 1) (extended_of zero_bytes g))) guards
     ∙ ap (λ e. f (anchored_message (start_of Opt 1) e)) extends ∙ ap (λ a. f (anchored_message a the_extension)) opt_starts
     ∙ anchored_byte in
-    clear_by_first
-    (start_message Opt 1 ∷ guard_message world_barrier (One (codes "add 5")) ∷ extended_message zero_bytes v
+    clear_by_first (start_message Opt 1 ∷ guard_message world_barrier (One (codes "add 5")) ∷ extended_message zero_bytes v
     ∷ anchored_message (start_of Opt 1) (extended_of zero_bytes v) ∷ [])
     (ap (λ a. all_apart (a ∷ f (guard_message world_barrier (One (codes "add 5"))) ∷ f (extended_message zero_bytes v)
-    ∷ f (anchored_message (start_of Opt 1) (extended_of zero_bytes v)) ∷ [])) opt_start_byte
-    ∙ ap (λ a. all_apart
+    ∷ f (anchored_message (start_of Opt 1) (extended_of zero_bytes v)) ∷ [])) opt_start_byte ∙ ap (λ a. all_apart
     (141 ∷ a ∷ f (extended_message zero_bytes v) ∷ f (anchored_message (start_of Opt 1) (extended_of zero_bytes v)) ∷ [])) guard_byte
     ∙ ap (λ a. all_apart (141 ∷ 152 ∷ a ∷ f (anchored_message (start_of Opt 1) (extended_of zero_bytes v)) ∷ [])) third
     ∙ ap (λ a. all_apart (141 ∷ 152 ∷ 75 ∷ a ∷ [])) fourth)
@@ -169,8 +132,7 @@ if_within i b all true content h = h refl
 if_within i b all false content h = tt
 
 right_by : (i : Instance) (bytes : List ℕ) (b : Batch) (all : List (List ℕ)) (parts : Result Snapshot PartsFault)
-    → parts_of i.variant i.meaning.id bytes ≡ parts
-    → ((c : Content) → IsRight i bytes c → Within (offer_messages i c.place b) all)
+    → parts_of i.variant i.meaning.id bytes ≡ parts → ((c : Content) → IsRight i bytes c → Within (offer_messages i c.place b) all)
     → Within (right_messages i b (content_if_right i parts)) all
 right_by i bytes b all (Err fault) e h = tt
 right_by i bytes b all (Ok s) e h =
@@ -180,10 +142,8 @@ right_by i bytes b all (Ok s) e h =
 
 -- what is asked of the snapshot of a history
 pub right_within : (i : Instance) (y : History) (b : Batch) (all : List (List ℕ)) → IsContent (issued i y)
-    → Within (offer_messages i (issued i y).place b) all
-    → Within (right_messages i b (right_content i (issued_bytes i y))) all
-right_within i y b all formed h =
-    right_by i (issued_bytes i y) b all (parts_of i.variant i.meaning.id (issued_bytes i y)) refl
+    → Within (offer_messages i (issued i y).place b) all → Within (right_messages i b (right_content i (issued_bytes i y))) all
+right_within i y b all formed h = right_by i (issued_bytes i y) b all (parts_of i.variant i.meaning.id (issued_bytes i y)) refl
     (λ c right. subst (λ (x : Content). Within (offer_messages i x.place b) all)
     (sealed_once i.key i.key (issued i y) c formed right.formed right.sealed) h)
 
@@ -199,10 +159,27 @@ if_short all true xs e h = tt
 if_short all false xs e h = h
 
 if_moves : (i : Instance) (all : List (List ℕ)) (long : Bool) (moves : List Move) → long ≡ false
-    → Within (moves_messages i first_history moves) all
-    → Within (moves_messages i first_history (if long then [] else moves)) all
+    → Within (moves_messages i first_history moves) all → Within (moves_messages i first_history (if long then [] else moves)) all
 if_moves i all true moves e h = tt
 if_moves i all false moves e h = h
+
+-- a run of one request, in either variant
+one_within : (i : Instance) (r : List ℕ) (all : List (List ℕ)) → is_long (One r) ≡ false → Contains all
+    (start_message i.variant i.meaning.id) → Within (right_messages i (One r) (right_content i (issued_bytes i first_history))) all
+    → ((fresh : Bool) → Within (moves_messages i first_history
+    (walk (course_of Quiet []).fates 1 (ask_steps i.variant false fresh (One r))).moves) all)
+    → Within (run_messages i (Ask [] Quiet Last (One r) ∷ [])) all
+one_within i r all short starts asked moves =
+    let P : List ℕ → Type 0 = Contains all in
+    let found = found_unless_wanting (found_at i (by_lists i) (seen_at i (by_lists i) first_history (course_of Quiet [])) (One r)
+    (issued_bytes i first_history)) false in
+    let heard = if is_long (One r) then [] else right_messages i (One r) (right_content i (issued_bytes i first_history)) in
+    let steps = ask_steps i.variant false (is_fresh found) (One r) in
+    let made = moves_messages i first_history (if is_long (One r) then [] else (walk (course_of Quiet []).fates 1 steps).moves) in (
+      starts,
+      each_append P (heard ++ made) [] (each_append P heard made (if_short all (is_long (One r)) _ short asked)
+          (if_moves i all (is_long (One r)) (walk (course_of Quiet []).fates 1 steps).moves short (moves (is_fresh found)))) tt,
+    )
 
 -- Basic
 
@@ -219,24 +196,6 @@ basic_moves : (meaning : Meaning) (key r : List ℕ) (all : List (List ℕ)) (fr
 basic_moves meaning key r all false = tt
 basic_moves meaning key r all true = tt
 
-basic_run : (meaning : Meaning) (key r : List ℕ) (all : List (List ℕ)) → is_long (One r) ≡ false
-    → Contains all (start_message Basic meaning.id)
-    → Within (right_messages (basic meaning key) (One r)
-    (right_content (basic meaning key) (issued_bytes (basic meaning key) first_history))) all
-    → Within (run_messages (basic meaning key) (Ask [] Quiet Last (One r) ∷ [])) all
-basic_run meaning key r all short starts asked =
-    let i = basic meaning key in
-    let P : List ℕ → Type 0 = Contains all in
-    let found = found_unless_wanting (found_at i (by_lists i) first_history (One r) (issued_bytes i first_history)) false in
-    let heard = if is_long (One r) then [] else right_messages i (One r) (right_content i (issued_bytes i first_history)) in
-    let made = moves_messages i first_history
-    (if is_long (One r) then [] else (walk (course_of Quiet []).fates 1 (ask_steps Basic false (is_fresh found) (One r))).moves) in (
-      starts,
-      each_append P (heard ++ made) [] (each_append P heard made (if_short all (is_long (One r)) _ short asked)
-          (if_moves i all (is_long (One r)) (walk (course_of Quiet []).fates 1 (ask_steps Basic false (is_fresh found) (One r))).moves short
-          (basic_moves meaning key r all (is_fresh found)))) tt,
-    )
-
 pub basic_met : (key : List ℕ) → IsClearRun (basic counter key) one_ask × IsGenuineRun (basic counter key) one_ask
 basic_met key =
     let i = basic counter key in
@@ -246,8 +205,9 @@ basic_met key =
     basic_messages = (subst P (summary-nil 1) basic_listed.1, tt) in (
       record {
         clear = clear_within basic_messages (run_messages i one_ask) basic_clear
-            (basic_run counter key (codes "add 5") basic_messages refl basic_listed.0
-            (right_within i first_history (One (codes "add 5")) basic_messages formed offered));
+            (one_within i (codes "add 5") basic_messages refl basic_listed.0
+            (right_within i first_history (One (codes "add 5")) basic_messages formed offered)
+            (basic_moves counter key (codes "add 5") basic_messages));
         apart = λ is. cc;
       },
       (is_genuine i first_history first_history formed (basic_issued counter key first_history), tt),
@@ -271,31 +231,11 @@ opt_formed meaning key barrier lawful = record {
 }
 
 opt_moves : (meaning : Meaning) (key barrier r : List ℕ) (all : List (List ℕ)) (fresh : Bool)
-    → Contains all (extended_message zero_bytes (guard barrier (One r)))
-    → Within (moves_messages (opt meaning key barrier) first_history
+    → Contains all (extended_message zero_bytes (guard barrier (One r))) → Within (moves_messages (opt meaning key barrier) first_history
     (walk (course_of Quiet []).fates 1 (ask_steps Opt false fresh (One r))).moves) all
 opt_moves meaning key barrier r all false listed = tt
 opt_moves meaning key barrier r all true listed =
     let P : List ℕ → Type 0 = λ x. Contains all (extended_message x (guard barrier (One r))) in (subst P (sym reads_zero) listed, tt)
-
-opt_run : (meaning : Meaning) (key barrier r : List ℕ) (all : List (List ℕ)) → is_long (One r) ≡ false
-    → Contains all (start_message Opt meaning.id)
-    → Within (right_messages (opt meaning key barrier) (One r)
-    (right_content (opt meaning key barrier) (issued_bytes (opt meaning key barrier) first_history))) all
-    → Contains all (extended_message zero_bytes (guard barrier (One r)))
-    → Within (run_messages (opt meaning key barrier) (Ask [] Quiet Last (One r) ∷ [])) all
-opt_run meaning key barrier r all short starts asked listed =
-    let i = opt meaning key barrier in
-    let P : List ℕ → Type 0 = Contains all in
-    let found = found_unless_wanting (found_at i (by_lists i) first_history (One r) (issued_bytes i first_history)) false in
-    let heard = if is_long (One r) then [] else right_messages i (One r) (right_content i (issued_bytes i first_history)) in
-    let made = moves_messages i first_history
-    (if is_long (One r) then [] else (walk (course_of Quiet []).fates 1 (ask_steps Opt false (is_fresh found) (One r))).moves) in (
-      starts,
-      each_append P (heard ++ made) [] (each_append P heard made (if_short all (is_long (One r)) _ short asked)
-          (if_moves i all (is_long (One r)) (walk (course_of Quiet []).fates 1 (ask_steps Opt false (is_fresh found) (One r))).moves short
-          (opt_moves meaning key barrier r all (is_fresh found) listed))) tt,
-    )
 
 pub opt_offered : (meaning : Meaning) (key barrier r : List ℕ) (all : List (List ℕ)) → Contains all (guard_message barrier (One r))
     → Contains all (extended_message zero_bytes (guard barrier (One r)))
@@ -317,9 +257,9 @@ opt_met key =
     let formed = opt_formed counter key world_barrier counter_is_lawful in
     let offered = opt_offered counter key world_barrier (codes "add 5") opt_messages opt_listed.1 opt_listed.2 opt_listed.3 in (
       record {
-        clear = clear_within opt_messages (run_messages i one_ask) opt_clear
-            (opt_run counter key world_barrier (codes "add 5") opt_messages refl opt_listed.0
-            (right_within i first_history (One (codes "add 5")) opt_messages formed offered) opt_listed.2);
+        clear = clear_within opt_messages (run_messages i one_ask) opt_clear (one_within i (codes "add 5") opt_messages refl opt_listed.0
+            (right_within i first_history (One (codes "add 5")) opt_messages formed offered)
+            (λ fresh. opt_moves counter key world_barrier (codes "add 5") opt_messages fresh opt_listed.2));
         apart = λ is d b c among. absurd (omega (arith, c.1));
       },
       (is_genuine i first_history first_history formed (opt_issued counter key world_barrier first_history first_sound refl), tt),

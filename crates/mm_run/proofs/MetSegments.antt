@@ -1,63 +1,25 @@
 -- The premises of the laws are met by a run of three requests, with a segment closed between them and a value of others.
-use Rattle.std.proofs.Common.{ℕ, ◌≡◌, ◌≤◌, ◌+◌, ◌&&◌, Bool, true, false, List, [], ◌∷◌, ◌++◌, length, nat_le, None, Some, Result, Ok, Err, refl, sym, ap, ◌∙◌, subst, arith, inl, inr}
-use Rattle.std.specs.Prelude.{if◌then◌else◌, slice_index, codes}
-use Rattle.std.specs.List.{Contains, AllByRecursion}
-use Rattle.std.specs.Str.{bytes_eq}
+use Rattle.mm_run.proofs.Below.{ℕ, ◌≡◌, ◌≤◌, ◌+◌, Bool, true, false, List, [], ◌∷◌, ◌++◌, nat_le, Result, Ok, Err, refl, sym, ap, ◌∙◌}
+use Rattle.mm_run.proofs.Below.{subst, arith, if◌then◌else◌, slice_index, codes, Contains, bytes_eq, last_position, Opt, zero_bytes}
+use Rattle.mm_run.proofs.Below.{start_of, extended_message, anchored_message, anchored_of, length-zero_bytes, Batch, One, size_of, counter}
+use Rattle.mm_run.proofs.Below.{counter_is_lawful, Meaning, IsLawful, state_after, state_after-is_spelled, Quiet, Event, Ask, Checkpoint}
+use Rattle.mm_run.proofs.Below.{Extend, Last, Content, IsContent, IsPlace, variant_of, offered_of, tag_of, parts_of, InOpt, sealed_parts}
+use Rattle.mm_run.proofs.Below.{guard, guard_message, anchor_of, Instance, opt, History, Own, Value, Move, Commit, Foreign, Placed, Reset}
+use Rattle.mm_run.proofs.Below.{Close, first_history, moved, requests_of, total_of, judge, life_of, is_lost, Within, form_messages}
+use Rattle.mm_run.proofs.Below.{offer_messages, issued, issued_place, digest_of, IsSound, issued_bytes, Refusal, Verdict, Fresh}
+use Rattle.mm_run.proofs.Below.{first_sound, reads_zero, each_append, sound_moved, opt_names, opt_issued, moves_messages, Called, called}
+use Rattle.mm_run.proofs.Below.{called_with, Found, found_at, found_by_verdict, found_with, found_unless_wanting, by_lists, admitted}
+use Rattle.mm_run.proofs.Below.{weighed, Outcome, followed, course_of, event_outcome, outcome_by, expected, first_issued, world_barrier}
+use Rattle.mm_run.proofs.Below.{two_segments, after_two_segments, moves_of, event_messages, messages_from, IsGenuineEvent, AreGenuine}
+use Rattle.mm_run.proofs.Below.{IsClearRun, IsGenuineRun, run_messages, each_at}
 use Rattle.std.proofs.lemmas.Slice.Eq.{bytes_eq-Decides}
-use Rattle.mm_base.specs.Limits.{last_position}
-use Rattle.mm_digest.specs.declared.variant.Variant.TheVariants.{Opt}
-use Rattle.mm_digest.specs.Messages.{zero_bytes, start_message, start_of, extended_of, extended_message, anchored_message, anchored_of}
-use Rattle.mm_digest.specs.LengthLaws.{length-zero_bytes}
-use Rattle.mm_module.specs.Batch.{Batch, One, size_of}
-use Rattle.mm_module.specs.CounterTable.{counter}
-use Rattle.mm_module.specs.CounterLaws.{counter_is_lawful}
-use Rattle.mm_module.specs.Meaning.{Meaning, IsLawful, state_after}
-use Rattle.mm_module.specs.RunLaws.{state_after-is_spelled}
-use Rattle.mm_platform.specs.declared.plan.Stop.TheVariants.{Quiet}
-use Rattle.mm_schedule.specs.Events.{Event, Ask, Checkpoint, Extend}
-use Rattle.mm_schedule.specs.declared.event.Offer.TheVariants.{Last}
-use Rattle.mm_seal.specs.Snapshot.{Content, IsContent, IsPlace, variant_of, offered_of, tag_of}
-use Rattle.mm_seal.specs.Parts.{parts_of}
-use Rattle.mm_seal.specs.declared.snapshot.Place.TheVariants.{Opt as InOpt}
-use Rattle.mm_seal.specs.SealLaws.{sealed_parts}
-use Rattle.mm_model.specs.Chains.{guard, guard_message, register_of, anchor_of}
-use Rattle.mm_model.specs.Instance.{Instance}
-use Rattle.mm_model.specs.InstanceWords.{opt}
-use Rattle.mm_model.specs.History.{History, Own, Value, Move, Commit, Foreign, Placed, Reset, Close, first_history, moved, requests_of, total_of}
-use Rattle.mm_model.specs.Judge.{judge}
-use Rattle.mm_model.specs.Life.{life_of, is_lost}
-use Rattle.mm_model.specs.Messages.{Within, IsClear, AreNoGuards, form_messages, point_messages, offer_messages}
-use Rattle.mm_model.specs.Places.{Names, issued, issued_place}
-use Rattle.mm_model.specs.PlacesWords.{digest_of}
-use Rattle.mm_model.specs.Sound.{IsSound}
-use Rattle.mm_model.specs.Standing.{IsGenuine, issued_bytes}
-use Rattle.mm_model.specs.declared.refusal.Refusal.{Refusal}
+use Rattle.mm_digest.specs.Messages.{extended_of}
+use Rattle.mm_model.specs.Chains.{register_of}
 use Rattle.mm_model.specs.declared.refusal.Refusal.TheVariants as refusal
-use Rattle.mm_model.specs.declared.verdict.Verdict.{Verdict}
-use Rattle.mm_model.specs.declared.verdict.Verdict.TheVariants.{Fresh}
 use Rattle.mm_model.specs.ChainLaws.{length-anchor_of, length-register_of}
-use Rattle.mm_model.specs.EndLaws.{first_sound}
-use Rattle.mm_model.specs.FormLaws.{reads_zero}
-use Rattle.mm_model.specs.ListLaws.{each_append}
-use Rattle.mm_model.proofs.Moves.{sound_moved}
-use Rattle.mm_model.proofs.Named.{opt_names, opt_issued}
-use Rattle.mm_call.specs.Asked.{moves_messages, right_messages}
-use Rattle.mm_call.specs.Called.{Called, called}
-use Rattle.mm_call.specs.CalledWords.{called_with}
-use Rattle.mm_call.specs.Found.{Found, found_at, found_by_verdict, right_content}
-use Rattle.mm_call.specs.FoundWords.{found_with, found_unless_wanting}
-use Rattle.mm_call.specs.Levels.{by_lists}
-use Rattle.mm_call.specs.Order.{admitted, examined}
-use Rattle.mm_call.specs.OrderWords.{weighed}
-use Rattle.mm_run.specs.Folds.{Outcome, Followed, followed, course_of, event_outcome, outcome_by, expected, first_issued}
-use Rattle.mm_run.specs.HeldWords.{world_barrier}
-use Rattle.mm_run.specs.Laws.{two_segments, after_two_segments}
-use Rattle.mm_run.specs.Premises.{moves_of, event_messages, messages_from, IsGenuineEvent, AreGenuine, IsClearRun, IsGenuineRun}
-use Rattle.mm_run.specs.PremisesWords.{run_messages}
 use Rattle.mm_run.proofs.FirstBytes.{clear_within}
-use Rattle.mm_call.proofs.OptFinding.{each_at}
 use Rattle.mm_run.proofs.MetPremises.{anchor_nil, opt_offered, right_within, is_genuine, guards}
-use Rattle.mm_run.proofs.SegmentDigests.{AreListed, five_guard, once, twice, thrice, ff_bytes, segment_messages, segments_clear, segments_listed}
+use Rattle.mm_run.proofs.SegmentDigests.{AreListed, five_guard, once, twice, ff_bytes, segment_messages, segments_clear, segments_listed}
 
 -- an offer at the last position is found fresh
 
@@ -79,8 +41,7 @@ found_fresh : (meaning : Meaning) (key barrier : List ℕ) (y : History) (b : Ba
 found_fresh meaning key barrier y b c bytes live parts spelled here fits =
     let i = opt meaning key barrier in
     if_live (is_lost (life_of Opt y)) (found_by_verdict i (by_lists i) y b (parts_of Opt meaning.id bytes)) live
-    ∙ ap (found_by_verdict i (by_lists i) y b) parts
-    ∙ ap (found_with c)
+    ∙ ap (found_by_verdict i (by_lists i) y b) parts ∙ ap (found_with c)
     (weighed_fresh (meaning.is_spelled c.state) (bytes_eq (tag_of key c) (tag_of key c)) (nat_le (c.position + size_of b) last_position)
     (judge Opt y c.position b) spelled ((bytes_eq-Decides (tag_of key c) (tag_of key c)).1 refl) here fits)
 
@@ -124,15 +85,13 @@ asked_twice =
     record { batches = five ∷ five ∷ []; closed = []; current = five ∷ five ∷ []; is_open = true; items = Own five ∷ Own five ∷ [] }
 
 abbrev closed_then : History
-closed_then =
-    record {
-      batches = five ∷ five ∷ [];
-      closed = (Own five ∷ Own five ∷ []) ∷ [];
-      current = [];
-      is_open = false;
-      items = Own five
-          ∷ Own five ∷ [];
-    }
+closed_then = record {
+  batches = five ∷ five ∷ [];
+  closed = (Own five ∷ Own five ∷ []) ∷ [];
+  current = [];
+  is_open = false;
+  items = Own five ∷ Own five ∷ [];
+}
 
 abbrev others_then : List ℕ → History
 others_then d = record {
@@ -162,7 +121,8 @@ if_other : (same : Bool) (all xs : List (List ℕ)) → Within xs all → Within
 if_other true all xs h = tt
 if_other false all xs h = h
 
-module _ (meaning : Meaning) (lawful : IsLawful meaning) (key barrier d : List ℕ) (all : List (List ℕ)) where
+module _ (meaning : Meaning) (lawful : IsLawful meaning) (key barrier d : List ℕ) (all : List (List ℕ))
+    (l : AreListed meaning.id barrier (guard barrier five) d all) where
   abbrev here : Instance
   here = opt meaning key barrier
 
@@ -172,13 +132,11 @@ module _ (meaning : Meaning) (lawful : IsLawful meaning) (key barrier d : List �
   -- the histories are sound, and what they issue names their last position
 
   first_opens : IsSound (moved here (moved here first_history Reset) (Placed five))
-  first_opens =
-      sound_moved meaning key barrier (moved here first_history Reset) (Placed five)
+  first_opens = sound_moved meaning key barrier (moved here first_history Reset) (Placed five)
       (sound_moved meaning key barrier first_history Reset first_sound tt) tt
 
   once_sound : IsSound asked_once
-  once_sound =
-      sound_moved meaning key barrier (moved here (moved here first_history Reset) (Placed five)) (Commit five) first_opens
+  once_sound = sound_moved meaning key barrier (moved here (moved here first_history Reset) (Placed five)) (Commit five) first_opens
       (record { clean = refl; front = []; items = refl; others = refl })
 
   twice_sound : IsSound asked_twice
@@ -206,8 +164,7 @@ module _ (meaning : Meaning) (lawful : IsLawful meaning) (key barrier d : List �
   offered_fresh : (offered y : History) → total_of offered.batches ≤ last_position → is_lost (life_of Opt y) ≡ false
       → judge Opt y (total_of offered.batches) five ≡ Fresh → nat_le (total_of offered.batches + 1) last_position ≡ true
       → found_at here (by_lists here) y five (issued_bytes here offered) ≡ Ok (fresh (issued here offered))
-  offered_fresh offered y few live at fits =
-      found_fresh meaning key barrier y five (issued here offered) (issued_bytes here offered) live
+  offered_fresh offered y few live at fits = found_fresh meaning key barrier y five (issued here offered) (issued_bytes here offered) live
       (sealed_parts key (issued here offered) Opt meaning.id (formed offered few) (of_opt offered.is_open offered) refl)
       (state_after-is_spelled meaning lawful (requests_of offered.batches)) at fits
 
@@ -232,33 +189,28 @@ module _ (meaning : Meaning) (lawful : IsLawful meaning) (key barrier d : List �
       (sym (anchor_nil meaning key barrier))
       (subst (λ (x : List ℕ). Within (offer_messages here (InOpt (digest_of start) (digest_of x)) five) all) (sym is) h)
 
-  second_offered : AreListed meaning.id barrier v d all → Within (offer_messages here (issued here asked_once).place five) all
-  second_offered l =
-      placed (v ∷ []) (once v) (one_of v)
+  second_offered : Within (offer_messages here (issued here asked_once).place five) all
+  second_offered = placed (v ∷ []) (once v) (one_of v)
       (pointed start (once v) l.guarded (l.second, (l.closes_second, tt)) (l.closes_first, (l.first, (l.behind_first, tt))))
 
-  third_offered : AreListed meaning.id barrier v d all → Within (offer_messages here (issued here asked_twice).place five) all
-  third_offered l =
-      placed (v ∷ v ∷ []) (twice v) (two_of v)
+  third_offered : Within (offer_messages here (issued here asked_twice).place five) all
+  third_offered = placed (v ∷ v ∷ []) (twice v) (two_of v)
       (pointed start (twice v) l.guarded (l.third, (l.closes_third, tt)) (l.closes_second, (l.first, (l.behind_second, tt))))
 
   -- the messages of the moves
 
-  opening_made : (y : History) → y.is_open ≡ false → AreListed meaning.id barrier v d all
-      → Contains all (extended_message (register_of []) v)
-  opening_made y shut l = subst (λ (x : List ℕ). Contains all (extended_message x v)) (sym reads_zero) l.first
+  opening_made : (y : History) → y.is_open ≡ false → Contains all (extended_message (register_of []) v)
+  opening_made y shut = subst (λ (x : List ℕ). Contains all (extended_message x v)) (sym reads_zero) l.first
 
-  second_made : AreListed meaning.id barrier v d all → Contains all (extended_message (register_of (v ∷ [])) v)
-  second_made l = subst (λ (x : List ℕ). Contains all (extended_message x v)) (sym (one_of v)) l.second
+  second_made : Contains all (extended_message (register_of (v ∷ [])) v)
+  second_made = subst (λ (x : List ℕ). Contains all (extended_message x v)) (sym (one_of v)) l.second
 
-  closing_made : AreListed meaning.id barrier v d all
-      → Contains all (anchored_message (anchor_of meaning.id []) (register_of (v ∷ v ∷ [])))
-  closing_made l =
-      subst (λ (a : List ℕ). Contains all (anchored_message a (register_of (v ∷ v ∷ [])))) (sym (anchor_nil meaning key barrier))
+  closing_made : Contains all (anchored_message (anchor_of meaning.id []) (register_of (v ∷ v ∷ [])))
+  closing_made = subst (λ (a : List ℕ). Contains all (anchored_message a (register_of (v ∷ v ∷ [])))) (sym (anchor_nil meaning key barrier))
       (subst (λ (x : List ℕ). Contains all (anchored_message start x)) (sym (two_of v)) l.closes_second)
 
-  others_made : AreListed meaning.id barrier v d all → Contains all (extended_message (register_of (v ∷ v ∷ [])) d)
-  others_made l = subst (λ (x : List ℕ). Contains all (extended_message x d)) (sym (two_of v)) l.by_others
+  others_made : Contains all (extended_message (register_of (v ∷ v ∷ [])) d)
+  others_made = subst (λ (x : List ℕ). Contains all (extended_message x d)) (sym (two_of v)) l.by_others
 
   -- a call that asks for the batch once more
 
@@ -281,52 +233,44 @@ module _ (meaning : Meaning) (lawful : IsLawful meaning) (key barrier d : List �
   abbrev twice_bytes : List ℕ
   twice_bytes = issued_bytes here asked_twice
 
+  abbrev issued_thrice : List (List ℕ)
+  issued_thrice = first_bytes ∷ once_bytes ∷ twice_bytes ∷ []
+
   -- the last request, behind the closing and the value of others
-  last_met : AreListed meaning.id barrier v d all
-      → Met all here (others_then d) (first_bytes ∷ once_bytes ∷ twice_bytes ∷ []) (five_asked ∷ []) after_two_segments
-  last_met l =
+  last_met : Met all here (others_then d) issued_thrice (five_asked ∷ []) after_two_segments
+  last_met =
       let same = called_is asked_twice (others_then d) (omega arith) refl refl refl in
-      let issued_before : List (List ℕ) = first_bytes ∷ once_bytes ∷ twice_bytes ∷ [] in
       let names = opt_names meaning key barrier closed_then (Foreign d) (issued here asked_twice) closed_sound tt
       (opt_names meaning key barrier asked_twice Close (issued here asked_twice) twice_sound refl
       (opt_issued meaning key barrier asked_twice twice_sound refl)) in
-      met_first all here (others_then d) issued_before five_asked [] after_two_segments
-      (outcome_by (by_lists here) Quiet issued_before (call asked_twice (others_then d))) (Reset ∷ Placed five ∷ Commit five ∷ [])
-      (ap (outcome_by (by_lists here) Quiet issued_before) same) (ap (λ (c : Called History). c.moves) same)
+      met_first all here (others_then d) issued_thrice five_asked [] after_two_segments
+      (outcome_by (by_lists here) Quiet issued_thrice (call asked_twice (others_then d))) (Reset ∷ Placed five ∷ Commit five ∷ [])
+      (ap (outcome_by (by_lists here) Quiet issued_thrice) same) (ap (λ (c : Called History). c.moves) same)
       (is_genuine here asked_twice (others_then d) (formed asked_twice (omega arith)) names)
-      (right_within here asked_twice five all (formed asked_twice (omega arith)) (third_offered l))
-      (opening_made (others_then d) refl l, tt)
+      (right_within here asked_twice five all (formed asked_twice (omega arith)) third_offered) (opening_made (others_then d) refl, tt)
       (met_none all here after_two_segments (first_bytes ∷ once_bytes ∷ twice_bytes ∷ issued_bytes here after_two_segments ∷ []))
 
   -- the closing and the value of others
-  closed_met : AreListed meaning.id barrier v d all
-      → Met all here asked_twice (first_bytes ∷ once_bytes ∷ twice_bytes ∷ []) (Checkpoint [] Quiet ∷ Extend d ∷ five_asked ∷ [])
-      after_two_segments
-  closed_met l =
-      let issued_before : List (List ℕ) = first_bytes ∷ once_bytes ∷ twice_bytes ∷ [] in
-      met_first all here asked_twice issued_before (Checkpoint [] Quiet) (Extend d ∷ five_asked ∷ []) after_two_segments
-      (event_outcome here (by_lists here) asked_twice issued_before (Checkpoint [] Quiet)) (Close ∷ []) refl refl tt tt (closing_made l, tt)
-      (met_first all here closed_then issued_before (Extend d) (five_asked ∷ []) after_two_segments
-      (event_outcome here (by_lists here) closed_then issued_before (Extend d)) (Foreign d ∷ []) refl refl tt tt (others_made l, tt)
-      (last_met l))
+  closed_met : Met all here asked_twice issued_thrice (Checkpoint [] Quiet ∷ Extend d ∷ five_asked ∷ []) after_two_segments
+  closed_met = met_first all here asked_twice issued_thrice (Checkpoint [] Quiet) (Extend d ∷ five_asked ∷ []) after_two_segments
+      (event_outcome here (by_lists here) asked_twice issued_thrice (Checkpoint [] Quiet)) (Close ∷ []) refl refl tt tt (closing_made, tt)
+      (met_first all here closed_then issued_thrice (Extend d) (five_asked ∷ []) after_two_segments
+      (event_outcome here (by_lists here) closed_then issued_thrice (Extend d)) (Foreign d ∷ []) refl refl tt tt (others_made, tt) last_met)
 
   -- the request inside the segment
-  second_met : AreListed meaning.id barrier v d all
-      → Met all here asked_once (first_bytes ∷ once_bytes ∷ []) (five_asked ∷ Checkpoint [] Quiet ∷ Extend d ∷ five_asked ∷ [])
+  second_met : Met all here asked_once (first_bytes ∷ once_bytes ∷ []) (five_asked ∷ Checkpoint [] Quiet ∷ Extend d ∷ five_asked ∷ [])
       after_two_segments
-  second_met l =
+  second_met =
       let same = called_is asked_once asked_once (omega arith) refl refl refl in
       let issued_before : List (List ℕ) = first_bytes ∷ once_bytes ∷ [] in
       met_first all here asked_once issued_before five_asked (Checkpoint [] Quiet ∷ Extend d ∷ five_asked ∷ []) after_two_segments
       (outcome_by (by_lists here) Quiet issued_before (call asked_once asked_once)) (Commit five ∷ [])
       (ap (outcome_by (by_lists here) Quiet issued_before) same) (ap (λ (c : Called History). c.moves) same)
       (is_genuine here asked_once asked_once (formed asked_once (omega arith)) (opt_issued meaning key barrier asked_once once_sound refl))
-      (right_within here asked_once five all (formed asked_once (omega arith)) (second_offered l))
-      (second_made l, tt)
-      (closed_met l)
+      (right_within here asked_once five all (formed asked_once (omega arith)) second_offered) (second_made, tt) closed_met
 
-  first_met : AreListed meaning.id barrier v d all → Met all here first_history (first_issued here) (events_with d) after_two_segments
-  first_met l =
+  first_met : Met all here first_history (first_issued here) (events_with d) after_two_segments
+  first_met =
       let same = called_is first_history first_history (omega arith) refl refl refl in
       met_first all here first_history (first_issued here) five_asked (five_asked ∷ Checkpoint [] Quiet ∷ Extend d ∷ five_asked ∷ [])
       after_two_segments
@@ -335,9 +279,8 @@ module _ (meaning : Meaning) (lawful : IsLawful meaning) (key barrier d : List �
       (is_genuine here first_history first_history (formed first_history (omega arith))
       (opt_issued meaning key barrier first_history first_sound refl))
       (right_within here first_history five all (formed first_history (omega arith))
-      (opt_offered meaning key barrier (codes "add 5") all l.guarded l.first l.closes_first))
-      (opening_made first_history refl l, tt)
-      (second_met l)
+      (opt_offered meaning key barrier (codes "add 5") all l.guarded l.first l.closes_first)) (opening_made first_history refl, tt)
+      second_met
 
 -- the value of others is no guard
 

@@ -1,50 +1,21 @@
 -- Opt: what is told by digests is what is expected.
-use Rattle.std.proofs.Common.{ℕ, ◌≡◌, ◌+◌, Bool, true, false, cond, List, [], ◌∷◌, ◌++◌, map, refl, sym, ap, ◌∙◌, subst}
-use Rattle.std.specs.Prelude.{◌==◌, if◌then◌else◌, filter}
-use Rattle.std.specs.List.{AllByRecursion, Contains}
-use Rattle.std.proofs.lemmas.List.{append-nil}
-use Rattle.mm_digest.specs.Messages.{start_message}
-use Rattle.mm_digest.specs.declared.variant.Variant.TheVariants.{Opt}
-use Rattle.mm_module.specs.Meaning.{Meaning}
-use Rattle.mm_module.specs.Batch.{Batch}
-use Rattle.mm_platform.specs.declared.plan.Meddle.{Meddle}
-use Rattle.mm_platform.specs.declared.plan.Stop.{Stop}
+use Rattle.mm_run.proofs.Below.{ℕ, ◌≡◌, ◌+◌, Bool, true, false, cond, List, [], ◌∷◌, ◌++◌, map, refl, sym, ap, ◌∙◌, subst, ◌==◌}
+use Rattle.mm_run.proofs.Below.{if◌then◌else◌, filter, AllByRecursion, Contains, append-nil, start_message, Opt, Meaning, Batch, Meddle}
+use Rattle.mm_run.proofs.Below.{Stop, Instance, opt, Value, History, Move, Foreign, Reset, PowerMove, moved, first_history, Within, IsClear}
+use Rattle.mm_run.proofs.Below.{AreNoGuards, history_messages, Digests, made, IsGenuine, Step, Reads, Changes, Writes, ask_steps}
+use Rattle.mm_run.proofs.Below.{checkpoint_steps, reads_zero, each_left, each_right, each_append, each_self, sound_moved, outside_moved}
+use Rattle.mm_run.proofs.Below.{first_sound, first_outside, by_lists, by_digests, all_made, right_content, found_at, is_fresh}
+use Rattle.mm_run.proofs.Below.{found_unless_wanting, End, Done, Fails, Fate, Course, Walked, step_moves, after_step, walk, called, seen_at}
+use Rattle.mm_run.proofs.Below.{checkpointed, IsSameCheckpoint, counted_part, counted_moves, from_reset, moves_messages, foreign_in}
+use Rattle.mm_run.proofs.Below.{right_messages, IsWithin, IsSameCall, anchor-nil, opt_agrees_moved, foreign_may, power_may, power_brings}
+use Rattle.mm_run.proofs.Below.{holds_moved, foreign_fine, asks, taking, taking_is, messages-made, foreign_in-append, foreign_in-foreign}
+use Rattle.mm_run.proofs.Below.{foreign_in-first, from_reset-foreign, AreOwn, own_asked, own_checked, Shape, still, reset, shape, bare}
+use Rattle.mm_run.proofs.Below.{listed_bare, holds_open, within_of, within_items, reset_messages, opt_calls_agree_by_lists, read_moves}
+use Rattle.mm_run.proofs.Below.{opt_checkpoints_agree_by_lists, course_of, first_issued, first_digests, foreign_values, asked_batches}
+use Rattle.mm_run.proofs.Below.{run_messages, OptIsExpected, Keeps, EventsAgree}
 use Rattle.mm_platform.specs.StandingWords.{due}
-use Rattle.mm_model.specs.Instance.{Instance}
-use Rattle.mm_model.specs.InstanceWords.{opt}
-use Rattle.mm_model.specs.History.{Value, History, Move, Foreign, Reset, Power as PowerMove, moved, first_history}
-use Rattle.mm_model.specs.Messages.{Within, IsClear, AreNoGuards, history_messages}
 use Rattle.mm_model.specs.MessagesWords.{move_messages}
-use Rattle.mm_model.specs.Moves.{Digests, made}
-use Rattle.mm_model.specs.Standing.{IsGenuine}
-use Rattle.mm_model.specs.Steps.{Step, Reads, Changes, Writes, ask_steps, checkpoint_steps}
-use Rattle.mm_model.specs.FormLaws.{reads_zero}
-use Rattle.mm_model.specs.ListLaws.{each_left, each_right, each_append, each_self}
-use Rattle.mm_model.proofs.Moves.{sound_moved}
-use Rattle.mm_model.specs.EndLaws.{first_sound, first_outside}
-use Rattle.mm_model.proofs.MovedDigests.{outside_moved}
-use Rattle.mm_call.specs.Levels.{by_lists, by_digests, all_made}
-use Rattle.mm_call.specs.Found.{right_content, found_at}
-use Rattle.mm_call.specs.FoundWords.{is_fresh, found_unless_wanting}
-use Rattle.mm_call.specs.Courses.{End, Done, Fails, Fate, Course, Walked, step_moves, after_step, walk}
 use Rattle.mm_call.specs.CoursesWords.{made_move}
-use Rattle.mm_call.specs.Called.{called, seen_at}
-use Rattle.mm_call.specs.Checkpoints.{checkpointed, IsSameCheckpoint}
-use Rattle.mm_call.specs.Asked.{counted_part, counted_moves, from_reset, moves_messages, foreign_in, right_messages, IsWithin}
-use Rattle.mm_call.specs.Laws.{IsSameCall}
-use Rattle.mm_call.specs.MoveLaws.{anchor-nil}
-use Rattle.mm_call.proofs.OptHolding.{opt_agrees_moved, foreign_may, power_may, power_brings, holds_moved, foreign_fine}
-use Rattle.mm_call.specs.WalkLaws.{asks, taking, taking_is, messages-made, foreign_in-append, foreign_in-foreign, foreign_in-first, from_reset-foreign}
-use Rattle.mm_call.proofs.OptWalks.{AreOwn, own_asked, own_checked}
-use Rattle.mm_call.proofs.OptShapes.{Shape, still, reset, shape}
-use Rattle.mm_call.proofs.OptShut.{bare, listed_bare, holds_open, within_of, within_items}
-use Rattle.mm_call.proofs.OptLaw.{reset_messages}
-use Rattle.mm_call.proofs.OptAgree.{opt_calls_agree_by_lists}
-use Rattle.mm_call.proofs.Checkpoints.{read_moves, opt_checkpoints_agree_by_lists}
-use Rattle.mm_run.specs.Folds.{course_of, first_issued, first_digests}
-use Rattle.mm_run.specs.PremisesWords.{foreign_values, asked_batches, run_messages}
-use Rattle.mm_run.specs.Laws.{OptIsExpected}
-use Rattle.mm_run.specs.OneEvent.{Keeps, EventsAgree}
 use Rattle.mm_run.proofs.Following.{Variants, event_same, follow_same}
 
 -- the values that are due before a step are among those of the meddles
@@ -82,15 +53,13 @@ module _ (others : List (List ℕ)) where
 
   writes_among : (made : Bool) (m : Move) (values : List (List ℕ)) → foreign_in (m ∷ []) ≡ [] → Among values
       → Among (foreign_in (step_moves (Writes m) made values))
-  writes_among made m values own h =
-      subst Among (sym (foreign_in-append (made_move made m) (map Foreign values)
+  writes_among made m values own h = subst Among (sym (foreign_in-append (made_move made m) (map Foreign values)
       ∙ ap (λ w. w ++ foreign_in (map Foreign values)) (own_made made m own) ∙ foreign_in-foreign values)) h
 
   step_among : (step : Step) (values : List (List ℕ)) (ends : End) (rest : Walked)
       → ((made : Bool) → Among (foreign_in (step_moves step made values)))
       → Among (foreign_in rest.moves) → Among (foreign_in (after_step step values ends rest).moves)
-  step_among step values Done rest own h =
-      subst Among (sym (foreign_in-append (step_moves step true values) rest.moves))
+  step_among step values Done rest own h = subst Among (sym (foreign_in-append (step_moves step true values) rest.moves))
       (each_append (Contains others) (foreign_in (step_moves step true values)) (foreign_in rest.moves) (own true) h)
   step_among step values (Fails fault made) rest own h = own made
 
@@ -100,11 +69,9 @@ module _ (others : List (List ℕ)) where
   walk_among fates (Reads ∷ steps) n own h =
       step_among Reads (fates n).brings (fates n).ends (walk fates (n + 1) steps) (λ made. reads_among made (fates n).brings (h n))
       (walk_among fates steps (n + 1) own h)
-  walk_among fates (Changes m ∷ steps) n own h =
-      step_among (Changes m) (fates n).brings (fates n).ends (walk fates (n + 1) steps)
+  walk_among fates (Changes m ∷ steps) n own h = step_among (Changes m) (fates n).brings (fates n).ends (walk fates (n + 1) steps)
       (λ made. changes_among made m (fates n).brings own.0 (h n)) (walk_among fates steps (n + 1) own.1 h)
-  walk_among fates (Writes m ∷ steps) n own h =
-      step_among (Writes m) (fates n).brings (fates n).ends (walk fates (n + 1) steps)
+  walk_among fates (Writes m ∷ steps) n own h = step_among (Writes m) (fates n).brings (fates n).ends (walk fates (n + 1) steps)
       (λ made. writes_among made m (fates n).brings own.0 (h n)) (walk_among fates steps (n + 1) own.1 h)
 
 -- what counts of moves is listed, where all their messages are
@@ -126,13 +93,11 @@ none_counted : (all others : List (List ℕ)) (i : Instance) (y : History) (valu
 none_counted all others i y values e =
     let none : from_reset (map Foreign values) ≡ [] = ap from_reset (sym (append-nil (map Foreign values)))
     ∙ from_reset-foreign values [] in
-    counted_by_flag all others i y (map Foreign values) false e
-    (subst (λ m. Within (moves_messages i (bare y) m) all) (sym none) tt)
+    counted_by_flag all others i y (map Foreign values) false e (subst (λ m. Within (moves_messages i (bare y) m) all) (sym none) tt)
     (subst (λ m. AllByRecursion (Contains others) (foreign_in m)) (sym none) tt)
 
 reset_counted : (meaning : Meaning) (key barrier : List ℕ) (all others : List (List ℕ)) (y : History) (values : List (List ℕ))
-    (rest : List Move) → y.is_open ≡ false
-    → Within (moves_messages (opt meaning key barrier) y (map Foreign values ++ Reset ∷ rest)) all
+    (rest : List Move) → y.is_open ≡ false → Within (moves_messages (opt meaning key barrier) y (map Foreign values ++ Reset ∷ rest)) all
     → AllByRecursion (Contains others) (foreign_in (map Foreign values ++ Reset ∷ rest))
     → Counted all others (opt meaning key barrier) y (map Foreign values ++ Reset ∷ rest)
 reset_counted meaning key barrier all others y values rest e messages outside =
@@ -147,8 +112,7 @@ reset_counted meaning key barrier all others y values rest e messages outside =
     (moves_messages i (bare y) rest) here in
     let whole : Within (moves_messages i (bare y) (Reset ∷ rest)) all =
     subst (λ w. Within (w ++ moves_messages i (bare y) rest) all) (sym (reset_messages meaning key barrier (bare y) y.is_open)) after in
-    let values_after : AllByRecursion (Contains others) (foreign_in rest) =
-    each_right (Contains others) values (foreign_in rest)
+    let values_after : AllByRecursion (Contains others) (foreign_in rest) = each_right (Contains others) values (foreign_in rest)
     (subst (AllByRecursion (Contains others)) (foreign_in-first values (Reset ∷ rest)) outside) in
     counted_by_flag all others i y (map Foreign values ++ Reset ∷ rest) false e
     (subst (λ m. Within (moves_messages i (bare y) m) all) (sym begins) whole)
@@ -162,14 +126,12 @@ shape_counted meaning key barrier all others y fates fresh b moves e (still valu
     subst (Counted all others (opt meaning key barrier) y) (sym is) (none_counted all others (opt meaning key barrier) y values e)
 shape_counted meaning key barrier all others y fates fresh b moves e (reset values rest is k) messages outside =
     let i = opt meaning key barrier in
-    subst (Counted all others i y) (sym is)
-    (reset_counted meaning key barrier all others y values rest e
+    subst (Counted all others i y) (sym is) (reset_counted meaning key barrier all others y values rest e
     (subst (λ m. Within (moves_messages i y m) all) is messages) (subst (λ m. AllByRecursion (Contains others) (foreign_in m)) is outside))
 
 -- the moves of a call, by whether a segment is open
 call_counted : (meaning : Meaning) (key barrier : List ℕ) (all others : List (List ℕ)) (y : History) (fates : ℕ → Fate) (flag fresh : Bool)
-    (b : Batch) → y.is_open ≡ flag
-    → (let moves : List Move = (walk fates 1 (ask_steps Opt flag fresh b)).moves in
+    (b : Batch) → y.is_open ≡ flag → (let moves : List Move = (walk fates 1 (ask_steps Opt flag fresh b)).moves in
     Within (moves_messages (opt meaning key barrier) y moves) all → AllByRecursion (Contains others) (foreign_in moves)
     → Counted all others (opt meaning key barrier) y moves)
 call_counted meaning key barrier all others y fates true fresh b e messages outside =
@@ -180,8 +142,7 @@ call_counted meaning key barrier all others y fates false fresh b e messages out
     (subst (λ s. Shape fates fresh b (M s)) (sym (asks false fresh b)) (shape fates fresh b)) messages outside
 
 checkpoint_counted : (meaning : Meaning) (key barrier : List ℕ) (all others : List (List ℕ)) (y : History) (fates : ℕ → Fate)
-    (flag lost : Bool) → y.is_open ≡ flag
-    → (let moves : List Move = (walk fates 1 (checkpoint_steps Opt flag lost)).moves in
+    (flag lost : Bool) → y.is_open ≡ flag → (let moves : List Move = (walk fates 1 (checkpoint_steps Opt flag lost)).moves in
     Within (moves_messages (opt meaning key barrier) y moves) all → AllByRecursion (Contains others) (foreign_in moves)
     → Counted all others (opt meaning key barrier) y moves)
 checkpoint_counted meaning key barrier all others y fates true lost e messages outside =
@@ -224,8 +185,7 @@ module _ (meaning : Meaning) (key barrier : List ℕ) (all others : List (List �
       within_of meaning key barrier all others asked_for (moved i y (Foreign v)) (made i d (Foreign v))
       (holds_moved meaning key barrier all others asked_for y d (Foreign v) h (foreign_fine meaning key barrier all others asked_for y v c)
       message)
-  foreign_by false y d v e k c message =
-      within_items meaning key barrier all others asked_for y (y.items ++ Value v ∷ []) e k.within
+  foreign_by false y d v e k c message = within_items meaning key barrier all others asked_for y (y.items ++ Value v ∷ []) e k.within
 
   foreign_keeps : (y : History) (d : Digests) (v : List ℕ) → Keeps all others asked_for (opt meaning key barrier) y d → Contains others v
       → Within (moves_messages (opt meaning key barrier) y (Foreign v ∷ [])) all
@@ -242,8 +202,7 @@ module _ (meaning : Meaning) (key barrier : List ℕ) (all others : List (List �
       → Keeps all others asked_for (opt meaning key barrier) y d
       → AllByRecursion (Contains others) (map (λ (m : Meddle). m.value.bytes) meddles) → Contains asked_for b
       → Within (right_messages (opt meaning key barrier) b (right_content (opt meaning key barrier) bytes)) all
-      → IsGenuine (opt meaning key barrier) y bytes
-      → Within (moves_messages (opt meaning key barrier) y
+      → IsGenuine (opt meaning key barrier) y bytes → Within (moves_messages (opt meaning key barrier) y
       (called (opt meaning key barrier) (by_lists (opt meaning key barrier)) y (course_of stop meddles) bytes b).moves) all
       → IsSameCall all others asked_for (opt meaning key barrier)
       (called (opt meaning key barrier) (by_lists (opt meaning key barrier)) y (course_of stop meddles) bytes b)
@@ -268,8 +227,7 @@ module _ (meaning : Meaning) (key barrier : List ℕ) (all others : List (List �
 
   checkpoints : IsClear all → (y : History) (d : Digests) (stop : Stop) (meddles : List Meddle)
       → Keeps all others asked_for (opt meaning key barrier) y d
-      → AllByRecursion (Contains others) (map (λ (m : Meddle). m.value.bytes) meddles)
-      → Within (moves_messages (opt meaning key barrier) y
+      → AllByRecursion (Contains others) (map (λ (m : Meddle). m.value.bytes) meddles) → Within (moves_messages (opt meaning key barrier) y
       (checkpointed (opt meaning key barrier) (by_lists (opt meaning key barrier)) y (course_of stop meddles)).moves) all
       → IsSameCheckpoint all others asked_for (opt meaning key barrier)
       (checkpointed (opt meaning key barrier) (by_lists (opt meaning key barrier)) y (course_of stop meddles))
@@ -316,5 +274,4 @@ opt_expected meaning key barrier events clear genuine =
 pub opt_events_agree : (meaning : Meaning) (key barrier : List ℕ) → EventsAgree (opt meaning key barrier)
 opt_events_agree meaning key barrier all others asked_for clear apart y d issued event k w =
     event_same all others asked_for (opt meaning key barrier) (opt_gives meaning key barrier all others asked_for clear (apart refl)) y d
-    issued event k
-    w.outside w.batches w.listed w.genuine w.messages
+    issued event k w.outside w.batches w.listed w.genuine w.messages

@@ -1,68 +1,32 @@
 -- What is expected is a run of the machine, in each variant.
-use Rattle.std.proofs.Common.{ℕ, ◌≡◌, ◌+◌, ◌-◌, Bool, true, false, ◌&&◌, List, [], ◌∷◌, ◌++◌, length, Option, None, Some, Result, Ok, Err, refl, sym, ap, ◌∙◌, subst}
-use Rattle.std.specs.Prelude.{if◌then◌else◌, nat_eq}
-use Rattle.std.specs.Str.{bytes_eq}
-use Rattle.std.proofs.lemmas.Bool.{and_parts}
-use Rattle.mm_module.specs.Meaning.{Meaning, state_after, outputs_from}
-use Rattle.mm_module.specs.Batch.{Batch, members_of, size_of, normal}
-use Rattle.mm_module.specs.BatchLaws.{members_of-normal}
-use Rattle.mm_module.specs.RunLaws.{length-outputs_from}
-use Rattle.mm_seal.specs.declared.snapshot.PartsFault.{PartsFault}
-use Rattle.mm_seal.specs.declared.snapshot.PartsFault.TheVariants.{Form, Kind}
-use Rattle.mm_seal.specs.Snapshot.{Snapshot, tag_of}
-use Rattle.mm_seal.specs.Parts.{parts_of}
-use Rattle.mm_platform.specs.declared.fault.StepFault.{StepFault}
-use Rattle.mm_platform.specs.declared.plan.Meddle.{Meddle}
-use Rattle.mm_platform.specs.declared.plan.Stop.{Stop}
-use Rattle.mm_platform.specs.declared.plan.Stop.TheVariants.{Quiet, Cut, Drop, Fail}
-use Rattle.mm_model.specs.Instance.{Instance}
-use Rattle.mm_model.specs.History.{History, Move, requests_of, total_of, first_history}
-use Rattle.mm_model.specs.Life.{Life, Live, Spoiled, Lost, life_of, is_lost}
-use Rattle.mm_model.specs.Judge.{is_last, judged, judge}
-use Rattle.mm_model.specs.Long.{is_long}
-use Rattle.mm_model.specs.Steps.{ask_steps}
+use Rattle.mm_run.proofs.Below.{ℕ, ◌≡◌, ◌+◌, ◌-◌, Bool, true, false, ◌&&◌, List, [], ◌∷◌, ◌++◌, length, Option, None, Some, Result, Ok, Err}
+use Rattle.mm_run.proofs.Below.{refl, sym, ap, ◌∙◌, subst, if◌then◌else◌, nat_eq, bytes_eq, and_parts, Meaning, state_after, outputs_from}
+use Rattle.mm_run.proofs.Below.{Batch, members_of, size_of, normal, members_of-normal, length-outputs_from, PartsFault, Form, Kind}
+use Rattle.mm_run.proofs.Below.{Snapshot, tag_of, parts_of, StepFault, Meddle, Stop, Quiet, Cut, Drop, Fail, Instance, History, Move}
+use Rattle.mm_run.proofs.Below.{requests_of, total_of, first_history, Life, Live, life_of, is_lost, is_last, judged, judge, is_long}
+use Rattle.mm_run.proofs.Below.{ask_steps, Refusal, admitted, examined, by_lists, all_made, Found, found_by_verdict, found_at}
+use Rattle.mm_run.proofs.Below.{found_unless_wanting, is_fresh, Course, Walked, walk, seen_in, commits, Ending, Breaks, Called}
+use Rattle.mm_run.proofs.Below.{reading_steps, ended_by, called, kept_at, Closing, Closes, HasNone, NoSegment, LostPower, Stops}
+use Rattle.mm_run.proofs.Below.{Checkpointed, checkpointed_with, same_batches, more_batches, Commits, nothing, batch, commits-none}
+use Rattle.mm_run.proofs.Below.{call_commits, commits_batch, seen_none, admitted_tells, weighed_tells, found_with_tells, unless_lost}
+use Rattle.mm_run.proofs.Below.{requests-push, before_last, said_last, again_of, fresh_of, unlacked, checkpoint_none, Event, Ask}
+use Rattle.mm_run.proofs.Below.{Checkpoint, Power, Extend, IsTold, StepsOn, AsksNone, Steps, Runs, Way, Reply, offered_bytes, Outcome}
+use Rattle.mm_run.proofs.Below.{way_of, after_stop, course_of, reply_of, moves_then, outcome_by, asked, closing_reply, closing_then}
+use Rattle.mm_run.proofs.Below.{closed_outcome, event_outcome, Followed, followed, first_issued, ExpectedRuns}
 use Rattle.mm_model.specs.declared.answer.BatchAnswer.{BatchAnswer}
-use Rattle.mm_model.specs.declared.refusal.Refusal.{Refusal}
 use Rattle.mm_model.specs.BatchLaws.{EndsWith, is_last_tells}
-use Rattle.mm_call.specs.Order.{admitted, examined}
 use Rattle.mm_call.specs.Answers.{answer_on}
-use Rattle.mm_call.specs.Levels.{by_lists, all_made}
-use Rattle.mm_call.specs.Found.{Found, found_by_verdict, found_at}
-use Rattle.mm_call.specs.FoundWords.{found_unless_wanting, is_fresh}
-use Rattle.mm_call.specs.Courses.{Course, Walked, walk, seen_in, commits}
-use Rattle.mm_call.specs.Called.{Ending, Answers, Refuses, Breaks, Called, reading_steps, ended_by, called}
-use Rattle.mm_call.specs.CalledWords.{kept_at}
-use Rattle.mm_call.specs.Checkpoints.{Closing, Closes, HasNone, NoSegment, LostPower, Stops, Checkpointed}
-use Rattle.mm_call.specs.CheckpointsWords.{checkpointed_with}
-use Rattle.mm_call.specs.MoveLaws.{same_batches, more_batches}
-use Rattle.mm_call.specs.WalkLaws.{Commits, nothing, batch, commits-none, call_commits, commits_batch, seen_none}
-use Rattle.mm_call.proofs.Finding.{admitted_tells, weighed_tells, found_with_tells}
-use Rattle.mm_call.proofs.Calling.{requests-push, before_last, said_last}
-use Rattle.mm_call.proofs.Endings.{again_of, fresh_of}
-use Rattle.mm_call.proofs.BasicLaw.{unlacked}
-use Rattle.mm_call.specs.AlongLaws.{checkpoint_none}
-use Rattle.mm_call.proofs.OptFinding.{unless_lost}
-use Rattle.mm_schedule.specs.Events.{Event, Ask, Checkpoint, Power, Extend}
-use Rattle.mm_schedule.specs.Machine.{IsTold, StepsOn, AsksNone, Steps, Runs}
-use Rattle.mm_schedule.specs.declared.reply.Way.{Way}
-use Rattle.mm_schedule.specs.declared.reply.Reply.{Reply}
-use Rattle.mm_schedule.specs.declared.reply.Reply.TheVariants.{Told, No, Kept, Nothing, Closed, Checkpointed as CheckpointedReply, Power as PowerReply, Extended}
-use Rattle.mm_run.specs.Offered.{offered_bytes}
-use Rattle.mm_run.specs.Folds.{Outcome, way_of, after_stop, course_of, reply_of, moves_then, outcome_by, asked, closing_reply, closing_then, closed_outcome, event_outcome, Followed, followed, first_issued}
-use Rattle.mm_run.specs.Laws.{ExpectedRuns}
+use Rattle.mm_schedule.specs.declared.reply.Reply.TheVariants.{Told, Kept}
 
 -- a repeat that is accepted is one of the last batch, whatever the life of the history
 repeat_admitted : (life : Life) (here repeat fits again : Bool) → admitted (judged life here repeat) fits ≡ Ok again → again ≡ true
     → repeat ≡ true
 repeat_admitted Live here repeat fits again e = (admitted_tells here repeat fits again e).1
-repeat_admitted Spoiled here repeat fits again e = λ _. cc
-repeat_admitted Lost here repeat fits again e = λ _. cc
+repeat_admitted _ here repeat fits again e = λ _. cc
 
 -- a repeat is asked of the last batch
 repeats_from : (i : Instance) (y : History) (b : Batch) (parts : Result Snapshot PartsFault) (found : Found)
     → found_by_verdict i (by_lists i) y b parts ≡ Ok found → found.again ≡ true → EndsWith y.batches b
-repeats_from i y b (Err Form) found is again = cc
-repeats_from i y b (Err Kind) found is again = cc
 repeats_from i y b (Ok snapshot) found is again =
     let t = found_with_tells snapshot.content (examined i.meaning i.key snapshot b (judge i.variant y snapshot.content.position b)) found is
     in
@@ -71,6 +35,8 @@ repeats_from i y b (Ok snapshot) found is again =
     let a = repeat_admitted (life_of i.variant y) (nat_eq snapshot.content.position (total_of y.batches))
     (nat_eq (snapshot.content.position + size_of b) (total_of y.batches) && is_last y.batches b) _ found.again w.2 again in
     is_last_tells y.batches b (and_parts (nat_eq (snapshot.content.position + size_of b) (total_of y.batches)) (is_last y.batches b) a).1
+repeats_from i y b (Err Form) found is again = cc
+repeats_from i y b (Err Kind) found is again = cc
 
 repeats_at : (i : Instance) (y : History) (b : Batch) (bytes : List ℕ) (found : Found)
     → found_at i (by_lists i) y b bytes ≡ Ok found → found.again ≡ true → EndsWith y.batches b
@@ -86,9 +52,8 @@ stop_none i (Fail n done) y = refl
 
 then_none : (i : Instance) (stop : Stop) (ending : Ending) (y : History)
     → (all_made (by_lists i) y (moves_then stop ending)).batches ≡ y.batches
-then_none i stop (Answers answer) y = refl
-then_none i stop (Refuses why) y = refl
 then_none i stop (Breaks fault kept) y = stop_none i stop y
+then_none i stop ending y = refl
 
 -- what a call that was broken off says
 broken_steps : (meaning : Meaning) (requests after : List (List ℕ)) (b : Batch) (how : Way) (fault : StepFault) (committed : Bool)
@@ -151,25 +116,20 @@ ended_steps : (i : Instance) (y seen : History) (how : Way) (b : Batch)
     StepsOn i.meaning (requests_of y.batches) b (reply_of how (ended_by (by_lists i) seen end b found walked.moves broken))
     (requests_of end.batches))
 ended_steps i y seen how b walked (Some fault) (Err why) e (nothing none unless) repeat =
-    broken_steps i.meaning _ _ b how fault (commits walked.moves) 0
-    (λ x. ap requests_of (same_batches i walked.moves y none))
+    broken_steps i.meaning _ _ b how fault (commits walked.moves) 0 (λ x. ap requests_of (same_batches i walked.moves y none))
     (λ x. let clash = sym (commits-none walked.moves none) ∙ x in cc)
-ended_steps i y seen how b walked None (Err why) e (nothing none unless) repeat =
-    ap requests_of (same_batches i walked.moves y none)
+ended_steps i y seen how b walked None (Err why) e (nothing none unless) repeat = ap requests_of (same_batches i walked.moves y none)
 ended_steps i y seen how b walked (Some fault) (Ok f) e (nothing none unless) repeat =
-    broken_steps i.meaning _ _ b how fault (commits walked.moves) _
-    (λ x. ap requests_of (same_batches i walked.moves y none))
+    broken_steps i.meaning _ _ b how fault (commits walked.moves) _ (λ x. ap requests_of (same_batches i walked.moves y none))
     (λ x. let clash = sym (commits-none walked.moves none) ∙ x in cc)
 ended_steps i y seen how b walked (Some fault) (Ok f) e (batch one fresh) repeat =
-    broken_steps i.meaning _ _ b how fault (commits walked.moves) _
-    (λ x. let clash = sym (commits_batch walked.moves b one) ∙ x in cc)
+    broken_steps i.meaning _ _ b how fault (commits walked.moves) _ (λ x. let clash = sym (commits_batch walked.moves b one) ∙ x in cc)
     (λ x. told_kept y (all_made (by_lists i) y walked.moves) b (more_batches i walked.moves y b one))
 ended_steps i y seen how b walked None (Ok f) e (nothing none unless) repeat =
     let again = again_of f.again (unless e) in
     told_steps i.meaning _ _ b f.again _ _ (λ x. let clash = sym again ∙ x in cc)
     (λ x. told_again i y (all_made (by_lists i) y walked.moves) b f.again (same_batches i walked.moves y none) (repeat f refl again))
-ended_steps i y seen how b walked None (Ok f) e (batch one fresh) repeat =
-    told_steps i.meaning _ _ b f.again _ _
+ended_steps i y seen how b walked None (Ok f) e (batch one fresh) repeat = told_steps i.meaning _ _ b f.again _ _
     (λ x. told_new i y (all_made (by_lists i) y walked.moves) b f.again (more_batches i walked.moves y b one))
     (λ x. let clash = sym (fresh_of f.again fresh) ∙ x in cc)
 ended_steps i y seen how b walked broken (Err why) e (batch one fresh) repeat = cc
@@ -188,15 +148,13 @@ called_steps i y issued meddles stop bytes b =
     let o : Called History = called i (by_lists i) y c bytes b in
     let P : List Batch → Type 0 = λ v. EndsWith v b in
     let S : List (List ℕ) → Type 0 = λ after. StepsOn i.meaning (requests_of y.batches) b (reply_of (way_of stop) o.ending) after in
-    subst S (ap requests_of (sym (then_none i stop o.ending o.state)))
-    (ended_steps i y seen (way_of stop) b walked walked.broken found refl
+    subst S (ap requests_of (sym (then_none i stop o.ending o.state))) (ended_steps i y seen (way_of stop) b walked walked.broken found refl
     (call_commits i.variant c.fates y.is_open (is_fresh found) b)
     (λ f is again. subst P same (repeats_at i seen b bytes f (unlacked lists c.lacks f is) again)))
 
 -- a step depends on the requests of its batch alone
 members_told : (meaning : Meaning) (requests after : List (List ℕ)) (b c : Batch) (before : ℕ) (outputs : List (List ℕ))
-    → members_of b ≡ members_of c
-    → IsTold meaning requests b before outputs after → IsTold meaning requests c before outputs after
+    → members_of b ≡ members_of c → IsTold meaning requests b before outputs after → IsTold meaning requests c before outputs after
 members_told meaning requests after b c before outputs e s = record {
   position = s.position;
   said = s.said ∙ ap (λ v. outputs_from meaning (state_after meaning requests) v) e;
@@ -209,12 +167,7 @@ members_steps meaning requests after b c (Told true before outputs) e s =
     (s.0, members_told meaning s.0 requests b c before outputs e s.1, s.2)
 members_steps meaning requests after b c (Told false before outputs) e s = members_told meaning requests after b c before outputs e s
 members_steps meaning requests after b c (Kept way position) e s = (s.0 ∙ ap (λ v. requests ++ v) e, s.1)
-members_steps meaning requests after b c (No why) e s = s
-members_steps meaning requests after b c (Nothing way) e s = s
-members_steps meaning requests after b c (Closed way) e s = s
-members_steps meaning requests after b c CheckpointedReply e s = s
-members_steps meaning requests after b c PowerReply e s = s
-members_steps meaning requests after b c Extended e s = s
+members_steps meaning requests after b c said e s = s
 
 if_steps : (meaning : Meaning) (requests : List (List ℕ)) (b : Batch) (long : Bool) (x y : Outcome History)
     → StepsOn meaning requests b x.reply (requests_of x.state.batches) → StepsOn meaning requests b y.reply (requests_of y.state.batches)
@@ -223,12 +176,10 @@ if_steps meaning requests b true x y p q = p
 if_steps meaning requests b false x y p q = q
 
 asked_steps : (i : Instance) (y : History) (issued : List (List ℕ)) (meddles : List Meddle) (stop : Stop) (bytes : Option (List ℕ))
-    (b : Batch)
-    → (let o : Outcome History = asked i (by_lists i) y issued meddles stop bytes b in
+    (b : Batch) → (let o : Outcome History = asked i (by_lists i) y issued meddles stop bytes b in
     StepsOn i.meaning (requests_of y.batches) b o.reply (requests_of o.state.batches))
 asked_steps i y issued meddles stop None b = refl
-asked_steps i y issued meddles stop (Some bytes) b =
-    if_steps i.meaning (requests_of y.batches) b (is_long b) _ _ refl
+asked_steps i y issued meddles stop (Some bytes) b = if_steps i.meaning (requests_of y.batches) b (is_long b) _ _ refl
     (members_steps i.meaning _ _ (normal b) b _ (members_of-normal b) (called_steps i y issued meddles stop bytes (normal b)))
 
 -- what a checkpoint says tells no request
@@ -243,11 +194,8 @@ closing_stays how (Stops fault false) requests after e = e
 
 closing_none : (i : Instance) (stop : Stop) (closing : Closing) (y : History)
     → (all_made (by_lists i) y (closing_then stop closing)).batches ≡ y.batches
-closing_none i stop Closes y = refl
-closing_none i stop HasNone y = refl
-closing_none i stop NoSegment y = refl
-closing_none i stop LostPower y = refl
 closing_none i stop (Stops fault closed) y = stop_none i stop y
+closing_none i stop closing y = refl
 
 checkpointed_steps : (i : Instance) (y : History) (issued : List (List ℕ)) (meddles : List Meddle) (stop : Stop) (is_lost : Bool)
     → (let o : Outcome History = closed_outcome (by_lists i) stop issued
@@ -264,8 +212,7 @@ pub event_steps : (i : Instance) (y : History) (issued : List (List ℕ)) (event
     Steps i.meaning (requests_of y.batches) event o.reply (requests_of o.state.batches))
 event_steps i y issued (Ask meddles stop offer b) = asked_steps i y issued meddles stop (offered_bytes issued offer) b
 event_steps i y issued (Checkpoint meddles stop) = checkpointed_steps i y issued meddles stop _
-event_steps i y issued Power = refl
-event_steps i y issued (Extend value) = refl
+event_steps i y issued event = refl
 
 pub runs : (i : Instance) (events : List Event) (y : History) (issued : List (List ℕ))
     → (let f : Followed History = followed i (by_lists i) y issued events in

@@ -1,14 +1,9 @@
 -- The digests of the messages of a run of three requests with a segment closed between them.
-use Rattle.std.proofs.Common.{ℕ, ◌≡◌, true, List, [], ◌∷◌, map, arith, refl, sym, ap, ◌∙◌}
-use Rattle.std.specs.Prelude.{slice_index, codes, replicate}
-use Rattle.std.specs.List.{Contains}
-use Rattle.sha2.specs.Sha256.{sha256, first_words, rounds, digest_bytes}
-use Rattle.mm_digest.specs.declared.variant.Variant.TheVariants.{Opt}
-use Rattle.mm_digest.specs.Messages.{zero_bytes, start_message, start_of, extended_of, extended_message, anchored_message, anchored_of}
-use Rattle.mm_module.specs.Batch.{One}
-use Rattle.mm_model.specs.Chains.{guard_message, guard}
-use Rattle.mm_model.specs.Messages.{IsClear}
-use Rattle.mm_run.specs.HeldWords.{world_barrier}
+use Rattle.mm_run.proofs.Below.{ℕ, ◌≡◌, true, List, [], ◌∷◌, map, arith, refl, sym, ap, ◌∙◌, slice_index, codes, replicate, Contains}
+use Rattle.mm_run.proofs.Below.{sha256, Opt, zero_bytes, start_message, start_of, extended_message, anchored_message, One, guard_message}
+use Rattle.mm_run.proofs.Below.{guard, IsClear, world_barrier}
+use Rattle.sha2.specs.Sha256.{first_words, rounds, digest_bytes}
+use Rattle.mm_digest.specs.Messages.{extended_of, anchored_of}
 use Rattle.mm_run.proofs.FirstBytes.{first_byte, all_apart, clear_by_first, digest_is}
 use Rattle.mm_run.proofs.MetPremises.{opt_start, opt_starts, the_guard, guards, the_extension, extends, opt_start_byte, guard_byte}
 
@@ -177,20 +172,16 @@ eleven_apart f a b c d e g h i j k l ea eb ec ed ee eg eh ei ej ek el =
     ap all_apart same
 
 pub segment_messages : List (List ℕ)
-segment_messages =
-    start_message Opt 1 ∷ guard_message world_barrier (One (codes "add 5"))
+segment_messages = start_message Opt 1 ∷ guard_message world_barrier (One (codes "add 5"))
     ∷ extended_message zero_bytes five_guard ∷ anchored_message (start_of Opt 1) (once five_guard)
     ∷ extended_message (once five_guard) five_guard ∷ anchored_message (start_of Opt 1) (twice five_guard)
-    ∷ anchored_message (anchored_of (start_of Opt 1) (once five_guard)) (once five_guard)
-    ∷ extended_message (twice five_guard) ff_bytes
+    ∷ anchored_message (anchored_of (start_of Opt 1) (once five_guard)) (once five_guard) ∷ extended_message (twice five_guard) ff_bytes
     ∷ extended_message (twice five_guard) five_guard ∷ anchored_message (start_of Opt 1) (thrice five_guard)
     ∷ anchored_message (anchored_of (start_of Opt 1) (twice five_guard)) (once five_guard) ∷ []
 
 pub segments_clear : IsClear segment_messages
 unfolding segment_messages
-segments_clear =
-    clear_by_first _
-    (eleven_apart (first_byte sha256) _ _ _ _ _ _ _ _ _ _ _
+segments_clear = clear_by_first _ (eleven_apart (first_byte sha256) _ _ _ _ _ _ _ _ _ _ _
     opt_start_byte guard_byte once_byte anchored_once_byte twice_byte anchored_twice_byte behind_first_byte by_others_byte thrice_byte
     at_third_byte behind_second_byte)
 

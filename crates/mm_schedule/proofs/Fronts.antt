@@ -1,16 +1,10 @@
 -- What a reading that gave something found, and what stood in front of it.
-use Rattle.std.proofs.Common.{◌≡◌, ◌+◌, ◌<◌, ◌⊎◌, inl, inr, ℕ, suc, Bool, true, false, List, ◌∷◌, ◌++◌, length, take, drop, get_or, refl, sym, ap, ◌∙◌, arith, cond, add-one}
-use Rattle.std.proofs.Math.Seq.{drop-cons}
-use Rattle.std.proofs.lemmas.Bool.Decides.{nat_tests}
-use Rattle.std.proofs.lemmas.List.{take-append-drop}
+use Rattle.mm_schedule.proofs.Below.{◌≡◌, ◌+◌, ◌<◌, ◌⊎◌, inl, inr, ℕ, suc, Bool, true, false, List, ◌∷◌, ◌++◌, length, take, drop, get_or}
+use Rattle.mm_schedule.proofs.Below.{refl, sym, ap, ◌∙◌, arith, cond, add-one, drop-cons, nat_tests, take-append-drop, position}
+use Rattle.mm_schedule.proofs.Below.{option_map_or, Option, Some, None, bytes_eq, is_space, ◌>>=◌}
 use Rattle.std.proofs.lemmas.List.Quantifiers.{position-Some}
 use Rattle.std.proofs.lemmas.Slice.Eq.{bytes_eq-Decides}
-use Rattle.std.specs.List.{position}
-use Rattle.std.specs.Option.{option_map_or}
-use Rattle.std.specs.Prelude.{Option, Some, None}
-use Rattle.std.specs.Str.{bytes_eq}
-use Rattle.mm_module.specs.WordsWords.{is_space}
-use Rattle.mm_schedule.specs.Words.{◌>>=◌, after_prefix, word_at}
+use Rattle.mm_schedule.specs.Words.{after_prefix, word_at}
 
 -- a reading that gave something gave something at its first part
 pub bind-some : {A B : Type 0} (first : Option A) (then : A → Option B) (y : B) → (first >>= then) ≡ Some y
@@ -40,9 +34,8 @@ pub after-front : (prefix line rest : List ℕ) → after_prefix prefix line ≡
 unfolding after_prefix
 after-front prefix line rest is =
     elim (chosen (bytes_eq (take (length prefix) line) prefix) (Some (drop (length prefix) line)) None rest is) [
-      | inl w ↦ sym (take-append-drop (length prefix) line)
-          ∙ ap (λ (front : List ℕ). front ++ drop (length prefix) line) (text_is (take (length prefix) line) prefix w.0)
-          ∙ ap (λ (back : List ℕ). prefix ++ back) (some-same _ _ w.1)
+      | inl w ↦ sym (take-append-drop (length prefix) line) ∙ ap (λ (front : List ℕ). front ++ drop (length prefix) line)
+          (text_is (take (length prefix) line) prefix w.0) ∙ ap (λ (back : List ℕ). prefix ++ back) (some-same _ _ w.1)
       | inr w ↦ cc
     ]
 
@@ -50,12 +43,9 @@ pub word-front : (line word rest : List ℕ) → word_at line ≡ Some (word, re
 unfolding word_at
 word-front line word rest is =
     let read = bind-some (position is_space line) (λ (at : ℕ). Some (take at line, drop (at + 1) line)) (word, rest) is in
-    let at = read.0 in
-    let facts = position-Some is_space line at 0 read.1 in
-    let within : at < length line = facts.0 in
+    let at = read.0 in let facts = position-Some is_space line at 0 read.1 in let within : at < length line = facts.0 in
     let space : get_or line at 0 ≡ 32 = grind (arith, nat_tests, facts.1) in
     let parts : (take at line, drop (at + 1) line) ≡ (word, rest) = some-same _ _ read.2 in
-    sym (take-append-drop at line)
-    ∙ ap (λ (back : List ℕ). take at line ++ back) (drop-cons line at 0 within ∙ ap (λ (b : ℕ). b ∷ drop (suc at) line) space)
-    ∙ ap (λ (n : ℕ). take at line ++ 32 ∷ drop n line) (sym (add-one at))
+    sym (take-append-drop at line) ∙ ap (λ (back : List ℕ). take at line ++ back) (drop-cons line at 0 within
+    ∙ ap (λ (b : ℕ). b ∷ drop (suc at) line) space) ∙ ap (λ (n : ℕ). take at line ++ 32 ∷ drop n line) (sym (add-one at))
     ∙ ap (λ (p : List ℕ × List ℕ). p.0 ++ 32 ∷ p.1) parts

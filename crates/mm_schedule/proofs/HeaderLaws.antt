@@ -1,47 +1,38 @@
 -- A header has one line, and that line is read as it.
-use Rattle.std.proofs.Common.{◌≡◌, inl, inr, ℕ, List, ◌∷◌, ◌++◌, refl, sym, ap, ◌∙◌}
-use Rattle.std.specs.Prelude.{Option, Some, None, IfSome, codes}
-use Rattle.std.specs.Str.{bytes_eq}
+use Rattle.mm_schedule.proofs.Below.{◌≡◌, inl, inr, ℕ, List, ◌∷◌, ◌++◌, refl, sym, ap, ◌∙◌, Option, Some, None, IfSome, codes, bytes_eq}
+use Rattle.mm_schedule.proofs.Below.{module_named, name_of, any_is_found, name_spelled, word_at}
 use Rattle.mm_digest.specs.declared.variant.Variant.{Variant}
 use Rattle.mm_digest.specs.declared.variant.Variant.TheVariants.{Basic, Opt}
 use Rattle.mm_modules.specs.declared.any.AnyModule.{AnyModule}
-use Rattle.mm_modules.specs.Modules.{module_named, name_of}
-use Rattle.mm_modules.specs.Modules.{any_is_found}
-use Rattle.mm_modules.proofs.Finding.{name_spelled}
 use Rattle.mm_schedule.specs.declared.header.Header.{Header}
 use Rattle.mm_schedule.specs.Headers.{head_at, head_text, header_at, header_text, variant_text}
 use Rattle.mm_schedule.specs.HeadersWords.{variant_at}
-use Rattle.mm_schedule.specs.Words.{after_prefix, word_at}
+use Rattle.mm_schedule.specs.Words.{after_prefix}
 use Rattle.mm_schedule.proofs.Fronts.{after-front, bind-some, chosen, some-same, text_is, word-front}
 use Rattle.mm_schedule.proofs.SpelledIsRead.{NoSpace, letters, word-again}
 
 variant-spelled : (word : List ℕ) (variant : Variant) → variant_at word ≡ Some variant → word ≡ variant_text variant
-variant-spelled word variant is =
-    elim (chosen (bytes_eq word (codes "basic")) (Some Basic) _ variant is) [
-      | inl w ↦ text_is word (codes "basic") w.0 ∙ ap variant_text (some-same Basic variant w.1)
-      | inr w ↦ elim (chosen (bytes_eq word (codes "opt")) (Some Opt) None variant w.1) [
-        | inl v ↦ text_is word (codes "opt") v.0 ∙ ap variant_text (some-same Opt variant v.1)
-        | inr v ↦ cc
-      ]
-    ]
+variant-spelled word variant is = elim (chosen (bytes_eq word (codes "basic")) (Some Basic) _ variant is) [
+  | inl w ↦ text_is word (codes "basic") w.0 ∙ ap variant_text (some-same Basic variant w.1)
+  | inr w ↦ elim (chosen (bytes_eq word (codes "opt")) (Some Opt) None variant w.1) [
+    | inl v ↦ text_is word (codes "opt") v.0 ∙ ap variant_text (some-same Opt variant v.1)
+    | inr v ↦ cc
+  ]
+]
 
 pub head-spelled : (words : List ℕ) (head : Header) → head_at words ≡ Some head → words ≡ head_text head
 unfolding head_at
 head-spelled words head is =
-    let b = bind-some (word_at words) _ head is in
-    let c = bind-some (variant_at b.0.0) _ head b.2 in
+    let b = bind-some (word_at words) _ head is in let c = bind-some (variant_at b.0.0) _ head b.2 in
     let d = bind-some (module_named b.0.1) _ head c.2 in
-    word-front words b.0.0 b.0.1 b.1
-    ∙ ap (λ (word : List ℕ). word ++ 32 ∷ b.0.1) (variant-spelled b.0.0 c.0 c.1)
-    ∙ ap (λ (name : List ℕ). variant_text c.0 ++ 32 ∷ name) (name_spelled b.0.1 d.0 d.1)
-    ∙ ap head_text (some-same _ head d.2)
+    word-front words b.0.0 b.0.1 b.1 ∙ ap (λ (word : List ℕ). word ++ 32 ∷ b.0.1) (variant-spelled b.0.0 c.0 c.1)
+    ∙ ap (λ (name : List ℕ). variant_text c.0 ++ 32 ∷ name) (name_spelled b.0.1 d.0 d.1) ∙ ap head_text (some-same _ head d.2)
 
 pub header-spelled : (line : List ℕ) (header : Header) → header_at line ≡ Some header → line ≡ header_text header
 unfolding header_at
 header-spelled line header is =
     let a = bind-some (after_prefix (codes "memoir 1 ") line) _ header is in
-    after-front (codes "memoir 1 ") line a.0 a.1
-    ∙ ap (λ (back : List ℕ). codes "memoir 1 " ++ back) (head-spelled a.0 header a.2)
+    after-front (codes "memoir 1 ") line a.0 a.1 ∙ ap (λ (back : List ℕ). codes "memoir 1 " ++ back) (head-spelled a.0 header a.2)
 
 variant-again : (variant : Variant) → variant_at (variant_text variant) ≡ Some variant
 variant-again Basic = refl

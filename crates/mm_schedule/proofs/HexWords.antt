@@ -1,33 +1,25 @@
 -- Which words spell bytes, and which bytes.
-use Rattle.std.proofs.Common.{◌≡◌, ◌≢◌, ◌%◌, ◌*◌, ℕ, Bool, true, false, List, [], ◌∷◌, length, refl, sym, ◌∙◌, arith, cond}
-use Rattle.std.proofs.lemmas.Bool.Decides.{nat_tests}
+use Rattle.mm_schedule.proofs.Below.{◌≡◌, ◌≢◌, ◌%◌, ◌*◌, ℕ, Bool, true, false, List, [], ◌∷◌, length, refl, sym, ◌∙◌, arith, cond}
+use Rattle.mm_schedule.proofs.Below.{nat_tests, list_all, None, Result, Ok, Err, is_some, unwrap_or, codes, ◌==◌, result_ok, bytes_eq}
+use Rattle.mm_schedule.proofs.Below.{FromHexError, decode_of, is_hex_digit, decode_of-ok, decode_of-digits}
 use Rattle.std.proofs.lemmas.List.Sums.{list_all-from_AllPass, AllPass-from_list_all}
-use Rattle.std.specs.List.{list_all}
-use Rattle.std.specs.Prelude.{None, Result, Ok, Err, is_some, unwrap_or, codes, ◌==◌}
-use Rattle.std.specs.Result.{result_ok}
-use Rattle.std.specs.Str.{bytes_eq}
-use Rattle.hex.specs.declared.error.FromHexError.{FromHexError}
-use Rattle.hex.specs.Hex.{decode_of, is_hex_digit}
-use Rattle.hex.proofs.HexLemmas.{decode_of-ok, decode_of-digits}
 use Rattle.mm_schedule.specs.Words.{bytes_at}
 
 digits_by : (word : List ℕ) → length word % 2 ≡ 0 → (all : Bool) → list_all is_hex_digit word ≡ all
     → (r : Result (List ℕ) FromHexError) → decode_of word ≡ r → all ≡ is_some (result_ok r)
-digits_by word even true all (Ok bytes) is = refl
 digits_by word even true all (Err e) is =
     let decoded = decode_of-digits word even (AllPass-from_list_all is_hex_digit word all) in
     let clash : Ok decoded.0 ≡ Err e = sym decoded.1 ∙ is in cc
 digits_by word even false all (Ok bytes) is =
     let passes : list_all is_hex_digit word ≡ true = list_all-from_AllPass is_hex_digit word (decode_of-ok word bytes is).1 in
     let clash : true ≡ false = sym passes ∙ all in cc
-digits_by word even false all (Err e) is = refl
+digits_by word even _ all _ is = refl
 
 -- an even number of digits, and no other text but `-`
 pub digits_spell : (word : List ℕ) → bytes_eq word (codes "-") ≡ false → (length word == 0) ≡ false → length word % 2 ≢ 1
     → list_all is_hex_digit word ≡ is_some (bytes_at word)
 unfolding bytes_at
-digits_spell word dash some odd =
-    rw (dash, some) (digits_by word (omega arith) (list_all is_hex_digit word) refl (decode_of word) refl)
+digits_spell word dash some odd = rw (dash, some) (digits_by word (omega arith) (list_all is_hex_digit word) refl (decode_of word) refl)
 
 none_of : (bytes : List ℕ) → length bytes ≡ 0 → [] ≡ bytes
 none_of [] none = refl

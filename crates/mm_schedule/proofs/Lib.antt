@@ -1,10 +1,12 @@
-pub mod HexWords
-pub mod MeddleLaws
-pub mod PrintLaws
-pub mod RunLaws
-pub mod Fronts
-pub mod ReadIsSpelled
-pub mod HeaderLaws
-pub mod SpelledIsRead
-pub mod TellingLaws
-pub mod PromiseLaws
+pub mod Above
+mod Below
+mod HexWords
+mod MeddleLaws
+mod PrintLaws
+mod RunLaws
+mod Fronts
+mod ReadIsSpelled
+mod HeaderLaws
+mod SpelledIsRead
+mod TellingLaws
+mod PromiseLaws

@@ -1,11 +1,8 @@
 -- Reading meddles one after another.
-use Rattle.std.proofs.Common.{◌≡◌, ℕ, suc, List, [], ◌∷◌, ◌++◌, refl, append_assoc}
+use Rattle.mm_schedule.proofs.Below.{◌≡◌, ℕ, suc, List, [], ◌∷◌, ◌++◌, refl, append_assoc, Option, Some, None, codes, Meddle, meddle_at}
+use Rattle.mm_schedule.proofs.Below.{behind, ◌>>=◌, after_prefix}
 use Rattle.std.proofs.lemmas.List.{append-nil}
-use Rattle.std.specs.Prelude.{Option, Some, None, codes}
-use Rattle.mm_platform.specs.declared.plan.Meddle.{Meddle}
-use Rattle.mm_schedule.specs.Grammar.{meddle_at, meddles_at}
-use Rattle.mm_schedule.specs.Texts.{behind}
-use Rattle.mm_schedule.specs.Words.{◌>>=◌, after_prefix}
+use Rattle.mm_schedule.specs.Grammar.{meddles_at}
 
 pub behind_none : (front : List Meddle) (line : List ℕ) → Some (front, line) ≡ behind front (Some ([], line))
 behind_none front line = rw (append-nil front) refl
@@ -28,9 +25,8 @@ unfolding meddles_at
 over front room rest least line some none = rw (some, none) (behind_none front line)
 
 -- what stands there is no meddle
-pub bad : (front : List Meddle) (room rest least : ℕ) (line words : List ℕ) → room ≡ suc rest
-    → after_prefix (codes "meddle ") line ≡ Some words
-    → meddle_at least words ≡ None → None ≡ behind front (meddles_at room least line)
+pub bad : (front : List Meddle) (room rest least : ℕ) (line words : List ℕ) → room ≡ suc rest → after_prefix (codes "meddle ") line ≡ Some
+    words → meddle_at least words ≡ None → None ≡ behind front (meddles_at room least line)
 unfolding meddles_at
 bad front room rest least line words some found none = rw (some, found, none) refl
 

@@ -1,10 +1,6 @@
 -- Pieces put one behind another, and the lines of a batch.
-use Rattle.std.proofs.Common.{◌≡◌, ◌+◌, ◌<◌, ℕ, zero, suc, Bool, List, [], ◌∷◌, ◌++◌, length, take, refl, ap, ◌∙◌, arith}
-use Rattle.std.proofs.Math.Seq.{take-append-add, take-append_seam}
-use Rattle.std.specs.Option.{option_map}
-use Rattle.std.specs.Prelude.{Some, None, slice_get}
-use Rattle.mm_schedule.specs.Replies.{told_lines}
-use Rattle.mm_schedule.specs.RepliesWords.{told_line}
+use Rattle.mm_schedule.proofs.Below.{◌≡◌, ◌+◌, ◌<◌, ℕ, zero, suc, Bool, List, [], ◌∷◌, ◌++◌, length, take, refl, ap, ◌∙◌, arith}
+use Rattle.mm_schedule.proofs.Below.{take-append-add, take-append_seam, option_map, Some, None, slice_get, told_lines, told_line}
 
 pub put-behind : (front piece rest : List ℕ) (at : ℕ) → length front ≡ at
     → take (at + length piece) (front ++ (piece ++ rest)) ≡ front ++ piece

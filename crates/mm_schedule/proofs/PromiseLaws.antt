@@ -1,8 +1,6 @@
 -- Runs keep the promises of their modules.
-use Rattle.mm_modules.specs.Modules.{meaning_of}
-use Rattle.mm_modules.specs.Modules.{any_is_listed}
+use Rattle.mm_schedule.proofs.Below.{meaning_of, any_is_listed, tellings_in}
 use Rattle.mm_schedule.specs.Promises.{RunsKeepPromises}
-use Rattle.mm_schedule.specs.Tellings.{tellings_in}
 use Rattle.mm_schedule.proofs.TellingLaws.{tells-said}
 
 pub promises-kept : RunsKeepPromises

@@ -1,46 +1,32 @@
 -- What is read of a line is spelled there.
-use Rattle.std.proofs.Common.{◌≡◌, ◌+◌, ◌-◌, ◌<◌, ◌≤◌, inl, inr, ℕ, zero, suc, true, false, List, [], ◌∷◌, ◌++◌, length, refl, sym, ap, ◌∙◌, arith, cond, append_assoc, subst}
-use Rattle.std.proofs.lemmas.Bool.Decides.{nat_tests}
-use Rattle.std.proofs.lemmas.Fmt.{decimal_digit}
-use Rattle.std.specs.Prelude.{Some, None, Result, Ok, Err, codes, nat_lt, ◌&&◌, ◌==◌}
-use Rattle.std.specs.Result.{result_ok}
-use Rattle.std.specs.Str.{bytes_eq}
-use Rattle.hex.specs.declared.error.FromHexError.{FromHexError}
-use Rattle.hex.specs.Hex.{decode_of, decode_sized}
+use Rattle.mm_schedule.proofs.Below.{◌≡◌, ◌+◌, ◌-◌, ◌<◌, ◌≤◌, inl, inr, ℕ, zero, suc, true, false, List, [], ◌∷◌, ◌++◌, length, refl, sym}
+use Rattle.mm_schedule.proofs.Below.{ap, ◌∙◌, arith, cond, append_assoc, subst, nat_tests, decimal_digit, Some, None, Result, Ok, Err}
+use Rattle.mm_schedule.proofs.Below.{codes, nat_lt, ◌&&◌, ◌==◌, result_ok, bytes_eq, FromHexError, decode_of, decode_sized}
+use Rattle.mm_schedule.proofs.Below.{spelled_by_reading, One, Many, Meddle, Stop, Fail, Offer, Last, Event, Checkpoint, Power, SpellsBytes}
+use Rattle.mm_schedule.proofs.Below.{SpellsEvent, SpellsMeddles, SpellsNumber, SpellsOffer, SpellsPrefix, SpellsStep, SpellsStop}
+use Rattle.mm_schedule.proofs.Below.{SpellsValue, asks, after_prefix, word_at}
 use Rattle.mm_base.specs.Decimals.{decimal_number}
-use Rattle.mm_base.specs.DecimalLaws.{spelled_by_reading}
-use Rattle.mm_module.specs.Batch.{One, Many}
-use Rattle.mm_platform.specs.declared.plan.Meddle.{Meddle}
-use Rattle.mm_platform.specs.declared.plan.Stop.{Stop}
-use Rattle.mm_platform.specs.declared.plan.Stop.TheVariants.{Fail}
-use Rattle.mm_schedule.specs.declared.event.Offer.{Offer}
-use Rattle.mm_schedule.specs.declared.event.Offer.TheVariants.{Last}
-use Rattle.mm_schedule.specs.Events.{Event, Checkpoint, Power}
 use Rattle.mm_schedule.specs.Grammar.{call_at, event_at, failing_at, meddle_at, meddles_at, offer_at, prefixed_at, raw_at, stop_at, stop_step_at}
 use Rattle.mm_schedule.specs.GrammarWords.{flip_at}
-use Rattle.mm_schedule.specs.Spelling.{SpellsBytes, SpellsEvent, SpellsMeddles, SpellsNumber, SpellsOffer, SpellsPrefix, SpellsStep, SpellsStop, SpellsValue, asks}
 use Rattle.mm_module.specs.Values.{value_at}
-use Rattle.mm_schedule.specs.Words.{after_prefix, bytes_at, number_at, step_at, word_at}
+use Rattle.mm_schedule.specs.Words.{bytes_at, number_at, step_at}
 use Rattle.mm_schedule.proofs.Fronts.{bind-some, chosen, found_or, some-same, text_is, after-front, word-front}
 
 step-spelled : (word : List ℕ) (step : ℕ) → step_at word ≡ Some step → SpellsStep step word
 unfolding step_at
-step-spelled [] step is = cc
-step-spelled (digit ∷ []) step is =
-    elim (chosen (nat_lt 48 digit && nat_lt digit 58) (Some (digit - 48)) None step is) [
-      | inl w ↦
-          let low : 48 < digit = grind (arith, nat_tests, w.0) in
-          let high : digit < 58 = grind (arith, nat_tests, w.0) in
-          let value : digit - 48 ≡ step = some-same _ _ w.1 in
-          let back : 48 + step ≡ digit = omega arith in
-          record {
-            low = omega arith;
-            high = omega arith;
-            digit = ap (λ (d : ℕ). d ∷ []) (sym back) ∙ sym (decimal_digit step (omega arith));
-          }
-      | inr w ↦ cc
-    ]
-step-spelled (digit ∷ next ∷ rest) step is = cc
+step-spelled (digit ∷ []) step is = elim (chosen (nat_lt 48 digit && nat_lt digit 58) (Some (digit - 48)) None step is) [
+  | inl w ↦
+      let low : 48 < digit = grind (arith, nat_tests, w.0) in
+      let high : digit < 58 = grind (arith, nat_tests, w.0) in let value : digit - 48 ≡ step = some-same _ _ w.1 in
+      let back : 48 + step ≡ digit = omega arith in
+      record {
+        low = omega arith;
+        high = omega arith;
+        digit = ap (λ (d : ℕ). d ∷ []) (sym back) ∙ sym (decimal_digit step (omega arith));
+      }
+  | inr w ↦ cc
+]
+step-spelled _ step is = cc
 
 number-spelled : (word : List ℕ) (number : ℕ) → number_at word ≡ Some number → SpellsNumber number word
 unfolding number_at
@@ -85,8 +71,7 @@ record ReadsMeddle (least : ℕ) (line : List ℕ) (read : Meddle × List ℕ) :
 meddle-spelled : (least : ℕ) (line : List ℕ) (read : Meddle × List ℕ) → meddle_at least line ≡ Some read → ReadsMeddle least line read
 unfolding meddle_at
 meddle-spelled least line read is =
-    let a = bind-some (word_at line) _ read is in
-    let b = bind-some (step_at a.0.0) _ read a.2 in
+    let a = bind-some (word_at line) _ read is in let b = bind-some (step_at a.0.0) _ read a.2 in
     let c = bind-some (cond (nat_lt b.0 least) None (word_at a.0.1)) _ read b.2 in
     let d = bind-some (value_at c.0.0) _ read c.2 in
     elim (chosen (nat_lt b.0 least) None (word_at a.0.1) c.0 c.1) [
@@ -118,22 +103,20 @@ meddles-spelled : (room least : ℕ) (line : List ℕ) (read : List Meddle × Li
     → ReadsMeddles room least line read
 unfolding meddles_at
 meddles-spelled zero least line read is = no-meddles zero least line read is
-meddles-spelled (suc room) least line read is =
-    elim (found_or (after_prefix (codes "meddle ") line) _ (Some ([], line)) read is) [
-      | inl w ↦
-          let a = bind-some (meddle_at least w.0) _ read w.2 in
-          let b = bind-some (meddles_at room a.0.0.step a.0.1) _ read a.2 in
-          let first = meddle-spelled least w.0 a.0 a.1 in
-          let later = meddles-spelled room a.0.0.step a.0.1 b.0 b.1 in
-          subst (λ (r : List Meddle × List ℕ). ReadsMeddles (suc room) least line r) (some-same _ read b.2) (record {
-            text = codes "meddle " ++ first.step ++ 32 ∷ first.value ++ 32 ∷ later.text;
-            spelled = (first.step, first.value, later.text, first.rising, first.stepped, first.valued, later.spelled, refl);
-            few = omega (arith, later.few);
-            parts = after-front (codes "meddle ") line w.0 w.1 ∙ ap (λ (back : List ℕ). codes "meddle " ++ back) (first.parts
-                ∙ ap (λ (back : List ℕ). first.step ++ 32 ∷ first.value ++ 32 ∷ back) later.parts) ∙ simp append_assoc;
-          })
-      | inr w ↦ no-meddles (suc room) least line read w.1
-    ]
+meddles-spelled (suc room) least line read is = elim (found_or (after_prefix (codes "meddle ") line) _ (Some ([], line)) read is) [
+  | inl w ↦
+      let a = bind-some (meddle_at least w.0) _ read w.2 in
+      let b = bind-some (meddles_at room a.0.0.step a.0.1) _ read a.2 in
+      let first = meddle-spelled least w.0 a.0 a.1 in let later = meddles-spelled room a.0.0.step a.0.1 b.0 b.1 in
+      subst (λ (r : List Meddle × List ℕ). ReadsMeddles (suc room) least line r) (some-same _ read b.2) (record {
+        text = codes "meddle " ++ first.step ++ 32 ∷ first.value ++ 32 ∷ later.text;
+        spelled = (first.step, first.value, later.text, first.rising, first.stepped, first.valued, later.spelled, refl);
+        few = omega (arith, later.few);
+        parts = after-front (codes "meddle ") line w.0 w.1 ∙ ap (λ (back : List ℕ). codes "meddle " ++ back) (first.parts
+            ∙ ap (λ (back : List ℕ). first.step ++ 32 ∷ first.value ++ 32 ∷ back) later.parts) ∙ simp append_assoc;
+      })
+  | inr w ↦ no-meddles (suc room) least line read w.1
+]
 
 record ReadsStep (line : List ℕ) (read : ℕ × List ℕ) : Type 0 where
   step : List ℕ
@@ -143,119 +126,114 @@ record ReadsStep (line : List ℕ) (read : ℕ × List ℕ) : Type 0 where
 stop_step-spelled : (line : List ℕ) (read : ℕ × List ℕ) → stop_step_at line ≡ Some read → ReadsStep line read
 unfolding stop_step_at
 stop_step-spelled line read is =
-    let a = bind-some (word_at line) _ read is in
-    let b = bind-some (step_at a.0.0) _ read a.2 in
+    let a = bind-some (word_at line) _ read is in let b = bind-some (step_at a.0.0) _ read a.2 in
     subst (λ (r : ℕ × List ℕ). ReadsStep line r) (some-same _ read b.2) (record {
       step = a.0.0;
       stepped = step-spelled a.0.0 b.0 b.1;
       parts = word-front line a.0.0 a.0.1 a.1;
     })
 
-record ReadsStop (line : List ℕ) (read : Stop × List ℕ) : Type 0 where
-  text : List ℕ
-  spelled : SpellsStop read.0 text
-  parts : line ≡ text ++ read.1
+module _ (line : List ℕ) (read : Stop × List ℕ) where
+  record ReadsStop : Type 0 where
+    text : List ℕ
+    spelled : SpellsStop read.0 text
+    parts : line ≡ text ++ read.1
 
-failing-spelled : (line : List ℕ) (read : Stop × List ℕ) → failing_at line ≡ Some read
-    → (text : List ℕ) × SpellsStop read.0 (codes "fail " ++ text) × (line ≡ text ++ read.1)
-unfolding failing_at
-failing-spelled line read is =
-    let a = bind-some (stop_step_at line) _ read is in
-    let b = bind-some (word_at a.0.1) _ read a.2 in
-    let at = stop_step-spelled line a.0 a.1 in
-    let word = word-front a.0.1 b.0.0 b.0.1 b.1 in
-    let Goal : Stop × List ℕ → Type 0 = λ (r : Stop × List ℕ). (text : List ℕ) × SpellsStop r.0 (codes "fail " ++ text)
-    × (line ≡ text ++ r.1) in
-    elim (chosen (bytes_eq b.0.0 (codes "done")) (Some (Fail a.0.0 true, b.0.1)) _ read b.2) [
-      | inl w ↦ subst Goal (some-same _ read w.1) (
-        at.step ++ codes " done ",
-        (at.step, at.stepped, simp append_assoc),
-        at.parts ∙ ap (λ (back : List ℕ). at.step ++ 32 ∷ back) (word ∙ ap (λ (first : List ℕ). first ++ 32 ∷ b.0.1) (text_is _ _ w.0))
-            ∙ simp append_assoc,
-      )
-      | inr w ↦ elim (chosen (bytes_eq b.0.0 (codes "undone")) (Some (Fail a.0.0 false, b.0.1)) None read w.1) [
-        | inl v ↦ subst Goal (some-same _ read v.1) (
-          at.step ++ codes " undone ",
+  failing-spelled : failing_at line ≡ Some read → (text : List ℕ) × SpellsStop read.0 (codes "fail " ++ text) × (line ≡ text ++ read.1)
+  unfolding failing_at
+  failing-spelled is =
+      let a = bind-some (stop_step_at line) _ read is in let b = bind-some (word_at a.0.1) _ read a.2 in
+      let at = stop_step-spelled line a.0 a.1 in let word = word-front a.0.1 b.0.0 b.0.1 b.1 in
+      let Goal : Stop × List ℕ → Type 0 = λ (r : Stop × List ℕ). (text : List ℕ) × SpellsStop r.0 (codes "fail " ++ text)
+      × (line ≡ text ++ r.1) in
+      elim (chosen (bytes_eq b.0.0 (codes "done")) (Some (Fail a.0.0 true, b.0.1)) _ read b.2) [
+        | inl w ↦ subst Goal (some-same _ read w.1) (
+          at.step ++ codes " done ",
           (at.step, at.stepped, simp append_assoc),
-          at.parts ∙ ap (λ (back : List ℕ). at.step ++ 32 ∷ back) (word ∙ ap (λ (first : List ℕ). first ++ 32 ∷ b.0.1) (text_is _ _ v.0))
+          at.parts
+              ∙ ap (λ (back : List ℕ). at.step ++ 32 ∷ back) (word ∙ ap (λ (first : List ℕ). first ++ 32 ∷ b.0.1) (text_is _ _ w.0))
               ∙ simp append_assoc,
         )
-        | inr v ↦ cc
+        | inr w ↦ elim (chosen (bytes_eq b.0.0 (codes "undone")) (Some (Fail a.0.0 false, b.0.1)) None read w.1) [
+          | inl v ↦ subst Goal (some-same _ read v.1) (
+            at.step ++ codes " undone ",
+            (at.step, at.stepped, simp append_assoc),
+            at.parts
+                ∙ ap (λ (back : List ℕ). at.step ++ 32 ∷ back) (word ∙ ap (λ (first : List ℕ). first ++ 32 ∷ b.0.1) (text_is _ _ v.0))
+                ∙ simp append_assoc,
+          )
+          | inr v ↦ cc
+        ]
       ]
-    ]
 
 stop-spelled : (line : List ℕ) (read : Stop × List ℕ) → stop_at line ≡ Some read → ReadsStop line read
 unfolding stop_at
-stop-spelled line read is =
-    elim (found_or (after_prefix (codes "cut ") line) _ _ read is) [
-      | inl w ↦
-          let a = bind-some (stop_step_at w.0) _ read w.2 in
-          let at = stop_step-spelled w.0 a.0 a.1 in
-          subst (ReadsStop line) (some-same _ read a.2) (record {
-            text = codes "cut " ++ at.step ++ 32 ∷ [];
-            spelled = (at.step, at.stepped, refl);
-            parts = after-front (codes "cut ") line w.0 w.1 ∙ ap (λ (back : List ℕ). codes "cut " ++ back) at.parts ∙ simp append_assoc;
-          })
-      | inr w ↦ elim (found_or (after_prefix (codes "drop ") line) _ _ read w.1) [
-        | inl v ↦
-            let a = bind-some (stop_step_at v.0) _ read v.2 in
-            let at = stop_step-spelled v.0 a.0 a.1 in
-            subst (ReadsStop line) (some-same _ read a.2) (record {
-              text = codes "drop " ++ at.step ++ 32 ∷ [];
-              spelled = (at.step, at.stepped, refl);
-              parts = after-front (codes "drop ") line v.0 v.1 ∙ ap (λ (back : List ℕ). codes "drop " ++ back) at.parts ∙ simp append_assoc;
-            })
-        | inr v ↦ elim (found_or (after_prefix (codes "fail ") line) _ _ read v.1) [
-          | inl u ↦
-              let failing = failing-spelled u.0 read u.2 in record {
-                text = codes "fail " ++ failing.0;
-                spelled = failing.1;
-                parts =
-                    after-front (codes "fail ") line u.0 u.1 ∙ ap (λ (back : List ℕ). codes "fail " ++ back) failing.2 ∙ simp append_assoc;
-              }
-          | inr u ↦ subst (ReadsStop line) (some-same _ read u.1) (record { text = []; spelled = refl; parts = refl })
-        ]
-      ]
+stop-spelled line read is = elim (found_or (after_prefix (codes "cut ") line) _ _ read is) [
+  | inl w ↦
+      let a = bind-some (stop_step_at w.0) _ read w.2 in let at = stop_step-spelled w.0 a.0 a.1 in
+      subst (ReadsStop line) (some-same _ read a.2) (record {
+        text = codes "cut " ++ at.step ++ 32 ∷ [];
+        spelled = (at.step, at.stepped, refl);
+        parts = after-front (codes "cut ") line w.0 w.1 ∙ ap (λ (back : List ℕ). codes "cut " ++ back) at.parts ∙ simp append_assoc;
+      })
+  | inr w ↦ elim (found_or (after_prefix (codes "drop ") line) _ _ read w.1) [
+    | inl v ↦
+        let a = bind-some (stop_step_at v.0) _ read v.2 in let at = stop_step-spelled v.0 a.0 a.1 in
+        subst (ReadsStop line) (some-same _ read a.2) (record {
+          text = codes "drop " ++ at.step ++ 32 ∷ [];
+          spelled = (at.step, at.stepped, refl);
+          parts = after-front (codes "drop ") line v.0 v.1 ∙ ap (λ (back : List ℕ). codes "drop " ++ back) at.parts ∙ simp append_assoc;
+        })
+    | inr v ↦ elim (found_or (after_prefix (codes "fail ") line) _ _ read v.1) [
+      | inl u ↦
+          let failing = failing-spelled u.0 read u.2 in record {
+            text = codes "fail " ++ failing.0;
+            spelled = failing.1;
+            parts =
+                after-front (codes "fail ") line u.0 u.1 ∙ ap (λ (back : List ℕ). codes "fail " ++ back) failing.2 ∙ simp append_assoc;
+          }
+      | inr u ↦ subst (ReadsStop line) (some-same _ read u.1) (record { text = []; spelled = refl; parts = refl })
     ]
+  ]
+]
 
-record ReadsOffer (line : List ℕ) (read : Offer × List ℕ) : Type 0 where
-  text : List ℕ
-  spelled : SpellsOffer read.0 text
-  parts : line ≡ text ++ 32 ∷ read.1
+module _ (line : List ℕ) (read : Offer × List ℕ) where
+  record ReadsOffer : Type 0 where
+    text : List ℕ
+    spelled : SpellsOffer read.0 text
+    parts : line ≡ text ++ 32 ∷ read.1
 
-flip-spelled : (line : List ℕ) (read : Offer × List ℕ) → flip_at line ≡ Some read
-    → (text : List ℕ) × SpellsOffer read.0 (codes "flip " ++ text) × (line ≡ text ++ 32 ∷ read.1)
-unfolding flip_at
-flip-spelled line read is =
-    let a = bind-some (word_at line) _ read is in
-    let b = bind-some (number_at a.0.0) _ read a.2 in
-    let c = bind-some (word_at a.0.1) _ read b.2 in
-    let d = bind-some (number_at c.0.0) _ read c.2 in
-    subst (λ (r : Offer × List ℕ). (text : List ℕ) × SpellsOffer r.0 (codes "flip " ++ text) × (line ≡ text ++ 32 ∷ r.1))
-    (some-same _ read d.2) (
-      a.0.0 ++ 32 ∷ c.0.0,
-      (a.0.0, c.0.0, number-spelled a.0.0 b.0 b.1, number-spelled c.0.0 d.0 d.1, simp append_assoc),
-      word-front line a.0.0 a.0.1 a.1 ∙ ap (λ (back : List ℕ). a.0.0 ++ 32 ∷ back) (word-front a.0.1 c.0.0 c.0.1 c.1) ∙ simp append_assoc,
-    )
+  flip-spelled : flip_at line ≡ Some read → (text : List ℕ) × SpellsOffer read.0 (codes "flip " ++ text) × (line ≡ text ++ 32 ∷ read.1)
+  unfolding flip_at
+  flip-spelled is =
+      let a = bind-some (word_at line) _ read is in let b = bind-some (number_at a.0.0) _ read a.2 in
+      let c = bind-some (word_at a.0.1) _ read b.2 in let d = bind-some (number_at c.0.0) _ read c.2 in
+      subst (λ (r : Offer × List ℕ). (text : List ℕ) × SpellsOffer r.0 (codes "flip " ++ text) × (line ≡ text ++ 32 ∷ r.1))
+      (some-same _ read d.2) (
+        a.0.0 ++ 32 ∷ c.0.0,
+        (
+          a.0.0,
+          c.0.0,
+          number-spelled a.0.0 b.0 b.1,
+          number-spelled c.0.0 d.0 d.1,
+          simp
+              append_assoc,
+        ),
+        word-front line a.0.0 a.0.1 a.1 ∙ ap (λ (back : List ℕ). a.0.0 ++ 32 ∷ back) (word-front a.0.1 c.0.0 c.0.1 c.1)
+            ∙ simp append_assoc,
+      )
 
-raw-spelled : (line : List ℕ) (read : Offer × List ℕ) → raw_at line ≡ Some read
-    → (text : List ℕ) × SpellsOffer read.0 (codes "raw " ++ text) × (line ≡ text ++ 32 ∷ read.1)
-unfolding raw_at
-raw-spelled line read is =
-    let a = bind-some (word_at line) _ read is in
-    let b = bind-some (bytes_at a.0.0) _ read a.2 in
-    subst (λ (r : Offer × List ℕ). (text : List ℕ) × SpellsOffer r.0 (codes "raw " ++ text) × (line ≡ text ++ 32 ∷ r.1))
-    (some-same _ read b.2) (
-      a.0.0,
-      (a.0.0, bytes-spelled a.0.0 b.0 b.1, refl),
-      word-front line a.0.0 a.0.1 a.1,
-    )
+  raw-spelled : raw_at line ≡ Some read → (text : List ℕ) × SpellsOffer read.0 (codes "raw " ++ text) × (line ≡ text ++ 32 ∷ read.1)
+  unfolding raw_at
+  raw-spelled is =
+      let a = bind-some (word_at line) _ read is in let b = bind-some (bytes_at a.0.0) _ read a.2 in
+      subst (λ (r : Offer × List ℕ). (text : List ℕ) × SpellsOffer r.0 (codes "raw " ++ text) × (line ≡ text ++ 32 ∷ r.1))
+      (some-same _ read b.2) (a.0.0, (a.0.0, bytes-spelled a.0.0 b.0 b.1, refl), word-front line a.0.0 a.0.1 a.1)
 
 offer-spelled : (line : List ℕ) (read : Offer × List ℕ) → offer_at line ≡ Some read → ReadsOffer line read
 unfolding offer_at flip_at
 offer-spelled line read is =
-    let a = bind-some (word_at line) _ read is in
-    let first = word-front line a.0.0 a.0.1 a.1 in
+    let a = bind-some (word_at line) _ read is in let first = word-front line a.0.0 a.0.1 a.1 in
     elim (chosen (bytes_eq a.0.0 (codes "last")) (Some (Last, a.0.1)) _ read a.2) [
       | inl w ↦ subst (ReadsOffer line) (some-same _ read w.1) (record { text = a.0.0; spelled = text_is _ _ w.0; parts = first })
       | inr w ↦ elim (chosen (bytes_eq a.0.0 (codes "flip")) (flip_at a.0.1) _ read w.1) [
@@ -288,8 +266,7 @@ call-spelled : (meddles : List Meddle) (stop : Stop) (line rest text ending : Li
     → call_at meddles stop rest ≡ Some event → SpellsEvent event line
 unfolding call_at
 call-spelled meddles stop line rest text ending event few meddled stopped parts is =
-    let front : (call : List ℕ) → rest ≡ call → SpellsPrefix meddles stop line call =
-    λ call same. record {
+    let front : (call : List ℕ) → rest ≡ call → SpellsPrefix meddles stop line call = λ call same. record {
       few = few;
       extensions = text;
       ending = ending;
@@ -301,23 +278,24 @@ call-spelled meddles stop line rest text ending event few meddled stopped parts 
       | inl w ↦ subst (λ (e : Event). SpellsEvent e line) (some-same _ event w.1) (front (codes "checkpoint") (text_is _ _ w.0))
       | inr w ↦ elim (found_or (after_prefix (codes "ask ") rest) _ _ event w.1) [
         | inl v ↦
-            let a = bind-some (offer_at v.0) _ event v.2 in
-            let offer = offer-spelled v.0 a.0 a.1 in
+            let a = bind-some (offer_at v.0) _ event v.2 in let offer = offer-spelled v.0 a.0 a.1 in
             subst (λ (e : Event). SpellsEvent e line) (some-same _ event a.2) (
               offer.text,
               offer.spelled,
-              front (asks (One a.0.1) offer.text) (after-front (codes "ask ") rest v.0 v.1
-                  ∙ ap (λ (back : List ℕ). codes "ask " ++ back) offer.parts ∙ simp append_assoc),
+              front
+                  (asks (One a.0.1) offer.text) (after-front (codes "ask ") rest v.0 v.1 ∙ ap (λ (back : List ℕ). codes "ask " ++ back)
+                  offer.parts ∙ simp append_assoc),
             )
         | inr v ↦ elim (found_or (after_prefix (codes "batch ") rest) _ None event v.1) [
           | inl u ↦
-              let a = bind-some (offer_at u.0) _ event u.2 in
-              let offer = offer-spelled u.0 a.0 a.1 in
+              let a = bind-some (offer_at u.0) _ event u.2 in let offer = offer-spelled u.0 a.0 a.1 in
               subst (λ (e : Event). SpellsEvent e line) (some-same _ event a.2) (
                 offer.text,
                 offer.spelled,
-                front (asks (Many a.0.1) offer.text) (after-front (codes "batch ") rest u.0 u.1
-                    ∙ ap (λ (back : List ℕ). codes "batch " ++ back) offer.parts ∙ simp append_assoc),
+                front
+                    (asks (Many a.0.1) offer.text)
+                    (after-front (codes "batch ") rest u.0 u.1 ∙ ap (λ (back : List ℕ). codes "batch " ++ back)
+                    offer.parts ∙ simp append_assoc),
               )
           | inr u ↦ cc
         ]
@@ -327,23 +305,20 @@ call-spelled meddles stop line rest text ending event few meddled stopped parts 
 prefixed-spelled : (line : List ℕ) (event : Event) → prefixed_at line ≡ Some event → SpellsEvent event line
 unfolding prefixed_at
 prefixed-spelled line event is =
-    let a = bind-some (meddles_at 8 0 line) _ event is in
-    let b = bind-some (stop_at a.0.1) _ event a.2 in
-    let meddles = meddles-spelled 8 0 line a.0 a.1 in
-    let stop = stop-spelled a.0.1 b.0 b.1 in
+    let a = bind-some (meddles_at 8 0 line) _ event is in let b = bind-some (stop_at a.0.1) _ event a.2 in
+    let meddles = meddles-spelled 8 0 line a.0 a.1 in let stop = stop-spelled a.0.1 b.0 b.1 in
     call-spelled a.0.0 b.0.0 line b.0.1 meddles.text stop.text event meddles.few meddles.spelled stop.spelled
     (meddles.parts ∙ ap (λ (back : List ℕ). meddles.text ++ back) stop.parts ∙ simp append_assoc) b.2
 
 pub event_spelled : (line : List ℕ) (event : Event) → event_at line ≡ Some event → SpellsEvent event line
 unfolding event_at
-event_spelled line event is =
-    elim (chosen (bytes_eq line (codes "power")) (Some Power) _ event is) [
-      | inl w ↦ subst (λ (e : Event). SpellsEvent e line) (some-same _ event w.1) (text_is _ _ w.0)
-      | inr w ↦ elim (found_or (after_prefix (codes "extend ") line) _ (prefixed_at line) event w.1) [
-        | inl v ↦
-            let a = bind-some (value_at v.0) _ event v.2 in
-            subst (λ (e : Event). SpellsEvent e line) (some-same _ event a.2)
-            (v.0, value-spelled v.0 a.0 a.1, after-front (codes "extend ") line v.0 v.1)
-        | inr v ↦ prefixed-spelled line event v.1
-      ]
-    ]
+event_spelled line event is = elim (chosen (bytes_eq line (codes "power")) (Some Power) _ event is) [
+  | inl w ↦ subst (λ (e : Event). SpellsEvent e line) (some-same _ event w.1) (text_is _ _ w.0)
+  | inr w ↦ elim (found_or (after_prefix (codes "extend ") line) _ (prefixed_at line) event w.1) [
+    | inl v ↦
+        let a = bind-some (value_at v.0) _ event v.2 in
+        subst (λ (e : Event). SpellsEvent e line) (some-same _ event a.2)
+        (v.0, value-spelled v.0 a.0 a.1, after-front (codes "extend ") line v.0 v.1)
+    | inr v ↦ prefixed-spelled line event v.1
+  ]
+]

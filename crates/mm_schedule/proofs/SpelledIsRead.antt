@@ -1,32 +1,20 @@
 -- What is spelled in a line is read of it.
-use Rattle.std.proofs.Common.{◌≡◌, ◌≢◌, ◌+◌, ◌-◌, ◌<◌, ◌≤◌, ◌^◌, inl, inr, ℕ, zero, suc, Bool, true, false, List, [], ◌∷◌, ◌++◌, length, refl, sym, ap, ◌∙◌, arith, append_assoc, subst}
-use Rattle.std.proofs.Math.Seq.{take-append_seam, drop-append-add}
+use Rattle.mm_schedule.proofs.Below.{◌≡◌, ◌≢◌, ◌+◌, ◌-◌, ◌<◌, ◌≤◌, ◌^◌, inl, inr, ℕ, zero, suc, Bool, true, false, List, [], ◌∷◌, ◌++◌}
+use Rattle.mm_schedule.proofs.Below.{length, refl, sym, ap, ◌∙◌, arith, append_assoc, subst, take-append_seam, drop-append-add, nat_tests}
+use Rattle.mm_schedule.proofs.Below.{decimal_digit, digits_decimal, length-append, list_all, position, position_or_len, AllPass, Option}
+use Rattle.mm_schedule.proofs.Below.{Some, None, Ok, codes, nat_lt, ◌||◌, ◌==◌, not, all_ascii_digits, bytes_eq, decode_of, is_hex_digit}
+use Rattle.mm_schedule.proofs.Below.{decode_of-ok, decode_sized-ok, decode_sized-twice, read_by_spelling, Batch, One, Many, Meddle, Stop}
+use Rattle.mm_schedule.proofs.Below.{Quiet, Cut, Drop, Fail, is_space, Offer, Number, Last, Flip, Raw, Event, Ask, Checkpoint, Power}
+use Rattle.mm_schedule.proofs.Below.{Extend, SpellsBytes, SpellsEvent, SpellsMeddles, SpellsNumber, SpellsOffer, SpellsPrefix, SpellsStep}
+use Rattle.mm_schedule.proofs.Below.{SpellsStop, SpellsValue, asks}
 use Rattle.std.proofs.lemmas.Bool.{ne_eqb}
-use Rattle.std.proofs.lemmas.Bool.Decides.{nat_tests}
-use Rattle.std.proofs.lemmas.Fmt.{decimal_digit, digits_decimal}
-use Rattle.std.proofs.lemmas.List.{length-append}
 use Rattle.std.proofs.lemmas.List.Elements.{All-head, All-tail}
 use Rattle.std.proofs.lemmas.Str.Parse.{numerals_by_value, tells_all_ascii_digits}
 use Rattle.std.specs.Char.{is_ascii_digit}
 use Rattle.std.specs.Fmt.{decimal}
-use Rattle.std.specs.List.{list_all, position, position_or_len, AllPass}
-use Rattle.std.specs.Prelude.{Option, Some, None, Ok, codes, nat_lt, ◌||◌, ◌==◌, not}
-use Rattle.std.specs.Str.{all_ascii_digits, bytes_eq}
-use Rattle.hex.specs.Hex.{decode_of, is_hex_digit}
-use Rattle.hex.proofs.HexLemmas.{decode_of-ok, decode_sized-ok, decode_sized-twice}
 use Rattle.mm_base.specs.Decimals.{decimal_number}
-use Rattle.mm_base.specs.DecimalLaws.{read_by_spelling}
-use Rattle.mm_module.specs.Batch.{Batch, One, Many}
-use Rattle.mm_platform.specs.declared.plan.Meddle.{Meddle}
-use Rattle.mm_platform.specs.declared.plan.Stop.{Stop}
-use Rattle.mm_platform.specs.declared.plan.Stop.TheVariants.{Quiet, Cut, Drop, Fail}
-use Rattle.mm_module.specs.WordsWords.{is_space}
-use Rattle.mm_schedule.specs.declared.event.Offer.{Offer}
-use Rattle.mm_schedule.specs.declared.event.Offer.TheVariants.{Number, Last, Flip, Raw}
-use Rattle.mm_schedule.specs.Events.{Event, Ask, Checkpoint, Power, Extend}
 use Rattle.mm_schedule.specs.Grammar.{call_at, event_at, failing_at, meddle_at, meddles_at, offer_at, prefixed_at, raw_at, stop_at, stop_step_at}
 use Rattle.mm_schedule.specs.GrammarWords.{flip_at}
-use Rattle.mm_schedule.specs.Spelling.{SpellsBytes, SpellsEvent, SpellsMeddles, SpellsNumber, SpellsOffer, SpellsPrefix, SpellsStep, SpellsStop, SpellsValue, asks}
 use Rattle.mm_module.specs.Values.{value_at}
 use Rattle.mm_schedule.specs.Words.{after_prefix, bytes_at, number_at, step_at, word_at}
 use Rattle.mm_schedule.proofs.Fronts.{after-front, text_is}
@@ -65,7 +53,8 @@ decimal-spaceless number small =
 hex-spaceless : (word : List ℕ) → AllPass is_hex_digit word → NoSpace word
 hex-spaceless [] pass = tt
 hex-spaceless (c ∷ word) pass = (
-  λ space. let clash : false ≡ true = rw space at (All-head (λ (b : ℕ). is_hex_digit b ≡ true) c word pass) in cc,
+  λ space. let clash : false ≡ true = rw space at (All-head (λ (b : ℕ). is_hex_digit b ≡ true) c word pass)
+      in cc,
   hex-spaceless word (All-tail (λ (b : ℕ). is_hex_digit b ≡ true) c word pass),
 )
 
@@ -114,16 +103,14 @@ unfolding value_at
 value-again value word spelled = rw spelled refl
 
 no-dash : (word bytes : List ℕ) (dash : Bool) → bytes_eq word (codes "-") ≡ dash → decode_of word ≡ Ok bytes → dash ≡ false
-no-dash word bytes true dash is =
-    let odd : decode_of (codes "-") ≡ Ok bytes = rw (text_is word (codes "-") dash) at is in cc
+no-dash word bytes true dash is = let odd : decode_of (codes "-") ≡ Ok bytes = rw (text_is word (codes "-") dash) at is in cc
 no-dash word bytes false dash is = refl
 
 bytes-again : (bytes word : List ℕ) → SpellsBytes bytes word → bytes_at word ≡ Some bytes
 unfolding bytes_at
 bytes-again bytes word (inl none) = rw (none.1, none.0) refl
 bytes-again bytes word (inr some) =
-    let long : 0 < length word = some.0 in
-    let test : (length word == 0) ≡ false = grind (arith, nat_tests) in
+    let long : 0 < length word = some.0 in let test : (length word == 0) ≡ false = grind (arith, nat_tests) in
     rw (no-dash word bytes (bytes_eq word (codes "-")) refl some.1, test, some.1) refl
 
 after-again-meddle : (rest : List ℕ) → after_prefix (codes "meddle ") (codes "meddle " ++ rest) ≡ Some rest
@@ -166,15 +153,14 @@ meddles-again zero least [] text rest spelled few over = rw spelled refl
 meddles-again (suc room) least [] text rest spelled few over = rw (spelled, over) refl
 meddles-again zero least (meddle ∷ meddles) text rest spelled few over = absurd (omega arith)
 meddles-again (suc room) least (meddle ∷ meddles) text rest spelled few over =
-    let step = spelled.0 in
-    let value = spelled.1 in
-    let later = spelled.2 in
+    let step = spelled.0 in let value = spelled.1 in let later = spelled.2 in
     let words : text ++ rest ≡ codes "meddle " ++ (step ++ 32 ∷ (value ++ 32 ∷ (later ++ rest))) =
     ap (λ (front : List ℕ). front ++ rest) spelled.7 ∙ simp append_assoc in
     rw (
       words,
       after-again-meddle (step ++ 32 ∷ (value ++ 32 ∷ (later ++ rest))),
-      meddle-again least meddle step value (later ++ rest) spelled.3 spelled.4 spelled.5,
+      meddle-again least meddle step value (later ++ rest)
+          spelled.3 spelled.4 spelled.5,
       meddles-again room meddle.step meddles later rest spelled.6 (omega arith) over,
     ) refl
 
@@ -184,21 +170,18 @@ record IsNoStop (call : List ℕ) : Type 0 where
   dropped : after_prefix (codes "drop ") call ≡ None
   failed : after_prefix (codes "fail ") call ≡ None
 
-stop_step-again : (at : ℕ) (step rest : List ℕ) → SpellsStep at step → stop_step_at (step ++ 32 ∷ rest) ≡ Some (at, rest)
-unfolding stop_step_at
-stop_step-again at step rest stepped = rw (word-again step rest (step-spaceless at step stepped), step-again at step stepped) refl
+module _ (at : ℕ) (step : List ℕ) where
+  stop_step-again : (rest : List ℕ) → SpellsStep at step → stop_step_at (step ++ 32 ∷ rest) ≡ Some (at, rest)
+  unfolding stop_step_at
+  stop_step-again rest stepped = rw (word-again step rest (step-spaceless at step stepped), step-again at step stepped) refl
 
-done-again : (at : ℕ) (step rest : List ℕ) → SpellsStep at step
-    → failing_at (step ++ 32 ∷ (codes "done" ++ 32 ∷ rest)) ≡ Some (Fail at true, rest)
-unfolding failing_at
-done-again at step rest stepped =
-    rw (stop_step-again at step (codes "done" ++ 32 ∷ rest) stepped, word-again (codes "done") rest done-word) refl
+  done-again : (rest : List ℕ) → SpellsStep at step → failing_at (step ++ 32 ∷ (codes "done" ++ 32 ∷ rest)) ≡ Some (Fail at true, rest)
+  unfolding failing_at
+  done-again rest stepped = rw (stop_step-again (codes "done" ++ 32 ∷ rest) stepped, word-again (codes "done") rest done-word) refl
 
-undone-again : (at : ℕ) (step rest : List ℕ) → SpellsStep at step
-    → failing_at (step ++ 32 ∷ (codes "undone" ++ 32 ∷ rest)) ≡ Some (Fail at false, rest)
-unfolding failing_at
-undone-again at step rest stepped =
-    rw (stop_step-again at step (codes "undone" ++ 32 ∷ rest) stepped, word-again (codes "undone") rest undone-word) refl
+  undone-again : (rest : List ℕ) → SpellsStep at step → failing_at (step ++ 32 ∷ (codes "undone" ++ 32 ∷ rest)) ≡ Some (Fail at false, rest)
+  unfolding failing_at
+  undone-again rest stepped = rw (stop_step-again (codes "undone" ++ 32 ∷ rest) stepped, word-again (codes "undone") rest undone-word) refl
 
 stop-again : (stop : Stop) (text call : List ℕ) → SpellsStop stop text → IsNoStop call → stop_at (text ++ call) ≡ Some (stop, call)
 unfolding stop_at after_prefix
@@ -223,8 +206,7 @@ stop-again (Fail at false) text call spelled over =
 -- a number is none of the words that begin other offers
 not_word : (word other : List ℕ) (number : ℕ) (same : Bool) → bytes_eq word other ≡ same → number_at word ≡ Some number
     → number_at other ≡ None → same ≡ false
-not_word word other number true same is none =
-    let clash : Some number ≡ None = sym is ∙ ap number_at (text_is word other same) ∙ none in cc
+not_word word other number true same is none = let clash : Some number ≡ None = sym is ∙ ap number_at (text_is word other same) ∙ none in cc
 not_word word other number false same is none = refl
 
 no-number-last : number_at (codes "last") ≡ None
@@ -246,7 +228,8 @@ flip-again number byte first second rest one two =
     rw (
       word-again first (second ++ 32 ∷ rest) (number-spaceless number first one),
       number-again number first one,
-      word-again second rest (number-spaceless byte second two),
+      word-again second rest
+          (number-spaceless byte second two),
       number-again byte second two,
     ) refl
 
@@ -260,9 +243,11 @@ offer-again (Number number) text rest spelled =
     let read = number-again number text spelled in
     rw (
       word-again text rest (number-spaceless number text spelled),
-      not_word text (codes "last") number (bytes_eq text (codes "last")) refl read no-number-last,
+      not_word text (codes "last") number (bytes_eq text (codes "last"))
+          refl read no-number-last,
       not_word text (codes "flip") number (bytes_eq text (codes "flip")) refl read no-number-flip,
-      not_word text (codes "raw") number (bytes_eq text (codes "raw")) refl read no-number-raw,
+      not_word text
+          (codes "raw") number (bytes_eq text (codes "raw")) refl read no-number-raw,
       read,
     ) refl
 offer-again Last text rest spelled = rw (spelled, word-again (codes "last") rest last-word) refl
@@ -272,7 +257,8 @@ offer-again (Flip number byte) text rest spelled =
     rw (
       words,
       word-again (codes "flip") (spelled.0 ++ 32 ∷ (spelled.1 ++ 32 ∷ rest)) flip-word,
-      flip-again number byte spelled.0 spelled.1 rest spelled.2 spelled.3,
+      flip-again number byte spelled.0 spelled.1
+          rest spelled.2 spelled.3,
     ) refl
 offer-again (Raw bytes) text rest spelled =
     let words : text ++ 32 ∷ rest ≡ codes "raw" ++ 32 ∷ (spelled.0 ++ 32 ∷ rest) =
@@ -300,73 +286,64 @@ no-extend line (Some rest) shut is = let clash : true ≡ false = sym (ap opens 
 
 -- a prefix with a call that doesn't open so doesn't either
 prefix-shut : (meddles : List Meddle) (stop : Stop) (extensions ending call : List ℕ) → SpellsMeddles 0 meddles extensions
-    → SpellsStop stop ending
-    → opens call ≡ false → opens (extensions ++ ending ++ call) ≡ false
+    → SpellsStop stop ending → opens call ≡ false → opens (extensions ++ ending ++ call) ≡ false
 prefix-shut [] Quiet extensions ending call one two shut = rw (one, two) shut
-prefix-shut [] (Cut at) extensions ending call one two shut = rw (one, two.2) refl
-prefix-shut [] (Drop at) extensions ending call one two shut = rw (one, two.2) refl
-prefix-shut [] (Fail at true) extensions ending call one two shut = rw (one, two.2) refl
-prefix-shut [] (Fail at false) extensions ending call one two shut = rw (one, two.2) refl
 prefix-shut (meddle ∷ meddles) stop extensions ending call one two shut = rw one.7 refl
+prefix-shut [] (Fail at true) extensions ending call one two shut = rw (one, two.2) refl
+prefix-shut [] _ extensions ending call one two shut = rw (one, two.2) refl
 
 -- a stop or a call is no meddle
 no-meddle : (stop : Stop) (ending call : List ℕ) → SpellsStop stop ending → after_prefix (codes "meddle ") call ≡ None
     → after_prefix (codes "meddle ") (ending ++ call) ≡ None
 unfolding after_prefix
 no-meddle Quiet ending call spelled over = rw spelled over
-no-meddle (Cut at) ending call spelled over = rw spelled.2 refl
-no-meddle (Drop at) ending call spelled over = rw spelled.2 refl
 no-meddle (Fail at true) ending call spelled over = rw spelled.2 refl
-no-meddle (Fail at false) ending call spelled over = rw spelled.2 refl
+no-meddle _ ending call spelled over = rw spelled.2 refl
 
-record IsCall (meddles : List Meddle) (stop : Stop) (call : List ℕ) (event : Event) : Type 0 where
-  shut : opens call ≡ false
-  none : after_prefix (codes "meddle ") call ≡ None
-  last : IsNoStop call
-  read : call_at meddles stop call ≡ Some event
+module _ (meddles : List Meddle) where
+  record IsCall (stop : Stop) (call : List ℕ) (event : Event) : Type 0 where
+    shut : opens call ≡ false
+    none : after_prefix (codes "meddle ") call ≡ None
+    last : IsNoStop call
+    read : call_at meddles stop call ≡ Some event
 
-prefixed-again : (meddles : List Meddle) (stop : Stop) (line call : List ℕ) (event : Event) → SpellsPrefix meddles stop line call
-    → IsCall meddles stop call event → event_at line ≡ Some event
-unfolding event_at prefixed_at
-prefixed-again meddles stop line call event spelled is =
-    let shut : opens line ≡ false =
-    ap opens spelled.parts ∙ prefix-shut meddles stop spelled.extensions spelled.ending call spelled.meddled spelled.stopped is.shut in
-    let grouped : line ≡ spelled.extensions ++ (spelled.ending ++ call) =
-    spelled.parts ∙ append_assoc spelled.extensions spelled.ending call in
-    let first : meddles_at 8 0 line ≡ Some (meddles, spelled.ending ++ call) =
-    ap (meddles_at 8 0) grouped ∙ meddles-again 8 0 meddles spelled.extensions (spelled.ending ++ call) spelled.meddled spelled.few
-    (no-meddle stop spelled.ending call spelled.stopped is.none) in
-    rw (
-      no-power line (bytes_eq line (codes "power")) shut refl,
-      no-extend line (after_prefix (codes "extend ") line) shut refl,
-      first,
-      stop-again stop spelled.ending call spelled.stopped is.last,
-    ) is.read
+  prefixed-again : (stop : Stop) (line call : List ℕ) (event : Event) → SpellsPrefix meddles stop line call → IsCall stop call event
+      → event_at line ≡ Some event
+  unfolding event_at prefixed_at
+  prefixed-again stop line call event spelled is =
+      let shut : opens line ≡ false =
+      ap opens spelled.parts ∙ prefix-shut meddles stop spelled.extensions spelled.ending call spelled.meddled spelled.stopped is.shut in
+      let grouped : line ≡ spelled.extensions ++ (spelled.ending ++ call) =
+      spelled.parts ∙ append_assoc spelled.extensions spelled.ending call in
+      let first : meddles_at 8 0 line ≡ Some (meddles, spelled.ending ++ call) =
+      ap (meddles_at 8 0) grouped ∙ meddles-again 8 0 meddles spelled.extensions (spelled.ending ++ call) spelled.meddled spelled.few
+      (no-meddle stop spelled.ending call spelled.stopped is.none) in
+      rw (
+        no-power line (bytes_eq line (codes "power")) shut refl,
+        no-extend line (after_prefix (codes "extend ") line) shut refl,
+        first,
+        stop-again stop spelled.ending call spelled.stopped is.last,
+      ) is.read
 
-ask-call : (meddles : List Meddle) (stop : Stop) (offer : Offer) (from : List ℕ) (batch : Batch) → SpellsOffer offer from
-    → IsCall meddles stop (asks batch from) (Ask meddles stop offer batch)
-unfolding after_prefix
-ask-call meddles stop offer from (One request) spelled = record {
-  shut = refl;
-  none = refl;
-  last = record { cut = refl; dropped = refl; failed = refl };
-  read = asked-again meddles stop offer from (One request) spelled;
-}
-ask-call meddles stop offer from (Many text) spelled = record {
-  shut = refl;
-  none = refl;
-  last = record { cut = refl; dropped = refl; failed = refl };
-  read = asked-again meddles stop offer from (Many text) spelled;
-}
+  ask-call : (stop : Stop) (offer : Offer) (from : List ℕ) (batch : Batch) → SpellsOffer offer from
+      → IsCall stop (asks batch from) (Ask meddles stop offer batch)
+  unfolding after_prefix
+  ask-call stop offer from (One request) spelled = record {
+    shut = refl;
+    none = refl;
+    last = record { cut = refl; dropped = refl; failed = refl };
+    read = asked-again meddles stop offer from (One request) spelled;
+  }
+  ask-call stop offer from (Many text) spelled = record {
+    shut = refl;
+    none = refl;
+    last = record { cut = refl; dropped = refl; failed = refl };
+    read = asked-again meddles stop offer from (Many text) spelled;
+  }
 
-checkpoint-call : (meddles : List Meddle) (stop : Stop) → IsCall meddles stop (codes "checkpoint") (Checkpoint meddles stop)
-unfolding after_prefix call_at
-checkpoint-call meddles stop = record {
-  shut = refl;
-  none = refl;
-  last = record { cut = refl; dropped = refl; failed = refl };
-  read = refl;
-}
+  checkpoint-call : (stop : Stop) → IsCall stop (codes "checkpoint") (Checkpoint meddles stop)
+  unfolding after_prefix call_at
+  checkpoint-call stop = record { shut = refl; none = refl; last = record { cut = refl; dropped = refl; failed = refl }; read = refl }
 
 pub spelled_is_read : (line : List ℕ) (event : Event) → SpellsEvent event line → event_at line ≡ Some event
 unfolding event_at after_prefix

@@ -1,17 +1,13 @@
 -- Replies tell what was said: a run only grows its requests, and a batch's outputs stand behind those before it.
-use Rattle.std.proofs.Common.{◌≡◌, ℕ, ◌+◌, true, false, List, [], ◌∷◌, ◌++◌, length, drop, refl, sym, ◌∙◌, ap, append_assoc, append-nil}
-use Rattle.std.specs.Prelude.{slice_get}
-use Rattle.std.specs.List.{AllByRecursion}
-use Rattle.mm_module.specs.Batch.{Batch, members_of}
-use Rattle.mm_module.specs.Meaning.{Meaning, state_after, outputs_from}
+use Rattle.mm_schedule.proofs.Below.{◌≡◌, ℕ, ◌+◌, true, false, List, [], ◌∷◌, ◌++◌, length, drop, refl, sym, ◌∙◌, ap, append_assoc}
+use Rattle.mm_schedule.proofs.Below.{append-nil, slice_get, AllByRecursion, Batch, members_of, Meaning, state_after, outputs_from, Reply}
+use Rattle.mm_schedule.proofs.Below.{Told, No, Kept, Nothing, Closed, Checkpointed, Extended, Runs, Steps, StepsOn, AsksNone, tellings_from}
+use Rattle.mm_schedule.proofs.Below.{tellings_of, tellings_in, TellsWhatWasSaid}
 use Rattle.mm_module.specs.RunLaws.{outputs_from-append, length-outputs_from}
 use Rattle.mm_listing.specs.Tellings.{Telling, WasSaid}
 use Rattle.mm_listing.specs.TellingLaws.{drop-next, slice_get-drop}
-use Rattle.mm_schedule.specs.declared.reply.Reply.{Reply}
-use Rattle.mm_schedule.specs.declared.reply.Reply.TheVariants.{Told, No, Kept, Nothing, Closed, Checkpointed, Power, Extended}
+use Rattle.mm_schedule.specs.declared.reply.Reply.TheVariants.{Power}
 use Rattle.mm_schedule.specs.Events as events
-use Rattle.mm_schedule.specs.Machine.{Runs, Steps, StepsOn, AsksNone}
-use Rattle.mm_schedule.specs.Tellings.{tellings_from, tellings_of, tellings_in, TellsWhatWasSaid}
 
 drop-length : (front rest : List (List ℕ)) → drop (length front) (front ++ rest) ≡ rest
 drop-length [] rest = refl
@@ -30,34 +26,6 @@ tellings-inside all (output ∷ outputs) rest before is = (
   tellings-inside all outputs rest (before + 1) (drop-next all before ∙ ap (λ (l : List (List ℕ)). drop 1 l) is),
 )
 
--- the outputs of all requests, from those of the first ones, a batch and more
-outputs-parts : (meaning : Meaning) (earlier members more : List (List ℕ))
-    → outputs_from meaning meaning.first ((earlier ++ members) ++ more)
-    ≡ outputs_from meaning meaning.first earlier
-    ++ (outputs_from meaning (state_after meaning earlier) members ++ outputs_from meaning (state_after meaning (earlier ++ members))
-    more)
-outputs-parts meaning earlier members more =
-    outputs_from-append meaning meaning.first (earlier ++ members) more
-    ∙ ap (λ (l : List (List ℕ)). l ++ outputs_from meaning (state_after meaning (earlier ++ members)) more)
-    (outputs_from-append meaning meaning.first earlier members)
-    ∙ append_assoc (outputs_from meaning meaning.first earlier) (outputs_from meaning (state_after meaning earlier) members)
-    (outputs_from meaning (state_after meaning (earlier ++ members)) more)
-
-batch-said : (meaning : Meaning) (earlier : List (List ℕ)) (batch : Batch) (before : ℕ) (outputs more after : List (List ℕ))
-    → before ≡ length earlier → outputs ≡ outputs_from meaning (state_after meaning earlier) (members_of batch)
-    → after ≡ (earlier ++ members_of batch) ++ more
-    → AllByRecursion (WasSaid (outputs_from meaning meaning.first after)) (tellings_from before outputs)
-batch-said meaning earlier batch before outputs more after place said is =
-    let members = members_of batch in
-    let front = outputs_from meaning meaning.first earlier in
-    let rest = outputs_from meaning (state_after meaning (earlier ++ members)) more in
-    let all : outputs_from meaning meaning.first after ≡ front ++ (outputs ++ rest) =
-    ap (λ (l : List (List ℕ)). outputs_from meaning meaning.first l) is ∙ outputs-parts meaning earlier members more
-    ∙ ap (λ (l : List (List ℕ)). front ++ (l ++ rest)) (sym said) in
-    let at : before ≡ length front = place ∙ sym (length-outputs_from meaning meaning.first earlier) in
-    tellings-inside (outputs_from meaning meaning.first after) outputs rest before
-    (ap (λ (l : List (List ℕ)). drop before l) all ∙ ap (λ n. drop n (front ++ (outputs ++ rest))) at ∙ drop-length front (outputs ++ rest))
-
 -- how a list grew
 abbrev Grows : List (List ℕ) → List (List ℕ) → Type 0
 Grows requests after = (more : List (List ℕ)) × (after ≡ requests ++ more)
@@ -65,95 +33,85 @@ Grows requests after = (more : List (List ℕ)) × (after ≡ requests ++ more)
 same-grows : (requests after : List (List ℕ)) → after ≡ requests → Grows requests after
 same-grows requests after is = ([], is ∙ sym (append-nil requests))
 
-asked-grows : (meaning : Meaning) (requests : List (List ℕ)) (batch : Batch) (reply : Reply) (after : List (List ℕ))
-    → StepsOn meaning requests batch reply after → Grows requests after
-asked-grows meaning requests batch (Told false before outputs) after s = (members_of batch, s.grown)
-asked-grows meaning requests batch (Told true before outputs) after s = same-grows requests after s.2
-asked-grows meaning requests batch (Kept way position) after s = (members_of batch, s.0)
-asked-grows meaning requests batch (No cause) after s = same-grows requests after s
-asked-grows meaning requests batch (Nothing way) after s = same-grows requests after s
-asked-grows meaning requests batch (Closed way) after s = same-grows requests after s
-asked-grows meaning requests batch Checkpointed after s = same-grows requests after s
-asked-grows meaning requests batch Power after s = same-grows requests after s
-asked-grows meaning requests batch Extended after s = same-grows requests after s
-
 stays-grows : (requests : List (List ℕ)) (reply : Reply) (after : List (List ℕ)) → AsksNone requests reply after → Grows requests after
 stays-grows requests (Told again before outputs) after s = absurd s
 stays-grows requests (Kept way position) after s = absurd s
-stays-grows requests (No cause) after s = same-grows requests after s
-stays-grows requests (Nothing way) after s = same-grows requests after s
-stays-grows requests (Closed way) after s = same-grows requests after s
-stays-grows requests Checkpointed after s = same-grows requests after s
-stays-grows requests Power after s = same-grows requests after s
-stays-grows requests Extended after s = same-grows requests after s
+stays-grows requests _ after s = same-grows requests after s
 
-step-grows : (meaning : Meaning) (requests : List (List ℕ)) (event : events.Event) (reply : Reply) (after : List (List ℕ))
-    → Steps meaning requests event reply after → Grows requests after
-step-grows meaning requests (events.Ask meddles stop offer batch) reply after s = asked-grows meaning requests batch reply after s
-step-grows meaning requests (events.Checkpoint meddles stop) reply after s = stays-grows requests reply after s
-step-grows meaning requests events.Power reply after s = stays-grows requests reply after s
-step-grows meaning requests (events.Extend value) reply after s = stays-grows requests reply after s
+module _ (meaning : Meaning) where
+  -- the outputs of all requests, from those of the first ones, a batch and more
+  outputs-parts : (earlier members more : List (List ℕ)) → outputs_from meaning meaning.first ((earlier ++ members) ++ more) ≡ outputs_from
+      meaning meaning.first earlier ++ (outputs_from meaning (state_after meaning earlier) members ++ outputs_from meaning
+      (state_after meaning (earlier ++ members)) more)
+  outputs-parts earlier members more =
+      outputs_from-append meaning meaning.first (earlier ++ members) more ∙ ap (λ (l : List (List ℕ)). l ++ outputs_from meaning
+      (state_after meaning (earlier ++ members)) more) (outputs_from-append meaning meaning.first earlier members)
+      ∙ append_assoc (outputs_from meaning meaning.first earlier) (outputs_from meaning (state_after meaning earlier) members)
+      (outputs_from meaning (state_after meaning (earlier ++ members)) more)
 
-run-grows : (meaning : Meaning) (requests : List (List ℕ)) (es : List events.Event) (replies : List Reply) (after : List (List ℕ))
-    → Runs meaning requests es replies after → Grows requests after
-run-grows meaning requests [] [] after r = same-grows requests after r
-run-grows meaning requests [] (reply ∷ replies) after r = absurd r
-run-grows meaning requests (event ∷ es) [] after r = absurd r
-run-grows meaning requests (event ∷ es) (reply ∷ replies) after r =
-    let one = step-grows meaning requests event reply r.0 r.1 in
-    let two = run-grows meaning r.0 es replies after r.2 in
-    (one.0 ++ two.0, two.1 ∙ ap (λ (l : List (List ℕ)). l ++ two.0) one.1 ∙ append_assoc requests one.0 two.0)
+  batch-said : (earlier : List (List ℕ)) (batch : Batch) (before : ℕ) (outputs more after : List (List ℕ)) → before ≡ length earlier
+      → outputs ≡ outputs_from meaning (state_after meaning earlier) (members_of batch) → after ≡ (earlier ++ members_of batch) ++ more
+      → AllByRecursion (WasSaid (outputs_from meaning meaning.first after)) (tellings_from before outputs)
+  batch-said earlier batch before outputs more after place said is =
+      let members = members_of batch in let front = outputs_from meaning meaning.first earlier in
+      let rest = outputs_from meaning (state_after meaning (earlier ++ members)) more in
+      let all : outputs_from meaning meaning.first after ≡ front ++ (outputs ++ rest) = ap (λ (l : List (List ℕ)). outputs_from meaning
+      meaning.first l) is ∙ outputs-parts earlier members more ∙ ap (λ (l : List (List ℕ)). front ++ (l ++ rest)) (sym said) in
+      let at : before ≡ length front = place ∙ sym (length-outputs_from meaning meaning.first earlier) in
+      tellings-inside (outputs_from meaning meaning.first after) outputs rest before (ap (λ (l : List (List ℕ)). drop before l) all
+      ∙ ap (λ n. drop n (front ++ (outputs ++ rest))) at ∙ drop-length front (outputs ++ rest))
 
--- what a step tells was said, also once more requests were run
-asked-tells : (meaning : Meaning) (requests : List (List ℕ)) (batch : Batch) (reply : Reply) (between more after : List (List ℕ))
-    → StepsOn meaning requests batch reply between → after ≡ between ++ more
-    → AllByRecursion (WasSaid (outputs_from meaning meaning.first after)) (tellings_of reply)
-asked-tells meaning requests batch (Told false before outputs) between more after s is =
-    batch-said meaning requests batch before outputs more after s.position s.said (is ∙ ap (λ (l : List (List ℕ)). l ++ more) s.grown)
-asked-tells meaning requests batch (Told true before outputs) between more after s is =
-    batch-said meaning s.0 batch before outputs more after s.1.position s.1.said
-    (is ∙ ap (λ (l : List (List ℕ)). l ++ more) (s.2 ∙ s.1.grown))
-asked-tells meaning requests batch (Kept way position) between more after s is = tt
-asked-tells meaning requests batch (No cause) between more after s is = tt
-asked-tells meaning requests batch (Nothing way) between more after s is = tt
-asked-tells meaning requests batch (Closed way) between more after s is = tt
-asked-tells meaning requests batch Checkpointed between more after s is = tt
-asked-tells meaning requests batch Power between more after s is = tt
-asked-tells meaning requests batch Extended between more after s is = tt
+  asked-grows : (requests : List (List ℕ)) (batch : Batch) (reply : Reply) (after : List (List ℕ))
+      → StepsOn meaning requests batch reply after → Grows requests after
+  asked-grows requests batch (Told false before outputs) after s = (members_of batch, s.grown)
+  asked-grows requests batch (Told true before outputs) after s = same-grows requests after s.2
+  asked-grows requests batch (Kept way position) after s = (members_of batch, s.0)
+  asked-grows requests batch _ after s = same-grows requests after s
+
+  step-grows : (requests : List (List ℕ)) (event : events.Event) (reply : Reply) (after : List (List ℕ))
+      → Steps meaning requests event reply after → Grows requests after
+  step-grows requests (events.Ask meddles stop offer batch) reply after s = asked-grows requests batch reply after s
+  step-grows requests _ reply after s = stays-grows requests reply after s
+
+  run-grows : (requests : List (List ℕ)) (es : List events.Event) (replies : List Reply) (after : List (List ℕ))
+      → Runs meaning requests es replies after → Grows requests after
+  run-grows requests [] [] after r = same-grows requests after r
+  run-grows requests (event ∷ es) (reply ∷ replies) after r =
+      let one = step-grows requests event reply r.0 r.1 in let two = run-grows r.0 es replies after r.2 in
+      (one.0 ++ two.0, two.1 ∙ ap (λ (l : List (List ℕ)). l ++ two.0) one.1 ∙ append_assoc requests one.0 two.0)
+  run-grows requests _ _ after r = absurd r
+
+  -- what a step tells was said, also once more requests were run
+  asked-tells : (requests : List (List ℕ)) (batch : Batch) (reply : Reply) (between more after : List (List ℕ))
+      → StepsOn meaning requests batch reply between → after ≡ between ++ more
+      → AllByRecursion (WasSaid (outputs_from meaning meaning.first after)) (tellings_of reply)
+  asked-tells requests batch (Told false before outputs) between more after s is =
+      batch-said requests batch before outputs more after s.position s.said (is ∙ ap (λ (l : List (List ℕ)). l ++ more) s.grown)
+  asked-tells requests batch (Told true before outputs) between more after s is =
+      batch-said s.0 batch before outputs more after s.1.position s.1.said (is ∙ ap (λ (l : List (List ℕ)). l ++ more) (s.2 ∙ s.1.grown))
+  asked-tells requests batch _ between more after s is = tt
 
 stays-tells : (outputs requests : List (List ℕ)) (reply : Reply) (after : List (List ℕ)) → AsksNone requests reply after
     → AllByRecursion (WasSaid outputs) (tellings_of reply)
 stays-tells outputs requests (Told again before said) after s = absurd s
-stays-tells outputs requests (Kept way position) after s = tt
-stays-tells outputs requests (No cause) after s = tt
-stays-tells outputs requests (Nothing way) after s = tt
-stays-tells outputs requests (Closed way) after s = tt
-stays-tells outputs requests Checkpointed after s = tt
-stays-tells outputs requests Power after s = tt
-stays-tells outputs requests Extended after s = tt
+stays-tells outputs requests _ after s = tt
 
 step-tells : (meaning : Meaning) (requests : List (List ℕ)) (event : events.Event) (reply : Reply) (between more after : List (List ℕ))
     → Steps meaning requests event reply between → after ≡ between ++ more
     → AllByRecursion (WasSaid (outputs_from meaning meaning.first after)) (tellings_of reply)
 step-tells meaning requests (events.Ask meddles stop offer batch) reply between more after s is =
     asked-tells meaning requests batch reply between more after s is
-step-tells meaning requests (events.Checkpoint meddles stop) reply between more after s is =
-    stays-tells (outputs_from meaning meaning.first after) requests reply between s
-step-tells meaning requests events.Power reply between more after s is =
-    stays-tells (outputs_from meaning meaning.first after) requests reply between s
-step-tells meaning requests (events.Extend value) reply between more after s is =
+step-tells meaning requests _ reply between more after s is =
     stays-tells (outputs_from meaning meaning.first after) requests reply between s
 
 run-tells : (meaning : Meaning) (requests : List (List ℕ)) (es : List events.Event) (replies : List Reply) (after : List (List ℕ))
-    → Runs meaning requests es replies after
-    → AllByRecursion (WasSaid (outputs_from meaning meaning.first after)) (tellings_in replies)
+    → Runs meaning requests es replies after → AllByRecursion (WasSaid (outputs_from meaning meaning.first after)) (tellings_in replies)
 run-tells meaning requests [] [] after r = tt
-run-tells meaning requests [] (reply ∷ replies) after r = absurd r
-run-tells meaning requests (event ∷ es) [] after r = absurd r
 run-tells meaning requests (event ∷ es) (reply ∷ replies) after r =
     let g = run-grows meaning r.0 es replies after r.2 in
     all-append (WasSaid (outputs_from meaning meaning.first after)) (tellings_of reply) (tellings_in replies)
     (step-tells meaning requests event reply r.0 g.0 after r.1 g.1) (run-tells meaning r.0 es replies after r.2)
+run-tells meaning requests _ _ after r = absurd r
 
 pub tells-said : TellsWhatWasSaid
 tells-said meaning es replies requests r = run-tells meaning [] es replies requests r

@@ -1,47 +1,21 @@
 -- A command on the first side comes by digests to what it comes to by lists; and so does each event.
-use Rattle.std.proofs.Common.{ℕ, ◌≡◌, Bool, true, false, List, [], ◌∷◌, ◌++◌, map, Option, None, Some, Result, Ok, Err, refl, sym, ap, ◌∙◌, subst}
-use Rattle.std.specs.Prelude.{if◌then◌else◌}
-use Rattle.std.specs.List.{AllByRecursion, Contains}
-use Rattle.mm_digest.specs.declared.variant.Variant.{Variant}
-use Rattle.mm_module.specs.Batch.{Batch}
-use Rattle.mm_module.specs.Meaning.{Meaning, state_after}
-use Rattle.mm_platform.specs.declared.fault.StepFault.{StepFault}
-use Rattle.mm_platform.specs.declared.plan.Meddle.{Meddle}
-use Rattle.mm_platform.specs.declared.plan.Stop.{Stop}
-use Rattle.mm_seal.specs.Snapshot.{Content, sealed_of}
-use Rattle.mm_model.specs.Instance.{Instance}
-use Rattle.mm_model.specs.History.{History, requests_of, total_of}
-use Rattle.mm_model.specs.Messages.{Within, IsClear}
-use Rattle.mm_model.specs.Moves.{Digests}
-use Rattle.mm_model.specs.Places.{Names, issued}
-use Rattle.mm_model.specs.StandingHere.{place_messages}
-use Rattle.mm_model.specs.ListLaws.{each_left, each_right, each_append}
-use Rattle.mm_call.specs.Asked.{moves_messages}
-use Rattle.mm_call.specs.Courses.{Fate, Walked, walk}
-use Rattle.mm_call.specs.Levels.{by_lists, by_digests, all_made}
-use Rattle.mm_call.specs.Standing.{instance_by}
-use Rattle.mm_move.specs.Tickets.{TicketContent, sealed_ticket, summary_in}
-use Rattle.mm_run.specs.Folds.{course_of}
-use Rattle.mm_run.specs.OneEvent.{Keeps}
-use Rattle.mm_run.specs.PremisesWords.{AreApartIn}
-use Rattle.mm_sides.specs.Roles.{Effect, Invites, Leaves, Enters, Notes, is_live}
-use Rattle.mm_sides.specs.Both.{Pair, Both, lists_move, digests_move}
-use Rattle.mm_sides.specs.Moves.{Command, MoveCause, FoundMove}
-use Rattle.mm_sides.specs.Folds.{Act, Plain, Moves, Entered, move_steps, is_moved, effect_if, effect_of, stopped_moves, brought_to, affected_if, handed, told, move_ended, moved_if, finding, outcome_here, noted_if}
-use Rattle.mm_sides.specs.Premises.{read_moves, found_moves, command_messages, messages_here, others_in, batches_in, IsGenuineHere, IsOursIn}
-use Rattle.mm_sides.specs.Laws.{history_at}
-use Rattle.mm_sides.proofs.Found.{IsFine}
-use Rattle.mm_sides.proofs.Outer.{AreOuter, found_outer, stopped_outer, due_among, IsAlike, same_batches, same_open, brought_alike}
-use Rattle.mm_sides.proofs.Told.{ended_told, affected_order, EntersSo, enters_so}
-use Rattle.mm_sides.proofs.OneRun.{invites_none, leaves_live}
+use Rattle.mm_sides.proofs.Below.{ℕ, ◌≡◌, Bool, true, false, List, [], ◌∷◌, ◌++◌, map, Option, None, Some, Result, Ok, Err, refl, sym, ap}
+use Rattle.mm_sides.proofs.Below.{◌∙◌, subst, if◌then◌else◌, AllByRecursion, Contains, Variant, Batch, Meaning, state_after, StepFault}
+use Rattle.mm_sides.proofs.Below.{Meddle, Stop, Content, sealed_of, Instance, History, requests_of, total_of, Within, IsClear, Digests}
+use Rattle.mm_sides.proofs.Below.{Names, issued, place_messages, each_left, each_right, each_append, moves_messages, Fate, Walked, walk}
+use Rattle.mm_sides.proofs.Below.{by_lists, by_digests, all_made, instance_by, TicketContent, summary_in, course_of, Keeps, AreApartIn}
+use Rattle.mm_sides.proofs.Below.{Role, Effect, Invites, Leaves, Enters, Notes, is_live, Pair, Both, lists_move, digests_move, Command}
+use Rattle.mm_sides.proofs.Below.{MoveCause, FoundMove, Act, Plain, Moves, Entered, move_steps, is_moved, effect_if, effect_of}
+use Rattle.mm_sides.proofs.Below.{stopped_moves, brought_to, affected_if, handed, told, move_ended, moved_if, finding, outcome_here}
+use Rattle.mm_sides.proofs.Below.{noted_if, read_moves, found_moves, command_messages, messages_here, others_in, batches_in, IsGenuineHere}
+use Rattle.mm_sides.proofs.Below.{IsOursIn, history_at}
+use Rattle.mm_sides.proofs.Found.{Fits, FitsFound, FitsIn, finding_fits, IsFine, pushed_last, unbroken, found_is, ended_told, affected_order, EntersSo, enters_so}
+use Rattle.mm_sides.proofs.Outer.{AreOuter, found_outer, stopped_outer, due_among, IsAlike, same_batches, same_open, brought_alike, events_agree, events_keep_names, stop_listed, Lasting, outer_lasting, outer_keeps}
+use Rattle.mm_sides.proofs.InOrder.{not_dead, invites_none, leaves_live, roles_are_one}
 use Rattle.mm_sides.proofs.OneLive.{IsOrdered}
-use Rattle.mm_sides.proofs.InOrder.{roles_are_one}
-use Rattle.mm_sides.proofs.Rests.{names_cross, issued_cross, within_cross, cell_cross, digest_rests, says_again, rests_listed, flag_shut, sound_in, issued_names}
-use Rattle.mm_sides.proofs.Keeping.{events_agree, events_keep_names, stop_listed, Lasting, outer_lasting, outer_keeps}
-use Rattle.mm_sides.proofs.Twins.{Twin, twin, IsNamed, Kept, Goes, each_goes}
-use Rattle.mm_sides.proofs.SameFound.{TellsOf, Tells, TellsIn, finding_same, finding_tells}
-use Rattle.mm_sides.proofs.Ends.{pushed_last, unbroken, found_is}
-use Rattle.mm_sides.proofs.PlainAgree.{not_dead, brought_kept, plain_goes}
+use Rattle.mm_sides.proofs.Rests.{names_cross, issued_cross, within_cross, cell_cross, digest_rests, says_again, rests_listed, flag_shut, sound_in, issued_names, here_tells, end_of}
+use Rattle.mm_sides.proofs.Twins.{Twin, twin, IsNamed, Kept, Goes, each_goes, brought_kept, plain_goes}
+use Rattle.mm_sides.proofs.SameFound.{named_of, live_history, finding_same}
 
 module _ (variant : Variant) (meaning : Meaning) (key key' barrier : List ℕ) (all others : List (List ℕ)) (asked : List Batch)
     (clear : IsClear all)
@@ -86,13 +60,9 @@ module _ (variant : Variant) (meaning : Meaning) (key key' barrier : List ℕ) (
         at = x;
         same = refl;
         kept = record {
-          this = k.this;
+          this = record { keeps = k.this.keeps; shut = tt };
           other = k.other;
-          this_shut = tt;
-          other_shut = k.other_shut;
-          count = k.count;
-          away_shut = k.away_shut;
-          away_within = k.away_within;
+          left = k.left;
           order = affected_order lists_move l notes (Some (Invites nonce)) k.order fine;
           named = subst N dead k.named;
           last = λ gone left ticket is. k.last dead left ticket is;
@@ -111,24 +81,18 @@ module _ (variant : Variant) (meaning : Meaning) (key key' barrier : List ℕ) (
       subst (λ f. AllByRecursion (IsNamed all me (history_at f (is_live l.second.role) y l.second.at l.away)) notes.retired) live k.named in
       let own : IsNamed all me y ticket = (
         made.1,
-        subst (λ (c : Content). Within (place_messages c.place) all) (sym made.2)
-            (rests_listed variant meaning key barrier y all made.0),
+        subst (λ (c : Content). Within (place_messages c.place) all) (sym made.2) (rests_listed variant meaning key barrier y all made.0),
       ) in
       record {
         at = record x { away = x.first.count };
         same = refl;
         kept = record {
-          this = k.this;
+          this = record { keeps = k.this.keeps; shut = made.0 };
           other = k.other;
-          this_shut = made.0;
-          other_shut = k.other_shut;
-          count = k.this.agrees.count;
-          away_shut = made.0;
-          away_within = k.this.within;
+          left = record { count_is = k.this.keeps.agrees.count; shut = made.0; within = k.this.keeps.within };
           order = affected_order lists_move l notes (Some (Leaves ticket)) k.order fine;
           named = subst (λ f. AllByRecursion (IsNamed all me (history_at false f y l.second.at y)) (notes.retired ++ ticket ∷ []))
-              (sym none)
-              (each_append (IsNamed all me y) notes.retired (ticket ∷ []) here (own, tt));
+              (sym none) (each_append (IsNamed all me y) notes.retired (ticket ∷ []) here (own, tt));
           last = λ gone left other is. ap (λ (t : TicketContent). t.content) (pushed_last notes.retired ticket other is) ∙ made.2;
         };
         entering = tt;
@@ -141,7 +105,7 @@ module _ (variant : Variant) (meaning : Meaning) (key key' barrier : List ℕ) (
       let own : History = l.first.at in
       let z : History = record l.away { items = own.items } in
       let is : ticket.content ≡ issued me l.away = k.last alone.not_here alone.not_there ticket alone.last in
-      let digest = ap (λ (c : Content). (summary_in c.place).bytes) is ∙ digest_rests variant meaning key barrier l.away k.away_shut
+      let digest = ap (λ (c : Content). (summary_in c.place).bytes) is ∙ digest_rests variant meaning key barrier l.away k.left.shut
       ∙ cell_cross variant meaning key key barrier l.away own.items in
       let away_named : AllByRecursion (IsNamed all me l.away) notes.retired =
       subst (λ f. AllByRecursion (IsNamed all me (history_at false f own l.second.at l.away)) notes.retired) alone.not_there
@@ -152,27 +116,26 @@ module _ (variant : Variant) (meaning : Meaning) (key key' barrier : List ℕ) (
         same = refl;
         kept = record {
           this = record {
-            agrees = record {
-              digest = digest;
-              flag = flag_shut variant meaning key barrier z k.away_shut;
-              register = k.this.agrees.register;
-              count = k.count;
+            keeps = record {
+              agrees = record {
+                digest = digest;
+                flag = flag_shut variant meaning key barrier z k.left.shut;
+                register = k.this.keeps.agrees.register;
+                count = k.left.count_is;
+              };
+              within = within_cross variant meaning key key barrier all others asked l.away own.items k.left.shut k.left.within;
             };
-            within = within_cross variant meaning key key barrier all others asked l.away own.items k.away_shut k.away_within;
+            shut = tt;
           };
           other = k.other;
-          this_shut = tt;
-          other_shut = k.other_shut;
-          count = k.count;
-          away_shut = k.away_shut;
-          away_within = k.away_within;
+          left = k.left;
           order = affected_order lists_move l notes (Some (Enters ticket)) k.order fine;
           named = each_goes (IsNamed all me l.away) (IsNamed all me z)
               (λ t h. (names_cross variant meaning key key barrier l.away own.items t.content h.0, h.1)) notes.retired away_named;
           last = λ gone left other at. not_dead gone;
         };
         entering = says_again variant meaning key barrier z
-            (digests_move.enters x.first x.away ticket.content) ticket.content k.away_shut digest
+            (digests_move.enters x.first x.away ticket.content) ticket.content k.left.shut digest
             (ap (λ (c : Content). c.position) is) (ap (λ (c : Content). c.state) is);
       }
 
@@ -192,34 +155,10 @@ module _ (variant : Variant) (meaning : Meaning) (key key' barrier : List ℕ) (
   Says l x (Leaves ticket) = Unit {0}
   Says l x (Enters ticket) = digests_move.says me x.first ticket.content ≡ issued me l.first.at
 
-  kept_issued : (l : Both History History) (x : Twin) (notes : Notes) (issued' tickets' : List (List ℕ))
-      → Kept all others asked me them l x notes
-      → Kept all others asked me them (record l { first = record l.first { issued = issued' }; tickets = tickets' }) x notes
-  kept_issued l x notes issued' tickets' k = record {
-    this = k.this;
-    other = k.other;
-    this_shut = k.this_shut;
-    other_shut = k.other_shut;
-    count = k.count;
-    away_shut = k.away_shut;
-    away_within = k.away_within;
-    order = k.order;
-    named = k.named;
-    last = k.last;
-  }
-
   told_goes : (pair : Pair) (l : Both History History) (x : Twin) (notes : Notes) (effect : Effect) (made : Option Effect)
-      → Kept all others asked me them l x (noted_if made notes)
-      → Says l x effect
-      → Goes all others asked me them notes
+      → Kept all others asked me them l x (noted_if made notes) → Says l x effect → Goes all others asked me them notes
       (record { both = handed lists_move pair me l effect; reply = told lists_move me l effect; effect = made })
       (record { both = handed digests_move pair me (twin l x) effect; reply = told digests_move me (twin l x) effect; effect = made })
-  told_goes pair l x notes (Invites nonce) made k says = record { at = x; same = refl; kept = k }
-  told_goes pair l x notes (Leaves ticket) made k says = record {
-    at = x;
-    same = refl;
-    kept = kept_issued l x (noted_if made notes) l.first.issued (l.tickets ++ sealed_ticket pair.link ticket ∷ []) k;
-  }
   told_goes pair l x notes (Enters ticket) made k says = record {
     at = x;
     same = λ j. record {
@@ -233,12 +172,12 @@ module _ (variant : Variant) (meaning : Meaning) (key key' barrier : List ℕ) (
       reply = Entered (says j).position;
       effect = made;
     };
-    kept = kept_issued l x (noted_if made notes) (l.first.issued ++ sealed_of me.key (issued me l.first.at) ∷ []) l.tickets k;
+    kept = k;
   }
+  told_goes pair l x notes effect made k says = record { at = x; same = refl; kept = k }
 
   ended_goes : (pair : Pair) (l : Both History History) (x : Twin) (notes : Notes) (stop : Stop) (broken : Option StepFault)
-      (found : Result FoundMove MoveCause)
-      (made : Option Effect) → Kept all others asked me them l x (noted_if made notes)
+      (found : Result FoundMove MoveCause) (made : Option Effect) → Kept all others asked me them l x (noted_if made notes)
       → ((f : FoundMove) → found ≡ Ok f → broken ≡ None → Says l x f.effect)
       → Goes all others asked me them notes (move_ended lists_move pair me l stop broken found made)
       (move_ended digests_move pair me (twin l x) stop broken found made)
@@ -259,8 +198,7 @@ module _ (variant : Variant) (meaning : Meaning) (key key' barrier : List ℕ) (
     names : (c : Content) → Names me y c → Names me z c
 
   brings : (y : History) (d : Digests) (meddles : List Meddle) (stop : Stop) (found : Result FoundMove MoveCause)
-      → Keeps all others asked me y d
-      → AllByRecursion (Contains others) (map (λ (m : Meddle). m.value.bytes) meddles)
+      → Keeps all others asked me y d → AllByRecursion (Contains others) (map (λ (m : Meddle). m.value.bytes) meddles)
       → Within (moves_messages me y (read_moves meddles stop (move_steps found))) all
       → Brings y (brought_to lists_move me y meddles stop (move_steps found)) (brought_to digests_move me d meddles stop (move_steps found))
   brings y d meddles stop found k outside listed =
@@ -277,8 +215,7 @@ module _ (variant : Variant) (meaning : Meaning) (key key' barrier : List ℕ) (
       let b = outer_lasting me keep C (stopped_moves stop w.broken) middle second a.sound in
       record {
         keeps = outer_keeps all others asked me agree clear apart (stopped_moves stop w.broken) middle there second
-            (stopped_listed middle stop w.broken)
-            (outer_keeps all others asked me agree clear apart w.moves y d first listed k);
+            (stopped_listed middle stop w.broken) (outer_keeps all others asked me agree clear apart w.moves y d first listed k);
         alike = brought_alike me y meddles stop found;
         names = λ c n. b.names c (a.names c n);
       }
@@ -286,88 +223,90 @@ module _ (variant : Variant) (meaning : Meaning) (key key' barrier : List ℕ) (
   same_issued : (y z : History) → IsAlike y z → issued me y ≡ issued me z
   same_issued y z a = issued_cross variant meaning key key barrier y z.items ∙ ap (issued me) (sym a.is)
 
-  makes_by : (y z : History) (d e : Digests) (again moved : Bool) (effect : Effect) → Brings y z d → Keeps all others asked me y e
-      → TellsOf me y again effect
-      → Makes z (if again then None else effect_if moved effect)
-  makes_by y z d e true moved effect b k tells = tt
-  makes_by y z d e false false effect b k tells = tt
-  makes_by y z d e false true (Invites nonce) b k tells = tt
-  makes_by y z d e false true (Enters ticket) b k tells = tt
-  makes_by y z d e false true (Leaves ticket) b k tells =
-      let t = tells refl in (
-        same_open y z b.alike ∙ t.0,
-        b.names ticket.content (subst (Names me y) (sym t.2) (issued_names variant meaning key barrier y k.within.sound t.1)),
-        t.2 ∙ same_issued y z b.alike,
-      )
+  module _ (notes : Notes) (role : Role) (y z : History) (d e : Digests) (b : Brings y z d) (k : Keeps all others asked me y e) where
+    makes_by : (again moved : Bool) (effect : Effect) → Fits lists_move me y notes role again effect
+        → Makes z (if again then None else effect_if moved effect)
+    makes_by true moved effect fits = tt
+    makes_by false false effect fits = tt
+    makes_by false true (Invites nonce) fits = tt
+    makes_by false true (Enters ticket) fits = tt
+    makes_by false true (Leaves ticket) fits =
+        let left = (fits refl).1 in
+        let live = (here_tells me y left.offered left.here).live in (
+          same_open y z b.alike ∙ left.shut,
+          b.names ticket.content (subst (Names me y) (sym left.says) (issued_names variant meaning key barrier y k.within.sound live)),
+          left.says ∙ same_issued y z b.alike,
+        )
 
-  makes_of : (y z : History) (d e : Digests) (fates : ℕ → Fate) (found : Result FoundMove MoveCause) → Brings y z d
-      → Keeps all others asked me y e → Tells me y found
-      → Makes z (effect_of fates found)
-  makes_of y z d e fates (Err cause) b k tells = tt
-  makes_of y z d e fates (Ok found) b k tells = makes_by y z d e found.again (is_moved (fates 1).ends (fates 2).ends) found.effect b k tells
+    makes_of : (fates : ℕ → Fate) (found : Result FoundMove MoveCause) → FitsFound lists_move me y notes role found
+        → Makes z (effect_of fates found)
+    makes_of fates (Err cause) fits = tt
+    makes_of fates (Ok found) fits = makes_by found.again (is_moved (fates 1).ends (fates 2).ends) found.effect fits
 
   -- what is told of a move that wasn't broken off
   says_by : (l : Both History History) (x : Twin) (notes : Notes) (again moved : Bool) (effect : Effect)
       → (a : Affects l x notes (if again then None else effect_if moved effect)) → (again ≡ false → moved ≡ true)
       → (again ≡ true → Says l x effect) → Says (affected_if lists_move l (if again then None else effect_if moved effect)) a.at effect
-  says_by l x notes again moved (Invites nonce) a done says = tt
-  says_by l x notes again moved (Leaves ticket) a done says = tt
   says_by l x notes true moved (Enters ticket) a done says =
       subst (λ (t : Twin). digests_move.says me t.first ticket.content ≡ issued me l.first.at) (sym a.entering) (says refl)
   says_by l x notes false true (Enters ticket) a done says = a.entering
   says_by l x notes false false (Enters ticket) a done says = not_dead (sym (done refl))
+  says_by l x notes again moved effect a done says = tt
 
-  -- a ticket that is answered again
-  again_says : (l : Both History History) (x : Twin) (y : History) (again : Bool) (effect : Effect) → Brings y l.first.at x.first
-      → TellsOf me y again effect → again ≡ true
-      → Says l x effect
-  again_says l x y again (Invites nonce) b tells e = tt
-  again_says l x y again (Leaves ticket) b tells e = tt
-  again_says l x y again (Enters ticket) b tells e =
-      let t = tells e in
-      let z : History = l.first.at in
-      let same : y.batches ≡ z.batches = sym (same_batches y z b.alike) in
-      says_again variant meaning key barrier z x.first ticket.content (same_open y z b.alike ∙ t.0) b.keeps.agrees.digest
-      (t.2.position ∙ ap total_of same) (t.2.state ∙ ap (λ v. state_after me.meaning (requests_of v)) same)
+  -- a ticket that is answered again names the end of the history
+  module _ (l : Both History History) (x : Twin) (notes : Notes) (y : History) (b : Brings y l.first.at x.first)
+      (named : is_live l.first.role ≡ true → AllByRecursion (IsNamed all me y) notes.retired) where
+    again_says : (again : Bool) (effect : Effect) → Fits lists_move me y notes l.first.role again effect → again ≡ true → Says l x effect
+    again_says again (Enters ticket) fits e =
+        let t = fits.1 e in
+        let names = (named_of all me y notes.retired ticket (named t.live) fits.2).0 in
+        let end = end_of me y ticket.content names (here_tells me y ticket.content t.here).last in
+        let z : History = l.first.at in
+        let same : y.batches ≡ z.batches = sym (same_batches y z b.alike) in
+        says_again variant meaning key barrier z x.first ticket.content (same_open y z b.alike ∙ t.shut) b.keeps.agrees.digest
+        (end.position ∙ ap total_of same) (end.state ∙ ap (λ v. state_after me.meaning (requests_of v)) same)
+    again_says again effect fits e = tt
 
-  move_says : (l : Both History History) (x : Twin) (notes : Notes) (y : History) (fates : ℕ → Fate) (found : Result FoundMove MoveCause)
-      → (a : Affects l x notes (effect_of fates found)) → Brings y l.first.at x.first → Tells me y found
-      → (f : FoundMove) → found ≡ Ok f → (walk fates 1 (move_steps found)).broken ≡ None
-      → Says (affected_if lists_move l (effect_of fates found)) a.at f.effect
-  move_says l x notes y fates (Err cause) a b tells f e whole = cc
-  move_says l x notes y fates (Ok found) a b tells f e whole =
-      subst (λ (g : FoundMove). Says (affected_if lists_move l (effect_of fates (Ok found))) a.at g.effect) (found_is found f e)
-      (says_by l x notes found.again (is_moved (fates 1).ends (fates 2).ends) found.effect a (unbroken fates found.again whole)
-      (again_says l x y found.again found.effect b tells))
+    move_says : (fates : ℕ → Fate) (found : Result FoundMove MoveCause) → (a : Affects l x notes (effect_of fates found))
+        → FitsFound lists_move me y notes l.first.role found
+        → (f : FoundMove) → found ≡ Ok f → (walk fates 1 (move_steps found)).broken ≡ None
+        → Says (affected_if lists_move l (effect_of fates found)) a.at f.effect
+    move_says fates (Err cause) a fits f e whole = cc
+    move_says fates (Ok found) a fits f e whole =
+        subst (λ (g : FoundMove). Says (affected_if lists_move l (effect_of fates (Ok found))) a.at g.effect) (found_is found f e)
+        (says_by l x notes found.again (is_moved (fates 1).ends (fates 2).ends) found.effect a (unbroken fates found.again whole)
+        (again_says found.again found.effect fits))
 
   moved_goes : (pair : Pair) (l : Both History History) (x : Twin) (notes : Notes) (meddles : List Meddle) (stop : Stop) (command : Command)
       (found : Option (Result FoundMove MoveCause)) → Kept all others asked me them l x notes
       → IsOrdered l.first.role l.second.role notes (moved_if lists_move pair me l meddles stop command found)
-      → TellsIn me l.first.at found
+      → FitsIn lists_move me l.first.at notes l.first.role found
       → AllByRecursion (Contains others) (map (λ (m : Meddle). m.value.bytes) meddles)
       → Within (moves_messages me l.first.at (found_moves meddles stop found)) all
       → Goes all others asked me them notes (moved_if lists_move pair me l meddles stop command found)
       (moved_if digests_move pair me (twin l x) meddles stop command found)
-  moved_goes pair l x notes meddles stop command None k s tells outside listed = record { at = x; same = refl; kept = k }
-  moved_goes pair l x notes meddles stop command (Some found) k s tells outside listed =
+  moved_goes pair l x notes meddles stop command None k s fits outside listed = record { at = x; same = refl; kept = k }
+  moved_goes pair l x notes meddles stop command (Some found) k s fits outside listed =
       let fates : ℕ → Fate = (course_of stop meddles).fates in
       let broken : Option StepFault = (walk fates 1 (move_steps found)).broken in
       let effect : Option Effect = effect_of fates found in
       let y : History = l.first.at in
       let z : History = brought_to lists_move me y meddles stop (move_steps found) in
       let d : Digests = brought_to digests_move me x.first meddles stop (move_steps found) in
-      let b : Brings y z d = brings y x.first meddles stop found k.this outside listed in
+      let b : Brings y z d = brings y x.first meddles stop found k.this.keeps outside listed in
       let l1 : Both History History = record l { first = record l.first { at = z } } in
       let x1 : Twin = record x { first = d } in
       let k1 : Kept all others asked me them l1 x1 notes = brought_kept variant meaning key key' barrier all others asked clear apart l x
-      notes z d k b.keeps b.alike b.names in
+      notes z d k b.keeps b.alike (λ live. b.names) in
       let ended = ended_told lists_move pair me (affected_if lists_move l1 effect) stop broken found effect in
       let fine : IsFine l.first.role notes effect = subst (IsFine l.first.role notes) ended.effect_is s.fine in
-      let a : Affects l1 x1 notes effect = affects l1 x1 notes effect k1 fine (makes_of y z d x.first fates found b k.this tells) in
+      let a : Affects l1 x1 notes effect =
+      affects l1 x1 notes effect k1 fine (makes_of notes l.first.role y z d x.first b k.this.keeps fates found fits) in
       let l2 : Both History History = affected_if lists_move l1 effect in
       subst (λ (w : Both Digests ℕ). Goes all others asked me them notes (move_ended lists_move pair me l2 stop broken found effect)
       (move_ended digests_move pair me w stop broken found effect)) (sym a.same)
-      (ended_goes pair l2 a.at notes stop broken found effect a.kept (move_says l1 x1 notes y fates found a b tells))
+      (ended_goes pair l2 a.at notes stop broken found effect a.kept (move_says l1 x1 notes y b
+      (λ live. subst (λ w. AllByRecursion (IsNamed all me w) notes.retired) (live_history l live) k.named) fates found a fits))
 
   -- one event on the first side
   pub here_goes : (pair : Pair) (l : Both History History) (x : Twin) (notes : Notes) (act : Act) → Kept all others asked me them l x notes
@@ -385,8 +324,6 @@ module _ (variant : Variant) (meaning : Meaning) (key key' barrier : List ℕ) (
       let back = each_right (Contains all) (command_messages me l.first command)
       (moves_messages me l.first.at (found_moves meddles stop found)) listed in
       subst (λ (f : Option (Result FoundMove MoveCause)). Goes all others asked me them notes
-      (moved_if lists_move pair me l meddles stop command found)
-      (moved_if digests_move pair me (twin l x) meddles stop command f))
+      (moved_if lists_move pair me l meddles stop command found) (moved_if digests_move pair me (twin l x) meddles stop command f))
       (sym (finding_same variant meaning key barrier all others asked clear apart pair them l x notes command k genuine ours front))
-      (moved_goes pair l x notes meddles stop command found k s
-      (finding_tells variant meaning key barrier all others asked clear apart pair them l x notes command k ours) outside back)
+      (moved_goes pair l x notes meddles stop command found k s (finding_fits lists_move pair me notes l command ours) outside back)

@@ -1,27 +1,14 @@
 -- Whole schedules of both sides agree, by digests and by lists; and they go on from what stands after their first events.
-use Rattle.std.proofs.Common.{ℕ, ◌≡◌, List, [], ◌∷◌, ◌++◌, refl, sym, ap, subst}
-use Rattle.std.specs.List.{AllByRecursion, Contains}
-use Rattle.mm_digest.specs.Messages.{start_message}
-use Rattle.mm_digest.specs.declared.variant.Variant.{Variant}
-use Rattle.mm_digest.specs.declared.variant.Variant.TheVariants.{Basic, Opt}
-use Rattle.mm_module.specs.Batch.{Batch}
-use Rattle.mm_module.specs.Meaning.{Meaning}
-use Rattle.mm_model.specs.Instance.{Instance}
-use Rattle.mm_model.specs.History.{History, first_history}
-use Rattle.mm_model.specs.Messages.{Within, IsClear}
-use Rattle.mm_model.specs.Moves.{Digests}
-use Rattle.mm_model.specs.ListLaws.{each_left, each_right, each_self}
-use Rattle.mm_call.specs.Standing.{instance_by}
-use Rattle.mm_run.specs.Folds.{first_digests}
-use Rattle.mm_run.specs.OneEvent.{Keeps}
-use Rattle.mm_run.specs.PremisesWords.{AreApartIn}
+use Rattle.mm_sides.proofs.Below.{ℕ, ◌≡◌, List, [], ◌∷◌, ◌++◌, refl, sym, ap, subst, AllByRecursion, Contains, start_message, Variant}
+use Rattle.mm_sides.proofs.Below.{Basic, Opt, Batch, Meaning, Instance, History, first_history, Within, IsClear, Digests, each_left}
+use Rattle.mm_sides.proofs.Below.{each_right, each_self, instance_by, first_digests, Keeps, AreApartIn, Notes, no_notes, Which, First}
+use Rattle.mm_sides.proofs.Below.{Second, Pair, instance_on, Both, turned, Mover, lists_move, digests_move, first_lists, first_both, Act}
+use Rattle.mm_sides.proofs.Below.{BothEvent, BothReply, BothOutcome, outcome_here, both_outcome, BothFollowed, both_followed, noted_if}
+use Rattle.mm_sides.proofs.Below.{both_event_messages, both_messages_from, both_messages, others_in, both_others, batches_in, both_batches}
+use Rattle.mm_sides.proofs.Below.{IsGenuineIn, AreGenuineFrom, IsNew, IsOursIn, AreFreshFrom, PairsAgree, PairsAgreeThroughout}
+use Rattle.mm_sides.proofs.Below.{both_continued, PairsGoOn}
 use Rattle.mm_run.proofs.BasicRuns as basic_runs
 use Rattle.mm_run.proofs.OptRuns as opt_runs
-use Rattle.mm_sides.specs.Roles.{Notes, no_notes}
-use Rattle.mm_sides.specs.Both.{Which, First, Second, Pair, instance_on, Both, turned, Mover, lists_move, digests_move, first_lists, first_both}
-use Rattle.mm_sides.specs.Folds.{Act, BothEvent, BothReply, BothOutcome, outcome_here, both_outcome, BothFollowed, both_followed, noted_if}
-use Rattle.mm_sides.specs.Premises.{both_event_messages, both_messages_from, both_messages, others_in, both_others, batches_in, both_batches, IsGenuineIn, AreGenuineFrom, IsNew, IsOursIn, AreFreshFrom}
-use Rattle.mm_sides.specs.Laws.{PairsAgree, PairsAgreeThroughout, both_continued, PairsGoOn}
 use Rattle.mm_sides.proofs.InOrder.{roles_begin}
 use Rattle.mm_sides.proofs.OneLive.{here_ordered}
 use Rattle.mm_sides.proofs.Twins.{Twin, twin, turned_twin, Kept, Goes, turned_kept}
@@ -59,8 +46,7 @@ module _ (pair : Pair) (all others : List (List ℕ)) (asked : List Batch) (clea
       let o : BothOutcome History History = outcome_here lists_move pair i (turned l) act in
       let g = here_goes pair.variant pair.meaning pair.second_key pair.first_key pair.barrier all others asked clear
       (apart_cross pair.variant pair.meaning pair.first_key pair.second_key pair.barrier others asked apart) pair (turned l)
-      (turned_twin x) notes act back
-      (here_ordered pair i (turned l) notes act back.order new ours) outside batches listed genuine ours in
+      (turned_twin x) notes act back (here_ordered pair i (turned l) notes act back.order new ours) outside batches listed genuine ours in
       record {
         at = turned_twin g.at;
         same = ap (λ (w : BothOutcome Digests ℕ). record w { both = turned w.both }) g.same;
@@ -75,8 +61,8 @@ module _ (pair : Pair) (all others : List (List ℕ)) (asked : List Batch) (clea
       → PairsAgree pair (both_followed lists_move pair l events) (both_followed digests_move pair (twin l x) events)
   agree_from [] l x notes k outside batches listed genuine fresh = record {
     replies = refl;
-    first = record { role = refl; at = k.this.agrees; issued = refl };
-    second = record { role = refl; at = k.other.agrees; issued = refl };
+    first = record { role = refl; at = k.this.keeps.agrees; issued = refl };
+    second = record { role = refl; at = k.other.keeps.agrees; issued = refl };
     tickets = refl;
     committed = refl;
   }
@@ -91,12 +77,9 @@ module _ (pair : Pair) (all others : List (List ℕ)) (asked : List Batch) (clea
       (each_right (Contains asked) (batches_in event.act) (both_batches events) batches)
       (each_right (Contains all) (both_event_messages pair l event) (both_messages_from pair o.both events) listed) genuine.1 fresh.2 in
       let f : BothFollowed History History = both_followed lists_move pair o.both events in
-      let Q : BothOutcome Digests ℕ → Type 0 = λ w.
-      PairsAgree pair (record { both = f.both; replies = o.reply ∷ f.replies })
-      (record {
+      let Q : BothOutcome Digests ℕ → Type 0 = λ w. PairsAgree pair (record { both = f.both; replies = o.reply ∷ f.replies }) (record {
         both = (both_followed digests_move pair w.both events).both;
-        replies = w.reply
-            ∷ (both_followed digests_move pair w.both events).replies;
+        replies = w.reply ∷ (both_followed digests_move pair w.both events).replies;
       }) in
       subst Q (sym g.same) (record {
         replies = ap (λ (r : List BothReply). o.reply ∷ r) rest.replies;
@@ -117,15 +100,10 @@ pairs_agree pair events clear genuine fresh =
     let here = starts_by pair.variant pair.meaning pair.first_key pair.first_key pair.barrier all others asked self.0 in
     let there = starts_by pair.variant pair.meaning pair.first_key pair.second_key pair.barrier all others asked self.0 in
     let x : Twin = record { first = first_digests i; second = first_digests j; away = 0 } in
-    agree_from pair all others asked clear.clear clear.apart events (first_lists pair) x no_notes
-    (record {
-      this = here;
-      other = there;
-      this_shut = tt;
-      other_shut = tt;
-      count = refl;
-      away_shut = refl;
-      away_within = here.within;
+    agree_from pair all others asked clear.clear clear.apart events (first_lists pair) x no_notes (record {
+      this = record { keeps = here; shut = tt };
+      other = record { keeps = there; shut = tt };
+      left = record { count_is = refl; shut = refl; within = here.within };
       order = roles_begin;
       named = tt;
       last = λ gone left ticket is. absurd (cc);

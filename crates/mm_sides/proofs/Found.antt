@@ -1,126 +1,167 @@
--- What a move finds fits the role of its side.
-use Rattle.std.proofs.Common.{ℕ, ◌≡◌, Bool, true, false, List, Option, None, Some, Result, Ok, Err, refl}
-use Rattle.std.specs.Prelude.{if◌then◌else◌}
-use Rattle.std.specs.List.{Contains}
-use Rattle.std.specs.Str.{bytes_eq}
-use Rattle.std.proofs.lemmas.Slice.Eq.{bytes_eq-Decides}
-use Rattle.mm_seal.specs.declared.snapshot.PartsFault.{PartsFault}
-use Rattle.mm_seal.specs.declared.snapshot.PartsFault.TheVariants.{Form, Kind}
-use Rattle.mm_seal.specs.Parts.{parts_of}
-use Rattle.mm_seal.specs.Snapshot.{Content, Snapshot, tag_of}
-use Rattle.mm_model.specs.declared.refusal.Refusal.{Refusal}
-use Rattle.mm_model.specs.Instance.{Instance}
-use Rattle.mm_call.specs.Levels.{Level}
-use Rattle.mm_call.specs.OrderWords.{weighed}
-use Rattle.mm_call.specs.Courses.{Fate}
-use Rattle.mm_move.specs.Tickets.{TicketContent}
-use Rattle.mm_run.specs.Offered.{offered_bytes}
-use Rattle.mm_sides.specs.Roles.{Role, Blank, Live, Waiting, Retired, Effect, Invites, Leaves, Enters, Notes}
-use Rattle.mm_sides.specs.Order.{MayTake, IsFreshEffect}
-use Rattle.mm_sides.specs.Both.{Pair, Side, Both, Mover}
-use Rattle.mm_sides.specs.Moves.{Command, Invite, Retire, Accept, MoveCause, Open, Gone, Nonce, Already, FoundMove, stands_here, verdict_here, invited_on, left_by, offered_to, retired_on, ticket_in, entered_as, entered_again, accepted_on}
-use Rattle.mm_sides.specs.Folds.{is_moved, effect_if, effect_of, retiring, accepting, finding}
-use Rattle.mm_sides.specs.Premises.{IsNew, IsOurs, IsOursOffered, IsOursFor}
+-- What a move finds fits the role of its side, and tells of where the side stands.
+use Rattle.mm_sides.proofs.Below.{ℕ, ◌≡◌, Bool, true, false, List, Option, None, Some, Result, Ok, Err, refl, sym, [], ◌∷◌, ◌++◌}
+use Rattle.mm_sides.proofs.Below.{if◌then◌else◌, Contains, bytes_eq, bytes_eq-Decides, PartsFault, Form, Kind, parts_of, Content, Snapshot}
+use Rattle.mm_sides.proofs.Below.{tag_of, Refusal, Instance, weighed, weighed_only, accepting_verdict, Fate, End, Done, Fails, walk}
+use Rattle.mm_sides.proofs.Below.{after_step, TicketContent, offered_bytes, Role, Live, Waiting, Retired, Effect, Invites, Leaves, Enters}
+use Rattle.mm_sides.proofs.Below.{Notes, is_live, MayTake, IsFreshEffect, IsLastTicket, AreInOrder, EntersLast, Pair, Both, Mover, Command}
+use Rattle.mm_sides.proofs.Below.{Invite, Retire, Accept, MoveCause, Open, Gone, Nonce, Already, FoundMove, stands_here, verdict_here}
+use Rattle.mm_sides.proofs.Below.{invited_on, left_by, offered_to, retired_on, ticket_in, entered_as, entered_again, accepted_on, is_moved}
+use Rattle.mm_sides.proofs.Below.{effect_if, effect_of, retiring, accepting, finding, BothOutcome, affected_if, handed, told, move_ended}
+use Rattle.mm_sides.proofs.Below.{noted_if, IsNew, IsOurs, IsOursOffered, IsOursFor, Reads, StepFault, Stop, plain_reply}
+use Rattle.mm_sides.proofs.InOrder.{not_dead, roles_go_on, roles_enter_last}
 
--- a ticket that has an effect is one that the module left by
-abbrev pub Ours : Notes → Effect → Type 0
-Ours notes (Invites nonce) = Unit {0}
-Ours notes (Leaves ticket) = Unit {0}
-Ours notes (Enters ticket) = Contains notes.retired ticket
+-- How a list of tickets ends, and how the walk of a move does.
 
-abbrev pub MayFind : Role → Notes → Result FoundMove MoveCause → Type 0
-MayFind role notes (Err cause) = Unit {0}
-MayFind role notes (Ok found) = found.again ≡ false → MayTake role found.effect × Ours notes found.effect
+not_pushed : {A : Type 0} (xs : List A) (x : A) → [] ≡ xs ++ x ∷ [] → ⊥
+not_pushed [] x e = cc
+not_pushed (y ∷ xs) x e = cc
 
-abbrev pub MayFindIn : Role → Notes → Option (Result FoundMove MoveCause) → Type 0
-MayFindIn role notes None = Unit {0}
-MayFindIn role notes (Some found) = MayFind role notes found
+append_last : {A : Type 0} (xs ys : List A) (x y : A) → xs ++ x ∷ [] ≡ ys ++ y ∷ [] → x ≡ y
+append_last [] [] x y e = cc
+append_last {A} [] (b ∷ ys) x y e = let tails : [] ≡ ys ++ y ∷ [] = cc in absurd (not_pushed ys y tails)
+append_last {A} (a ∷ xs) [] x y e = let tails : xs ++ x ∷ [] ≡ [] = cc in absurd (not_pushed xs x (sym tails))
+append_last (a ∷ xs) (b ∷ ys) x y e = let tails : xs ++ x ∷ [] ≡ ys ++ y ∷ [] = cc in append_last xs ys x y tails
 
-never_new : true ≡ false → ⊥
-never_new e = cc
+-- the last of tickets behind which one more was put
+pub pushed_last : (retired : List TicketContent) (ticket other : TicketContent) → IsLastTicket (retired ++ ticket ∷ []) other
+    → other ≡ ticket
+pushed_last retired ticket other is = append_last is.front retired other ticket (sym is.is)
 
-if_found : (role : Role) (notes : Notes) (b : Bool) (x y : Result FoundMove MoveCause) → (b ≡ true → MayFind role notes x)
-    → (b ≡ false → MayFind role notes y)
-    → MayFind role notes (if b then x else y)
-if_found role notes true x y p q = p refl
-if_found role notes false x y p q = q refl
+two_of : true ≡ false → ⊥
+two_of e = cc
 
-invited_may : (role : Role) (notes : Notes) (nonce : List ℕ) → MayFind role notes (invited_on role nonce)
-invited_may Blank notes nonce = λ e. (tt, tt)
-invited_may Live notes nonce = tt
-invited_may (Waiting awaited) notes nonce =
-    if_found (Waiting awaited) notes (bytes_eq awaited nonce) (Ok (record { again = true; effect = Invites nonce })) (Err Already)
-    (λ t e. absurd (never_new e)) (λ f. tt)
-invited_may (Retired left) notes nonce = λ e. (tt, tt)
+never_none : {A : Type 0} (x : A) → Some x ≡ None → ⊥
+never_none x e = cc
 
-module _ {S A : Type 0} (mover : Mover S A) (i : Instance) where
-  left_may : (role : Role) (notes : Notes) (at : S) (again : Bool) (nonce : List ℕ) (content : Content) (result : Result Bool Refusal)
-      → (again ≡ false → (ticket : TicketContent) → MayTake role (Leaves ticket))
-      → MayFind role notes (left_by mover i at again nonce content result)
-  left_may role notes at again nonce content (Ok fresh) may = λ e. (may e (record { nonce = nonce; content = mover.says i at content }), tt)
-  left_may role notes at again nonce content (Err why) may = tt
+both_done : (v w : List (List ℕ)) (a b : End)
+    → (after_step Reads v a (after_step Reads w b (record { moves = []; steps = 0; writes = 0; broken = None }))).broken ≡ None
+    → is_moved a b ≡ true
+both_done v w Done Done e = refl
+both_done v w Done (Fails fault made) e = absurd (never_none fault e)
+both_done v w (Fails fault made) b e = absurd (never_none fault e)
 
-  offered_may : (role : Role) (notes : Notes) (at : S) (again : Bool) (nonce : List ℕ) (parts : Result Snapshot PartsFault)
-      → (again ≡ false → (ticket : TicketContent) → MayTake role (Leaves ticket))
-      → MayFind role notes (offered_to mover i at again nonce parts)
-  offered_may role notes at again nonce (Err Form) may = tt
-  offered_may role notes at again nonce (Err Kind) may = tt
-  offered_may role notes at again nonce (Ok snapshot) may =
-      left_may role notes at again nonce snapshot.content
-      (weighed (i.meaning.is_spelled snapshot.content.state) (bytes_eq snapshot.tag (tag_of i.key snapshot.content))
-      (verdict_here (stands_here (mover.level i) at snapshot.content)) true) may
+-- the walk of a move that isn't broken off made both its steps
+pub unbroken : (fates : ℕ → Fate) (again : Bool) → (walk fates 1 (if again then Reads ∷ [] else Reads ∷ Reads ∷ [])).broken ≡ None
+    → again ≡ false → is_moved (fates 1).ends (fates 2).ends ≡ true
+unbroken fates true e f = absurd (two_of f)
+unbroken fates false e f = both_done (fates 1).brings (fates 2).brings (fates 1).ends (fates 2).ends e
 
-  retired_may : (role : Role) (notes : Notes) (at : S) (nonce bytes : List ℕ) → MayFind role notes (retired_on mover i role at nonce bytes)
-  retired_may Blank notes at nonce bytes = tt
-  retired_may (Waiting awaited) notes at nonce bytes = tt
-  retired_may Live notes at nonce bytes =
-      let parts = parts_of i.variant i.meaning.id bytes in
-      if_found Live notes ((mover.level i).is_open at) (Err Open) (offered_to mover i at false nonce parts) (λ t. tt)
-      (λ f. offered_may Live notes at false nonce parts (λ e ticket. tt))
-  retired_may (Retired left) notes at nonce bytes =
-      let parts = parts_of i.variant i.meaning.id bytes in
-      if_found (Retired left) notes (bytes_eq left nonce) (offered_to mover i at true nonce parts) (Err Gone)
-      (λ t. offered_may (Retired left) notes at true nonce parts (λ e ticket. absurd (never_new e))) (λ f. tt)
+pub found_is : (f g : FoundMove) → (let r : Result FoundMove MoveCause = Ok f in let s : Result FoundMove MoveCause = Ok g in r ≡ s) → f ≡ g
+found_is f g e = cc
 
-  retiring_may : (notes : Notes) (side : Side S) (nonce : List ℕ) (bytes : Option (List ℕ))
-      → MayFindIn side.role notes (retiring mover i side nonce bytes)
-  retiring_may notes side nonce None = tt
-  retiring_may notes side nonce (Some bytes) = retired_may side.role notes side.at nonce bytes
+-- The module leaves where no segment is open, by an offer that stands there.
+pub record LeavesBy {S A : Type 0} (mover : Mover S A) (i : Instance) (at : S) (ticket : TicketContent) : Type 0 where
+  pub shut : (mover.level i).is_open at ≡ false
+  pub offered : Content
+  pub here : stands_here (mover.level i) at offered ≡ true
+  pub says : ticket.content ≡ mover.says i at offered
 
-entered_may : (notes : Notes) (awaited : List ℕ) (read : Result TicketContent Refusal) → IsOurs notes read
-    → MayFind (Waiting awaited) notes (entered_as awaited read)
-entered_may notes awaited (Err why) ours = tt
-entered_may notes awaited (Ok ticket) ours =
-    if_found (Waiting awaited) notes (bytes_eq awaited ticket.nonce) (Ok (record { again = false; effect = Enters ticket })) (Err Nonce)
-    (λ t e. ((bytes_eq-Decides awaited ticket.nonce).0 t, ours)) (λ f. tt)
+-- It entered before where it is, by a ticket that stands there.
+pub record EnteredHere {S A : Type 0} (mover : Mover S A) (i : Instance) (at : S) (role : Role) (ticket : TicketContent) : Type 0 where
+  pub live : is_live role ≡ true
+  pub shut : (mover.level i).is_open at ≡ false
+  pub here : stands_here (mover.level i) at ticket.content ≡ true
 
-again_may : {S : Type 0} (level : Level S) (notes : Notes) (at : S) (read : Result TicketContent Refusal)
-    → MayFind Live notes (entered_again level at read)
-again_may level notes at (Err why) = tt
-again_may level notes at (Ok ticket) =
-    if_found Live notes (level.is_open at) _ _ (λ t. tt)
-    (λ f. if_found Live notes (stands_here level at ticket.content) _ _ (λ t e. absurd (never_new e)) (λ g. tt))
+-- What a found effect tells, by whether it was made before: a new one may be taken by the role of its side, and a ticket is one
+-- that the module left by.
+abbrev pub Fits : {S A : Type 0} → Mover S A → Instance → S → Notes → Role → (again : Bool) → Effect → Type 0
+Fits mover i at notes role again (Invites nonce) = again ≡ false → MayTake role (Invites nonce)
+Fits mover i at notes role again (Leaves ticket) = again ≡ false → MayTake role (Leaves ticket) × LeavesBy mover i at ticket
+Fits mover i at notes role again (Enters ticket) =
+    (again ≡ false → MayTake role (Enters ticket)) × (again ≡ true → EnteredHere mover i at role ticket) × Contains notes.retired ticket
 
-accepted_may : {S : Type 0} (level : Level S) (role : Role) (notes : Notes) (at : S) (read : Result TicketContent Refusal)
-    → IsOurs notes read
-    → MayFind role notes (accepted_on level role at read)
-accepted_may level Blank notes at read ours = tt
-accepted_may level Live notes at read ours = again_may level notes at read
-accepted_may level (Waiting awaited) notes at read ours = entered_may notes awaited read ours
-accepted_may level (Retired left) notes at read ours = tt
+abbrev pub FitsFound : {S A : Type 0} → Mover S A → Instance → S → Notes → Role → Result FoundMove MoveCause → Type 0
+FitsFound mover i at notes role (Err cause) = Unit {0}
+FitsFound mover i at notes role (Ok found) = Fits mover i at notes role found.again found.effect
 
-accepting_may : {S A : Type 0} (mover : Mover S A) (pair : Pair) (i : Instance) (notes : Notes) (side : Side S) (bytes : Option (List ℕ))
-    → IsOursOffered pair notes bytes → MayFindIn side.role notes (accepting mover pair i side bytes)
-accepting_may mover pair i notes side None ours = tt
-accepting_may mover pair i notes side (Some bytes) ours = accepted_may (mover.level i) side.role notes side.at (ticket_in pair bytes) ours
+abbrev pub FitsIn : {S A : Type 0} → Mover S A → Instance → S → Notes → Role → Option (Result FoundMove MoveCause) → Type 0
+FitsIn mover i at notes role None = Unit {0}
+FitsIn mover i at notes role (Some found) = FitsFound mover i at notes role found
 
-pub finding_may : {S A : Type 0} (mover : Mover S A) (pair : Pair) (i : Instance) (notes : Notes) (both : Both S A) (command : Command)
-    → IsOursFor pair both.tickets notes command → MayFindIn both.first.role notes (finding mover pair i both command)
-finding_may mover pair i notes both (Invite nonce) ours = invited_may both.first.role notes nonce
-finding_may mover pair i notes both (Retire nonce offer) ours =
-    retiring_may mover i notes both.first nonce (offered_bytes both.first.issued offer)
-finding_may mover pair i notes both (Accept offer) ours =
-    accepting_may mover pair i notes both.first (offered_bytes both.tickets offer) ours
+if_either : (P : Result FoundMove MoveCause → Type 0) (b : Bool) (x y : Result FoundMove MoveCause) → (b ≡ true → P x) → (b ≡ false → P y)
+    → P (if b then x else y)
+if_either P true x y p q = p refl
+if_either P false x y p q = q refl
+
+pub stands_by : (stands again : Bool) → verdict_here stands ≡ accepting_verdict again → stands ≡ true
+stands_by true again e = refl
+stands_by false true e = cc
+stands_by false false e = cc
+
+module _ {S A : Type 0} (mover : Mover S A) (i : Instance) (at : S) (notes : Notes) where
+  abbrev F : Role → Result FoundMove MoveCause → Type 0
+  F role found = FitsFound mover i at notes role found
+
+  invited_fits : (role : Role) (nonce : List ℕ) → F role (invited_on role nonce)
+  invited_fits Live nonce = tt
+  invited_fits (Waiting awaited) nonce =
+      if_either (F (Waiting awaited)) (bytes_eq awaited nonce) _ (Err Already) (λ t e. not_dead e) (λ f. tt)
+  invited_fits role nonce = λ e. tt
+
+  left_fits : (role : Role) (again : Bool) (nonce : List ℕ) (c : Content) (result : Result Bool Refusal)
+      → (again ≡ false → ((ticket : TicketContent) → MayTake role (Leaves ticket)) × ((mover.level i).is_open at ≡ false))
+      → ((fresh : Bool) → result ≡ Ok fresh → stands_here (mover.level i) at c ≡ true) → F role (left_by mover i at again nonce c result)
+  left_fits role again nonce c (Err why) may here = tt
+  left_fits role again nonce c (Ok fresh) may here = λ e. (
+    (may e).0 (record { nonce = nonce; content = mover.says i at c }),
+    record { shut = (may e).1; offered = c; here = here fresh refl; says = refl },
+  )
+
+  offered_fits : (role : Role) (again : Bool) (nonce : List ℕ) (parts : Result Snapshot PartsFault)
+      → (again ≡ false → ((ticket : TicketContent) → MayTake role (Leaves ticket)) × ((mover.level i).is_open at ≡ false))
+      → F role (offered_to mover i at again nonce parts)
+  offered_fits role again nonce (Ok snapshot) may =
+      let c : Content = snapshot.content in
+      let s : Bool = i.meaning.is_spelled c.state in
+      let t : Bool = bytes_eq snapshot.tag (tag_of i.key c) in
+      let here : Bool = stands_here (mover.level i) at c in
+      left_fits role again nonce c (weighed s t (verdict_here here) true) may
+      (λ fresh e. stands_by here fresh (weighed_only s t (verdict_here here) true fresh e).verdict)
+  offered_fits role again nonce (Err Form) may = tt
+  offered_fits role again nonce (Err Kind) may = tt
+
+  retired_fits : (role : Role) (nonce bytes : List ℕ) → F role (retired_on mover i role at nonce bytes)
+  retired_fits Live nonce bytes = if_either (F Live) ((mover.level i).is_open at) (Err Open) _ (λ t. tt)
+      (λ f. offered_fits Live false nonce (parts_of i.variant i.meaning.id bytes) (λ e. ((λ ticket. tt), f)))
+  retired_fits (Retired left) nonce bytes = if_either (F (Retired left)) (bytes_eq left nonce) _ (Err Gone)
+      (λ t. offered_fits (Retired left) true nonce (parts_of i.variant i.meaning.id bytes) (λ e. not_dead e)) (λ f. tt)
+  retired_fits role nonce bytes = tt
+
+  entered_fits : (awaited : List ℕ) (read : Result TicketContent Refusal) → IsOurs notes read → F (Waiting awaited)
+      (entered_as awaited read)
+  entered_fits awaited (Err why) ours = tt
+  entered_fits awaited (Ok ticket) ours = if_either (F (Waiting awaited)) (bytes_eq awaited ticket.nonce) _ (Err Nonce)
+      (λ t. ((λ e. (bytes_eq-Decides awaited ticket.nonce).0 t), (λ e. not_dead (sym e)), ours)) (λ f. tt)
+
+  again_fits : (read : Result TicketContent Refusal) → IsOurs notes read → F Live (entered_again (mover.level i) at read)
+  again_fits (Err why) ours = tt
+  again_fits (Ok ticket) ours = if_either (F Live) ((mover.level i).is_open at) _ _ (λ t. tt)
+      (λ shut. if_either (F Live) (stands_here (mover.level i) at ticket.content) _ _
+      (λ here. ((λ e. not_dead e), (λ e. record { live = refl; shut = shut; here = here }), ours)) (λ g. tt))
+
+  accepted_fits : (role : Role) (read : Result TicketContent Refusal) → IsOurs notes read
+      → F role (accepted_on (mover.level i) role at read)
+  accepted_fits Live read ours = again_fits read ours
+  accepted_fits (Waiting awaited) read ours = entered_fits awaited read ours
+  accepted_fits role read ours = tt
+
+  by_snapshot : (role : Role) (issued : List (List ℕ)) (nonce : List ℕ) (bytes : Option (List ℕ))
+      → FitsIn mover i at notes role (retiring mover i (record { role = role; at = at; issued = issued }) nonce bytes)
+  by_snapshot role issued nonce None = tt
+  by_snapshot role issued nonce (Some bytes) = retired_fits role nonce bytes
+
+  by_ticket : (pair : Pair) (role : Role) (issued : List (List ℕ)) (bytes : Option (List ℕ)) → IsOursOffered pair notes bytes
+      → FitsIn mover i at notes role (accepting mover pair i (record { role = role; at = at; issued = issued }) bytes)
+  by_ticket pair role issued None ours = tt
+  by_ticket pair role issued (Some bytes) ours = accepted_fits role (ticket_in pair bytes) ours
+
+pub finding_fits : {S A : Type 0} (mover : Mover S A) (pair : Pair) (i : Instance) (notes : Notes) (both : Both S A) (command : Command)
+    → IsOursFor pair both.tickets notes command → FitsIn mover i both.first.at notes both.first.role (finding mover pair i both command)
+finding_fits mover pair i notes both (Invite nonce) ours = invited_fits mover i both.first.at notes both.first.role nonce
+finding_fits mover pair i notes both (Retire nonce offer) ours =
+    by_snapshot mover i both.first.at notes both.first.role both.first.issued nonce (offered_bytes both.first.issued offer)
+finding_fits mover pair i notes both (Accept offer) ours =
+    by_ticket mover i both.first.at notes pair both.first.role both.first.issued (offered_bytes both.tickets offer) ours
 
 -- the effect that it has may be taken, and is fresh
 
@@ -128,19 +169,82 @@ abbrev pub IsFine : Role → Notes → Option Effect → Type 0
 IsFine role notes None = Unit {0}
 IsFine role notes (Some effect) = MayTake role effect × IsFreshEffect notes effect
 
-fine_fresh : (notes : Notes) (effect : Effect) → IsNew notes (Some effect) → Ours notes effect → IsFreshEffect notes effect
-fine_fresh notes (Invites nonce) new ours = new
-fine_fresh notes (Leaves ticket) new ours = tt
-fine_fresh notes (Enters ticket) new ours = ours
+module _ {S A : Type 0} (mover : Mover S A) (i : Instance) (at : S) (notes : Notes) (role : Role) where
+  fine_if : (again moved : Bool) (effect : Effect) → Fits mover i at notes role again effect
+      → IsNew notes (if again then None else effect_if moved effect) → IsFine role notes (if again then None else effect_if moved effect)
+  fine_if true moved effect fits new = tt
+  fine_if false false effect fits new = tt
+  fine_if false true (Invites nonce) fits new = (fits refl, new)
+  fine_if false true (Leaves ticket) fits new = ((fits refl).0, tt)
+  fine_if false true (Enters ticket) fits new = (fits.0 refl, fits.2)
 
-fine_if : (role : Role) (notes : Notes) (again moved : Bool) (effect : Effect) → (again ≡ false → MayTake role effect × Ours notes effect)
-    → IsNew notes (if again then None else effect_if moved effect) → IsFine role notes (if again then None else effect_if moved effect)
-fine_if role notes true moved effect may new = tt
-fine_if role notes false false effect may new = tt
-fine_if role notes false true effect may new = ((may refl).0, fine_fresh notes effect new (may refl).1)
+  pub effect_fine : (fates : ℕ → Fate) (found : Result FoundMove MoveCause) → FitsFound mover i at notes role found
+      → IsNew notes (effect_of fates found) → IsFine role notes (effect_of fates found)
+  effect_fine fates (Err cause) fits new = tt
+  effect_fine fates (Ok found) fits new = fine_if found.again (is_moved (fates 1).ends (fates 2).ends) found.effect fits new
 
-pub effect_fine : (role : Role) (notes : Notes) (fates : ℕ → Fate) (found : Result FoundMove MoveCause) → MayFind role notes found
-    → IsNew notes (effect_of fates found) → IsFine role notes (effect_of fates found)
-effect_fine role notes fates (Err cause) may new = tt
-effect_fine role notes fates (Ok found) may new =
-    fine_if role notes found.again (is_moved (fates 1).ends (fates 2).ends) found.effect may new
+-- What a move leaves as it was, and what its effect makes of the roles.
+
+-- telling hands out a ticket or a snapshot, and changes nothing else
+pub record IsTold {S A : Type 0} (both after : Both S A) : Type 0 where
+  pub role : after.first.role ≡ both.first.role
+  pub at : after.first.at ≡ both.first.at
+  pub second : after.second ≡ both.second
+  pub away : after.away ≡ both.away
+  pub committed : after.committed ≡ both.committed
+
+module _ {S A : Type 0} (mover : Mover S A) (pair : Pair) (i : Instance) where
+  handed_told : (both : Both S A) (effect : Effect) → IsTold both (handed mover pair i both effect)
+  handed_told both (Invites nonce) = record { role = refl; at = refl; second = refl; away = refl; committed = refl }
+  handed_told both (Leaves ticket) = record { role = refl; at = refl; second = refl; away = refl; committed = refl }
+  handed_told both (Enters ticket) = record { role = refl; at = refl; second = refl; away = refl; committed = refl }
+
+  told_none : (both : Both S A) (effect : Effect) → plain_reply (told mover i both effect) ≡ []
+  told_none both (Invites nonce) = refl
+  told_none both (Leaves ticket) = refl
+  told_none both (Enters ticket) = refl
+
+  -- how a move ends
+  pub record IsEnded (both : Both S A) (effect : Option Effect) (o : BothOutcome S A) : Type 0 where
+    pub tells : IsTold both o.both
+    pub none : plain_reply o.reply ≡ []
+    pub effect_is : o.effect ≡ effect
+
+  pub ended_told : (both : Both S A) (stop : Stop) (broken : Option StepFault) (found : Result FoundMove MoveCause) (effect : Option Effect)
+      → IsEnded both effect (move_ended mover pair i both stop broken found effect)
+  ended_told both stop (Some fault) found effect = record {
+    tells = record { role = refl; at = refl; second = refl; away = refl; committed = refl };
+    none = refl;
+    effect_is = refl;
+  }
+  ended_told both stop None (Err cause) effect = record {
+    tells = record { role = refl; at = refl; second = refl; away = refl; committed = refl };
+    none = refl;
+    effect_is = refl;
+  }
+  ended_told both stop None (Ok found) effect =
+      record { tells = handed_told both found.effect; none = told_none both found.effect; effect_is = refl }
+
+-- what an effect makes of the roles
+pub affected_order : {S A : Type 0} (mover : Mover S A) (both : Both S A) (notes : Notes) (effect : Option Effect)
+    → AreInOrder both.first.role both.second.role notes → IsFine both.first.role notes effect
+    → (let after : Both S A = affected_if mover both effect in AreInOrder after.first.role after.second.role (noted_if effect notes))
+affected_order mover both notes None h fine = h
+affected_order mover both notes (Some (Invites nonce)) h fine =
+    roles_go_on both.first.role both.second.role notes (Invites nonce) h fine.0 fine.1
+affected_order mover both notes (Some (Leaves ticket)) h fine =
+    roles_go_on both.first.role both.second.role notes (Leaves ticket) h fine.0 fine.1
+affected_order mover both notes (Some (Enters ticket)) h fine =
+    roles_go_on both.first.role both.second.role notes (Enters ticket) h fine.0 fine.1
+
+-- the module enters alone
+abbrev pub EntersSo : Role → Role → Notes → Option Effect → Type 0
+EntersSo this other notes None = Unit {0}
+EntersSo this other notes (Some (Invites nonce)) = Unit {0}
+EntersSo this other notes (Some (Leaves ticket)) = Unit {0}
+EntersSo this other notes (Some (Enters ticket)) = EntersLast this other notes ticket
+
+pub enters_so : (this other : Role) (notes : Notes) (effect : Option Effect) → AreInOrder this other notes → IsFine this notes effect
+    → EntersSo this other notes effect
+enters_so this other notes (Some (Enters ticket)) h fine = roles_enter_last this other notes ticket h fine.0 fine.1
+enters_so this other notes effect h fine = tt

@@ -1,12 +1,10 @@
 -- The roles of two sides alone stay in order.
-use Rattle.std.proofs.Common.{ℕ, ◌≡◌, Bool, true, false, List, [], ◌∷◌, ◌++◌, map, refl, sym, ap, ◌∙◌, subst, inl, inr}
-use Rattle.std.specs.List.{AllByRecursion, Contains}
-use Rattle.std.proofs.lemmas.List.{map-append}
-use Rattle.std.proofs.lemmas.List.Elements.{All-from_recursion, All-contains, Contains-append_left, Contains-push, Contains-push_cases}
-use Rattle.mm_model.specs.ListLaws.{each_append, each_self}
-use Rattle.mm_move.specs.Tickets.{TicketContent}
-use Rattle.mm_sides.specs.Roles.{Role, Blank, Live, Waiting, Retired, Invites, Leaves, Enters, is_live, Notes, noted}
-use Rattle.mm_sides.specs.Order.{nonces_of, IsAwaited, WaitsElse, WaitApart, IsSomewhere, here, there, away, AreInOrder, MayTake, RolesBegin, RolesSwap, RolesGoOn, RolesEnterLast, AtMostOne, RolesAreOne}
+use Rattle.mm_sides.proofs.Below.{ℕ, ◌≡◌, Bool, true, false, List, [], ◌∷◌, ◌++◌, map, refl, sym, ap, ◌∙◌, subst, inl, inr, AllByRecursion}
+use Rattle.mm_sides.proofs.Below.{Contains, map-append, All-from_recursion, All-contains, Contains-append_left, Contains-push}
+use Rattle.mm_sides.proofs.Below.{Contains-push_cases, each_append, each_self, TicketContent, Role, Blank, Live, Waiting, Retired, Invites}
+use Rattle.mm_sides.proofs.Below.{Leaves, Enters, is_live, Notes, noted, nonces_of, IsAwaited, WaitsElse, WaitApart, IsSomewhere, here}
+use Rattle.mm_sides.proofs.Below.{there, away, AreInOrder, MayTake, RolesBegin, RolesSwap, RolesGoOn, RolesEnterLast, AtMostOne}
+use Rattle.mm_sides.proofs.Below.{RolesAreOne}
 
 -- an item of a list of which each is one of another is one of that other
 among : {A : Type 0} (P : A → Type 0) (xs : List A) (x : A) → AllByRecursion P xs → Contains xs x → P x
@@ -30,28 +28,24 @@ nonces-push : (front : List TicketContent) (ticket : TicketContent)
     → nonces_of (front ++ ticket ∷ []) ≡ nonces_of front ++ ticket.nonce ∷ []
 nonces-push front ticket = map-append (λ (t : TicketContent). t.nonce) front (ticket ∷ [])
 
+pub not_dead : {A : Type 0} → true ≡ false → A
+not_dead e = absurd (cc)
+
 not_both : (b : Bool) → b ≡ true → b ≡ false → ⊥
 not_both b t f = cc
 
 -- roles
 
+no_wait : (other this : Role) → ((nonce : List ℕ) → WaitsElse nonce this) → WaitApart other this
+no_wait (Waiting nonce) this h = h nonce
+no_wait other this h = tt
+
 swapped : (this other : Role) → WaitApart this other → WaitApart other this
 swapped (Waiting m) (Waiting n) h = λ e. h (sym e)
-swapped (Waiting m) Blank h = tt
-swapped (Waiting m) Live h = tt
-swapped (Waiting m) (Retired n) h = tt
-swapped Blank Blank h = tt
-swapped Blank Live h = tt
-swapped Blank (Waiting n) h = tt
-swapped Blank (Retired n) h = tt
-swapped Live Blank h = tt
-swapped Live Live h = tt
-swapped Live (Waiting n) h = tt
-swapped Live (Retired n) h = tt
-swapped (Retired m) Blank h = tt
-swapped (Retired m) Live h = tt
-swapped (Retired m) (Waiting n) h = tt
-swapped (Retired m) (Retired n) h = tt
+swapped (Waiting m) other h = tt
+swapped Blank other h = no_wait other Blank (λ n. tt)
+swapped Live other h = no_wait other Live (λ n. tt)
+swapped (Retired m) other h = no_wait other (Retired m) (λ n. tt)
 
 pub roles_begin : RolesBegin
 roles_begin = record { spent = []; invited = tt; this_awaits = tt; other_awaits = tt; apart = tt; place = here refl refl refl }
@@ -85,26 +79,23 @@ roles_are_one this other notes h = one_live this other notes.retired h.spent h.p
 
 awaited_more : (invited spent : List (List ℕ)) (nonce : List ℕ) (role : Role) → IsAwaited invited spent role
     → IsAwaited (invited ++ nonce ∷ []) spent role
-awaited_more invited spent nonce Blank h = tt
-awaited_more invited spent nonce Live h = tt
 awaited_more invited spent nonce (Waiting m) h = (Contains-append_left invited (nonce ∷ []) m h.0, h.1)
-awaited_more invited spent nonce (Retired m) h = tt
+awaited_more invited spent nonce role h = tt
 
 waits_else : (invited spent : List (List ℕ)) (nonce : List ℕ) (role : Role) → (Contains invited nonce → ⊥) → IsAwaited invited spent role
     → WaitsElse nonce role
-waits_else invited spent nonce Blank new h = tt
-waits_else invited spent nonce Live new h = tt
 waits_else invited spent nonce (Waiting m) new h = λ e. new (subst (Contains invited) (sym e) h.0)
-waits_else invited spent nonce (Retired m) new h = tt
+waits_else invited spent nonce role new h = tt
+
+pub invites_none : (role : Role) (nonce : List ℕ) → MayTake role (Invites nonce) → is_live role ≡ false
+invites_none Live nonce may = absurd may
+invites_none role nonce may = refl
 
 invited_place : (this other : Role) (nonce : List ℕ) (retired : List TicketContent) (spent : List (List ℕ)) → MayTake this (Invites nonce)
     → IsSomewhere this other retired spent → IsSomewhere (Waiting nonce) other retired spent
 invited_place this other nonce retired spent may (there n l e) = there refl l e
 invited_place this other nonce retired spent may (away m n front last is e) = away refl n front last is e
-invited_place Live other nonce retired spent may (here l n e) = absurd may
-invited_place Blank other nonce retired spent may (here l n e) = absurd (not_both false l refl)
-invited_place (Waiting m) other nonce retired spent may (here l n e) = absurd may
-invited_place (Retired m) other nonce retired spent may (here l n e) = absurd (not_both false l refl)
+invited_place this other nonce retired spent may (here l n e) = absurd (not_both (is_live this) l (invites_none this nonce may))
 
 invites : (this other : Role) (notes : Notes) (nonce : List ℕ) → AreInOrder this other notes → MayTake this (Invites nonce)
     → (Contains notes.invited nonce → ⊥) → AreInOrder (Waiting nonce) other (noted (Invites nonce) notes)
@@ -125,11 +116,9 @@ left_place this other ticket retired spent live (here l n e) = away refl n retir
 left_place this other ticket retired spent live (there n l e) = absurd (not_both (is_live this) live n)
 left_place this other ticket retired spent live (away m n front last is e) = absurd (not_both (is_live this) live m)
 
-leaves_live : (this : Role) (ticket : TicketContent) → MayTake this (Leaves ticket) → is_live this ≡ true
-leaves_live Blank ticket may = absurd may
+pub leaves_live : (this : Role) (ticket : TicketContent) → MayTake this (Leaves ticket) → is_live this ≡ true
 leaves_live Live ticket may = refl
-leaves_live (Waiting m) ticket may = absurd may
-leaves_live (Retired m) ticket may = absurd may
+leaves_live this ticket may = absurd may
 
 leaves : (this other : Role) (notes : Notes) (ticket : TicketContent) → AreInOrder this other notes → MayTake this (Leaves ticket)
     → AreInOrder (Retired ticket.nonce) other (noted (Leaves ticket) notes)
@@ -153,15 +142,13 @@ record IsTaken (this other : Role) (invited spent : List (List ℕ)) (nonce : Li
 
 taken_of : (this other : Role) (notes : Notes) (ticket : TicketContent) (h : AreInOrder this other notes) → MayTake this (Enters ticket)
     → IsTaken this other notes.invited h.spent ticket.nonce
-taken_of Blank other notes ticket h may = absurd may
-taken_of Live other notes ticket h may = absurd may
-taken_of (Retired m) other notes ticket h may = absurd may
 taken_of (Waiting m) other notes ticket h may = record {
   not_here = refl;
   was_invited = subst (Contains notes.invited) may h.this_awaits.0;
   unspent = λ c. h.this_awaits.1 (subst (Contains h.spent) (sym may) c);
   elsewhere = subst (λ n. WaitsElse n other) may h.apart;
 }
+taken_of this other notes ticket h may = absurd may
 
 last_of : (front : List TicketContent) (last ticket : TicketContent) → (Contains (nonces_of front) ticket.nonce → ⊥)
     → Contains (front ++ last ∷ []) ticket → last ≡ ticket
@@ -203,11 +190,9 @@ roles_enter_last this other notes ticket h may ours =
 
 awaited_else : (invited spent : List (List ℕ)) (nonce : List ℕ) (role : Role) → WaitsElse nonce role → IsAwaited invited spent role
     → IsAwaited invited (spent ++ nonce ∷ []) role
-awaited_else invited spent nonce Blank w h = tt
-awaited_else invited spent nonce Live w h = tt
 awaited_else invited spent nonce (Waiting m) w h =
     (h.0, λ c. elim (Contains-push_cases spent nonce m c) [ inl old ↦ h.1 old | inr e ↦ w e ])
-awaited_else invited spent nonce (Retired m) w h = tt
+awaited_else invited spent nonce role w h = tt
 
 enters : (this other : Role) (notes : Notes) (ticket : TicketContent) → AreInOrder this other notes → MayTake this (Enters ticket)
     → Contains notes.retired ticket → AreInOrder Live other (noted (Enters ticket) notes)

@@ -1,18 +1,15 @@
-pub mod InOrder
-pub mod Found
-pub mod Outer
-pub mod Told
-pub mod OneLive
-pub mod OneRun
-pub mod Rests
-pub mod Keeping
-pub mod Twins
-pub mod SameFound
-pub mod Ends
-pub mod PlainAgree
-pub mod Agreeing
-pub mod BothAgree
-pub mod SideNames
-pub mod Lively
-pub mod SideIssues
-pub mod OneMove
+pub mod Above
+mod Below
+mod InOrder
+mod Found
+mod Outer
+mod OneLive
+mod OneRun
+mod Rests
+mod Twins
+mod SameFound
+mod Agreeing
+mod BothAgree
+mod SideNames
+mod SideIssues
+mod OneMove

@@ -1,21 +1,12 @@
 -- At each moment at most one side is live, and the module enters one only where none is, by its last ticket.
-use Rattle.std.proofs.Common.{ℕ, ◌≡◌, List, [], ◌∷◌, Option, None, Some, Result, sym, subst}
-use Rattle.mm_platform.specs.declared.plan.Meddle.{Meddle}
-use Rattle.mm_platform.specs.declared.plan.Stop.{Stop}
-use Rattle.mm_model.specs.Instance.{Instance}
-use Rattle.mm_model.specs.History.{History}
-use Rattle.mm_call.specs.Courses.{Fate, walk}
-use Rattle.mm_run.specs.Folds.{course_of}
-use Rattle.mm_sides.specs.Roles.{Role, Effect, Invites, Leaves, Enters, Notes, no_notes}
-use Rattle.mm_sides.specs.Order.{AreInOrder, EntersLast}
-use Rattle.mm_sides.specs.Both.{Which, First, Second, Pair, instance_on, Both, turned, lists_move, first_lists}
-use Rattle.mm_sides.specs.Moves.{Command, MoveCause, FoundMove}
-use Rattle.mm_sides.specs.Folds.{Act, Plain, Moves, BothEvent, BothOutcome, affected_if, brought_to, effect_of, move_steps, finding, moved_by, moved_if, outcome_here, both_outcome, noted_if}
-use Rattle.mm_sides.specs.Premises.{IsNew, IsOursIn, AreFreshFrom}
-use Rattle.mm_sides.specs.Laws.{EntersAlone, IsOneFrom, OneIsLive}
+use Rattle.mm_sides.proofs.Below.{ℕ, ◌≡◌, List, [], ◌∷◌, Option, None, Some, Result, sym, subst, Meddle, Stop, Instance, History, Fate}
+use Rattle.mm_sides.proofs.Below.{walk, course_of, Role, Effect, Enters, Notes, no_notes, AreInOrder, EntersLast, Which, First, Second}
+use Rattle.mm_sides.proofs.Below.{Pair, instance_on, Both, turned, lists_move, first_lists, Command, MoveCause, FoundMove, Act, Plain}
+use Rattle.mm_sides.proofs.Below.{Moves, BothEvent, BothOutcome, affected_if, brought_to, effect_of, move_steps, finding, moved_by}
+use Rattle.mm_sides.proofs.Below.{moved_if, outcome_here, both_outcome, noted_if, IsNew, IsOursIn, AreFreshFrom, EntersAlone, IsOneFrom}
+use Rattle.mm_sides.proofs.Below.{OneIsLive}
 use Rattle.mm_sides.proofs.InOrder.{roles_begin, roles_swap, roles_are_one}
-use Rattle.mm_sides.proofs.Found.{MayFindIn, IsFine, finding_may, effect_fine}
-use Rattle.mm_sides.proofs.Told.{IsEnded, ended_told, affected_order, EntersSo, enters_so}
+use Rattle.mm_sides.proofs.Found.{FitsIn, IsFine, finding_fits, effect_fine, IsEnded, ended_told, affected_order, EntersSo, enters_so}
 
 -- an event on the first side keeps the order of the roles
 pub record IsOrdered (this other : Role) (notes : Notes) (o : BothOutcome History History) : Type 0 where
@@ -25,8 +16,8 @@ pub record IsOrdered (this other : Role) (notes : Notes) (o : BothOutcome Histor
 
 moved_ordered : (pair : Pair) (i : Instance) (both : Both History History) (notes : Notes) (meddles : List Meddle) (stop : Stop)
     (command : Command) (found : Option (Result FoundMove MoveCause)) → AreInOrder both.first.role both.second.role notes
-    → MayFindIn both.first.role notes found → IsNew notes (moved_if lists_move pair i both meddles stop command found).effect
-    → IsOrdered both.first.role both.second.role notes (moved_if lists_move pair i both meddles stop command found)
+    → FitsIn lists_move i both.first.at notes both.first.role found → IsNew notes (moved_if lists_move pair i both meddles stop command
+    found).effect → IsOrdered both.first.role both.second.role notes (moved_if lists_move pair i both meddles stop command found)
 moved_ordered pair i both notes meddles stop command None h may new = record { order = h; alone = tt; fine = tt }
 moved_ordered pair i both notes meddles stop command (Some found) h may new =
     let fates : ℕ → Fate = (course_of stop meddles).fates in
@@ -37,7 +28,7 @@ moved_ordered pair i both notes meddles stop command (Some found) h may new =
     let ended : IsEnded lists_move pair i (affected_if lists_move here effect) effect o =
     ended_told lists_move pair i (affected_if lists_move here effect) stop (walk fates 1 (move_steps found)).broken found effect in
     let fine : IsFine both.first.role notes effect =
-    effect_fine both.first.role notes fates found may (subst (IsNew notes) ended.effect_is new) in
+    effect_fine lists_move i both.first.at notes both.first.role fates found may (subst (IsNew notes) ended.effect_is new) in
     let order = affected_order lists_move here notes effect h fine in
     let back : effect ≡ o.effect = sym ended.effect_is in
     record {
@@ -56,7 +47,7 @@ pub here_ordered : (pair : Pair) (i : Instance) (both : Both History History) (n
 here_ordered pair i both notes (Plain event) h new ours = record { order = h; alone = tt; fine = tt }
 here_ordered pair i both notes (Moves meddles stop command) h new ours =
     moved_ordered pair i both notes meddles stop command (finding lists_move pair i both command) h
-    (finding_may lists_move pair i notes both command ours) new
+    (finding_fits lists_move pair i notes both command ours) new
 
 -- turned, where the second side is in front
 swapped_last : (this other : Role) (notes : Notes) (ticket : _) → EntersLast this other notes ticket → EntersLast other this notes ticket
@@ -64,17 +55,13 @@ swapped_last this other notes ticket h = record { not_here = h.not_there; not_th
 
 alone_first : (notes : Notes) (both : Both History History) (effect : Option Effect)
     → EntersSo both.first.role both.second.role notes effect → EntersAlone notes both effect
-alone_first notes both None h = tt
-alone_first notes both (Some (Invites nonce)) h = tt
-alone_first notes both (Some (Leaves ticket)) h = tt
 alone_first notes both (Some (Enters ticket)) h = h
+alone_first notes both effect h = tt
 
 alone_second : (notes : Notes) (both : Both History History) (effect : Option Effect)
     → EntersSo both.second.role both.first.role notes effect → EntersAlone notes both effect
-alone_second notes both None h = tt
-alone_second notes both (Some (Invites nonce)) h = tt
-alone_second notes both (Some (Leaves ticket)) h = tt
 alone_second notes both (Some (Enters ticket)) h = swapped_last both.second.role both.first.role notes ticket h
+alone_second notes both effect h = tt
 
 pub record IsNext (notes : Notes) (both : Both History History) (o : BothOutcome History History) : Type 0 where
   pub order : AreInOrder o.both.first.role o.both.second.role (noted_if o.effect notes)
@@ -98,8 +85,7 @@ event_ordered pair both notes Second act h new ours =
     }
 
 one_from : (pair : Pair) (events : List BothEvent) (both : Both History History) (notes : Notes)
-    → AreInOrder both.first.role both.second.role notes
-    → AreFreshFrom pair both notes events → IsOneFrom pair both notes events
+    → AreInOrder both.first.role both.second.role notes → AreFreshFrom pair both notes events → IsOneFrom pair both notes events
 one_from pair [] both notes h fresh = roles_are_one both.first.role both.second.role notes h
 one_from pair (event ∷ events) both notes h fresh =
     let o : BothOutcome History History = both_outcome lists_move pair both event in

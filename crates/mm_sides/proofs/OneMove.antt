@@ -1,52 +1,28 @@
 -- A run in which the module moves once meets the premises.
-use Rattle.std.proofs.Common.{ℕ, ◌≡◌, Bool, true, false, ◌&&◌, List, [], ◌∷◌, ◌++◌, length, Option, None, Some, Result, Ok, Err, refl, sym, ap, ◌∙◌, subst, arith}
-use Rattle.std.specs.Prelude.{if◌then◌else◌}
-use Rattle.std.specs.List.{AllByRecursion, Contains}
-use Rattle.std.specs.Str.{bytes_eq}
-use Rattle.mm_digest.specs.declared.variant.Variant.{Variant}
-use Rattle.mm_digest.specs.declared.variant.Variant.TheVariants.{Basic, Opt}
-use Rattle.mm_digest.specs.Messages.{start_message, start_of, zero_bytes}
+use Rattle.mm_sides.proofs.Below.{ℕ, ◌≡◌, Bool, true, false, ◌&&◌, List, [], ◌∷◌, ◌++◌, length, Option, None, Some, Result, Ok, Err, refl}
+use Rattle.mm_sides.proofs.Below.{sym, ap, ◌∙◌, subst, arith, if◌then◌else◌, Contains, bytes_eq, Variant, Basic, Opt, start_message}
+use Rattle.mm_sides.proofs.Below.{zero_bytes, Quiet, parts_of, Content, IsContent, variant_of, tag_of, sealed_of, offered_of, Instance}
+use Rattle.mm_sides.proofs.Below.{basic, opt, History, first_history, IsClear, Names, issued, IsGenuine, place_messages, Reads, Refusal}
+use Rattle.mm_sides.proofs.Below.{moves_messages, right_content, by_lists, weighed, instance_by, place_at, summary_in, TicketContent}
+use Rattle.mm_sides.proofs.Below.{IsTicket, TaggedTicket, ticket_tag, ticket_of, bytes_are, tickets_are_read, anchor_nil, clear_within}
+use Rattle.mm_sides.proofs.Below.{one_ask, run_messages, AreApartIn, Live, Waiting, Retired, Leaves, Enters, Invites, Notes, no_notes}
+use Rattle.mm_sides.proofs.Below.{noted, First, Second, Pair, Both, lists_move, first_lists, turned, Invite, Retire, Accept, FoundMove}
+use Rattle.mm_sides.proofs.Below.{MoveCause, Nonce, stands_here, verdict_here, left_by, offered_to, ticket_by, ticket_in, entered_as}
+use Rattle.mm_sides.proofs.Below.{BothEvent, BothOutcome, Moves, Invited, Left, Entered, moved_if, turned_back, finding, both_outcome}
+use Rattle.mm_sides.proofs.Below.{both_followed, both_expected, noted_if, read_moves, found_moves, closing_of, offer_closing}
+use Rattle.mm_sides.proofs.Below.{both_event_messages, both_messages, both_messages_from, AreFreshFrom, IsNew, IsOurs, IsOursIn, one_move}
+use Rattle.mm_sides.proofs.Below.{counters, MovesOnce}
 use Rattle.mm_digest.specs.LengthLaws.{length-zero_bytes, length-start_of, length-hmac_of}
 use Rattle.mm_module.specs.CounterTable.{counter}
 use Rattle.mm_module.specs.CounterLaws.{counter_is_lawful}
-use Rattle.mm_platform.specs.declared.plan.Stop.TheVariants.{Quiet}
-use Rattle.mm_seal.specs.Parts.{parts_of}
-use Rattle.mm_seal.specs.Snapshot.{Content, IsContent, Snapshot, variant_of, tag_of, sealed_of, offered_of}
-use Rattle.mm_seal.specs.declared.snapshot.PartsFault.{PartsFault}
 use Rattle.mm_seal.specs.SealLaws.{sealed_parts, sealed_once}
-use Rattle.mm_model.specs.Instance.{Instance}
-use Rattle.mm_model.specs.InstanceWords.{basic, opt}
-use Rattle.mm_model.specs.History.{History, first_history}
-use Rattle.mm_model.specs.Messages.{IsClear}
-use Rattle.mm_model.specs.Places.{Names, issued}
-use Rattle.mm_model.specs.Standing.{IsGenuine}
-use Rattle.mm_model.specs.StandingHere.{place_messages}
-use Rattle.mm_model.specs.Steps.{Reads}
-use Rattle.mm_model.specs.declared.refusal.Refusal.{Refusal}
 use Rattle.mm_model.specs.declared.refusal.Refusal.TheVariants as refusal
 use Rattle.mm_model.specs.SegmentLaws.{true_not_false}
-use Rattle.mm_call.specs.Asked.{moves_messages}
-use Rattle.mm_call.specs.Found.{right_content}
 use Rattle.mm_call.specs.FoundWords.{content_if_right}
-use Rattle.mm_call.specs.Levels.{by_lists}
-use Rattle.mm_call.specs.OrderWords.{weighed}
-use Rattle.mm_call.specs.Standing.{instance_by}
 use Rattle.mm_call.specs.MoveLaws.{summary-nil}
-use Rattle.mm_move.specs.Tickets.{place_at, summary_in, TicketContent, IsTicket, TaggedTicket, ticket_tag, ticket_spelling, sealed_ticket, ticket_of, SpellsTicket}
-use Rattle.mm_move.proofs.Parts.{bytes_are}
-use Rattle.mm_move.proofs.TicketLaws.{tickets_are_read}
-use Rattle.mm_run.proofs.MetPremises.{anchor_nil}
-use Rattle.mm_run.proofs.FirstBytes.{clear_within}
-use Rattle.mm_run.specs.Laws.{one_ask}
+use Rattle.mm_move.specs.Tickets.{sealed_ticket}
 use Rattle.mm_schedule.specs.declared.event.Offer.TheVariants.{Last}
 use Rattle.mm_run.specs.HeldWords.{world_barrier}
-use Rattle.mm_run.specs.PremisesWords.{run_messages, AreApartIn}
-use Rattle.mm_sides.specs.Roles.{Live, Waiting, Retired, Leaves, Enters, Invites, Notes, no_notes, noted}
-use Rattle.mm_sides.specs.Both.{First, Second, Pair, instance_on, Side, Both, lists_move, first_lists, turned}
-use Rattle.mm_sides.specs.Moves.{Invite, Retire, Accept, FoundMove, MoveCause, Nonce, stands_here, verdict_here, left_by, offered_to, ticket_by, ticket_in, entered_as}
-use Rattle.mm_sides.specs.Folds.{BothEvent, BothOutcome, Moves, Invited, Left, Entered, moved_if, turned_back, finding, both_outcome, both_followed, both_expected, noted_if}
-use Rattle.mm_sides.specs.Premises.{read_moves, found_moves, closing_of, offer_closing, both_event_messages, both_messages, both_messages_from, AreFreshFrom, IsNew, IsOurs, IsOursIn}
-use Rattle.mm_sides.specs.Laws.{one_move, counters, MovesOnce}
 use Rattle.mm_sides.proofs.SideNames.{issued_here, first_sound_in, first_lives}
 
 -- the snapshot of the first history
@@ -120,9 +96,8 @@ quiet_steps i y false = refl
 
 -- a command to which nobody puts a value into a register lists no message by its steps
 quiet : (i : Instance) (y : History) (f : Option (Result FoundMove MoveCause)) → moves_messages i y (found_moves [] Quiet f) ≡ []
-quiet i y None = refl
-quiet i y (Some (Err cause)) = refl
 quiet i y (Some (Ok f)) = quiet_steps i y f.again
+quiet i y f = refl
 
 -- the start message is the first of a run
 first_of : (x : List ℕ) (xs : List (List ℕ)) → Contains (x ∷ xs) x
@@ -146,8 +121,7 @@ apart Opt first_key barrier = λ is d b c among. absurd (none_of d c)
 
 names : (variant : Variant) (key barrier : List ℕ)
     → Names (instance_by variant counter key barrier) first_history (said variant key barrier)
-names variant key barrier =
-    issued_here variant counter key barrier first_history (first_sound_in variant counter key barrier)
+names variant key barrier = issued_here variant counter key barrier first_history (first_sound_in variant counter key barrier)
     (first_lives variant counter key barrier)
 
 module _ (variant : Variant) (first_key second_key barrier link nonce : List ℕ) (long : length nonce ≡ 32) where
@@ -170,8 +144,7 @@ module _ (variant : Variant) (first_key second_key barrier link nonce : List ℕ
   bytes = sealed_of here.key content
 
   parts : parts_of here.variant here.meaning.id bytes ≡ Ok (offered_of here.key content)
-  parts =
-      sealed_parts here.key content here.variant here.meaning.id (formed variant first_key barrier)
+  parts = sealed_parts here.key content here.variant here.meaning.id (formed variant first_key barrier)
       (of_variant variant first_key barrier ∙ sym (variant_is variant first_key barrier)) (of_id variant first_key barrier)
 
   tagged : bytes_eq (tag_of here.key content) (tag_of here.key content) ≡ true
@@ -181,8 +154,7 @@ module _ (variant : Variant) (first_key second_key barrier link nonce : List ℕ
   found = record { again = false; effect = Leaves ticket }
 
   finds : offered_to lists_move here first_history false nonce (parts_of here.variant here.meaning.id bytes) ≡ Ok found
-  finds =
-      ap (offered_to lists_move here first_history false nonce) parts
+  finds = ap (offered_to lists_move here first_history false nonce) parts
       ∙ ap (λ (s : Bool). left_by lists_move here first_history false nonce content
       (weighed s (bytes_eq (tag_of here.key content) (tag_of here.key content))
       (verdict_here (stands_here (by_lists here) first_history content)) true)) (spelled variant first_key barrier)
@@ -192,8 +164,7 @@ module _ (variant : Variant) (first_key second_key barrier link nonce : List ℕ
       (stands variant first_key barrier)
 
   right : right_content here bytes ≡ Some content
-  right =
-      ap (content_if_right here) parts
+  right = ap (content_if_right here) parts
       ∙ if_true (here.meaning.is_spelled content.state && bytes_eq (tag_of here.key content) (tag_of here.key content)) (Some content) None
       (ap (λ (s : Bool). s && bytes_eq (tag_of here.key content) (tag_of here.key content)) (spelled variant first_key barrier) ∙ tagged)
 
@@ -205,29 +176,22 @@ module _ (variant : Variant) (first_key second_key barrier link nonce : List ℕ
   whole = record { ticket = ticket; tag = ticket_tag link ticket }
 
   formed_ticket : IsTicket ticket
-  formed_ticket = record {
-    nonce = long;
-    content = formed variant first_key barrier;
-    place = at_anchor variant first_key barrier;
-  }
+  formed_ticket = record { nonce = long; content = formed variant first_key barrier; place = at_anchor variant first_key barrier }
 
   read_back : ticket_of variant counter.id paper ≡ Ok whole
   unfolding sealed_ticket
-  read_back =
-      (tickets_are_read variant counter.id paper whole).1 (record {
-        is = record { ticket = formed_ticket; tag = length-hmac_of link _ };
-        bytes_are = refl;
-        variant_is = of_variant variant first_key barrier;
-        id_is = id_is variant first_key barrier;
-      })
+  read_back = (tickets_are_read variant counter.id paper whole).1 (record {
+    is = record { ticket = formed_ticket; tag = length-hmac_of link _ };
+    bytes_are = refl;
+    variant_is = of_variant variant first_key barrier;
+    id_is = id_is variant first_key barrier;
+  })
 
   same_tag : bytes_eq (ticket_tag link ticket) (ticket_tag link ticket) ≡ true
   same_tag = bytes_are (ticket_tag link ticket) (ticket_tag link ticket) refl
 
   right_ticket : ticket_in pair paper ≡ Ok ticket
-  right_ticket =
-      ap (ticket_by counter link) read_back
-      ∙ if_true (counter.is_spelled content.state)
+  right_ticket = ap (ticket_by counter link) read_back ∙ if_true (counter.is_spelled content.state)
       (if bytes_eq (ticket_tag link ticket) (ticket_tag link ticket) then Ok ticket else Err refusal.Tag)
       (Err refusal.State) (spelled_there variant first_key barrier)
       ∙ if_true (bytes_eq (ticket_tag link ticket) (ticket_tag link ticket)) (Ok ticket) (Err refusal.Tag) same_tag
@@ -236,9 +200,7 @@ module _ (variant : Variant) (first_key second_key barrier link nonce : List ℕ
   entering = record { again = false; effect = Enters ticket }
 
   enters : entered_as nonce (ticket_in pair paper) ≡ Ok entering
-  enters =
-      ap (entered_as nonce) right_ticket
-      ∙ if_true (bytes_eq nonce nonce) (Ok entering) (Err Nonce) (bytes_are nonce nonce refl)
+  enters = ap (entered_as nonce) right_ticket ∙ if_true (bytes_eq nonce nonce) (Ok entering) (Err Nonce) (bytes_are nonce nonce refl)
 
   -- the three events
   abbrev invited : BothEvent
@@ -254,11 +216,7 @@ module _ (variant : Variant) (first_key second_key barrier link nonce : List ℕ
   waiting = record (first_lists pair) { second = record { role = Waiting nonce; at = first_history; issued = [] } }
 
   abbrev gone : Both History History
-  gone = record waiting {
-    first = record waiting.first { role = Retired nonce };
-    away = first_history;
-    tickets = paper ∷ [];
-  }
+  gone = record waiting { first = record waiting.first { role = Retired nonce }; away = first_history; tickets = paper ∷ [] }
 
   abbrev arrived : Both History History
   arrived = record gone {
@@ -270,20 +228,17 @@ module _ (variant : Variant) (first_key second_key barrier link nonce : List ℕ
   invites = refl
 
   leaves : both_outcome lists_move pair waiting retired ≡ record { both = gone; reply = Left 0; effect = Some (Leaves ticket) }
-  leaves =
-      ap (λ (f : Result FoundMove MoveCause). turned_back First
+  leaves = ap (λ (f : Result FoundMove MoveCause). turned_back First
       (moved_if lists_move pair here waiting [] Quiet (Retire nonce Last) (Some f))) finds
 
   comes : both_outcome lists_move pair gone
       accepted ≡ record { both = arrived; reply = Entered (issued there first_history).position; effect = Some (Enters ticket) }
-  comes =
-      ap (λ (f : Result FoundMove MoveCause). turned_back Second
+  comes = ap (λ (f : Result FoundMove MoveCause). turned_back Second
       (moved_if lists_move pair there (turned gone) [] Quiet (Accept Last) (Some f))) enters
 
   -- the run
   runs : (both_expected pair (one_move nonce)).both ≡ arrived
-  runs =
-      ap (λ (o : BothOutcome History History). (both_followed lists_move pair o.both (accepted ∷ [])).both) leaves
+  runs = ap (λ (o : BothOutcome History History). (both_followed lists_move pair o.both (accepted ∷ [])).both) leaves
       ∙ ap (λ (o : BothOutcome History History). o.both) comes
 
   -- no message but the start message is listed
@@ -291,8 +246,7 @@ module _ (variant : Variant) (first_key second_key barrier link nonce : List ℕ
   closed_by = ap closing_of right ∙ no_closing variant first_key barrier
 
   none_by_retiring : both_event_messages pair waiting retired ≡ []
-  none_by_retiring =
-      ap (λ (m : List (List ℕ)). m
+  none_by_retiring = ap (λ (m : List (List ℕ)). m
       ++ moves_messages here first_history (found_moves [] Quiet (finding lists_move pair here waiting (Retire nonce Last)))) closed_by
       ∙ quiet here first_history (finding lists_move pair here waiting (Retire nonce Last))
 
@@ -300,18 +254,15 @@ module _ (variant : Variant) (first_key second_key barrier link nonce : List ℕ
   none_by_accepting = quiet there first_history (finding lists_move pair there (turned gone) (Accept Last))
 
   none_behind : both_messages_from pair waiting (retired ∷ accepted ∷ []) ≡ []
-  none_behind =
-      ap (λ (m : List (List ℕ)). m ++ both_messages_from pair (both_outcome lists_move pair waiting retired).both (accepted ∷ []))
-      none_by_retiring
-      ∙ ap (λ (o : BothOutcome History History). both_messages_from pair o.both (accepted ∷ [])) leaves
+  none_behind = ap (λ (m : List (List ℕ)). m ++ both_messages_from pair (both_outcome lists_move pair waiting retired).both (accepted ∷ []))
+      none_by_retiring ∙ ap (λ (o : BothOutcome History History). both_messages_from pair o.both (accepted ∷ [])) leaves
       ∙ ap (λ (m : List (List ℕ)). m ++ []) none_by_accepting
 
   listed : both_messages pair (one_move nonce) ≡ start_message here.variant here.meaning.id ∷ []
   listed = ap (λ (m : List (List ℕ)). start_message here.variant here.meaning.id ∷ m) none_behind
 
   genuine : IsGenuine here first_history bytes
-  genuine = λ c it.
-      subst (λ (x : Content). Names here first_history x)
+  genuine = λ c it. subst (λ (x : Content). Names here first_history x)
       (sealed_once here.key here.key content c (formed variant first_key barrier) it.formed it.sealed) (names variant first_key barrier)
 
   abbrev awaited : Notes
@@ -324,18 +275,15 @@ module _ (variant : Variant) (first_key second_key barrier link nonce : List ℕ
   ours = subst (λ (t : Result TicketContent Refusal). IsOurs travelling t) (sym right_ticket) (0, omega arith, refl)
 
   fresh_there : AreFreshFrom pair gone travelling (accepted ∷ [])
-  fresh_there =
-      subst (λ (o : BothOutcome History History). IsNew travelling o.effect × IsOursIn pair gone.tickets travelling accepted.act
+  fresh_there = subst (λ (o : BothOutcome History History). IsNew travelling o.effect × IsOursIn pair gone.tickets travelling accepted.act
       × AreFreshFrom pair o.both (noted_if o.effect travelling) []) (sym comes) (tt, ours, tt)
 
   fresh_here : AreFreshFrom pair waiting awaited (retired ∷ accepted ∷ [])
-  fresh_here =
-      subst (λ (o : BothOutcome History History). IsNew awaited o.effect × IsOursIn pair waiting.tickets awaited retired.act
+  fresh_here = subst (λ (o : BothOutcome History History). IsNew awaited o.effect × IsOursIn pair waiting.tickets awaited retired.act
       × AreFreshFrom pair o.both (noted_if o.effect awaited) (accepted ∷ [])) (sym leaves) (tt, tt, fresh_there)
 
   pub moves_once : IsClear (run_messages (basic counter first_key) one_ask)
-      → IsClear (run_messages (opt counter first_key world_barrier) one_ask)
-      → MovesOnce pair nonce
+      → IsClear (run_messages (opt counter first_key world_barrier) one_ask) → MovesOnce pair nonce
   moves_once in_basic in_opt = record {
     clear = record {
       clear = subst IsClear (sym listed) (clear_start variant first_key barrier in_basic in_opt);

@@ -1,44 +1,26 @@
 -- The replies to the calls of both sides are those of one run.
-use Rattle.std.proofs.Common.{ℕ, ◌≡◌, ◌≤◌, ◌+◌, Bool, true, false, List, [], ◌∷◌, ◌++◌, length, map, Option, None, Some, Result, Err, refl, sym, ap, ◌∙◌, subst, arith, length-append}
-use Rattle.std.specs.Prelude.{if◌then◌else◌}
-use Rattle.mm_module.specs.Batch.{Batch, One, members_of}
-use Rattle.mm_module.specs.Meaning.{Meaning}
-use Rattle.mm_platform.specs.declared.plan.Meddle.{Meddle}
-use Rattle.mm_platform.specs.declared.plan.Stop.{Stop}
-use Rattle.mm_digest.specs.declared.variant.Variant.{Variant}
-use Rattle.mm_digest.specs.declared.variant.Variant.TheVariants.{Basic, Opt}
-use Rattle.mm_model.specs.Instance.{Instance}
-use Rattle.mm_model.specs.History.{History, Foreign, requests_of}
-use Rattle.mm_model.specs.Long.{is_long}
-use Rattle.mm_model.specs.Steps.{Reads}
-use Rattle.mm_model.specs.declared.refusal.Refusal.{Refusal}
+use Rattle.mm_sides.proofs.Below.{ℕ, ◌≡◌, ◌≤◌, ◌+◌, Bool, true, false, List, [], ◌∷◌, ◌++◌, length, map, Option, None, Some, Result, Err}
+use Rattle.mm_sides.proofs.Below.{refl, sym, ap, ◌∙◌, subst, arith, length-append, if◌then◌else◌, Batch, One, members_of, Meaning, Meddle}
+use Rattle.mm_sides.proofs.Below.{Stop, Variant, Basic, Opt, Instance, History, Foreign, requests_of, is_long, Reads, Refusal, End, Done}
+use Rattle.mm_sides.proofs.Below.{Fails, Fate, walk, after_step, commits, called_by, by_lists, instance_by, offered_bytes, Outcome, way_of}
+use Rattle.mm_sides.proofs.Below.{course_of, outcome_by, reads_only, asked_in_vain, event_outcome, event_in_vain, event_steps, Role, Blank}
+use Rattle.mm_sides.proofs.Below.{Live, Waiting, Retired, Effect, Invites, Leaves, Enters, is_live, Notes, no_notes, AreInOrder, Which}
+use Rattle.mm_sides.proofs.Below.{First, Second, Pair, key_of, instance_on, Side, Both, turned, lists_move, first_lists, Command, Invite}
+use Rattle.mm_sides.proofs.Below.{Retire, Accept, MoveCause, FoundMove, Act, Plain, Moves, BothEvent, BothOutcome, plain_outcome}
+use Rattle.mm_sides.proofs.Below.{affected_if, brought_to, effect_of, move_steps, finding, moved_by, moved_if, unissued, outcome_here}
+use Rattle.mm_sides.proofs.Below.{both_outcome, BothFollowed, both_followed, noted_if, IsNew, IsOursIn, AreFreshFrom, plain_in}
+use Rattle.mm_sides.proofs.Below.{plain_events, plain_reply, plain_replies, history_at, history_now, SidesRunAsOne}
 use Rattle.mm_model.specs.declared.refusal.Refusal.TheVariants as refusal
-use Rattle.mm_call.specs.Courses.{End, Done, Fails, Fate, walk, after_step, commits}
-use Rattle.mm_call.specs.Called.{called_by}
 use Rattle.mm_call.specs.CalledWords.{kept_at}
-use Rattle.mm_call.specs.Levels.{by_lists}
-use Rattle.mm_call.specs.Standing.{instance_by}
 use Rattle.mm_schedule.specs.Events as events
 use Rattle.mm_schedule.specs.Machine.{StepsOn, AsksNone, Steps, Runs}
 use Rattle.mm_schedule.specs.declared.reply.Reply.{Reply}
-use Rattle.mm_schedule.specs.declared.reply.Reply.TheVariants.{Told as ToldReply, No, Kept, Nothing, Closed, Checkpointed, Power, Extended}
+use Rattle.mm_schedule.specs.declared.reply.Reply.TheVariants.{Told as ToldReply, Kept}
 use Rattle.mm_schedule.specs.declared.reply.Way.{Way}
-use Rattle.mm_run.specs.Offered.{offered_bytes}
-use Rattle.mm_run.specs.Folds.{Outcome, way_of, course_of, outcome_by, reads_only, asked_in_vain, event_outcome, event_in_vain}
 use Rattle.mm_run.specs.FoldsWords.{broken_reply}
-use Rattle.mm_run.proofs.Running.{event_steps}
-use Rattle.mm_sides.specs.Roles.{Role, Blank, Live, Waiting, Retired, Effect, Invites, Leaves, Enters, is_live, Notes, no_notes}
-use Rattle.mm_move.specs.Tickets.{TicketContent}
-use Rattle.mm_sides.specs.Order.{AreInOrder, MayTake}
-use Rattle.mm_sides.specs.Both.{Which, First, Second, Pair, key_of, instance_on, Side, Both, turned, lists_move, first_lists}
-use Rattle.mm_sides.specs.Moves.{Command, Invite, Retire, Accept, MoveCause, FoundMove}
-use Rattle.mm_sides.specs.Folds.{Act, Plain, Moves, BothEvent, BothOutcome, plain_outcome, affected_if, brought_to, effect_of, move_steps, finding, moved_by, moved_if, unissued, outcome_here, both_outcome, BothFollowed, both_followed, noted_if}
-use Rattle.mm_sides.specs.Premises.{IsNew, IsOursIn, AreFreshFrom}
-use Rattle.mm_sides.specs.Laws.{plain_in, plain_events, plain_reply, plain_replies, history_at, history_now, SidesRunAsOne}
-use Rattle.mm_sides.proofs.InOrder.{roles_begin, roles_swap, roles_are_one}
-use Rattle.mm_sides.proofs.Found.{IsFine}
+use Rattle.mm_sides.proofs.InOrder.{not_dead, invites_none, leaves_live, roles_begin, roles_swap, roles_are_one}
+use Rattle.mm_sides.proofs.Found.{IsFine, IsTold, IsEnded, ended_told, EntersSo}
 use Rattle.mm_sides.proofs.Outer.{commits-foreign, same_batches, brought_alike}
-use Rattle.mm_sides.proofs.Told.{IsTold, IsEnded, ended_told, EntersSo}
 use Rattle.mm_sides.proofs.OneLive.{IsOrdered, here_ordered, event_ordered}
 
 -- a call in vain runs nothing
@@ -50,22 +32,18 @@ vain_reply meaning requests b how true e = cc
 vain_reply meaning requests b how false e = (refl, refl)
 
 module _ (i : Instance) (y : History) (r : List (List ℕ)) (issued : List (List ℕ)) (stop : Stop) (why : Refusal) where
-  vain_by : (b : Batch) (values : List (List ℕ)) (ends : End)
-      → (let o : Outcome History = outcome_by (by_lists i) stop issued
+  vain_by : (b : Batch) (values : List (List ℕ)) (ends : End) → (let o : Outcome History = outcome_by (by_lists i) stop issued
       (called_by (by_lists i) y y (One []) (Err why)
       (after_step Reads values ends (record { moves = []; steps = 0; writes = 0; broken = None }))) in
       StepsOn i.meaning r b o.reply r × AsksNone r o.reply r)
   vain_by b values Done = (refl, refl)
-  vain_by b values (Fails fault made) =
-      vain_reply i.meaning r b (way_of stop) (commits (map Foreign values)) (commits-foreign values)
+  vain_by b values (Fails fault made) = vain_reply i.meaning r b (way_of stop) (commits (map Foreign values)) (commits-foreign values)
 
-  reads_vain : (b : Batch) (meddles : List Meddle)
-      → (let o : Outcome History = reads_only (by_lists i) y issued meddles stop why in
+  reads_vain : (b : Batch) (meddles : List Meddle) → (let o : Outcome History = reads_only (by_lists i) y issued meddles stop why in
       StepsOn i.meaning r b o.reply r × AsksNone r o.reply r)
   reads_vain b meddles = vain_by b ((course_of stop meddles).fates 1).brings ((course_of stop meddles).fates 1).ends
 
-  if_vain : (b : Batch) (long : Bool) (x z : Outcome History) → StepsOn i.meaning r b x.reply r
-      → StepsOn i.meaning r b z.reply r
+  if_vain : (b : Batch) (long : Bool) (x z : Outcome History) → StepsOn i.meaning r b x.reply r → StepsOn i.meaning r b z.reply r
       → (let o : Outcome History = if long then x else z in StepsOn i.meaning r b o.reply r)
   if_vain b true x z p q = p
   if_vain b false x z p q = q
@@ -79,8 +57,7 @@ event_vain : (i : Instance) (y : History) (r : List (List ℕ)) (issued : List (
     → Steps i.meaning r event (event_in_vain (by_lists i) y issued why event).reply r
 event_vain i y r issued why (events.Ask meddles stop offer b) = asked_vain i y r issued stop why meddles (offered_bytes issued offer) b
 event_vain i y r issued why (events.Checkpoint meddles stop) = (reads_vain i y r issued stop why (One []) meddles).1
-event_vain i y r issued why events.Power = refl
-event_vain i y r issued why (events.Extend value) = refl
+event_vain i y r issued why event = refl
 
 -- a step runs no request backwards
 
@@ -88,38 +65,22 @@ on_longer : (meaning : Meaning) (r s : List (List ℕ)) (b : Batch) (reply : Rep
 on_longer meaning r s b (ToldReply true before outputs) h = omega (arith, ap length h.2)
 on_longer meaning r s b (ToldReply false before outputs) h = omega (arith, ap length h.grown, length-append r (members_of b))
 on_longer meaning r s b (Kept way position) h = omega (arith, ap length h.0, length-append r (members_of b))
-on_longer meaning r s b (No why) h = omega (arith, ap length h)
-on_longer meaning r s b (Nothing way) h = omega (arith, ap length h)
-on_longer meaning r s b (Closed way) h = omega (arith, ap length h)
-on_longer meaning r s b Checkpointed h = omega (arith, ap length h)
-on_longer meaning r s b Power h = omega (arith, ap length h)
-on_longer meaning r s b Extended h = omega (arith, ap length h)
+on_longer meaning r s b reply h = omega (arith, ap length h)
 
 none_longer : (r s : List (List ℕ)) (reply : Reply) → AsksNone r reply s → length r ≤ length s
 none_longer r s (ToldReply again before outputs) h = absurd h
 none_longer r s (Kept way position) h = absurd h
-none_longer r s (No why) h = omega (arith, ap length h)
-none_longer r s (Nothing way) h = omega (arith, ap length h)
-none_longer r s (Closed way) h = omega (arith, ap length h)
-none_longer r s Checkpointed h = omega (arith, ap length h)
-none_longer r s Power h = omega (arith, ap length h)
-none_longer r s Extended h = omega (arith, ap length h)
+none_longer r s reply h = omega (arith, ap length h)
 
 longer : (meaning : Meaning) (event : events.Event) (reply : Reply) (r s : List (List ℕ)) → Steps meaning r event reply s
     → length r ≤ length s
 longer meaning (events.Ask meddles stop offer b) reply r s h = on_longer meaning r s b reply h
-longer meaning (events.Checkpoint meddles stop) reply r s h = none_longer r s reply h
-longer meaning events.Power reply r s h = none_longer r s reply h
-longer meaning (events.Extend value) reply r s h = none_longer r s reply h
-
-two_live : true ≡ false → ⊥
-two_live e = cc
+longer meaning event reply r s h = none_longer r s reply h
 
 -- runs one after another
 
 runs_on : (meaning : Meaning) (es fs : List events.Event) (rs ss : List Reply) (a b c : List (List ℕ)) → Runs meaning a es rs b
-    → Runs meaning b fs ss c
-    → Runs meaning a (es ++ fs) (rs ++ ss) c
+    → Runs meaning b fs ss c → Runs meaning a (es ++ fs) (rs ++ ss) c
 runs_on meaning [] fs [] ss a b c h k = subst (λ v. Runs meaning v fs ss c) h k
 runs_on meaning [] fs (r ∷ rs) ss a b c h k = absurd h
 runs_on meaning (e ∷ es) fs [] ss a b c h k = absurd h
@@ -187,18 +148,6 @@ module _ (i : Instance) (at : History) (issued : List (List ℕ)) (second : Side
 
 -- a move changes nothing of the history
 
-pub invites_none : (role : Role) (nonce : List ℕ) → MayTake role (Invites nonce) → is_live role ≡ false
-invites_none Blank nonce may = refl
-invites_none Live nonce may = absurd may
-invites_none (Waiting m) nonce may = refl
-invites_none (Retired m) nonce may = refl
-
-pub leaves_live : (role : Role) (ticket : TicketContent) → MayTake role (Leaves ticket) → is_live role ≡ true
-leaves_live Blank ticket may = absurd may
-leaves_live Live ticket may = refl
-leaves_live (Waiting m) ticket may = absurd may
-leaves_live (Retired m) ticket may = absurd may
-
 alike_now : (a b : Bool) (x y second away : History) → x.batches ≡ y.batches
     → requests_of (history_at a b x second away).batches ≡ requests_of (history_at a b y second away).batches
 alike_now true b x y second away e = ap requests_of e
@@ -220,8 +169,7 @@ affected_now both at notes (Some (Invites nonce)) e h fine alone =
 affected_now both at notes (Some (Leaves ticket)) e h fine alone =
     let live : is_live both.first.role ≡ true = leaves_live both.first.role ticket fine.0 in
     let none : is_live both.second.role ≡ false = roles_are_one both.first.role both.second.role notes h live in
-    ap (λ f. requests_of (history_at false f at both.second.at at).batches) none
-    ∙ ap requests_of e
+    ap (λ f. requests_of (history_at false f at both.second.at at).batches) none ∙ ap requests_of e
     ∙ ap (λ f. requests_of (history_at f (is_live both.second.role) both.first.at both.second.at both.away).batches) (sym live)
 affected_now both at notes (Some (Enters ticket)) e h fine alone =
     ap (λ f. requests_of (history_at false f both.first.at both.second.at both.away).batches) (sym alone.not_there)
@@ -248,15 +196,13 @@ silent meaning [] r s n e = e
 silent meaning (reply ∷ replies) r s n e = cc
 
 moved_run : (pair : Pair) (i : Instance) (both : Both History History) (notes : Notes) (meddles : List Meddle) (stop : Stop)
-    (command : Command)
-    (found : Option (Result FoundMove MoveCause)) → AreInOrder both.first.role both.second.role notes
+    (command : Command) (found : Option (Result FoundMove MoveCause)) → AreInOrder both.first.role both.second.role notes
     → IsOrdered both.first.role both.second.role notes (moved_if lists_move pair i both meddles stop command found)
     → IsRunHere i.meaning both (Moves meddles stop command) (moved_if lists_move pair i both meddles stop command found)
-moved_run pair i both notes meddles stop command None h s =
-    record {
-      runs = silent i.meaning (plain_reply (unissued command)) (requests_now both) (requests_now both) (unissued_none command) refl;
-      count = λ e. e;
-    }
+moved_run pair i both notes meddles stop command None h s = record {
+  runs = silent i.meaning (plain_reply (unissued command)) (requests_now both) (requests_now both) (unissued_none command) refl;
+  count = λ e. e;
+}
 moved_run pair i both notes meddles stop command (Some found) h s =
     let fates : ℕ → Fate = (course_of stop meddles).fates in
     let effect : Option Effect = effect_of fates found in
@@ -265,8 +211,7 @@ moved_run pair i both notes meddles stop command (Some found) h s =
     let o : BothOutcome History History = moved_by lists_move pair i both meddles stop found in
     let ended : IsEnded lists_move pair i (affected_if lists_move here effect) effect o =
     ended_told lists_move pair i (affected_if lists_move here effect) stop (walk fates 1 (move_steps found)).broken found effect in
-    let same : requests_now o.both ≡ requests_now both =
-    told_now (affected_if lists_move here effect) o.both ended.tells
+    let same : requests_now o.both ≡ requests_now both = told_now (affected_if lists_move here effect) o.both ended.tells
     ∙ affected_now both at notes effect (same_batches both.first.at at (brought_alike i both.first.at meddles stop found)) h
     (subst (IsFine both.first.role notes) ended.effect_is s.fine)
     (subst (EntersSo both.first.role both.second.role notes) ended.effect_is s.alone) in
@@ -286,19 +231,21 @@ here_run pair i both notes (Moves meddles stop command) h s =
 
 -- turned
 
-pub turned_at : (a b : Bool) (first second away : History) → (a ≡ true → b ≡ false)
+turned_at : (a b : Bool) (first second away : History) → (a ≡ true → b ≡ false)
     → history_at b a second first away ≡ history_at a b first second away
-turned_at true true first second away one = absurd (two_live (one refl))
+turned_at true true first second away one = not_dead (one refl)
 turned_at true false first second away one = refl
 turned_at false true first second away one = refl
 turned_at false false first second away one = refl
 
+pub turned_history : (l : Both History History) (notes : Notes) → AreInOrder l.first.role l.second.role notes
+    → history_now (turned l) ≡ history_now l
+turned_history l notes h = turned_at (is_live l.first.role) (is_live l.second.role) l.first.at l.second.at l.away
+    (roles_are_one l.first.role l.second.role notes h)
+
 turned_now : (both : Both History History) (notes : Notes) → AreInOrder both.first.role both.second.role notes
     → requests_now (turned both) ≡ requests_now both
-turned_now both notes h =
-    ap (λ (y : History). requests_of y.batches)
-    (turned_at (is_live both.first.role) (is_live both.second.role) both.first.at both.second.at both.away
-    (roles_are_one both.first.role both.second.role notes h))
+turned_now both notes h = ap (λ (y : History). requests_of y.batches) (turned_history both notes h)
 
 same_meaning : (variant : Variant) (meaning : Meaning) (key barrier : List ℕ) → (instance_by variant meaning key barrier).meaning ≡ meaning
 same_meaning Basic meaning key barrier = refl
@@ -331,8 +278,7 @@ event_run pair both notes Second act h new ours =
     }
 
 run_from : (pair : Pair) (events : List BothEvent) (both : Both History History) (notes : Notes)
-    → AreInOrder both.first.role both.second.role notes
-    → AreFreshFrom pair both notes events → both.committed ≡ length (requests_now both)
+    → AreInOrder both.first.role both.second.role notes → AreFreshFrom pair both notes events → both.committed ≡ length (requests_now both)
     → (let f : BothFollowed History History = both_followed lists_move pair both events in
     Runs pair.meaning (requests_now both) (plain_events events) (plain_replies f.replies) (requests_now f.both)
     × (f.both.committed ≡ length (requests_now f.both)))

@@ -1,22 +1,16 @@
 -- Moves that the core doesn't make: values of others, and losses of power. They change the register's items alone.
-use Rattle.std.proofs.Common.{ℕ, ◌≡◌, ◌+◌, Bool, true, false, List, [], ◌∷◌, map, Option, None, Some, Result, Ok, Err, refl, ap, ◌∙◌}
-use Rattle.std.specs.Prelude.{if◌then◌else◌, ◌==◌, filter}
-use Rattle.std.specs.List.{AllByRecursion}
-use Rattle.mm_platform.specs.declared.fault.StepFault.{StepFault}
-use Rattle.mm_platform.specs.declared.plan.Meddle.{Meddle}
-use Rattle.mm_platform.specs.declared.plan.Stop.{Stop}
-use Rattle.mm_platform.specs.declared.plan.Stop.TheVariants.{Quiet, Cut, Drop, Fail}
+use Rattle.mm_sides.proofs.Below.{ℕ, ◌≡◌, ◌+◌, Bool, true, false, List, [], ◌∷◌, map, Option, None, Some, Result, Ok, Err, refl, ap, ◌∙◌}
+use Rattle.mm_sides.proofs.Below.{◌++◌, sym, subst, if◌then◌else◌, ◌==◌, filter, AllByRecursion, Contains, append-nil, StepFault, Meddle}
+use Rattle.mm_sides.proofs.Below.{Stop, Cut, Instance, History, Move, Commit, Foreign, Placed, Reset, Close, PowerMove, moved, Reads}
+use Rattle.mm_sides.proofs.Below.{each_append, each_left, each_right, End, Done, Fails, Fate, Walked, walk, after_step, commits, by_lists}
+use Rattle.mm_sides.proofs.Below.{all_made, by_digests, after_stop, course_of, Outcome, outcome_by, uncalled, reads_only, asked_in_vain}
+use Rattle.mm_sides.proofs.Below.{event_in_vain, MoveCause, FoundMove, move_steps, stopped_moves, brought_to, lists_move, Variant, Basic}
+use Rattle.mm_sides.proofs.Below.{Opt, Batch, One, Meaning, Content, is_long, Within, IsClear, moving_messages, Digests, made, Names}
+use Rattle.mm_sides.proofs.Below.{Refusal, moves_messages, called_by, instance_by, Event, Ask, Checkpoint, Power, Extend, offered_bytes}
+use Rattle.mm_sides.proofs.Below.{Keeps, EventsAgree, IsSoundIn, EventsKeepNames, foreign_of, AreApartIn, basic_events_agree}
+use Rattle.mm_sides.proofs.Below.{opt_events_agree, basic_events_keep_names, opt_events_keep_names, read_moves, vain_asked, vain_moves}
 use Rattle.mm_platform.specs.StandingWords.{due}
-use Rattle.mm_model.specs.Instance.{Instance}
-use Rattle.mm_model.specs.History.{History, Move, Commit, Foreign, Placed, Reset, Close, Power as PowerMove, moved}
-use Rattle.mm_model.specs.Steps.{Reads}
-use Rattle.mm_model.specs.ListLaws.{each_append}
-use Rattle.mm_call.specs.Courses.{End, Done, Fails, Fate, Walked, walk, after_step, commits}
-use Rattle.mm_call.specs.Levels.{by_lists, all_made}
-use Rattle.mm_run.specs.Folds.{after_stop, course_of}
-use Rattle.mm_sides.specs.Moves.{MoveCause, FoundMove}
-use Rattle.mm_sides.specs.Folds.{move_steps, stopped_moves, brought_to}
-use Rattle.mm_sides.specs.Both.{lists_move}
+use Rattle.mm_model.specs.MessagesWords.{move_messages}
 
 -- by what is known of the values
 abbrev pub IsOuter : (List ℕ → Type 0) → Move → Type 0
@@ -58,10 +52,8 @@ module _ (P : List ℕ → Type 0) where
   found_outer fates (Err cause) h = read_outer fates 1 h
 
   pub stop_outer : (stop : Stop) → AreOuter P (after_stop stop)
-  stop_outer Quiet = tt
   stop_outer (Cut n) = (tt, tt)
-  stop_outer (Drop n) = tt
-  stop_outer (Fail n done) = tt
+  stop_outer stop = tt
 
   pub stopped_outer : (stop : Stop) (broken : Option StepFault) → AreOuter P (stopped_moves stop broken)
   stopped_outer stop None = tt
@@ -92,10 +84,7 @@ pub outer_alike : (P : List ℕ → Type 0) (i : Instance) (moves : List Move) (
 outer_alike P i [] y h = record { is = refl }
 outer_alike P i (Foreign v ∷ moves) y h = record { is = (outer_alike P i moves (moved i y (Foreign v)) h.1).is }
 outer_alike P i (PowerMove ∷ moves) y h = record { is = (outer_alike P i moves (moved i y PowerMove) h.1).is }
-outer_alike P i (Commit b ∷ moves) y h = absurd h.0
-outer_alike P i (Placed b ∷ moves) y h = absurd h.0
-outer_alike P i (Reset ∷ moves) y h = absurd h.0
-outer_alike P i (Close ∷ moves) y h = absurd h.0
+outer_alike P i moves y h = absurd h.0
 
 pub alike_on : (x y z : History) → IsAlike x y → IsAlike y z → IsAlike x z
 alike_on x y z a b = record { is = b.is ∙ ap (λ (w : History). record w { items = z.items }) a.is }
@@ -120,3 +109,186 @@ brought_alike i y meddles stop found =
 pub commits-foreign : (values : List (List ℕ)) → commits (map Foreign values) ≡ false
 commits-foreign [] = refl
 commits-foreign (v ∷ values) = commits-foreign values
+
+-- what an event in vain leaves
+
+pub record InVain (y : History) (issued' : List (List ℕ)) (o : Outcome History) : Type 0 where
+  pub alike : IsAlike y o.state
+  pub issued_is : o.issued ≡ issued'
+
+module _ (i : Instance) (y : History) (snapshots : List (List ℕ)) (stop : Stop) (why : Refusal) where
+  abbrev Any : List ℕ → Type 0
+  Any v = Unit {0}
+
+  left_by_walk : (w : Walked) (broken : Option StepFault) → AreOuter Any w.moves → InVain y snapshots
+      (outcome_by (by_lists i) stop snapshots (called_by (by_lists i) y y (One []) (Err why) (record w { broken = broken })))
+  left_by_walk w None h = record { alike = outer_alike Any i w.moves y h; issued_is = append-nil snapshots }
+  left_by_walk w (Some fault) h =
+      let z : History = all_made (by_lists i) y w.moves in
+      record {
+        alike = alike_on y z (all_made (by_lists i) z (after_stop stop)) (outer_alike Any i w.moves y h)
+            (outer_alike Any i (after_stop stop) z (stop_outer Any stop));
+        issued_is = append-nil snapshots;
+      }
+
+  reads_leave : (meddles : List Meddle) → InVain y snapshots (reads_only (by_lists i) y snapshots meddles stop why)
+  reads_leave meddles =
+      let fates : ℕ → Fate = (course_of stop meddles).fates in
+      let w : Walked = walk fates 1 (Reads ∷ []) in
+      left_by_walk w w.broken (read_outer Any fates 1 (λ n. any_value (fates n).brings))
+
+  if_left : (long : Bool) (a b : Outcome History) → InVain y snapshots a → InVain y snapshots b → InVain y snapshots (if long then a else b)
+  if_left true a b p q = p
+  if_left false a b p q = q
+
+  asked_leaves : (meddles : List Meddle) (bytes : Option (List ℕ)) (b : Batch)
+      → InVain y snapshots (asked_in_vain (by_lists i) y snapshots meddles stop why bytes b)
+  asked_leaves meddles None b = record { alike = record { is = refl }; issued_is = refl }
+  asked_leaves meddles (Some bytes) b =
+      if_left (is_long b) _ _ (record { alike = record { is = refl }; issued_is = refl }) (reads_leave meddles)
+
+pub in_vain : (i : Instance) (y : History) (snapshots : List (List ℕ)) (why : Refusal) (event : Event)
+    → InVain y snapshots (event_in_vain (by_lists i) y snapshots why event)
+in_vain i y snapshots why (Ask meddles stop offer b) = asked_leaves i y snapshots stop why meddles (offered_bytes snapshots offer) b
+in_vain i y snapshots why (Checkpoint meddles stop) = reads_leave i y snapshots stop why meddles
+in_vain i y snapshots why event = record { alike = record { is = refl }; issued_is = refl }
+
+-- What others and losses of power keep, by digests and by lists; and what a call in vain comes to.
+
+pub events_agree : (variant : Variant) (meaning : Meaning) (key barrier : List ℕ) → EventsAgree (instance_by variant meaning key barrier)
+events_agree Basic meaning key barrier = basic_events_agree meaning key
+events_agree Opt meaning key barrier = opt_events_agree meaning key barrier
+
+pub events_keep_names : (variant : Variant) (meaning : Meaning) (key barrier : List ℕ)
+    → EventsKeepNames (instance_by variant meaning key barrier)
+events_keep_names Basic meaning key barrier = basic_events_keep_names meaning key
+events_keep_names Opt meaning key barrier = opt_events_keep_names meaning key barrier
+
+power_by : (variant : Variant) (flag : Bool) (i : Instance) (y : History) → moving_messages variant flag i y PowerMove ≡ []
+power_by Basic flag i y = refl
+power_by Opt true i y = refl
+power_by Opt false i y = refl
+
+-- a loss of power has no message
+pub stop_listed : (i : Instance) (y : History) (all : List (List ℕ)) (stop : Stop) → Within (moves_messages i y (after_stop stop)) all
+stop_listed i y all (Cut n) = subst (λ m. Within (m ++ []) all) (sym (power_by i.variant y.is_open i y)) tt
+stop_listed i y all stop = tt
+
+-- from one history to another
+pub record Lasting (i : Instance) (y z : History) : Type 0 where
+  pub sound : IsSoundIn i.variant z
+  pub names : (c : Content) → Names i y c → Names i z c
+
+module _ (i : Instance) (keep : EventsKeepNames i) where
+  pub outer_lasting : (P : List ℕ → Type 0) (moves : List Move) (y : History) → AreOuter P moves → IsSoundIn i.variant y
+      → Lasting i y (all_made (by_lists i) y moves)
+  outer_lasting P [] y h sound = record { sound = sound; names = λ c n. n }
+  outer_lasting P (Foreign v ∷ moves) y h sound =
+      let k = keep y [] (Extend v) sound in
+      let r = outer_lasting P moves
+      (moved i y (Foreign v)) h.1 k.sound in record { sound = r.sound; names = λ c n. r.names c (k.names c n) }
+  outer_lasting P (PowerMove ∷ moves) y h sound =
+      let k = keep y [] Power sound in
+      let r = outer_lasting P moves (moved i y PowerMove) h.1 k.sound in record { sound = r.sound; names = λ c n. r.names c (k.names c n) }
+  outer_lasting P moves y h sound = absurd h.0
+
+module _ (all others : List (List ℕ)) (asked : List Batch) (i : Instance) (agree : EventsAgree i) (clear : IsClear all)
+    (apart : AreApartIn i.variant i others asked) where
+  one_keeps : (y : History) (d : Digests) (m : Move) → Within (move_messages i y m) all → Within (moves_messages i y (m ∷ [])) all
+  one_keeps y d m h = each_append (Contains all) (move_messages i y m) [] h tt
+
+  pub outer_keeps : (moves : List Move) (y : History) (d : Digests) → AreOuter (Contains others) moves
+      → Within (moves_messages i y moves) all
+      → Keeps all others asked i y d → Keeps all others asked i (all_made (by_lists i) y moves) (all_made (by_digests i) d moves)
+  outer_keeps [] y d h listed k = k
+  outer_keeps (Foreign v ∷ moves) y d h listed k =
+      let rest : List (List ℕ) = moves_messages i (moved i y (Foreign v)) moves in
+      let here = one_keeps y d (Foreign v) (each_left (Contains all) (move_messages i y (Foreign v)) rest listed) in
+      let s = agree all others asked clear apart y d [] (Extend v) k
+      (record { outside = (h.0, tt); batches = tt; listed = tt; genuine = tt; messages = here }) in
+      outer_keeps moves (moved i y (Foreign v)) (made i d (Foreign v)) h.1
+      (each_right (Contains all) (move_messages i y (Foreign v)) rest listed) s.keeps
+  outer_keeps (PowerMove ∷ moves) y d h listed k =
+      let rest : List (List ℕ) = moves_messages i (moved i y PowerMove) moves in
+      let here = one_keeps y d PowerMove (each_left (Contains all) (move_messages i y PowerMove) rest listed) in
+      let s = agree all others asked clear apart y d [] Power k
+      (record { outside = tt; batches = tt; listed = tt; genuine = tt; messages = here }) in
+      outer_keeps moves (moved i y PowerMove) (made i d PowerMove) h.1
+      (each_right (Contains all) (move_messages i y PowerMove) rest listed) s.keeps
+  outer_keeps moves y d h listed k = absurd h.0
+
+  -- What a call in vain comes to, by digests and by lists.
+  pub record IsSameVain (lists : Outcome History) (digests : Outcome Digests) : Type 0 where
+    pub reply : digests.reply ≡ lists.reply
+    pub issued : digests.issued ≡ lists.issued
+    pub keeps : Keeps all others asked i lists.state digests.state
+
+  vain_moved : (moves : List Move) (y : History) (d : Digests) (stop : Stop) → AreOuter (Contains others) moves
+      → Within (moves_messages i y moves) all → Keeps all others asked i y d
+      → Keeps all others asked i (all_made (by_lists i) (all_made (by_lists i) y moves) (after_stop stop))
+      (all_made (by_digests i) (all_made (by_digests i) d moves) (after_stop stop))
+  vain_moved moves y d stop h listed k =
+      outer_keeps (after_stop stop) (all_made (by_lists i) y moves) (all_made (by_digests i) d moves) (stop_outer (Contains others) stop)
+      (stop_listed i (all_made (by_lists i) y moves) all stop) (outer_keeps moves y d h listed k)
+
+  vain_by : (y : History) (d : Digests) (issued : List (List ℕ)) (stop : Stop) (why : Refusal) (moves : List Move) (steps writes : ℕ)
+      (broken : Option StepFault) → AreOuter (Contains others) moves → Within (moves_messages i y moves) all → Keeps all others asked i y d
+      → (let w : Walked = record { moves = moves; steps = steps; writes = writes; broken = broken } in
+      IsSameVain (outcome_by (by_lists i) stop issued (called_by (by_lists i) y y (One []) (Err why) w))
+      (outcome_by (by_digests i) stop issued (called_by (by_digests i) d d (One []) (Err why) w)))
+  vain_by y d issued stop why moves steps writes None h listed k =
+      record { reply = refl; issued = refl; keeps = outer_keeps moves y d h listed k }
+  vain_by y d issued stop why moves steps writes (Some fault) h listed k =
+      record { reply = refl; issued = refl; keeps = vain_moved moves y d stop h listed k }
+
+  reads_same : (y : History) (d : Digests) (issued : List (List ℕ)) (meddles : List Meddle) (stop : Stop) (why : Refusal)
+      → AllByRecursion (Contains others) (map (λ (m : Meddle). m.value.bytes) meddles)
+      → Within (moves_messages i y (read_moves meddles stop (Reads ∷ []))) all → Keeps all others asked i y d
+      → IsSameVain (reads_only (by_lists i) y issued meddles stop why) (reads_only (by_digests i) d issued meddles stop why)
+  reads_same y d issued meddles stop why outside listed k =
+      let fates : ℕ → Fate = (course_of stop meddles).fates in
+      let w : Walked = walk fates 1 (Reads ∷ []) in
+      vain_by y d issued stop why w.moves w.steps w.writes w.broken
+      (read_outer (Contains others) fates 1 (λ n. due_among (Contains others) meddles outside n)) listed k
+
+  if_same : (y : History) (long : Bool) (a b : Outcome History) (x z : Outcome Digests) → IsSameVain a x
+      → (long ≡ false → IsSameVain b z) → IsSameVain (if long then a else b) (if long then x else z)
+  if_same y true a b x z p q = p
+  if_same y false a b x z p q = q refl
+
+  unless_long : (y : History) (long : Bool) (moves : List Move) → Within (moves_messages i y (if long then [] else moves)) all
+      → long ≡ false → Within (moves_messages i y moves) all
+  unless_long y true moves h e = cc
+  unless_long y false moves h e = h
+
+  uncalled_same : (y : History) (d : Digests) (issued : List (List ℕ)) (said : _) → Keeps all others asked i y d
+      → IsSameVain (uncalled y issued said) (uncalled d issued said)
+  uncalled_same y d issued said k = record { reply = refl; issued = refl; keeps = k }
+
+  asked_same : (y : History) (d : Digests) (issued : List (List ℕ)) (meddles : List Meddle) (stop : Stop) (why : Refusal)
+      (bytes : Option (List ℕ)) (b : Batch) → AllByRecursion (Contains others) (map (λ (m : Meddle). m.value.bytes) meddles)
+      → Within (moves_messages i y (vain_asked meddles stop bytes b)) all → Keeps all others asked i y d
+      → IsSameVain (asked_in_vain (by_lists i) y issued meddles stop why bytes b)
+      (asked_in_vain (by_digests i) d issued meddles stop why bytes b)
+  asked_same y d issued meddles stop why None b outside listed k = uncalled_same y d issued _ k
+  asked_same y d issued meddles stop why (Some bytes) b outside listed k = if_same y (is_long b) _ _ _ _ (uncalled_same y d issued _ k)
+      (λ short. reads_same y d issued meddles stop why outside
+      (unless_long y (is_long b) (read_moves meddles stop (Reads ∷ [])) listed short) k)
+
+  pub vain_same : (y : History) (d : Digests) (issued : List (List ℕ)) (why : Refusal) (event : Event)
+      → AllByRecursion (Contains others) (foreign_of event)
+      → Within (moves_messages i y (vain_moves issued event)) all → Keeps all others asked i y d
+      → IsSameVain (event_in_vain (by_lists i) y issued why event) (event_in_vain (by_digests i) d issued why event)
+  vain_same y d issued why (Ask meddles stop offer b) outside listed k =
+      asked_same y d issued meddles stop why (offered_bytes issued offer) b outside listed k
+  vain_same y d issued why (Checkpoint meddles stop) outside listed k = reads_same y d issued meddles stop why outside listed k
+  vain_same y d issued why Power outside listed k = record {
+    reply = refl;
+    issued = refl;
+    keeps = outer_keeps (PowerMove ∷ []) y d (tt, tt) listed k;
+  }
+  vain_same y d issued why (Extend v) outside listed k = record {
+    reply = refl;
+    issued = refl;
+    keeps = outer_keeps (Foreign v ∷ []) y d (outside.0, tt) listed k;
+  }

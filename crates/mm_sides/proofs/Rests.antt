@@ -1,45 +1,21 @@
 -- A history with no segment open: its digests, its snapshot and its verdicts don't look at the register's items, and what
 -- names its positions knows neither items nor key.
-use Rattle.std.proofs.Common.{ℕ, ◌≡◌, ◌+◌, Bool, true, false, ◌&&◌, List, [], ◌∷◌, refl, sym, ap, ◌∙◌, subst}
-use Rattle.std.specs.Prelude.{nat_eq, if◌then◌else◌}
-use Rattle.std.specs.Str.{bytes_eq}
-use Rattle.std.specs.List.{AllByRecursion, Contains}
-use Rattle.std.proofs.lemmas.Slice.Eq.{bytes_eq-Decides}
-use Rattle.std.proofs.lemmas.List.Elements.{All-from_recursion, All-contains}
-use Rattle.mm_digest.specs.declared.variant.Variant.{Variant}
-use Rattle.mm_digest.specs.declared.variant.Variant.TheVariants.{Basic, Opt}
-use Rattle.mm_digest.specs.Messages.{zero_bytes, anchored_message}
-use Rattle.mm_module.specs.Batch.{Batch, One, size_of}
-use Rattle.mm_module.specs.Meaning.{Meaning, state_after}
+use Rattle.mm_sides.proofs.Below.{ℕ, ◌≡◌, ◌+◌, Bool, true, false, ◌&&◌, List, [], ◌∷◌, refl, sym, ap, ◌∙◌, subst, nat_eq, if◌then◌else◌}
+use Rattle.mm_sides.proofs.Below.{bytes_eq, AllByRecursion, Contains, bytes_eq-Decides, All-from_recursion, All-contains, Variant, Basic}
+use Rattle.mm_sides.proofs.Below.{Opt, zero_bytes, anchored_message, Batch, One, size_of, Meaning, state_after, Content, Instance, basic}
+use Rattle.mm_sides.proofs.Below.{opt, History, Entry, requests_of, total_of, joined, register_value_of, is_empty, are_own, has_value, Life}
+use Rattle.mm_sides.proofs.Below.{Spoiled, Lost, life_by, life_of, Within, IsClear, AreNoGuards, history_messages, values_in, counting}
+use Rattle.mm_sides.proofs.Below.{Digests, IsPoint, IsPlaceOf, Names, anchor_after, issued_place, issued, is_new, place_messages, flag_of}
+use Rattle.mm_sides.proofs.Below.{basic_issued, opt_issued, point_kept, basic_stands_here, opt_stands_here, IsLedTo, IsWithin, by_lists}
+use Rattle.mm_sides.proofs.Below.{by_digests, Agrees, instance_by, plain_outside, lives, within_items, summary_in, place_at, IsSoundIn}
+use Rattle.mm_sides.proofs.Below.{AreApartIn, digests_move, stands_here}
 use Rattle.mm_seal.specs.declared.snapshot.Place.{Place}
 use Rattle.mm_seal.specs.declared.snapshot.Place.TheVariants.{Basic as InBasic, Opt as InOpt}
-use Rattle.mm_seal.specs.Snapshot.{Content}
-use Rattle.mm_model.specs.Instance.{Instance}
-use Rattle.mm_model.specs.InstanceWords.{basic, opt}
-use Rattle.mm_model.specs.History.{History, Entry, requests_of, total_of, joined, register_value_of}
 use Rattle.mm_model.specs.HistoryWords.{cell_digest_of}
-use Rattle.mm_model.specs.Life.{is_empty, are_own, has_value, Life, Live, Spoiled, Lost, life_by, life_of}
+use Rattle.mm_model.specs.Life.{Live}
 use Rattle.mm_model.specs.Judge.{is_last, judge, judged, verdict_by_digests}
-use Rattle.mm_model.specs.Messages.{Within, IsClear, AreNoGuards, history_messages, values_in, counting}
-use Rattle.mm_model.specs.Moves.{Digests}
-use Rattle.mm_model.specs.Places.{IsPoint, IsPlaceOf, Names, anchor_after, issued_place, issued}
 use Rattle.mm_model.specs.PlacesWords.{digest_of}
-use Rattle.mm_model.specs.StandingHere.{is_new, place_messages}
-use Rattle.mm_model.specs.Standing.{flag_of}
 use Rattle.mm_model.specs.BatchLaws.{at_the_end}
-use Rattle.mm_model.proofs.Named.{basic_issued, opt_issued, point_kept}
-use Rattle.mm_model.proofs.StandsHere.{basic_stands_here, opt_stands_here}
-use Rattle.mm_call.specs.Asked.{IsLedTo, IsWithin}
-use Rattle.mm_call.specs.Levels.{by_lists, by_digests, Agrees}
-use Rattle.mm_call.specs.Standing.{instance_by}
-use Rattle.mm_call.proofs.BasicLaw.{plain_outside}
-use Rattle.mm_call.proofs.OptFinding.{lives}
-use Rattle.mm_call.proofs.OptShut.{within_items}
-use Rattle.mm_move.specs.Tickets.{summary_in, place_at}
-use Rattle.mm_run.specs.OneEvent.{IsSoundIn}
-use Rattle.mm_run.specs.PremisesWords.{AreApartIn}
-use Rattle.mm_sides.specs.Both.{digests_move}
-use Rattle.mm_sides.specs.Moves.{stands_here}
 
 -- the same with other items
 abbrev pub holding : History → List Entry → History
@@ -136,8 +112,7 @@ digest_rests Opt meaning key barrier y shut = ap (λ (p : Place). (summary_in p)
 
 -- a ticket of where a history rests says so again
 pub says_again : (variant : Variant) (meaning : Meaning) (key barrier : List ℕ) (y : History) (d : Digests) (c : Content)
-    → y.is_open ≡ false
-    → (let i = instance_by variant meaning key barrier in
+    → y.is_open ≡ false → (let i = instance_by variant meaning key barrier in
     d.digest ≡ cell_digest_of i i.variant y → c.position ≡ total_of y.batches → c.state ≡ state_after i.meaning (requests_of y.batches)
     → digests_move.says i d c ≡ issued i y)
 says_again Basic meaning key barrier y d c shut e p s = λ j. record {
@@ -248,24 +223,20 @@ bare_listed meaning key barrier all y true h = h
 bare_listed meaning key barrier all y false h = h
 
 opt_here : (meaning : Meaning) (key barrier : List ℕ) (all others : List (List ℕ)) (asked : List Batch) (y : History) (d : Digests)
-    (c : Content)
-    → IsClear all → AreNoGuards barrier others asked → IsWithin all others asked (opt meaning key barrier) y
-    → Agrees (opt meaning key barrier) y d
-    → y.is_open ≡ false → Within (place_messages c.place) all → Names (opt meaning key barrier) y c
+    (c : Content) → IsClear all → AreNoGuards barrier others asked → IsWithin all others asked (opt meaning key barrier) y
+    → Agrees (opt meaning key barrier) y d → y.is_open ≡ false → Within (place_messages c.place) all → Names (opt meaning key barrier) y c
     → stands_here (by_digests (opt meaning key barrier)) d c ≡ stands_here (by_lists (opt meaning key barrier)) y c
 opt_here meaning key barrier all others asked y d c clear apart w a shut listed names =
     let i = opt meaning key barrier in
     let z : History = holding y [] in
     let v = within_items meaning key barrier all others asked y [] shut w in
     let V : Bool → List ℕ → List ℕ → Bool = λ f x r. is_new (verdict_by_digests barrier f x r c.place (One [])) in
-    ap (λ f. V f d.digest d.register) (a.flag ∙ shut)
-    ∙ ap (λ x. V false x d.register) a.digest
+    ap (λ f. V f d.digest d.register) (a.flag ∙ shut) ∙ ap (λ x. V false x d.register) a.digest
     ∙ ap is_new (shut_verdict barrier (cell_digest_of i Opt z) d.register (register_value_of i z) c.place (One []))
     ∙ ap (λ f. V f (cell_digest_of i Opt z) (register_value_of i z)) (sym shut)
     ∙ opt_stands_here meaning key barrier z c (One []) all v.sound clear (bare_listed meaning key barrier all y y.is_open v.listed) listed
     (no_guards barrier others asked (values_in (counting z)) z.batches apart v.outside v.batches)
-    (names_cross Opt meaning key key barrier y [] c names)
-    ∙ judge_shut y [] c.position (One []) shut
+    (names_cross Opt meaning key key barrier y [] c names) ∙ judge_shut y [] c.position (One []) shut
 
 basic_here : (meaning : Meaning) (key : List ℕ) (all others : List (List ℕ)) (asked : List Batch) (y : History) (d : Digests) (c : Content)
     → IsClear all → IsWithin all others asked (basic meaning key) y → Agrees (basic meaning key) y d → Names (basic meaning key) y c
@@ -278,8 +249,7 @@ basic_here meaning key all others asked y d c clear w a names =
 pub here_same : (variant : Variant) (meaning : Meaning) (key barrier : List ℕ) (all others : List (List ℕ)) (asked : List Batch)
     → (let i = instance_by variant meaning key barrier in
     IsClear all → AreApartIn i.variant i others asked → (y : History) (d : Digests) (c : Content) → IsWithin all others asked i y
-    → Agrees i y d
-    → y.is_open ≡ false → Within (place_messages c.place) all → Names i y c
+    → Agrees i y d → y.is_open ≡ false → Within (place_messages c.place) all → Names i y c
     → stands_here (by_digests i) d c ≡ stands_here (by_lists i) y c)
 here_same Basic meaning key barrier all others asked clear apart y d c w a shut listed names =
     basic_here meaning key all others asked y d c clear w a names

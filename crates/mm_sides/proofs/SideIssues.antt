@@ -1,51 +1,19 @@
 -- Moves keep what both sides issued; and so does every schedule.
-use Rattle.std.proofs.Common.{ℕ, ◌≡◌, ◌+◌, Bool, true, false, List, [], ◌∷◌, ◌++◌, Option, None, Some, Result, Ok, Err, refl, sym, ap, ◌∙◌, subst}
-use Rattle.std.specs.Prelude.{if◌then◌else◌}
-use Rattle.std.specs.Str.{bytes_eq}
-use Rattle.std.specs.List.{AllByRecursion}
-use Rattle.mm_digest.specs.declared.variant.Variant.{Variant}
-use Rattle.mm_module.specs.Meaning.{Meaning}
-use Rattle.mm_platform.specs.declared.fault.StepFault.{StepFault}
-use Rattle.mm_platform.specs.declared.plan.Meddle.{Meddle}
-use Rattle.mm_platform.specs.declared.plan.Stop.{Stop}
-use Rattle.mm_seal.specs.declared.snapshot.PartsFault.{PartsFault}
-use Rattle.mm_seal.specs.declared.snapshot.PartsFault.TheVariants.{Form, Kind}
-use Rattle.mm_seal.specs.Parts.{parts_of}
-use Rattle.mm_seal.specs.Snapshot.{Content, Snapshot, tag_of, sealed_of}
-use Rattle.mm_model.specs.Instance.{Instance}
-use Rattle.mm_model.specs.History.{History, first_history}
-use Rattle.mm_model.specs.Life.{Live as LiveHistory, life_of}
-use Rattle.mm_model.specs.Places.{Names, issued}
-use Rattle.mm_model.specs.declared.refusal.Refusal.{Refusal}
-use Rattle.mm_model.specs.ListLaws.{each_append}
-use Rattle.mm_call.specs.Courses.{Fate, Walked, walk}
-use Rattle.mm_call.specs.Levels.{by_lists, all_made}
-use Rattle.mm_call.specs.OrderWords.{weighed}
-use Rattle.mm_call.specs.Standing.{instance_by}
-use Rattle.mm_call.specs.WeighingLaws.{weighed_only, accepting as accepting_verdict}
-use Rattle.mm_move.specs.Tickets.{TicketContent}
-use Rattle.mm_run.specs.Offered.{offered_bytes}
-use Rattle.mm_run.specs.Folds.{course_of}
-use Rattle.mm_run.specs.Laws.{IsIssued}
-use Rattle.mm_run.specs.OneEvent.{IsSoundIn}
-use Rattle.mm_sides.specs.Roles.{Role, Blank, Live, Waiting, Retired, Effect, Invites, Leaves, Enters, Notes, no_notes, is_live}
-use Rattle.mm_sides.specs.Order.{AreInOrder}
-use Rattle.mm_sides.specs.Both.{Which, First, Second, Pair, instance_on, Side, Both, turned, lists_move, first_lists}
-use Rattle.mm_sides.specs.Moves.{Command, Invite, Retire, Accept, MoveCause, Open, Gone, Already, FoundMove, stands_here, verdict_here, invited_on, left_by, offered_to, retired_on, ticket_in, entered_as, entered_again, accepted_on}
-use Rattle.mm_sides.specs.Folds.{Act, Plain, Moves, BothEvent, BothOutcome, is_moved, effect_if, effect_of, affected_if, brought_to, stopped_moves, move_steps, handed, move_ended, moved_by, moved_if, retiring, accepting, finding, outcome_here, both_outcome, BothFollowed, both_followed, noted_if}
-use Rattle.mm_sides.specs.Premises.{IsNew, IsOursIn, AreFreshFrom}
-use Rattle.mm_sides.specs.Laws.{history_at, history_now, SnapshotsName, SidesIssueNames}
-use Rattle.mm_sides.proofs.InOrder.{roles_begin, roles_swap, roles_are_one}
-use Rattle.mm_sides.proofs.Found.{IsFine}
-use Rattle.mm_sides.proofs.Outer.{any_value, found_outer, stopped_outer, IsAlike, same_open, brought_alike}
-use Rattle.mm_sides.proofs.Told.{IsEnded, ended_told, affected_order, EntersSo, enters_so}
-use Rattle.mm_sides.proofs.OneRun.{invites_none, leaves_live}
-use Rattle.mm_sides.proofs.OneLive.{IsOrdered, here_ordered, event_ordered}
-use Rattle.mm_sides.proofs.Rests.{holding, names_cross, here_tells}
-use Rattle.mm_sides.proofs.Keeping.{events_keep_names, Lasting, outer_lasting}
-use Rattle.mm_sides.proofs.Ends.{unbroken, found_is}
-use Rattle.mm_sides.proofs.SideNames.{sound_holding, life_holding, issued_here, first_sound_in, first_lives, Issues, not_dead, turned_issues, Leads, mine, theirs, brought_issues, plain_issues}
-use Rattle.mm_sides.proofs.Lively.{RestsOn, Lively, IsLively, IsLivelyIn, finding_lively}
+use Rattle.mm_sides.proofs.Below.{ℕ, ◌≡◌, Bool, true, false, List, [], ◌∷◌, Option, None, Some, Result, Ok, Err, refl, sym, ap, ◌∙◌, subst}
+use Rattle.mm_sides.proofs.Below.{if◌then◌else◌, AllByRecursion, Variant, Meaning, StepFault, Meddle, Stop, sealed_of, Instance, History}
+use Rattle.mm_sides.proofs.Below.{first_history, LiveHistory, life_of, Names, issued, each_append, Fate, Walked, walk, by_lists, all_made}
+use Rattle.mm_sides.proofs.Below.{instance_by, TicketContent, course_of, IsIssued, IsSoundIn, Role, Effect, Invites, Leaves, Enters, Notes}
+use Rattle.mm_sides.proofs.Below.{no_notes, is_live, Which, First, Second, Pair, instance_on, Both, turned, lists_move, first_lists}
+use Rattle.mm_sides.proofs.Below.{Command, MoveCause, FoundMove, Act, Plain, Moves, BothEvent, BothOutcome, is_moved, effect_if, effect_of}
+use Rattle.mm_sides.proofs.Below.{affected_if, brought_to, stopped_moves, move_steps, handed, move_ended, moved_by, moved_if, finding}
+use Rattle.mm_sides.proofs.Below.{outcome_here, both_outcome, BothFollowed, both_followed, noted_if, IsNew, IsOursIn, AreFreshFrom}
+use Rattle.mm_sides.proofs.Below.{history_at, history_now, SnapshotsName, SidesIssueNames}
+use Rattle.mm_sides.proofs.InOrder.{not_dead, invites_none, leaves_live, roles_begin, roles_are_one}
+use Rattle.mm_sides.proofs.Found.{Fits, FitsFound, FitsIn, finding_fits, IsFine, unbroken, found_is, IsEnded, ended_told, affected_order, EntersSo, enters_so}
+use Rattle.mm_sides.proofs.Outer.{any_value, found_outer, stopped_outer, IsAlike, same_open, brought_alike, events_keep_names, Lasting, outer_lasting}
+use Rattle.mm_sides.proofs.OneLive.{IsOrdered, here_ordered}
+use Rattle.mm_sides.proofs.Rests.{names_cross, here_tells}
+use Rattle.mm_sides.proofs.SideNames.{sound_holding, life_holding, issued_here, first_sound_in, first_lives, Issues, turned_issues, Leads, mine, theirs, brought_issues, plain_issues}
 
 module _ (variant : Variant) (meaning : Meaning) (key key' barrier : List ℕ) where
   abbrev me : Instance
@@ -65,10 +33,13 @@ module _ (variant : Variant) (meaning : Meaning) (key key' barrier : List ℕ) w
   Entered l (Some (Enters ticket)) =
       Names me (record l.away { items = l.first.at.items }) (issued me (record l.away { items = l.first.at.items }))
 
+  abbrev RestsOn : History → Type 0
+  RestsOn y = (y.is_open ≡ false) × (life_of me.variant y ≡ LiveHistory)
+
   abbrev Left : History → Option Effect → Type 0
   Left y None = Unit {0}
   Left y (Some (Invites nonce)) = Unit {0}
-  Left y (Some (Leaves ticket)) = RestsOn me y
+  Left y (Some (Leaves ticket)) = RestsOn y
   Left y (Some (Enters ticket)) = Unit {0}
 
   record Affected (l : Both History History) (notes : Notes) (effect : Option Effect) : Type 0 where
@@ -76,8 +47,7 @@ module _ (variant : Variant) (meaning : Meaning) (key key' barrier : List ℕ) w
     entered : Entered l effect
 
   invites_issues : (l : Both History History) (notes : Notes) (nonce : List ℕ) → Issues me them l notes
-      → IsFine l.first.role notes (Some (Invites nonce))
-      → Affected l notes (Some (Invites nonce))
+      → IsFine l.first.role notes (Some (Invites nonce)) → Affected l notes (Some (Invites nonce))
   invites_issues l notes nonce k fine =
       let dead : is_live l.first.role ≡ false = invites_none l.first.role nonce fine.0 in
       let now : Bool → History = λ f. history_at f (is_live l.second.role) l.first.at l.second.at l.away in
@@ -95,8 +65,7 @@ module _ (variant : Variant) (meaning : Meaning) (key key' barrier : List ℕ) w
       }
 
   leaves_issues : (l : Both History History) (notes : Notes) (ticket : TicketContent) → Issues me them l notes
-      → IsFine l.first.role notes (Some (Leaves ticket))
-      → RestsOn me l.first.at → Affected l notes (Some (Leaves ticket))
+      → IsFine l.first.role notes (Some (Leaves ticket)) → RestsOn l.first.at → Affected l notes (Some (Leaves ticket))
   leaves_issues l notes ticket k fine rests =
       let y : History = l.first.at in
       let live : is_live l.first.role ≡ true = leaves_live l.first.role ticket fine.0 in
@@ -125,8 +94,7 @@ module _ (variant : Variant) (meaning : Meaning) (key key' barrier : List ℕ) w
       let z : History = record l.away { items = own.items } in
       let r = k.rests alone.not_here alone.not_there in
       let now : Bool → Bool → History = λ f g. history_at f g own l.second.at l.away in
-      let sound : IsSoundIn me.variant l.away =
-      subst (λ g. IsSoundIn me.variant (now false g)) alone.not_there
+      let sound : IsSoundIn me.variant l.away = subst (λ g. IsSoundIn me.variant (now false g)) alone.not_there
       (subst (λ f. IsSoundIn me.variant (now f (is_live l.second.role))) alone.not_here k.sound) in
       let this : AllByRecursion (IsIssued me l.away) l.first.issued =
       subst (λ g. AllByRecursion (IsIssued me (now false g)) l.first.issued) alone.not_there
@@ -166,16 +134,6 @@ module _ (variant : Variant) (meaning : Meaning) (key key' barrier : List ℕ) w
 
   told_issues : (pair : Pair) (l : Both History History) (notes : Notes) (effect : Effect) → Issues me them l notes → Tellable l effect
       → Issues me them (handed lists_move pair me l effect) notes
-  told_issues pair l notes (Invites nonce) k told = k
-  told_issues pair l notes (Leaves ticket) k told = record {
-    order = k.order;
-    sound = k.sound;
-    this_here = k.this_here;
-    this_now = k.this_now;
-    other_here = k.other_here;
-    other_now = k.other_now;
-    rests = k.rests;
-  }
   told_issues pair l notes (Enters ticket) k told =
       let y : History = l.first.at in
       let bytes : List ℕ = sealed_of me.key (issued me y) in
@@ -191,6 +149,7 @@ module _ (variant : Variant) (meaning : Meaning) (key key' barrier : List ℕ) w
         other_now = k.other_now;
         rests = k.rests;
       }
+  told_issues pair l notes effect k told = k
 
   ended_issues : (pair : Pair) (l : Both History History) (notes : Notes) (stop : Stop) (broken : Option StepFault)
       (found : Result FoundMove MoveCause)
@@ -200,58 +159,54 @@ module _ (variant : Variant) (meaning : Meaning) (key key' barrier : List ℕ) w
   ended_issues pair l notes stop None (Err cause) effect k told = k
   ended_issues pair l notes stop None (Ok found) effect k told = told_issues pair l notes found.effect k (told found refl refl)
 
-  left_by_effect : (role : Role) (y z : History) (again moved : Bool) (effect : Effect) → (RestsOn me y → RestsOn me z)
-      → Lively role me y again effect
-      → Left z (if again then None else effect_if moved effect)
-  left_by_effect role y z true moved effect go h = tt
-  left_by_effect role y z false false effect go h = tt
-  left_by_effect role y z false true (Invites nonce) go h = tt
-  left_by_effect role y z false true (Enters ticket) go h = tt
-  left_by_effect role y z false true (Leaves ticket) go h = go (h refl)
+  left_by_effect : (notes : Notes) (role : Role) (y z : History) (again moved : Bool) (effect : Effect) → (RestsOn y → RestsOn z)
+      → Fits lists_move me y notes role again effect → Left z (if again then None else effect_if moved effect)
+  left_by_effect notes role y z true moved effect go fits = tt
+  left_by_effect notes role y z false false effect go fits = tt
+  left_by_effect notes role y z false true (Invites nonce) go fits = tt
+  left_by_effect notes role y z false true (Enters ticket) go fits = tt
+  left_by_effect notes role y z false true (Leaves ticket) go fits =
+      let left = (fits refl).1 in go (left.shut, (here_tells me y left.offered left.here).live)
 
-  left_of : (role : Role) (y z : History) (fates : ℕ → Fate) (found : Result FoundMove MoveCause) → (RestsOn me y → RestsOn me z)
-      → IsLively role me y found
-      → Left z (effect_of fates found)
-  left_of role y z fates (Err cause) go h = tt
-  left_of role y z fates (Ok found) go h = left_by_effect role y z found.again (is_moved (fates 1).ends (fates 2).ends) found.effect go h
+  left_of : (notes : Notes) (role : Role) (y z : History) (fates : ℕ → Fate) (found : Result FoundMove MoveCause) → (RestsOn y → RestsOn z)
+      → FitsFound lists_move me y notes role found → Left z (effect_of fates found)
+  left_of notes role y z fates (Err cause) go fits = tt
+  left_of notes role y z fates (Ok found) go fits =
+      left_by_effect notes role y z found.again (is_moved (fates 1).ends (fates 2).ends) found.effect go fits
 
   -- what is told once a move wasn't broken off
   tellable : (l : Both History History) (again moved : Bool) (effect : Effect) → (again ≡ false → moved ≡ true)
       → Entered l (if again then None else effect_if moved effect) → (again ≡ true → Tellable l effect)
       → Tellable (affected_if lists_move l (if again then None else effect_if moved effect)) effect
-  tellable l again moved (Invites nonce) done entered told = tt
-  tellable l again moved (Leaves ticket) done entered told = tt
   tellable l true moved (Enters ticket) done entered told = told refl
   tellable l false true (Enters ticket) done entered told = (refl, entered)
   tellable l false false (Enters ticket) done entered told = not_dead (sym (done refl))
+  tellable l again moved effect done entered told = tt
 
   again_told : (l : Both History History) (notes : Notes) (y : History) (again : Bool) (effect : Effect) → Issues me them l notes
-      → (RestsOn me y → RestsOn me l.first.at) → Lively l.first.role me y again effect → again ≡ true → Tellable l effect
-  again_told l notes y again (Invites nonce) k go h e = tt
-  again_told l notes y again (Leaves ticket) k go h e = tt
-  again_told l notes y again (Enters ticket) k go h e =
-      let t = h e in
+      → (RestsOn y → RestsOn l.first.at) → Fits lists_move me y notes l.first.role again effect → again ≡ true → Tellable l effect
+  again_told l notes y again (Enters ticket) k go fits e =
+      let t = fits.1 e in
       let z : History = l.first.at in
       let sound : IsSoundIn me.variant z =
-      subst (λ f. IsSoundIn me.variant (history_at f (is_live l.second.role) z l.second.at l.away)) t.0 k.sound in
-      (t.0, issued_here variant meaning key barrier z sound (go t.1).1)
+      subst (λ f. IsSoundIn me.variant (history_at f (is_live l.second.role) z l.second.at l.away)) t.live k.sound in
+      (t.live, issued_here variant meaning key barrier z sound (go (t.shut, (here_tells me y ticket.content t.here).live)).1)
+  again_told l notes y again effect k go fits e = tt
 
   move_told : (l : Both History History) (notes : Notes) (y : History) (fates : ℕ → Fate) (found : Result FoundMove MoveCause)
-      → Issues me them l notes
-      → (RestsOn me y → RestsOn me l.first.at) → IsLively l.first.role me y found → Entered l (effect_of fates found)
-      → (f : FoundMove) → found ≡ Ok f → (walk fates 1 (move_steps found)).broken ≡ None
+      → Issues me them l notes → (RestsOn y → RestsOn l.first.at) → FitsFound lists_move me y notes l.first.role found
+      → Entered l (effect_of fates found) → (f : FoundMove) → found ≡ Ok f → (walk fates 1 (move_steps found)).broken ≡ None
       → Tellable (affected_if lists_move l (effect_of fates found)) f.effect
-  move_told l notes y fates (Err cause) k go h entered f e whole = cc
-  move_told l notes y fates (Ok found) k go h entered f e whole =
+  move_told l notes y fates (Err cause) k go fits entered f e whole = cc
+  move_told l notes y fates (Ok found) k go fits entered f e whole =
       subst (λ (g : FoundMove). Tellable (affected_if lists_move l (effect_of fates (Ok found))) g.effect) (found_is found f e)
       (tellable l found.again (is_moved (fates 1).ends (fates 2).ends) found.effect (unbroken fates found.again whole) entered
-      (again_told l notes y found.again found.effect k go h))
+      (again_told l notes y found.again found.effect k go fits))
 
-  rests_on : (y z : History) → IsAlike y z → RestsOn me y → RestsOn me z
+  rests_on : (y z : History) → IsAlike y z → RestsOn y → RestsOn z
   rests_on y z a r = (
     same_open y z a ∙ r.0,
-    subst (λ w. life_of me.variant w ≡ LiveHistory) (sym a.is)
-        (life_holding variant meaning key barrier y z.items r.0 r.1),
+    subst (λ w. life_of me.variant w ≡ LiveHistory) (sym a.is) (life_holding variant meaning key barrier y z.items r.0 r.1),
   )
 
   brought_leads : (y : History) (meddles : List Meddle) (stop : Stop) (found : Result FoundMove MoveCause) → IsSoundIn me.variant y
@@ -269,7 +224,7 @@ module _ (variant : Variant) (meaning : Meaning) (key key' barrier : List ℕ) w
   moved_issues : (pair : Pair) (l : Both History History) (notes : Notes) (meddles : List Meddle) (stop : Stop) (command : Command)
       (found : Option (Result FoundMove MoveCause)) → Issues me them l notes
       → IsOrdered l.first.role l.second.role notes (moved_if lists_move pair me l meddles stop command found)
-      → IsLivelyIn l.first.role me l.first.at found
+      → FitsIn lists_move me l.first.at notes l.first.role found
       → (let o = moved_if lists_move pair me l meddles stop command found in Issues me them o.both (noted_if o.effect notes))
   moved_issues pair l notes meddles stop command None k s h = k
   moved_issues pair l notes meddles stop command (Some found) k s h =
@@ -282,27 +237,27 @@ module _ (variant : Variant) (meaning : Meaning) (key key' barrier : List ℕ) w
       let l1 : Both History History = record l { first = record l.first { at = z } } in
       let sound : is_live l.first.role ≡ true → IsSoundIn me.variant y =
       λ live. subst (λ f. IsSoundIn me.variant (history_at f (is_live l.second.role) y l.second.at l.away)) live k.sound in
-      let k1 : Issues me them l1 notes =
-      brought_issues variant meaning key key' barrier l notes z l.committed k alike
+      let k1 : Issues me them l1 notes = brought_issues variant meaning key key' barrier l notes z k alike
       (λ live. brought_leads y meddles stop found (sound live)) in
       let l2 : Both History History = affected_if lists_move l1 effect in
       let ended : IsEnded lists_move pair me l2 effect (moved_by lists_move pair me l meddles stop found) =
       ended_told lists_move pair me l2 stop broken found effect in
       let fine : IsFine l.first.role notes effect = subst (IsFine l.first.role notes) ended.effect_is s.fine in
-      let a : Affected l1 notes effect = affected l1 notes effect k1 fine (left_of l.first.role y z fates found (rests_on y z alike) h) in
+      let a : Affected l1 notes effect = affected l1 notes effect k1 fine (left_of notes l.first.role y z fates found
+      (rests_on y z alike) h) in
       subst (λ (e : Option Effect). Issues me them (moved_by lists_move pair me l meddles stop found).both (noted_if e notes))
-      (sym ended.effect_is)
-      (ended_issues pair l2 (noted_if effect notes) stop broken found effect a.keeps
+      (sym ended.effect_is) (ended_issues pair l2 (noted_if effect notes) stop broken found effect a.keeps
       (move_told l1 notes y fates found k1 (rests_on y z alike) h a.entered))
 
   here_issues : (pair : Pair) (l : Both History History) (notes : Notes) (act : Act) → Issues me them l notes
-      → IsOrdered l.first.role l.second.role notes (outcome_here lists_move pair me l act)
+      → IsOrdered l.first.role l.second.role notes (outcome_here lists_move pair me l act) → IsOursIn pair l.tickets notes act
       → (let o = outcome_here lists_move pair me l act in Issues me them o.both (noted_if o.effect notes))
-  here_issues pair l notes (Plain event) k s =
+  here_issues pair l notes (Plain event) k s ours =
       plain_issues variant meaning key key' barrier l.first.at l.first.issued l.second l.away l.tickets l.committed notes l.first.role event
       k
-  here_issues pair l notes (Moves meddles stop command) k s =
-      moved_issues pair l notes meddles stop command (finding lists_move pair me l command) k s (finding_lively pair me l command)
+  here_issues pair l notes (Moves meddles stop command) k s ours =
+      moved_issues pair l notes meddles stop command (finding lists_move pair me l command) k s
+      (finding_fits lists_move pair me notes l command ours)
 
 module _ (pair : Pair) where
   event_issues : (l : Both History History) (notes : Notes) (which : Which) (act : Act)
@@ -312,18 +267,17 @@ module _ (pair : Pair) where
       (noted_if o.effect notes))
   event_issues l notes First act k new ours =
       here_issues pair.variant pair.meaning pair.first_key pair.second_key pair.barrier pair l notes act k
-      (here_ordered pair (instance_on pair First) l notes act k.order new ours)
+      (here_ordered pair (instance_on pair First) l notes act k.order new ours) ours
   event_issues l notes Second act k new ours =
       let i : Instance = instance_on pair Second in
       let back = turned_issues pair.variant pair.meaning pair.first_key pair.second_key pair.barrier l notes k in
       let o : BothOutcome History History = outcome_here lists_move pair i (turned l) act in
       turned_issues pair.variant pair.meaning pair.second_key pair.first_key pair.barrier o.both (noted_if o.effect notes)
       (here_issues pair.variant pair.meaning pair.second_key pair.first_key pair.barrier pair (turned l) notes act back
-      (here_ordered pair i (turned l) notes act back.order new ours))
+      (here_ordered pair i (turned l) notes act back.order new ours) ours)
 
   issues_from : (events : List BothEvent) (l : Both History History) (notes : Notes)
-      → Issues (instance_on pair First) (instance_on pair Second) l notes
-      → AreFreshFrom pair l notes events
+      → Issues (instance_on pair First) (instance_on pair Second) l notes → AreFreshFrom pair l notes events
       → (let f : BothFollowed History History = both_followed lists_move pair l events in
       SnapshotsName pair First f.both.first (history_now f.both) × SnapshotsName pair Second f.both.second (history_now f.both))
   issues_from [] l notes k fresh = (record { here = k.this_here; now = k.this_now }, record { here = k.other_here; now = k.other_now })
@@ -341,8 +295,7 @@ sides_issue_names pair events fresh =
       names = issued_here pair.variant pair.meaning pair.first_key pair.barrier first_history sound
           (first_lives pair.variant pair.meaning pair.first_key pair.barrier);
     } in
-    issues_from pair events (first_lists pair) no_notes
-    (record {
+    issues_from pair events (first_lists pair) no_notes (record {
       order = roles_begin;
       sound = sound;
       this_here = (own, tt);

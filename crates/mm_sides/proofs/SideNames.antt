@@ -1,47 +1,16 @@
 -- What both sides issue names positions of where they stand, and of the one history.
-use Rattle.std.proofs.Common.{ℕ, ◌≡◌, Bool, true, false, List, [], ◌∷◌, Option, None, Some, Err, refl, sym, ap, ◌∙◌, subst}
-use Rattle.std.specs.Prelude.{if◌then◌else◌}
-use Rattle.std.specs.List.{AllByRecursion}
-use Rattle.std.proofs.lemmas.List.{append-nil}
-use Rattle.mm_digest.specs.declared.variant.Variant.{Variant}
-use Rattle.mm_digest.specs.declared.variant.Variant.TheVariants.{Basic, Opt}
-use Rattle.mm_module.specs.Batch.{Batch, One}
-use Rattle.mm_module.specs.Meaning.{Meaning}
-use Rattle.mm_platform.specs.declared.fault.StepFault.{StepFault}
-use Rattle.mm_platform.specs.declared.plan.Meddle.{Meddle}
-use Rattle.mm_platform.specs.declared.plan.Stop.{Stop}
-use Rattle.mm_seal.specs.Snapshot.{Content, sealed_of}
-use Rattle.mm_model.specs.Instance.{Instance}
-use Rattle.mm_model.specs.History.{History, Entry, joined, first_history}
-use Rattle.mm_model.specs.Life.{Life, Live as LiveHistory, life_by, is_empty, are_own, has_value, life_of}
-use Rattle.mm_model.specs.Long.{is_long}
-use Rattle.mm_model.specs.Places.{Names, issued}
-use Rattle.mm_model.specs.Steps.{Reads}
-use Rattle.mm_model.specs.declared.refusal.Refusal.{Refusal}
+use Rattle.mm_sides.proofs.Below.{ℕ, ◌≡◌, Bool, true, false, List, [], ◌∷◌, refl, sym, ap, ◌∙◌, subst, AllByRecursion, Variant, Basic, Opt}
+use Rattle.mm_sides.proofs.Below.{Meaning, Content, sealed_of, Instance, History, Entry, joined, first_history, Life, LiveHistory, life_by}
+use Rattle.mm_sides.proofs.Below.{is_empty, are_own, has_value, life_of, Names, issued, Refusal, basic_issued, opt_issued, by_lists}
+use Rattle.mm_sides.proofs.Below.{instance_by, lives, sound_shut, Event, Outcome, event_outcome, event_in_vain, IsIssued, IsSoundIn, Role}
+use Rattle.mm_sides.proofs.Below.{Blank, Live, Waiting, Retired, Notes, is_live, AreInOrder, Side, Both, turned, lists_move, plain_outcome}
+use Rattle.mm_sides.proofs.Below.{history_at, history_now}
 use Rattle.mm_model.specs.declared.refusal.Refusal.TheVariants as refusal
 use Rattle.mm_model.specs.EndLaws.{first_sound}
-use Rattle.mm_model.proofs.Named.{basic_issued, opt_issued}
-use Rattle.mm_call.specs.Called.{called_by}
-use Rattle.mm_call.specs.Courses.{Fate, Walked, walk}
-use Rattle.mm_call.specs.Levels.{by_lists, all_made}
-use Rattle.mm_call.specs.Standing.{instance_by}
-use Rattle.mm_call.proofs.OptFinding.{lives}
-use Rattle.mm_call.proofs.OptShut.{sound_shut}
-use Rattle.mm_schedule.specs.Events.{Event, Ask, Checkpoint, Power, Extend}
-use Rattle.mm_run.specs.Offered.{offered_bytes}
-use Rattle.mm_run.specs.Folds.{Outcome, after_stop, course_of, outcome_by, reads_only, asked_in_vain, event_outcome, event_in_vain}
-use Rattle.mm_run.specs.Laws.{IsIssued}
-use Rattle.mm_run.specs.OneEvent.{IsSoundIn}
-use Rattle.mm_sides.specs.Roles.{Role, Blank, Live, Waiting, Retired, Notes, is_live}
-use Rattle.mm_sides.specs.Order.{AreInOrder}
-use Rattle.mm_sides.specs.Both.{Side, Both, turned, lists_move}
-use Rattle.mm_sides.specs.Folds.{plain_outcome}
-use Rattle.mm_sides.specs.Laws.{history_at, history_now}
-use Rattle.mm_sides.proofs.InOrder.{roles_swap, roles_are_one}
-use Rattle.mm_sides.proofs.Outer.{AreOuter, any_value, read_outer, stop_outer, IsAlike, outer_alike, alike_on}
-use Rattle.mm_sides.proofs.OneRun.{turned_at}
+use Rattle.mm_sides.proofs.InOrder.{not_dead, roles_swap}
+use Rattle.mm_sides.proofs.Outer.{in_vain, IsAlike, events_keep_names}
+use Rattle.mm_sides.proofs.OneRun.{turned_history}
 use Rattle.mm_sides.proofs.Rests.{holding, names_cross}
-use Rattle.mm_sides.proofs.Keeping.{events_keep_names}
 
 -- names go along where a history is alike, and from one side to the other
 
@@ -95,71 +64,21 @@ pub first_lives : (variant : Variant) (meaning : Meaning) (key barrier : List �
 first_lives Basic meaning key barrier = refl
 first_lives Opt meaning key barrier = refl
 
--- what an event in vain leaves
-
-record InVain (y : History) (issued' : List (List ℕ)) (o : Outcome History) : Type 0 where
-  alike : IsAlike y o.state
-  issued_is : o.issued ≡ issued'
-
-module _ (i : Instance) (y : History) (snapshots : List (List ℕ)) (stop : Stop) (why : Refusal) where
-  abbrev Any : List ℕ → Type 0
-  Any v = Unit {0}
-
-  vain_by : (w : Walked) (broken : Option StepFault) → AreOuter Any w.moves
-      → InVain y snapshots
-      (outcome_by (by_lists i) stop snapshots (called_by (by_lists i) y y (One []) (Err why) (record w { broken = broken })))
-  vain_by w None h = record { alike = outer_alike Any i w.moves y h; issued_is = append-nil snapshots }
-  vain_by w (Some fault) h =
-      let z : History = all_made (by_lists i) y w.moves in
-      record {
-        alike = alike_on y z (all_made (by_lists i) z (after_stop stop)) (outer_alike Any i w.moves y h)
-            (outer_alike Any i (after_stop stop) z (stop_outer Any stop));
-        issued_is = append-nil snapshots;
-      }
-
-  reads_vain : (meddles : List Meddle) → InVain y snapshots (reads_only (by_lists i) y snapshots meddles stop why)
-  reads_vain meddles =
-      let fates : ℕ → Fate = (course_of stop meddles).fates in
-      let w : Walked = walk fates 1 (Reads ∷ []) in
-      vain_by w w.broken (read_outer Any fates 1 (λ n. any_value (fates n).brings))
-
-  if_vain : (long : Bool) (a b : Outcome History) → InVain y snapshots a → InVain y snapshots b → InVain y snapshots (if long then a else b)
-  if_vain true a b p q = p
-  if_vain false a b p q = q
-
-  asked_vain : (meddles : List Meddle) (bytes : Option (List ℕ)) (b : Batch)
-      → InVain y snapshots (asked_in_vain (by_lists i) y snapshots meddles stop why bytes b)
-  asked_vain meddles None b = record { alike = record { is = refl }; issued_is = refl }
-  asked_vain meddles (Some bytes) b =
-      if_vain (is_long b) _ _ (record { alike = record { is = refl }; issued_is = refl }) (reads_vain meddles)
-
-vain : (i : Instance) (y : History) (snapshots : List (List ℕ)) (why : Refusal) (event : Event)
-    → InVain y snapshots (event_in_vain (by_lists i) y snapshots why event)
-vain i y snapshots why (Ask meddles stop offer b) = asked_vain i y snapshots stop why meddles (offered_bytes snapshots offer) b
-vain i y snapshots why (Checkpoint meddles stop) = reads_vain i y snapshots stop why meddles
-vain i y snapshots why Power = record { alike = record { is = refl }; issued_is = refl }
-vain i y snapshots why (Extend v) = record { alike = record { is = refl }; issued_is = refl }
-
 -- what holds of both sides at each moment
 
-pub record Issues (i j : Instance) (l : Both History History) (notes : Notes) : Type 0 where
-  pub order : AreInOrder l.first.role l.second.role notes
-  pub sound : IsSoundIn i.variant (history_now l)
-  pub this_here : AllByRecursion (IsIssued i l.first.at) l.first.issued
-  pub this_now : AllByRecursion (IsIssued i (history_now l)) l.first.issued
-  pub other_here : AllByRecursion (IsIssued j l.second.at) l.second.issued
-  pub other_now : AllByRecursion (IsIssued j (history_now l)) l.second.issued
-  pub rests : is_live l.first.role ≡ false → is_live l.second.role ≡ false
-      → (l.away.is_open ≡ false) × (life_of i.variant l.away ≡ LiveHistory)
+pub record IssuesAt (i j : Instance) (role role' : Role) (y z away now : History) (issued issued' : List (List ℕ))
+    (notes : Notes) : Type 0 where
+  pub order : AreInOrder role role' notes
+  pub sound : IsSoundIn i.variant now
+  pub this_here : AllByRecursion (IsIssued i y) issued
+  pub this_now : AllByRecursion (IsIssued i now) issued
+  pub other_here : AllByRecursion (IsIssued j z) issued'
+  pub other_now : AllByRecursion (IsIssued j now) issued'
+  pub rests : is_live role ≡ false → is_live role' ≡ false → (away.is_open ≡ false) × (life_of i.variant away ≡ LiveHistory)
 
-pub not_dead : {A : Type 0} → true ≡ false → A
-not_dead e = absurd (cc)
-
-turned_history : (l : Both History History) (notes : Notes) → AreInOrder l.first.role l.second.role notes
-    → history_now (turned l) ≡ history_now l
-turned_history l notes h =
-    turned_at (is_live l.first.role) (is_live l.second.role) l.first.at l.second.at l.away
-    (roles_are_one l.first.role l.second.role notes h)
+abbrev pub Issues : Instance → Instance → Both History History → Notes → Type 0
+Issues i j l notes =
+    IssuesAt i j l.first.role l.second.role l.first.at l.second.at l.away (history_now l) l.first.issued l.second.issued notes
 
 pub turned_issues : (variant : Variant) (meaning : Meaning) (key key' barrier : List ℕ) (l : Both History History) (notes : Notes)
     → Issues (instance_by variant meaning key barrier) (instance_by variant meaning key' barrier) l notes
@@ -195,9 +114,7 @@ module _ (variant : Variant) (meaning : Meaning) (key key' barrier : List ℕ) w
   mine y z xs a h = each_issued me me y z refl a.names xs h
 
   pub theirs : (y z : History) (xs : List (List ℕ)) → Leads y z → AllByRecursion (IsIssued them y) xs → AllByRecursion (IsIssued them z) xs
-  theirs y z xs a h =
-      each_issued them them y z refl
-      (λ c n. names_cross variant meaning key key' barrier z z.items c
+  theirs y z xs a h = each_issued them them y z refl (λ c n. names_cross variant meaning key key' barrier z z.items c
       (a.names c (names_cross variant meaning key' key barrier y y.items c n))) xs h
 
   -- other items
@@ -212,11 +129,10 @@ module _ (variant : Variant) (meaning : Meaning) (key key' barrier : List ℕ) w
   now_leads false false y z second away h = record { sound = λ s. s; names = λ c n. n }
 
   -- the first side stands elsewhere, and issued no snapshot
-  pub brought_issues : (l : Both History History) (notes : Notes) (z : History) (committed' : ℕ) → Issues me them l notes
-      → IsAlike l.first.at z
-      → (is_live l.first.role ≡ true → Leads l.first.at z)
-      → Issues me them (record l { first = record l.first { at = z }; committed = committed' }) notes
-  brought_issues l notes z committed' k alike leads =
+  pub brought_issues : (l : Both History History) (notes : Notes) (z : History) → Issues me them l notes
+      → IsAlike l.first.at z → (is_live l.first.role ≡ true → Leads l.first.at z)
+      → Issues me them (record l { first = record l.first { at = z } }) notes
+  brought_issues l notes z k alike leads =
       let y : History = l.first.at in
       let go = now_leads (is_live l.first.role) (is_live l.second.role) y z l.second.at l.away leads in
       let before : History = history_now l in
@@ -244,11 +160,10 @@ module _ (variant : Variant) (meaning : Meaning) (key key' barrier : List ℕ) w
       committed = committed;
     }
 
-    live_issues : (event : Event) (committed' : ℕ) → Issues me them (standing Live) notes
+    live_issues : (event : Event) → Issues me them (standing Live) notes
         → (let o : Outcome History = event_outcome me (by_lists me) at snapshots event in
-        Issues me them
-        (record (standing Live) { first = record { role = Live; at = o.state; issued = o.issued }; committed = committed' }) notes)
-    live_issues event committed' k =
+        Issues me them (record (standing Live) { first = record { role = Live; at = o.state; issued = o.issued } }) notes)
+    live_issues event k =
         let o : Outcome History = event_outcome me (by_lists me) at snapshots event in
         let n = events_keep_names variant meaning key barrier at snapshots event k.sound in
         let go : Leads at o.state = record { sound = λ s. n.sound; names = n.names } in
@@ -262,21 +177,18 @@ module _ (variant : Variant) (meaning : Meaning) (key key' barrier : List ℕ) w
           rests = λ gone left. not_dead gone;
         }
 
-    vain_issues : (role : Role) (why : Refusal) (event : Event) (committed' : ℕ) → is_live role ≡ false
-        → Issues me them (standing role) notes
-        → (let o : Outcome History = event_in_vain (by_lists me) at snapshots why event in
-        Issues me them
-        (record (standing role) { first = record { role = role; at = o.state; issued = o.issued }; committed = committed' }) notes)
-    vain_issues role why event committed' dead k =
+    vain_issues : (role : Role) (why : Refusal) (event : Event) → is_live role ≡ false
+        → Issues me them (standing role) notes → (let o : Outcome History = event_in_vain (by_lists me) at snapshots why event in
+        Issues me them (record (standing role) { first = record { role = role; at = o.state; issued = o.issued } }) notes)
+    vain_issues role why event dead k =
         let o : Outcome History = event_in_vain (by_lists me) at snapshots why event in
-        let v = vain me at snapshots why event in
-        subst (λ xs. Issues me them
-        (record (standing role) { first = record { role = role; at = o.state; issued = xs }; committed = committed' }) notes)
-        (sym v.issued_is) (brought_issues (standing role) notes o.state committed' k v.alike (λ live. not_dead (sym live ∙ dead)))
+        let v = in_vain me at snapshots why event in
+        subst (λ xs. Issues me them (record (standing role) { first = record { role = role; at = o.state; issued = xs } }) notes)
+        (sym v.issued_is) (brought_issues (standing role) notes o.state k v.alike (λ live. not_dead (sym live ∙ dead)))
 
     pub plain_issues : (role : Role) (event : Event) → Issues me them (standing role) notes
         → Issues me them (plain_outcome lists_move me (standing role) event).both notes
-    plain_issues Live event k = live_issues event _ k
-    plain_issues Blank event k = vain_issues Blank refusal.Blank event _ refl k
-    plain_issues (Waiting nonce) event k = vain_issues (Waiting nonce) refusal.Cell event _ refl k
-    plain_issues (Retired nonce) event k = vain_issues (Retired nonce) refusal.Cell event _ refl k
+    plain_issues Live event k = live_issues event k
+    plain_issues Blank event k = vain_issues Blank refusal.Blank event refl k
+    plain_issues (Waiting nonce) event k = vain_issues (Waiting nonce) refusal.Cell event refl k
+    plain_issues (Retired nonce) event k = vain_issues (Retired nonce) refusal.Cell event refl k

@@ -1,27 +1,16 @@
 -- Both sides by digests beside both sides by lists: what holds of them before and after each event.
-use Rattle.std.proofs.Common.{ℕ, ◌≡◌, false, List, [], ◌∷◌, sym, ◌∙◌, subst}
-use Rattle.std.specs.List.{AllByRecursion}
-use Rattle.mm_digest.specs.declared.variant.Variant.{Variant}
-use Rattle.mm_module.specs.Batch.{Batch}
-use Rattle.mm_module.specs.Meaning.{Meaning}
-use Rattle.mm_model.specs.Instance.{Instance}
-use Rattle.mm_model.specs.History.{History, total_of}
-use Rattle.mm_model.specs.Messages.{Within}
-use Rattle.mm_model.specs.Moves.{Digests}
-use Rattle.mm_model.specs.Places.{Names, issued}
-use Rattle.mm_model.specs.StandingHere.{place_messages}
-use Rattle.mm_call.specs.Asked.{IsWithin}
-use Rattle.mm_call.specs.Standing.{instance_by}
-use Rattle.mm_move.specs.Tickets.{TicketContent}
-use Rattle.mm_run.specs.OneEvent.{Keeps}
-use Rattle.mm_sides.specs.Roles.{Role, Blank, Live, Waiting, Retired, Notes, is_live}
-use Rattle.mm_sides.specs.Order.{AreInOrder, IsLastTicket}
-use Rattle.mm_sides.specs.Both.{Both, turned}
-use Rattle.mm_sides.specs.Folds.{BothOutcome, noted_if}
-use Rattle.mm_sides.specs.Laws.{history_now}
-use Rattle.mm_sides.proofs.InOrder.{roles_swap, roles_are_one}
-use Rattle.mm_sides.proofs.OneRun.{turned_at}
-use Rattle.mm_sides.proofs.Rests.{names_cross, issued_cross, within_cross}
+use Rattle.mm_sides.proofs.Below.{ℕ, ◌≡◌, false, List, [], ◌∷◌, sym, ◌∙◌, subst, ◌+◌, ◌-◌, Bool, true, None, refl, AllByRecursion, Contains}
+use Rattle.mm_sides.proofs.Below.{Variant, Batch, Meaning, Instance, History, total_of, Within, IsClear, Digests, Names, issued}
+use Rattle.mm_sides.proofs.Below.{place_messages, IsWithin, moves_messages, instance_by, TicketContent, Keeps, Role, Blank, Live, Waiting}
+use Rattle.mm_sides.proofs.Below.{Retired, Notes, is_live, AreInOrder, IsLastTicket, Both, turned, Side, lists_move, digests_move}
+use Rattle.mm_sides.proofs.Below.{BothOutcome, noted_if, Plain, Said, plain_outcome, history_at, history_now, Content, Refusal, each_left}
+use Rattle.mm_sides.proofs.Below.{each_right, by_lists, by_digests, Event, Outcome, event_outcome, event_in_vain, foreign_of, batches_of}
+use Rattle.mm_sides.proofs.Below.{event_messages, moves_of, AreApartIn, vain_moves, plain_messages, IsGenuineHere}
+use Rattle.mm_sides.proofs.InOrder.{roles_swap, not_dead}
+use Rattle.mm_sides.proofs.OneRun.{turned_history}
+use Rattle.mm_sides.proofs.Rests.{names_cross, issued_cross, within_cross, sound_in}
+use Rattle.mm_model.specs.declared.refusal.Refusal.TheVariants as refusal
+use Rattle.mm_sides.proofs.Outer.{in_vain, IsAlike, same_open, events_agree, events_keep_names, vain_same}
 
 -- what by digests is apart from lists: roles, snapshots, tickets and the count of requests are the same
 pub record Twin : Type 0 where
@@ -52,19 +41,30 @@ IsShut (Retired nonce) y = y.is_open ≡ false
 abbrev pub IsNamed : List (List ℕ) → Instance → History → TicketContent → Type 0
 IsNamed all i y ticket = Names i y ticket.content × Within (place_messages ticket.content.place) all
 
-pub record Kept (all others : List (List ℕ)) (asked : List Batch) (i j : Instance) (l : Both History History) (x : Twin)
+-- where a side stands by digests is where it stands by lists
+pub record Stands (all others : List (List ℕ)) (asked : List Batch) (i : Instance) (role : Role) (y : History) (d : Digests) : Type 0 where
+  pub keeps : Keeps all others asked i y d
+  pub shut : IsShut role y
+
+-- what is kept of where the module left
+pub record IsLeft (all others : List (List ℕ)) (asked : List Batch) (i : Instance) (y : History) (count : ℕ) : Type 0 where
+  pub count_is : count ≡ total_of y.batches
+  pub shut : y.is_open ≡ false
+  pub within : IsWithin all others asked i y
+
+pub record KeptAt (all others : List (List ℕ)) (asked : List Batch) (i j : Instance) (role role' : Role) (y z away : History) (x : Twin)
     (notes : Notes) : Type 0 where
-  pub this : Keeps all others asked i l.first.at x.first
-  pub other : Keeps all others asked j l.second.at x.second
-  pub this_shut : IsShut l.first.role l.first.at
-  pub other_shut : IsShut l.second.role l.second.at
-  pub count : x.away ≡ total_of l.away.batches
-  pub away_shut : l.away.is_open ≡ false
-  pub away_within : IsWithin all others asked i l.away
-  pub order : AreInOrder l.first.role l.second.role notes
-  pub named : AllByRecursion (IsNamed all i (history_now l)) notes.retired
-  pub last : is_live l.first.role ≡ false → is_live l.second.role ≡ false → (ticket : TicketContent) → IsLastTicket notes.retired ticket
-      → ticket.content ≡ issued i l.away
+  pub this : Stands all others asked i role y x.first
+  pub other : Stands all others asked j role' z x.second
+  pub left : IsLeft all others asked i away x.away
+  pub order : AreInOrder role role' notes
+  pub named : AllByRecursion (IsNamed all i (history_at (is_live role) (is_live role') y z away)) notes.retired
+  pub last : is_live role ≡ false → is_live role' ≡ false → (ticket : TicketContent) → IsLastTicket notes.retired ticket
+      → ticket.content ≡ issued i away
+
+-- what holds of both sides, whatever they issued
+abbrev pub Kept : List (List ℕ) → List (List ℕ) → List Batch → Instance → Instance → Both History History → Twin → Notes → Type 0
+Kept all others asked i j l x notes = KeptAt all others asked i j l.first.role l.second.role l.first.at l.second.at l.away x notes
 
 -- An event comes by digests to what it comes to by lists.
 pub record Goes (all others : List (List ℕ)) (asked : List Batch) (i j : Instance) (notes : Notes) (lists : BothOutcome History History)
@@ -76,12 +76,6 @@ pub record Goes (all others : List (List ℕ)) (asked : List Batch) (i j : Insta
 pub each_goes : {A : Type 0} (P Q : A → Type 0) → ((x : A) → P x → Q x) → (xs : List A) → AllByRecursion P xs → AllByRecursion Q xs
 each_goes P Q f [] h = tt
 each_goes P Q f (x ∷ xs) h = (f x h.0, each_goes P Q f xs h.1)
-
-turned_history : (l : Both History History) (notes : Notes) → AreInOrder l.first.role l.second.role notes
-    → history_now (turned l) ≡ history_now l
-turned_history l notes h =
-    turned_at (is_live l.first.role) (is_live l.second.role) l.first.at l.second.at l.away
-    (roles_are_one l.first.role l.second.role notes h)
 
 -- the same with the sides exchanged
 pub turned_kept : (variant : Variant) (meaning : Meaning) (key key' barrier : List ℕ) (all others : List (List ℕ)) (asked : List Batch)
@@ -95,11 +89,11 @@ turned_kept variant meaning key key' barrier all others asked l x notes k =
     record {
       this = k.other;
       other = k.this;
-      this_shut = k.other_shut;
-      other_shut = k.this_shut;
-      count = k.count;
-      away_shut = k.away_shut;
-      away_within = within_cross variant meaning key key' barrier all others asked l.away l.away.items k.away_shut k.away_within;
+      left = record {
+        count_is = k.left.count_is;
+        shut = k.left.shut;
+        within = within_cross variant meaning key key' barrier all others asked l.away l.away.items k.left.shut k.left.within;
+      };
       order = roles_swap l.first.role l.second.role notes k.order;
       named = subst (λ y. AllByRecursion (IsNamed all j y) notes.retired) (sym (turned_history l notes k.order))
           (each_goes (IsNamed all i (history_now l)) (IsNamed all j (history_now l))
@@ -107,3 +101,141 @@ turned_kept variant meaning key key' barrier all others asked l x notes k =
           k.named);
       last = λ gone left ticket is. k.last left gone ticket is ∙ issued_cross variant meaning key key' barrier l.away l.away.items;
     }
+
+-- An event of a schedule on the first side comes by digests to what it comes to by lists.
+
+module _ (variant : Variant) (meaning : Meaning) (key key' barrier : List ℕ) (all others : List (List ℕ)) (asked : List Batch)
+    (clear : IsClear all)
+    (apart : AreApartIn (instance_by variant meaning key barrier).variant (instance_by variant meaning key barrier) others asked) where
+  abbrev me : Instance
+  me = instance_by variant meaning key barrier
+
+  abbrev them : Instance
+  them = instance_by variant meaning key' barrier
+
+  -- names where the module is now, once the first side stands elsewhere
+  named_at : (a b : Bool) (y z second away : History) (tickets : List TicketContent)
+      → (a ≡ true → (c : Content) → Names me y c → Names me z c) → AllByRecursion (IsNamed all me (history_at a b y second away)) tickets
+      → AllByRecursion (IsNamed all me (history_at a b z second away)) tickets
+  named_at true b y z second away tickets go h =
+      each_goes (IsNamed all me y) (IsNamed all me z) (λ t n. (go refl t.content n.0, n.1)) tickets h
+  named_at false true y z second away tickets go h = h
+  named_at false false y z second away tickets go h = h
+
+  shut_alike : (role : Role) (y z : History) → z.is_open ≡ y.is_open → IsShut role y → IsShut role z
+  shut_alike (Retired nonce) y z e h = e ∙ h
+  shut_alike role y z e h = tt
+
+  -- the first side stands elsewhere, as others extended its register
+  pub brought_kept : (l : Both History History) (x : Twin) (notes : Notes) (z : History) (d : Digests)
+      → Kept all others asked me them l x notes → Keeps all others asked me z d → IsAlike l.first.at z
+      → (is_live l.first.role ≡ true → (c : Content) → Names me l.first.at c → Names me z c)
+      → Kept all others asked me them (record l { first = record l.first { at = z } }) (record x { first = d }) notes
+  brought_kept l x notes z d k keeps alike names = record {
+    this = record { keeps = keeps; shut = shut_alike l.first.role l.first.at z (same_open l.first.at z alike) k.this.shut };
+    other = k.other;
+    left = k.left;
+    order = k.order;
+    named = named_at (is_live l.first.role) (is_live l.second.role) l.first.at z l.second.at l.away notes.retired names k.named;
+    last = k.last;
+  }
+
+  -- an event of a schedule, by the role of its side
+
+  module _ (at : History) (snapshots : List (List ℕ)) (second : Side History) (away : History) (tickets : List (List ℕ)) (committed : ℕ)
+      (x : Twin) (notes : Notes) where
+    abbrev standing : Role → Both History History
+    standing role = record {
+      first = record { role = role; at = at; issued = snapshots };
+      second = second;
+      away = away;
+      tickets = tickets;
+      committed = committed;
+    }
+
+    live_goes : (event : Event) → Kept all others asked me them (standing Live) x notes
+        → AllByRecursion (Contains others) (foreign_of event)
+        → AllByRecursion (Contains asked) (batches_of event) → Within (plain_messages me Live (standing Live).first event) all
+        → IsGenuineHere me (standing Live).first (Plain event)
+        → Goes all others asked me them notes (plain_outcome lists_move me (standing Live) event)
+        (plain_outcome digests_move me (twin (standing Live) x) event)
+    live_goes event k outside batches listed genuine =
+        let ol : Outcome History = event_outcome me (by_lists me) at snapshots event in
+        let od : Outcome Digests = event_outcome me (by_digests me) x.first snapshots event in
+        let first = each_left (Contains all) (event_messages me snapshots event)
+        (moves_messages me at (moves_of me at snapshots event)) listed in
+        let then_moves = each_right (Contains all) (event_messages me snapshots event)
+        (moves_messages me at (moves_of me at snapshots event)) listed in
+        let s = events_agree variant meaning key barrier all others asked clear apart at x.first snapshots event k.this.keeps
+        (record { outside = outside; batches = batches; listed = first; genuine = genuine; messages = then_moves }) in
+        let n = events_keep_names variant meaning key barrier at snapshots event
+        (sound_in variant meaning key barrier at k.this.keeps.within.sound) in
+        record {
+          at = record x { first = od.state };
+          same = λ j. record {
+            both = record {
+              first = record { role = Live; at = od.state; issued = s.issued j };
+              second = record { role = second.role; at = x.second; issued = second.issued };
+              away = x.away;
+              tickets = tickets;
+              committed = committed + (s.keeps.agrees.count j - k.this.keeps.agrees.count j);
+            };
+            reply = Said (s.reply j);
+            effect = None;
+          };
+          kept = record {
+            this = record { keeps = s.keeps; shut = tt };
+            other = k.other;
+            left = k.left;
+            order = k.order;
+            named = each_goes (IsNamed all me at) (IsNamed all me ol.state) (λ t h. (n.names t.content h.0, h.1)) notes.retired k.named;
+            last = λ gone left ticket is. not_dead gone;
+          };
+        }
+
+    vain_goes : (role : Role) (why : Refusal) (event : Event) → is_live role ≡ false → Kept all others asked me them (standing role) x notes
+        → AllByRecursion (Contains others) (foreign_of event) → Within (moves_messages me at (vain_moves snapshots event)) all
+        → (let ol : Outcome History = event_in_vain (by_lists me) at snapshots why event in
+        let od : Outcome Digests = event_in_vain (by_digests me) x.first snapshots why event in
+        Goes all others asked me them notes (record {
+          both = record (standing role) { first = record { role = role; at = ol.state; issued = ol.issued }; committed = committed + 0 };
+          reply = Said ol.reply;
+          effect = None;
+        }) (record {
+          both = record
+              (twin (standing role) x) { first = record { role = role; at = od.state; issued = od.issued }; committed = committed + 0 };
+          reply = Said od.reply;
+          effect = None;
+        }))
+    vain_goes role why event dead k outside listed =
+        let ol : Outcome History = event_in_vain (by_lists me) at snapshots why event in
+        let od : Outcome Digests = event_in_vain (by_digests me) x.first snapshots why event in
+        let s = vain_same all others asked me
+        (events_agree variant meaning key barrier) clear apart at x.first snapshots why event outside listed k.this.keeps in
+        record {
+          at = record x { first = od.state };
+          same = λ j. record {
+            both = record {
+              first = record { role = role; at = od.state; issued = s.issued j };
+              second = record { role = second.role; at = x.second; issued = second.issued };
+              away = x.away;
+              tickets = tickets;
+              committed = committed + 0;
+            };
+            reply = Said (s.reply j);
+            effect = None;
+          };
+          kept = brought_kept (standing role) x notes ol.state od.state k s.keeps (in_vain me at snapshots why event).alike
+              (λ live. not_dead (sym live ∙ dead));
+        }
+
+    pub plain_goes : (role : Role) (event : Event) → Kept all others asked me them (standing role) x notes
+        → AllByRecursion (Contains others) (foreign_of event)
+        → AllByRecursion (Contains asked) (batches_of event) → Within (plain_messages me role (standing role).first event) all
+        → IsGenuineHere me (standing role).first (Plain event)
+        → Goes all others asked me them notes (plain_outcome lists_move me (standing role) event)
+        (plain_outcome digests_move me (twin (standing role) x) event)
+    plain_goes Live event k outside batches listed genuine = live_goes event k outside batches listed genuine
+    plain_goes Blank event k outside batches listed genuine = vain_goes Blank refusal.Blank event refl k outside listed
+    plain_goes (Waiting nonce) event k outside batches listed genuine = vain_goes (Waiting nonce) refusal.Cell event refl k outside listed
+    plain_goes (Retired nonce) event k outside batches listed genuine = vain_goes (Retired nonce) refusal.Cell event refl k outside listed

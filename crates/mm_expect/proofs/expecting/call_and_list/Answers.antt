@@ -1,9 +1,5 @@
-use Rattle.std.proofs.Common.{Bool, ap, ◌∙◌, subst}
-use Rattle.mm_module.specs.Batches.{batch_of}
-use Rattle.mm_run.specs.Folds.{after_stop, reply_of}
-use Rattle.mm_expect.specs.Calls.{CallsBy, ending_of}
-use Rattle.mm_expect.specs.Coming.{called_on, moves_if}
-use Rattle.mm_expect.specs.Recorded.{Recorded, Went}
+use Rattle.mm_expect.proofs.Below.{Bool, ap, ◌∙◌, subst, batch_of, after_stop, reply_of, CallsBy, ending_of, called_on, moves_if, Recorded}
+use Rattle.mm_expect.proofs.Below.{Went}
 use Rattle.mm_expect.proofs.CallLaws.{went_by_call}
 use Rattle.mm_expect.proofs.expecting.call_and_list.Goals as goal
 
@@ -14,8 +10,7 @@ returns c =
     let bytes = c.args.bytes.now in
     let b = batch_of c.args.batch in
     let ended = c.in_ok-ended.ended in
-    let calls =
-    subst (λ (r : Recorded). CallsBy r c.call.new.self (called_on r stop meddles bytes b) ended) c.forget_messages.ensures
+    let calls = subst (λ (r : Recorded). CallsBy r c.call.new.self (called_on r stop meddles bytes b) ended) c.forget_messages.ensures
     c.in_ok-ended.ensures in
     let restored =
     subst (λ (k : Bool). Went c.hand_messages.new.self c.restore.new.chronicle (moves_if k (after_stop stop))) c.is_broken-is_broken.ensures

@@ -1,24 +1,16 @@
-use Rattle.std.proofs.Common.{◌∙◌, sym, ap}
-use Rattle.std.specs.Prelude.{option_map}
-use Rattle.mm_seal.specs.Body.{content_of}
-use Rattle.mm_expect.specs.Recorded.{Recorded, recorded_instance}
+use Rattle.mm_expect.proofs.Below.{◌∙◌, sym, ap, option_map, content_of, recorded_instance}
 use Rattle.mm_expect.proofs.GenuineLaws.{offers_decided}
 use Rattle.mm_expect.proofs.JudgeLaws.{decided_beside, beside_there}
 use Rattle.mm_expect.proofs.offers.are_genuine_beside.Goals as goal
 
 pub returns-in-None : goal.returns-in-None
-returns-in-None c = λ are.
-    (offers_decided (recorded_instance c.args.chronicle.now)).not_right c.args.chronicle.now.history c.args.bytes.now
+returns-in-None c = λ are. (offers_decided (recorded_instance c.args.chronicle.now)).not_right c.args.chronicle.now.history c.args.bytes.now
     (sym c.right_body.ensures ∙ ap (option_map content_of) c.in-None.is)
 
 pub returns-in-Some-said_at : goal.returns-in-Some-said_at
 returns-in-Some-said_at c =
     decided_beside c.is_named_beside.result c.args.chronicle.now.variant c.args.chronicle.now.«module» c.args.chronicle.now.history
-    c.args.issued.now
-    c.args.bytes.now c.in-Some.body.position (content_of c.in-Some.body) (content_of c.in-Some-said_at.other)
+    c.args.issued.now c.args.bytes.now c.in-Some.body.position (content_of c.in-Some.body) (content_of c.in-Some-said_at.other)
     (sym c.right_body.ensures ∙ ap (option_map content_of) c.in-Some.is) c.in-Some-said_at.ensures
-    (beside_there c.is_named_beside.result c.chronicle.inside.variant c.chronicle.inside.«module» c.chronicle.inside.lists
-    c.args.chronicle.now
-    (ap (λ (r : Recorded). r.variant) c.chronicle.view_is) (ap (λ (r : Recorded). r.«module») c.chronicle.view_is)
-    (ap (λ (r : Recorded). r.history) c.chronicle.view_is) (content_of c.in-Some.body) (content_of c.in-Some-said_at.other)
-    c.is_named_beside.ensures)
+    (beside_there c.chronicle.inside.barrier c.chronicle.view_is c.chronicle.invariant.barrier_is c.is_named_beside.result
+    (content_of c.in-Some.body) (content_of c.in-Some-said_at.other) c.is_named_beside.ensures)

@@ -1,13 +1,10 @@
-use Rattle.std.proofs.Common.{sym, ap, ◌∙◌}
-use Rattle.std.specs.Prelude.{option_map}
+use Rattle.mm_expect.proofs.Below.{sym, ap, ◌∙◌, option_map, recorded_instance}
 use Rattle.mm_run.specs.OfferedBytes.{bytes_in}
-use Rattle.mm_expect.specs.Recorded.{recorded_instance}
 use Rattle.mm_expect.proofs.JudgeLaws.{decided_number, decided_last, decided_none, decided_some}
 use Rattle.mm_expect.proofs.offers.is_genuine_offer.Goals as goal
 
 pub returns-in-None : goal.returns-in-None
-returns-in-None c =
-    decided_none (recorded_instance c.args.chronicle.now) c.args.chronicle.now.history c.args.issued.now c.args.offer.now
+returns-in-None c = decided_none (recorded_instance c.args.chronicle.now) c.args.chronicle.now.history c.args.issued.now c.args.offer.now
     (sym c.in_ok-offered-in-Flip.ensures ∙ ap (option_map bytes_in) c.in-None.is)
 
 pub returns-in-Some : goal.returns-in-Some

@@ -1,15 +1,11 @@
-use Rattle.std.proofs.Common.{List, ℕ}
-use Rattle.mm_move.specs.Cells.{moved_of}
-use Rattle.mm_move.specs.Orders.{accepts_in}
+use Rattle.mm_move.proofs.Below.{List, ℕ, moved_of, accepts_in}
 use Rattle.mm_move.proofs.Moving.{moved_as}
 use Rattle.mm_move.proofs.Orders.{accepts_no_fault}
 use Rattle.mm_move.proofs.accepting.accept.Goals as goal
 
 pub returns : goal.returns
 returns g c =
-    moved_as
-    (λ (bytes : List ℕ).
-    accepts_in (g.M.Module.meaning c.args.module.now) c.args.variant c.args.link.now c.args.ticket.now (moved_of bytes))
-    (λ (bytes : List ℕ).
-    accepts_no_fault (g.M.Module.meaning c.args.module.now) c.args.variant c.args.link.now c.args.ticket.now (moved_of bytes))
-    (g.P.Device.standing c.args.platform.now) (g.P.Device.standing c.accept_by.new.platform) c.accept_by.result c.accept_by.ensures
+    moved_as (λ (bytes : List ℕ). accepts_in (g.M.Module.meaning c.args.module.now) c.args.variant c.args.link.now c.args.ticket.now
+    (moved_of bytes)) (λ (bytes : List ℕ). accepts_no_fault (g.M.Module.meaning c.args.module.now) c.args.variant c.args.link.now
+    c.args.ticket.now (moved_of bytes)) (g.P.Device.standing c.args.platform.now) (g.P.Device.standing c.accept_by.new.platform)
+    c.accept_by.result c.accept_by.ensures

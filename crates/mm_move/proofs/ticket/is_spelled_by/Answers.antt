@@ -1,6 +1,4 @@
-use Rattle.std.proofs.Common.{◌≡◌, sym, ◌∙◌, ap, Bool, List, ℕ}
-use Rattle.std.specs.Str.{bytes_eq}
-use Rattle.mm_move.specs.Tickets.{ticket_content, ticket_front}
+use Rattle.mm_move.proofs.Below.{◌≡◌, sym, ◌∙◌, ap, Bool, List, ℕ, bytes_eq, ticket_content, ticket_front}
 use Rattle.mm_move.proofs.TicketLaws.{front_tells, unbounded}
 use Rattle.mm_move.proofs.ticket.is_spelled_by.Goals as goal
 

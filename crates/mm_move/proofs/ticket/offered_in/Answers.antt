@@ -1,5 +1,4 @@
-use Rattle.std.proofs.Common.{sym, ◌∙◌, ap, true, ◌≡◌}
-use Rattle.mm_move.specs.Tickets.{tagged_in, ticket_signed, is_spelled_by, TicketContent}
+use Rattle.mm_move.proofs.Below.{sym, ◌∙◌, ap, true, ◌≡◌, tagged_in, ticket_signed, is_spelled_by, TicketContent}
 use Rattle.mm_move.proofs.TicketLaws.{signed_in, tag_in, same_tagged}
 use Rattle.mm_move.proofs.ticket.offered_in.Goals as goal
 
@@ -12,6 +11,7 @@ invariant_of-result c =
 
 pub returns : goal.returns
 returns c = (
-  same_tagged (tagged_in c.args.bytes.now) _ _ c.ticket_in-ticket.ensures (c.in_ok-signed.ensures.cases.1 ∙ sym (tag_in c.args.bytes.now)),
+  same_tagged (tagged_in c.args.bytes.now) _ _ c.ticket_in-ticket.ensures (c.in_ok-signed.ensures.cases.1
+      ∙ sym (tag_in c.args.bytes.now)),
   sym c.is_spelled_by.ensures ∙ c.if-not-is_spelled_by.false,
 )

@@ -1,4 +1,4 @@
-use Rattle.mm_run.proofs.KeepingNames.{basic_events_keep_names, opt_events_keep_names}
+use Rattle.mm_run.proofs.Naming.{basic_events_keep_names, opt_events_keep_names}
 use Rattle.mm_run.proofs.laws.events_keep_names.Goals as goal
 
 pub returns-clause-basic : goal.returns-clause-basic

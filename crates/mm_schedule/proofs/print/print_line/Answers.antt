@@ -1,8 +1,4 @@
-use Rattle.std.proofs.Common.{◌+◌, ◌<◌, ℕ, List, length, sym, ap, ◌∙◌}
-use Rattle.std.specs.Option.{option_map}
-use Rattle.std.specs.Prelude.{Option, Some}
-use Rattle.mm_schedule.specs.Replies.{told_lines}
-use Rattle.mm_schedule.specs.RepliesWords.{told_line}
+use Rattle.mm_schedule.proofs.Below.{◌+◌, ◌<◌, ℕ, List, length, sym, ap, ◌∙◌, option_map, Option, Some, told_lines, told_line}
 use Rattle.mm_schedule.proofs.PrintLaws.{length-told_lines, not_missing, told_lines-at}
 use Rattle.mm_schedule.proofs.print.print_line.Goals as goal
 
@@ -18,5 +14,4 @@ pub returns-in-Some-clause-line : goal.returns-in-Some-clause-line
 returns-in-Some-clause-line c =
     rw c.in-Told.is (told_lines-at c.in-Told.again c.in-Told.before c.in-Told.outputs c.args.index
     ∙ ap (λ (output : Option (List ℕ)). option_map (told_line c.in-Told.again (c.in-Told.before + c.args.index + 1)) output)
-    (sym c.in-Some.ensures)
-    ∙ ap (λ (line : List ℕ). Some line) (sym c.print_told.ensures.line))
+    (sym c.in-Some.ensures) ∙ ap (λ (line : List ℕ). Some line) (sym c.print_told.ensures.line))

@@ -1,16 +1,13 @@
-use Rattle.std.proofs.Common.{◌≡◌, ◌+◌, ◌<◌, ◌++◌, ℕ, List, Result, Ok, Err, OnOk, length, sym, ap, ◌∙◌}
-use Rattle.std.specs.Option.{option_map}
-use Rattle.std.specs.Prelude.{Option, Some, slice_get}
+use Rattle.mm_schedule.proofs.Below.{◌≡◌, ◌+◌, ◌<◌, ◌++◌, ℕ, List, OnOk, length, sym, ap, ◌∙◌, option_map, Option, Some, slice_get}
+use Rattle.mm_schedule.proofs.Below.{lines_of_reply, told_lines, told_line}
+use Rattle.std.proofs.Common.{Result, Ok, Err}
 use Rattle.mm_base.specs.declared.fault.Memory.{Memory}
-use Rattle.mm_schedule.specs.Replies.{lines_of_reply, told_lines}
-use Rattle.mm_schedule.specs.RepliesWords.{told_line}
 use Rattle.mm_schedule.proofs.PrintLaws.{length-told_lines, not_missing, told_lines-at}
 use Rattle.mm_schedule.proofs.put.put_line.Goals as goal
 
 -- what holds after Ok, with more that always holds
 with_line : (result : Result (Unit {0}) Memory) (found : Option (List ℕ)) (line old new : List ℕ) → found ≡ Some line
-    → OnOk result (new ≡ old ++ line)
-    → OnOk result ((l : List ℕ) × (found ≡ Some l) × (new ≡ old ++ l))
+    → OnOk result (new ≡ old ++ line) → OnOk result ((l : List ℕ) × (found ≡ Some l) × (new ≡ old ++ l))
 with_line (Ok done) found line old new is put = (line, is, put)
 with_line (Err fault) found line old new is put = tt
 
@@ -24,9 +21,8 @@ unreachable-requires c =
 
 pub returns-in-Some : goal.returns-in-Some
 returns-in-Some c =
-    let at : slice_get (lines_of_reply c.args.reply.now) c.args.index ≡ Some
-    (told_line c.in-Told.again (c.in-Told.before + c.args.index + 1) c.in-Some.output.now) =
-    rw c.in-Told.is (told_lines-at c.in-Told.again c.in-Told.before c.in-Told.outputs c.args.index
+    let at : slice_get (lines_of_reply c.args.reply.now) c.args.index ≡ Some (told_line c.in-Told.again (c.in-Told.before + c.args.index +
+    1) c.in-Some.output.now) = rw c.in-Told.is (told_lines-at c.in-Told.again c.in-Told.before c.in-Told.outputs c.args.index
     ∙ ap (λ (output : Option (List ℕ)). option_map (told_line c.in-Told.again (c.in-Told.before + c.args.index + 1)) output)
     (sym c.in-Some.ensures)) in
     with_line c.put_told.result _ _ _ _ at c.put_told.ensures

@@ -1,6 +1,5 @@
-use Rattle.std.proofs.Common.{◌≡◌, sym, ◌∙◌}
-use Rattle.std.specs.Prelude.{unwrap_or, []}
-use Rattle.mm_schedule.specs.Words.{bytes_at}
+use Rattle.mm_schedule.proofs.Below.{◌≡◌, sym, ◌∙◌, unwrap_or, bytes_at}
+use Rattle.std.specs.Prelude.{[]}
 use Rattle.mm_schedule.proofs.HexWords.{digits_give}
 use Rattle.mm_schedule.proofs.text.bytes_of.Goals as goal
 

@@ -1,8 +1,5 @@
-use Rattle.std.proofs.Common.{◌∙◌, ap, sym}
-use Rattle.mm_model.specs.Chains.{guard}
-use Rattle.mm_expect.specs.Recorded.{Recorded, state_after_batch, barrier_of}
+use Rattle.mm_expect.proofs.Below.{◌∙◌, ap, sym, guard, Recorded, state_after_batch, barrier_of, batch_of}
 use Rattle.mm_expect.proofs.Settling.{settled_grown, short_one}
-use Rattle.mm_module.specs.Batches.{batch_of}
 use Rattle.mm_expect.proofs.chronicle.Chronicle.add_inside.Goals as goal
 
 pub invariant_of-self-2 : goal.invariant_of-self-2
@@ -14,9 +11,7 @@ invariant_of-self-2 c =
     (ap (λ (r : Recorded). r.variant) c.self.view_is ∙ c.requires.variant) c.in_ok-add_inside.ensures.ok c.requires.size
     (c.requires.guards ∙ ap (λ (r : Recorded). guard (barrier_of r.variant) (batch_of c.args.batch)) (sym c.self.view_is))
     c.grown-self-inside.ensures (
-      c.replace.ensures.after ∙ c.requires.state
-          ∙ ap (λ (r : Recorded). state_after_batch r (batch_of c.args.batch)) (sym c.self.view_is),
+      c.replace.ensures.after ∙ c.requires.state ∙ ap (λ (r : Recorded). state_after_batch r (batch_of c.args.batch)) (sym c.self.view_is),
       c.replace.ensures.value,
-      short_one
-          (batch_of c.args.batch) c.requires.short,
+      short_one (batch_of c.args.batch) c.requires.short,
     )

@@ -1,13 +1,5 @@
-use Rattle.std.proofs.Common.{ap, ◌∙◌}
-use Rattle.mm_module.specs.Batch.{members_of, size_of}
-use Rattle.mm_module.specs.Batches.{batch_of}
-use Rattle.mm_module.specs.Meaning.{outputs_from}
-use Rattle.mm_modules.specs.Modules.{meaning_of}
-use Rattle.mm_model.specs.Judge.{is_last}
-use Rattle.mm_model.specs.History.{total_of}
-use Rattle.mm_call.specs.AnswersWords.{last_outputs}
-use Rattle.mm_expect.specs.declared.marks.Marks.{Marks}
-use Rattle.mm_expect.specs.Recorded.{Recorded}
+use Rattle.mm_expect.proofs.Below.{ap, ◌∙◌, members_of, size_of, batch_of, outputs_from, meaning_of, is_last, total_of, last_outputs, Marks}
+use Rattle.mm_expect.proofs.Below.{Recorded}
 use Rattle.mm_expect.proofs.Settling.{outputs_last, answered_is}
 use Rattle.mm_expect.proofs.chronicle.Chronicle.answer.Goals as goal
 
@@ -19,7 +11,5 @@ returns c =
     (ap (λ (m : Marks). m.total) c.self.invariant.marks_is ∙ ap (λ (r : Recorded). total_of r.history.batches) c.self.view_is)
     (c.in_ok-outputs.ensures.outputs ∙ ap (λ v. outputs_from (meaning_of c.self.inside.«module») v (members_of b)) c.as_slice.ensures.value
     ∙ outputs_last c.self.inside.variant c.self.inside.«module» c.self.inside.barrier c.self.inside.lists c.self.inside.marks
-    c.self.inside.state
-    c.self.inside.before b c.self.invariant last
-    ∙ ap (λ (r : Recorded). last_outputs (meaning_of r.«module») r.history (size_of b)) c.self.view_is)
-    c.in_ok-snapshot.ensures
+    c.self.inside.state c.self.inside.before b c.self.invariant last
+    ∙ ap (λ (r : Recorded). last_outputs (meaning_of r.«module») r.history (size_of b)) c.self.view_is) c.in_ok-snapshot.ensures

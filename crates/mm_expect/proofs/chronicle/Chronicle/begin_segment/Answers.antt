@@ -1,8 +1,5 @@
-use Rattle.std.proofs.Common.{◌∙◌, ap, sym}
-use Rattle.mm_expect.specs.Marks.{opened_marks}
-use Rattle.mm_expect.specs.Recorded.{Recorded, state_after_batch}
+use Rattle.mm_expect.proofs.Below.{◌∙◌, ap, sym, opened_marks, Recorded, state_after_batch, batch_of}
 use Rattle.mm_expect.proofs.Settling.{settled_opened, short_one}
-use Rattle.mm_module.specs.Batches.{batch_of}
 use Rattle.mm_expect.proofs.chronicle.Chronicle.begin_segment.Goals as goal
 
 pub invariant_of-self-2 : goal.invariant_of-self-2
@@ -12,13 +9,10 @@ invariant_of-self-2 c =
     c.opened-self-inside.result c.self.inside.state c.self.inside.before (batch_of c.args.batch) c.replace.new.dest c.replace.result
     c.guard-value.result.bytes c.register-register.result.bytes c.args.size c.self.invariant
     (ap (λ (r : Recorded). r.variant) c.self.view_is ∙ c.requires.variant) c.in_ok-open.ensures.ok c.requires.size c.guard-value.ensures
-    c.register-register.ensures
-    (c.opened-self-inside.ensures
+    c.register-register.ensures (c.opened-self-inside.ensures
     ∙ ap (opened_marks c.self.inside.marks c.args.size c.guard-value.result.bytes c.register-register.result.bytes)
     c.is_alone-is_alone.ensures) (
-      c.replace.ensures.after ∙ c.requires.state
-          ∙ ap (λ (r : Recorded). state_after_batch r (batch_of c.args.batch)) (sym c.self.view_is),
+      c.replace.ensures.after ∙ c.requires.state ∙ ap (λ (r : Recorded). state_after_batch r (batch_of c.args.batch)) (sym c.self.view_is),
       c.replace.ensures.value,
-      short_one
-          (batch_of c.args.batch) c.requires.short,
+      short_one (batch_of c.args.batch) c.requires.short,
     )

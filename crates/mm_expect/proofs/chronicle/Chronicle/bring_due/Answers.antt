@@ -1,8 +1,4 @@
-use Rattle.std.proofs.Common.{map, take, ◌+◌, []}
-use Rattle.std.proofs.Common.{subst, sym}
-use Rattle.mm_model.specs.History.{Foreign}
-use Rattle.mm_platform.specs.StandingWords.{due}
-use Rattle.mm_expect.specs.Recorded.{Recorded, Went}
+use Rattle.mm_expect.proofs.Below.{map, take, ◌+◌, [], subst, sym, Foreign, due, Recorded, Went}
 use Rattle.mm_expect.proofs.Walking.{bring_one, bring_none}
 use Rattle.mm_expect.proofs.chronicle.Chronicle.bring_due.Goals as goal
 use Rattle.mm_expect.proofs.chronicle.Chronicle.bring_due.Goals.{then-meddle-step+in_ok-bring, else-meddle-step}
@@ -16,11 +12,9 @@ meddles-preserved c =
       | then-meddle-step+in_ok-bring w ↦
           subst So (sym w.self-is)
           (bring_one c.args.self.now c.meddles.self w.bring.new.self c.args.step all n (record { step = 0; value = record { bytes = [] } })
-          c.meddles-test.true
-          w.if-meddle-step.true c.meddles.invariant w.in_ok-bring.ensures)
+          c.meddles-test.true w.if-meddle-step.true c.meddles.invariant w.in_ok-bring.ensures)
       | else-meddle-step w ↦
           subst So (sym w.self-is)
           (bring_none c.args.self.now c.meddles.self c.args.step all n (record { step = 0; value = record { bytes = [] } })
-          c.meddles-test.true
-          w.if-meddle-step.false c.meddles.invariant)
+          c.meddles-test.true w.if-meddle-step.false c.meddles.invariant)
     ]

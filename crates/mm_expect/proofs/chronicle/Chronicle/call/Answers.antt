@@ -1,10 +1,4 @@
-use Rattle.std.proofs.Common.{sym, ap, ◌∙◌, Option, Bool, Ok, subst}
-use Rattle.mm_platform.specs.declared.fault.StepFault.{StepFault}
-use Rattle.mm_module.specs.Batches.{batch_of}
-use Rattle.mm_call.specs.Called.{reading_steps}
-use Rattle.mm_call.specs.Courses.{planned, walk}
-use Rattle.mm_run.specs.FoldsWords.{plan_of}
-use Rattle.mm_expect.specs.Walking.{Walks}
+use Rattle.mm_expect.proofs.Below.{sym, ap, ◌∙◌, Option, Bool, Ok, subst, StepFault, batch_of, reading_steps, planned, walk, plan_of, Walks}
 use Rattle.mm_expect.proofs.Asking.{ask_broken, ask_new_in, ask_refused, unbroken}
 use Rattle.mm_expect.proofs.chronicle.Chronicle.call.Goals as goal
 
@@ -20,8 +14,7 @@ returns-in-Ok-false c =
     let So : Option StepFault → Type 0 = λ f. Walks c.args.self.now c.read.new.self
     (walk (planned (plan_of c.args.course.now.stop c.args.course.now.meddles.now)) 1 (reading_steps c.args.self.now.variant)) f in
     ask_new_in c.args.self.now c.args.course.now.stop c.args.course.now.meddles.now c.args.bytes.now (batch_of c.args.batch) c.read.new.self
-    c.call_new.new.self
-    c.call_new.result (subst So (unbroken c.in_ok-fault.field-0 c.in_default.not-Some) c.in_ok-fault.ensures)
+    c.call_new.new.self c.call_new.result (subst So (unbroken c.in_ok-fault.field-0 c.in_default.not-Some) c.in_ok-fault.ensures)
     (ap (λ (b : Bool). Ok b) (sym c.in-Ok-false.field-0-test) ∙ sym c.in-Ok-false.is ∙ c.find.ensures.found) c.call_new.ensures
 
 pub returns-in-Err : goal.returns-in-Err

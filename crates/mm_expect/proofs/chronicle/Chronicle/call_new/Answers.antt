@@ -1,9 +1,4 @@
-use Rattle.std.proofs.Common.{◌∙◌, ◌≡◌, subst, None, Some, Option}
-use Rattle.std.specs.Prelude.{nat_eq, if◌then◌else◌}
-use Rattle.mm_platform.specs.declared.fault.StepFault.{StepFault}
-use Rattle.mm_module.specs.Batches.{batch_of}
-use Rattle.mm_model.specs.History.{total_of}
-use Rattle.mm_expect.specs.Calls.{ChangesBy}
+use Rattle.mm_expect.proofs.Below.{◌∙◌, ◌≡◌, subst, None, Some, Option, nat_eq, if◌then◌else◌, StepFault, batch_of, total_of, ChangesBy}
 use Rattle.mm_expect.proofs.Asking.{new_few, new_last, new_broken, kept_same, kept_other}
 use Rattle.mm_expect.proofs.chronicle.Chronicle.call_new.Goals as goal
 use Rattle.mm_expect.proofs.chronicle.Chronicle.call_new.Goals.{then-total-before, else-total-before}
@@ -37,5 +32,4 @@ returns-after-total-before c =
           w.if-total-before.false
     ] in
     new_broken c.args.self.now c.change.new.self c.args.course.now.stop c.args.course.now.meddles.now (batch_of c.args.batch)
-    c.in-Some.fault
-    c.if-total-before.commits (subst So c.in-Some.is c.in_ok-change.ensures) kept
+    c.in-Some.fault c.if-total-before.commits (subst So c.in-Some.is c.in_ok-change.ensures) kept

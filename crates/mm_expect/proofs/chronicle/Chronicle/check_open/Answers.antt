@@ -1,12 +1,5 @@
-use Rattle.std.proofs.Common.{sym, ◌∙◌, Option, [], ◌∷◌, subst}
-use Rattle.mm_digest.specs.declared.variant.Variant.TheVariants.{Opt}
-use Rattle.mm_platform.specs.declared.fault.StepFault.{StepFault}
-use Rattle.mm_model.specs.History.{Close}
-use Rattle.mm_model.specs.Steps.{Writes}
-use Rattle.mm_call.specs.Called.{reading_steps}
-use Rattle.mm_call.specs.Courses.{planned, walk}
-use Rattle.mm_run.specs.FoldsWords.{plan_of}
-use Rattle.mm_expect.specs.Walking.{Walks}
+use Rattle.mm_expect.proofs.Below.{sym, ◌∙◌, Option, [], ◌∷◌, subst, Opt, StepFault, Close, Writes, reading_steps, planned, walk, plan_of}
+use Rattle.mm_expect.proofs.Below.{Walks}
 use Rattle.mm_expect.proofs.Asking.{unbroken}
 use Rattle.mm_expect.proofs.CheckLaws.{check_broken, check_closed, check_stopped}
 use Rattle.mm_expect.proofs.chronicle.Chronicle.check_open.Goals as goal

@@ -1,13 +1,9 @@
-use Rattle.std.proofs.Common.{sym, ap, ◌∙◌, refl, false}
-use Rattle.mm_digest.specs.declared.variant.Variant.TheVariants.{Basic, Opt}
-use Rattle.mm_expect.specs.declared.calls.Closing.TheVariants.{HasNone, NoSegment}
-use Rattle.mm_expect.specs.Recorded.{Recorded}
+use Rattle.mm_expect.proofs.Below.{sym, ap, ◌∙◌, refl, false, Basic, Opt, HasNone, NoSegment, Recorded}
 use Rattle.mm_expect.proofs.CheckLaws.{shut_is}
 use Rattle.mm_expect.proofs.chronicle.Chronicle.checkpoint.Goals as goal
 
 pub returns-in-Basic : goal.returns-in-Basic
-returns-in-Basic c =
-    shut_is c.args.self.now c.check_shut.new.self c.args.course.now.stop c.args.course.now.meddles.now HasNone Basic
+returns-in-Basic c = shut_is c.args.self.now c.check_shut.new.self c.args.course.now.stop c.args.course.now.meddles.now HasNone Basic
     c.args.self.now.history.is_open
     c.check_shut.result (ap (λ (r : Recorded). r.variant) (sym c.self.view_is) ∙ c.in-Basic.is) refl (λ lost. refl) (λ lost. refl)
     c.check_shut.ensures

@@ -1,7 +1,5 @@
-use Rattle.std.proofs.Common.{◌∙◌, ap, sym}
-use Rattle.mm_expect.specs.Recorded.{Recorded, state_after_batch}
+use Rattle.mm_expect.proofs.Below.{◌∙◌, ap, sym, Recorded, state_after_batch, batch_of}
 use Rattle.mm_expect.proofs.Settling.{settled_linked, short_one}
-use Rattle.mm_module.specs.Batches.{batch_of}
 use Rattle.mm_expect.proofs.chronicle.Chronicle.link.Goals as goal
 
 pub invariant_of-self-2 : goal.invariant_of-self-2
@@ -10,9 +8,7 @@ invariant_of-self-2 c =
     c.linked-self-inside.result c.self.inside.state c.self.inside.before (batch_of c.args.batch) c.replace.new.dest c.replace.result
     c.self.invariant
     (ap (λ (r : Recorded). r.variant) c.self.view_is ∙ c.requires.variant) c.in_ok-add.ensures.ok c.linked-self-inside.ensures (
-      c.replace.ensures.after ∙ c.requires.state
-          ∙ ap (λ (r : Recorded). state_after_batch r (batch_of c.args.batch)) (sym c.self.view_is),
+      c.replace.ensures.after ∙ c.requires.state ∙ ap (λ (r : Recorded). state_after_batch r (batch_of c.args.batch)) (sym c.self.view_is),
       c.replace.ensures.value,
-      short_one
-          (batch_of c.args.batch) c.requires.short,
+      short_one (batch_of c.args.batch) c.requires.short,
     )

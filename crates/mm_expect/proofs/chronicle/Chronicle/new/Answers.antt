@@ -1,5 +1,4 @@
-use Rattle.std.proofs.Common.{sym, ap, ◌∙◌, ◌≡◌}
-use Rattle.mm_expect.specs.Recorded.{barrier_of}
+use Rattle.mm_expect.proofs.Below.{sym, ap, ◌∙◌, ◌≡◌, barrier_of}
 use Rattle.mm_expect.proofs.Settling.{settled_first}
 use Rattle.mm_expect.proofs.chronicle.Chronicle.new.Goals as goal
 use Rattle.mm_expect.proofs.chronicle.Chronicle.new.Goals.{in-Basic, in-Opt}
@@ -11,5 +10,4 @@ invariant_of-result c =
       | in-Opt w ↦ w.barrier-is ∙ w.world_barrier-barrier.ensures ∙ ap barrier_of (sym w.in-Opt.is)
     ] in
     settled_first c.args.variant c.args.«module» c.match-variant.barrier c.new.result c.first.result c.in_ok-state.state
-    c.in_ok-before.before c.id.result
-    barrier_is c.new.ensures c.id.ensures c.first.ensures c.in_ok-state.ensures c.in_ok-before.ensures
+    c.in_ok-before.before c.id.result barrier_is c.new.ensures c.id.ensures c.first.ensures c.in_ok-state.ensures c.in_ok-before.ensures

@@ -1,15 +1,6 @@
-use Rattle.std.proofs.Common.{ℕ, List, sym, ap, ◌∙◌, subst}
-use Rattle.mm_modules.specs.ModulesLaws.{any_is_lawful}
+use Rattle.mm_expect.proofs.Below.{ℕ, List, sym, ap, ◌∙◌, subst, any_is_lawful, event_of, IsPrintable, WentByEvent, recorded_instance}
+use Rattle.mm_expect.proofs.Below.{world_of, IsGenuineEvent, DecidesEvent, IsDecided, Traced, IsAfter, after_traced}
 use Rattle.mm_schedule.specs.declared.reply.Reply.{Reply}
-use Rattle.mm_schedule.specs.Events.{event_of}
-use Rattle.mm_schedule.specs.Replies.{IsPrintable}
-use Rattle.mm_expect.specs.Coming.{WentByEvent}
-use Rattle.mm_expect.specs.Recorded.{recorded_instance}
-use Rattle.mm_run.specs.Held.{world_of}
-use Rattle.mm_run.specs.Premises.{IsGenuineEvent}
-use Rattle.mm_expect.specs.Judged.{DecidesEvent}
-use Rattle.mm_expect.specs.Naming.{IsDecided}
-use Rattle.mm_expect.specs.Traced.{Traced, IsAfter, after_traced}
 use Rattle.mm_expect.proofs.AfterLaws.{event_state, goes_after}
 use Rattle.mm_expect.proofs.JudgeLaws.{event_decided}
 use Rattle.mm_expect.proofs.PrintLaws.{printable}
@@ -30,21 +21,16 @@ returns-clause-after c = λ header events at.
     goes_after header events (event_of c.args.event.now) c.args.self.now _ at (returns-clause-state c)
 
 pub returns-clause-printable : goal.returns-clause-printable
-returns-clause-printable c =
-    subst (λ (r : Reply). IsPrintable r) (sym c.in_ok-reply.ensures.reply)
+returns-clause-printable c = subst (λ (r : Reply). IsPrintable r) (sym c.in_ok-reply.ensures.reply)
     (printable (recorded_instance c.self.inside.chronicle) (any_is_lawful c.self.inside.chronicle.«module») c.self.inside.chronicle.history
     c.as_slice-2.result.now (event_of c.args.event.now))
 
 pub returns-clause-genuine : goal.returns-clause-genuine
 returns-clause-genuine c = λ header events at.
-    let So : List (List ℕ)
-    → Type 0 = λ v. DecidesEvent (recorded_instance c.self.inside.chronicle) c.self.inside.chronicle.history v
-    (event_of c.args.event.now)
-    c.in_ok-is_genuine.is_genuine in
+    let So : List (List ℕ) → Type 0 = λ v. DecidesEvent (recorded_instance c.self.inside.chronicle) c.self.inside.chronicle.history v
+    (event_of c.args.event.now) c.in_ok-is_genuine.is_genuine in
     let To : Traced → Type 0 = λ t. IsDecided c.in_ok-is_genuine.is_genuine
     (IsGenuineEvent (world_of header) t.history t.issued (event_of c.args.event.now)) in
     subst To c.self.view_is
     (event_decided c.self.inside.chronicle c.self.inside.issued.items (event_of c.args.event.now) c.in_ok-is_genuine.is_genuine header
-    events
-    (subst So c.as_slice.ensures.value c.in_ok-is_genuine.ensures)
-    (subst (IsAfter header events) (sym c.self.view_is) at))
+    events (subst So c.as_slice.ensures.value c.in_ok-is_genuine.ensures) (subst (IsAfter header events) (sym c.self.view_is) at))

@@ -1,8 +1,0 @@
-use Rattle.mm_expect.proofs.NameLaws.{basic_decided, opt_decided}
-use Rattle.mm_expect.proofs.naming.names_are_decided.Goals as goal
-
-pub returns-clause-basic : goal.returns-clause-basic
-returns-clause-basic c = basic_decided
-
-pub returns-clause-opt : goal.returns-clause-opt
-returns-clause-opt c = opt_decided

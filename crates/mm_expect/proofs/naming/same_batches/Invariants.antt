@@ -1,9 +1,0 @@
-use Rattle.std.proofs.Common.{◌≡◌, drop}
-use Rattle.mm_model.specs.Kept.{kept_batches}
-use Rattle.mm_expect.specs.Naming.{same_batches}
-use Rattle.mm_expect.proofs.naming.same_batches.Given as goal
-
-abbrev pub invariant-at : goal.invariant-at
-invariant-at l =
-    same_batches (kept_batches (drop l.i l.batches)) (kept_batches (drop l.i l.others)) ≡ same_batches (kept_batches l.batches)
-    (kept_batches l.others)

@@ -1,0 +1,45 @@
+-- The words and laws that the proofs of this crate take from specs/ and from the crates below.
+pub use Rattle.std.specs.Bool.{Decides, IsTrue}
+pub use Rattle.std.specs.List.{list_any}
+pub use Rattle.std.specs.Option.{option_map}
+pub use Rattle.std.specs.Prelude.{◌==◌, if◌then◌else◌, MatchOption, nat_le, nat_lt, not, option_to_list, Vec}
+pub use Rattle.std.specs.Str.{bytes_eq}
+pub use Rattle.std.proofs.Common.{◌&&◌, ◌++◌, ◌+◌, ◌-◌, ◌<◌, ◌||◌, ◌∙◌, ◌∷◌, ◌≡◌, ◌≢◌, ◌≤◌, ◌⊎◌, [], ap, append_assoc, arith, Bool, drop}
+pub use Rattle.std.proofs.Common.{false, get_or, inl, inr, le-leb, length, length-append, length-drop, List, map, None, Option, refl, Some}
+pub use Rattle.std.proofs.Common.{subst, suc, sym, take, true, zero, ℕ}
+pub use Rattle.std.proofs.lemmas.Bool.{or_from, or_parts}
+pub use Rattle.std.proofs.lemmas.Bool.Decides.{Decides-and, Decides-eqb, Decides-like, Decides-ltb, Decides-or}
+pub use Rattle.std.proofs.lemmas.List.{append-nil, drop-append-le, drop-map, drop_more, length-map, length-take, map-append}
+pub use Rattle.std.proofs.lemmas.List.{take-append-drop, take-append-le, take-map, take_all, take_more}
+pub use Rattle.mm_digest.specs.Messages.{anchored_of, start_of, zero_bytes}
+pub use Rattle.mm_digest.specs.declared.variant.Variant.{Variant}
+pub use Rattle.mm_digest.specs.declared.variant.Variant.TheVariants.{Basic, Opt}
+pub use Rattle.mm_seal.specs.Body.{content_of}
+pub use Rattle.mm_seal.specs.Snapshot.{Content}
+pub use Rattle.mm_seal.specs.declared.snapshot.Place.{Place}
+pub use Rattle.mm_seal.specs.declared.snapshot.Place.TheVariants.{Basic as InBasic, Opt as InOpt}
+pub use Rattle.mm_module.specs.Batch.{Batch, members_of, size_of}
+pub use Rattle.mm_module.specs.Batches.{batch_of}
+pub use Rattle.mm_module.specs.Meaning.{Meaning, state_after}
+pub use Rattle.mm_module.specs.RunLaws.{state_after-append, state_after-is_spelled}
+pub use Rattle.mm_modules.specs.Modules.{meaning_of}
+pub use Rattle.mm_model.specs.BatchLaws.{same_batch-Decides, same_fronts, total-cons}
+pub use Rattle.mm_model.specs.Chains.{guard, link, register_of, summary_of}
+pub use Rattle.mm_model.specs.ChainsWords.{own_values}
+pub use Rattle.mm_model.specs.FormLaws.{reads_zero}
+pub use Rattle.mm_model.specs.History.{Entry, History, joined, renamed, requests_of, total_of}
+pub use Rattle.mm_model.specs.HistoryLaws.{has_value-append, renamed-push}
+pub use Rattle.mm_model.specs.HistoryWords.{values_of}
+pub use Rattle.mm_model.specs.Instance.{Instance}
+pub use Rattle.mm_model.specs.Kept.{kept_batch, kept_batches, kept_entries, kept_entry, kept_segments}
+pub use Rattle.mm_model.specs.Life.{has_value, is_empty, same_batch}
+pub use Rattle.mm_model.specs.Long.{is_long}
+pub use Rattle.mm_model.specs.Places.{anchor_after, at_anchor, in_closed, in_current, IsPlaceOf, IsPoint, Names}
+pub use Rattle.mm_model.specs.SegmentLaws.{joined-push, not_empty}
+pub use Rattle.mm_model.specs.declared.kept.KeptBatch.{KeptBatch}
+pub use Rattle.mm_model.specs.declared.kept.KeptEntry.{KeptEntry}
+pub use Rattle.mm_call.specs.Standing.{instance_by}
+pub use Rattle.mm_history.specs.MarkLaws.{batch_taken, entry_taken}
+pub use Rattle.mm_history.specs.Naming.{anchor_at, BasicNamesAreDecided, first_with, is_at, is_behind, is_here, is_inside_at, is_named}
+pub use Rattle.mm_history.specs.Naming.{is_named_at, is_place, is_place_in, is_within, IsDecided, OptNamesAreDecided, same_batches}
+pub use Rattle.mm_history.specs.Naming.{same_summary, some_place}

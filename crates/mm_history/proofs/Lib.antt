@@ -1,0 +1,6 @@
+mod Below
+mod KeptLaws
+mod FirstLaws
+mod TakenLaws
+mod NameLaws
+mod PlaceLaws

@@ -1,0 +1,328 @@
+-- The test whether a content names a position of a history decides it.
+use Rattle.mm_history.proofs.Below.{◌≡◌, ℕ, ◌+◌, ◌-◌, ◌<◌, ◌≤◌, Bool, true, false, ◌&&◌, ◌||◌, List, [], ◌∷◌, ◌++◌, length, drop, take}
+use Rattle.mm_history.proofs.Below.{Option, None, Some, refl, sym, ap, ◌∙◌, subst, inl, inr, ◌⊎◌, arith, append_assoc, length-append, not}
+use Rattle.mm_history.proofs.Below.{◌==◌, nat_le, nat_lt, bytes_eq, Decides, Decides-eqb, Decides-and, Decides-or, Decides-like}
+use Rattle.mm_history.proofs.Below.{Decides-ltb, append-nil, take-append-drop, length-take, drop-append-le, take-append-le, length-drop}
+use Rattle.mm_history.proofs.Below.{not_empty, Variant, Basic, Opt, instance_by, zero_bytes, Batch, Meaning, state_after, Place, InBasic}
+use Rattle.mm_history.proofs.Below.{InOpt, Content, summary_of, register_of, own_values, Instance, Entry, History, requests_of, total_of}
+use Rattle.mm_history.proofs.Below.{joined, is_empty, has_value, IsPoint, at_anchor, in_closed, in_current, IsPlaceOf, Names, anchor_after}
+use Rattle.mm_history.proofs.Below.{same_fronts, IsDecided, first_with, same_batches, is_at, is_behind, is_within, is_inside_at, some_place}
+use Rattle.mm_history.proofs.Below.{is_place, is_named_at, is_named, same_summary, BasicNamesAreDecided, OptNamesAreDecided}
+use Rattle.std.proofs.Math.Seq.{drop-append_seam}
+use Rattle.std.proofs.lemmas.Slice.Eq.{bytes_eq-Decides}
+use Rattle.mm_model.specs.InstanceWords.{basic, opt}
+use Rattle.mm_history.proofs.FirstLaws.{le-Decides, first_tells, first_is, same-Decides, empty-Decides, some_taken, not-Decides}
+
+pub decided : {P : Type 0} (r : Bool) → Decides r P → IsDecided r P
+decided true d = d.0 refl
+decided false d = λ p. let clash : false ≡ true = d.1 p in absurd (cc)
+
+-- A place, from some segments on, as a statement by the same recursion.
+
+module _ (i : Instance) (y : History) (named : List Batch) (a e : List ℕ) where
+  record IsAt (before : List (List Entry)) : Type 0 where
+    clean : has_value (joined before) ≡ false
+    counted : length named ≡ length (joined before)
+    anchor : a ≡ anchor_after i before
+    extension : e ≡ zero_bytes
+
+  record IsBehind (start : ℕ) (before : List (List Entry)) : Type 0 where
+    starts : start < length named
+    anchor : a ≡ anchor_after i before
+    extension : e ≡ register_of (own_values i.barrier (drop start named))
+
+  abbrev IsWithin : List (List Entry) → List Entry → List (List Entry) → Type 0
+  IsWithin before segment later = (length named - length (joined before) ≤ length segment) ⊎ ((later ≡ []) × (y.current ≡ []))
+
+  record IsInside (start : ℕ) : Type 0 where
+    last : drop start y.batches ≡ y.current
+    behind : IsBehind start y.closed
+
+  abbrev Places : List (List Entry) → List (List Entry) → Type 0
+  Places before [] = IsAt before ⊎ IsInside (length y.batches - length y.current)
+  Places before (segment ∷ rest) =
+      (IsAt before ⊎ (IsBehind (length (joined before)) before × IsWithin before segment rest)) ⊎ Places (before ++ segment ∷ []) rest
+
+  at-Decides : (before : List (List Entry))
+      → Decides (is_at (not (has_value (joined before))) (anchor_after i before) (length (joined before)) named a e) (IsAt before)
+  at-Decides before = Decides-like (is_at (not (has_value (joined before))) (anchor_after i before) (length (joined before)) named a e)
+      (λ (p : ((has_value (joined before) ≡ false) × (length named ≡ length (joined before)))
+      × ((a ≡ anchor_after i before) × (e ≡ zero_bytes))). record { clean = p.0.0; counted = p.0.1; anchor = p.1.0; extension = p.1.1 })
+      (λ (p : IsAt before). ((p.clean, p.counted), (p.anchor, p.extension)))
+      (Decides-and (not (has_value (joined before)) && (length named == length (joined before)))
+      (bytes_eq a (anchor_after i before) && bytes_eq e zero_bytes)
+      (Decides-and (not (has_value (joined before))) (length named == length (joined before)) (not-Decides (has_value (joined before)))
+      (Decides-eqb (length named) (length (joined before))))
+      (Decides-and (bytes_eq a (anchor_after i before)) (bytes_eq e zero_bytes) (bytes_eq-Decides a (anchor_after i before))
+      (bytes_eq-Decides e zero_bytes)))
+
+  behind-Decides : (start : ℕ) (before : List (List Entry))
+      → Decides (is_behind i.barrier (anchor_after i before) start named a e) (IsBehind start before)
+  behind-Decides start before =
+      let there : List ℕ = register_of (own_values i.barrier (drop start named)) in
+      Decides-like (is_behind i.barrier (anchor_after i before) start named a e)
+      (λ (p : (start < length named) × ((a ≡ anchor_after i before) × (e ≡ there))).
+      record { starts = p.0; anchor = p.1.0; extension = p.1.1 }) (λ (p : IsBehind start before). (p.starts, (p.anchor, p.extension)))
+      (Decides-and (nat_lt start (length named)) (bytes_eq a (anchor_after i before) && bytes_eq e there) (Decides-ltb start (length named))
+      (Decides-and (bytes_eq a (anchor_after i before)) (bytes_eq e there) (bytes_eq-Decides a (anchor_after i before))
+      (bytes_eq-Decides e there)))
+
+  within-Decides : (before : List (List Entry)) (segment : List Entry) (later : List (List Entry))
+      → Decides (is_within (length (joined before)) named (length segment) (is_empty later && is_empty y.current))
+      (IsWithin before segment later)
+  within-Decides before segment later =
+      Decides-or (nat_le (length named - length (joined before)) (length segment)) (is_empty later && is_empty y.current)
+      (le-Decides (length named - length (joined before)) (length segment))
+      (Decides-and (is_empty later) (is_empty y.current) (empty-Decides later) (empty-Decides y.current))
+
+  inside-Decides : Decides (is_inside_at i.barrier (anchor_after i y.closed) y named a e) (IsInside (length y.batches - length y.current))
+  inside-Decides =
+      let start : ℕ = length y.batches - length y.current in
+      Decides-like (is_inside_at i.barrier (anchor_after i y.closed) y named a e)
+      (λ (p : (drop start y.batches ≡ y.current) × IsBehind start y.closed). record { last = p.0; behind = p.1 })
+      (λ (p : IsInside start). (p.last, p.behind))
+      (Decides-and (same_batches (drop start y.batches) y.current) (is_behind i.barrier (anchor_after i y.closed) start named a e)
+      (same-Decides (drop start y.batches) y.current) (behind-Decides start y.closed))
+
+  places-Decides : (before rest : List (List Entry))
+      → Decides (some_place i.meaning.id i.barrier y named a e before rest) (Places before rest)
+  places-Decides before [] = Decides-or (is_at (not (has_value (joined before))) (anchor_after i before) (length (joined before)) named a e)
+      (is_inside_at i.barrier (anchor_after i y.closed) y named a e) (at-Decides before) inside-Decides
+  places-Decides before (segment ∷ rest) =
+      let start : ℕ = length (joined before) in
+      let within : Bool = is_within start named (length segment) (is_empty rest && is_empty y.current) in
+      let at : Bool = is_at (not (has_value (joined before))) (anchor_after i before) start named a e in
+      let behind : Bool = is_behind i.barrier (anchor_after i before) start named a e in
+      Decides-or (at || (behind && within)) (some_place i.meaning.id i.barrier y named a e (before ++ segment ∷ []) rest)
+      (Decides-or at (behind && within) (at-Decides before)
+      (Decides-and behind within (behind-Decides start before) (within-Decides before segment rest)))
+      (places-Decides (before ++ segment ∷ []) rest)
+
+  -- from the statement to a place
+
+  point_at : (before rest : List (List Entry)) → y.closed ≡ before ++ rest → IsAt before → IsPoint i y named a e
+  point_at before rest is p = at_anchor (record {
+    before = before;
+    later = rest;
+    split = is;
+    clean = p.clean;
+    counted = p.counted;
+    anchor_is = p.anchor;
+    extension_is = p.extension;
+  })
+
+  point_closed : (before : List (List Entry)) (segment : List Entry) (rest : List (List Entry)) → y.closed ≡ before ++ segment ∷ rest
+      → IsBehind (length (joined before)) before → IsWithin before segment rest → IsPoint i y named a e
+  point_closed before segment rest is p within =
+      let start : ℕ = length (joined before) in
+      let parts : take start named ++ drop start named ≡ named = take-append-drop start named in
+      let sized : length (take start named) ≡ start = omega (arith, length-take start named, p.starts) in
+      let taken : length (drop start named) ≡ length named - start = length-drop start named in
+      in_closed (record {
+        before = before;
+        segment = segment;
+        later = rest;
+        done = take start named;
+        taken = drop start named;
+        split = is;
+        named_is = sym parts;
+        counted = sized;
+        begun = some_taken (drop start named) (omega (arith, taken, p.starts));
+        within = elim within [
+          | inl le ↦ inl (omega (arith, taken, le))
+          | inr ends ↦ inr ends
+        ];
+        anchor_is = p.anchor;
+        extension_is = p.extension;
+      })
+
+  point_current : (rest : List Batch) → y.batches ≡ named ++ rest → IsInside (length y.batches - length y.current) → IsPoint i y named a e
+  point_current rest first p =
+      let start : ℕ = length y.batches - length y.current in
+      let q = p.behind in
+      let within : start ≤ length named = omega (arith, q.starts) in
+      let current : y.current ≡ drop start named ++ rest = sym p.last ∙ ap (drop start) first ∙ drop-append-le start named rest within in
+      let done : take start y.batches ≡ take start named = ap (take start) first ∙ take-append-le start named rest within in
+      in_current (record {
+        done = take start named;
+        taken = drop start named;
+        more = rest;
+        split = current;
+        start = sym (take-append-drop start y.batches) ∙ ap (λ (bs : List Batch). take start y.batches ++ bs) p.last
+            ∙ ap (λ (bs : List Batch). bs ++ y.current) done;
+        named_is = sym (take-append-drop start named);
+        begun = some_taken (drop start named) (omega (arith, length-drop start named, q.starts));
+        anchor_is = q.anchor;
+        extension_is = q.extension;
+      })
+
+  places_tell : (rest_batches : List Batch) → y.batches ≡ named ++ rest_batches → (before rest : List (List Entry))
+      → y.closed ≡ before ++ rest → Places before rest → IsPoint i y named a e
+  places_tell more first before [] is (inl here) = point_at before [] is here
+  places_tell more first before [] is (inr inside) = point_current more first inside
+  places_tell more first before (segment ∷ rest) is (inl (inl here)) = point_at before (segment ∷ rest) is here
+  places_tell more first before (segment ∷ rest) is (inl (inr p)) = point_closed before segment rest is p.0 p.1
+  places_tell more first before (segment ∷ rest) is (inr later) =
+      places_tell more first (before ++ segment ∷ []) rest (is ∙ sym (append_assoc before (segment ∷ []) rest)) later
+
+  -- and back
+
+  places_here : (before later : List (List Entry)) → IsAt before → Places before later
+  places_here before [] p = inl p
+  places_here before (s ∷ later) p = inl (inl p)
+
+  places_at : (x before later : List (List Entry)) → IsAt (before ++ x) → Places before (x ++ later)
+  places_at [] before later p = places_here before later (subst IsAt (append-nil before) p)
+  places_at (s ∷ x) before later p = inr (places_at x (before ++ s ∷ []) later (subst IsAt (sym (append_assoc before (s ∷ []) x)) p))
+
+  places_closed : (x before : List (List Entry)) (segment : List Entry) (later : List (List Entry))
+      → IsBehind (length (joined (before ++ x))) (before ++ x) → IsWithin (before ++ x) segment later → Places before (x ++ segment ∷ later)
+  places_closed [] before segment later p within =
+      let P : List (List Entry) → Type 0 = λ x. IsBehind (length (joined x)) x × IsWithin x segment later in
+      let here : P before = subst P (append-nil before) (p, within) in
+      inl (inr here)
+  places_closed (s ∷ x) before segment later p within =
+      let P : List (List Entry) → Type 0 = λ z. IsBehind (length (joined z)) z × IsWithin z segment later in
+      let there : P ((before ++ s ∷ []) ++ x) = subst P (sym (append_assoc before (s ∷ []) x)) (p, within) in
+      inr (places_closed x (before ++ s ∷ []) segment later there.0 there.1)
+
+  places_inside : (x before : List (List Entry)) → IsInside (length y.batches - length y.current) → Places before x
+  places_inside [] before p = inr p
+  places_inside (s ∷ x) before p = inr (places_inside x (before ++ s ∷ []) p)
+
+  place_found : IsPoint i y named a e → Places [] y.closed
+  place_found (at_anchor p) = subst (Places []) (sym p.split)
+      (places_at p.before [] p.later (record { clean = p.clean; counted = p.counted; anchor = p.anchor_is; extension = p.extension_is }))
+  place_found (in_closed p) =
+      let start : ℕ = length (joined p.before) in
+      let counts : length named ≡ start + length p.taken = ap length p.named_is ∙ length-append p.done p.taken
+      ∙ ap (λ (n : ℕ). n + length p.taken) p.counted in
+      let taken : drop start named ≡ p.taken =
+      ap (drop start) p.named_is ∙ ap (λ (n : ℕ). drop n (p.done ++ p.taken)) (sym p.counted) ∙ drop-append_seam p.done p.taken in
+      let some = not_empty p.taken p.begun in
+      subst (Places []) (sym p.split) (places_closed p.before [] p.segment p.later (record {
+        starts = omega (arith, counts, some);
+        anchor = p.anchor_is;
+        extension = p.extension_is ∙ ap (λ (bs : List Batch). register_of (own_values i.barrier bs)) (sym taken);
+      }) (elim p.within [
+        | inl le ↦ inl (omega (arith, counts, le))
+        | inr ends ↦ inr ends
+      ]))
+  place_found (in_current p) =
+      let counts : length y.batches ≡ length p.done + length y.current = ap length p.start ∙ length-append p.done y.current in
+      let start : length y.batches - length y.current ≡ length p.done = omega (arith, counts) in
+      let last : drop (length p.done) y.batches ≡ y.current = ap (drop (length p.done)) p.start ∙ drop-append_seam p.done y.current in
+      let taken : drop (length p.done) named ≡ p.taken = ap (drop (length p.done)) p.named_is ∙ drop-append_seam p.done p.taken in
+      let sizes : length named ≡ length p.done + length p.taken = ap length p.named_is ∙ length-append p.done p.taken in
+      let some = not_empty p.taken p.begun in
+      places_inside y.closed [] (subst IsInside (sym start) (record {
+        last = last;
+        behind = record {
+          starts = omega (arith, sizes, some);
+          anchor = p.anchor_is;
+          extension = p.extension_is ∙ ap (λ (bs : List Batch). register_of (own_values i.barrier bs)) (sym taken);
+        };
+      }))
+
+  point-Decides : (rest : List Batch) → y.batches ≡ named ++ rest
+      → Decides (some_place i.meaning.id i.barrier y named a e [] y.closed) (IsPoint i y named a e)
+  point-Decides rest first =
+      Decides-like (some_place i.meaning.id i.barrier y named a e [] y.closed) (places_tell rest first [] y.closed refl) place_found
+      (places-Decides [] y.closed)
+
+-- The test of a whole content.
+
+basic_place : (meaning : Meaning) (key : List ℕ) (y : History) (named : List Batch) (place : Place)
+    → Decides (is_place Basic (basic meaning key) y named place) (IsPlaceOf Basic (basic meaning key) y named place)
+basic_place meaning key y named (InBasic s) = bytes_eq-Decides s.bytes (summary_of meaning.id named)
+basic_place meaning key y named (InOpt a e) = (λ t. absurd (cc), λ p. absurd p)
+
+opt_place : (meaning : Meaning) (key barrier : List ℕ) (y : History) (named rest : List Batch) (place : Place) → y.batches ≡ named ++ rest
+    → Decides (is_place Opt (opt meaning key barrier) y named place) (IsPlaceOf Opt (opt meaning key barrier) y named place)
+opt_place meaning key barrier y named rest (InBasic s) first = (λ t. absurd (cc), λ p. absurd p)
+opt_place meaning key barrier y named rest (InOpt a e) first = point-Decides (opt meaning key barrier) y named a.bytes e.bytes rest first
+
+names_by : (i : Instance) (y : History) (content : Content) → ((named rest : List Batch) → y.batches ≡ named ++ rest
+    → Decides (is_place i.variant i y named content.place) (IsPlaceOf i.variant i y named content.place))
+    → (found : Option (List Batch)) → first_with content.position y.batches ≡ found
+    → Decides (is_named_at i y content found) (Names i y content)
+names_by i y content places None e = (
+  λ t. absurd (cc),
+  λ n.
+      let there : first_with content.position y.batches ≡ Some n.named =
+      ap (λ (p : ℕ). first_with p y.batches) n.position ∙ ap (first_with (total_of n.named)) n.first ∙ first_is n.named n.rest in
+      absurd (cc),
+)
+names_by i y content places (Some named) e =
+    let t = first_tells content.position y.batches named e in
+    let state : List ℕ = state_after i.meaning (requests_of named) in
+    let both = Decides-and (bytes_eq content.state state) (is_place i.variant i y named content.place)
+    (bytes_eq-Decides content.state state) (places named t.0 t.1.0) in (
+      λ yes. let p = both.0 yes in record { named = named; rest = t.0; first = t.1.0; position = t.1.1; state = p.0; place = p.1 },
+      λ n.
+          let same : n.named ≡ named = same_fronts n.named named n.rest t.0 (sym n.first ∙ t.1.0) (sym n.position ∙ t.1.1) in
+          both.1 (subst (λ (bs : List Batch). (content.state ≡ state_after i.meaning (requests_of bs))
+          × IsPlaceOf i.variant i y bs content.place) same (n.state, n.place)),
+    )
+
+pub basic_decided : BasicNamesAreDecided
+basic_decided meaning key y content =
+    let i : Instance = basic meaning key in
+    decided (is_named i y content)
+    (names_by i y content (λ named rest first. basic_place meaning key y named content.place) (first_with content.position y.batches) refl)
+
+pub opt_decided : OptNamesAreDecided
+opt_decided meaning key barrier y content =
+    let i : Instance = opt meaning key barrier in
+    decided (is_named i y content)
+    (names_by i y content (λ named rest first. opt_place meaning key barrier y named rest content.place first)
+    (first_with content.position y.batches) refl)
+
+-- the same of either variant, by what the test gave
+pub named_by : (variant : Variant) (meaning : Meaning) (key barrier : List ℕ) (y : History) (content : Content) (r : Bool)
+    → (let i = instance_by variant meaning key barrier in r ≡ is_named i y content → IsDecided r (Names i y content))
+named_by Basic meaning key barrier y content r e =
+    subst (λ (t : Bool). IsDecided t (Names (basic meaning key) y content)) (sym e) (basic_decided meaning key y content)
+named_by Opt meaning key barrier y content r e =
+    subst (λ (t : Bool). IsDecided t (Names (opt meaning key barrier) y content)) (sym e) (opt_decided meaning key barrier y content)
+
+-- By what another snapshot says that names the same position.
+
+first_of : (i : Instance) (y : History) (other : Content) (n : Names i y other) → first_with other.position y.batches ≡ Some n.named
+first_of i y other n =
+    ap (λ (p : ℕ). first_with p y.batches) n.position ∙ ap (first_with (total_of n.named)) n.first ∙ first_is n.named n.rest
+
+pub first_beside : (i : Instance) (y : History) (content other : Content) → content.position ≡ other.position → (n : Names i y other)
+    → first_with content.position y.batches ≡ Some n.named
+first_beside i y content other same n = ap (λ (p : ℕ). first_with p y.batches) same ∙ first_of i y other n
+
+pub named_beside : (i : Instance) (y : History) (content other : Content) → content.position ≡ other.position → (n : Names i y other)
+    → is_named i y content ≡ (bytes_eq content.state other.state && is_place i.variant i y n.named content.place)
+named_beside i y content other same n = ap (is_named_at i y content) (first_beside i y content other same n)
+    ∙ ap (λ (s : List ℕ). bytes_eq content.state s && is_place i.variant i y n.named content.place) (sym n.state)
+
+pub state_beside : (i : Instance) (y : History) (content other : Content) → content.position ≡ other.position → (r : Bool)
+    → r ≡ bytes_eq content.state other.state → r ≡ false → Names i y other → false ≡ is_named i y content
+state_beside i y content other same r test off n =
+    sym (named_beside i y content other same n ∙ ap (λ (b : Bool). b && is_place i.variant i y n.named content.place) (sym test ∙ off))
+
+pub stated_beside : (i : Instance) (y : History) (content other : Content) → content.position ≡ other.position → (r : Bool)
+    → r ≡ bytes_eq content.state other.state → r ≡ true
+    → (n : Names i y other) → is_place i.variant i y n.named content.place ≡ is_named i y content
+stated_beside i y content other same r test on n =
+    sym (named_beside i y content other same n ∙ ap (λ (b : Bool). b && is_place i.variant i y n.named content.place) (sym test ∙ on))
+
+summary_beside : (meaning : Meaning) (key : List ℕ) (y : History) (named : List Batch) (place other : Place)
+    → IsPlaceOf Basic (basic meaning key) y named other → same_summary place other ≡ is_place Basic (basic meaning key) y named place
+summary_beside meaning key y named (InBasic s) (InBasic t) p = ap (bytes_eq s.bytes) p
+summary_beside meaning key y named (InBasic s) (InOpt a e) p = absurd p
+summary_beside meaning key y named (InOpt a e) other p = refl
+
+pub basic_beside : (variant : Variant) (meaning : Meaning) (key barrier : List ℕ) → variant ≡ Basic → (y : History)
+    (content other : Content) → content.position ≡ other.position → (r : Bool) → r ≡ bytes_eq content.state other.state → r ≡ true
+    → (s : Bool) → s ≡ same_summary content.place other.place
+    → (let i = instance_by variant meaning key barrier in Names i y other → s ≡ is_named i y content)
+basic_beside Basic meaning key barrier e y content other same r test on s is n =
+    is ∙ summary_beside meaning key y n.named content.place other.place n.place
+    ∙ stated_beside (basic meaning key) y content other same r test on n
+basic_beside Opt meaning key barrier e y content other same r test on s is n = absurd (cc)

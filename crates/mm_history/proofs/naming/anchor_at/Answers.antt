@@ -1,0 +1,11 @@
+use Rattle.mm_history.proofs.TakenLaws.{anchor_none, anchor_taken}
+use Rattle.mm_history.proofs.naming.anchor_at.Goals as goal
+
+pub closed-init : goal.closed-init
+closed-init c = anchor_none c.args.id c.args.barrier.now c.start-anchor.result.bytes c.start-anchor.ensures
+
+pub closed-preserved : goal.closed-preserved
+closed-preserved c =
+    anchor_taken c.args.id c.args.barrier.now c.args.closed.now c.closed.segment-index c.segment-item.result c.as_slice.result.now
+    c.closed.anchor.bytes c.register_of.result.bytes c.anchored-anchor.result.bytes c.closed-test.true c.segment-item.is c.closed.invariant
+    c.as_slice.ensures.value c.register_of.ensures c.anchored-anchor.ensures

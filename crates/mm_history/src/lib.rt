@@ -1,0 +1,13 @@
+//! A history kept in memory: as lists, with what it comes to by digests; whether what a snapshot says names a position of
+//! it; and the messages of a call that asks for a batch at a place. Nothing here knows a schedule or a world.
+#![tactic(auto)]
+
+mod lists;
+mod marks;
+mod messages;
+mod naming;
+
+pub use lists::Lists;
+pub use marks::{Marks, guard};
+pub use messages::{anchored_message, joined, list_place};
+pub use naming::{is_named, is_named_beside, names_are_decided};

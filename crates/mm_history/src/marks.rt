@@ -1,0 +1,203 @@
+//! What a history comes to.
+
+ghost use Rattle.std.specs.Prelude.{◌≡◌};
+ghost use Rattle.mm_module.specs.Batches.{batch_of};
+ghost use Rattle.mm_model.specs.Chains.{guard, link, register_of};
+ghost use Rattle.mm_model.specs.ChainsWords.{own_values};
+ghost use Rattle.mm_model.specs.History.{value_of};
+ghost use Rattle.mm_model.specs.HistoryWords.{values_of};
+ghost use Rattle.mm_model.specs.Kept.{kept_batches, kept_entry, kept_entries};
+
+use mm_digest::{
+    Digest, Variant, anchored, extended, secured, secured_batch, start, successor, successor_batch,
+    zero,
+};
+use mm_model::{KeptBatch, KeptEntry};
+use mm_module::Batch;
+
+/// What a history comes to.
+#[derive(Clone, Copy)]
+pub struct Marks {
+    /// How many requests are committed.
+    pub total: u64,
+    /// The summary, or the anchor.
+    pub cell: Digest,
+    /// The register's value after the batches of the open segment.
+    pub own: Digest,
+    /// The register's value.
+    pub register: Digest,
+    /// Whether the register's items are those of the open segment.
+    pub is_own: bool,
+    /// Whether a closed segment holds a value that stands for no batch.
+    pub is_marred: bool,
+}
+
+impl Marks {
+    ghost use Rattle.std.specs.Prelude.{◌≡◌, ◌+◌, ◌<◌, ◌^◌, true, false};
+    ghost use Rattle.mm_digest.specs.Messages.{start_of, zero_bytes};
+    ghost use Rattle.mm_module.specs.Batch.{size_of};
+    ghost use Rattle.mm_module.specs.Batches.{batch_of};
+    ghost use Rattle.mm_model.specs.PlacesWords.{digest_of};
+    ghost use Rattle.mm_history.specs.Marks.{with_value, emptied, closed_marks, linked_marks, grown, opened_marks};
+
+    /// Those of the first history.
+    pub fn first(variant: Variant, id: u8) -> Marks
+        ensures { result ≡ record {
+          total = 0;
+          cell = digest_of (start_of variant id);
+          own = digest_of zero_bytes;
+          register = digest_of zero_bytes;
+          is_own = true;
+          is_marred = false;
+        } }
+    {
+        Marks {
+            total: 0,
+            cell: start(variant, id),
+            own: zero(),
+            register: zero(),
+            is_own: true,
+            is_marred: false,
+        }
+    }
+
+    /// After the register took in a value that stands for no batch.
+    pub fn with_value(self, value: &Digest) -> Marks
+        ensures { result ≡ with_value self value.now.bytes }
+    {
+        Marks {
+            register: extended(&self.register, value),
+            is_own: false,
+            ..self
+        }
+    }
+
+    /// After the register was emptied, by whether no batch is in the open segment.
+    pub fn emptied(self, is_clear: bool) -> Marks
+        ensures { result ≡ emptied self is_clear }
+    {
+        Marks {
+            register: zero(),
+            is_own: is_clear,
+            ..self
+        }
+    }
+
+    // The anchor, or the summary, after a segment was closed.
+    fn closed_cell(&self, variant: Variant) -> Digest
+        ensures { result.bytes ≡ (closed_marks variant self.now true true).cell.bytes }
+    {
+        match variant {
+            Variant::Basic => self.cell,
+            Variant::Opt => anchored(&self.cell, &self.register),
+        }
+    }
+
+    /// After the open segment was closed, by whether it holds a value that stands for no batch, and whether it is empty.
+    pub fn closed(self, variant: Variant, has_value: bool, is_bare: bool) -> Marks
+        ensures { result ≡ closed_marks variant self has_value is_bare }
+    {
+        Marks {
+            cell: self.closed_cell(variant),
+            own: zero(),
+            is_own: is_bare,
+            is_marred: self.is_marred || has_value,
+            ..self
+        }
+    }
+
+    /// Basic: after one more batch, of this size.
+    pub fn linked(self, batch: Batch<'_>, size: u64) -> Marks
+        requires size { size ≡ size_of (batch_of batch) }
+        requires fits { self.total + size < 2 ^ 64 }
+        ensures { result ≡ linked_marks self (batch_of batch.entry) }
+    {
+        Marks {
+            total: self.total + size,
+            cell: link(&self.cell, batch),
+            ..self
+        }
+    }
+
+    /// After one more batch of this size and guard in the open segment.
+    pub fn grown(self, size: u64, guard: &Digest) -> Marks
+        requires { self.total + size < 2 ^ 64 }
+        ensures { result ≡ grown self size guard.now.bytes }
+    {
+        Marks {
+            total: self.total + size,
+            own: extended(&self.own, guard),
+            register: extended(&self.register, guard),
+            ..self
+        }
+    }
+
+    /// After a batch of this size and guard opened a segment, by what the register reads then and whether it had at most one
+    /// item before.
+    pub fn opened(self, size: u64, guard: &Digest, register: Digest, is_alone: bool) -> Marks
+        requires { self.total + size < 2 ^ 64 }
+        ensures { result ≡ opened_marks self size guard.now.bytes register.bytes is_alone }
+    {
+        Marks {
+            total: self.total + size,
+            own: extended(&zero(), guard),
+            register,
+            is_own: is_alone,
+            ..self
+        }
+    }
+}
+
+/// The summary after one more batch.
+#[tactic(auto, unfolding(mm_model::specs::Chains::link, mm_digest::specs::MessagesWords::successor_of, mm_digest::specs::MessagesWords::successor_batch_of))]
+pub(crate) fn link(summary: &Digest, batch: Batch<'_>) -> Digest
+    ensures { result.bytes ≡ link summary.now.bytes (batch_of batch.entry) }
+{
+    match batch {
+        Batch::One(request) => successor(summary, request),
+        Batch::Many(text) => successor_batch(summary, text),
+    }
+}
+
+/// The value by which a batch extends the register.
+#[tactic(auto, unfolding(mm_model::specs::Chains::guard, mm_digest::specs::MessagesWords::secured_of, mm_digest::specs::MessagesWords::secured_batch_of))]
+pub fn guard(barrier: &[u8; 32], batch: Batch<'_>) -> Digest
+    ensures { result.bytes ≡ guard barrier.now (batch_of batch.entry) }
+{
+    match batch {
+        Batch::One(request) => secured(barrier, request),
+        Batch::Many(text) => secured_batch(barrier, text),
+    }
+}
+
+// The value by which an entry extended the register.
+fn value(barrier: &[u8; 32], entry: &KeptEntry) -> Digest
+    ensures { result.bytes ≡ value_of barrier.now (kept_entry entry.now) }
+{
+    match entry {
+        KeptEntry::Own(batch) => guard(barrier, batch.lent()),
+        KeptEntry::Value(value) => *value,
+    }
+}
+
+/// The value of a register that took in these entries since it was zero.
+pub(crate) fn register_of(barrier: &[u8; 32], entries: &[KeptEntry]) -> Digest
+    ensures { result.bytes ≡ register_of (values_of barrier.now (kept_entries entries.now)) }
+{
+    let mut register = zero();
+    'entries: for entry in entries {
+        register = extended(&register, &value(barrier, entry));
+    }
+    register
+}
+
+/// The value of a register that took in these batches since it was zero.
+pub(crate) fn own_register(barrier: &[u8; 32], batches: &[KeptBatch]) -> Digest
+    ensures { result.bytes ≡ register_of (own_values barrier.now (kept_batches batches.now)) }
+{
+    let mut register = zero();
+    'batches: for batch in batches {
+        register = extended(&register, &guard(barrier, batch.lent()));
+    }
+    register
+}

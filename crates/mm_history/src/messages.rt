@@ -1,0 +1,134 @@
+//! The messages of what is asked.
+
+ghost use Rattle.std.specs.Prelude.{◌≡◌, ◌∷◌, ◌++◌, IfOk, OnOk};
+ghost use Rattle.std.specs.Str.{bytes_eq};
+ghost use Rattle.mm_digest.specs.Messages.{zero_bytes, anchored_message, extended_message, extended_of};
+ghost use Rattle.mm_module.specs.Batches.{batch_of};
+ghost use Rattle.mm_model.specs.Chains.{link_message, guard_message};
+ghost use Rattle.mm_model.specs.Messages.{form_messages, point_messages};
+ghost use Rattle.mm_history.specs.Asked.{place_messages};
+
+use crate::marks::guard;
+use mm_base::{Bytes, Memory};
+use mm_digest::{Digest, anchored, extended, zero};
+use mm_module::Batch;
+use mm_seal::Place;
+use std::alloc::Global;
+
+/// Two byte lists, one after the other.
+pub fn joined(alloc: Global, first: &[u8], second: &[u8]) -> Result<Bytes, Memory>
+    ensures { IfOk result (λ bytes. bytes ≡ first.now ++ second.now) }
+{
+    let mut bytes = Bytes::with_capacity(alloc, first.len() + second.len())?;
+    bytes.append(first)?;
+    bytes.append(second)?;
+    Ok(bytes)
+}
+
+// A byte that tells the kind, and two byte lists.
+fn tagged(alloc: Global, tag: u8, first: &[u8], second: &[u8]) -> Result<Bytes, Memory>
+    ensures { IfOk result (λ bytes. bytes ≡ tag ∷ (first.now ++ second.now)) }
+{
+    let mut bytes = Bytes::with_capacity(alloc, 33 + second.len())?;
+    bytes.push(tag)?;
+    bytes.append(first)?;
+    bytes.append(second)?;
+    Ok(bytes)
+}
+
+/// The message by which a segment is closed: byte 03, the anchor and the register's value.
+pub fn anchored_message(alloc: Global, anchor: &Digest, register: &Digest) -> Result<Bytes, Memory>
+    ensures { IfOk result (λ bytes. bytes ≡ anchored_message anchor.now.bytes register.now.bytes) }
+{
+    tagged(alloc, 3, &anchor.bytes, &register.bytes)
+}
+
+// The message by which a batch follows a summary.
+fn link_message(alloc: Global, summary: &Digest, batch: Batch<'_>) -> Result<Bytes, Memory>
+    ensures { IfOk result (λ bytes. bytes ≡ link_message summary.now.bytes (batch_of batch.entry)) }
+{
+    match batch {
+        Batch::One(request) => tagged(alloc, 1, &summary.bytes, request),
+        Batch::Many(text) => tagged(alloc, 4, &summary.bytes, text),
+    }
+}
+
+// The message that a batch makes under the barrier.
+fn guard_message(alloc: Global, barrier: &[u8; 32], batch: Batch<'_>) -> Result<Bytes, Memory>
+    ensures { IfOk result (λ bytes. bytes ≡ guard_message barrier.now (batch_of batch.entry)) }
+{
+    match batch {
+        Batch::One(request) => tagged(alloc, 2, barrier, request),
+        Batch::Many(text) => tagged(alloc, 5, barrier, text),
+    }
+}
+
+// Lists the messages of one form of an offered place, at which the guard may come next.
+fn list_form(
+    alloc: Global,
+    anchor: &Digest,
+    extension: &Digest,
+    value: &Digest,
+    messages: &mut Vec<Bytes>,
+) -> Result<(), Memory>
+    ensures { OnOk result (messages.new.items ≡ messages.old.items
+        ++ form_messages anchor.now.bytes extension.now.bytes value.now.bytes) }
+{
+    let next = extended(extension, value);
+    let first = joined(alloc, &extension.bytes, &value.bytes)?;
+    messages.push(first)?;
+    let second = anchored_message(alloc, anchor, &next)?;
+    messages.push(second)?;
+    Ok(())
+}
+
+// Lists the messages of both forms of an offered place of Opt.
+fn list_point(
+    alloc: Global,
+    anchor: &Digest,
+    extension: &Digest,
+    value: &Digest,
+    messages: &mut Vec<Bytes>,
+) -> Result<(), Memory>
+    ensures { OnOk result (messages.new.items ≡ messages.old.items
+        ++ point_messages anchor.now.bytes extension.now.bytes value.now.bytes) }
+{
+    list_form(alloc, anchor, extension, value, messages)?;
+    if extension.bytes == zero().bytes {
+        return Ok(());
+    }
+    let closed = anchored_message(alloc, anchor, extension)?;
+    messages.push(closed)?;
+    list_form(
+        alloc,
+        &anchored(anchor, extension),
+        &zero(),
+        value,
+        messages,
+    )
+}
+
+/// Lists the messages of a call that offers this place, rightly, and asks for the batch.
+pub fn list_place(
+    alloc: Global,
+    barrier: &[u8; 32],
+    place: &Place,
+    batch: Batch<'_>,
+    messages: &mut Vec<Bytes>,
+) -> Result<(), Memory>
+    ensures { OnOk result (messages.new.items ≡ messages.old.items
+        ++ place_messages barrier.now place.now (batch_of batch.entry)) }
+{
+    match place {
+        Place::Basic(summary) => {
+            let message = link_message(alloc, summary, batch)?;
+            messages.push(message)?;
+            Ok(())
+        }
+        Place::Opt { anchor, extension } => {
+            let message = guard_message(alloc, barrier, batch)?;
+            messages.push(message)?;
+            list_point(alloc, anchor, extension, &guard(barrier, batch), messages)
+        }
+    }
+}
