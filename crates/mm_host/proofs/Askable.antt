@@ -1,13 +1,8 @@
 -- A line of at most 4,096 bytes isn't too long to be asked.
-use Rattle.std.proofs.Common.{ℕ, ◌≡◌, ◌≢◌, ◌≤◌, Bool, true, false, ◌||◌, List, length, refl, arith}
-use Rattle.std.specs.Prelude.{nat_lt}
-use Rattle.std.specs.List.{list_any}
+use Rattle.mm_host.proofs.Below.{ℕ, ◌≡◌, ◌≢◌, ◌≤◌, Bool, true, false, ◌||◌, List, length, refl, arith, nat_lt, list_any, nat_tests}
+use Rattle.mm_host.proofs.Below.{longest_request, One, is_long}
 use Rattle.std.proofs.lemmas.List.Folds.{list_any_none}
-use Rattle.std.proofs.lemmas.Bool.Decides.{nat_tests}
 use Rattle.mm_base.specs.Lines.{MayGrow}
-use Rattle.mm_base.specs.Limits.{longest_request}
-use Rattle.mm_module.specs.Batch.{One}
-use Rattle.mm_model.specs.Long.{is_long}
 use Rattle.mm_model.specs.LongWords.{is_lf}
 
 not_lf : (byte : ℕ) → byte ≢ 10 → is_lf byte ≡ false

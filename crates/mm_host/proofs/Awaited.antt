@@ -1,20 +1,8 @@
 -- What a call for the request that waits makes of the history.
-use Rattle.std.proofs.Common.{◌≡◌, ℕ, ◌+◌, ◌-◌, ◌≤◌, Bool, true, false, List, [], ◌∷◌, ◌++◌, Result, Ok, refl, sym, ap, ◌∙◌, subst, arith, inl, inr}
-use Rattle.std.specs.Prelude.{◌⊎◌, nat_eq}
-use Rattle.std.proofs.lemmas.Bool.Decides.{nat_tests}
-use Rattle.mm_module.specs.Batch.{Batch, One}
-use Rattle.mm_seal.specs.Snapshot.{Content}
-use Rattle.mm_model.specs.Instance.{Instance}
-use Rattle.mm_model.specs.History.{History, total_of}
-use Rattle.mm_model.specs.Standing.{IsRight}
-use Rattle.mm_model.proofs.MovedDigests.{total-push}
-use Rattle.mm_model.specs.declared.answer.BatchAnswer.{BatchAnswer}
-use Rattle.mm_model.specs.declared.refusal.Refusal.{Refusal}
+use Rattle.mm_host.proofs.Below.{◌≡◌, ℕ, ◌+◌, ◌-◌, ◌≤◌, Bool, true, false, List, [], ◌∷◌, ◌++◌, Result, Ok, refl, sym, ap, ◌∙◌, subst}
+use Rattle.mm_host.proofs.Below.{arith, inl, inr, ◌⊎◌, nat_eq, nat_tests, Batch, One, Content, Instance, History, total_of, IsRight}
+use Rattle.mm_host.proofs.Below.{total-push, BatchAnswer, Refusal, EndsWith, Comes, kept, grown, one_content, Pending, Holds, IsAwaited}
 use Rattle.mm_call.specs.Answers.{answer_on}
-use Rattle.mm_callers.specs.Basic.{EndsWith}
-use Rattle.mm_callers.proofs.Calls.{one_content, Comes, kept, grown}
-use Rattle.mm_store.specs.Pending.{Pending}
-use Rattle.mm_host.specs.Fitting.{Holds, IsAwaited}
 
 pub one_more : (batches : List Batch) (request : List ℕ) → total_of (batches ++ One request ∷ []) ≡ total_of batches + 1
 one_more batches request = total-push batches (One request)

@@ -1,26 +1,11 @@
 -- Whose fault it is, by the steps.
-use Rattle.std.proofs.Common.{ℕ, ◌≡◌, ◌≢◌, List, Option, None, Some, Result, Ok, Err, sym, ap, ◌∙◌, subst, inl, inr}
-use Rattle.std.specs.Prelude.{◌⊎◌}
-use Rattle.mm_base.specs.Faults.{Rose}
-use Rattle.mm_digest.specs.declared.variant.Variant.{Variant}
-use Rattle.mm_platform.specs.Standing.{Standing}
-use Rattle.mm_module.specs.Meaning.{Meaning}
-use Rattle.mm_model.specs.declared.answer.Answer.{Answer}
-use Rattle.mm_model.specs.declared.refusal.Refusal.{Refusal}
-use Rattle.mm_model.specs.declared.refusal.Refusal.TheVariants.{Long}
-use Rattle.mm_call.specs.Leaving.{Blames}
-use Rattle.mm_call.specs.Refusals.{fault_of, fault_in}
-use Rattle.mm_store.specs.declared.fault.StoreFault.{StoreFault}
+use Rattle.mm_host.proofs.Below.{ℕ, ◌≡◌, ◌≢◌, List, Option, None, Some, Result, Ok, Err, sym, ap, ◌∙◌, subst, inl, inr, ◌⊎◌, Rose, Variant}
+use Rattle.mm_host.proofs.Below.{Standing, Meaning, Answer, Refusal, Long, Blames, fault_of, fault_in, StoreFault, CountsFailures}
+use Rattle.mm_host.proofs.Below.{StoreStanding, Pending, HostFault, Resumed, Start, store_fault_as, refusal_fault, AfterRecord, AsksNext}
+use Rattle.mm_host.proofs.Below.{AfterThree, AfterTwo, started, kept_as, AfterAsk, AfterOffer, AfterFinding, Resumes}
 use Rattle.mm_store.specs.declared.fault.StoreFault.TheVariants as fault
-use Rattle.mm_store.specs.Calls.{CountsFailures}
-use Rattle.mm_store.specs.Kept.{StoreStanding}
-use Rattle.mm_store.specs.Pending.{Pending}
-use Rattle.mm_host.specs.declared.fault.HostFault.{HostFault}
 use Rattle.mm_host.specs.declared.fault.HostFault.TheVariants as host
-use Rattle.mm_host.specs.declared.resuming.Resumed.{Resumed}
-use Rattle.mm_host.specs.declared.resuming.Resumed.TheVariants.{Start, Answered}
-use Rattle.mm_host.specs.Faults.{store_fault_as, refusal_fault}
-use Rattle.mm_host.specs.Resumes.{AfterThree, AfterTwo, started, kept_as, AfterAsk, AfterOffer, AfterFinding, Resumes}
+use Rattle.mm_host.specs.declared.resuming.Resumed.TheVariants.{Answered}
 use Rattle.mm_host.specs.Blame.{Blamed, IsNamed}
 use Rattle.mm_host.proofs.RefusalTold.{by_refusal}
 
@@ -172,3 +157,26 @@ pub resumes_told : (variant : Variant) (meaning : Meaning) (before after : Stand
 resumes_told variant meaning before after old new result r =
     found_told variant meaning r.waiting before after old r.middle new result
     (two_counted r.finds.two old r.finds.middle r.middle r.waiting r.finds.reads.counted r.finds.goes) r.goes
+
+-- one more request
+recorded_told : (variant : Variant) (meaning : Meaning) (recorded : Result Unit StoreFault) (before after : Standing)
+    (old middle new : StoreStanding) (last : Resumed) (request : List ℕ) (came : Result Resumed HostFault)
+    → CountsFailures old.faults middle.faults recorded → AfterRecord variant meaning before after recorded middle new last request came
+    → Told came before after old new
+recorded_told variant meaning (Ok it) before after old middle new last request came c g =
+    told_later came before after old middle new c (asked_told g.asked before after middle new came g.asks.faults g.asks.short g.goes)
+recorded_told variant meaning (Err why) before after old middle new last request came c g =
+    told_as came (Err (store_fault_as why)) before after old new g.2
+    (store_told why before after old new g.0
+    (subst (λ (k : StoreStanding). CountsFailures {T = Unit {0}} old.faults k.faults (Err why)) (sym g.1)
+    (counted_err why old.faults middle.faults c)))
+  where
+    counted_err : (why : StoreFault) (before now : ℕ) → CountsFailures {T = Unit} before now (Err why)
+        → CountsFailures {T = Unit {0}} before now (Err why)
+    counted_err why before now c = c
+
+pub next_told : (variant : Variant) (meaning : Meaning) (before after : Standing) (old new : StoreStanding) (last : Resumed)
+    (request : List ℕ)
+    (came : Result Resumed HostFault) → AsksNext variant meaning before after old new last request came → Told came before after old new
+next_told variant meaning before after old new last request came a =
+    recorded_told variant meaning a.recorded before after old a.middle new last request came a.records.counted a.goes

@@ -1,50 +1,15 @@
 -- Recovery in either variant: what the call for the request that waits leads to.
-use Rattle.std.proofs.Common.{◌≡◌, ◌≢◌, ℕ, List, [], ◌∷◌, ◌++◌, map, Option, None, Some, Result, Ok, Err, refl, sym, ◌∙◌, subst, inl, inr}
-use Rattle.std.specs.Prelude.{◌⊎◌}
-use Rattle.mm_digest.specs.declared.variant.Variant.{Variant}
-use Rattle.mm_digest.specs.declared.variant.Variant.TheVariants.{Basic, Opt}
-use Rattle.mm_platform.specs.Standing.{Item, Standing}
-use Rattle.mm_module.specs.Meaning.{Meaning, IsLawful}
-use Rattle.mm_module.specs.Batch.{Batch, One}
-use Rattle.mm_seal.specs.Snapshot.{Content}
-use Rattle.mm_model.specs.Instance.{Instance}
-use Rattle.mm_model.specs.InstanceWords.{basic, opt}
-use Rattle.mm_model.specs.History.{History, Commit, Foreign, moved}
-use Rattle.mm_model.specs.Life.{Lost as LostLife, life_of}
-use Rattle.mm_model.specs.Moves.{digests_of}
-use Rattle.mm_model.specs.Places.{Names}
-use Rattle.mm_model.specs.Standing.{StandsFor}
-use Rattle.mm_model.specs.declared.answer.BatchAnswer.{BatchAnswer}
-use Rattle.mm_model.specs.declared.refusal.Refusal.{Refusal}
-use Rattle.mm_model.specs.declared.refusal.Refusal.TheVariants.{Memory}
-use Rattle.mm_call.specs.Asked.{IsAsked, IsWithin}
-use Rattle.mm_call.specs.Called.{called, given_for}
-use Rattle.mm_call.specs.CallsOn.{CallsOn}
-use Rattle.mm_call.specs.Found.{found_at}
-use Rattle.mm_call.specs.Levels.{by_lists, by_digests, all_made}
-use Rattle.mm_call.specs.Leaving.{whole_in}
-use Rattle.mm_call.specs.Premises.{AreAsked, AreShown, IsIdle}
-use Rattle.mm_call.specs.Refusals.{fault_of}
+use Rattle.mm_host.proofs.Below.{◌≡◌, ◌≢◌, ℕ, List, [], ◌∷◌, ◌++◌, map, Option, None, Some, Result, Ok, Err, refl, sym, ◌∙◌, subst, inl}
+use Rattle.mm_host.proofs.Below.{inr, ◌⊎◌, Variant, Basic, Opt, Item, Standing, Meaning, IsLawful, Batch, One, Content, Instance, basic}
+use Rattle.mm_host.proofs.Below.{opt, History, Commit, Foreign, moved, LostLife, life_of, digests_of, Names, StandsFor, BatchAnswer}
+use Rattle.mm_host.proofs.Below.{Refusal, Memory, IsAsked, IsWithin, called, given_for, CallsOn, found_at, by_lists, by_digests, all_made}
+use Rattle.mm_host.proofs.Below.{whole_in, AreAsked, AreShown, IsIdle, fault_of, stands_at, same_batches, seen_before, bare, asked_for}
+use Rattle.mm_host.proofs.Below.{asked_idle, foreign_first, basic_asked, names_made, basic_comes, comes, Comes, Alike, still, grown_by}
+use Rattle.mm_host.proofs.Below.{StoreStanding, Pending, Slots, slot_read, HostFault, Resumed, offer_slot, FitsBy, CanRecover, AsksIdly}
+use Rattle.mm_host.proofs.Below.{Recovers, Resumes}
 use Rattle.mm_call.specs.Tied.{standing_items}
-use Rattle.mm_call.proofs.Continuing.{stands_at}
-use Rattle.mm_call.specs.MoveLaws.{same_batches}
-use Rattle.mm_call.proofs.OptLaw.{before as seen_before}
-use Rattle.mm_call.proofs.OptShut.{bare}
-use Rattle.mm_call.proofs.Idle.{asked_for, asked_idle}
-use Rattle.mm_call.specs.WalkLaws.{foreign_first}
-use Rattle.mm_callers.proofs.Calls.{is_asked as basic_asked, names_made, Comes, comes as basic_comes}
-use Rattle.mm_callers.proofs.OptAlike.{Alike, still, grown_by}
-use Rattle.mm_callers.proofs.OptCalls.{comes}
-use Rattle.mm_store.specs.Kept.{StoreStanding}
-use Rattle.mm_store.specs.Pending.{Pending}
-use Rattle.mm_store.specs.Slots.{Slots, slot_read}
-use Rattle.mm_host.specs.declared.fault.HostFault.{HostFault}
-use Rattle.mm_host.specs.declared.resuming.Resumed.{Resumed}
-use Rattle.mm_host.specs.Fitting.{offer_slot, FitsBy}
-use Rattle.mm_host.specs.Recovery.{CanRecover, AsksIdly, Recovers}
-use Rattle.mm_host.specs.Resumes.{Resumes}
 use Rattle.mm_host.proofs.Awaited.{grows}
-use Rattle.mm_host.proofs.Machining.{IsIssued, issued_in_basic, issued_in_opt}
+use Rattle.mm_host.proofs.Issuing.{IsIssued, issued_in_basic, issued_in_opt}
 use Rattle.mm_host.proofs.OptMoves.{alike_after, answered_clean, named_after, stays_powered}
 use Rattle.mm_host.proofs.Refusing.{MayRefuse, IsOffered, offered_then, waiting_most, basic_keeps, opt_keeps, basic_judged, opt_judged, basic_refused, opt_refused}
 use Rattle.mm_host.proofs.Recovering.{Left, LeadsOn, asked_of, recovers_by}

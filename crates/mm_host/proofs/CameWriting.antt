@@ -1,25 +1,11 @@
--- How often a recovery, a line, and lines that are answered are to write the cell.
-use Rattle.std.proofs.Common.{◌≡◌, ◌+◌, ◌≤◌, ℕ, Bool, true, false, List, [], ◌∷◌, Option, None, Some, Result, Ok, Err, refl, sym, ap, subst, arith}
-use Rattle.mm_digest.specs.declared.variant.Variant.{Variant}
-use Rattle.mm_platform.specs.declared.fault.StepFault.{StepFault}
-use Rattle.mm_platform.specs.Standing.{Standing}
-use Rattle.mm_module.specs.Meaning.{Meaning}
-use Rattle.mm_model.specs.declared.answer.Answer.{Answer}
-use Rattle.mm_model.specs.declared.refusal.Refusal.{Refusal}
-use Rattle.mm_call.specs.Refusals.{fault_of}
-use Rattle.mm_store.specs.declared.fault.StoreFault.{StoreFault}
+-- How often a recovery, and one more request, are to write the cell.
+use Rattle.mm_host.proofs.Below.{◌≡◌, ◌+◌, ◌≤◌, ℕ, Bool, true, false, List, Option, None, Some, Result, Ok, Err, refl, sym, subst, arith}
+use Rattle.mm_host.proofs.Below.{Variant, StepFault, Standing, Meaning, Answer, Refusal, fault_of, StoreFault, StoreStanding, Pending}
+use Rattle.mm_host.proofs.Below.{HostFault, Resumed, CallWrites, IsNewAt, WritesFor, new_by, IsNewOf, RequestWrites, new_first}
+use Rattle.mm_host.proofs.Below.{refusal_fault, store_fault_as, AfterAsk, AfterFinding, AfterOffer, Resumes, kept_as, started, AfterRecord}
+use Rattle.mm_host.proofs.Below.{AsksNext}
 use Rattle.mm_store.specs.declared.fault.StoreFault.TheVariants as store_fault
-use Rattle.mm_store.specs.Kept.{StoreStanding}
-use Rattle.mm_store.specs.Pending.{Pending}
-use Rattle.mm_host.specs.declared.fault.HostFault.{HostFault}
 use Rattle.mm_host.specs.declared.fault.HostFault.TheVariants as host
-use Rattle.mm_host.specs.declared.resuming.Resumed.{Resumed}
-use Rattle.mm_host.specs.declared.resuming.Resumed.TheVariants.{Answered}
-use Rattle.mm_host.specs.CellWrites.{CallWrites, IsNewAt, WritesFor, new_by}
-use Rattle.mm_host.specs.Faults.{refusal_fault, store_fault_as}
-use Rattle.mm_host.specs.Resumes.{AfterAsk, AfterFinding, AfterOffer, Resumes, kept_as, started}
-use Rattle.mm_host.specs.Serving.{AfterRecord, AsksLine, Place, Served, Serves}
-use Rattle.mm_host.specs.SessionWrites.{IsNewOf, RecoveryWrites, new_first, new_lines}
 use Rattle.mm_host.proofs.CountingWrites.{LeadsOver, joined, leads_answer, leads_joined, leads_rest, rests}
 use Rattle.mm_host.proofs.RefusalTold.{by_refusal}
 
@@ -123,7 +109,7 @@ pub resumes_came : (variant : Variant) (meaning : Meaning) (before after : Stand
     → Resumes variant meaning before after old new came → CameWrites variant came before after
 resumes_came variant meaning before after old new came r = found_came variant meaning r.waiting before after r.middle new came r.goes
 
--- a line
+-- one more request
 recorded_came : (variant : Variant) (meaning : Meaning) (recorded : Result Unit StoreFault) (before after : Standing)
     (old new : StoreStanding) (last : Resumed) (line : List ℕ) (came : Result Resumed HostFault)
     → AfterRecord variant meaning before after recorded old new last line came → CameWrites variant came before after
@@ -132,9 +118,9 @@ recorded_came variant meaning (Ok it) before after old new last line came g = as
 recorded_came variant meaning (Err why) before after old new last line came g =
     came_as variant came (Err (store_fault_as why)) before after g.2 (fault_rests variant (store_fault_as why) before after g.0)
 
-pub line_came : (variant : Variant) (meaning : Meaning) (before after : Standing) (old new : StoreStanding) (last : Resumed) (line : List ℕ)
-    (came : Result Resumed HostFault) → AsksLine variant meaning before after old new last line came → CameWrites variant came before after
-line_came variant meaning before after old new last line came a =
+pub next_came : (variant : Variant) (meaning : Meaning) (before after : Standing) (old new : StoreStanding) (last : Resumed) (line : List ℕ)
+    (came : Result Resumed HostFault) → AsksNext variant meaning before after old new last line came → CameWrites variant came before after
+next_came variant meaning before after old new last line came a =
     recorded_came variant meaning a.recorded before after a.middle new last line came a.goes
 
 -- answered calls
@@ -156,23 +142,7 @@ both_writes variant n m before middle after a b = record {
   leads = leads_joined variant n m before middle after a.leads b.leads;
 }
 
-pub served_writes : (variant : Variant) (meaning : Meaning) (from to : Place) (calls : List Served) → Serves variant meaning from calls to
-    → AnsweredWrites variant (new_lines calls) from.platform to.platform
-served_writes variant meaning from to [] s = record {
-  writes = rests variant from.platform to.platform (ap (λ (p : Place). p.platform) s);
-  leads = leads_rest variant from.platform to.platform (ap (λ (p : Place). p.platform) s);
-}
-served_writes variant meaning from to (c ∷ calls) s =
-    both_writes variant (new_by c.answer.again) (new_lines calls) from.platform s.platform to.platform
-    (answered_writes variant (Answered c.answer) from.platform s.platform
-    (line_came variant meaning from.platform s.platform from.store s.store from.last c.line (Ok (Answered c.answer)) s.asks))
-    (served_writes variant meaning (record { platform = s.platform; store = s.store; last = Answered c.answer }) to calls s.rest)
-
-pub recovery_writes : (variant : Variant) (meaning : Meaning) (before after : Standing) (old new : StoreStanding)
-    (result : Result Resumed HostFault) → Resumes variant meaning before after old new result → RecoveryWrites variant before after result
-recovery_writes variant meaning before after old new result r =
-    let c = resumes_came variant meaning before after old new result r in record {
-      requests = c.requests;
-      new = c.is_new;
-      writes = c.writes;
-    }
+-- whose calls are told as what was asked
+pub request_writes : (variant : Variant) (before after : Standing) (result : Result Resumed HostFault)
+    → CameWrites variant result before after → RequestWrites variant before after result
+request_writes variant before after result c = record { requests = c.requests; new = c.is_new; writes = c.writes }

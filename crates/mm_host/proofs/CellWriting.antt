@@ -1,44 +1,26 @@
 -- How often one call of either core is to write the cell, and what flag it leaves.
-use Rattle.std.proofs.Common.{◌≡◌, ◌∙◌, ◌+◌, ◌≤◌, ℕ, Bool, true, false, List, Option, None, Some, Result, Ok, Err, refl, sym, ap, subst, inl, inr, arith}
-use Rattle.std.specs.Option.{option_map}
-use Rattle.mm_base.specs.Faults.{counted}
-use Rattle.mm_digest.specs.declared.variant.Variant.TheVariants.{Basic, Opt}
-use Rattle.mm_platform.specs.declared.fault.StepFault.{StepFault}
-use Rattle.mm_platform.specs.Standing.{Standing}
-use Rattle.mm_platform.specs.Steps.{WriteCell, cell_after}
-use Rattle.mm_module.specs.Meaning.{Meaning}
-use Rattle.mm_module.specs.Batch.{Batch}
+use Rattle.mm_host.proofs.Below.{◌≡◌, ◌∙◌, ◌+◌, ◌≤◌, ℕ, Bool, true, false, List, Option, None, Some, Result, Ok, Err, refl, sym, ap, subst}
+use Rattle.mm_host.proofs.Below.{inl, inr, arith, option_map, counted, Basic, Opt, StepFault, Standing, WriteCell, cell_after, Meaning}
+use Rattle.mm_host.proofs.Below.{Batch, PartsFault, IsCell, ReadsCell, SpellsCell, cell_spelling, Snapshot, Answer, BatchAnswer, Refusal}
+use Rattle.mm_host.proofs.Below.{Memory, Long, Device, Blank, OtherCell, Lost, Form, Kind, State, Tag, Stale, Full, is_long, whole}
+use Rattle.mm_host.proofs.Below.{whole_in, examined, Ended, Answered, Broken, goes_on, breaks_off, EndsTo, result_of, fault_of, OrMemory}
+use Rattle.mm_host.proofs.Below.{refused_result, counted_by, BasicSteps, BasicAnswered, BasicRefused, ReadsOn, opt_call, StepsAnswered}
+use Rattle.mm_host.proofs.Below.{StepsRefused, StepsFrom, WritesAtMostOnce, IsShaped, reads_shaped, CallWrites, IsNewAt, LeavesFlag}
+use Rattle.mm_host.proofs.Below.{TellsFlag, is_open_after, new_by, openings}
 use Rattle.mm_seal.specs.declared.cell.Cell.{Cell}
 use Rattle.mm_seal.specs.declared.cell.CellFault.{CellFault}
 use Rattle.mm_seal.specs.declared.cell.CellFault.TheVariants.{Blank as BlankCell, Cell as Unspelled}
-use Rattle.mm_seal.specs.declared.snapshot.PartsFault.{PartsFault}
 use Rattle.mm_seal.specs.declared.snapshot.PartsFault.TheVariants as parts
-use Rattle.mm_seal.specs.Cell.{IsCell, ReadsCell, SpellsCell, cell_spelling}
-use Rattle.mm_seal.specs.Snapshot.{Snapshot}
 use Rattle.mm_seal.specs.CellLaws.{reads_cell-same}
-use Rattle.mm_model.specs.declared.answer.Answer.{Answer}
-use Rattle.mm_model.specs.declared.answer.BatchAnswer.{BatchAnswer}
-use Rattle.mm_model.specs.declared.refusal.Refusal.{Refusal}
-use Rattle.mm_model.specs.declared.refusal.Refusal.TheVariants.{Memory, Long, Device, Blank, Cell as OtherCell, Lost, Form, Kind, State, Tag, Stale, Full}
-use Rattle.mm_model.specs.Long.{is_long}
-use Rattle.mm_call.specs.Leaving.{whole, whole_in}
-use Rattle.mm_call.specs.Order.{examined}
-use Rattle.mm_call.specs.Refusals.{fault_of, handed_on, OrMemory}
-use Rattle.mm_call.specs.Standing.{counted_by}
-use Rattle.mm_basic.specs.Asks.{StepsBy as BasicSteps, StepsAnswered as BasicAnswered, StepsRefused as BasicRefused}
 use Rattle.mm_basic.specs.Asked.{AskedInBasic}
-use Rattle.mm_opt.specs.declared.found.Opening.{Opening}
 use Rattle.mm_opt.specs.declared.found.Found.{Found}
 use Rattle.mm_opt.specs.declared.found.Found.TheVariants.{Repeat, Inside, Opens}
 use Rattle.mm_opt.specs.Seen.{is_cell_of, own_cell, cell_in}
 use Rattle.mm_opt.specs.Order.{batch_value, has_lost_power, verdict_of}
 use Rattle.mm_opt.specs.Answers.{answer_of, change_by, opened_cell, found_from, found_in_offer, found_unless, found_in}
-use Rattle.mm_opt.specs.Steps.{ReadsOwnCell, FindsCell, FindsIn, MakesRoom, Empties, Places, Writes}
-use Rattle.mm_opt.specs.Asks.{ReadsOn, Reads, PlacedOn, EmptiedOn, CommitsFound, Ends, StepsAnswered, StepsRefused, StepsFrom, WritesAtMostOnce}
+use Rattle.mm_opt.specs.Steps.{ReadsOwnCell, FindsCell, FindsIn, MakesRoom}
+use Rattle.mm_opt.specs.Asks.{Reads}
 use Rattle.mm_opt.specs.Asked.{AskedInOpt}
-use Rattle.mm_opt.proofs.Findings.{IsShaped}
-use Rattle.mm_opt.proofs.Asking.{reads_shaped}
-use Rattle.mm_host.specs.CellWrites.{CallWrites, IsNewAt, LeavesFlag, TellsFlag, is_open_after, new_by, openings}
 
 -- counts
 count_same : (before after n : ℕ) → after ≡ before → after ≤ before + n
@@ -206,12 +188,16 @@ opened seen next told new is e t c = record {
 record LeavesSeen (seen : Cell) (answer : BatchAnswer) (middle new : Standing) : Type 0 where
   flags : middle.cell ≡ Some (cell_spelling seen) → TellsFlag new (is_open_after seen.flag (new_by answer.again))
 
-written_answer : (answer : BatchAnswer) (r : Result BatchAnswer StepFault) → handed_on r ≡ Ok answer → r ≡ Ok answer
-written_answer answer (Ok it) e = ap Ok (ok_alike (handed_on (Ok it)) it answer refl e)
-  where
-    ok_alike : (r : Result BatchAnswer Refusal) (it answer : BatchAnswer) → r ≡ Ok it → r ≡ Ok answer → it ≡ answer
-    ok_alike r it answer e f = cc
-written_answer answer (Err fault) e = absurd (cc)
+-- the answer that a call gives that ended so
+ok_alike : (r : Result BatchAnswer Refusal) (it answer : BatchAnswer) → r ≡ Ok it → r ≡ Ok answer → answer ≡ it
+ok_alike r it answer e f = cc
+
+answer_again : (it answer : BatchAnswer) (ended : Ended) → ended ≡ Answered it → result_of ended ≡ Ok answer → answer.again ≡ it.again
+answer_again it answer ended e done = ap (λ (a : BatchAnswer). a.again) (ok_alike (result_of ended) it answer (ap result_of e) done)
+
+never_broken : (answer : BatchAnswer) (ended : Ended) (fault : StepFault) (position : Option ℕ) → ended ≡ Broken fault position
+    → result_of ended ≡ Ok answer → ⊥
+never_broken answer ended fault position e done = let clash : Err (Device fault) ≡ Ok answer = sym (ap result_of e) ∙ done in cc
 
 leaves_open : (seen : Cell) (answer : BatchAnswer) (middle new : Standing) → answer.again ≡ false
     → (middle.cell ≡ Some (cell_spelling seen) → TellsFlag new true) → LeavesSeen seen answer middle new
@@ -221,62 +207,32 @@ leaves_open seen answer middle new fresh t = record {
       (subst (λ (flag : Bool). TellsFlag new flag) (open_one seen.flag) (t e));
 }
 
-wrote_seen : (seen : Cell) (opening : Opening) (answer : BatchAnswer) (written : Result BatchAnswer StepFault) (first middle new : Standing)
-    → IsCell seen → opening.next ≡ opened_cell seen → opening.answer.again ≡ false → middle.cell ≡ first.cell
-    → Writes opening middle new written → written ≡ Ok answer → LeavesSeen seen answer first new
-wrote_seen seen opening answer (Err fault) first middle new is e fresh same w done = absurd (cc)
-wrote_seen seen opening answer (Ok it) first middle new is e fresh same w done =
-    leaves_open seen answer first new (ap (λ (a : BatchAnswer). a.again) (sym (answers_alike (Ok it) it answer refl done) ∙ w.gives)
-    ∙ fresh)
-    (λ (t : first.cell ≡ Some (cell_spelling seen)).
-    opened seen opening.next middle.cell new is e (same ∙ t)
-    (w.goes.cell ∙ ap (λ (made : Bool). cell_after (WriteCell opening.next) made middle.cell) w.goes.ends.made))
-  where
-    answers_alike : (r : Result BatchAnswer StepFault) (it answer : BatchAnswer) → r ≡ Ok it → r ≡ Ok answer → it ≡ answer
-    answers_alike r it answer e f = cc
-
-placed_seen : (seen : Cell) (opening : Opening) (answer : BatchAnswer) (placed : Result Opening StepFault)
-    (written : Result BatchAnswer StepFault) (first middle next new : Standing) → IsCell seen → opening.next ≡ opened_cell seen
-    → opening.answer.again ≡ false → middle.cell ≡ first.cell → Places opening middle next placed → PlacedOn placed next new written
-    → written ≡ Ok answer → LeavesSeen seen answer first new
-placed_seen seen opening answer (Err fault) written first middle next new is e fresh same p on done =
-    let failed : written ≡ Err fault = on.1 in absurd (cc)
-placed_seen seen opening answer (Ok it) written first middle next new is e fresh same p on done =
-    wrote_seen seen it answer written first next new is (ap (λ (o : Opening). o.next) p.gives ∙ e)
-    (ap (λ (o : Opening). o.answer.again) p.gives ∙ fresh)
-    (p.goes.cell ∙ same) on done
-
-emptied_seen : (seen : Cell) (opening : Opening) (answer : BatchAnswer) (emptied : Result Opening StepFault)
-    (written : Result BatchAnswer StepFault) (first next new : Standing) → IsCell seen → opening.next ≡ opened_cell seen
-    → opening.answer.again ≡ false → Empties opening first next emptied → EmptiedOn emptied next new written → written ≡ Ok answer
-    → LeavesSeen seen answer first new
-emptied_seen seen opening answer (Err fault) written first next new is e fresh p on done =
-    let failed : written ≡ Err fault = on.1 in absurd (cc)
-emptied_seen seen opening answer (Ok it) written first next new is e fresh p on done =
-    placed_seen seen it answer on.placed written first next on.middle new is (ap (λ (o : Opening). o.next) p.gives ∙ e)
-    (ap (λ (o : Opening). o.answer.again) p.gives ∙ fresh) p.goes.cell on.places on.on done
-
-found_seen : (found : Found) (seen : Cell) (answer : BatchAnswer) (written : Result BatchAnswer StepFault) (middle new : Standing)
-    → IsCell seen → IsByCell seen (Ok found) → IsShaped (Ok found) → CommitsFound found middle new written → written ≡ Ok answer
-    → LeavesSeen seen answer middle new
-found_seen (Repeat it) seen answer written middle new is by shape c done = record {
+found_seen : (found : Found) (seen : Cell) (answer : BatchAnswer) (middle new : Standing) (ended : Ended)
+    → IsCell seen → IsByCell seen (Ok found) → IsShaped (Ok found) → EndsTo opt_call (Ok found) middle new ended
+    → result_of ended ≡ Ok answer → LeavesSeen seen answer middle new
+found_seen (Repeat it) seen answer middle new ended is by shape s done = record {
   flags = λ (e : middle.cell ≡ Some (cell_spelling seen)).
-      subst (λ (again : Bool). TellsFlag new (is_open_after seen.flag (new_by again))) (sym (repeated it answer written c.1 done ∙ shape))
+      subst (λ (again : Bool). TellsFlag new (is_open_after seen.flag (new_by again))) (sym (answer_again it answer ended s.1 done ∙ shape))
       (subst (λ (flag : Bool). TellsFlag new flag) (open_none seen.flag)
-      (tells_seen seen seen.flag new is (ap (λ (s : Standing). s.cell) c.0 ∙ e) refl));
+      (tells_seen seen seen.flag new is (ap (λ (x : Standing). x.cell) s.0 ∙ e) refl));
 }
-  where
-    repeated : (it answer : BatchAnswer) (r : Result BatchAnswer StepFault) → r ≡ Ok it → r ≡ Ok answer → answer.again ≡ it.again
-    repeated it answer r e f = cc
-found_seen (Inside ready) seen answer (Err fault) middle new is by shape c done = absurd (cc)
-found_seen (Inside ready) seen answer (Ok it) middle new is by shape c done =
-    leaves_open seen answer middle new (ap (λ (a : BatchAnswer). a.again) (extended it answer (Ok it) refl done ∙ c.gives) ∙ shape)
-    (λ (e : middle.cell ≡ Some (cell_spelling seen)). tells_seen seen true new is (c.goes.cell ∙ e) by)
-  where
-    extended : (it answer : BatchAnswer) (r : Result BatchAnswer StepFault) → r ≡ Ok it → r ≡ Ok answer → answer ≡ it
-    extended it answer r e f = cc
-found_seen (Opens opening) seen answer written middle new is by shape c done =
-    emptied_seen seen opening answer c.emptied written middle c.middle new is by.1 shape c.empties c.on done
+found_seen (Inside ready) seen answer middle new ended is by shape (breaks_off fault g e) done =
+    absurd (never_broken answer ended fault (Some ready.answer.position) e done)
+found_seen (Inside ready) seen answer middle new ended is by shape (goes_on last g s) done =
+    leaves_open seen answer middle new (answer_again ready.answer answer ended s.1 done ∙ shape)
+    (λ (e : middle.cell ≡ Some (cell_spelling seen)). tells_seen seen true new is (ap (λ (x : Standing). x.cell) s.0 ∙ g.cell ∙ e) by)
+found_seen (Opens opening) seen answer middle new ended is by shape (breaks_off fault g e) done =
+    absurd (never_broken answer ended fault None e done)
+found_seen (Opens opening) seen answer middle new ended is by shape (goes_on next g (breaks_off fault h e)) done =
+    absurd (never_broken answer ended fault None e done)
+found_seen (Opens opening) seen answer middle new ended is by shape (goes_on next g (goes_on third h (breaks_off fault k e))) done =
+    absurd (never_broken answer ended fault (Some opening.answer.position) e done)
+found_seen (Opens opening) seen answer middle new ended is by shape (goes_on next g (goes_on third h (goes_on last k s))) done =
+    leaves_open seen answer middle new (answer_again opening.answer answer ended s.1 done ∙ shape)
+    (λ (t : middle.cell ≡ Some (cell_spelling seen)).
+    subst (λ (x : Standing). TellsFlag x true) (sym s.0)
+    (opened seen opening.next third.cell last is by.1 (h.cell ∙ g.cell ∙ t)
+    (k.cell ∙ ap (λ (made : Bool). cell_after (WriteCell opening.next) made third.cell) k.ends.made)))
 
 -- an answered call: what it found, and what it left
 seen_flag : (seen : Cell) (answer : BatchAnswer) (old middle new : Standing) (found : Found) → Saw old middle seen found
@@ -292,16 +248,16 @@ seen_flag seen answer old middle new found s l = record {
       (l.flags (s.same ∙ t.tells ∙ ap (λ (c : Cell). Some (cell_spelling c)) same));
 }
 
-ends_flag : (found : Result Found Refusal) (meaning : Meaning) (offer : List ℕ) (b : Batch) (old middle new : Standing)
-    (answer : BatchAnswer) → Reads meaning old middle offer b found → Ends found middle new (Ok answer)
-    → LeavesFlag (new_by answer.again) old new
-ends_flag (Err why) meaning offer b old middle new answer r e = let failed : Ok answer ≡ Err why = e.1 in absurd (cc)
-ends_flag (Ok found) meaning offer b old middle new answer r e =
+ends_flag : (found : Result Found Refusal) (meaning : Meaning) (offer : List ℕ) (b : Batch) (old middle new : Standing) (ended : Ended)
+    (answer : BatchAnswer) → Reads meaning old middle offer b found → EndsTo opt_call found middle new ended
+    → result_of ended ≡ Ok answer → LeavesFlag (new_by answer.again) old new
+ends_flag (Err why) meaning offer b old middle new ended answer r e done =
+    let failed : Ok answer ≡ Err why = sym done ∙ ap result_of e.1 ∙ refused_result why in absurd (cc)
+ends_flag (Ok found) meaning offer b old middle new ended answer r e done =
     let s = saw r.cell meaning old r.middle middle offer b found r.reads r.on in
     seen_flag s.0 answer old middle new found s.1
-    (found_seen found s.0 answer e.written middle new s.1.is_cell s.1.by_cell
-    (reads_shaped r.cell meaning r.middle middle offer b found r.on)
-    e.commits (written_answer answer e.written (sym e.gives)))
+    (found_seen found s.0 answer middle new ended s.1.is_cell s.1.by_cell
+    (reads_shaped r.cell meaning r.middle middle offer b found r.on) e done)
 
 -- how often it writes, by the flag
 opt_opens : (flag again : Bool) (old new : Standing) → StepsFrom flag again old new
@@ -328,7 +284,9 @@ opt_answered meaning old new offer b answer short a = record {
         opt_opens flag answer.again old new
         (subst (λ (x : Bool). StepsFrom x answer.again old new) t.shows (a.writes.answers t.cell t.is_cell t.tells));
   };
-  leaves = let c = a.calls.asks short in ends_flag c.found meaning offer b old c.middle new (whole answer) c.reads c.ends;
+  leaves =
+      let c = a.calls.asks short in
+      ends_flag c.asks.found meaning offer b old c.asks.middle new c.ended (whole answer) c.asks.reads c.asks.ends (sym c.gives);
 }
 
 -- a refused call

@@ -1,14 +1,7 @@
 -- How often calls one after another are to write the cell, by their counts.
-use Rattle.std.proofs.Common.{◌≡◌, ◌∙◌, ◌+◌, ◌≤◌, ℕ, zero, suc, Bool, true, false, List, Some, Ok, refl, sym, ap, subst, inl, inr, arith}
-use Rattle.std.specs.Prelude.{◌⊎◌}
-use Rattle.mm_base.specs.Faults.{counted}
-use Rattle.mm_digest.specs.declared.variant.Variant.{Variant}
-use Rattle.mm_digest.specs.declared.variant.Variant.TheVariants.{Basic, Opt}
-use Rattle.mm_platform.specs.Standing.{Standing}
-use Rattle.mm_model.specs.declared.answer.Answer.{Answer}
-use Rattle.mm_call.specs.Standing.{counted_by}
-use Rattle.mm_opt.specs.Asks.{WritesAtMostOnce}
-use Rattle.mm_host.specs.CellWrites.{LeavesOpen, TellsFlag, WritesByOpening, WritesFor, is_open_after, openings}
+use Rattle.mm_host.proofs.Below.{◌≡◌, ◌∙◌, ◌+◌, ◌≤◌, ℕ, zero, suc, Bool, true, false, List, Some, Ok, refl, sym, ap, subst, inl, inr, arith}
+use Rattle.mm_host.proofs.Below.{◌⊎◌, counted, Variant, Basic, Opt, Standing, Answer, counted_by, WritesAtMostOnce, LeavesOpen, TellsFlag}
+use Rattle.mm_host.proofs.Below.{WritesByOpening, WritesFor, is_open_after, openings}
 
 -- counts
 counted_sum : (n m count : ℕ) → counted_by m (counted_by n count) ≡ counted_by (n + m) count

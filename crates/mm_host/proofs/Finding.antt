@@ -1,15 +1,7 @@
 -- What a recovery finds in slots 2 and 3, over a store that tells its slots.
-use Rattle.std.proofs.Common.{◌≡◌, ℕ, List, Option, Some, Result, Ok, Err, sym, ap, ◌∙◌, subst, inl, inr}
-use Rattle.std.specs.Prelude.{◌⊎◌}
-use Rattle.mm_store.specs.declared.fault.StoreFault.{StoreFault}
+use Rattle.mm_host.proofs.Below.{◌≡◌, ℕ, List, Option, Some, Result, Ok, Err, sym, ap, ◌∙◌, subst, inl, inr, ◌⊎◌, StoreFault, ReadsSlot}
+use Rattle.mm_host.proofs.Below.{StoreStanding, Pending, Slots, slot_read, one_reading, later, IsWaiting, AfterThree, AfterTwo}
 use Rattle.mm_store.specs.declared.fault.StoreFault.TheVariants as fault
-use Rattle.mm_store.specs.Calls.{ReadsSlot}
-use Rattle.mm_store.specs.Kept.{StoreStanding}
-use Rattle.mm_store.specs.Pending.{Pending}
-use Rattle.mm_store.specs.Slots.{Slots, slot_read}
-use Rattle.mm_store.proofs.PendingLaws.{one_reading}
-use Rattle.mm_host.specs.Waiting.{later, IsWaiting}
-use Rattle.mm_host.specs.Resumes.{AfterThree, AfterTwo}
 
 -- one request waits in the slots' bytes
 pub one_waiting : (two three : List ℕ) (v w : Option Pending) → IsWaiting two three v → IsWaiting two three w → v ≡ w

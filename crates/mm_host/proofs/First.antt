@@ -1,32 +1,10 @@
 -- What stands at the first history, whatever values others put into the register.
-use Rattle.std.proofs.Common.{◌≡◌, ℕ, ◌≤◌, List, [], length, take, None, refl, sym, ap, ◌∙◌, subst, arith, inl}
-use Rattle.std.proofs.Math.Seq.{take-nil}
-use Rattle.std.proofs.lemmas.List.{take_all}
-use Rattle.std.specs.List.{Contains}
-use Rattle.mm_digest.specs.declared.variant.Variant.{Variant}
-use Rattle.mm_digest.specs.declared.variant.Variant.TheVariants.{Basic, Opt}
-use Rattle.mm_digest.specs.Messages.{start_message}
-use Rattle.mm_digest.specs.LengthLaws.{length-zero_bytes, length-start_of}
-use Rattle.mm_module.specs.Batch.{Batch}
-use Rattle.mm_module.specs.Meaning.{Meaning, IsLawful}
-use Rattle.mm_seal.specs.Snapshot.{IsContent}
-use Rattle.mm_model.specs.History.{first_history}
-use Rattle.mm_model.specs.Instance.{Instance}
-use Rattle.mm_model.specs.Places.{Names, issued}
-use Rattle.mm_model.specs.Sound.{IsSound}
-use Rattle.mm_model.specs.Standing.{IsRight, issued_bytes}
-use Rattle.mm_model.proofs.Fitting.{sealed_of-most}
-use Rattle.mm_model.proofs.Named.{basic_issued, opt_issued}
-use Rattle.mm_call.specs.Asked.{IsWithin}
-use Rattle.mm_call.specs.Standing.{instance_by}
-use Rattle.mm_call.specs.MoveLaws.{anchor-nil, summary-nil}
-use Rattle.mm_store.specs.Pending.{ReadsPending}
-use Rattle.mm_store.specs.Slots.{longest_slot, slot_read}
-use Rattle.mm_store.proofs.PendingLaws.{reads_none-short}
-use Rattle.mm_store.proofs.SlotLaws.{longest_slot-is}
-use Rattle.mm_host.specs.Waiting.{IsWaiting}
-use Rattle.mm_host.specs.Fitting.{Holds}
-use Rattle.mm_host.specs.Begins.{first_on, first_slots, IsFirstStore}
+use Rattle.mm_host.proofs.Below.{◌≡◌, ℕ, ◌≤◌, List, [], length, take, None, refl, sym, ap, ◌∙◌, subst, arith, inl, take-nil, take_all}
+use Rattle.mm_host.proofs.Below.{Contains, Variant, Basic, Opt, start_message, length-zero_bytes, length-start_of, Batch, Meaning, IsLawful}
+use Rattle.mm_host.proofs.Below.{IsContent, first_history, Instance, Names, issued, IsSound, IsRight, issued_bytes, basic_issued}
+use Rattle.mm_host.proofs.Below.{opt_issued, IsWithin, instance_by, anchor-nil, summary-nil, ReadsPending, longest_slot, slot_read}
+use Rattle.mm_host.proofs.Below.{reads_none-short, longest_slot-is, IsWaiting, Holds, first_on, first_slots, IsFirstStore}
+use Rattle.mm_model.specs.FitLaws.{sealed_of-most}
 
 -- the first snapshot has a spelling
 first_formed : (variant : Variant) (meaning : Meaning) (key barrier : List ℕ) → IsLawful meaning

@@ -1,30 +1,9 @@
 -- Slots that fit go on to fit, and the first ones do.
-use Rattle.std.proofs.Common.{◌≡◌, ℕ, ◌+◌, false, List, [], ◌∷◌, Option, None, Some, refl, sym, ap, ◌∙◌, subst}
-use Rattle.std.specs.Prelude.{◌⊎◌}
-use Rattle.std.specs.List.{Contains}
-use Rattle.mm_digest.specs.declared.variant.Variant.{Variant}
-use Rattle.mm_digest.specs.declared.variant.Variant.TheVariants.{Basic, Opt}
-use Rattle.mm_digest.specs.Messages.{start_message}
-use Rattle.mm_module.specs.Batch.{Batch, One}
-use Rattle.mm_module.specs.Meaning.{Meaning}
-use Rattle.mm_seal.specs.Snapshot.{Content}
-use Rattle.mm_model.specs.Instance.{Instance}
-use Rattle.mm_model.specs.InstanceWords.{basic, opt}
-use Rattle.mm_model.specs.History.{History, Move, Commit, Foreign, Placed, Reset, Close, Power, moved, total_of}
-use Rattle.mm_model.specs.Places.{Names}
-use Rattle.mm_model.specs.Standing.{IsGenuine}
-use Rattle.mm_model.proofs.Named.{basic_names, opt_names}
-use Rattle.mm_call.specs.Courses.{commits}
-use Rattle.mm_call.specs.Standing.{instance_by}
-use Rattle.mm_callers.proofs.Calls.{one_content}
-use Rattle.mm_callers.specs.Basic.{EndsWith}
-use Rattle.mm_store.specs.Pending.{Pending}
-use Rattle.mm_store.specs.Slots.{Slots, slot_read}
-use Rattle.mm_host.specs.AnySlots.{first_offer}
-use Rattle.mm_host.specs.Fitting.{offer_slot, Holds, FitsBy}
-use Rattle.mm_host.specs.Init.{instance_from}
-use Rattle.mm_host.specs.Begins.{first_on, first_slots, IsFirstStore}
-use Rattle.mm_host.specs.Recovery.{IsAskedFor}
+use Rattle.mm_host.proofs.Below.{◌≡◌, ℕ, ◌+◌, false, List, [], ◌∷◌, Option, None, Some, refl, sym, ap, ◌∙◌, subst, ◌⊎◌, Contains, Variant}
+use Rattle.mm_host.proofs.Below.{Basic, Opt, start_message, Batch, One, Meaning, Content, Instance, basic, opt, History, Move, Commit}
+use Rattle.mm_host.proofs.Below.{Foreign, Placed, Reset, Close, Power, moved, total_of, Names, IsGenuine, basic_names, opt_names, commits}
+use Rattle.mm_host.proofs.Below.{instance_by, one_content, EndsWith, Pending, Slots, slot_read, first_offer, offer_slot, Holds, FitsBy}
+use Rattle.mm_host.proofs.Below.{instance_from, first_on, first_slots, IsFirstStore, IsAskedFor}
 use Rattle.mm_host.specs.SlotLaws.{FitsWith, BasicKeepsFitting, OptKeepsFitting, FittingAreGenuine, BasicStaysGenuine, OptStaysGenuine, FirstStartsCanGoOn}
 
 same_batches : (i : Instance) (y : History) (m : Move) → commits (m ∷ []) ≡ false → (moved i y m).batches ≡ y.batches

@@ -1,3 +1,5 @@
+pub mod Above
+mod Below
 mod Askable
 mod RefusalTold
 mod Blaming
@@ -10,37 +12,11 @@ mod First
 mod SettingUp
 mod OptMoves
 mod BothRecovering
-mod Leading
-mod Unspoiled
 mod Recording
-mod Turning
-mod Lining
-mod Beginning
-mod SessionBlaming
-mod Putting
-mod Machining
-mod LineStep
-mod Ending
-mod ReadLines
+mod Issuing
 mod CountingWrites
 mod CameWriting
-mod BasicLeading
-mod OptStarting
-mod OptLeading
 mod Finding
-mod Trying
-mod AmongLines
-mod OverLines
-mod FirstAnswer
-mod SessionBegins
-mod SessionEnds
-mod SessionRuns
-mod SparingLines
 mod Keeping
 mod CellWriting
 mod OneCall
-mod SessionWriting
-mod CallsMade
-mod InTurn
-mod RunningOnce
-pub mod Looking

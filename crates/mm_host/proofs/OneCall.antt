@@ -1,48 +1,23 @@
 -- One call of either variant promises what the cores' whole calls do.
-use Rattle.std.proofs.Common.{◌≡◌, ◌≢◌, ℕ, ◌+◌, Bool, true, false, List, length, None, Result, Ok, Err, inl, inr, refl, sym, ap, ◌∙◌, subst}
-use Rattle.std.specs.Prelude.{IfOk, nat_le}
-use Rattle.std.specs.Str.{bytes_eq}
-use Rattle.mm_base.specs.Limits.{last_position}
-use Rattle.mm_digest.specs.declared.variant.Variant.{Variant}
-use Rattle.mm_digest.specs.declared.variant.Variant.TheVariants.{Basic, Opt}
-use Rattle.mm_platform.specs.declared.fault.StepFault.{StepFault}
-use Rattle.mm_platform.specs.Standing.{Standing}
-use Rattle.mm_module.specs.Meaning.{Meaning, IsLawful}
-use Rattle.mm_module.specs.Batch.{Batch, One, size_of}
+use Rattle.mm_host.proofs.Below.{◌≡◌, ◌≢◌, ℕ, ◌+◌, Bool, true, false, List, length, None, Result, Ok, Err, inl, inr, refl, sym, ap, ◌∙◌}
+use Rattle.mm_host.proofs.Below.{subst, nat_le, bytes_eq, last_position, Variant, Basic, Opt, Standing, Meaning, IsLawful, Batch, One}
+use Rattle.mm_host.proofs.Below.{size_of, tag_of, IsFit, is_long, Answer, BatchAnswer, Refusal, Long, Verdict, Ended, Answered, Refused}
+use Rattle.mm_host.proofs.Below.{Broken, CallsOn, result_of, Blames, whole, whole_in, fault_in, OrMemory, examined, weighed, EndsTo, Asks}
+use Rattle.mm_host.proofs.Below.{Given, steps_give, refused_result, acts_for, answer_in, basic_call, StepsBy, AskedIn, IsCall}
+use Rattle.std.specs.Prelude.{IfOk}
 use Rattle.mm_seal.specs.declared.cell.CellFault.TheVariants as cell_fault
 use Rattle.mm_seal.specs.declared.snapshot.PartsFault.TheVariants.{Form, Kind}
-use Rattle.mm_seal.specs.Snapshot.{tag_of}
-use Rattle.mm_model.specs.Fit.{IsFit}
-use Rattle.mm_model.specs.Long.{is_long}
-use Rattle.mm_model.specs.declared.answer.Answer.{Answer}
-use Rattle.mm_model.specs.declared.answer.BatchAnswer.{BatchAnswer}
-use Rattle.mm_model.specs.declared.refusal.Refusal.{Refusal}
-use Rattle.mm_model.specs.declared.refusal.Refusal.TheVariants.{Long}
-use Rattle.mm_model.specs.declared.verdict.Verdict.{Verdict}
 use Rattle.mm_model.specs.declared.verdict.Verdict.TheVariants.{Fresh, Again, Lost, Stale}
-use Rattle.mm_call.specs.declared.ended.Ended.{Ended}
-use Rattle.mm_call.specs.CallsOn.{CallsOn}
-use Rattle.mm_call.specs.Ended.{result_of}
-use Rattle.mm_call.specs.Leaving.{Blames, whole, whole_in}
-use Rattle.mm_call.specs.Refusals.{fault_in, handed_on, OrMemory}
-use Rattle.mm_call.specs.Order.{examined}
-use Rattle.mm_call.specs.OrderWords.{weighed}
 use Rattle.mm_basic.specs.declared.found.Found.{Found}
 use Rattle.mm_basic.specs.Seen.{Seen, NoCell, OtherCell, NoOffer, Both}
 use Rattle.mm_basic.specs.Order.{verdict_of}
 use Rattle.mm_basic.specs.Answers.{found_from, found_in, committed_cell, answer_of}
 use Rattle.mm_basic.specs.Steps.{Reads}
-use Rattle.mm_basic.specs.Asks.{Ends, Asks}
-use Rattle.mm_basic.proofs.Ending as basic_ending
-use Rattle.mm_basic.proofs.Asking as basic_asking
-use Rattle.mm_basic.proofs.Asked as basic_asked
+use Rattle.mm_basic.proofs.Above as in_basic
 use Rattle.mm_opt.specs.declared.stage.Stage.TheVariants.{Begun}
-use Rattle.mm_opt.specs.Asks.{StepsBy}
-use Rattle.mm_opt.proofs.Finishing as opt_finishing
-use Rattle.mm_opt.proofs.Asked as opt_asked
+use Rattle.mm_opt.proofs.Above as in_opt
 use Rattle.mm_flight.specs.declared.ask.AskCall.{AskCall}
 use Rattle.mm_flight.specs.Asks.{begun, AskFinishes, FinishedAsk}
-use Rattle.mm_host.specs.Asking.{AskedIn, IsCall}
 use Rattle.mm_host.proofs.CellWriting.{basic_writes, opt_writes}
 
 asked_begun : (variant : Variant) (meaning : Meaning) → IsLawful meaning
@@ -51,10 +26,10 @@ asked_begun : (variant : Variant) (meaning : Meaning) → IsLawful meaning
     → Blames (fault_in result) old.faults new.faults → result ≡ result_of ended
     → AskedIn variant meaning old new offer b result
 asked_begun Basic meaning lawful old new offer b ended result short f on blames is =
-    basic_asked.asked meaning lawful old new offer b result (basic_ending.calls_finished meaning None old new offer b ended result refl
+    in_basic.asked meaning lawful old new offer b result (in_basic.calls_finished meaning None old new offer b ended result refl
     short f is) (λ _. on)
 asked_begun Opt meaning lawful old new offer b ended result short f on blames is =
-    opt_asked.asked meaning lawful old new offer b result (opt_finishing.calls_finished Begun meaning old new offer b ended result refl
+    in_opt.asked meaning lawful old new offer b result (in_opt.calls_finished Begun meaning old new offer b ended result refl
     short f is) blames
 
 pub asked_in : (variant : Variant) (meaning : Meaning) → IsLawful meaning
@@ -71,8 +46,8 @@ asked_in variant meaning lawful old new offer b call ended result short first f 
 pub one_output : (variant : Variant) (meaning : Meaning) (old new : Standing) (offer request : List ℕ)
     (result : Result BatchAnswer Refusal) → AskedIn variant meaning old new offer (One request) result
     → IfOk result (λ answer. length answer.outputs ≡ 1)
-one_output Basic meaning old new offer request result a = basic_asking.one_output request result a.fits
-one_output Opt meaning old new offer request result a = basic_asking.one_output request result a.fits
+one_output Basic meaning old new offer request result a = in_basic.one_output request result a.fits
+one_output Opt meaning old new offer request result a = in_basic.one_output request result a.fits
 
 faults_of : (result : Result Answer Refusal) (old new : Standing) → Blames (fault_in (whole_in result)) old.faults new.faults
     → Blames (fault_in result) old.faults new.faults
@@ -124,23 +99,26 @@ reads_short meaning old new offer b found r e =
     let f = r.finds (ap (λ (x : Result Found Refusal). fault_in x) e) in
     or_short (found_in meaning f.finds.seen b) found (found_short meaning f.finds.seen b) f.finds.found_is e
 
-handed_short : (written : Result BatchAnswer StepFault) → handed_on written ≢ Err Long
-handed_short (Ok answer) e = cc
-handed_short (Err fault) e = cc
+given_short : (ended : Ended) (answer : BatchAnswer) → Given answer ended → result_of ended ≢ Err Long
+given_short (Answered it) answer g e = cc
+given_short (Refused why) answer g e = g
+given_short (Broken fault position) answer g e = cc
 
 err_same : (result : Result BatchAnswer Refusal) (why : Refusal) → result ≡ Err why → result ≡ Err Long → why ≡ Long
 err_same result why is e = cc
 
-ends_short : (found : Result Found Refusal) (old new : Standing) (result : Result BatchAnswer Refusal) → found ≢ Err Long
-    → Ends found old new result → result ≢ Err Long
-ends_short (Err why) old new result never ends e =
-    let is = err_same result why ends.1 e in never (ap (λ (w : Refusal). Err w) is)
-ends_short (Ok found) old new result never ends e = handed_short ends.written (sym ends.gives ∙ e)
+ends_short : (found : Result Found Refusal) (old new : Standing) (ended : Ended) → found ≢ Err Long
+    → EndsTo basic_call found old new ended → result_of ended ≢ Err Long
+ends_short (Err why) old new ended never ends e =
+    let is = err_same (result_of ended) why (ap result_of ends.1 ∙ refused_result why) e in never (ap (λ (w : Refusal). Err w) is)
+ends_short (Ok found) old new ended never ends e =
+    given_short ended (answer_in found) (steps_give (acts_for found) (answer_in found) old new ended ends) e
 
 basic_short : (meaning : Meaning) (old new : Standing) (offer : List ℕ) (b : Batch) (result : Result BatchAnswer Refusal)
-    → Asks meaning old new offer b result → result ≢ Err Long
-basic_short meaning old new offer b result a = ends_short a.found a.middle new result
-    (reads_short meaning old a.middle offer b a.found a.reads) a.ends
+    → Asks basic_call meaning old new offer b result → result ≢ Err Long
+basic_short meaning old new offer b result a e =
+    let k = a.asks in
+    ends_short k.found k.middle new a.ended (reads_short meaning old k.middle offer b k.found k.reads) k.ends (sym a.gives ∙ e)
 
 opt_short : (old new : Standing) (result : Result BatchAnswer Refusal) → StepsBy result old new → result ≢ Err Long
 opt_short old new result s e = subst (λ (r : Result BatchAnswer Refusal). StepsBy r old new) e s

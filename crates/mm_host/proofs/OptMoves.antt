@@ -1,36 +1,12 @@
 -- The moves of a call of Opt may be made, so what a snapshot names is named after them too.
-use Rattle.std.proofs.Common.{ℕ, ◌≡◌, ◌≢◌, Bool, true, false, List, [], ◌∷◌, ◌++◌, map, Result, Ok, refl, sym, ap, ◌∙◌, subst}
-use Rattle.mm_digest.specs.declared.variant.Variant.TheVariants.{Opt}
-use Rattle.mm_module.specs.Meaning.{Meaning}
-use Rattle.mm_module.specs.Batch.{Batch}
-use Rattle.mm_seal.specs.Snapshot.{Content}
-use Rattle.mm_model.specs.Chains.{guard}
-use Rattle.mm_model.specs.History.{Entry, Own, Value, History, Move, Commit, Foreign, Placed, Reset, Close, Power, committed, joined, moved, renamed}
-use Rattle.mm_model.specs.Instance.{Instance}
-use Rattle.mm_model.specs.InstanceWords.{opt}
-use Rattle.mm_model.specs.Life.{Lost as LostLife, are_own, has_value, is_empty, life_by, life_of}
-use Rattle.mm_model.specs.Moves.{IsAllowed}
-use Rattle.mm_model.specs.Places.{Names}
-use Rattle.mm_model.specs.Sound.{IsSound}
-use Rattle.mm_model.specs.Steps.{Step, Reads, ask_steps}
-use Rattle.mm_model.specs.declared.answer.BatchAnswer.{BatchAnswer}
-use Rattle.mm_model.specs.declared.refusal.Refusal.{Refusal}
-use Rattle.mm_model.proofs.Moves.{sound_moved}
-use Rattle.mm_model.proofs.Named.{opt_names}
-use Rattle.mm_call.specs.Called.{called, given_for}
-use Rattle.mm_call.specs.Courses.{Course, Walked, walk, closes}
-use Rattle.mm_call.specs.Found.{Found, found_at}
-use Rattle.mm_call.specs.FoundWords.{found_unless_wanting, is_fresh}
-use Rattle.mm_call.specs.Levels.{by_lists, all_made}
-use Rattle.mm_call.proofs.BasicLaw.{unlacked}
-use Rattle.mm_call.proofs.OptFinding.{live_found}
-use Rattle.mm_call.proofs.OptLaw.{before}
-use Rattle.mm_call.specs.WalkLaws.{opt_commits, changing, asks}
+use Rattle.mm_host.proofs.Below.{ℕ, ◌≡◌, ◌≢◌, Bool, true, false, List, [], ◌∷◌, ◌++◌, map, Result, Ok, refl, sym, ap, ◌∙◌, subst, Opt}
+use Rattle.mm_host.proofs.Below.{Meaning, Batch, Content, guard, Entry, Own, Value, History, Move, Commit, Foreign, Placed, Reset, Close}
+use Rattle.mm_host.proofs.Below.{Power, committed, joined, moved, renamed, Instance, opt, LostLife, are_own, has_value, is_empty, life_by}
+use Rattle.mm_host.proofs.Below.{life_of, IsAllowed, Names, IsSound, Step, Reads, ask_steps, BatchAnswer, Refusal, sound_moved, opt_names}
+use Rattle.mm_host.proofs.Below.{called, given_for, Course, Walked, walk, closes, Found, found_at, found_unless_wanting, is_fresh, by_lists}
+use Rattle.mm_host.proofs.Below.{all_made, unlacked, live_found, before, opt_commits, changing, asks, AllMay, ask_may, alike_of}
+use Rattle.mm_host.proofs.Below.{answered_only, Alike}
 use Rattle.mm_call.specs.AlongLaws.{GoesAlong, EachMove, walk_along, closes_first, closed_kept, opt_closes}
-use Rattle.mm_call.proofs.OptMay.{AllMay, ask_may}
-use Rattle.mm_callers.proofs.OptLeaves.{alike_of}
-use Rattle.mm_callers.proofs.Calls.{answered_only}
-use Rattle.mm_callers.proofs.OptAlike.{Alike}
 
 names_made : (meaning : Meaning) (key barrier : List ℕ) (moves : List Move) (y : History) (content : Content) → IsSound y
     → AllMay (opt meaning key barrier) y moves → Names (opt meaning key barrier) y content

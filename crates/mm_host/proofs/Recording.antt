@@ -1,9 +1,7 @@
 -- The bytes of a record fit a slot.
-use Rattle.std.proofs.Common.{ℕ, ◌≡◌, ◌+◌, ◌≤◌, List, length, ap, arith, length-append}
-use Rattle.sha2.proofs.Facts256.{length-sha256}
-use Rattle.mm_base.specs.Limits.{longest_request}
-use Rattle.mm_store.specs.Pending.{Pending, pending_front, pending_spelling}
-use Rattle.mm_store.proofs.PendingLaws.{length-pending_front}
+use Rattle.mm_host.proofs.Below.{ℕ, ◌≡◌, ◌+◌, ◌≤◌, List, length, ap, arith, length-append, length-sha256, longest_request, Pending}
+use Rattle.mm_host.proofs.Below.{pending_front, length-pending_front}
+use Rattle.mm_store.specs.Pending.{pending_spelling}
 
 pub length-pending_spelling : (p : Pending) → length (pending_spelling p) ≡ 48 + length p.request
 unfolding pending_spelling

@@ -1,47 +1,18 @@
 -- Every exit of a recovery leaves slots that fit the history.
-use Rattle.std.proofs.Common.{◌≡◌, ◌≢◌, ℕ, ◌-◌, ◌%◌, true, List, Option, None, Some, Result, Ok, Err, refl, sym, ap, ◌∙◌, subst, inl, inr, ◌≤◌, length, take, IfOk, arith}
-use Rattle.std.specs.Prelude.{◌⊎◌, IsSome}
-use Rattle.mm_digest.specs.declared.variant.Variant.{Variant}
-use Rattle.mm_platform.specs.Standing.{Standing}
-use Rattle.mm_module.specs.Meaning.{IsLawful}
-use Rattle.mm_module.specs.Batch.{Batch, One}
-use Rattle.mm_seal.specs.Snapshot.{Content}
-use Rattle.mm_model.specs.Instance.{Instance}
-use Rattle.mm_model.specs.History.{History, total_of}
-use Rattle.mm_model.specs.Places.{Names}
-use Rattle.mm_model.specs.Standing.{StandsFor, IsRight}
-use Rattle.mm_model.specs.declared.answer.Answer.{Answer}
-use Rattle.mm_model.specs.declared.answer.BatchAnswer.{BatchAnswer}
-use Rattle.mm_model.specs.Life.{Lost as LostLife, life_of}
-use Rattle.mm_model.specs.declared.refusal.Refusal.{Refusal}
-use Rattle.mm_call.specs.Asked.{IsWithin}
-use Rattle.mm_call.specs.Leaving.{whole, whole_in}
-use Rattle.mm_call.specs.Premises.{AreAsked}
-use Rattle.mm_call.specs.Refusals.{fault_of}
-use Rattle.mm_platform.specs.declared.fault.StepFault.{StepFault}
-use Rattle.mm_callers.proofs.Calls.{one_content, Comes}
-use Rattle.mm_store.specs.declared.fault.StoreFault.{StoreFault}
+use Rattle.mm_host.proofs.Below.{◌≡◌, ◌≢◌, ℕ, ◌-◌, ◌%◌, true, List, Option, None, Some, Result, Ok, Err, refl, sym, ap, ◌∙◌, subst, inl}
+use Rattle.mm_host.proofs.Below.{inr, ◌≤◌, length, take, IfOk, arith, ◌⊎◌, IsSome, Variant, Standing, IsLawful, Batch, One, Content}
+use Rattle.mm_host.proofs.Below.{Instance, History, total_of, Names, StandsFor, IsRight, Answer, BatchAnswer, LostLife, life_of, Refusal}
+use Rattle.mm_host.proofs.Below.{IsWithin, whole, whole_in, AreAsked, fault_of, StepFault, one_content, Comes, StoreFault, ReadsSlot}
+use Rattle.mm_host.proofs.Below.{WritesSlot, putting, StoreStanding, Pending, Slots, longest_slot, slot_read, with_slot, longest_slot-is}
+use Rattle.mm_host.proofs.Below.{slot_in-with_slot, take_all, last_position, IsFit, HostFault, Resumed, Start, store_fault_as}
+use Rattle.mm_host.proofs.Below.{refusal_fault, IsWaiting, started, kept_as, AfterAsk, AfterOffer, AfterFinding, Resumes, IsCall}
+use Rattle.mm_host.proofs.Below.{offer_slot, Holds, IsAwaited, FitsBy, IsAskedFor, CanRecover, IsGrown, AnswersAt, ComesTo}
+use Rattle.mm_host.proofs.Below.{MayHaveCommitted, RecoversTo}
 use Rattle.mm_store.specs.declared.fault.StoreFault.TheVariants as fault
-use Rattle.mm_store.specs.Calls.{ReadsSlot, WritesSlot, putting}
-use Rattle.mm_store.specs.Kept.{StoreStanding}
-use Rattle.mm_store.specs.Pending.{Pending}
-use Rattle.mm_store.specs.Slots.{Slots, longest_slot, slot_read, with_slot}
-use Rattle.mm_store.proofs.SlotLaws.{longest_slot-is, slot_in-with_slot}
-use Rattle.std.proofs.lemmas.List.{take_all}
-use Rattle.mm_base.specs.Limits.{last_position}
-use Rattle.mm_model.specs.Fit.{IsFit}
-use Rattle.mm_host.specs.Saying.{position_at, snapshot_at}
-use Rattle.mm_host.specs.declared.fault.HostFault.{HostFault}
-use Rattle.mm_host.specs.declared.resuming.Resumed.{Resumed}
-use Rattle.mm_host.specs.declared.resuming.Resumed.TheVariants.{Start, Answered}
-use Rattle.mm_host.specs.Faults.{store_fault_as, refusal_fault}
-use Rattle.mm_host.specs.Waiting.{IsWaiting}
-use Rattle.mm_host.specs.Resumes.{started, kept_as, AfterAsk, AfterOffer, AfterFinding, Resumes}
-use Rattle.mm_host.specs.Asking.{IsCall}
-use Rattle.mm_host.specs.Fitting.{offer_slot, Holds, IsAwaited, FitsBy}
-use Rattle.mm_host.specs.Recovery.{IsAskedFor, CanRecover, IsGrown, AnswersAt, ComesTo, MayHaveCommitted, RecoversTo}
+use Rattle.mm_host.specs.Last.{position_at, snapshot_at}
+use Rattle.mm_host.specs.declared.resuming.Resumed.TheVariants.{Answered}
 use Rattle.mm_host.proofs.Slots.{IsElsewhere, elsewhere_same, elsewhere_put}
-use Rattle.mm_host.proofs.Machining.{IsIssued, holds_issued}
+use Rattle.mm_host.proofs.Issuing.{IsIssued, holds_issued}
 use Rattle.mm_host.proofs.Refusing.{MayRefuse}
 use Rattle.mm_host.proofs.Awaited.{awaited_least, still_awaited, grows, answered_at}
 use Rattle.mm_host.proofs.Finding.{Saw, one_waiting, saw_two}

@@ -1,10 +1,7 @@
 -- A refusal is told as it is, but for want of memory.
-use Rattle.std.proofs.Common.{◌≡◌, ◌≢◌}
-use Rattle.mm_model.specs.declared.refusal.Refusal.{Refusal}
+use Rattle.mm_host.proofs.Below.{◌≢◌, Refusal, HostFault, refusal_fault}
 use Rattle.mm_model.specs.declared.refusal.Refusal.TheVariants as refusal
-use Rattle.mm_host.specs.declared.fault.HostFault.{HostFault}
 use Rattle.mm_host.specs.declared.fault.HostFault.TheVariants as host
-use Rattle.mm_host.specs.Faults.{refusal_fault}
 
 -- So what holds of want of memory, and of each other refusal as it is, holds of every refusal as it is told.
 pub by_refusal : (P : Refusal → HostFault → Type 0) → P refusal.Memory host.Memory

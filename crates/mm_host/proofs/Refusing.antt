@@ -1,47 +1,18 @@
 -- Why a call for the request that waits is refused.
-use Rattle.std.proofs.Common.{◌≡◌, ℕ, ◌+◌, ◌-◌, ◌≤◌, Bool, true, false, ◌&&◌, List, [], ◌∷◌, ◌++◌, map, Option, None, Some, Result, Ok, Err, refl, sym, ap, ◌∙◌, subst, inl, inr, arith}
-use Rattle.std.specs.Prelude.{◌⊎◌, nat_eq, nat_le, if◌then◌else◌}
-use Rattle.std.specs.Str.{bytes_eq}
+use Rattle.mm_host.proofs.Below.{◌≡◌, ℕ, ◌+◌, ◌-◌, ◌≤◌, Bool, true, false, ◌&&◌, List, [], ◌∷◌, ◌++◌, map, Option, None, Some, Result, Ok}
+use Rattle.mm_host.proofs.Below.{Err, refl, sym, ap, ◌∙◌, subst, inl, inr, arith, ◌⊎◌, nat_eq, nat_le, if◌then◌else◌, bytes_eq, nat_tests}
+use Rattle.mm_host.proofs.Below.{last_position, Basic, Opt, Batch, One, Meaning, StepFault, Content, Snapshot, tag_of, offered_of}
+use Rattle.mm_host.proofs.Below.{PartsFault, History, Move, Foreign, total_of, Instance, basic, opt, Life, Live, Spoiled, LostLife, life_of}
+use Rattle.mm_host.proofs.Below.{is_lost, IsRight, Step, ask_steps, Refusal, Memory, Device, Lost, Stale, Verdict, before_the_last}
+use Rattle.mm_host.proofs.Below.{ended_by, given_for, called, Course, Fate, Walked, walk, Found, found_by_verdict, found_at, found_with}
+use Rattle.mm_host.proofs.Below.{found_unless_wanting, is_fresh, by_lists, all_made, admitted, examined, weighed, before, sight_is, path_is}
+use Rattle.mm_host.proofs.Below.{same_batches, taking, foreign_made, Commits, nothing, batch, asks, basic_commits, opt_commits, fault_of}
+use Rattle.mm_host.proofs.Below.{EndsWith, Pending, ReadsPending, IsAwaited, later, IsWaiting, IsRefusedAs}
 use Rattle.std.proofs.lemmas.Bool.{le-leb}
-use Rattle.std.proofs.lemmas.Bool.Decides.{nat_tests}
 use Rattle.std.proofs.lemmas.Slice.Eq.{bytes_eq-Decides}
-use Rattle.mm_base.specs.Limits.{last_position}
-use Rattle.mm_digest.specs.declared.variant.Variant.TheVariants.{Basic, Opt}
-use Rattle.mm_module.specs.Batch.{Batch, One}
-use Rattle.mm_module.specs.Meaning.{Meaning}
-use Rattle.mm_platform.specs.declared.fault.StepFault.{StepFault}
-use Rattle.mm_seal.specs.Snapshot.{Content, Snapshot, tag_of, offered_of}
 use Rattle.mm_seal.specs.Parts.{parts_of}
-use Rattle.mm_seal.specs.declared.snapshot.PartsFault.{PartsFault}
 use Rattle.mm_seal.specs.SealLaws.{sealed_parts}
-use Rattle.mm_model.specs.History.{History, Move, Foreign, total_of}
-use Rattle.mm_model.specs.Instance.{Instance}
-use Rattle.mm_model.specs.InstanceWords.{basic, opt}
 use Rattle.mm_model.specs.Judge.{is_last, judged, judge}
-use Rattle.mm_model.specs.Life.{Life, Live, Spoiled, Lost as LostLife, life_of, is_lost}
-use Rattle.mm_model.specs.Standing.{IsRight}
-use Rattle.mm_model.specs.Steps.{Step, ask_steps}
-use Rattle.mm_model.specs.declared.refusal.Refusal.{Refusal}
-use Rattle.mm_model.specs.declared.refusal.Refusal.TheVariants.{Memory, Device, Lost, Stale}
-use Rattle.mm_model.specs.declared.verdict.Verdict.{Verdict}
-use Rattle.mm_model.specs.BatchLaws.{before_the_last}
-use Rattle.mm_call.specs.Called.{ended_by, given_for, called}
-use Rattle.mm_call.specs.Courses.{Course, Fate, Walked, walk}
-use Rattle.mm_call.specs.Found.{Found, found_by_verdict, found_at}
-use Rattle.mm_call.specs.FoundWords.{found_with, found_unless_wanting, is_fresh}
-use Rattle.mm_call.specs.Levels.{by_lists, all_made}
-use Rattle.mm_call.specs.Order.{admitted, examined}
-use Rattle.mm_call.specs.OrderWords.{weighed}
-use Rattle.mm_call.proofs.OptLaw.{before, sight_is}
-use Rattle.mm_call.proofs.OptWalks.{path_is}
-use Rattle.mm_call.specs.MoveLaws.{same_batches}
-use Rattle.mm_call.specs.WalkLaws.{taking, foreign_made, Commits, nothing, batch, asks, basic_commits, opt_commits}
-use Rattle.mm_call.specs.Refusals.{fault_of}
-use Rattle.mm_callers.specs.Basic.{EndsWith}
-use Rattle.mm_store.specs.Pending.{Pending, ReadsPending}
-use Rattle.mm_host.specs.Fitting.{IsAwaited}
-use Rattle.mm_host.specs.Waiting.{later, IsWaiting}
-use Rattle.mm_host.specs.Recovery.{IsRefusedAs}
 use Rattle.mm_host.proofs.Awaited.{awaited_least, one_more}
 
 -- for want of memory, or as the history's life says

@@ -1,37 +1,21 @@
 -- What each exit of a first start leaves, tells and counts.
-use Rattle.std.proofs.Common.{◌≡◌, ℕ, Bool, true, false, List, [], ◌∷◌, length, map, take, drop, Option, None, Some, Result, Ok, Err, refl, sym, ap, ◌∙◌, subst, inl, inr, arith, length-take, length-drop}
-use Rattle.std.specs.Option.{option_map}
+use Rattle.mm_host.proofs.Below.{◌≡◌, ℕ, Bool, true, false, List, [], ◌∷◌, length, map, take, drop, Option, None, Some, Result, Ok, Err}
+use Rattle.mm_host.proofs.Below.{refl, sym, ap, ◌∙◌, subst, inl, inr, arith, length-take, length-drop, option_map, Consumes, Rose, Variant}
+use Rattle.mm_host.proofs.Below.{Basic, Opt, length-zero_bytes, length-start_of, Meaning, IsLawful, blank_cell, cell_spelling, StepFault}
+use Rattle.mm_host.proofs.Below.{Item, Standing, item_values, folded_of, WriteCell, EndsBy, cell_after, register_of, Value, first_history}
+use Rattle.mm_host.proofs.Below.{StandsFor, cell_of, issued_bytes, instance_by, anchor-nil, summary-nil, StoreFault, StoreStanding, Slots}
+use Rattle.mm_host.proofs.Below.{with_slot, CountsFailures, WritesSlot, putting, InitFault, Devices, LooksAtCell, TakesBytes, instance_from}
+use Rattle.mm_host.proofs.Below.{Put, first_puts, AfterPut, PutsAll, written_as, AfterPuts, SetsUp, AfterTaking, AfterLooking, Inits}
+use Rattle.mm_host.proofs.Below.{first_on, ShowsValues, Begins, Leaves, TellsUse, BlamesDevice}
 use Rattle.std.specs.Result.{result_err}
-use Rattle.std.specs.Io.KnownBytes.{Consumes}
 use Rattle.mm_base.specs.declared.fault.Failed.{Failed}
-use Rattle.mm_base.specs.Faults.{Rose}
-use Rattle.mm_digest.specs.declared.variant.Variant.{Variant}
-use Rattle.mm_digest.specs.declared.variant.Variant.TheVariants.{Basic, Opt}
-use Rattle.mm_digest.specs.LengthLaws.{length-zero_bytes, length-start_of}
-use Rattle.mm_module.specs.Meaning.{Meaning, IsLawful}
-use Rattle.mm_seal.specs.Cell.{blank_cell, cell_spelling}
-use Rattle.mm_platform.specs.declared.fault.StepFault.{StepFault}
 use Rattle.mm_platform.specs.declared.fault.StepFault.TheVariants as step
-use Rattle.mm_platform.specs.Standing.{Item, Standing, item_values, register_after as folded_of}
-use Rattle.mm_platform.specs.Steps.{WriteCell, EndsBy, cell_after}
-use Rattle.mm_model.specs.Chains.{register_of}
-use Rattle.mm_model.specs.History.{Value, first_history}
 use Rattle.mm_model.specs.HistoryWords.{values_of as entry_values}
-use Rattle.mm_model.specs.Standing.{StandsFor, cell_of, issued_bytes}
 use Rattle.mm_model.specs.DigestLaws.{register_folds}
-use Rattle.mm_call.specs.Standing.{instance_by}
-use Rattle.mm_call.specs.MoveLaws.{anchor-nil, summary-nil}
-use Rattle.mm_store.specs.declared.fault.StoreFault.{StoreFault}
 use Rattle.mm_store.specs.declared.fault.StoreFault.TheVariants as fault
-use Rattle.mm_store.specs.Kept.{StoreStanding}
-use Rattle.mm_store.specs.Slots.{Slots, with_slot}
 use Rattle.mm_store.specs.Unsynced.{Unsynced, with_unsynced, marking}
-use Rattle.mm_store.specs.Calls.{CountsFailures, WritesSlot, putting}
-use Rattle.mm_host.specs.declared.init_fault.InitFault.{InitFault}
 use Rattle.mm_host.specs.declared.init_fault.InitFault.TheVariants.{Memory, Platform, Already, ReadFault, Short}
 use Rattle.mm_host.specs.InitFaults.{store_failed_as}
-use Rattle.mm_host.specs.Init.{Devices, LooksAtCell, TakesBytes, instance_from, Put, first_puts, AfterPut, PutsAll, written_as, AfterPuts, SetsUp, AfterTaking, AfterLooking, Inits}
-use Rattle.mm_host.specs.Begins.{first_on, ShowsValues, Begins, Leaves, TellsUse, BlamesDevice}
 use Rattle.mm_host.proofs.First.{is_first}
 
 -- All of an exit.

@@ -1,9 +1,6 @@
 -- A write of a snapshot leaves the slots that a recovery reads.
-use Rattle.std.proofs.Common.{◌≡◌, ℕ, ◌-◌, ◌%◌, ◌≤◌, List, refl, sym, subst, arith, inl, inr}
-use Rattle.std.specs.Prelude.{◌⊎◌}
-use Rattle.mm_store.specs.Pending.{Pending}
-use Rattle.mm_store.specs.Slots.{Slots, with_slot, slot_read}
-use Rattle.mm_host.specs.Fitting.{offer_slot}
+use Rattle.mm_host.proofs.Below.{◌≡◌, ℕ, ◌-◌, ◌%◌, ◌≤◌, List, refl, sym, subst, arith, inl, inr, ◌⊎◌, Pending, Slots, with_slot, slot_read}
+use Rattle.mm_host.proofs.Below.{offer_slot}
 
 -- the slots of records, and that of the offer, are as before
 pub record IsElsewhere (slots other : Slots) (p : Pending) : Type 0 where

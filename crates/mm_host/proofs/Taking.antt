@@ -1,10 +1,7 @@
 -- Bytes that several calls take.
-use Rattle.std.proofs.Common.{◌≡◌, ℕ, ◌+◌, ◌<◌, ◌≤◌, List, ◌++◌, length, take, drop, Option, Ok, sym, ap, ◌∙◌, subst, arith}
-use Rattle.std.proofs.Math.Seq.{take-add}
+use Rattle.mm_host.proofs.Below.{◌≡◌, ℕ, ◌+◌, ◌<◌, ◌≤◌, List, ◌++◌, length, take, drop, Option, Ok, sym, ap, ◌∙◌, subst, arith, take-add}
+use Rattle.mm_host.proofs.Below.{Consumes, IsAtEnd, Consumes-both, TakesBytes}
 use Rattle.std.proofs.lemmas.List.{length-take}
-use Rattle.std.specs.Io.KnownBytes.{Consumes, IsAtEnd}
-use Rattle.mm_base.proofs.StreamLemmas.{Consumes-both}
-use Rattle.mm_host.specs.Init.{TakesBytes}
 
 pub consumes_more : (old middle new : Option (List ℕ)) (xs ys : List ℕ) (got count : ℕ) → take got ys ≡ take got xs
     → Consumes old middle (take got xs) → Consumes middle new (take count (drop got ys)) → Consumes old new (take (got + count) ys)

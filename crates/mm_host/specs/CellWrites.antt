@@ -11,6 +11,10 @@ use Rattle.mm_model.specs.declared.refusal.Refusal.{Refusal}
 use Rattle.mm_call.specs.Refusals.{fault_of}
 use Rattle.mm_call.specs.Standing.{counted_by}
 use Rattle.mm_opt.specs.Asks.{WritesAtMostOnce}
+use Rattle.mm_host.specs.declared.fault.HostFault.{HostFault}
+use Rattle.mm_host.specs.declared.fault.HostFault.TheVariants.{Memory, Store, Refused}
+use Rattle.mm_host.specs.declared.resuming.Resumed.{Resumed}
+use Rattle.mm_host.specs.declared.resuming.Resumed.TheVariants.{Start, Answered}
 
 -- The platform tells a cell with this flag, which says whether a segment is open.
 pub record TellsFlag (standing : Standing) (flag : Bool) : Type 0 where
@@ -77,3 +81,24 @@ pub record CallWrites (variant : Variant) (result : Result Answer Refusal)
   pub new : IsNewIn result requests
   pub writes : WritesFor variant requests before after
   pub leaves : LeavesOpen variant result requests before after
+
+-- whether what was answered last is new
+abbrev pub new_first : Resumed → ℕ
+new_first (Start first) = 0
+new_first (Answered answer) = new_by answer.again
+
+-- Among what waited and wasn't answered one request may be new, and come to its writing step: where
+-- memory was wanting, or the store or a device failed.
+abbrev pub IsNewOf : Result Resumed HostFault → ℕ → Type 0
+IsNewOf (Ok it) requests = requests ≡ new_first it
+IsNewOf (Err Memory) requests = requests ≤ 1
+IsNewOf (Err Store) requests = requests ≤ 1
+IsNewOf (Err (Refused why)) requests = IsNewAt (fault_of why) requests
+
+-- How often a recovery, or one more request, is to write the cell: for what was asked, where that
+-- is new.
+pub record RequestWrites (variant : Variant) (before after : Standing)
+    (result : Result Resumed HostFault) : Type 0 where
+  pub requests : ℕ
+  pub new : IsNewOf result requests
+  pub writes : WritesFor variant requests before after

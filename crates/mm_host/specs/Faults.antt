@@ -5,8 +5,6 @@ use Rattle.mm_store.specs.declared.fault.StoreFault.{StoreFault}
 use Rattle.mm_store.specs.declared.fault.StoreFault.TheVariants as fault
 use Rattle.mm_host.specs.declared.fault.HostFault.{HostFault}
 use Rattle.mm_host.specs.declared.fault.HostFault.TheVariants.{Memory, Store, Refused}
-use Rattle.mm_host.specs.declared.fault.SessionFault.{SessionFault}
-use Rattle.mm_host.specs.declared.fault.SessionFault.TheVariants as session
 
 abbrev pub store_fault_as : StoreFault → HostFault
 store_fault_as fault.Memory = Memory
@@ -26,9 +24,3 @@ refusal_fault refusal.State = Refused refusal.State
 refusal_fault refusal.Tag = Refused refusal.Tag
 refusal_fault refusal.Stale = Refused refusal.Stale
 refusal_fault refusal.Full = Refused refusal.Full
-
--- a session tells the faults of its calls as they are
-abbrev pub as_session_fault : HostFault → SessionFault
-as_session_fault Memory = session.Memory
-as_session_fault Store = session.Store
-as_session_fault (Refused why) = session.Refused why

@@ -6,7 +6,7 @@ use Rattle.mm_model.specs.Instance.{Instance}
 use Rattle.mm_model.specs.History.{History, total_of}
 use Rattle.mm_model.specs.Places.{Names}
 use Rattle.mm_model.specs.Standing.{IsRight}
-use Rattle.mm_callers.specs.Basic.{EndsWith}
+use Rattle.mm_call.specs.Coming.{EndsWith}
 use Rattle.mm_store.specs.Pending.{Pending}
 use Rattle.mm_store.specs.Slots.{Slots, slot_read}
 use Rattle.mm_host.specs.Waiting.{IsWaiting}
@@ -14,6 +14,11 @@ use Rattle.mm_host.specs.Waiting.{IsWaiting}
 -- the slot of the snapshot before the position of a request that waits
 abbrev pub offer_slot : Pending → ℕ
 offer_slot p = (p.position - 1) % 2
+
+-- the bytes that are offered first: for what waits those before its position; else the first slot
+abbrev pub first_offer : Slots → Option Pending → List ℕ
+first_offer slots None = slot_read slots 0
+first_offer slots (Some p) = slot_read slots (offer_slot p)
 
 -- These bytes are a right snapshot, and name this position of the history.
 pub record Holds (i : Instance) (y : History) (bytes : List ℕ) (position : ℕ) : Type 0 where

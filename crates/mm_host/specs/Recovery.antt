@@ -30,7 +30,7 @@ use Rattle.mm_host.specs.declared.fault.HostFault.TheVariants.{Memory, Store, Re
 use Rattle.mm_host.specs.declared.resuming.Resumed.{Resumed}
 use Rattle.mm_host.specs.declared.resuming.Resumed.TheVariants.{Start, Answered}
 use Rattle.mm_host.specs.Fitting.{offer_slot, FitsHistory, Holds}
-use Rattle.mm_host.specs.Saying.{position_at, snapshot_at}
+use Rattle.mm_host.specs.Last.{position_at, snapshot_at}
 
 -- What is asked for the request that waits: it is among those asked, and the messages of its offer
 -- are in the list.

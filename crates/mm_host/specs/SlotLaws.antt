@@ -15,8 +15,7 @@ use Rattle.mm_model.specs.Standing.{IsGenuine}
 use Rattle.mm_call.specs.Courses.{commits}
 use Rattle.mm_store.specs.Pending.{Pending}
 use Rattle.mm_store.specs.Slots.{Slots}
-use Rattle.mm_host.specs.AnySlots.{first_offer}
-use Rattle.mm_host.specs.Fitting.{FitsHistory}
+use Rattle.mm_host.specs.Fitting.{first_offer, FitsHistory}
 use Rattle.mm_host.specs.Init.{Devices, instance_from}
 use Rattle.mm_host.specs.Begins.{first_on, first_slots, ShowsValues, Begins}
 use Rattle.mm_host.specs.Recovery.{CanRecover}

@@ -8,8 +8,8 @@ ghost use Rattle.mm_host.specs.Waiting.{IsAskable};
 ghost use Rattle.mm_host.specs.Blame.{Blamed, IsNamed};
 ghost use Rattle.mm_host.specs.Recovery.{Recovers};
 ghost use Rattle.mm_host.specs.Resumes.{Starts, RepeatsPending, AsksAndKeeps, Keeps, Resumes};
-ghost use Rattle.mm_host.specs.Saying.{IsSized};
-ghost use Rattle.mm_host.specs.SessionWrites.{RecoveryWrites};
+ghost use Rattle.mm_host.specs.Last.{IsSized};
+ghost use Rattle.mm_host.specs.CellWrites.{RequestWrites};
 
 use crate::asking::ask;
 use crate::fault::HostFault;
@@ -33,7 +33,7 @@ pub enum Resumed {
 }
 
 impl Resumed {
-    ghost use Rattle.mm_host.specs.Saying.{position_at, snapshot_at};
+    ghost use Rattle.mm_host.specs.Last.{position_at, snapshot_at};
 
     /// The position of the last answer, and 0 at the start.
     pub fn position(&self) -> u64
@@ -74,7 +74,7 @@ pub fn resume<M: Module, P: Platform, T: Store>(
     ensures sized { IfOk result IsSized }
     ensures recovers { Recovers variant (M.meaning «module».now) (P.standing platform.old)
         (P.standing platform.new) (T.kept store.old) (T.kept store.new) result }
-    ensures writes { RecoveryWrites variant (P.standing platform.old) (P.standing platform.new)
+    ensures writes { RequestWrites variant (P.standing platform.old) (P.standing platform.new)
         result }
 {
     let hosted = Hosted {

@@ -1,5 +1,4 @@
-use Rattle.mm_module.specs.Batch.{One}
-use Rattle.mm_flight.proofs.Asking.{begun_may_ask}
+use Rattle.mm_host.proofs.Below.{One, begun_may_ask}
 use Rattle.mm_host.proofs.OneCall.{asked_in, one_output}
 use Rattle.mm_host.proofs.asking.call_one.Goals as goal
 

@@ -1,7 +1,4 @@
-use Rattle.std.proofs.Common.{◌≡◌, false, List, ℕ, sym, subst, ap, ◌∙◌}
-use Rattle.mm_module.specs.Batch.{One}
-use Rattle.mm_model.specs.Long.{is_long}
-use Rattle.mm_store.specs.Pending.{Pending}
+use Rattle.mm_host.proofs.Below.{◌≡◌, false, List, ℕ, sym, subst, ap, ◌∙◌, One, is_long, Pending}
 use Rattle.mm_host.proofs.Askable.{askable}
 use Rattle.mm_host.proofs.resuming.repeat.Goals as goal
 

@@ -1,6 +1,4 @@
-use Rattle.std.proofs.Common.{Err, List, ℕ, refl, ap, subst}
-use Rattle.mm_host.specs.Init.{PutsAll, first_puts}
-use Rattle.mm_host.specs.declared.init_fault.InitFault.{InitFault}
+use Rattle.mm_host.proofs.Below.{Err, List, ℕ, refl, ap, subst, PutsAll, first_puts, InitFault}
 use Rattle.mm_host.proofs.setup.set_up_both.Goals as goal
 
 pub returns-in-Err : goal.returns-in-Err

@@ -1,5 +1,4 @@
-use Rattle.std.proofs.Common.{◌≡◌, ◌≤◌, ◌-◌, length, take}
-use Rattle.std.specs.Io.KnownBytes.{Consumes}
+use Rattle.mm_host.proofs.Below.{◌≡◌, ◌≤◌, ◌-◌, length, take, Consumes}
 use Rattle.mm_host.proofs.setup.take_bytes.Given as goal
 
 abbrev pub invariant-takes : goal.invariant-takes

@@ -1,5 +1,4 @@
-use Rattle.std.proofs.Common.{List, ℕ, Ok, Some, ap, inl, inr, rules}
-use Rattle.std.specs.Option.{option_map}
+use Rattle.mm_host.proofs.Below.{List, ℕ, Ok, Some, ap, inl, inr, rules, option_map}
 use Rattle.mm_store.specs.Records.{pending_of}
 use Rattle.mm_host.proofs.waiting.take_later.Goals as goal
 

@@ -1,0 +1,9 @@
+pub mod Saying
+pub mod Serving
+pub mod Sessions
+pub mod Turns
+pub mod SessionBlame
+pub mod Continuing
+pub mod SessionLines
+pub mod SessionWrites
+pub mod AnySlots
