@@ -1,28 +1,20 @@
 -- From a run over lines to what the whole recorded run is told.
-use Rattle.std.proofs.Common.{◌≡◌, ◌∙◌, ℕ, ◌+◌, Bool, true, false, cond, List, [], ◌∷◌, ◌++◌, length, map, nat_lt, nat_le, Option, None, Some, Result, Ok, Err, refl, sym, ap, subst, append_assoc, append-nil, arith, inl, inr, ◌⊎◌}
-use Rattle.std.specs.List.{fold}
-use Rattle.std.specs.Str.{bytes_eq}
-use Rattle.std.proofs.lemmas.Slice.Eq.{bytes_eq-Decides}
+use Rattle.mm_check.proofs.Below.{◌≡◌, ◌∙◌, ℕ, ◌+◌, Bool, true, false, cond, List, [], ◌∷◌, ◌++◌, length, map, nat_lt, nat_le, Option, None}
+use Rattle.mm_check.proofs.Below.{Some, Result, Ok, Err, refl, sym, ap, subst, append_assoc, append-nil, arith, inl, inr, ◌⊎◌, fold}
+use Rattle.mm_check.proofs.Below.{bytes_eq, bytes_eq-Decides, longest_line, Header, Event, world_of, plays_ok, plays_err, not_ok, ok_same}
+use Rattle.mm_check.proofs.Below.{outcome_of, is_too_much, Read, first_read, with_event, Compared, first_compared, after_compared}
+use Rattle.mm_check.proofs.Below.{CheckStage, AtHeader, InEvents, InReplies, headed, read_event, read_line, check_answer, check_closing}
+use Rattle.mm_check.proofs.Below.{most_recorded, section_line, for_whole, AreVerdicts, Concludes, run_lines, Verdicts}
 use Rattle.mm_base.specs.Input.{lines_of, tail_of}
 use Rattle.mm_base.specs.declared.replay_fault.ReplayFault.{ReplayFault}
 use Rattle.mm_base.specs.declared.replay_fault.ReplayFault.TheVariants.{Memory, ReadFault, WriteFault, BadLine, LineLong, TooMuch}
-use Rattle.mm_base.specs.Limits.{longest_line}
-use Rattle.mm_schedule.specs.declared.header.Header.{Header}
-use Rattle.mm_schedule.specs.Events.{Event}
 use Rattle.mm_schedule.specs.Grammar.{event_at}
 use Rattle.mm_schedule.specs.Headers.{header_at}
-use Rattle.mm_run.specs.Held.{world_of}
 use Rattle.mm_play.specs.declared.player.Refused.TheVariants.{Bad, Much}
 use Rattle.mm_play.specs.Play.{Told, told, stopped, refusal_at, answered, closed, ended, goes_on, run}
-use Rattle.mm_play.proofs.Runs.{not_ok, ok_same}
-use Rattle.mm_replay.specs.Schedule.{is_too_much}
-use Rattle.mm_check.specs.Checking.{Read, first_read, with_event, Compared, first_compared, after_compared, CheckStage, AtHeader, InEvents, InReplies, headed, read_event, read_line, check_answer, check_closing, most_recorded, section_line}
 use Rattle.std.specs.Io.KnownBytes.{Appends}
 use Rattle.mm_play.specs.Plays.{ForWhole, Settles, Plays, IsBlamed, is_write_fault}
-use Rattle.mm_play.proofs.Telling.{for_whole}
 use Rattle.mm_check.specs.Checks.{IsChecked, AreTested, check_lines, check_run, JudgesBy, Judges, ChecksRunBy, ChecksRun}
-use Rattle.mm_check.specs.Verdicts.{AreVerdicts, Concludes, run_lines}
-use Rattle.mm_check.specs.declared.verdicts.Verdicts.{Verdicts}
 use Rattle.mm_check.proofs.ComparingLaws.{with_end, verdicts_on}
 
 -- among the recorded lines
@@ -47,8 +39,7 @@ replies_ran heading (line ∷ lines) n c p h =
 -- where the run ends, behind these last events and by this section
 abbrev EndsIn : Read → List (List ℕ) → CheckStage → Type 0
 EndsIn last section p =
-    ((section ≡ []) × (p ≡ InEvents last))
-    ⊎ ((recorded : List (List ℕ)) × (section ≡ section_line ∷ recorded)
+    ((section ≡ []) × (p ≡ InEvents last)) ⊎ ((recorded : List (List ℕ)) × (section ≡ section_line ∷ recorded)
     × (p ≡ InReplies (fold after_compared (first_compared last) recorded)))
 
 record Behind (r : Read) (lines : List (List ℕ)) (p : CheckStage) : Type 0 where
@@ -86,49 +77,41 @@ much_ran false on n r line event p h = h
 abbrev GoesOn : (heading : List ℕ → Option Header) → List (List ℕ) → ℕ → CheckStage → Type 0
 GoesOn heading lines n p = (r : Read) → (run (check_answer heading) n (InEvents r) lines).outcome ≡ Ok p → Behind r lines p
 
-found_ran : (heading : List ℕ → Option Header) (lines : List (List ℕ)) (n : ℕ) (r : Read) (line : List ℕ) (found : Option Event)
-    (p : CheckStage) → event_at line ≡ found
-    → GoesOn heading lines (n + 1) p
-    → (answered (λ next. run (check_answer heading) (n + 1) next lines) n (read_event r line found)).outcome ≡ Ok p
-    → Behind r (line ∷ lines) p
-found_ran heading lines n r line None p is on h = absurd (not_ok (refusal_at n Bad) p h)
-found_ran heading lines n r line (Some event) p is on h =
-    event_first r line lines event p is
-    (on (with_event r line event)
-    (much_ran (is_too_much r.running line) (λ next. run (check_answer heading) (n + 1) next lines) n r line event p h))
+module _ (heading : List ℕ → Option Header) (lines : List (List ℕ)) (n : ℕ) (r : Read) (line : List ℕ) (p : CheckStage)
+    (on : GoesOn heading lines (n + 1) p) where
+  found_ran : (found : Option Event) → event_at line ≡ found
+      → (answered (λ next. run (check_answer heading) (n + 1) next lines) n (read_event r line found)).outcome ≡ Ok p
+      → Behind r (line ∷ lines) p
+  found_ran None is h = absurd (not_ok (refusal_at n Bad) p h)
+  found_ran (Some event) is h =
+      event_first r line lines event p is (on (with_event r line event)
+      (much_ran (is_too_much r.running line) (λ next. run (check_answer heading) (n + 1) next lines) n r line event p h))
 
-section_ran : (heading : List ℕ → Option Header) (lines : List (List ℕ)) (n : ℕ) (r : Read) (line : List ℕ) (section : Bool)
-    (p : CheckStage) → bytes_eq line section_line ≡ section
-    → GoesOn heading lines (n + 1) p
-    → (answered (λ next. run (check_answer heading) (n + 1) next lines) n
-    (cond section (Ok ([], InReplies (first_compared r))) (read_event r line (event_at line)))).outcome ≡ Ok p
-    → Behind r (line ∷ lines) p
-section_ran heading lines n r line true p is on h = record {
-  others = [];
-  section = line ∷ lines;
-  last = r;
-  events = [];
-  split = refl;
-  read = refl;
-  same = refl;
-  grown = sym (append-nil r.events);
-  ends =
-      inr (
-        lines,
-        ap (λ (l : List ℕ). l ∷ lines) ((bytes_eq-Decides line section_line).0 is),
-        replies_ran heading lines (n + 1)
-            (first_compared r) p h,
-      );
-}
-section_ran heading lines n r line false p is on h = found_ran heading lines n r line (event_at line) p refl on h
+  section_ran : (section : Bool) → bytes_eq line section_line ≡ section
+      → (answered (λ next. run (check_answer heading) (n + 1) next lines) n
+      (cond section (Ok ([], InReplies (first_compared r))) (read_event r line (event_at line)))).outcome ≡ Ok p → Behind r (line ∷ lines) p
+  section_ran true is h = record {
+    others = [];
+    section = line ∷ lines;
+    last = r;
+    events = [];
+    split = refl;
+    read = refl;
+    same = refl;
+    grown = sym (append-nil r.events);
+    ends =
+        inr (
+          lines,
+          ap (λ (l : List ℕ). l ∷ lines) ((bytes_eq-Decides line section_line).0 is),
+          replies_ran heading lines (n + 1) (first_compared r) p h,
+        );
+  }
+  section_ran false is h = found_ran (event_at line) refl h
 
-line_ran : (heading : List ℕ → Option Header) (lines : List (List ℕ)) (n : ℕ) (r : Read) (line : List ℕ) (long : Bool) (p : CheckStage)
-    → GoesOn heading lines (n + 1) p
-    → (cond long (stopped (LineLong n)) (answered (λ next. run (check_answer heading) (n + 1) next lines) n (read_line r line))).outcome ≡
-    Ok p
-    → Behind r (line ∷ lines) p
-line_ran heading lines n r line true p on h = absurd (not_ok (LineLong n) p h)
-line_ran heading lines n r line false p on h = section_ran heading lines n r line (bytes_eq line section_line) p refl on h
+  line_ran : (long : Bool) → (cond long (stopped (LineLong n))
+      (answered (λ next. run (check_answer heading) (n + 1) next lines) n (read_line r line))).outcome ≡ Ok p → Behind r (line ∷ lines) p
+  line_ran true h = absurd (not_ok (LineLong n) p h)
+  line_ran false h = section_ran (bytes_eq line section_line) refl h
 
 events_ran : (heading : List ℕ → Option Header) (lines : List (List ℕ)) (n : ℕ) (p : CheckStage) → GoesOn heading lines n p
 events_ran heading [] n p r h = record {
@@ -143,21 +126,19 @@ events_ran heading [] n p r h = record {
   ends = inl (refl, sym (ok_same (InEvents r) p h));
 }
 events_ran heading (line ∷ lines) n p r h =
-    line_ran heading lines n r line (nat_lt longest_line (length line)) p (events_ran heading lines (n + 1) p) h
+    line_ran heading lines n r line p (events_ran heading lines (n + 1) p) (nat_lt longest_line (length line)) h
 
 -- the verdicts, by where the run ends
 verdicts_by : (header : Header) (events : List Event) (last : Read) (section : List (List ℕ)) (p : CheckStage) (it : Verdicts)
-    → last.header ≡ header → last.events ≡ events
-    → EndsIn last section p → Concludes p it → (tested : List (List ℕ)) × AreTested header events section tested
-    × AreVerdicts header events tested it
+    → last.header ≡ header → last.events ≡ events → EndsIn last section p → Concludes p it
+    → (tested : List (List ℕ)) × AreTested header events section tested × AreVerdicts header events tested it
 verdicts_by header events last section p it is es ends c = elim ends [
   | inl e ↦
       let a = subst (λ (s : CheckStage). Concludes s it) e.1 c in
       let b = subst (λ (x : Header). AreVerdicts x last.events (run_lines (world_of x) last.events) it) is a in (
         run_lines (world_of header) events,
         inl (e.0, refl),
-        subst
-            (λ (l : List Event). AreVerdicts header l (run_lines (world_of header) l) it) es b,
+        subst (λ (l : List Event). AreVerdicts header l (run_lines (world_of header) l) it) es b,
       )
   | inr e ↦
       let a = subst (λ (s : CheckStage). Concludes s it) e.2 c in
@@ -167,8 +148,7 @@ verdicts_by header events last section p it is es ends c = elim ends [
 ]
 
 checked_by : (first : List ℕ) (lines : List (List ℕ)) (header : Header) (p : CheckStage) (it : Verdicts) → header_at first ≡ Some header
-    → Behind (first_read header) lines p
-    → Concludes p it → IsChecked (first ∷ lines) it
+    → Behind (first_read header) lines p → Concludes p it → IsChecked (first ∷ lines) it
 checked_by first lines header p it is b c =
     let v = verdicts_by header b.events b.last b.section p it b.same b.grown b.ends c in
     record {
@@ -192,8 +172,7 @@ header_ran first lines None p it is h c = absurd (not_ok (refusal_at 1 Bad) p h)
 header_ran first lines (Some header) p it is h c =
     checked_by first lines header p it is (events_ran header_at lines (1 + 1) p (first_read header) h) c
 
-first_ran : (first : List ℕ) (lines : List (List ℕ)) (long : Bool) (p : CheckStage) (it : Verdicts)
-    → (cond long (stopped (LineLong 1))
+first_ran : (first : List ℕ) (lines : List (List ℕ)) (long : Bool) (p : CheckStage) (it : Verdicts) → (cond long (stopped (LineLong 1))
     (answered (λ next. run (check_answer header_at) (1 + 1) next lines) 1 (headed (header_at first)))).outcome ≡ Ok p
     → Concludes p it → IsChecked (first ∷ lines) it
 first_ran first lines true p it h c = absurd (not_ok (LineLong 1) p h)
@@ -222,8 +201,7 @@ tail_ran n (b ∷ tail) q p h = absurd (by_length (nat_lt longest_line (length (
     by_length false e = not_ok (BadLine n) p e
 
 whole_ran : (n : ℕ) (tail written : List ℕ) (outcome : Result CheckStage ReplayFault) (p : CheckStage)
-    → (goes_on (ended check_closing n tail) written outcome).outcome ≡ Ok p
-    → (outcome ≡ Ok p) × ((l : List ℕ) × (check_closing p ≡ Some l))
+    → (goes_on (ended check_closing n tail) written outcome).outcome ≡ Ok p → (outcome ≡ Ok p) × ((l : List ℕ) × (check_closing p ≡ Some l))
 whole_ran n tail written (Err fault) p h = absurd (not_ok fault p h)
 whole_ran n tail written (Ok q) p h = let t = tail_ran n tail q p h in (ap Ok t.0, t.1)
 
@@ -233,55 +211,20 @@ input_ran input p h =
     whole_ran (1 + length (lines_of input)) (tail_of input) (check_lines (lines_of input)).written (check_lines (lines_of input)).outcome p
     h
 
-pub closes_behind : (p : CheckStage) (l : List ℕ) → check_closing p ≡ Some l → p ≡ AtHeader → ⊥
-closes_behind AtHeader l h is = cc
-closes_behind (InEvents r) l h is = cc
-closes_behind (InReplies c) l h is = cc
-
 -- what the loop over the lines did, as a judgement
-
-outcome_is : (t u : Told CheckStage) → t ≡ u → t.outcome ≡ u.outcome
-outcome_is t u h = ap (λ (x : Told CheckStage). x.outcome) h
-
-pub judged_ok : (first : CheckStage) → first ≡ AtHeader
-    → (left left' received received' : Option (List ℕ)) (next : CheckStage) (it : Verdicts) (result : Result (Unit {0}) ReplayFault)
-    (done : Unit {0})
-    → Plays (check_answer header_at) check_closing first next left left' received received' result → result ≡ Ok done → Concludes next it
-    → Judges left left' (Ok it)
-judged_ok first is_first left left' received received' next it result done played is c =
-    let p = subst (λ (s : CheckStage). Plays (check_answer header_at) check_closing s next left left' received received' result) is_first
-    played in
-    let s = subst (λ (r : Result (Unit {0}) ReplayFault). Settles check_lines check_run next left' p.taken p.sent r) is p.settled in
-    let answered = outcome_is (check_run p.taken) (told p.sent (Ok next)) s.1 in
-    let ran = input_ran p.taken next answered in
-    record {
-      taken = p.taken;
-      consumed = p.consumed;
-      settled = record { ended = s.0; after = next; answered = answered; checked = lines_checked (lines_of p.taken) next it ran.0 c };
-    }
-
-pub is_behind : (first : CheckStage) → first ≡ AtHeader
-    → (left left' received received' : Option (List ℕ)) (next : CheckStage) (result : Result (Unit {0}) ReplayFault) (done : Unit {0})
-    → Plays (check_answer header_at) check_closing first next left left' received received' result → result ≡ Ok done → next ≡ AtHeader → ⊥
-is_behind first is_first left left' received received' next result done played is at =
-    let p = subst (λ (s : CheckStage). Plays (check_answer header_at) check_closing s next left left' received received' result) is_first
-    played in
-    let s = subst (λ (r : Result (Unit {0}) ReplayFault). Settles check_lines check_run next left' p.taken p.sent r) is p.settled in
-    let ran = input_ran p.taken next (outcome_is (check_run p.taken) (told p.sent (Ok next)) s.1) in
-    closes_behind next ran.1.0 ran.1.1 at
 
 stops_so : (left : Option (List ℕ)) (taken sent : List ℕ) (fault : ReplayFault)
     → ForWhole left taken (λ input. check_run input ≡ told sent (Err fault))
     → ForWhole left taken (λ input. (check_run input).outcome ≡ Err fault)
 stops_so left taken sent fault h =
     for_whole left taken (λ input. check_run input ≡ told sent (Err fault)) (λ input. (check_run input).outcome ≡ Err fault)
-    (λ input e. outcome_is (check_run input) (told sent (Err fault)) e) h
+    (λ input e. outcome_of e) h
 
 judges_by : (next : CheckStage) (left : Option (List ℕ)) (taken sent : List ℕ) (fault : ReplayFault) → (fault ≡ WriteFault → ⊥)
     → (let r : Result (Unit {0}) ReplayFault = Err fault in Settles check_lines check_run next left taken sent r)
     → JudgesBy left taken (Err fault)
 judges_by next left taken sent Memory wrote s = tt
-judges_by next left taken sent ReadFault wrote s = (s.0, (s.1.0, outcome_is (check_lines (lines_of taken)) (told sent (Ok s.1.0)) s.1.1))
+judges_by next left taken sent ReadFault wrote s = (s.0, (s.1.0, outcome_of s.1.1))
 judges_by next left taken sent WriteFault wrote s = absurd (wrote refl)
 judges_by next left taken sent (BadLine n) wrote s = stops_so left taken sent (BadLine n) s
 judges_by next left taken sent (LineLong n) wrote s = stops_so left taken sent (LineLong n) s
@@ -294,20 +237,29 @@ not_written result fault h is same =
     let rose = subst (λ (r : Result (Unit {0}) ReplayFault). IsBlamed (is_write_fault r) 0 0) (is ∙ ap Err same) h in
     absurd (omega (arith, rose))
 
-pub judged_err : (first : CheckStage) → first ≡ AtHeader
-    → (left left' received received' : Option (List ℕ)) (next : CheckStage) (result : Result (Unit {0}) ReplayFault) (fault : ReplayFault)
-    → Plays (check_answer header_at) check_closing first next left left' received received' result → IsBlamed (is_write_fault result) 0 0
-    → result ≡ Err fault
-    → Judges left left' (Err fault)
-judged_err first is_first left left' received received' next result fault played blamed is =
-    let p = subst (λ (s : CheckStage). Plays (check_answer header_at) check_closing s next left left' received received' result) is_first
-    played in
-    let s = subst (λ (r : Result (Unit {0}) ReplayFault). Settles check_lines check_run next left' p.taken p.sent r) is p.settled in
-    record {
-      taken = p.taken;
-      consumed = p.consumed;
-      settled = judges_by next left' p.taken p.sent fault (λ e. not_written result fault blamed is e) s;
-    }
+module _ {first next : CheckStage} {left left' received received' : Option (List ℕ)} {result : Result (Unit {0}) ReplayFault}
+    (begins : first ≡ AtHeader)
+    (played : Plays (check_answer header_at) check_closing first next left left' received received' result) where
+  pub judged_ok : (it : Verdicts) (done : Unit {0}) → result ≡ Ok done → Concludes next it → Judges left left' (Ok it)
+  judged_ok it done is c =
+      let p = plays_ok begins played done is it in
+      let answered = outcome_of p.settled.1 in
+      let ran = input_ran p.taken next answered in
+      record {
+        taken = p.taken;
+        consumed = p.consumed;
+        settled =
+            record { ended = p.settled.0; after = next; answered = answered; checked = lines_checked (lines_of p.taken) next it ran.0 c };
+      }
+
+  pub judged_err : (fault : ReplayFault) → IsBlamed (is_write_fault result) 0 0 → result ≡ Err fault → Judges left left' (Err fault)
+  judged_err fault blamed is =
+      let p = plays_err {R = Unit {0}} begins played fault is in
+      record {
+        taken = p.taken;
+        consumed = p.consumed;
+        settled = judges_by next left' p.taken p.sent fault (λ e. not_written result fault blamed is e) p.settled;
+      }
 
 -- nothing was written
 
@@ -321,8 +273,7 @@ checks_by left taken Memory s = refl
 checks_by left taken ReadFault s = (refl, s.0, s.1)
 checks_by left taken WriteFault s = absurd s
 checks_by left taken (BadLine n) s = (refl, s)
-checks_by left taken (LineLong n) s = (refl, s)
-checks_by left taken TooMuch s = (refl, s)
+checks_by left taken _ s = (refl, s)
 
 pub checked_err : (left left' received : Option (List ℕ)) (fault : ReplayFault) → Judges left left' (Err fault)
     → ChecksRun left left' received received (Err fault)

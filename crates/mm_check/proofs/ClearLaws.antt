@@ -1,26 +1,13 @@
 -- A list of messages is clear where no two of its numbers share a digest and no digest is zero.
-use Rattle.std.proofs.Common.{◌≡◌, ◌∙◌, ℕ, ◌+◌, Bool, true, false, cond, List, [], ◌∷◌, ◌++◌, Option, None, Some, refl, sym, ap, subst, arith, inl, inr, ◌⊎◌}
-use Rattle.std.specs.List.{fold, list_any, Contains}
-use Rattle.std.specs.Option.{option_map}
-use Rattle.std.specs.Str.{bytes_eq}
-use Rattle.std.proofs.lemmas.List.Elements.{Contains-append_left, Contains-append_right, Contains-append_cases, Contains-push, Contains-push_cases}
+use Rattle.mm_check.proofs.Below.{◌≡◌, ◌∙◌, ℕ, ◌+◌, Bool, true, false, cond, List, [], ◌∷◌, ◌++◌, Option, None, Some, refl, sym, ap, subst}
+use Rattle.mm_check.proofs.Below.{arith, inl, inr, ◌⊎◌, fold, list_any, Contains, option_map, bytes_eq, Contains-append_left}
+use Rattle.mm_check.proofs.Below.{Contains-append_right, Contains-append_cases, Contains-push, Contains-push_cases, bytes_eq-Decides}
+use Rattle.mm_check.proofs.Below.{sha256, zero_bytes, start_message, Instance, History, Move, Commit, Foreign, Placed, Reset, Close}
+use Rattle.mm_check.proofs.Below.{PowerMove, moved, first_history, IsClear, move_messages, moves_messages, by_lists, Event, event_outcome}
+use Rattle.mm_check.proofs.Below.{first_issued, event_messages, moves_of, messages_from, run_messages, messages_if, messages_where}
+use Rattle.mm_check.proofs.Below.{numbered_event, first_where, listed, message_digests, shared_with, shared_in, is_zero, zero_in}
+use Rattle.mm_check.proofs.Below.{numbered_from, numbered}
 use Rattle.std.proofs.lemmas.Map.Views.{Contains-from_any}
-use Rattle.std.proofs.lemmas.Slice.Eq.{bytes_eq-Decides}
-use Rattle.sha2.specs.Sha256.{sha256}
-use Rattle.mm_digest.specs.Messages.{zero_bytes, start_message}
-use Rattle.mm_model.specs.Instance.{Instance}
-use Rattle.mm_model.specs.History.{History, Move, Commit, Foreign, Placed, Reset, Close, Power as PowerMove, moved, first_history}
-use Rattle.mm_model.specs.Messages.{IsClear}
-use Rattle.mm_model.specs.MessagesWords.{move_messages}
-use Rattle.mm_call.specs.Asked.{moves_messages}
-use Rattle.mm_call.specs.Levels.{by_lists}
-use Rattle.mm_schedule.specs.Events.{Event}
-use Rattle.mm_run.specs.Folds.{event_outcome, first_issued}
-use Rattle.mm_run.specs.Premises.{event_messages, moves_of, messages_from}
-use Rattle.mm_run.specs.PremisesWords.{run_messages}
-use Rattle.mm_expect.specs.Numbered.{messages_if, messages_where, numbered_event}
-use Rattle.mm_check.specs.Listing.{first_where, listed, message_digests, shared_with, shared_in, is_zero, zero_in}
-use Rattle.mm_check.specs.Numbering.{numbered_from, numbered}
 
 -- each element of the one list is in the other
 abbrev pub IsIn : List (List ℕ) → List (List ℕ) → Type 0
@@ -138,19 +125,11 @@ is_closing PowerMove = false
 
 extending_is : (i : Instance) (y : History) (v : Move) → messages_if false i y v ≡ cond (is_closing v) [] (move_messages i y v)
 extending_is i y (Commit b) = refl
-extending_is i y (Foreign d) = refl
-extending_is i y (Placed b) = refl
-extending_is i y Reset = refl
-extending_is i y Close = refl
-extending_is i y PowerMove = refl
+extending_is i y _ = refl
 
 closing_is : (i : Instance) (y : History) (v : Move) → messages_if true i y v ≡ cond (is_closing v) (move_messages i y v) []
 closing_is i y (Commit b) = refl
-closing_is i y (Foreign d) = refl
-closing_is i y (Placed b) = refl
-closing_is i y Reset = refl
-closing_is i y Close = refl
-closing_is i y PowerMove = refl
+closing_is i y _ = refl
 
 pub parts_are : (i : Instance) (y : History) (v : Move) (ext clo : List (List ℕ))
     → messages_if false i y v ++ ext ++ (messages_if true i y v ++ clo)
@@ -217,7 +196,6 @@ run_in i events m h =
 
 -- the run is clear where the numbers tell nothing else
 pub clear_run : (i : Instance) (events : List Event) → shared_in (message_digests (numbered i events)) ≡ None
-    → zero_in (message_digests (numbered i events)) ≡ None
-    → IsClear (run_messages i events)
+    → zero_in (message_digests (numbered i events)) ≡ None → IsClear (run_messages i events)
 clear_run i events none zero =
     clear_of_fewer (run_messages i events) (numbered i events) (run_in i events) (clear_from (numbered i events) none zero)

@@ -1,15 +1,8 @@
 -- Recorded lines compared one by one tell the first difference of the whole lists.
-use Rattle.std.proofs.Common.{◌≡◌, ◌∙◌, ℕ, zero, suc, ◌+◌, Bool, true, false, cond, nat_le, List, [], ◌∷◌, ◌++◌, length, map, drop, Option, None, Some, refl, sym, ap, subst, arith}
-use Rattle.std.specs.List.{fold, slice_get}
-use Rattle.std.specs.Str.{bytes_eq}
-use Rattle.std.proofs.lemmas.Bool.Decides.{nat_tests}
-use Rattle.mm_schedule.specs.declared.header.Header.{Header}
-use Rattle.mm_schedule.specs.Events.{Event}
-use Rattle.mm_run.specs.Held.{world_of}
-use Rattle.mm_check.specs.Numbering.{Decides, expected_lines}
-use Rattle.mm_check.specs.Checking.{Compared, is_line, differs_then, after_compared}
-use Rattle.mm_check.specs.Verdicts.{difference_from, end_difference, agreement_of, AreVerdicts, AreVerdictsOn}
-use Rattle.mm_check.specs.declared.verdicts.Verdicts.{Verdicts}
+use Rattle.mm_check.proofs.Below.{◌≡◌, ◌∙◌, ℕ, zero, suc, ◌+◌, Bool, true, false, cond, nat_le, List, [], ◌∷◌, ◌++◌, length, map, drop}
+use Rattle.mm_check.proofs.Below.{Option, None, Some, refl, sym, ap, subst, arith, fold, slice_get, bytes_eq, nat_tests, Header, Event}
+use Rattle.mm_check.proofs.Below.{world_of, Decides, expected_lines, Compared, is_line, differs_then, after_compared, difference_from}
+use Rattle.mm_check.proofs.Below.{end_difference, agreement_of, AreVerdicts, AreVerdictsOn, Verdicts}
 
 abbrev pub with_end : List ℕ → List ℕ
 with_end line = line ++ 10 ∷ []
@@ -51,14 +44,12 @@ step_at : (expected : List (List ℕ)) (count n : ℕ) (line : List ℕ) (rest :
     ≡ difference_from n (with_end line ∷ rest) (drop count expected)
 step_at [] count n line rest =
     ap (λ (o : Option (List ℕ)). settled (differs_then None (is_line line o) n) (difference_from (n + 1) rest (drop (count + 1) [])))
-    (get_none count)
-    ∙ sym (ap (difference_from n (with_end line ∷ rest)) (drop_none count))
+    (get_none count) ∙ sym (ap (difference_from n (with_end line ∷ rest)) (drop_none count))
 step_at (e ∷ expected) zero n line rest = same_step (bytes_eq (with_end line) e) n (difference_from (n + 1) rest expected)
 step_at (e ∷ expected) (suc count) n line rest =
     let next : suc count + 1 ≡ suc (count + 1) = omega arith in
     ap (λ (k : ℕ). settled (differs_then None (is_line line (slice_get expected count)) n)
-    (difference_from (n + 1) rest (drop k (e ∷ expected)))) next
-    ∙ step_at expected count n line rest
+    (difference_from (n + 1) rest (drop k (e ∷ expected)))) next ∙ step_at expected count n line rest
 
 abbrev at : Header → List Event → ℕ → Option ℕ → Compared
 at header events count differs = record { header = header; events = events; count = count; differs = differs }

@@ -1,12 +1,8 @@
 -- The numbers in code after one more digest.
-use Rattle.std.proofs.Common.{◌≡◌, ◌∙◌, ℕ, ◌+◌, cond, List, [], ◌∷◌, ◌++◌, length, Option, None, Some, sym, ap, arith, length-append}
+use Rattle.mm_check.proofs.Below.{◌≡◌, ◌∙◌, ℕ, ◌+◌, cond, List, [], ◌∷◌, ◌++◌, length, Option, None, Some, sym, ap, arith, length-append}
+use Rattle.mm_check.proofs.Below.{slice_cmp, nat_cmp, is_eq, bytes_eq, is_eq-slice_cmp, lower, zero_then, shared_in, zero_in, pair_of}
+use Rattle.mm_check.proofs.Below.{CountsDigests}
 use Rattle.std.specs.BTreeMap as tree
-use Rattle.std.specs.Cmp.Lexicographic.{slice_cmp}
-use Rattle.std.specs.Ordering.{nat_cmp, is_eq}
-use Rattle.std.specs.Str.{bytes_eq}
-use Rattle.std.proofs.lemmas.Map.Text.{is_eq-slice_cmp}
-use Rattle.mm_check.specs.Listing.{lower, zero_then, shared_in, zero_in}
-use Rattle.mm_check.specs.Lists.{pair_of, CountsDigests}
 use Rattle.mm_check.specs.declared.digests.Digests.{Digests}
 use Rattle.mm_check.proofs.ListingLaws.{bytes_eq-flip, finds-known, finds-new, shared-known, shared-new, zero_in-push}
 
@@ -38,8 +34,7 @@ counts-known ds old new x n h a found same shared = record {
   zero = zero_goes ds old new x h a;
 }
 
-pub counts-new : (ds : List (List ℕ)) (old new : Digests) (x : List ℕ) → CountsDigests ds old → Adds old new x
-    → number_at old x ≡ None
+pub counts-new : (ds : List (List ℕ)) (old new : Digests) (x : List ℕ) → CountsDigests ds old → Adds old new x → number_at old x ≡ None
     → ((d : List ℕ) → number_at new d ≡ cond (is_eq (slice_cmp nat_cmp x d)) (Some (old.count + 1)) (number_at old d))
     → new.shared ≡ old.shared → CountsDigests (ds ++ x ∷ []) new
 counts-new ds old new x h a none goes same = record {

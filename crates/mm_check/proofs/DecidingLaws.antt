@@ -1,52 +1,25 @@
 -- One event more, and what is told at the end.
-use Rattle.std.proofs.Common.{◌≡◌, ◌∙◌, ℕ, ◌+◌, ◌≤◌, ◌<◌, take, get_or, Bool, true, false, map, inl, inr, List, [], ◌∷◌, ◌++◌, length, Option, None, Some, refl, sym, ap, subst, arith, append_assoc, append-nil, length-append}
-use Rattle.std.specs.List.{fold, list_any, Contains}
-use Rattle.std.specs.Str.{bytes_eq}
-use Rattle.std.proofs.lemmas.List.Elements.{Contains-append_cases}
-use Rattle.std.proofs.lemmas.List.Folds.{list_any_at}
-use Rattle.std.proofs.lemmas.Slice.Eq.{bytes_eq-Decides}
-use Rattle.std.specs.Prelude.{◌||◌}
+use Rattle.mm_check.proofs.Below.{◌≡◌, ◌∙◌, ℕ, ◌+◌, ◌≤◌, ◌<◌, take, get_or, Bool, true, false, map, inl, inr, List, [], ◌∷◌, ◌++◌, length}
+use Rattle.mm_check.proofs.Below.{Option, None, Some, refl, sym, ap, subst, arith, append_assoc, append-nil, length-append, fold, list_any}
+use Rattle.mm_check.proofs.Below.{Contains, bytes_eq, Contains-append_cases, list_any_at, bytes_eq-Decides, ◌||◌, Variant, Basic, Opt}
+use Rattle.mm_check.proofs.Below.{start_message, variant_byte, sha256, length-map, length-take, most_events, CodeEvent, Meaning, meaning_of}
+use Rattle.mm_check.proofs.Below.{guard, own_values, Instance, History, first_history, total_of, Header, Reply, Event, event_of}
+use Rattle.mm_check.proofs.Below.{lines_of_reply, end_line, by_lists, Followed, followed, event_outcome, first_issued, expected, world_of}
+use Rattle.mm_check.proofs.Below.{world_key, world_barrier, AreNoGuards, foreign_of, IsGenuineEvent, AreGenuine, foreign_values}
+use Rattle.mm_check.proofs.Below.{asked_batches, AreApart, goes_on, numbered_event, listed, message_digests, shared_in, zero_in}
+use Rattle.mm_check.proofs.Below.{first_where, Lists, pair_of, numbered_from, numbered, is_secured, secured_in, lines_of_all}
+use Rattle.mm_check.proofs.Below.{expected_lines, IsForgedAt, Decides, events_of, secured_by, IsFirstForged, StandsBehind, forged_then}
+use Rattle.mm_check.proofs.Below.{premise_by}
 use Rattle.std.proofs.lemmas.List.Sums.{fold-append}
-use Rattle.mm_digest.specs.declared.variant.Variant.{Variant}
-use Rattle.mm_digest.specs.declared.variant.Variant.TheVariants.{Basic, Opt}
-use Rattle.mm_digest.specs.Messages.{start_message, variant_byte}
-use Rattle.sha2.specs.Sha256.{sha256}
-use Rattle.std.proofs.lemmas.List.{length-map, length-take}
-use Rattle.mm_base.specs.Limits.{most_events}
-use Rattle.mm_schedule.specs.declared.event.Event.{Event as CodeEvent}
-use Rattle.mm_module.specs.Meaning.{Meaning}
-use Rattle.mm_modules.specs.Modules.{meaning_of}
-use Rattle.mm_model.specs.Chains.{guard}
-use Rattle.mm_model.specs.ChainsWords.{own_values}
-use Rattle.mm_model.specs.Instance.{Instance}
-use Rattle.mm_model.specs.History.{History, first_history, total_of}
-use Rattle.mm_schedule.specs.declared.header.Header.{Header}
-use Rattle.mm_schedule.specs.declared.reply.Reply.{Reply}
-use Rattle.mm_schedule.specs.Events.{Event, event_of}
-use Rattle.mm_schedule.specs.Replies.{lines_of_reply, end_line}
-use Rattle.mm_call.specs.Levels.{by_lists}
 use Rattle.mm_call.specs.Standing.{instance_by}
-use Rattle.mm_run.specs.Folds.{Followed, followed, event_outcome, first_issued, expected}
-use Rattle.mm_run.specs.Held.{world_of}
-use Rattle.mm_run.specs.HeldWords.{world_key, world_barrier}
 use Rattle.mm_run.specs.Laws.{continued}
-use Rattle.mm_model.specs.Messages.{AreNoGuards}
-use Rattle.mm_run.specs.Premises.{foreign_of, IsGenuineEvent, AreGenuine}
-use Rattle.mm_run.specs.PremisesWords.{foreign_values, asked_batches, AreApart}
-use Rattle.mm_run.proofs.GoingOn.{goes_on}
 use Rattle.mm_expect.specs.Hears.{Hears}
-use Rattle.mm_expect.specs.Naming.{IsDecided}
-use Rattle.mm_expect.specs.Numbered.{numbered_event}
+use Rattle.mm_history.specs.Naming.{IsDecided}
 use Rattle.mm_expect.specs.Traced.{Traced, IsAfter}
 use Rattle.mm_expect.specs.declared.expecting.Heard.{Heard}
-use Rattle.mm_check.specs.Listing.{listed, message_digests, shared_in, zero_in, first_where}
-use Rattle.mm_check.specs.Lists.{Lists, pair_of}
-use Rattle.mm_check.specs.Numbering.{numbered_from, numbered, is_secured, secured_in, lines_of_all, expected_lines, IsForgedAt, Decides}
-use Rattle.mm_check.specs.Guards.{events_of, secured_by}
 use Rattle.mm_check.proofs.FewLaws.{heard_few, numbered_few}
 use Rattle.mm_check.proofs.GuardLaws.{events_more}
 use Rattle.mm_check.proofs.ClearLaws.{clear_run, first_none, true_false}
-use Rattle.mm_check.specs.Deciding.{IsFirstForged, StandsBehind, forged_then, premise_by}
 use Rattle.mm_check.specs.declared.deciding.Deciding.{Deciding}
 
 -- what is heard of an event behind those that were followed so far
@@ -73,8 +46,7 @@ heard_after header es it e heard after hears genuine =
     }
 
 -- what stands behind one event more
-after_one : (i : Instance) (es : List Event) (e : Event)
-    → (let f : Followed History = expected i es in
+after_one : (i : Instance) (es : List Event) (e : Event) → (let f : Followed History = expected i es in
     expected i (es ++ e ∷ []) ≡ continued f (followed i (by_lists i) f.state f.issued (e ∷ [])))
 after_one i es e = goes_on i (by_lists i) es (e ∷ []) first_history (first_issued i)
 
@@ -87,8 +59,7 @@ from_push i (x ∷ es) e y issued =
     let here = numbered_event i y issued x in
     ap (λ (l : List (List ℕ)). here ++ l) (from_push i es e o.state o.issued) ∙ sym (append_assoc here _ _)
 
-pub numbered-push : (i : Instance) (es : List Event) (e : Event)
-    → (let f : Followed History = expected i es in
+pub numbered-push : (i : Instance) (es : List Event) (e : Event) → (let f : Followed History = expected i es in
     numbered i (es ++ e ∷ []) ≡ fold listed (numbered i es) (numbered_event i f.state f.issued e))
 numbered-push i es e =
     let start = start_message i.variant i.meaning.id ∷ [] in
@@ -102,8 +73,7 @@ lines_of_all-append (x ∷ xs) ys =
     ap (λ (l : List (List ℕ)). lines_of_reply x ++ l) (lines_of_all-append xs ys)
     ∙ sym (append_assoc (lines_of_reply x) (lines_of_all xs) (lines_of_all ys))
 
-lines-push : (i : Instance) (es : List Event) (e : Event)
-    → (let f : Followed History = expected i es in
+lines-push : (i : Instance) (es : List Event) (e : Event) → (let f : Followed History = expected i es in
     lines_of_all (expected i (es ++ e ∷ [])).replies ≡ lines_of_all f.replies
     ++ lines_of_reply (event_outcome i (by_lists i) f.state f.issued e).reply)
 lines-push i es e =
@@ -167,8 +137,7 @@ any_map p f (x ∷ xs) = ap (λ (b : Bool). p (f x) || b) (any_map p f xs)
 
 -- no event brings a guard
 foreign_apart : (guards : List (List ℕ)) (es : List Event) (d : List ℕ) → first_where (is_secured guards) es ≡ None
-    → Contains (foreign_values es) d
-    → list_any (bytes_eq d) guards ≡ true → ⊥
+    → Contains (foreign_values es) d → list_any (bytes_eq d) guards ≡ true → ⊥
 foreign_apart guards [] d none h is = let few = h.1 in absurd (omega arith)
 foreign_apart guards (e ∷ es) d none h is =
     let parts = first_none (is_secured guards e) (first_where (is_secured guards) es) none in
@@ -180,8 +149,7 @@ foreign_apart guards (e ∷ es) d none h is =
 no_guards : (barrier : List ℕ) (es : List Event) → first_where (is_secured (own_values barrier (asked_batches es))) es ≡ None
     → AreNoGuards barrier (foreign_values es) (asked_batches es)
 no_guards barrier es none d b hd hb same =
-    foreign_apart (own_values barrier (asked_batches es)) es d none hd
-    (any_map (bytes_eq d) (guard barrier) (asked_batches es)
+    foreign_apart (own_values barrier (asked_batches es)) es d none hd (any_map (bytes_eq d) (guard barrier) (asked_batches es)
     ∙ any_in (λ c. bytes_eq d (guard barrier c)) (asked_batches es) b hb ((bytes_eq-Decides d (guard barrier b)).1 same))
 
 apart_by : (variant : Variant) (meaning : Meaning) (es : List Event) → secured_by variant world_barrier es ≡ None
@@ -197,8 +165,7 @@ secured_told Opt meaning es n is = (refl, is)
 decided_by : (variant : Variant) (meaning : Meaning) (es : List Event) (pair : Option (ℕ × ℕ)) (zero secured forged : Option ℕ)
     → (let i : Instance = instance_by variant meaning world_key world_barrier in
     pair ≡ shared_in (message_digests (numbered i es)) → zero ≡ zero_in (message_digests (numbered i es))
-    → secured ≡ secured_by variant world_barrier es
-    → IsFirstForged i es forged → Decides i es (premise_by pair zero secured forged))
+    → secured ≡ secured_by variant world_barrier es → IsFirstForged i es forged → Decides i es (premise_by pair zero secured forged))
 decided_by variant meaning es (Some pair) zero secured forged p z s f = sym p
 decided_by variant meaning es None (Some message) secured forged p z s f = (sym p, sym z)
 decided_by variant meaning es None None (Some event) forged p z s f =
@@ -228,9 +195,8 @@ start_by Basic meaning = refl
 start_by Opt meaning = refl
 
 pub stands_first : (header : Header) (it : Deciding) (message : List ℕ) → IsAfter header [] it.expecting
-    → Lists (listed [] message) it.numbers
-    → message ≡ 0 ∷ variant_byte header.variant ∷ (meaning_of header.«module»).id ∷ [] → it.lines.items ≡ [] → it.forged ≡ None
-    → StandsBehind header [] it
+    → Lists (listed [] message) it.numbers → message ≡ 0 ∷ variant_byte header.variant ∷ (meaning_of header.«module»).id ∷ []
+    → it.lines.items ≡ [] → it.forged ≡ None → StandsBehind header [] it
 stands_first header it message after lists is lines forged =
     let i = world_of header in
     record {
@@ -244,8 +210,7 @@ stands_first header it message after lists is lines forged =
 -- at the last one
 
 pub lines_end : (header : Header) (es : List Event) (it : Deciding) (committed issued : ℕ) (lines : List (List ℕ))
-    → StandsBehind header es it
-    → committed ≡ total_of it.expecting.history.batches → issued ≡ length it.expecting.issued
+    → StandsBehind header es it → committed ≡ total_of it.expecting.history.batches → issued ≡ length it.expecting.issued
     → lines ≡ it.lines.items ++ end_line committed issued ∷ [] → lines ≡ expected_lines (world_of header) es
 lines_end header es it committed issued lines h n k is =
     let f = expected (world_of header) es in
@@ -259,9 +224,8 @@ few_taken : (es : List CodeEvent) (index : ℕ) → length es ≤ most_events �
 few_taken es index few = omega (arith, few, length-take index es)
 
 pub room_for : (header : Header) (es : List CodeEvent) (index : ℕ) (event : CodeEvent) (it : Deciding) (heard : Heard)
-    → length es ≤ most_events
-    → StandsBehind header (events_of (take index es)) it
-    → IsHeard (world_of header) (expected (world_of header) (events_of (take index es))) (event_of event) heard
+    → length es ≤ most_events → StandsBehind header (events_of (take index es)) it → IsHeard (world_of header)
+    (expected (world_of header) (events_of (take index es))) (event_of event) heard
     → it.numbers.digests.count + length heard.messages.items < 4294967295
 room_for header es index event it heard few h hears =
     let i = world_of header in
@@ -278,9 +242,8 @@ room_for header es index event it heard few h hears =
 
 -- the event of this index was followed
 pub stands_after : (header : Header) (es : List CodeEvent) (index : ℕ) (event : CodeEvent) (old new : Deciding) (heard : Heard)
-    → index < length es → event ≡ get_or es index event
-    → StandsBehind header (events_of (take index es)) old
-    → IsHeard (world_of header) (expected (world_of header) (events_of (take index es))) (event_of event) heard
+    → index < length es → event ≡ get_or es index event → StandsBehind header (events_of (take index es)) old → IsHeard (world_of header)
+    (expected (world_of header) (events_of (take index es))) (event_of event) heard
     → IsAfter header (events_of (take index es) ++ event_of event ∷ []) new.expecting
     → length new.expecting.issued ≤ length old.expecting.issued + 1
     → Lists (fold listed (numbered (world_of header) (events_of (take index es))) heard.messages.items) new.numbers

@@ -1,10 +1,8 @@
 -- Two lists of lines compared line by line.
-use Rattle.std.proofs.Common.{◌≡◌, ◌∙◌, ℕ, zero, suc, ◌+◌, ◌<◌, ◌≤◌, Bool, true, false, cond, List, [], ◌∷◌, length, drop, Option, None, Some, refl, sym, ap, arith}
-use Rattle.std.specs.List.{slice_get}
-use Rattle.std.specs.Str.{bytes_eq}
-use Rattle.std.proofs.lemmas.List.{drop_all}
-use Rattle.mm_check.specs.Verdicts.{difference_from, first_difference, agreement_of, is_found}
-use Rattle.mm_check.specs.declared.verdicts.Agreement.TheVariants.{Agree, Differ}
+use Rattle.mm_check.proofs.Below.{◌≡◌, ◌∙◌, ℕ, zero, suc, ◌+◌, ◌<◌, ◌≤◌, Bool, true, false, cond, List, [], ◌∷◌, length, drop, Option, None}
+use Rattle.mm_check.proofs.Below.{Some, refl, sym, ap, arith, slice_get, bytes_eq, drop_all, difference_from, first_difference}
+use Rattle.mm_check.proofs.Below.{agreement_of, is_found}
+use Rattle.mm_check.specs.declared.verdicts.Agreement.TheVariants.{Differ}
 
 drop_none : (k : ℕ) → (let e : List (List ℕ) = [] in drop k e ≡ [])
 drop_none zero = refl
@@ -26,9 +24,8 @@ missing [] i n b h = absurd (none_some i b h)
 missing (x ∷ e) zero n b h = refl
 missing (x ∷ e) (suc i) n b h = missing e i n b h
 
-pub differ_at : (t e : List (List ℕ)) (i n : ℕ) (b : List ℕ) → slice_get e i ≡ Some b
-    → difference_from n (drop i t) (drop i e) ≡ cond (is_found (slice_get t i) b)
-    (difference_from (n + 1) (drop (i + 1) t) (drop (i + 1) e)) (Some n)
+pub differ_at : (t e : List (List ℕ)) (i n : ℕ) (b : List ℕ) → slice_get e i ≡ Some b → difference_from n (drop i t)
+    (drop i e) ≡ cond (is_found (slice_get t i) b) (difference_from (n + 1) (drop (i + 1) t) (drop (i + 1) e)) (Some n)
 differ_at t [] i n b h = absurd (none_some i b h)
 differ_at [] (x ∷ e) i n b h =
     ap (λ (l : List (List ℕ)). difference_from n l (drop i (x ∷ e))) (drop_none i) ∙ missing (x ∷ e) i n b h
@@ -40,9 +37,8 @@ differ_at (y ∷ t) (x ∷ e) (suc i) n b h =
     differ_at t e i n b h
     ∙ ap (λ (k : ℕ). cond (is_found (slice_get t i) b) (difference_from (n + 1) (drop k (y ∷ t)) (drop k (x ∷ e))) (Some n)) next
 
-pub same_more : (t e : List (List ℕ)) (i : ℕ) (b : List ℕ) (found : Bool)
-    → first_difference t e ≡ difference_from (i + 1) (drop i t) (drop i e) → slice_get e i ≡ Some b
-    → found ≡ is_found (slice_get t i) b → found ≡ true
+pub same_more : (t e : List (List ℕ)) (i : ℕ) (b : List ℕ) (found : Bool) → first_difference t e ≡ difference_from (i + 1) (drop i t)
+    (drop i e) → slice_get e i ≡ Some b → found ≡ is_found (slice_get t i) b → found ≡ true
     → first_difference t e ≡ difference_from (i + 1 + 1) (drop (i + 1) t) (drop (i + 1) e)
 same_more t e i b found h at f is =
     h ∙ differ_at t e i (i + 1) b at
@@ -65,8 +61,7 @@ at_end : (t e : List (List ℕ)) (i : ℕ) → first_difference t e ≡ differen
 at_end t e i h over = h ∙ ap (difference_from (i + 1) (drop i t)) (drop_all i e over)
 
 pub surplus : (t e : List (List ℕ)) (i : ℕ) → first_difference t e ≡ difference_from (i + 1) (drop i t) (drop i e) → length e ≤ i
-    → i ≤ length e → length e < length t
-    → Differ (length e + 1) ≡ agreement_of (first_difference t e)
+    → i ≤ length e → length e < length t → Differ (length e + 1) ≡ agreement_of (first_difference t e)
 surplus t e i h over within more =
     let same : i ≡ length e = omega arith in
     sym (ap agreement_of (at_end t e i h over ∙ surplus_at t i (i + 1) (omega arith) ∙ ap (λ (k : ℕ). Some (k + 1)) same))

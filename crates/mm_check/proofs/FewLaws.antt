@@ -1,42 +1,20 @@
 -- An event has few messages.
-use Rattle.std.proofs.Common.{ℕ, ◌+◌, ◌*◌, ◌≤◌, Bool, true, false, cond, List, [], ◌∷◌, ◌++◌, length, map, Option, None, Some, arith, length-append}
-use Rattle.std.specs.Prelude.{◌==◌}
-use Rattle.std.specs.List.{fold, filter, list_any}
-use Rattle.std.specs.Str.{bytes_eq}
-use Rattle.std.proofs.lemmas.List.{length-map, length-take}
-use Rattle.mm_digest.specs.declared.variant.Variant.{Variant}
-use Rattle.mm_digest.specs.declared.variant.Variant.TheVariants.{Basic, Opt}
-use Rattle.mm_digest.specs.Messages.{zero_bytes, anchored_message, anchored_of, start_message}
-use Rattle.mm_module.specs.Batch.{Batch, normal}
-use Rattle.mm_platform.specs.declared.plan.Meddle.{Meddle}
-use Rattle.mm_platform.specs.declared.plan.Stop.{Stop}
+use Rattle.mm_check.proofs.Below.{ℕ, ◌+◌, ◌*◌, ◌≤◌, Bool, true, false, cond, List, [], ◌∷◌, ◌++◌, length, map, Option, None, Some, arith}
+use Rattle.mm_check.proofs.Below.{length-append, ◌==◌, fold, filter, list_any, bytes_eq, length-map, length-take, Variant, Basic, Opt}
+use Rattle.mm_check.proofs.Below.{zero_bytes, anchored_message, anchored_of, start_message, Batch, normal, Meddle, Stop, guard, Instance}
+use Rattle.mm_check.proofs.Below.{History, Move, Commit, Foreign, Close, moved, first_history, is_long, moving_messages, form_messages}
+use Rattle.mm_check.proofs.Below.{offer_messages, Step, Reads, Changes, Writes, ask_steps, checkpoint_steps, right_messages, End, Done}
+use Rattle.mm_check.proofs.Below.{Fails, Fate, Walked, step_moves, after_step, walk, right_content, by_lists, CodeEvent, Event, Ask}
+use Rattle.mm_check.proofs.Below.{Checkpoint, Power, Extend, event_of, meddles_of, offered_bytes, course_of, event_outcome, first_issued}
+use Rattle.mm_check.proofs.Below.{moves_of, event_messages, ask_moves, asking_messages, messages_if, messages_where, numbered_event, listed}
+use Rattle.mm_check.proofs.Below.{numbered_from, numbered, events_of}
 use Rattle.mm_platform.specs.StandingWords.{due}
 use Rattle.mm_seal.specs.declared.snapshot.Place.{Place}
 use Rattle.mm_seal.specs.declared.snapshot.Place.TheVariants.{Basic as InBasic, Opt as InOpt}
 use Rattle.mm_seal.specs.Snapshot.{Content}
-use Rattle.mm_model.specs.Chains.{guard}
-use Rattle.mm_model.specs.Instance.{Instance}
-use Rattle.mm_model.specs.History.{History, Move, Commit, Foreign, Placed, Reset, Close, Power as PowerMove, moved, first_history}
-use Rattle.mm_model.specs.Long.{is_long}
-use Rattle.mm_model.specs.Messages.{moving_messages, form_messages, offer_messages}
-use Rattle.mm_model.specs.Steps.{Step, Reads, Changes, Writes, ask_steps, checkpoint_steps}
-use Rattle.mm_call.specs.Asked.{right_messages}
-use Rattle.mm_call.specs.Courses.{End, Done, Fails, Fate, Walked, step_moves, after_step, walk}
 use Rattle.mm_call.specs.CoursesWords.{made_move}
-use Rattle.mm_call.specs.Found.{right_content}
-use Rattle.mm_call.specs.Levels.{by_lists}
-use Rattle.mm_schedule.specs.declared.event.Event.{Event as CodeEvent}
 use Rattle.mm_schedule.specs.declared.event.Event.TheVariants as code
 use Rattle.mm_schedule.specs.declared.event.Meddles.{Meddles}
-use Rattle.mm_schedule.specs.Events.{Event, Ask, Checkpoint, Power, Extend, event_of, meddles_of}
-use Rattle.mm_run.specs.Offered.{offered_bytes}
-use Rattle.mm_run.specs.Folds.{course_of, event_outcome, first_issued}
-use Rattle.mm_run.specs.Premises.{moves_of, event_messages}
-use Rattle.mm_run.specs.PremisesWords.{ask_moves, asking_messages}
-use Rattle.mm_expect.specs.Numbered.{messages_if, messages_where, numbered_event}
-use Rattle.mm_check.specs.Listing.{listed}
-use Rattle.mm_check.specs.Numbering.{numbered_from, numbered}
-use Rattle.mm_check.specs.Guards.{events_of}
 
 -- the values before a step
 
@@ -55,8 +33,7 @@ due_few n meddles few =
       arith,
       few,
       length-map (filter (λ (m : Meddle). m.step == n) meddles) (λ (m : Meddle). m.value.bytes),
-      filter_few
-          (λ (m : Meddle). m.step == n) meddles,
+      filter_few (λ (m : Meddle). m.step == n) meddles,
     )
 
 -- the moves of a walk
@@ -73,8 +50,7 @@ step_few (Writes m) made values h =
     omega (arith, h, length-map values Foreign, made_few made m, length-append (made_move made m) (map Foreign values))
 
 ends_few : (step : Step) (values : List (List ℕ)) (ends : End) (rest : Walked) (steps : List Step) → length values ≤ 8
-    → length rest.moves ≤ 9 * length steps
-    → length (after_step step values ends rest).moves ≤ 9 * length (step ∷ steps)
+    → length rest.moves ≤ 9 * length steps → length (after_step step values ends rest).moves ≤ 9 * length (step ∷ steps)
 ends_few step values Done rest steps h k =
     omega (arith, h, k, step_few step true values h, length-append (step_moves step true values) rest.moves)
 ends_few step values (Fails fault made) rest steps h k = omega (arith, h, k, step_few step made values h)
@@ -135,30 +111,13 @@ move_few : (variant : Variant) (flag : Bool) (i : Instance) (y : History) (m : M
 move_few Basic flag i y m = omega arith
 move_few Opt true i y (Commit b) = omega arith
 move_few Opt false i y (Commit b) = omega arith
-move_few Opt true i y (Foreign d) = omega arith
-move_few Opt false i y (Foreign d) = omega arith
-move_few Opt true i y (Placed b) = omega arith
-move_few Opt false i y (Placed b) = omega arith
-move_few Opt true i y Reset = omega arith
-move_few Opt false i y Reset = omega arith
-move_few Opt true i y Close = omega arith
-move_few Opt false i y Close = omega arith
-move_few Opt true i y PowerMove = omega arith
-move_few Opt false i y PowerMove = omega arith
+move_few _ _ i y _ = omega arith
 
 if_few : (closing : Bool) (i : Instance) (y : History) (m : Move) → length (messages_if closing i y m) ≤ 1
 if_few true i y Close = move_few i.variant y.is_open i y Close
-if_few true i y (Commit b) = omega arith
-if_few true i y (Foreign d) = omega arith
-if_few true i y (Placed b) = omega arith
-if_few true i y Reset = omega arith
-if_few true i y PowerMove = omega arith
+if_few true i y _ = omega arith
 if_few false i y Close = omega arith
-if_few false i y (Commit b) = move_few i.variant y.is_open i y (Commit b)
-if_few false i y (Foreign d) = move_few i.variant y.is_open i y (Foreign d)
-if_few false i y (Placed b) = move_few i.variant y.is_open i y (Placed b)
-if_few false i y Reset = move_few i.variant y.is_open i y Reset
-if_few false i y PowerMove = move_few i.variant y.is_open i y PowerMove
+if_few false i y m = move_few i.variant y.is_open i y m
 
 where_few : (closing : Bool) (i : Instance) (y : History) (moves : List Move) → length (messages_where closing i y moves) ≤ length moves
 where_few closing i y [] = omega arith
@@ -195,8 +154,7 @@ asking_few i (Some bytes) b =
 asks_few : (i : Instance) (issued : List (List ℕ)) (event : Event) → length (event_messages i issued event) ≤ 6
 asks_few i issued (Ask meddles stop offer b) = asking_few i (offered_bytes issued offer) b
 asks_few i issued (Checkpoint meddles stop) = omega arith
-asks_few i issued Power = omega arith
-asks_few i issued (Extend value) = omega arith
+asks_few i issued _ = omega arith
 
 event_few : (i : Instance) (y : History) (issued : List (List ℕ)) (event : Event) → FewMeddles event
     → length (numbered_event i y issued event) ≤ 96

@@ -1,37 +1,23 @@
 -- An event is answered by few lines.
-use Rattle.std.proofs.Common.{◌≡◌, ℕ, ◌+◌, ◌-◌, ◌*◌, ◌≤◌, Bool, true, false, List, [], ◌∷◌, length, Option, None, Some, Result, Ok, Err, refl, arith, length-append}
+use Rattle.mm_check.proofs.Below.{◌≡◌, ℕ, ◌+◌, ◌-◌, ◌*◌, ◌≤◌, Bool, true, false, List, [], ◌∷◌, length, Option, None, Some, Result, Ok, Err}
+use Rattle.mm_check.proofs.Below.{refl, arith, length-append, length-drop, most_members, Batch, size_of, normal, outputs_from, Meddle, Stop}
+use Rattle.mm_check.proofs.Below.{Instance, History, Move, requests_of, total_of, first_history, is_long, Course, Walked, walk, commits}
+use Rattle.mm_check.proofs.Below.{Found, found_at, ask_steps, by_lists, all_made, Event, Ask, Checkpoint, Power, Extend, told_lines}
+use Rattle.mm_check.proofs.Below.{lines_of_reply, end_line, offered_bytes, way_of, course_of, reply_of, closing_reply, uncalled, outcome_by}
+use Rattle.mm_check.proofs.Below.{asked, event_outcome, followed, first_issued, expected, short_size, lines_of_all, expected_lines}
 use Rattle.std.specs.Prelude.{if◌then◌else◌}
-use Rattle.std.proofs.lemmas.List.{length-drop}
-use Rattle.mm_base.specs.Limits.{most_members}
-use Rattle.mm_module.specs.Batch.{Batch, size_of, normal}
-use Rattle.mm_module.specs.Meaning.{outputs_from}
 use Rattle.mm_module.specs.RunLaws.{length-outputs_from}
 use Rattle.mm_platform.specs.declared.fault.StepFault.{StepFault}
-use Rattle.mm_platform.specs.declared.plan.Meddle.{Meddle}
-use Rattle.mm_platform.specs.declared.plan.Stop.{Stop}
-use Rattle.mm_model.specs.Instance.{Instance}
-use Rattle.mm_model.specs.History.{History, Move, requests_of, total_of, first_history}
-use Rattle.mm_model.specs.Long.{is_long}
 use Rattle.mm_model.specs.declared.refusal.Refusal.{Refusal}
 use Rattle.mm_call.specs.AnswersWords.{last_outputs}
-use Rattle.mm_call.specs.Courses.{Course, Walked, walk, commits}
-use Rattle.mm_call.specs.Found.{Found, found_at}
 use Rattle.mm_call.specs.FoundWords.{found_unless_wanting, is_fresh}
-use Rattle.mm_model.specs.Steps.{ask_steps}
 use Rattle.mm_schedule.specs.declared.reply.Reply.TheVariants as reply
 use Rattle.mm_schedule.specs.declared.reply.Cause.TheVariants as cause
-use Rattle.mm_call.specs.Levels.{by_lists, all_made}
 use Rattle.mm_call.specs.Called.{ended_by, position_of, seen_at, called}
 use Rattle.mm_call.specs.CalledWords.{kept_at}
-use Rattle.mm_call.specs.Checkpoints.{Closing, Closes, HasNone, NoSegment, LostPower, Stops, checkpointed}
-use Rattle.mm_schedule.specs.Events.{Event, Ask, Checkpoint, Power, Extend}
-use Rattle.mm_schedule.specs.Replies.{told_lines, lines_of_reply, end_line}
+use Rattle.mm_call.specs.Checkpoints.{Closing, Stops, checkpointed}
 use Rattle.mm_schedule.specs.declared.reply.Way.{Way}
-use Rattle.mm_run.specs.Offered.{offered_bytes}
-use Rattle.mm_run.specs.Folds.{way_of, course_of, reply_of, closing_reply, uncalled, outcome_by, asked, event_outcome, followed, first_issued, expected}
 use Rattle.mm_run.specs.FoldsWords.{broken_reply}
-use Rattle.mm_run.proofs.Counting.{short_size}
-use Rattle.mm_check.specs.Numbering.{lines_of_all, expected_lines}
 
 told_length : (again : Bool) (before : ℕ) (outputs : List (List ℕ)) → length (told_lines again before outputs) ≡ length outputs
 told_length again before [] = refl
@@ -58,8 +44,7 @@ ended_few i seen y how b (Ok it) moves None h =
       arith,
       h,
       last_few i y (size_of b),
-      told_length it.again (total_of y.batches - length (last_outputs i.meaning y (size_of b)))
-          (last_outputs i.meaning y (size_of b)),
+      told_length it.again (total_of y.batches - length (last_outputs i.meaning y (size_of b))) (last_outputs i.meaning y (size_of b)),
     )
 
 called_few : (i : Instance) (y : History) (how : Way) (c : Course) (bytes : List ℕ) (b : Batch) → size_of b ≤ most_members
@@ -71,26 +56,20 @@ called_few i y how c bytes b h =
     ended_few i seen (all_made (by_lists i) y w.moves) how b found w.moves w.broken h
 
 long_few : (i : Instance) (y : History) (issued : List (List ℕ)) (meddles : List Meddle) (stop : Stop) (bytes : List ℕ) (b : Batch)
-    (long : Bool) → is_long b ≡ long
-    → length (lines_of_reply
+    (long : Bool) → is_long b ≡ long → length (lines_of_reply
     (if long then uncalled y issued (reply.No cause.Long) else outcome_by (by_lists i) stop issued
     (called i (by_lists i) y (course_of stop meddles) bytes (normal b))).reply) ≤ most_members
 long_few i y issued meddles stop bytes b true e = omega arith
 long_few i y issued meddles stop bytes b false e = called_few i y (way_of stop) (course_of stop meddles) bytes (normal b) (short_size b e)
 
 asked_few : (i : Instance) (y : History) (issued : List (List ℕ)) (meddles : List Meddle) (stop : Stop) (bytes : Option (List ℕ))
-    (b : Batch)
-    → length (lines_of_reply (asked i (by_lists i) y issued meddles stop bytes b).reply) ≤ most_members
+    (b : Batch) → length (lines_of_reply (asked i (by_lists i) y issued meddles stop bytes b).reply) ≤ most_members
 asked_few i y issued meddles stop None b = omega arith
 asked_few i y issued meddles stop (Some bytes) b = long_few i y issued meddles stop bytes b (is_long b) refl
 
 closing_few : (how : Way) (closing : Closing) → length (lines_of_reply (closing_reply how closing)) ≤ most_members
-closing_few how Closes = omega arith
-closing_few how HasNone = omega arith
-closing_few how NoSegment = omega arith
-closing_few how LostPower = omega arith
 closing_few how (Stops fault true) = omega arith
-closing_few how (Stops fault false) = omega arith
+closing_few how _ = omega arith
 
 event_lines_few : (i : Instance) (y : History) (issued : List (List ℕ)) (event : Event)
     → length (lines_of_reply (event_outcome i (by_lists i) y issued event).reply) ≤ most_members

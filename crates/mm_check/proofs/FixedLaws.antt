@@ -1,36 +1,16 @@
 -- One premise alone is told of a run.
-use Rattle.std.proofs.Common.{◌≡◌, ◌∙◌, ℕ, ◌+◌, ◌<◌, Bool, true, false, cond, List, [], ◌∷◌, ◌++◌, length, Option, None, Some, refl, sym, ap, subst, arith, inl, inr, ◌⊎◌}
-use Rattle.std.specs.Prelude.{◌||◌}
-use Rattle.std.specs.List.{fold, list_any, Contains}
-use Rattle.std.specs.Option.{option_map}
-use Rattle.std.specs.Str.{bytes_eq}
-use Rattle.std.proofs.lemmas.List.Elements.{Contains-append_left, Contains-append_right, Contains-append_cases, Contains-push, Contains-push_cases}
-use Rattle.std.proofs.lemmas.Slice.Eq.{bytes_eq-Decides}
-use Rattle.sha2.specs.Sha256.{sha256}
-use Rattle.mm_digest.specs.declared.variant.Variant.{Variant}
-use Rattle.mm_digest.specs.declared.variant.Variant.TheVariants.{Basic, Opt}
-use Rattle.mm_digest.specs.Messages.{zero_bytes, start_message}
-use Rattle.mm_module.specs.Batch.{Batch}
-use Rattle.mm_model.specs.Chains.{guard}
-use Rattle.mm_model.specs.ChainsWords.{own_values}
-use Rattle.mm_model.specs.Instance.{Instance}
-use Rattle.mm_model.specs.History.{History, Move, moved, first_history}
-use Rattle.mm_model.specs.Messages.{IsClear}
-use Rattle.mm_model.specs.MessagesWords.{move_messages}
-use Rattle.mm_call.specs.Asked.{moves_messages}
-use Rattle.mm_call.specs.Levels.{by_lists}
-use Rattle.mm_schedule.specs.Events.{Event}
-use Rattle.mm_run.specs.Folds.{Followed, followed, event_outcome, first_issued}
-use Rattle.mm_run.specs.Premises.{event_messages, moves_of, messages_from, foreign_of, IsGenuineEvent, AreGenuine, IsGenuineRun}
-use Rattle.mm_run.specs.PremisesWords.{run_messages, foreign_values, asked_batches, AreApart}
-use Rattle.mm_expect.specs.Numbered.{messages_where, numbered_event}
-use Rattle.mm_check.specs.Listing.{first_where, listed, message_digests, shared_with, shared_in, is_zero, zero_in}
-use Rattle.mm_check.specs.Numbering.{numbered_from, numbered, is_secured, IsForgedAt, Decides}
-use Rattle.mm_check.specs.declared.verdicts.Premise.{Premise}
+use Rattle.mm_check.proofs.Below.{◌≡◌, ◌∙◌, ℕ, ◌+◌, ◌<◌, Bool, true, false, cond, List, [], ◌∷◌, ◌++◌, length, Option, None, Some, refl}
+use Rattle.mm_check.proofs.Below.{sym, ap, subst, arith, inl, inr, ◌⊎◌, ◌||◌, fold, list_any, Contains, option_map, bytes_eq}
+use Rattle.mm_check.proofs.Below.{Contains-append_left, Contains-append_right, Contains-append_cases, Contains-push, Contains-push_cases}
+use Rattle.mm_check.proofs.Below.{bytes_eq-Decides, sha256, Variant, Basic, Opt, zero_bytes, start_message, Batch, guard, own_values}
+use Rattle.mm_check.proofs.Below.{Instance, History, Move, moved, first_history, IsClear, move_messages, moves_messages, by_lists, Event}
+use Rattle.mm_check.proofs.Below.{Followed, followed, event_outcome, first_issued, event_messages, moves_of, messages_from, foreign_of}
+use Rattle.mm_check.proofs.Below.{IsGenuineEvent, AreGenuine, IsGenuineRun, run_messages, foreign_values, asked_batches, AreApart}
+use Rattle.mm_check.proofs.Below.{messages_where, numbered_event, first_where, listed, message_digests, shared_with, shared_in, is_zero}
+use Rattle.mm_check.proofs.Below.{zero_in, numbered_from, numbered, is_secured, IsForgedAt, Decides, Premise, secured_by, IsFirstForged}
+use Rattle.mm_check.proofs.Below.{premise_by}
 use Rattle.mm_check.specs.declared.verdicts.Premise.TheVariants.{Held, Shared, Zero, Secured, Forged}
 use Rattle.std.proofs.lemmas.Bool.{cases_lt}
-use Rattle.mm_check.specs.Guards.{secured_by}
-use Rattle.mm_check.specs.Deciding.{IsFirstForged, premise_by}
 use Rattle.mm_check.proofs.ClearLaws.{IsIn, none_in, cons_cases, is_closing, parts_are, clear_of_fewer, true_false}
 
 -- a list with no element twice
@@ -316,8 +296,7 @@ told_later pair nought secured found forged p z s =
     ∙ ap (λ (o : Option ℕ). premise_by None None o forged) s)
 
 secured_opt : (variant : Variant) (barrier : List ℕ) (es : List Event) (n : ℕ) → variant ≡ Opt
-    → first_where (is_secured (own_values barrier (asked_batches es))) es ≡ Some n
-    → secured_by variant barrier es ≡ Some n
+    → first_where (is_secured (own_values barrier (asked_batches es))) es ≡ Some n → secured_by variant barrier es ≡ Some n
 secured_opt variant barrier es n is h = ap (λ (v : Variant). secured_by v barrier es) is ∙ h
 
 facts_of : (i : Instance) (es : List Event) (p : Premise) → Decides i es p → Facts i es p
@@ -341,8 +320,7 @@ facts_of i es (Secured event) h =
       forged = None;
       is =
           told_later (shared_in (message_digests (numbered i es))) (zero_in (message_digests (numbered i es)))
-          (secured_by i.variant i.barrier es) (Some event) None
-          (unshared i es h.0) (no_zero i es h.0) sec;
+          (secured_by i.variant i.barrier es) (Some event) None (unshared i es h.0) (no_zero i es h.0) sec;
       first = λ s z g. absurd (some_none (secured_by i.variant i.barrier es) event sec g);
     }
 facts_of i es (Forged event) h = record {
@@ -374,6 +352,5 @@ premise_fixed i es p q hp hq =
     let a = facts_of i es p hp in
     let b = facts_of i es q hq in
     a.is ∙ same_premise (shared_in (message_digests (numbered i es))) (zero_in (message_digests (numbered i es)))
-    (secured_by i.variant i.barrier es) a.forged b.forged
-    (λ s z g. first_same i es a.forged b.forged (a.first s z g) (b.first s z g))
+    (secured_by i.variant i.barrier es) a.forged b.forged (λ s z g. first_same i es a.forged b.forged (a.first s z g) (b.first s z g))
     ∙ sym b.is

@@ -1,27 +1,11 @@
 -- The value of a batch, by the digest of its request or of its text.
-use Rattle.std.proofs.Common.{◌≡◌, ℕ, zero, suc, ◌+◌, ◌<◌, Bool, true, false, cond, List, [], ◌∷◌, ◌++◌, length, map, take, get_or, Option, None, Some, refl, if◌then◌else◌, sym, ap, ◌∙◌, arith, append_assoc, append-nil}
-use Rattle.std.specs.Prelude.{◌||◌}
-use Rattle.std.specs.BTreeSet.{BTreeSet, contains}
-use Rattle.std.specs.Cmp.Lexicographic.{slice_cmp}
-use Rattle.std.specs.List.{list_any}
-use Rattle.std.specs.Option.{option_map}
-use Rattle.std.specs.Ordering.{nat_cmp, is_eq}
-use Rattle.std.specs.Str.{bytes_eq}
-use Rattle.std.proofs.lemmas.List.{take_more, map-append}
-use Rattle.std.proofs.lemmas.List.Folds.{list_any-append}
-use Rattle.std.proofs.lemmas.Map.Text.{is_eq-slice_cmp}
-use Rattle.mm_platform.specs.declared.plan.Meddle.{Meddle}
-use Rattle.mm_schedule.specs.declared.event.Event.{Event as CodeEvent}
-use Rattle.mm_schedule.specs.Events.{Event, event_of}
-use Rattle.mm_model.specs.ChainsWords.{own_values}
-use Rattle.mm_module.specs.Batch.{Batch}
-use Rattle.mm_run.specs.Premises.{batches_of}
-use Rattle.mm_run.specs.PremisesWords.{asked_batches}
-use Rattle.mm_check.specs.Listing.{first_where}
-use Rattle.mm_check.specs.Guards.{events_of, HasAll}
+use Rattle.mm_check.proofs.Below.{◌≡◌, ℕ, zero, suc, ◌+◌, ◌<◌, Bool, true, false, cond, List, [], ◌∷◌, ◌++◌, length, map, take, get_or}
+use Rattle.mm_check.proofs.Below.{Option, None, Some, refl, if◌then◌else◌, sym, ap, ◌∙◌, arith, append_assoc, append-nil, ◌||◌, BTreeSet}
+use Rattle.mm_check.proofs.Below.{contains, slice_cmp, list_any, option_map, nat_cmp, is_eq, bytes_eq, take_more, map-append}
+use Rattle.mm_check.proofs.Below.{list_any-append, is_eq-slice_cmp, Meddle, CodeEvent, Event, event_of, own_values, Batch, batches_of}
+use Rattle.mm_check.proofs.Below.{asked_batches, first_where, events_of, HasAll, One, Many, normal}
 use Rattle.mm_check.proofs.ListingLaws.{or_here, bytes_eq-flip, first_where-push}
 use Rattle.mm_digest.specs.MessagesWords.{secured_of, secured_batch_of}
-use Rattle.mm_module.specs.Batch.{One, Many, normal}
 use Rattle.mm_module.specs.BatchWords.{has_tab}
 use Rattle.mm_model.specs.Chains.{guard}
 
@@ -90,8 +74,7 @@ pub guards_more : (barrier : List ℕ) (es : List CodeEvent) (i : ℕ) (d : Code
 guards_more barrier es i d h =
     let e = event_of (get_or es i d) in
     let before = events_of (take i es) in
-    sym (ap (λ (l : List Event). own_values barrier (asked_batches l)) (events_more es i d h)
-    ∙ ap (own_values barrier)
+    sym (ap (λ (l : List Event). own_values barrier (asked_batches l)) (events_more es i d h) ∙ ap (own_values barrier)
     (asked_append before (e ∷ []) ∙ ap (λ (l : List Batch). asked_batches before ++ l) (append-nil (batches_of e)))
     ∙ map-append (guard barrier) (asked_batches before) (batches_of e))
 
@@ -125,8 +108,7 @@ first_later true o n h e = absurd (cc)
 first_later false o n h e = ap (option_map (λ k. k + 1)) e
 
 pub first_at : (p : Event → Bool) (es : List CodeEvent) (i : ℕ) (d : CodeEvent) → i < length es
-    → first_where p (events_of (take i es)) ≡ None
-    → p (event_of (get_or es i d)) ≡ true → Some (i + 1) ≡ first_where p (events_of es)
+    → first_where p (events_of (take i es)) ≡ None → p (event_of (get_or es i d)) ≡ true → Some (i + 1) ≡ first_where p (events_of es)
 first_at p [] i d h none here = absurd (omega arith)
 first_at p (e ∷ es) zero d h none here = first_now (p (event_of e)) _ here
 first_at p (e ∷ es) (suc i) d h none here =

@@ -1,14 +1,15 @@
-pub mod ListingLaws
-pub mod CountsLaws
-pub mod SetLaws
-pub mod GuardLaws
-pub mod LineLaws
-pub mod ClearLaws
-pub mod FewLaws
-pub mod DecidingLaws
-pub mod FewLines
-pub mod ComparingLaws
-pub mod CheckingLaws
-pub mod DifferenceLaws
-pub mod RunLaws
-pub mod FixedLaws
+mod Below
+mod ListingLaws
+mod CountsLaws
+mod SetLaws
+mod GuardLaws
+mod LineLaws
+mod ClearLaws
+mod FewLaws
+mod DecidingLaws
+mod FewLines
+mod ComparingLaws
+mod CheckingLaws
+mod DifferenceLaws
+mod RunLaws
+mod FixedLaws

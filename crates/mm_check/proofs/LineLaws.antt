@@ -1,12 +1,9 @@
 -- Lines put one behind another.
-use Rattle.std.proofs.Common.{◌≡◌, ◌∙◌, ℕ, ◌+◌, ◌<◌, List, [], ◌∷◌, ◌++◌, length, take, Some, sym, ap, append_assoc}
-use Rattle.std.specs.List.{slice_get}
-use Rattle.std.proofs.lemmas.List.{take_more}
-use Rattle.std.proofs.lemmas.Option.{slice_get_within, get_or_from_slice_get}
+use Rattle.mm_check.proofs.Below.{◌≡◌, ◌∙◌, ℕ, ◌+◌, ◌<◌, List, [], ◌∷◌, ◌++◌, length, take, Some, sym, ap, append_assoc, slice_get}
+use Rattle.mm_check.proofs.Below.{take_more, slice_get_within, get_or_from_slice_get}
 
 pub lines_more : (first old new lines : List (List ℕ)) (i : ℕ) (line : List ℕ) → old ≡ first ++ take i lines → slice_get lines i ≡ Some line
-    → new ≡ old ++ line ∷ []
-    → new ≡ first ++ take (i + 1) lines
+    → new ≡ old ++ line ∷ [] → new ≡ first ++ take (i + 1) lines
 lines_more first old new lines i line was at is =
     let within : i < length lines = slice_get_within lines i line at in
     is ∙ ap (λ (l : List (List ℕ)). l ++ line ∷ []) was ∙ append_assoc first (take i lines) (line ∷ [])

@@ -1,10 +1,7 @@
 -- What one more digest changes.
-use Rattle.std.proofs.Common.{◌≡◌, ◌∙◌, ℕ, ◌+◌, ◌≤◌, nat_lt, Bool, true, false, cond, List, [], ◌∷◌, ◌++◌, length, Option, None, Some, refl, sym, ap, arith}
-use Rattle.std.specs.Option.{option_map}
-use Rattle.std.specs.Str.{bytes_eq}
-use Rattle.std.proofs.lemmas.Bool.Decides.{nat_tests, same_from_decides}
-use Rattle.std.proofs.lemmas.Slice.Eq.{bytes_eq-Decides}
-use Rattle.mm_check.specs.Listing.{first_where, both_more, shared_with, shared_in, is_zero, zero_in, lower, zero_then}
+use Rattle.mm_check.proofs.Below.{◌≡◌, ◌∙◌, ℕ, ◌+◌, ◌≤◌, nat_lt, Bool, true, false, cond, List, [], ◌∷◌, ◌++◌, length, Option, None, Some}
+use Rattle.mm_check.proofs.Below.{refl, sym, ap, arith, option_map, bytes_eq, nat_tests, same_from_decides, bytes_eq-Decides, first_where}
+use Rattle.mm_check.proofs.Below.{both_more, shared_with, shared_in, is_zero, zero_in, lower, zero_then}
 
 -- the number that was found, or this one where the test passes
 abbrev pub or_here : Option ℕ → Bool → ℕ → Option ℕ
@@ -121,8 +118,7 @@ shared_in-push (d ∷ ds) x =
     ap (λ (o : Option ℕ). shared_with o (shared_in (ds ++ x ∷ []))) found
     ∙ ap (shared_with (or_here (first_where (bytes_eq d) ds) (bytes_eq x d) (length ds + 1))) (shared_in-push ds x)
     ∙ shared_step (first_where (bytes_eq d) ds) (shared_in ds) (first_where (bytes_eq x) ds) (bytes_eq x d) (length ds + 1)
-    (length (d ∷ ds) + 1)
-    (shared_in-from_one ds) (omega arith)
+    (length (d ∷ ds) + 1) (shared_in-from_one ds) (omega arith)
 
 -- the look-ups after one more digest: of one that has come before, and of a new one
 
@@ -138,8 +134,7 @@ here_not (Some k) last = refl
 here_not None last = refl
 
 known_at : (f : List ℕ → Option ℕ) (ds : List (List ℕ)) (x d : List ℕ) (n : ℕ) (same : Bool) → Finds f ds → f x ≡ Some n
-    → bytes_eq d x ≡ same
-    → first_where (bytes_eq d) ds ≡ or_here (first_where (bytes_eq d) ds) same (length ds + 1)
+    → bytes_eq d x ≡ same → first_where (bytes_eq d) ds ≡ or_here (first_where (bytes_eq d) ds) same (length ds + 1)
 known_at f ds x d n false h is e = here_not (first_where (bytes_eq d) ds) (length ds + 1)
 known_at f ds x d n true h is e =
     here_known (first_where (bytes_eq d) ds) n true (length ds + 1) (sym (h d) ∙ ap f ((bytes_eq-Decides d x).0 e) ∙ is)

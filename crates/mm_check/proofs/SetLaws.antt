@@ -1,16 +1,9 @@
 -- Keys of bytes in a set.
-use Rattle.std.proofs.Common.{◌≡◌, ◌∙◌, ℕ, Bool, true, false, List, [], ◌∷◌, refl, sym, ap}
-use Rattle.std.specs.Prelude.{◌||◌, Vec}
+use Rattle.mm_check.proofs.Below.{◌≡◌, ◌∙◌, ℕ, Bool, true, false, List, [], ◌∷◌, refl, sym, ap, ◌||◌, Vec, insert_key, slice_cmp, list_any}
+use Rattle.mm_check.proofs.Below.{nat_cmp, is_eq, match_ordering, bytes_eq, is_eq-slice_cmp, has_message}
 use Rattle.std.specs.declared.cmp.Ordering.TheVariants.{Less, Equal, Greater}
 use Rattle.std.specs.declared.cmp.Ordering.{Ordering}
-use Rattle.std.specs.BTreeSet.{insert_key}
-use Rattle.std.specs.Cmp.Lexicographic.{slice_cmp}
-use Rattle.std.specs.List.{list_any}
-use Rattle.std.specs.Ordering.{nat_cmp, is_eq, match_ordering}
-use Rattle.std.specs.Str.{bytes_eq}
 use Rattle.std.proofs.lemmas.Map.Lookups.{exact_bytes}
-use Rattle.std.proofs.lemmas.Map.Text.{is_eq-slice_cmp}
-use Rattle.mm_check.specs.Lists.{has_message}
 
 pub has_compared : {A : Type 0} (m : List ℕ) (keys : List (Vec ℕ A))
     → list_any (λ (k : Vec ℕ A). is_eq (slice_cmp nat_cmp m k.items)) keys ≡ has_message keys m

@@ -9,9 +9,8 @@ use Rattle.mm_schedule.specs.Events.{Event}
 use Rattle.mm_schedule.specs.Grammar.{event_at}
 use Rattle.mm_play.specs.declared.player.Refused.{Refused}
 use Rattle.mm_play.specs.declared.player.Refused.TheVariants.{Bad, Much}
-use Rattle.mm_play.specs.Counting.{no_answer, same_next}
-use Rattle.mm_replay.specs.Schedule.{is_too_much}
-use Rattle.mm_replay.specs.Counting.{few_events}
+use Rattle.mm_play.specs.Counting.{few_events, no_answer, same_next}
+use Rattle.mm_replay.specs.Schedule.{is_too_much, replaying}
 use Rattle.mm_check.specs.Checking.{Read, first_read, with_event, Compared, first_compared, after_compared, CheckStage, AtHeader, InEvents, InReplies, headed, read_event, check_answer, check_left, most_recorded, section_line}
 
 fewer : (bound : ℕ) (reply said : List ℕ) (next stage : CheckStage)
@@ -38,7 +37,7 @@ event_fewer : (r : Read) (line : List ℕ) (event : Event) (much : Bool) (reply 
 event_fewer r line event true reply next is h = absurd (no_answer Much reply next h)
 event_fewer r line event false reply next is h =
     fewer (check_left (InEvents r)) reply [] next (InEvents (with_event r line event)) h
-    (omega (arith, few_events r.running line is))
+    (omega (arith, few_events replaying r.running line is))
 
 found_fewer : (r : Read) (line : List ℕ) (found : Option Event) (reply : List ℕ) (next : CheckStage)
     → read_event r line found ≡ Ok (reply, next)

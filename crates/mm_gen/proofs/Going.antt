@@ -1,13 +1,7 @@
 -- A schedule in the making: its text so far, and the lines that are left.
-use Rattle.std.proofs.Common.{◌≡◌, ◌<◌, ◌≤◌, ℕ, zero, suc, ◌+◌, ◌-◌, ◌*◌, List, [], ◌∷◌, ◌++◌, length, take, refl, sym, ap, ◌∙◌, arith, append_assoc, inl, inr}
-use Rattle.std.specs.Prelude.{min}
-use Rattle.std.proofs.lemmas.Bool.{cases_lt}
-use Rattle.std.proofs.lemmas.List.{length-take}
-use Rattle.mm_base.specs.Input.{lines_joined}
-use Rattle.mm_base.specs.InputLaws.{joined-append}
-use Rattle.mm_schedule.specs.declared.header.Header.{Header}
-use Rattle.mm_gen.specs.Schedules.{lines_from, schedule_text, words_at}
-use Rattle.mm_gen.specs.Turns.{turn_lines}
+use Rattle.mm_gen.proofs.Below.{◌≡◌, ◌<◌, ◌≤◌, ℕ, zero, suc, ◌+◌, ◌-◌, ◌*◌, List, [], ◌∷◌, ◌++◌, length, take, refl, sym, ap, ◌∙◌, arith}
+use Rattle.mm_gen.proofs.Below.{append_assoc, inl, inr, min, cases_lt, length-take, lines_joined, joined-append, Header, lines_from}
+use Rattle.mm_gen.proofs.Below.{schedule_text, words_at, turn_lines}
 use Rattle.mm_gen.proofs.Rows.{some_lines}
 
 -- so many lines are done, and the next words are drawn from this place on
@@ -20,10 +14,8 @@ pub record Going (number count : ℕ) (header : Header) (text key : List ℕ) (p
 
 take_of_two : (n : ℕ) (xs ys : List (List ℕ)) → take n (xs ++ ys) ≡ take n xs ++ take (n - length xs) ys
 take_of_two zero [] ys = refl
-take_of_two (suc n) [] ys =
-    let all : suc n - 0 ≡ suc n = omega arith in rw all refl
-take_of_two zero (x ∷ xs) ys =
-    let none : 0 - length (x ∷ xs) ≡ 0 = omega arith in rw none refl
+take_of_two (suc n) [] ys = let all : suc n - 0 ≡ suc n = omega arith in rw all refl
+take_of_two zero (x ∷ xs) ys = let none : 0 - length (x ∷ xs) ≡ 0 = omega arith in rw none refl
 take_of_two (suc n) (x ∷ xs) ys =
     let less : suc n - length (x ∷ xs) ≡ n - length xs = omega arith in
     rw less (ap (λ (more : List (List ℕ)). x ∷ more) (take_of_two n xs ys))
@@ -32,53 +24,46 @@ take_of_two (suc n) (x ∷ xs) ys =
 behind : (header : Header) (key : List ℕ) (place turns left done shown size : ℕ) → shown ≡ min left size
     → take (left - size) (lines_from header key place (done + 1 + size) turns)
     ≡ take (left - shown) (lines_from header key place (done + shown + 1) turns)
-behind header key place turns left done shown size is =
-    elim (cases_lt left size) [
-      | inl cut ↦
-          let none : left - size ≡ 0 = omega arith in
-          let over : left - shown ≡ 0 = omega (arith, is) in
-          rw (none, over) refl
-      | inr whole ↦
-          let all : left - size ≡ left - shown = omega (arith, is) in
-          let next : done + 1 + size ≡ done + shown + 1 = omega (arith, is) in
-          rw (all, next) refl
-    ]
+behind header key place turns left done shown size is = elim (cases_lt left size) [
+  | inl cut ↦
+      let none : left - size ≡ 0 = omega arith in let over : left - shown ≡ 0 = omega (arith, is) in
+      rw (none, over) refl
+  | inr whole ↦
+      let all : left - size ≡ left - shown = omega (arith, is) in
+      let next : done + 1 + size ≡ done + shown + 1 = omega (arith, is) in
+      rw (all, next) refl
+]
 
--- one turn is put, with at most as many lines as are left
-stepped : (number count : ℕ) (header : Header) (text key : List ℕ) (place done shown turns : ℕ)
-    → done < count → place ≤ 4 * done → count - done ≤ turns
-    → text ++ lines_joined (take (count - done) (lines_from header key place (done + 1) turns)) ≡ schedule_text number count header
-    → shown ≡ length (take (count - done) (turn_lines header (done + 1) (words_at key place)))
-    → Going number count header (text ++ lines_joined (take (count - done) (turn_lines header (done + 1) (words_at key place)))) key
-    (place + 4) (done + shown)
-stepped number count header text key place done shown zero more drawn enough whole is = absurd (omega arith)
-stepped number count header text key place done shown (suc turns) more drawn enough whole is =
-    let lines : List (List ℕ) = turn_lines header (done + 1) (words_at key place) in
-    let left : ℕ = count - done in
-    let rest : List (List ℕ) = lines_from header key (place + 4) (done + 1 + length lines) turns in
-    let later : List (List ℕ) = take (count - (done + shown)) (lines_from header key (place + 4) (done + shown + 1) turns) in
-    let size : shown ≡ min left (length lines) = is ∙ length-take left lines in
-    let some : 0 < length lines = some_lines header (done + 1) (words_at key place) in
-    let fewer : left - shown ≡ count - (done + shown) = omega arith in
-    let cut : take (left - length lines) rest ≡ later =
-    behind header key (place + 4) turns left done shown (length lines) size
-    ∙ ap (λ (n : ℕ). take n (lines_from header key (place + 4) (done + shown + 1) turns)) fewer in
-    let parts : take left (lines ++ rest) ≡ take left lines ++ later =
-    take_of_two left lines rest ∙ ap (λ (more : List (List ℕ)). take left lines ++ more) cut in
-    record {
-      few = omega (arith, size, more);
-      drawn = omega (arith, size, more, some, drawn);
-      turns = turns;
-      enough = omega (arith, size, more, some, enough);
-      whole = append_assoc text (lines_joined (take left lines)) (lines_joined later)
-          ∙ ap (λ (more : List ℕ). text ++ more) (sym (joined-append (take left lines) later))
-          ∙ ap (λ (more : List (List ℕ)). text ++ lines_joined more) (sym parts) ∙ whole;
-    }
+module _ (number count : ℕ) (header : Header) (text : List ℕ) where
+  -- one turn is put, with at most as many lines as are left
+  stepped : (key : List ℕ) (place done shown turns : ℕ) → done < count → place ≤ 4 * done → count - done ≤ turns
+      → text ++ lines_joined (take (count - done) (lines_from header key place (done + 1) turns)) ≡ schedule_text number count header
+      → shown ≡ length (take (count - done) (turn_lines header (done + 1) (words_at key place)))
+      → Going number count header (text ++ lines_joined (take (count - done) (turn_lines header (done + 1) (words_at key place)))) key
+      (place + 4) (done + shown)
+  stepped key place done shown zero more drawn enough whole is = absurd (omega arith)
+  stepped key place done shown (suc turns) more drawn enough whole is =
+      let lines : List (List ℕ) = turn_lines header (done + 1) (words_at key place) in let left : ℕ = count - done in
+      let rest : List (List ℕ) = lines_from header key (place + 4) (done + 1 + length lines) turns in
+      let later : List (List ℕ) = take (count - (done + shown)) (lines_from header key (place + 4) (done + shown + 1) turns) in
+      let size : shown ≡ min left (length lines) = is ∙ length-take left lines in
+      let some : 0 < length lines = some_lines header (done + 1) (words_at key place) in
+      let fewer : left - shown ≡ count - (done + shown) = omega arith in
+      let cut : take (left - length lines) rest ≡ later = behind header key (place + 4) turns left done shown (length lines) size
+      ∙ ap (λ (n : ℕ). take n (lines_from header key (place + 4) (done + shown + 1) turns)) fewer in
+      let parts : take left (lines ++ rest) ≡ take left lines ++ later =
+      take_of_two left lines rest ∙ ap (λ (more : List (List ℕ)). take left lines ++ more) cut in
+      record {
+        few = omega (arith, size, more);
+        drawn = omega (arith, size, more, some, drawn);
+        turns = turns;
+        enough = omega (arith, size, more, some, enough);
+        whole = append_assoc text (lines_joined (take left lines)) (lines_joined later) ∙ ap (λ (more : List ℕ). text ++ more)
+            (sym (joined-append (take left lines) later)) ∙ ap (λ (more : List (List ℕ)). text ++ lines_joined more) (sym parts) ∙ whole;
+      }
 
-pub goes_on : (number count : ℕ) (header : Header) (text key : List ℕ) (place done shown : ℕ)
-    → Going number count header text key place done → done < count
-    → shown ≡ length (take (count - done) (turn_lines header (done + 1) (words_at key place)))
-    → Going number count header (text ++ lines_joined (take (count - done) (turn_lines header (done + 1) (words_at key place)))) key
-    (place + 4) (done + shown)
-goes_on number count header text key place done shown going more is =
-    stepped number count header text key place done shown going.turns more going.drawn going.enough going.whole is
+  pub goes_on : (key : List ℕ) (place done shown : ℕ) → Going number count header text key place done → done < count
+      → shown ≡ length (take (count - done) (turn_lines header (done + 1) (words_at key place)))
+      → Going number count header (text ++ lines_joined (take (count - done) (turn_lines header (done + 1) (words_at key place)))) key
+      (place + 4) (done + shown)
+  goes_on key place done shown going more is = stepped key place done shown going.turns more going.drawn going.enough going.whole is

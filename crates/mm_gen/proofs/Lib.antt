@@ -1,5 +1,8 @@
-pub mod Going
-pub mod Parts
-pub mod Readable
-pub mod Rows
-pub mod Spelled
+mod Below
+mod Going
+mod Parts
+mod Readable
+mod Rows
+mod Spelled
+mod Tallying
+mod Replaying

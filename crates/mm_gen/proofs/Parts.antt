@@ -1,22 +1,14 @@
 -- Parts of lines: bytes without LF, and at most so many.
-use Rattle.std.proofs.Common.{◌≡◌, ◌≢◌, ◌<◌, ◌≤◌, ◌^◌, ℕ, ◌+◌, Bool, true, false, List, [], ◌∷◌, ◌++◌, length, arith}
-use Rattle.std.specs.Prelude.{◌==◌, not}
+use Rattle.mm_gen.proofs.Below.{◌≡◌, ◌≢◌, ◌<◌, ◌≤◌, ◌^◌, ℕ, ◌+◌, Bool, true, false, List, [], ◌∷◌, ◌++◌, length, arith, ◌==◌, not, decimal}
+use Rattle.mm_gen.proofs.Below.{AllByRecursion, list_all, nat_tests, length-append, All-append, All-from_recursion, IsUnbroken, name_of}
+use Rattle.mm_gen.proofs.Below.{any_is_found, any_is_listed, request_chosen}
 use Rattle.std.specs.Char.{is_ascii_digit}
-use Rattle.std.specs.Fmt.{decimal}
-use Rattle.std.specs.List.{AllByRecursion, list_all}
 use Rattle.std.specs.Str.{all_ascii_digits}
-use Rattle.std.proofs.lemmas.Bool.Decides.{nat_tests}
 use Rattle.std.proofs.lemmas.Fmt.{digits_decimal, length-decimal-le}
-use Rattle.std.proofs.lemmas.List.{length-append}
-use Rattle.std.proofs.lemmas.List.Elements.{All-append, All-from_recursion}
 use Rattle.std.proofs.lemmas.Str.Parse.{numerals_by_value, tells_all_ascii_digits}
-use Rattle.mm_base.specs.Input.{IsUnbroken}
 use Rattle.mm_listing.specs.Listing.{is_name_byte}
 use Rattle.mm_module.specs.LineLaws.{All-is_unbroken}
 use Rattle.mm_modules.specs.declared.any.AnyModule.{AnyModule}
-use Rattle.mm_modules.specs.Modules.{name_of}
-use Rattle.mm_modules.specs.Modules.{any_is_found, any_is_listed}
-use Rattle.mm_gen.specs.Turns.{request_chosen}
 
 pub record IsPart (size : ℕ) (bytes : List ℕ) : Type 0 where
   pub unbroken : IsUnbroken bytes

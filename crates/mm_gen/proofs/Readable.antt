@@ -1,21 +1,10 @@
 -- A generated schedule is read as it was made.
-use Rattle.std.proofs.Common.{◌<◌, ◌≤◌, ◌^◌, ◌*◌, ℕ, zero, suc, ◌+◌, List, [], ◌∷◌, ◌++◌, length, refl, sym, ap, ◌∙◌, arith}
-use Rattle.std.specs.Prelude.{All, codes}
-use Rattle.std.specs.List.{AllByRecursion}
-use Rattle.std.proofs.lemmas.List.{append-nil, length-append, length-take-le}
-use Rattle.std.proofs.lemmas.List.Elements.{All-append, All-from_recursion, All-nil, All-take, All-weaker, recursion_from_All}
-use Rattle.rand_chacha.specs.ChaCha.{key_of}
-use Rattle.mm_base.specs.Input.{IsUnbroken, lines_joined, lines_of, tail_of}
-use Rattle.mm_base.specs.InputLaws.{lines_of-joined, tail_of-joined}
-use Rattle.mm_base.specs.Limits.{most_events}
-use Rattle.mm_digest.specs.declared.variant.Variant.{Variant}
-use Rattle.mm_digest.specs.declared.variant.Variant.TheVariants.{Basic, Opt}
-use Rattle.mm_modules.specs.Modules.{name_of}
-use Rattle.mm_schedule.specs.declared.header.Header.{Header}
-use Rattle.mm_schedule.specs.Headers.{header_text, variant_text}
-use Rattle.mm_gen.specs.Laws.{IsEventLine, IsSchedule}
-use Rattle.mm_gen.specs.Schedules.{lines_from, schedule_lines, seed_from, words_at}
-use Rattle.mm_gen.specs.Turns.{turn_lines}
+use Rattle.mm_gen.proofs.Below.{◌<◌, ◌≤◌, ◌^◌, ◌*◌, ℕ, zero, suc, ◌+◌, List, [], ◌∷◌, ◌++◌, length, refl, sym, ap, ◌∙◌, arith, All, codes}
+use Rattle.mm_gen.proofs.Below.{AllByRecursion, length-append, length-take-le, All-append, All-from_recursion, All-nil, All-take}
+use Rattle.mm_gen.proofs.Below.{All-weaker, recursion_from_All, key_of, IsUnbroken, lines_joined, lines_of, tail_of, lines_of-joined}
+use Rattle.mm_gen.proofs.Below.{tail_of-joined, most_events, Variant, Basic, Opt, name_of, Header, header_text, variant_text, IsEventLine}
+use Rattle.mm_gen.proofs.Below.{IsSchedule, lines_from, schedule_lines, seed_from, words_at, turn_lines}
+use Rattle.std.proofs.lemmas.List.{append-nil}
 use Rattle.mm_gen.proofs.Parts.{IsPart, both, literal, name-part}
 use Rattle.mm_gen.proofs.Rows.{few_lines, some_lines}
 use Rattle.mm_gen.proofs.Spelled.{turn_events}
@@ -26,9 +15,8 @@ variant-part Opt = literal (codes "opt") refl (omega arith)
 
 pub header-unbroken : (header : Header) → IsUnbroken (header_text header)
 header-unbroken header =
-    (both 20 72 (codes "memoir 1 ") (variant_text header.variant ++ 32 ∷ name_of header.module)
-    (literal (codes "memoir 1 ") refl (omega arith))
-    (both 20 52 (variant_text header.variant) (32 ∷ name_of header.module) (variant-part header.variant)
+    (both 20 72 (codes "memoir 1 ") (variant_text header.variant ++ 32 ∷ name_of header.module) (literal (codes "memoir 1 ") refl
+    (omega arith)) (both 20 52 (variant_text header.variant) (32 ∷ name_of header.module) (variant-part header.variant)
     (both 20 32 (32 ∷ []) (name_of header.module) (literal (32 ∷ []) refl (omega arith)) (name-part header.module)))).unbroken
 
 -- so many turns have at least as many lines, and each is an event's
@@ -51,8 +39,8 @@ is_schedule number count header few =
     let events : All IsEventLine (schedule_lines number count header) = All-take IsEventLine count all from.1 in
     let unbroken : AllByRecursion IsUnbroken (header_text header ∷ schedule_lines number count header) = (
       header-unbroken header,
-      recursion_from_All IsUnbroken (schedule_lines number count header)
-          (All-weaker IsEventLine IsUnbroken (λ line event. event.unbroken) (schedule_lines number count header) events),
+      recursion_from_All IsUnbroken (schedule_lines number count header) (All-weaker IsEventLine IsUnbroken (λ line event. event.unbroken)
+          (schedule_lines number count header) events),
     ) in
     let lines : List (List ℕ) = header_text header ∷ schedule_lines number count header in
     record {

@@ -1,12 +1,8 @@
 -- What is said of every row of the table of turns.
-use Rattle.std.proofs.Common.{◌<◌, ◌≤◌, ℕ, ◌+◌, ◌%◌, Bool, true, false, List, [], ◌∷◌, ◌++◌, length, arith}
-use Rattle.std.specs.Prelude.{if◌then◌else◌, nat_lt, ◌==◌, codes}
-use Rattle.std.specs.Fmt.{decimal}
-use Rattle.mm_digest.specs.declared.variant.Variant.{Variant}
-use Rattle.mm_digest.specs.declared.variant.Variant.TheVariants.{Basic, Opt}
-use Rattle.mm_schedule.specs.declared.header.Header.{Header}
-use Rattle.mm_gen.specs.declared.words.Words.{Words}
-use Rattle.mm_gen.specs.Turns.{ask_text, cut_word, effect_word, request_chosen, row_14, row_15, turn_lines}
+use Rattle.mm_gen.proofs.Below.{◌<◌, ◌≤◌, ℕ, ◌+◌, ◌%◌, Bool, true, false, List, [], ◌∷◌, ◌++◌, length, arith, if◌then◌else◌, nat_lt, ◌==◌}
+use Rattle.mm_gen.proofs.Below.{codes, decimal, Variant, Basic, Opt, Header, Words, ask_text, cut_word, effect_word, request_chosen, row_14}
+use Rattle.mm_gen.proofs.Below.{row_15}
+use Rattle.mm_gen.specs.Turns.{turn_lines}
 
 -- what holds in both cases
 pub in_both : {A : Type 0} (P : A → Type 0) (b : Bool) (x y : A) → P x → P y → P (if b then x else y)
@@ -37,15 +33,13 @@ unfolding turn_lines
 are_few header first words =
     let request : List ℕ = request_chosen header.module words.request in
     let last : List ℕ = ask_text (codes "last") request in
-    in_both IsFew (nat_lt (words.row % 16) 9) _ _ (one last)
-    (in_both IsFew (words.row % 16 == 9) _ _ (one (ask_text (decimal (words.number % first)) request))
-    (in_both IsFew (words.row % 16 == 10) _ _
+    in_both IsFew (nat_lt (words.row % 16) 9) _ _ (one last) (in_both IsFew (words.row % 16 == 9) _ _
+    (one (ask_text (decimal (words.number % first)) request)) (in_both IsFew (words.row % 16 == 10) _ _
     (one (ask_text (codes "flip " ++ decimal (words.number % first) ++ 32 ∷ decimal (words.detail % 128)) request))
     (in_both IsFew (words.row % 16 == 11) _ _ (two ((cut_word header.variant ++ decimal (1 + words.number % 5) ++ 32 ∷ []) ++ last) last)
     (in_both IsFew (words.row % 16 == 12) _ _ (two ((codes "drop " ++ decimal (1 + words.number % 5) ++ 32 ∷ []) ++ last) last)
-    (in_both IsFew (words.row % 16 == 13) _ _
-    (two ((codes "fail " ++ decimal (1 + words.number % 5) ++ effect_word words.detail) ++ last) last)
-    (in_both IsFew (words.row % 16 == 14) _ _ (few-14 header.variant) (few-15 header.variant)))))))
+    (in_both IsFew (words.row % 16 == 13) _ _ (two ((codes "fail " ++ decimal (1 + words.number % 5) ++ effect_word words.detail) ++ last)
+    last) (in_both IsFew (words.row % 16 == 14) _ _ (few-14 header.variant) (few-15 header.variant)))))))
 
 -- a turn has a line
 pub some_lines : (header : Header) (first : ℕ) (words : Words) → 0 < length (turn_lines header first words)

@@ -1,33 +1,21 @@
 -- Each line of a turn spells an event.
-use Rattle.std.proofs.Common.{◌<◌, ◌^◌, ℕ, ◌+◌, ◌%◌, Bool, true, false, List, [], ◌∷◌, ◌++◌, refl, arith}
-use Rattle.std.specs.Prelude.{if◌then◌else◌, nat_lt, ◌==◌, codes}
-use Rattle.std.specs.Fmt.{decimal}
-use Rattle.std.specs.List.{AllByRecursion}
+use Rattle.mm_gen.proofs.Below.{◌<◌, ◌^◌, ℕ, ◌+◌, ◌%◌, Bool, true, false, List, [], ◌∷◌, ◌++◌, refl, arith, if◌then◌else◌, nat_lt, ◌==◌}
+use Rattle.mm_gen.proofs.Below.{codes, decimal, AllByRecursion, Variant, Basic, Opt, Header, Ask, Checkpoint, Power, Words, IsEventLine}
+use Rattle.mm_gen.proofs.Below.{ask_text, cut_word, pair, request_chosen, row_14, row_15}
 use Rattle.std.proofs.lemmas.Nat.{mod_below}
-use Rattle.mm_digest.specs.declared.variant.Variant.{Variant}
-use Rattle.mm_digest.specs.declared.variant.Variant.TheVariants.{Basic, Opt}
 use Rattle.mm_module.specs.Batch.{One}
 use Rattle.mm_platform.specs.declared.plan.Stop.{Stop}
 use Rattle.mm_platform.specs.declared.plan.Stop.TheVariants.{Quiet, Cut, Drop, Fail}
 use Rattle.mm_schedule.specs.declared.event.Offer.{Offer}
 use Rattle.mm_schedule.specs.declared.event.Offer.TheVariants.{Number, Last, Flip}
-use Rattle.mm_schedule.specs.declared.header.Header.{Header}
-use Rattle.mm_schedule.specs.Events.{Ask, Checkpoint, Power}
 use Rattle.mm_schedule.specs.Spelling.{SpellsNumber, SpellsOffer, SpellsStep, SpellsStop}
-use Rattle.mm_gen.specs.declared.words.Words.{Words}
-use Rattle.mm_gen.specs.Laws.{IsEventLine}
-use Rattle.mm_gen.specs.Turns.{ask_text, cut_word, pair, request_chosen, row_14, row_15, turn_lines}
+use Rattle.mm_gen.specs.Turns.{turn_lines}
 use Rattle.mm_gen.proofs.Parts.{IsPart, both, literal, number, request-part, wider}
 use Rattle.mm_gen.proofs.Rows.{in_both}
 
 -- each line is an event's
 abbrev pub AreEvents : List (List ℕ) → Type 0
 AreEvents lines = AllByRecursion IsEventLine lines
-
--- what ends a call, spelled in this text
-record Ends (stop : Stop) (text : List ℕ) : Type 0 where
-  spelled : SpellsStop stop text
-  part : IsPart 80 text
 
 -- an offer, spelled in this text
 record Offers (offer : Offer) (text : List ℕ) : Type 0 where
@@ -40,29 +28,36 @@ spelled_number n low = record { most = omega (arith, low); digits = refl }
 spelled_step : (n : ℕ) → SpellsStep (1 + n % 5) (decimal (1 + n % 5))
 spelled_step n = record { low = omega arith; high = omega arith; digit = refl }
 
-ask_line : (stop : Stop) (ending : List ℕ) (offer : Offer) (from request : List ℕ)
-    → Ends stop ending → Offers offer from → IsPart 256 request → IsEventLine (ending ++ ask_text from request)
-ask_line stop ending offer from request ends offers part =
-    let line = both 80 376 ending (ask_text from request) ends.part
-    (both 20 356 (codes "ask ") (from ++ 32 ∷ request) (literal (codes "ask ") refl (omega arith))
-    (both 80 276 from (32 ∷ request) offers.part (both 20 256 (32 ∷ []) request (literal (32 ∷ []) refl (omega arith)) part))) in
-    record {
-      event = Ask [] stop offer (One request);
-      spelled = (
-        from,
-        offers.spelled,
-        record {
-          few = omega arith;
-          extensions = [];
-          ending = ending;
-          meddled = refl;
-          stopped = ends.spelled;
-          parts = refl;
-        },
-      );
-      short = omega (arith, line.short);
-      unbroken = line.unbroken;
-    }
+module _ (stop : Stop) where
+  -- what ends a call, spelled in this text
+  record Ends (text : List ℕ) : Type 0 where
+    spelled : SpellsStop stop text
+    part : IsPart 80 text
+
+  ask_line : (ending : List ℕ) (offer : Offer) (from request : List ℕ) → Ends ending → Offers offer from → IsPart 256 request
+      → IsEventLine (ending ++ ask_text from request)
+  ask_line ending offer from request ends offers part =
+      let line = both 80 376 ending (ask_text from request) ends.part
+      (both 20 356 (codes "ask ") (from ++ 32 ∷ request) (literal (codes "ask ") refl (omega arith))
+      (both 80 276 from (32 ∷ request) offers.part (both 20 256 (32 ∷ []) request (literal (32 ∷ []) refl (omega arith)) part))) in
+      record {
+        event = Ask [] stop offer (One request);
+        spelled = (
+          from,
+          offers.spelled,
+          record {
+            few = omega arith;
+            extensions = [];
+            ending = ending;
+            meddled = refl;
+            stopped
+                = ends.spelled;
+            parts = refl;
+          },
+        );
+        short = omega (arith, line.short);
+        unbroken = line.unbroken;
+      }
 
 -- nothing ends the call
 quiet : Ends Quiet []
@@ -77,17 +72,15 @@ numbered n low = record { spelled = spelled_number n low; part = wider 20 80 (de
 flipped : (n byte : ℕ) → n < 10 ^ 9 → byte < 10 ^ 9 → Offers (Flip n byte) (codes "flip " ++ decimal n ++ 32 ∷ decimal byte)
 flipped n byte low few = record {
   spelled = (decimal n, decimal byte, spelled_number n low, spelled_number byte few, refl);
-  part = both 20 60 (codes "flip ") _ (literal (codes "flip ") refl (omega arith))
-      (both 20 40 (decimal n) (32 ∷ decimal byte) (number n low)
-      (both 20 20 (32 ∷ []) (decimal byte) (literal (32 ∷ []) refl (omega arith)) (number byte few)));
+  part = both 20 60 (codes "flip ") _ (literal (codes "flip ") refl (omega arith)) (both 20 40 (decimal n) (32 ∷ decimal byte)
+      (number n low) (both 20 20 (32 ∷ []) (decimal byte) (literal (32 ∷ []) refl (omega arith)) (number byte few)));
 }
 
 -- a word, a step and a text behind it
 stop-part : (word behind : List ℕ) (n : ℕ) → IsPart 20 word → IsPart 20 behind → IsPart 80 (word ++ decimal (1 + n % 5) ++ behind)
 stop-part word behind n first second =
-    wider 60 80 (word ++ decimal (1 + n % 5) ++ behind)
-    (both 40 20 (word ++ decimal (1 + n % 5)) behind (both 20 20 word (decimal (1 + n % 5)) first (number (1 + n % 5) (omega arith)))
-    second) (omega arith)
+    wider 60 80 (word ++ decimal (1 + n % 5) ++ behind) (both 40 20 (word ++ decimal (1 + n % 5)) behind
+    (both 20 20 word (decimal (1 + n % 5)) first (number (1 + n % 5) (omega arith))) second) (omega arith)
 
 cut : (n : ℕ) → Ends (Cut (1 + n % 5)) (codes "cut " ++ decimal (1 + n % 5) ++ 32 ∷ [])
 cut n = record {
@@ -155,15 +148,16 @@ turn_events header first words some low =
     let part : IsPart 256 request = request-part header.module words.request in
     let snapshot : words.number % first < 10 ^ 9 = omega (arith, mod_below words.number first some, low) in
     in_both AreEvents (nat_lt (words.row % 16) 9) _ _ (ask_line Quiet [] Last (codes "last") request quiet last part, tt)
-    (in_both AreEvents (words.row % 16 == 9) _ _
-    (ask_line Quiet [] (Number (words.number % first)) _ request quiet (numbered (words.number % first) snapshot) part, tt)
-    (in_both AreEvents (words.row % 16 == 10) _ _ (
-      ask_line Quiet [] (Flip (words.number % first) (words.detail % 128)) _ request quiet
-          (flipped (words.number % first) (words.detail % 128) snapshot (omega arith)) part,
+    (in_both AreEvents (words.row % 16 == 9) _ _ (
+      ask_line Quiet [] (Number (words.number % first)) _ request quiet
+          (numbered (words.number % first) snapshot) part,
       tt,
-    )
-    (in_both AreEvents (words.row % 16 == 11) _ _ (cut_or_drop header.variant words.number request part)
-    (in_both AreEvents (words.row % 16 == 12) _ _ (pairs (Drop (1 + words.number % 5)) _ request (drop words.number) part)
-    (in_both AreEvents (words.row % 16 == 13) _ _
-    (pairs (Fail (1 + words.number % 5) (words.detail % 2 == 0)) _ request (fail words.number (words.detail % 2 == 0)) part)
-    (in_both AreEvents (words.row % 16 == 14) _ _ (events-14 header.variant) (events-15 header.variant)))))))
+    ) (in_both AreEvents (words.row % 16 == 10) _ _ (
+      ask_line Quiet [] (Flip (words.number % first) (words.detail % 128)) _ request quiet (flipped (words.number % first)
+          (words.detail % 128) snapshot (omega arith)) part,
+      tt,
+    ) (in_both AreEvents (words.row % 16 == 11) _ _ (cut_or_drop header.variant
+    words.number request part) (in_both AreEvents (words.row % 16 == 12) _ _ (pairs (Drop (1 + words.number % 5)) _ request
+    (drop words.number) part) (in_both AreEvents (words.row % 16 == 13) _ _ (pairs (Fail (1 + words.number % 5) (words.detail % 2 == 0)) _
+    request (fail words.number (words.detail % 2 == 0)) part) (in_both AreEvents (words.row % 16 == 14) _ _ (events-14 header.variant)
+    (events-15 header.variant)))))))

@@ -1,4 +1,11 @@
+pub mod Answered
+pub mod Counting
 pub mod Laws
+pub mod Limits
+pub mod LineBreaks
 pub mod Lines
+pub mod Replayed
 pub mod Schedules
+pub mod Summaries
+pub mod Sums
 pub mod Turns

@@ -1,17 +1,13 @@
--- An input that is answered to its end is not refused.
-use Rattle.std.proofs.Common.{◌≡◌, ◌∙◌, ℕ, List, ◌++◌, Option, Some, None, Result, Ok, Err, inl, inr, sym, ap, subst, append-nil}
-use Rattle.std.specs.Io.KnownBytes.{Consumes}
-use Rattle.mm_base.specs.declared.replay_fault.ReplayFault.{ReplayFault}
-use Rattle.mm_base.specs.declared.replay_fault.ReplayFault.TheVariants.{Memory, ReadFault, WriteFault, BadLine, LineLong, TooMuch}
-use Rattle.mm_play.specs.declared.player.Refused.{Refused}
-use Rattle.mm_play.specs.Play.{Told, told, run, run_of}
-use Rattle.mm_play.specs.Plays.{ForWhole, Settles, IsUnrefused, Plays}
+-- A whole play, by what a player's answers mean; and that an input that is answered to its end is not refused.
+use Rattle.mm_play.proofs.Below.{◌≡◌, ◌∙◌, ℕ, List, ◌++◌, Option, Some, None, Result, Ok, Err, inl, inr, sym, ap, subst, append-nil}
+use Rattle.mm_play.proofs.Below.{Consumes, ReplayFault, Memory, ReadFault, WriteFault, BadLine, LineLong, TooMuch, Refused, Told, told, run}
+use Rattle.mm_play.proofs.Below.{run_of, ForWhole, Settles, IsUnrefused, Plays, Answered, Finished, RefusesMuch, TellsBy, PlaysWhole}
 use Rattle.mm_play.proofs.Runs.{not_ok}
+use Rattle.mm_play.proofs.Telling.{tells_by, tells_more}
 
 -- an answer other than Ok means the same for any call
 pub settles_err : {P : Type 0} (A B : Type 0) (lines : List (List ℕ) → Told P) (whole : List ℕ → Told P) (next : P) (left : Option (List ℕ))
-    (taken sent : List ℕ) (fault : ReplayFault)
-    → (let r : Result A ReplayFault = Err fault in Settles lines whole next left taken sent r)
+    (taken sent : List ℕ) (fault : ReplayFault) → (let r : Result A ReplayFault = Err fault in Settles lines whole next left taken sent r)
     → (let r : Result B ReplayFault = Err fault in Settles lines whole next left taken sent r)
 settles_err A B lines whole next left taken sent Memory s = s
 settles_err A B lines whole next left taken sent ReadFault s = s
@@ -20,48 +16,62 @@ settles_err A B lines whole next left taken sent (BadLine n) s = s
 settles_err A B lines whole next left taken sent (LineLong n) s = s
 settles_err A B lines whole next left taken sent TooMuch s = s
 
--- a play from the first stage, with the answer that its caller makes of the play's
-as_said : {P : Type 0} (T : Type 0) (answer : P → List ℕ → Result (List ℕ × P) Refused) (closing : P → Option (List ℕ))
-    (first player next : P) (left left' received received' : Option (List ℕ)) (result : Result (Unit {0}) ReplayFault)
-    (said : Result T ReplayFault) → player ≡ first → Plays answer closing player next left left' received received' result
-    → ((taken sent : List ℕ) → Settles (run answer 1 first) (run_of answer closing first) next left' taken sent result
-    → Settles (run answer 1 first) (run_of answer closing first) next left' taken sent said)
-    → Plays answer closing first next left left' received received' said
-as_said {P = P} T answer closing first player next left left' received received' result said begins played settles =
-    let p = subst (λ (it : P). Plays answer closing it next left left' received received' result) begins played in
-    record {
-      taken = p.taken;
-      sent = p.sent;
-      consumed = p.consumed;
-      appended = p.appended;
-      settled = settles p.taken p.sent p.settled;
-    }
+-- What a player's answers mean: those to lines that were answered, those to all lines of an input, and why a line is one
+-- too many.
+pub record Means {P : Type 0} (answer : P → List ℕ → Result (List ℕ × P) Refused) (closing : P → Option (List ℕ)) (first : P)
+    (some all : List (List ℕ) → List ℕ → Type 0) (much : List (List ℕ) → List (List ℕ) → Type 0) : Type 0 where
+  pub lines : (lines : List (List ℕ)) (written : List ℕ) → Answered answer first lines written → some lines written
+  pub whole : (lines : List (List ℕ)) (written : List ℕ) → Finished answer closing first lines written → all lines written
+  pub turn : (done rest : List (List ℕ)) → RefusesMuch answer first done rest → much done rest
 
--- with the report that the caller makes of the last stage
-pub plays_ok : {P : Type 0} (T : Type 0) (answer : P → List ℕ → Result (List ℕ × P) Refused) (closing : P → Option (List ℕ))
-    (first player next : P) (left left' received received' : Option (List ℕ)) (result : Result (Unit {0}) ReplayFault) (done : Unit {0})
-    (report : T) → player ≡ first → Plays answer closing player next left left' received received' result → result ≡ Ok done
-    → (let r : Result T ReplayFault = Ok report in Plays answer closing first next left left' received received' r)
-plays_ok T answer closing first player next left left' received received' result done report begins played is =
-    as_said T answer closing first player next left left' received received' result (Ok report) begins played
-    (λ taken sent settled. subst (λ (r : Result (Unit {0}) ReplayFault).
-    Settles (run answer 1 first) (run_of answer closing first) next left' taken sent r) is settled)
+-- What is out tells what the answers mean.
+pub tells : {P T : Type 0} (answer : P → List ℕ → Result (List ℕ × P) Refused) (closing : P → Option (List ℕ)) (first next : P)
+    {some all : List (List ℕ) → List ℕ → Type 0} {much : List (List ℕ) → List (List ℕ) → Type 0} → Means answer closing first some all much
+    → (left : Option (List ℕ)) (taken sent : List ℕ) (result : Result T ReplayFault) → Settles (run answer 1 first)
+    (run_of answer closing first) next left taken sent result → TellsBy some all much left taken sent result
+tells answer closing first next {some = some} {all = all} {much = much} m left taken sent result s =
+    tells_more (Answered answer first) some (Finished answer closing first) all (RefusesMuch answer first) much m.lines m.whole m.turn
+    left taken sent result (tells_by answer closing first next left taken sent result s)
 
--- or with the play's fault
-pub plays_err : {P : Type 0} (T : Type 0) (answer : P → List ℕ → Result (List ℕ × P) Refused) (closing : P → Option (List ℕ))
-    (first player next : P) (left left' received received' : Option (List ℕ)) (result : Result (Unit {0}) ReplayFault)
-    (fault : ReplayFault) → player ≡ first → Plays answer closing player next left left' received received' result → result ≡ Err fault
-    → (let r : Result T ReplayFault = Err fault in Plays answer closing first next left left' received received' r)
-plays_err T answer closing first player next left left' received received' result fault begins played is =
-    as_said T answer closing first player next left left' received received' result (Err fault) begins played
-    (λ taken sent settled. settles_err (Unit {0}) T (run answer 1 first) (run_of answer closing first) next left' taken sent fault
-    (subst (λ (r : Result (Unit {0}) ReplayFault). Settles (run answer 1 first) (run_of answer closing first) next left' taken sent r) is
-    settled))
+-- A play from the first stage, with the answer that its caller makes of the play's.
+module _ {P R : Type 0} {answer : P → List ℕ → Result (List ℕ × P) Refused} {closing : P → Option (List ℕ)} {first player next : P}
+    {left left' received received' : Option (List ℕ)} {result : Result (Unit {0}) ReplayFault} where
+  as_said : player ≡ first → Plays answer closing player next left left' received received' result → (said : Result R ReplayFault)
+      → ((taken sent : List ℕ) → Settles (run answer 1 first) (run_of answer closing first) next left' taken sent result
+      → Settles (run answer 1 first) (run_of answer closing first) next left' taken sent said)
+      → Plays answer closing first next left left' received received' said
+  as_said begins played said settles =
+      let p = subst (λ (it : P). Plays answer closing it next left left' received received' result) begins played in
+      record {
+        taken = p.taken;
+        sent = p.sent;
+        consumed = p.consumed;
+        appended = p.appended;
+        settled = settles p.taken p.sent p.settled;
+      }
+
+  -- with the report that the caller makes of the last stage
+  pub plays_ok : player ≡ first → Plays answer closing player next left left' received received' result → (done : Unit {0})
+      → result ≡ Ok done → (report : R)
+      → (let said : Result R ReplayFault = Ok report in Plays answer closing first next left left' received received' said)
+  plays_ok begins played done is report =
+      as_said begins played (Ok report) (λ taken sent settled.
+      subst (λ (r : Result (Unit {0}) ReplayFault). Settles (run answer 1 first) (run_of answer closing first) next left' taken sent r) is
+      settled)
+
+  -- or with the play's fault
+  pub plays_err : player ≡ first → Plays answer closing player next left left' received received' result → (fault : ReplayFault)
+      → result ≡ Err fault
+      → (let said : Result R ReplayFault = Err fault in Plays answer closing first next left left' received received' said)
+  plays_err begins played fault is =
+      as_said begins played (Err fault)
+      (λ taken sent settled. settles_err (Unit {0}) R (run answer 1 first) (run_of answer closing first) next left' taken sent fault
+      (subst (λ (r : Result (Unit {0}) ReplayFault). Settles (run answer 1 first) (run_of answer closing first) next left' taken sent r) is
+      settled))
 
 -- what holds of the whole input holds of all bytes there were
 whole_holds : (left left' : Option (List ℕ)) (taken : List ℕ) (holds : List ℕ → Type 0) → Consumes left left' taken
-    → ForWhole left' taken holds
-    → (bytes : List ℕ) → left ≡ Some bytes → holds bytes
+    → ForWhole left' taken holds → (bytes : List ℕ) → left ≡ Some bytes → holds bytes
 whole_holds None left' taken holds c w bytes is = absurd (none_some is)
   where
     none_some : (let o : Option (List ℕ) = None in o ≡ Some bytes) → ⊥
@@ -78,16 +88,14 @@ whole_holds (Some xs) (Some ys) taken holds c w bytes is =
     some_same a b h = cc
 
 clashes : {P : Type 0} (whole : List ℕ → Told P) (left left' : Option (List ℕ)) (taken sent : List ℕ) (fault : ReplayFault)
-    → Consumes left left' taken
-    → ForWhole left' taken (λ input. whole input ≡ told sent (Err fault))
-    → (bytes : List ℕ) (end : P) → left ≡ Some bytes → (whole bytes).outcome ≡ Ok end → ⊥
+    → Consumes left left' taken → ForWhole left' taken (λ input. whole input ≡ told sent (Err fault)) → (bytes : List ℕ) (end : P)
+    → left ≡ Some bytes → (whole bytes).outcome ≡ Ok end → ⊥
 clashes {P} whole left left' taken sent fault c w bytes end is ran =
     not_ok fault end (sym
     (ap (λ (t : Told P). t.outcome) (whole_holds left left' taken (λ input. whole input ≡ told sent (Err fault)) c w bytes is)) ∙ ran)
 
 pub completed : {P T : Type 0} (lines : List (List ℕ) → Told P) (whole : List ℕ → Told P) (next : P) (left left' : Option (List ℕ))
-    (taken sent : List ℕ) (result : Result T ReplayFault)
-    → Consumes left left' taken → Settles lines whole next left' taken sent result
+    (taken sent : List ℕ) (result : Result T ReplayFault) → Consumes left left' taken → Settles lines whole next left' taken sent result
     → (bytes : List ℕ) (end : P) → left ≡ Some bytes → (whole bytes).outcome ≡ Ok end → IsUnrefused result
 completed lines whole next left left' taken sent (Ok _) c s bytes end is ran = tt
 completed lines whole next left left' taken sent (Err Memory) c s bytes end is ran = tt
@@ -99,3 +107,39 @@ completed lines whole next left left' taken sent (Err (LineLong n)) c s bytes en
     clashes whole left left' taken sent (LineLong n) c s bytes end is ran
 completed lines whole next left left' taken sent (Err TooMuch) c s bytes end is ran =
     clashes whole left left' taken sent TooMuch c s bytes end is ran
+
+-- An input that is answered to its end is not refused.
+pub unrefused : {P T : Type 0} {answer : P → List ℕ → Result (List ℕ × P) Refused} {closing : P → Option (List ℕ)} {first next : P}
+    {left left' received received' : Option (List ℕ)} {result : Result T ReplayFault}
+    → Plays answer closing first next left left' received received' result
+    → (bytes : List ℕ) (end : P) → left ≡ Some bytes → (run_of answer closing first bytes).outcome ≡ Ok end → IsUnrefused result
+unrefused {answer = answer} {closing = closing} {first = first} {next = next} {left = left} {left' = left'} {result = result} p =
+    completed (run answer 1 first) (run_of answer closing first) next left left' p.taken p.sent result p.consumed p.settled
+
+-- A whole play, of which it is known what its answers mean.
+module _ {P R : Type 0} {answer : P → List ℕ → Result (List ℕ × P) Refused} {closing : P → Option (List ℕ)} {first player next : P}
+    (reports : P → R → Type 0) {some all : List (List ℕ) → List ℕ → Type 0} {much : List (List ℕ) → List (List ℕ) → Type 0}
+    (means : Means answer closing first some all much) {left left' received received' : Option (List ℕ)}
+    {result : Result (Unit {0}) ReplayFault} (begins : player ≡ first)
+    (played : Plays answer closing player next left left' received received' result) where
+  pub whole_ok : (done : Unit {0}) → result ≡ Ok done → (report : R) → reports next report
+      → PlaysWhole answer closing first reports some all much left left' received received' (Ok report)
+  whole_ok done is report reported =
+      let p = plays_ok begins played done is report in
+      record {
+        next = next;
+        plays = p;
+        told = tells answer closing first next means left' p.taken p.sent (Ok report) p.settled;
+        reported = reported;
+      }
+
+  pub whole_err : (fault : ReplayFault) → result ≡ Err fault
+      → PlaysWhole answer closing first reports some all much left left' received received' (Err fault)
+  whole_err fault is =
+      let p = plays_err {R = R} begins played fault is in
+      record {
+        next = next;
+        plays = p;
+        told = tells {T = R} answer closing first next means left' p.taken p.sent (Err fault) p.settled;
+        reported = tt;
+      }

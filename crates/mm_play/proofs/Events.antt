@@ -1,69 +1,70 @@
 -- A run over lines that are events is the run of these events.
-use Rattle.std.proofs.Common.{◌≡◌, ◌∙◌, ◌+◌, ◌≤◌, ◌<◌, ℕ, Bool, true, false, cond, ◌||◌, nat_le, nat_lt, List, [], ◌∷◌, ◌++◌, length, map, Result, Ok, Err, Option, None, Some, refl, sym, ap, subst, arith, inl, inr, ◌⊎◌}
-use Rattle.std.specs.List.{sum_by}
-use Rattle.std.proofs.lemmas.Bool.Decides.{nat_tests}
+use Rattle.mm_play.proofs.Below.{◌≡◌, ◌∙◌, ◌+◌, ◌≤◌, ◌<◌, ℕ, Bool, true, false, cond, ◌||◌, nat_le, nat_lt, List, [], ◌∷◌, ◌++◌, length}
+use Rattle.mm_play.proofs.Below.{map, Result, Ok, Err, Option, None, Some, refl, sym, ap, subst, arith, inl, inr, ◌⊎◌, sum_by, nat_tests}
+use Rattle.mm_play.proofs.Below.{LineLong, longest_line, most_events, Refused, Bad, Much, Told, told, stopped, refusal_at, answered, run}
+use Rattle.mm_play.proofs.Below.{Answered, Finished, RefusesMuch}
 use Rattle.std.proofs.lemmas.List.Sums.{sum_by-append}
-use Rattle.mm_base.specs.declared.replay_fault.ReplayFault.{ReplayFault}
-use Rattle.mm_base.specs.declared.replay_fault.ReplayFault.TheVariants.{LineLong}
-use Rattle.mm_base.specs.Limits.{longest_line, most_events}
-use Rattle.mm_play.specs.declared.player.Refused.{Refused}
-use Rattle.mm_play.specs.declared.player.Refused.TheVariants.{Bad, Much}
-use Rattle.mm_play.specs.Play.{Told, told, stopped, after_writing, refusal_at, answered, run}
+use Rattle.mm_play.specs.Counting.{no_answer, same_answer, taken}
 use Rattle.mm_play.specs.Events.{EventPlayer, is_over, unless_over, event_answer, TakesEvents, behind, IsOverBehind, NoneIsOver, AreEvents, header_answer, AreHeaded, AreHeadedAndMuch}
-use Rattle.mm_play.specs.Tells.{Answered, Finished, RefusesMuch}
-use Rattle.mm_play.proofs.Runs.{not_ok, ok_same, told_is}
+use Rattle.mm_play.proofs.Runs.{not_ok, ok_same, told_is, written_of, outcome_of}
 
--- The first of the lines was answered, and then the others.
-pub record FirstAnswered {P : Type 0} (answer : P → List ℕ → Result (List ℕ × P) Refused) (number : ℕ) (player : P) (line : List ℕ)
-    (lines : List (List ℕ)) (written : List ℕ) (last : P) : Type 0 where
-  pub reply : List ℕ × P
-  pub more : List ℕ
-  pub replied : answer player line ≡ Ok reply
-  pub ran : run answer (number + 1) reply.1 lines ≡ told more (Ok last)
-  pub whole : written ≡ reply.0 ++ more
+module _ {P : Type 0} (answer : P → List ℕ → Result (List ℕ × P) Refused) (number : ℕ) (player : P) where
+  -- there is no line
+  pub none_answered : (written : List ℕ) (last : P) → run answer number player [] ≡ told written (Ok last)
+      → (written ≡ []) × (last ≡ player)
+  none_answered written last h = (sym (written_of h), sym (ok_same player last (outcome_of h)))
 
-written_of : {P : Type 0} (t u : Told P) → t ≡ u → t.written ≡ u.written
-written_of t u h = ap (λ (x : Told _). x.written) h
+  -- The first of the lines was answered, and then the others.
+  pub record FirstAnswered (line : List ℕ) (lines : List (List ℕ)) (written : List ℕ) (last : P) : Type 0 where
+    pub reply : List ℕ × P
+    pub more : List ℕ
+    pub replied : answer player line ≡ Ok reply
+    pub ran : run answer (number + 1) reply.1 lines ≡ told more (Ok last)
+    pub whole : written ≡ reply.0 ++ more
 
-outcome_of : {P : Type 0} (t u : Told P) → t ≡ u → t.outcome ≡ u.outcome
-outcome_of t u h = ap (λ (x : Told _). x.outcome) h
+  pub first_answered : (line : List ℕ) (lines : List (List ℕ)) (written : List ℕ) (last : P)
+      → run answer number player (line ∷ lines) ≡ told written (Ok last) → FirstAnswered line lines written last
+  first_answered line lines written last h = by_length (nat_lt longest_line (length line)) h
+    where
+      rest : P → Told P
+      rest next = run answer (number + 1) next lines
 
-not_stopped : {P : Type 0} (why : ReplayFault) (written : List ℕ) (last : P) → stopped why ≡ told written (Ok last) → ⊥
-not_stopped why written last h = not_ok why last (outcome_of (stopped why) (told written (Ok last)) h)
+      by_answer : (given : Result (List ℕ × P) Refused) → answer player line ≡ given
+          → answered rest number given ≡ told written (Ok last) → FirstAnswered line lines written last
+      by_answer (Err refused) is h = absurd (not_ok (refusal_at number refused) last (outcome_of h))
+      by_answer (Ok reply) is h =
+          let t = rest reply.1 in
+          record {
+            reply = reply;
+            more = t.written;
+            replied = is;
+            ran = told_is t t.written (Ok last) refl (outcome_of h);
+            whole = sym (written_of h);
+          }
 
-pub first_answered : {P : Type 0} (answer : P → List ℕ → Result (List ℕ × P) Refused) (number : ℕ) (player : P) (line : List ℕ)
-    (lines : List (List ℕ)) (written : List ℕ) (last : P)
-    → run answer number player (line ∷ lines) ≡ told written (Ok last) → FirstAnswered answer number player line lines written last
-first_answered {P} answer number player line lines written last h = by_length (nat_lt longest_line (length line)) h
-  where
-    rest : P → Told P
-    rest next = run answer (number + 1) next lines
+      by_length : (long : Bool) → cond long (stopped (LineLong number)) (answered rest number (answer player line)) ≡ told written (Ok last)
+          → FirstAnswered line lines written last
+      by_length true h = absurd (not_ok (LineLong number) last (outcome_of h))
+      by_length false h = by_answer (answer player line) refl h
 
-    by_answer : (given : Result (List ℕ × P) Refused) → answer player line ≡ given
-        → answered rest number given ≡ told written (Ok last) → FirstAnswered answer number player line lines written last
-    by_answer (Err refused) is h = absurd (not_stopped (refusal_at number refused) written last h)
-    by_answer (Ok reply) is h =
-        let t = rest reply.1 in
-        record {
-          reply = reply;
-          more = t.written;
-          replied = is;
-          ran = told_is t t.written (Ok last) refl (outcome_of (after_writing reply.0 t) (told written (Ok last)) h);
-          whole = sym (written_of (after_writing reply.0 t) (told written (Ok last)) h);
-        }
-
-    by_length : (long : Bool) → cond long (stopped (LineLong number)) (answered rest number (answer player line)) ≡ told written (Ok last)
-        → FirstAnswered answer number player line lines written last
-    by_length true h = absurd (not_stopped (LineLong number) written last h)
-    by_length false h = by_answer (answer player line) refl h
-
--- there is no line
-pub none_answered : {P : Type 0} (answer : P → List ℕ → Result (List ℕ × P) Refused) (number : ℕ) (player : P) (written : List ℕ) (last : P)
-    → run answer number player [] ≡ told written (Ok last) → (written ≡ []) × (last ≡ player)
-none_answered answer number player written last h = (
-  sym (written_of (told [] (Ok player)) (told written (Ok last)) h),
-  sym (ok_same player last (outcome_of (told [] (Ok player)) (told written (Ok last)) h)),
-)
+  -- A first line names a header, and nothing is written for it.
+  pub header_first : {H R : Type 0} (line : List ℕ) (lines : List (List ℕ)) (written : List ℕ) (last : P) (begun : H → R) (among : R → P)
+      (found : Option H) → answer player line ≡ header_answer begun among found
+      → run answer number player (line ∷ lines) ≡ told written (Ok last)
+      → (header : H) × (found ≡ Some header) × (run answer (number + 1) (among (begun header)) lines ≡ told written (Ok last))
+  header_first {H} {R} line lines written last begun among found begins h =
+      let f = first_answered line lines written last h in by_found f found refl (sym begins ∙ f.replied)
+    where
+      by_found : (f : FirstAnswered line lines written last) (x : Option H) → found ≡ x → header_answer begun among found ≡ Ok f.reply
+          → (header : H) × (found ≡ Some header) × (run answer (number + 1) (among (begun header)) lines ≡ told written (Ok last))
+      by_found f None is h = absurd (no_answer Bad f.reply.0 f.reply.1 (sym (ap (header_answer begun among) is) ∙ h))
+      by_found f (Some header) is h =
+          let said = same_answer ([], among (begun header)) f.reply (sym (ap (header_answer begun among) is) ∙ h) in (
+            header,
+            is,
+            ap (λ (reply : List ℕ × P). run answer (number + 1) reply.1 lines) said ∙ f.ran
+                ∙ ap (λ (w : List ℕ). told w (Ok last)) (sym (f.whole ∙ ap (λ (reply : List ℕ × P). reply.0 ++ f.more) (sym said))),
+          )
 
 -- the bytes of one more line
 sums_more : (line : List ℕ) (lines : List (List ℕ)) → sum_by length (line ∷ lines) ≡ length line + sum_by length lines
@@ -72,14 +73,20 @@ sums_more line lines =
     let both : sum_by length (line ∷ lines) ≡ sum_by length (line ∷ []) + sum_by length lines = sum_by-append length (line ∷ []) lines in
     omega (arith, one, both)
 
-same_head : {A : Type 0} (a b : A) (us vs : List A) → a ∷ us ≡ b ∷ vs → a ≡ b
+pub same_head : {A : Type 0} (a b : A) (us vs : List A) → a ∷ us ≡ b ∷ vs → a ≡ b
 same_head a b us vs h = cc
 
-same_tail : {A : Type 0} (a b : A) (us vs : List A) → a ∷ us ≡ b ∷ vs → us ≡ vs
+pub same_tail : {A : Type 0} (a b : A) (us vs : List A) → a ∷ us ≡ b ∷ vs → us ≡ vs
 same_tail a b us vs h = cc
 
-same_some : {A : Type 0} (a b : A) → Some a ≡ Some b → a ≡ b
+pub same_some : {A : Type 0} (a b : A) → Some a ≡ Some b → a ≡ b
 same_some a b h = cc
+
+-- the last lines, of a player that stands among events
+pub ends_with : {R P : Type 0} (among : R → P) (closing : P → Option (List ℕ)) (ends : R → List ℕ)
+    → ((r : R) → closing (among r) ≡ Some (ends r)) → (r : R) (next : P) (last : List ℕ)
+    → next ≡ among r → closing next ≡ Some last → last ≡ ends r
+ends_with among closing ends is r next last stands h = same_some last (ends r) (sym h ∙ ap closing stands ∙ is r)
 
 -- no line is behind the last
 no_line : (before : List (List ℕ)) (line : List ℕ) (after : List (List ℕ)) → [] ≡ before ++ line ∷ after → ⊥
@@ -101,21 +108,21 @@ not_over done most size room h over = by_first (nat_le most done) refl h
     by_first true is h = cc
     by_first false is h = elim over [ inl few ↦ grind (arith, nat_tests) | inr few ↦ grind (arith, nat_tests) ]
 
-module _ {E R P : Type 0} (p : EventPlayer E R P) (takes : TakesEvents p) where
+module _ {E R P : Type 0} (p : EventPlayer E R P) (answer : P → List ℕ → Result (List ℕ × P) Refused) (takes : TakesEvents p answer) where
   -- the first line was not one too many, and none behind it
   within_more : (r : R) (line : List ℕ) (lines : List (List ℕ)) (event : E) → p.event_in r line ≡ Some event → is_over p r line ≡ false
       → NoneIsOver p (p.after r line event) lines → NoneIsOver p r (line ∷ lines)
   within_more r line lines event is few on [] l after [] split read over =
       not_over (p.events r) most_events (p.bytes r + length line + p.kept r) p.room few
       (subst (λ (x : List ℕ). (most_events ≤ p.events r) ⊎ (p.room < p.bytes r + length x + p.kept r))
-      (sym (same_head line l lines after split))
-      (elim over [ inl h ↦ inl (omega (arith, h)) | inr h ↦ inr (omega (arith, h)) ]))
+      (sym (same_head line l lines after split)) (elim over [ inl h ↦ inl (omega (arith, h)) | inr h ↦ inr (omega (arith, h)) ]))
   within_more r line lines event is few on [] l after (e ∷ events) split read over = cc
   within_more r line lines event is few on (first ∷ before) l after [] split read over = cc
   within_more r line lines event is few on (first ∷ before) l after (e ∷ events) split read over =
       let head : line ≡ first = same_head line first lines (before ++ l ∷ after) split in
       let same : e ≡ event = same_some e event
-      (sym (same_head (p.event_in r first) (Some e) (map (p.event_in r) before) (map Some events) read) ∙ ap (p.event_in r) (sym head) ∙ is) in
+      (sym (same_head (p.event_in r first) (Some e) (map (p.event_in r) before) (map Some events) read) ∙ ap (p.event_in r) (sym head)
+      ∙ is) in
       let next = p.after r line event in
       let reads : map (p.event_in next) before ≡ map Some events =
       ap (λ (f : List ℕ → Option E). map f before) (takes.reads r line event)
@@ -142,8 +149,7 @@ module _ {E R P : Type 0} (p : EventPlayer E R P) (takes : TakesEvents p) where
       let bytes : p.bytes (p.after r line event) ≡ p.bytes r + length line = takes.sums r line event in
       record {
         events = event ∷ a.events;
-        read = ap (λ first. first ∷ map (p.event_in r) lines) is
-            ∙ ap (λ others. Some event ∷ others)
+        read = ap (λ first. first ∷ map (p.event_in r) lines) is ∙ ap (λ others. Some event ∷ others)
             (ap (λ (f : List ℕ → Option E). map f lines) (sym (takes.reads r line event)) ∙ a.read);
         sent = ap (λ bytes. p.reply r event ++ bytes) a.sent;
         stands = a.stands;
@@ -152,41 +158,10 @@ module _ {E R P : Type 0} (p : EventPlayer E R P) (takes : TakesEvents p) where
         within = within_more r line lines event is few a.within;
       }
 
-  -- what the answer to a line was, by the event in it
-  pub record Taken (r : R) (line : List ℕ) (reply : List ℕ × P) : Type 0 where
-    pub event : E
-    pub read : p.event_in r line ≡ Some event
-    pub few : is_over p r line ≡ false
-    pub said : reply ≡ (p.reply r event, p.among (p.after r line event))
-
-  taken : (r : R) (line : List ℕ) (reply : List ℕ × P) (found : Option E) (over : Bool) → p.event_in r line ≡ found → is_over p r line ≡ over
-      → p.answer (p.among r) line ≡ Ok reply → Taken r line reply
-  taken r line reply None over is few h = absurd (refuses (sym (ap (event_answer p r line) is) ∙ sym (takes.answers r line) ∙ h))
-    where
-      refuses : (let a : Result (List ℕ × P) Refused = Err Bad in a ≡ Ok reply) → ⊥
-      refuses h = cc
-  taken r line reply (Some event) true is few h =
-      absurd (refuses (sym (ap (λ over. unless_over p over r line event) few) ∙ sym (ap (event_answer p r line) is)
-      ∙ sym (takes.answers r line) ∙ h))
-    where
-      refuses : (let a : Result (List ℕ × P) Refused = Err Much in a ≡ Ok reply) → ⊥
-      refuses h = cc
-  taken r line reply (Some event) false is few h = record {
-    event = event;
-    read = is;
-    few = few;
-    said = same (sym (sym (ap (λ over. unless_over p over r line event) few) ∙ sym (ap (event_answer p r line) is)
-        ∙ sym (takes.answers r line) ∙ h));
-  }
-    where
-      same : (let a : Result (List ℕ × P) Refused = Ok reply in a ≡ Ok (p.reply r event, p.among (p.after r line event)))
-          → reply ≡ (p.reply r event, p.among (p.after r line event))
-      same h = cc
-
   pub events_from : (lines : List (List ℕ)) (number : ℕ) (r : R) (written : List ℕ) (last : P)
-      → run p.answer number (p.among r) lines ≡ told written (Ok last) → AreEvents p r lines written last
+      → run answer number (p.among r) lines ≡ told written (Ok last) → AreEvents p r lines written last
   events_from [] number r written last h =
-      let none = none_answered p.answer number (p.among r) written last h in
+      let none = none_answered answer number (p.among r) written last h in
       record {
         events = [];
         read = refl;
@@ -197,21 +172,31 @@ module _ {E R P : Type 0} (p : EventPlayer E R P) (takes : TakesEvents p) where
         within = λ before line after events split read over. no_line before line after split;
       }
   events_from (line ∷ lines) number r written last h =
-      let f = first_answered p.answer number (p.among r) line lines written last h in
-      let t = taken r line f.reply (p.event_in r line) (is_over p r line) refl refl f.replied in
-      let next = p.after r line t.event in
-      let ran = ap (λ (reply : List ℕ × P). run p.answer (number + 1) reply.1 lines) (sym t.said) ∙ f.ran in
-      subst (λ (w : List ℕ). AreEvents p r (line ∷ lines) w last)
-      (sym (f.whole ∙ ap (λ (reply : List ℕ × P). reply.0 ++ f.more) t.said))
-      (events_more r line lines t.event f.more last t.read t.few (events_from lines (number + 1) next f.more last ran))
+      let f = first_answered answer number (p.among r) line lines written last h in
+      let t = taken p r line f.reply (sym (takes.answers r line) ∙ f.replied) in
+      let ran = ap (λ (reply : List ℕ × P). run answer (number + 1) reply.1 lines) (sym t.said) ∙ f.ran in
+      subst (λ (w : List ℕ). AreEvents p r (line ∷ lines) w last) (sym (f.whole ∙ ap (λ (reply : List ℕ × P). reply.0 ++ f.more) t.said))
+      (events_more r line lines t.event f.more last t.read t.few (events_from lines (number + 1) (p.after r line t.event) f.more last ran))
+
+  -- what holds of no line, and of one more line and its event in front, holds of lines and their events
+  pub along : (reads : List ℕ → Option E) (holds : R → List (List ℕ) → List E → Type 0) → ((r : R) → holds r [] [])
+      → ((r : R) (line : List ℕ) (lines : List (List ℕ)) (event : E) (events : List E) → holds (p.after r line event) lines events
+      → holds r (line ∷ lines) (event ∷ events))
+      → (r : R) (lines : List (List ℕ)) (events : List E) → map reads lines ≡ map Some events → holds r lines events
+  along reads holds none more r [] [] read = none r
+  along reads holds none more r [] (event ∷ events) read = cc
+  along reads holds none more r (line ∷ lines) [] read = cc
+  along reads holds none more r (line ∷ lines) (event ∷ events) read =
+      more r line lines event events (along reads holds none more (p.after r line event) lines events
+      (same_tail (reads line) (Some event) (map reads lines) (map Some events) read))
 
   -- A line that is refused as one too many is so in numbers.
   pub refused_over : (r : R) (lines : List (List ℕ)) (written : List ℕ) (last : P) (line : List ℕ) (a : AreEvents p r lines written last)
-      → p.answer last line ≡ Err Much → IsOverBehind p r lines a.events line
+      → answer last line ≡ Err Much → IsOverBehind p r lines a.events line
   refused_over r lines written last line a h =
       let s = behind p r lines a.events in
       let full = is_full s (p.event_in s line) (is_over p s line) refl
-      (sym (takes.answers s line) ∙ ap (λ (x : P). p.answer x line) (sym a.stands) ∙ h) in
+      (sym (takes.answers s line) ∙ ap (λ (x : P). answer x line) (sym a.stands) ∙ h) in
       elim (over_of (p.events s) most_events (p.bytes s + length line + p.kept s) p.room full) [
         | inl many ↦ inl (omega (arith, many, a.counted))
         | inr large ↦ inr (omega (arith, large, a.summed))
@@ -224,96 +209,62 @@ module _ {E R P : Type 0} (p : EventPlayer E R P) (takes : TakesEvents p) where
           bad : (let a : Result (List ℕ × P) Refused = Err Bad in a ≡ Err Much) → ⊥
           bad h = cc
       is_full s (Some event) true is h = is
-      is_full s (Some event) false is h = absurd (went (ap (λ over. unless_over p over s line event) (sym is) ∙ h))
-        where
-          went : (let a : Result (List ℕ × P) Refused = Ok (p.reply s event, p.among (p.after s line event)) in a ≡ Err Much) → ⊥
-          went h = cc
+      is_full s (Some event) false is h = absurd (no_answer Much _ _ (sym (ap (λ over. unless_over p over s line event) (sym is) ∙ h)))
 
--- A first line names a header, and nothing is written for it.
-pub header_first : {H R P : Type 0} (answer : P → List ℕ → Result (List ℕ × P) Refused) (number : ℕ) (player : P) (line : List ℕ)
-    (lines : List (List ℕ)) (written : List ℕ) (last : P) (begun : H → R) (among : R → P) (found : Option H)
-    → answer player line ≡ header_answer begun among found → run answer number player (line ∷ lines) ≡ told written (Ok last)
-    → (header : H) × (found ≡ Some header) × (run answer (number + 1) (among (begun header)) lines ≡ told written (Ok last))
-header_first {H} {R} {P} answer number player line lines written last begun among found begins h =
-    let f = first_answered answer number player line lines written last h in by_found f found refl (sym begins ∙ f.replied)
-  where
-    bad : (reply : List ℕ × P) → (let a : Result (List ℕ × P) Refused = Err Bad in a ≡ Ok reply) → ⊥
-    bad reply h = cc
+  -- Events that begin behind a header, which the first line names.
+  module _ {H : Type 0} (heading : List ℕ → Option H) (begun : H → R) (start : P)
+      (begins : (line : List ℕ) → answer start line ≡ header_answer begun p.among (heading line)) where
+    -- a run over lines that were all answered: there is none, or the first names a header
+    headed_lines : (lines : List (List ℕ)) (written : List ℕ) (last : P) → run answer 1 start lines ≡ told written (Ok last)
+        → ((lines ≡ []) × (written ≡ []) × (last ≡ start)) ⊎ AreHeaded p heading begun lines written last
+    headed_lines [] written last h =
+        let none = none_answered answer 1 start written last h in inl (refl, none.0, none.1)
+    headed_lines (line ∷ lines) written last h =
+        let named = header_first answer 1 start line lines written last begun p.among (heading line) (begins line) h in
+        inr (record {
+          first = line;
+          others = lines;
+          header = named.0;
+          split = refl;
+          headed = named.1;
+          answers = events_from lines (1 + 1) (begun named.0) written last named.2;
+        })
 
-    same : (reply next : List ℕ × P) → (let a : Result (List ℕ × P) Refused = Ok reply in a ≡ Ok next) → reply ≡ next
-    same reply next h = cc
+    pub answered_headed : (lines : List (List ℕ)) (written : List ℕ) (a : Answered answer start lines written)
+        → ((lines ≡ []) × (written ≡ [])) ⊎ AreHeaded p heading begun lines written a.0
+    answered_headed lines written a = elim (headed_lines lines written a.0 a.1) [ inl none ↦ inl (none.0, none.1) | inr h ↦ inr h ]
 
-    by_found : (f : FirstAnswered answer number player line lines written last) (x : Option H) → found ≡ x
-        → header_answer begun among found ≡ Ok f.reply
-        → (header : H) × (found ≡ Some header) × (run answer (number + 1) (among (begun header)) lines ≡ told written (Ok last))
-    by_found f None is h = absurd (bad f.reply (sym (ap (header_answer begun among) is) ∙ h))
-    by_found f (Some header) is h =
-        let next : List ℕ × P = ([], among (begun header)) in
-        let said = same next f.reply (sym (ap (header_answer begun among) is) ∙ h) in (
-          header,
-          is,
-          ap (λ (reply : List ℕ × P). run answer (number + 1) reply.1 lines) said ∙ f.ran
-              ∙ ap (λ (w : List ℕ). told w (Ok last)) (sym (f.whole ∙ ap (λ (reply : List ℕ × P). reply.0 ++ f.more) (sym said))),
-        )
+    -- the last lines need a header
+    pub finished_headed : (closing : P → Option (List ℕ)) (ends : R → List ℕ) → closing start ≡ None
+        → ((r : R) → closing (p.among r) ≡ Some (ends r)) → (lines : List (List ℕ)) (written : List ℕ)
+        (f : Finished answer closing start lines written) → (h : AreHeaded p heading begun lines f.said f.next)
+        × (written ≡ f.said ++ ends (behind p (begun h.header) h.others h.answers.events))
+    finished_headed closing ends none some lines written f = elim (headed_lines lines f.said f.next f.ran) [
+      | inl empty ↦ absurd (open_still (sym none ∙ ap closing (sym empty.2) ∙ f.closed))
+      | inr h ↦ (
+        h,
+        f.whole ∙ ap (λ (l : List ℕ). f.said ++ l) (ends_with p.among closing ends some _ f.next f.last h.answers.stands f.closed),
+      )
+    ]
+      where
+        open_still : (let a : Option (List ℕ) = None in a ≡ Some f.last) → ⊥
+        open_still h = cc
 
--- Events that begin behind a header, which the first line names.
-module _ {E R P H : Type 0} (p : EventPlayer E R P) (takes : TakesEvents p) (heading : List ℕ → Option H) (begun : H → R) (start : P)
-    (begins : (line : List ℕ) → p.answer start line ≡ header_answer begun p.among (heading line)) where
-  -- a run over lines that were all answered: there is none, or the first names a header
-  headed_lines : (lines : List (List ℕ)) (written : List ℕ) (last : P) → run p.answer 1 start lines ≡ told written (Ok last)
-      → ((lines ≡ []) × (written ≡ []) × (last ≡ start)) ⊎ AreHeaded p heading begun lines written last
-  headed_lines [] written last h =
-      let none = none_answered p.answer 1 start written last h in inl (refl, none.0, none.1)
-  headed_lines (line ∷ lines) written last h =
-      let named = header_first p.answer 1 start line lines written last begun p.among (heading line) (begins line) h in
-      inr (record {
-        first = line;
-        others = lines;
-        header = named.0;
-        split = refl;
-        headed = named.1;
-        answers = events_from p takes lines (1 + 1) (begun named.0) written last named.2;
-      })
-
-  pub answered_headed : (lines : List (List ℕ)) (written : List ℕ) (a : Answered p.answer start lines written)
-      → ((lines ≡ []) × (written ≡ [])) ⊎ AreHeaded p heading begun lines written a.0
-  answered_headed lines written a = elim (headed_lines lines written a.0 a.1) [ inl none ↦ inl (none.0, none.1) | inr h ↦ inr h ]
-
-  -- the last lines need a header
-  pub finished_headed : (closing : P → Option (List ℕ)) → closing start ≡ None → (lines : List (List ℕ)) (written : List ℕ)
-      (f : Finished p.answer closing start lines written) → AreHeaded p heading begun lines f.said f.next
-  finished_headed closing none lines written f = elim (headed_lines lines f.said f.next f.ran) [
-    | inl empty ↦ absurd (open_still (sym none ∙ ap closing (sym empty.2) ∙ f.closed))
-    | inr h ↦ h
-  ]
-    where
-      open_still : (let a : Option (List ℕ) = None in a ≡ Some f.last) → ⊥
-      open_still h = cc
-
-  -- and a first line is no event too many
-  pub much_headed : (done rest : List (List ℕ)) → RefusesMuch p.answer start done rest → AreHeadedAndMuch p heading begun done rest
-  much_headed done rest m = elim (headed_lines done m.said m.next m.ran) [
-    | inl none ↦ absurd (no_event (heading m.line)
-        (sym (begins m.line) ∙ ap (λ (x : P). p.answer x m.line) (sym none.2) ∙ m.refused))
-    | inr h ↦ record {
-      said = m.said;
-      next = m.next;
-      line = m.line;
-      more = m.more;
-      headed = h;
-      follows = m.follows;
-      over = refused_over p takes (begun h.header) h.others m.said m.next m.line h.answers m.refused;
-    }
-  ]
-    where
-      no_event : (found : Option H) → header_answer begun p.among found ≡ Err Much → ⊥
-      no_event None h = cc
-      no_event (Some header) h = cc
-
--- the last lines, of a player that stands among events
-pub ends_with : {R P : Type 0} (among : R → P) (closing : P → Option (List ℕ)) (ends : R → List ℕ) (r : R) (next : P) (last : List ℕ)
-    → closing (among r) ≡ Some (ends r) → next ≡ among r → closing next ≡ Some last → last ≡ ends r
-ends_with among closing ends r next last is stands h = same (sym h ∙ ap closing stands ∙ is)
-  where
-    same : Some last ≡ Some (ends r) → last ≡ ends r
-    same e = cc
+    -- and a first line is no event too many
+    pub much_headed : (done rest : List (List ℕ)) → RefusesMuch answer start done rest → AreHeadedAndMuch p heading begun done rest
+    much_headed done rest m = elim (headed_lines done m.said m.next m.ran) [
+      | inl none ↦ absurd (no_event (heading m.line) (sym (begins m.line) ∙ ap (λ (x : P). answer x m.line) (sym none.2) ∙ m.refused))
+      | inr h ↦ record {
+        said = m.said;
+        next = m.next;
+        line = m.line;
+        more = m.more;
+        headed = h;
+        follows = m.follows;
+        over = refused_over (begun h.header) h.others m.said m.next m.line h.answers m.refused;
+      }
+    ]
+      where
+        no_event : (found : Option H) → header_answer begun p.among found ≡ Err Much → ⊥
+        no_event None h = cc
+        no_event (Some header) h = cc

@@ -1,7 +1,9 @@
-pub mod Runs
-pub mod TurnLemmas
-pub mod Turning
-pub mod Stands
-pub mod Telling
-pub mod Completing
-pub mod Events
+pub mod Above
+mod Below
+mod Runs
+mod TurnLemmas
+mod Turning
+mod Stands
+mod Telling
+mod Completing
+mod Events

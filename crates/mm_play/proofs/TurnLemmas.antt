@@ -1,17 +1,14 @@
 -- A line is answered, or the input ends, by what the reader read and what the player did.
-use Rattle.std.proofs.Common.{◌≡◌, ◌∙◌, ◌<◌, ◌+◌, ℕ, Bool, true, false, List, [], ◌∷◌, ◌++◌, length, take, drop, Result, Ok, Err, Option, refl, sym, ap, subst, append_assoc, arith, inl, inr, length-take, take-append-drop}
+use Rattle.mm_play.proofs.Below.{◌≡◌, ◌∙◌, ◌<◌, ◌+◌, ℕ, Bool, true, false, List, [], ◌∷◌, ◌++◌, length, take, drop, Result, Ok, Err, Option}
+use Rattle.mm_play.proofs.Below.{refl, sym, ap, subst, append_assoc, arith, inl, inr, length-take, take-append-drop, ReplayFault, Memory}
+use Rattle.mm_play.proofs.Below.{ReadFault, WriteFault, BadLine, LineLong, TooMuch, longest_line, Refused, refusal_at, stopped, run_from}
+use Rattle.mm_play.proofs.Below.{ForWhole, Answers, PlayedOn, Advances}
 use Rattle.mm_base.specs.Lines.{MayGrow}
 use Rattle.mm_base.specs.Next.{NextLine}
 use Rattle.mm_base.specs.declared.lines.LineFault.{LineFault}
 use Rattle.mm_base.specs.declared.lines.LineFault.TheVariants as fault
 use Rattle.mm_base.specs.declared.lines.Read.{Read}
 use Rattle.mm_base.specs.declared.lines.Read.TheVariants.{Line, Tail}
-use Rattle.mm_base.specs.declared.replay_fault.ReplayFault.{ReplayFault}
-use Rattle.mm_base.specs.declared.replay_fault.ReplayFault.TheVariants.{Memory, ReadFault, WriteFault, BadLine, LineLong, TooMuch}
-use Rattle.mm_base.specs.Limits.{longest_line}
-use Rattle.mm_play.specs.declared.player.Refused.{Refused}
-use Rattle.mm_play.specs.Play.{stopped, run_from}
-use Rattle.mm_play.specs.Turns.{Answers, PlayedOn, Advances}
 use Rattle.mm_play.proofs.Runs.{run_from-refused, run_from-long, run_from-tail}
 
 -- a line and what follows it, in one grouping
@@ -21,95 +18,84 @@ line_first held taken line held' h = h ∙ append_assoc line (10 ∷ []) held'
 and_rest : (bytes line held rest : List ℕ) → bytes ≡ line ++ 10 ∷ held → bytes ++ rest ≡ line ++ 10 ∷ (held ++ rest)
 and_rest bytes line held rest h = ap (λ b. b ++ rest) h ∙ append_assoc line (10 ∷ held) rest
 
-went_by_line : {P : Type 0} (answer : P → List ℕ → Result (List ℕ × P) Refused) (closing : P → Option (List ℕ)) (number : ℕ)
-    (player next : P)
-    (left : Option (List ℕ)) (bytes held line pending said : List ℕ) (result : Result Bool ReplayFault)
-    → bytes ≡ line ++ 10 ∷ held → MayGrow longest_line line → Answers number (answer player line) next pending said result
-    → PlayedOn answer (run_from answer closing number player) number player next left bytes held pending said result
-went_by_line answer closing number player next left bytes held line pending said (Ok true) cut within a =
-    record { line = line; reply = a.1; unbroken = within.unbroken; short = within.short; cut = cut; answered = a.2; said_behind = a.3 }
-went_by_line answer closing number player next left bytes held line pending said (Ok false) cut within a =
-    let clash : false ≡ true = a.0 in absurd (no_clash clash)
-  where
-    no_clash : false ≡ true → ⊥
-    no_clash h = cc
-went_by_line answer closing number player next left bytes held line pending said (Err WriteFault) cut within a = absurd a
-went_by_line answer closing number player next left bytes held line pending said (Err Memory) cut within a = a
-went_by_line answer closing number player next left bytes held line pending said (Err ReadFault) cut within a = absurd a
-went_by_line answer closing number player next left bytes held line pending said (Err (LineLong n)) cut within a = absurd a
-went_by_line {P} answer closing number player next left bytes held line pending said (Err (BadLine n)) cut within a = (
-  a.0,
-  inl (λ rest. ap (run_from answer closing number player) (and_rest bytes line held rest cut)
-      ∙ run_from-refused answer closing number player line (held ++ rest) a.1 within.unbroken within.short a.2
-      ∙ ap (stopped {P = P}) a.3),
-)
-went_by_line {P} answer closing number player next left bytes held line pending said (Err TooMuch) cut within a = (
-  a.0,
-  inl (λ rest. ap (run_from answer closing number player) (and_rest bytes line held rest cut)
-      ∙ run_from-refused answer closing number player line (held ++ rest) a.1 within.unbroken within.short a.2
-      ∙ ap (stopped {P = P}) a.3),
-)
+long_front : (bytes : List ℕ) → longest_line < length bytes → longest_line < length (take (longest_line + 1) bytes)
+long_front bytes h = omega (arith, length-take (longest_line + 1) bytes)
 
--- A line was read, and the player answered it or didn't.
-pub advanced_by_line : {P : Type 0} (answer : P → List ℕ → Result (List ℕ × P) Refused) (closing : P → Option (List ℕ)) (number : ℕ)
-    (player next : P)
-    (left left' : Option (List ℕ)) (held held' pending pending' : List ℕ) (result : Result Bool ReplayFault)
-    (read : Result Read LineFault) (what : Read) (line : _)
-    → NextLine longest_line left left' held read held' → read ≡ Ok what → what ≡ Line line
-    → Answers number (answer player line.now) next pending pending' result
-    → Advances answer closing number player next left left' held held' pending pending' result
-advanced_by_line answer closing number player next left left' held held' pending pending' result read what line n is what_is a =
-    let m = subst (λ r. NextLine longest_line left left' held r held') (is ∙ ap Ok what_is) n in
-    record {
-      taken = m.takes.taken;
-      consumed = m.takes.consumed;
-      went = went_by_line answer closing number player next left' (held ++ m.takes.taken) held' line.now pending pending' result
-          (line_first held m.takes.taken line.now held' m.takes.goes) m.reads a;
-    }
+module _ {P : Type 0} (answer : P → List ℕ → Result (List ℕ × P) Refused) (closing : P → Option (List ℕ)) (number : ℕ) (player next : P)
+    (left left' : Option (List ℕ)) (held held' pending pending' : List ℕ) where
+  -- the line is refused, whatever follows it
+  refused_by : (bytes line : List ℕ) (why : Refused) (fault : ReplayFault) → bytes ≡ line ++ 10 ∷ held' → MayGrow longest_line line
+      → answer player line ≡ Err why → refusal_at number why ≡ fault
+      → ForWhole left' bytes (λ input. run_from answer closing number player input ≡ stopped fault)
+  refused_by bytes line why fault cut within refused is =
+      inl (λ rest. ap (run_from answer closing number player) (and_rest bytes line held' rest cut)
+      ∙ run_from-refused answer closing number player line (held' ++ rest) why within.unbroken within.short refused
+      ∙ ap (stopped {P = P}) is)
 
--- The input ended within a line.
-pub advanced_by_tail : {P : Type 0} (answer : P → List ℕ → Result (List ℕ × P) Refused) (closing : P → Option (List ℕ)) (number : ℕ)
-    (player : P)
-    (left left' : Option (List ℕ)) (held held' pending : List ℕ)
-    (read : Result Read LineFault) (what : Read)
-    → NextLine longest_line left left' held read held' → read ≡ Ok what → what ≡ Tail
-    → Advances answer closing number player player left left' held held' pending pending (Err (BadLine number))
-advanced_by_tail answer closing number player left left' held held' pending read what n is what_is =
-    let m = subst (λ r. NextLine longest_line left left' held r held') (is ∙ ap Ok what_is) n in
-    record {
-      taken = m.takes.taken;
-      consumed = m.takes.consumed;
-      went = (
-        refl,
-        inr (
-          m.reads.2,
-          ap (run_from answer closing number player) m.takes.goes
-              ∙ run_from-tail answer closing number player held' m.reads.0.unbroken m.reads.1 m.reads.0.short,
-        ),
-      );
-    }
+  went_by_line : (bytes line : List ℕ) (result : Result Bool ReplayFault) → bytes ≡ line ++ 10 ∷ held' → MayGrow longest_line line
+      → Answers number (answer player line) next pending pending' result
+      → PlayedOn answer (run_from answer closing number player) number player next left' bytes held' pending pending' result
+  went_by_line bytes line (Ok true) cut within a =
+      record { line = line; reply = a.1; unbroken = within.unbroken; short = within.short; cut = cut; answered = a.2; said_behind = a.3 }
+  went_by_line bytes line (Ok false) cut within a = let clash : false ≡ true = a.0 in absurd (no_clash clash)
+    where
+      no_clash : false ≡ true → ⊥
+      no_clash h = cc
+  went_by_line bytes line (Err WriteFault) cut within a = absurd a
+  went_by_line bytes line (Err Memory) cut within a = a
+  went_by_line bytes line (Err ReadFault) cut within a = absurd a
+  went_by_line bytes line (Err (LineLong n)) cut within a = absurd a
+  went_by_line bytes line (Err (BadLine n)) cut within a = (a.0, refused_by bytes line a.1 (BadLine n) cut within a.2 a.3)
+  went_by_line bytes line (Err TooMuch) cut within a = (a.0, refused_by bytes line a.1 TooMuch cut within a.2 a.3)
 
--- Too many bytes came with no LF.
-pub advanced_by_long : {P : Type 0} (answer : P → List ℕ → Result (List ℕ × P) Refused) (closing : P → Option (List ℕ)) (number : ℕ)
-    (player : P)
-    (left left' : Option (List ℕ)) (held held' pending : List ℕ)
-    (read : Result Read LineFault) (why : LineFault)
-    → NextLine longest_line left left' held read held' → read ≡ Err why → why ≡ fault.LineLong
-    → Advances answer closing number player player left left' held held' pending pending (Err (LineLong number))
-advanced_by_long answer closing number player left left' held held' pending read why n is why_is =
-    let m = subst (λ r. NextLine longest_line left left' held r held') (is ∙ ap Err why_is) n in
-    record {
-      taken = m.takes.taken;
-      consumed = m.takes.consumed;
-      went = (
-        refl,
-        inl (λ rest. ap (λ b. run_from answer closing number player (b ++ rest))
-            (m.takes.goes ∙ sym (take-append-drop (longest_line + 1) held'))
-            ∙ ap (run_from answer closing number player) (append_assoc (take (longest_line + 1) held') (drop (longest_line + 1) held') rest)
-            ∙ run_from-long answer closing number player (take (longest_line + 1) held') (drop (longest_line + 1) held' ++ rest)
-            m.reads.unbroken (long_front held' m.reads.long)),
-      );
-    }
-  where
-    long_front : (bytes : List ℕ) → longest_line < length bytes → longest_line < length (take (longest_line + 1) bytes)
-    long_front bytes h = omega (arith, length-take (longest_line + 1) bytes)
+  -- A line was read, and the player answered it or didn't.
+  pub advanced_by_line : (result : Result Bool ReplayFault) (read : Result Read LineFault) (what : Read) (line : _)
+      → NextLine longest_line left left' held read held' → read ≡ Ok what → what ≡ Line line
+      → Answers number (answer player line.now) next pending pending' result
+      → Advances answer closing number player next left left' held held' pending pending' result
+  advanced_by_line result read what line n is what_is a =
+      let m = subst (λ r. NextLine longest_line left left' held r held') (is ∙ ap Ok what_is) n in
+      record {
+        taken = m.takes.taken;
+        consumed = m.takes.consumed;
+        went = went_by_line (held ++ m.takes.taken) line.now result (line_first held m.takes.taken line.now held' m.takes.goes) m.reads a;
+      }
+
+module _ {P : Type 0} (answer : P → List ℕ → Result (List ℕ × P) Refused) (closing : P → Option (List ℕ)) (number : ℕ) (player : P)
+    (left left' : Option (List ℕ)) (held held' pending : List ℕ) (read : Result Read LineFault) where
+  -- The input ended within a line.
+  pub advanced_by_tail : (what : Read) → NextLine longest_line left left' held read held' → read ≡ Ok what → what ≡ Tail
+      → Advances answer closing number player player left left' held held' pending pending (Err (BadLine number))
+  advanced_by_tail what n is what_is =
+      let m = subst (λ r. NextLine longest_line left left' held r held') (is ∙ ap Ok what_is) n in
+      record {
+        taken = m.takes.taken;
+        consumed = m.takes.consumed;
+        went = (
+          refl,
+          inr (
+            m.reads.2,
+            ap (run_from answer closing number player) m.takes.goes
+                ∙ run_from-tail answer closing number player held' m.reads.0.unbroken m.reads.1 m.reads.0.short,
+          ),
+        );
+      }
+
+  -- Too many bytes came with no LF.
+  pub advanced_by_long : (why : LineFault) → NextLine longest_line left left' held read held' → read ≡ Err why → why ≡ fault.LineLong
+      → Advances answer closing number player player left left' held held' pending pending (Err (LineLong number))
+  advanced_by_long why n is why_is =
+      let m = subst (λ r. NextLine longest_line left left' held r held') (is ∙ ap Err why_is) n in
+      record {
+        taken = m.takes.taken;
+        consumed = m.takes.consumed;
+        went = (
+          refl,
+          inl (λ rest. ap (λ b. run_from answer closing number player (b ++ rest))
+              (m.takes.goes ∙ sym (take-append-drop (longest_line + 1) held'))
+              ∙ ap (run_from answer closing number player) (append_assoc (take (longest_line + 1) held') (drop (longest_line + 1) held')
+              rest)
+              ∙ run_from-long answer closing number player (take (longest_line + 1) held') (drop (longest_line + 1) held' ++ rest)
+              m.reads.unbroken (long_front held' m.reads.long)),
+        );
+      }

@@ -1,18 +1,11 @@
 -- A turn: what was pending before it may be sent first, and nothing is pending where it ends the run.
-use Rattle.std.proofs.Common.{◌≡◌, ◌∙◌, ◌≢◌, ◌+◌, ℕ, Bool, true, false, List, [], ◌∷◌, ◌++◌, length, Result, Ok, Err, OnOk, OnErr, Option, sym, ap, subst, append_assoc, append-nil, inl, inr}
-use Rattle.std.specs.Io.KnownBytes.{Appends}
-use Rattle.std.proofs.KnownBytes.{Appends-trans, Consumes-nil}
+use Rattle.mm_play.proofs.Below.{◌≡◌, ◌∙◌, ◌≢◌, ◌+◌, ℕ, Bool, true, false, List, [], ◌∷◌, ◌++◌, length, Result, Ok, Err, OnOk, OnErr}
+use Rattle.mm_play.proofs.Below.{Option, sym, ap, subst, append_assoc, append-nil, inl, inr, Appends, Appends-trans, Consumes-nil}
+use Rattle.mm_play.proofs.Below.{IsUnbroken, ReplayFault, Memory, ReadFault, WriteFault, BadLine, LineLong, TooMuch, Refused, Told}
+use Rattle.mm_play.proofs.Below.{after_writing, run_from, IsFrontOf, ForWhole, PlayedOn, Advances, SendsDue, SendsThen, IsSent, PlaysNext}
 use Rattle.std.proofs.Math.Seq.{take-append_seam}
 use Rattle.std.proofs.lemmas.List.Elements.{All-take}
-use Rattle.mm_base.specs.Input.{IsUnbroken}
 use Rattle.mm_base.specs.declared.fault.WriteFault as write
-use Rattle.mm_base.specs.declared.replay_fault.ReplayFault.{ReplayFault}
-use Rattle.mm_base.specs.declared.replay_fault.ReplayFault.TheVariants.{Memory, ReadFault, WriteFault, BadLine, LineLong, TooMuch}
-use Rattle.mm_play.specs.declared.player.Refused.{Refused}
-use Rattle.mm_play.specs.Play.{Told, after_writing, run_from}
-use Rattle.mm_play.specs.Takes.{IsFrontOf}
-use Rattle.mm_play.specs.Plays.{ForWhole}
-use Rattle.mm_play.specs.Turns.{PlayedOn, Advances, SendsDue, SendsThen, IsSent, PlaysNext}
 use Rattle.mm_play.proofs.Runs.{run_from-answered}
 use Rattle.mm_play.proofs.Telling.{for_whole}
 
@@ -31,31 +24,33 @@ front_of_front a b c first second = subst (λ (x : List ℕ). IsFrontOf a x) sec
 
 -- ---- bytes that were pending first
 
-went_behind : {P : Type 0} (answer : P → List ℕ → Result (List ℕ × P) Refused) (rest : List ℕ → Told P) (number : ℕ) (player next : P)
-    (left : Option (List ℕ)) (bytes held pending said front : List ℕ) (result : Result Bool ReplayFault)
-    → PlayedOn answer rest number player next left bytes held pending said result
-    → PlayedOn answer rest number player next left bytes held (front ++ pending) (front ++ said) result
-went_behind answer rest number player next left bytes held pending said front (Ok true) w = record {
-  line = w.line;
-  reply = w.reply;
-  unbroken = w.unbroken;
-  short = w.short;
-  cut = w.cut;
-  answered = w.answered;
-  said_behind = ap (λ b. front ++ b) w.said_behind ∙ sym (append_assoc front pending w.reply);
-}
-went_behind answer rest number player next left bytes held pending said front (Ok false) w =
-    (w.0, w.1, w.2, ap (λ b. front ++ b) w.3 ∙ sym (append_assoc front pending w.1))
-went_behind answer rest number player next left bytes held pending said front (Err ReadFault) w = (ap (λ b. front ++ b) w.0, w.1)
-went_behind answer rest number player next left bytes held pending said front (Err WriteFault) w =
-    for_whole left bytes (λ input. IsFrontOf said (pending ++ (rest input).written))
-    (λ input. IsFrontOf (front ++ said) ((front ++ pending) ++ (rest input).written))
-    (λ input h. subst (λ (b : List ℕ). IsFrontOf (front ++ said) b) (sym (append_assoc front pending (rest input).written))
-    (front_after front said (pending ++ (rest input).written) h)) w
-went_behind answer rest number player next left bytes held pending said front (Err Memory) w = ap (λ b. front ++ b) w
-went_behind answer rest number player next left bytes held pending said front (Err (BadLine n)) w = (ap (λ b. front ++ b) w.0, w.1)
-went_behind answer rest number player next left bytes held pending said front (Err (LineLong n)) w = (ap (λ b. front ++ b) w.0, w.1)
-went_behind answer rest number player next left bytes held pending said front (Err TooMuch) w = (ap (λ b. front ++ b) w.0, w.1)
+module _ {P : Type 0} (answer : P → List ℕ → Result (List ℕ × P) Refused) (rest : List ℕ → Told P) (number : ℕ) (player next : P)
+    (left : Option (List ℕ)) (bytes held pending said front : List ℕ) where
+  said_behind : said ≡ pending → front ++ said ≡ front ++ pending
+  said_behind same = ap (λ b. front ++ b) same
+
+  went_behind : (result : Result Bool ReplayFault) → PlayedOn answer rest number player next left bytes held pending said result
+      → PlayedOn answer rest number player next left bytes held (front ++ pending) (front ++ said) result
+  went_behind (Ok true) w = record {
+    line = w.line;
+    reply = w.reply;
+    unbroken = w.unbroken;
+    short = w.short;
+    cut = w.cut;
+    answered = w.answered;
+    said_behind = ap (λ b. front ++ b) w.said_behind ∙ sym (append_assoc front pending w.reply);
+  }
+  went_behind (Ok false) w = (w.0, w.1, w.2, ap (λ b. front ++ b) w.3 ∙ sym (append_assoc front pending w.1))
+  went_behind (Err ReadFault) w = (said_behind w.0, w.1)
+  went_behind (Err WriteFault) w =
+      for_whole left bytes (λ input. IsFrontOf said (pending ++ (rest input).written))
+      (λ input. IsFrontOf (front ++ said) ((front ++ pending) ++ (rest input).written))
+      (λ input h. subst (λ (b : List ℕ). IsFrontOf (front ++ said) b) (sym (append_assoc front pending (rest input).written))
+      (front_after front said (pending ++ (rest input).written) h)) w
+  went_behind (Err Memory) w = said_behind w
+  went_behind (Err (BadLine n)) w = (said_behind w.0, w.1)
+  went_behind (Err (LineLong n)) w = (said_behind w.0, w.1)
+  went_behind (Err TooMuch) w = (said_behind w.0, w.1)
 
 -- ---- a front of what is pending is a front of what the run writes
 
@@ -76,34 +71,37 @@ cut_reply {P} pending said sent reply t more behind is front =
     (subst (λ (b : List ℕ). IsFrontOf sent b) (append_assoc pending reply more.written)
     (front_of_more sent (pending ++ reply) more.written (subst (λ (b : List ℕ). IsFrontOf sent b) behind front)))
 
-went_cut : {P : Type 0} (answer : P → List ℕ → Result (List ℕ × P) Refused) (closing : P → Option (List ℕ)) (number : ℕ) (player next : P)
-    (left : Option (List ℕ)) (bytes held pending said sent : List ℕ) (result : Result Bool ReplayFault)
-    → PlayedOn answer (run_from answer closing number player) number player next left bytes held pending said result → IsFrontOf sent said
-    → ForWhole left bytes (IsCut (run_from answer closing number player) pending sent)
-went_cut answer closing number player next left bytes held pending said sent (Ok true) w front =
-    inl (λ more. cut_reply pending said sent w.reply (run_from answer closing number player (bytes ++ more))
-    (run_from answer closing (number + 1) next (held ++ more)) w.said_behind
-    (ap (run_from answer closing number player) (ap (λ b. b ++ more) w.cut ∙ append_assoc w.line (10 ∷ held) more)
-    ∙ run_from-answered answer closing number player w.line (held ++ more) w.reply next w.unbroken w.short w.answered) front)
-went_cut {P} answer closing number player next left bytes held pending said sent (Ok false) w front =
-    inr (
-      w.0,
-      subst (λ (t : Told P). IsFrontOf sent (pending ++ t.written)) (sym w.2) (subst (λ (b : List ℕ). IsFrontOf sent b) w.3 front),
-    )
-went_cut answer closing number player next left bytes held pending said sent (Err ReadFault) w front =
-    cut_unanswered (run_from answer closing number player) left bytes pending said sent w.0 front
-went_cut answer closing number player next left bytes held pending said sent (Err WriteFault) w front =
-    for_whole left bytes (IsCut (run_from answer closing number player) pending said)
-    (IsCut (run_from answer closing number player) pending sent)
-    (λ input h. front_of_front sent said (pending ++ (run_from answer closing number player input).written) front h) w
-went_cut answer closing number player next left bytes held pending said sent (Err Memory) w front =
-    cut_unanswered (run_from answer closing number player) left bytes pending said sent w front
-went_cut answer closing number player next left bytes held pending said sent (Err (BadLine n)) w front =
-    cut_unanswered (run_from answer closing number player) left bytes pending said sent w.0 front
-went_cut answer closing number player next left bytes held pending said sent (Err (LineLong n)) w front =
-    cut_unanswered (run_from answer closing number player) left bytes pending said sent w.0 front
-went_cut answer closing number player next left bytes held pending said sent (Err TooMuch) w front =
-    cut_unanswered (run_from answer closing number player) left bytes pending said sent w.0 front
+module _ {P : Type 0} (answer : P → List ℕ → Result (List ℕ × P) Refused) (closing : P → Option (List ℕ)) (number : ℕ) (player next : P)
+    (left : Option (List ℕ)) (bytes held pending said sent : List ℕ) where
+  abbrev WentOn : Result Bool ReplayFault → Type 0
+  WentOn result = PlayedOn answer (run_from answer closing number player) number player next left bytes held pending said result
+
+  abbrev AllCut : List ℕ → Type 0
+  AllCut front = ForWhole left bytes (IsCut (run_from answer closing number player) pending front)
+
+  unanswered : said ≡ pending → IsFrontOf sent said → AllCut sent
+  unanswered same front = cut_unanswered (run_from answer closing number player) left bytes pending said sent same front
+
+  went_cut : (result : Result Bool ReplayFault) → WentOn result → IsFrontOf sent said → AllCut sent
+  went_cut (Ok true) w front =
+      inl (λ more. cut_reply pending said sent w.reply (run_from answer closing number player (bytes ++ more))
+      (run_from answer closing (number + 1) next (held ++ more)) w.said_behind
+      (ap (run_from answer closing number player) (ap (λ b. b ++ more) w.cut ∙ append_assoc w.line (10 ∷ held) more)
+      ∙ run_from-answered answer closing number player w.line (held ++ more) w.reply next w.unbroken w.short w.answered) front)
+  went_cut (Ok false) w front =
+      inr (
+        w.0,
+        subst (λ (t : Told P). IsFrontOf sent (pending ++ t.written)) (sym w.2) (subst (λ (b : List ℕ). IsFrontOf sent b) w.3 front),
+      )
+  went_cut (Err ReadFault) w front = unanswered w.0 front
+  went_cut (Err WriteFault) w front =
+      for_whole left bytes (IsCut (run_from answer closing number player) pending said)
+      (IsCut (run_from answer closing number player) pending sent)
+      (λ input h. front_of_front sent said (pending ++ (run_from answer closing number player input).written) front h) w
+  went_cut (Err Memory) w front = unanswered w front
+  went_cut (Err (BadLine n)) w front = unanswered w.0 front
+  went_cut (Err (LineLong n)) w front = unanswered w.0 front
+  went_cut (Err TooMuch) w front = unanswered w.0 front
 
 -- ---- turns
 
@@ -117,11 +115,11 @@ due_sent received received' pending pending' due done m is =
 
 -- the sink failed before the line was read
 pub turn_cut : {P : Type 0} (answer : P → List ℕ → Result (List ℕ × P) Refused) (closing : P → Option (List ℕ)) (number : ℕ) (player : P)
-    (left : Option (List ℕ)) (held held' : List ℕ) (received received' : Option (List ℕ)) (pending pending' : List ℕ)
-    (due : Result (Unit {0}) write.WriteFault) (fault : write.WriteFault)
+    (left : Option (List ℕ)) (held held' : List ℕ) {received received' : Option (List ℕ)} {pending pending' : List ℕ}
+    {due : Result (Unit {0}) write.WriteFault} {fault : write.WriteFault}
     → SendsDue received received' pending pending' due → due ≡ Err fault
     → PlaysNext answer closing number player player left left held held' received received' pending pending' (Err WriteFault)
-turn_cut answer closing number player left held held' received received' pending pending' due fault m is =
+turn_cut answer closing number player left held held' {pending = pending} {pending' = pending'} m is =
     let none : pending' ≡ [] = subst (λ (r : Result (Unit {0}) write.WriteFault). OnErr r (pending' ≡ [])) is m.lost in
     let all : m.sent ++ pending' ≡ m.sent = ap (λ b. m.sent ++ b) none ∙ append-nil m.sent in
     record {
@@ -138,78 +136,77 @@ turn_cut answer closing number player left held held' received received' pending
 unbroken_front : (held taken : List ℕ) → IsUnbroken (held ++ taken) → IsUnbroken held
 unbroken_front held taken h = subst IsUnbroken (take-append_seam held taken) (All-take (λ (b : ℕ). b ≢ 10) (length held) (held ++ taken) h)
 
--- the source failed: nothing is pending
-pub turn_unread : {P : Type 0} (answer : P → List ℕ → Result (List ℕ × P) Refused) (closing : P → Option (List ℕ)) (number : ℕ)
-    (player next : P)
-    (left left' : Option (List ℕ)) (held here held' : List ℕ) (received received' : Option (List ℕ)) (pending waiting pending' : List ℕ)
-    (due : Result (Unit {0}) write.WriteFault) (done : Unit {0}) (came : Result Bool ReplayFault)
-    → here ≡ held → SendsDue received received' pending waiting due → (IsUnbroken held → waiting ≡ []) → due ≡ Ok done
-    → Advances answer closing number player next left left' here held' waiting pending' came → came ≡ Err ReadFault
-    → PlaysNext answer closing number player next left left' held held' received received' pending pending' (Err ReadFault)
-turn_unread answer closing number player next left left' held here held' received received' pending waiting pending' due done came same m
-    none is a came_is =
-    let rest = run_from answer closing number player in
-    let w = due_sent received received' pending waiting due done m is in
-    let b = subst (λ (h : List ℕ). Advances answer closing number player next left left' h held' waiting pending' came) same a in
-    let failed = subst (λ (r : Result Bool ReplayFault). PlayedOn answer rest number player next left' (held ++ b.taken) held' waiting
-    pending' r) came_is b.went in
-    let went = went_behind answer rest number player next left' (held ++ b.taken) held' waiting pending' w.0 (Err ReadFault) failed in
-    record {
-      taken = b.taken;
-      sent = w.0;
-      consumed = b.consumed;
-      appended = w.1;
-      went =
-          subst (λ (p : List ℕ). PlayedOn answer rest number player next left' (held ++ b.taken) held' p (w.0 ++ pending') (Err ReadFault))
-          (sym w.2) went;
-      is_sent = failed.0 ∙ none (unbroken_front held b.taken failed.1.unbroken);
-    }
-
 none_is_sent : (pending : List ℕ) (result : Result Bool ReplayFault) → pending ≡ [] → IsSent pending result
 none_is_sent pending (Ok true) none = tt
 none_is_sent pending (Ok false) none = none
 none_is_sent pending (Err fault) none = none
 
--- all was sent, or the sink failed
-pub turn_ends : {P : Type 0} (answer : P → List ℕ → Result (List ℕ × P) Refused) (closing : P → Option (List ℕ)) (number : ℕ)
-    (player next : P)
-    (left left' : Option (List ℕ)) (held here held' : List ℕ) (received received' received'' : Option (List ℕ))
-    (pending waiting more pending' : List ℕ)
-    (due : Result (Unit {0}) write.WriteFault) (done : Unit {0}) (found came result : Result Bool ReplayFault)
-    → here ≡ held → SendsDue received received' pending waiting due → due ≡ Ok done
-    → Advances answer closing number player next left left' here held' waiting more found → found ≡ came
-    → SendsThen came received' received'' more result → pending' ≡ []
-    → PlaysNext answer closing number player next left left' held held' received received'' pending pending' result
-turn_ends answer closing number player next left left' held here held' received received' received'' pending waiting more pending' due done
-    found came result same m is a found_is s none =
-    let rest = run_from answer closing number player in
-    let w = due_sent received received' pending waiting due done m is in
-    let b = subst (λ (r : Result Bool ReplayFault). Advances answer closing number player next left left' held held' waiting more r)
-    found_is
-    (subst (λ (h : List ℕ). Advances answer closing number player next left left' h held' waiting more found) same a) in
-    let bytes = held ++ b.taken in
-    let behind = went_behind answer rest number player next left' bytes held' waiting more w.0 came b.went in
-    let went = subst (λ (p : List ℕ). PlayedOn answer rest number player next left' bytes held' p (w.0 ++ more) came) (sym w.2) behind in
-    let all : (w.0 ++ s.sent) ++ pending' ≡ w.0 ++ s.sent = ap (λ p. (w.0 ++ s.sent) ++ p) none ∙ append-nil (w.0 ++ s.sent) in
-    record {
-      taken = b.taken;
-      sent = w.0 ++ s.sent;
-      consumed = b.consumed;
-      appended = Appends-trans received received' received'' w.0 s.sent w.1 s.appended;
-      went = elim s.then_so [
-        | inl whole ↦
-            let sent : w.0 ++ more ≡ (w.0 ++ s.sent) ++ pending' =
-            ap (λ p. w.0 ++ p) (s.parts ∙ ap (λ p. s.sent ++ p) whole.1 ∙ append-nil s.sent) ∙ sym all in
-            subst (λ (r : Result Bool ReplayFault). PlayedOn answer rest number player next left' bytes held' pending
-            ((w.0 ++ s.sent) ++ pending') r) (sym whole.0)
-            (subst (λ (p : List ℕ). PlayedOn answer rest number player next left' bytes held' pending p came) sent went)
-        | inr cut ↦
-            let front : IsFrontOf ((w.0 ++ s.sent) ++ pending') (w.0 ++ more) =
-            subst (λ (p : List ℕ). IsFrontOf p (w.0 ++ more)) (sym all) (front_after w.0 s.sent more (s.unsent, sym s.parts)) in
-            subst (λ (r : Result Bool ReplayFault). PlayedOn answer rest number player next left' bytes held' pending
-            ((w.0 ++ s.sent) ++ pending') r) (sym cut)
-            (went_cut answer closing number player next left' bytes held' pending (w.0 ++ more) ((w.0 ++ s.sent) ++ pending') came went
-            front)
-      ];
-      is_sent = none_is_sent pending' result none;
-    }
+-- a line was read, or not, once what was due was sent
+module _ {P : Type 0} {answer : P → List ℕ → Result (List ℕ × P) Refused} {closing : P → Option (List ℕ)} {number : ℕ} {player next : P}
+    {left left' : Option (List ℕ)} {held here held' : List ℕ} {received received' : Option (List ℕ)} {pending waiting more : List ℕ}
+    {due : Result (Unit {0}) write.WriteFault} {done : Unit {0}} {found : Result Bool ReplayFault}
+    (same : here ≡ held) (m : SendsDue received received' pending waiting due) (is : due ≡ Ok done)
+    (a : Advances answer closing number player next left left' here held' waiting more found) where
+  first_sent : (sent : List ℕ) × Appends received received' sent × (pending ≡ sent ++ waiting)
+  first_sent = due_sent received received' pending waiting due done m is
+
+  abbrev WentBy : List ℕ → List ℕ → Result Bool ReplayFault → Type 0
+  WentBy pending said came =
+      PlayedOn answer (run_from answer closing number player) number player next left' (held ++ a.taken) held' pending said came
+
+  -- by what came, and with what was sent first
+  came_now : (came : Result Bool ReplayFault) → found ≡ came → WentBy waiting more came
+  came_now came found_is =
+      subst (λ (r : Result Bool ReplayFault). WentBy waiting more r) found_is
+      (subst (λ (h : List ℕ). PlayedOn answer (run_from answer closing number player) number player next left' (h ++ a.taken) held' waiting
+      more found) same a.went)
+
+  came_behind : (came : Result Bool ReplayFault) → found ≡ came → WentBy pending (first_sent.0 ++ more) came
+  came_behind came found_is =
+      subst (λ (p : List ℕ). WentBy p (first_sent.0 ++ more) came) (sym first_sent.2)
+      (went_behind answer (run_from answer closing number player) number player next left' (held ++ a.taken) held' waiting more first_sent.0
+      came (came_now came found_is))
+
+  -- the source failed: nothing is pending
+  pub turn_unread : (IsUnbroken held → waiting ≡ []) → found ≡ Err ReadFault
+      → PlaysNext answer closing number player next left left' held held' received received' pending more (Err ReadFault)
+  turn_unread none came_is =
+      let failed = came_now (Err ReadFault) came_is in
+      record {
+        taken = a.taken;
+        sent = first_sent.0;
+        consumed = a.consumed;
+        appended = first_sent.1;
+        went = came_behind (Err ReadFault) came_is;
+        is_sent = failed.0 ∙ none (unbroken_front held a.taken failed.1.unbroken);
+      }
+
+  -- all was sent, or the sink failed
+  pub turn_ends : {received'' : Option (List ℕ)} {pending' : List ℕ} {came result : Result Bool ReplayFault} → found ≡ came
+      → SendsThen came received' received'' more result → pending' ≡ []
+      → PlaysNext answer closing number player next left left' held held' received received'' pending pending' result
+  turn_ends {received'' = received''} {pending' = pending'} {came = came} {result = result} found_is s none =
+      let first = first_sent.0 in
+      let bytes = held ++ a.taken in
+      let went = came_behind came found_is in
+      let all : (first ++ s.sent) ++ pending' ≡ first ++ s.sent = ap (λ p. (first ++ s.sent) ++ p) none ∙ append-nil (first ++ s.sent) in
+      record {
+        taken = a.taken;
+        sent = first ++ s.sent;
+        consumed = a.consumed;
+        appended = Appends-trans received received' received'' first s.sent first_sent.1 s.appended;
+        went = elim s.then_so [
+          | inl whole ↦
+              let sent : first ++ more ≡ (first ++ s.sent) ++ pending' =
+              ap (λ p. first ++ p) (s.parts ∙ ap (λ p. s.sent ++ p) whole.1 ∙ append-nil s.sent) ∙ sym all in
+              subst (λ (r : Result Bool ReplayFault). WentBy pending ((first ++ s.sent) ++ pending') r) (sym whole.0)
+              (subst (λ (p : List ℕ). WentBy pending p came) sent went)
+          | inr cut ↦
+              let front : IsFrontOf ((first ++ s.sent) ++ pending') (first ++ more) =
+              subst (λ (p : List ℕ). IsFrontOf p (first ++ more)) (sym all) (front_after first s.sent more (s.unsent, sym s.parts)) in
+              subst (λ (r : Result Bool ReplayFault). WentBy pending ((first ++ s.sent) ++ pending') r) (sym cut)
+              (went_cut answer closing number player next left' bytes held' pending (first ++ more) ((first ++ s.sent) ++ pending') came
+              went front)
+        ];
+        is_sent = none_is_sent pending' result none;
+      }

@@ -9,7 +9,6 @@ use Rattle.mm_play.specs.declared.player.Refused.TheVariants.{Bad, Much}
 -- What a player does with events `E`, where `R` stands between two of them and `P` is the player:
 -- how many events and bytes of their lines were taken, what is kept of them, and the room for both.
 pub record EventPlayer (E R P : Type 0) : Type 0 where
-  pub answer : P → List ℕ → Result (List ℕ × P) Refused
   pub among : R → P
   pub event_in : R → List ℕ → Option E
   pub reply : R → E → List ℕ
@@ -36,9 +35,10 @@ event_answer p r line None = Err Bad
 event_answer p r line (Some event) = unless_over p (is_over p r line) r line event
 
 -- It answers events so, reads them on as before, and counts them.
-pub record TakesEvents {E R P : Type 0} (p : EventPlayer E R P) : Type 0 where
+pub record TakesEvents {E R P : Type 0} (p : EventPlayer E R P)
+    (answer : P → List ℕ → Result (List ℕ × P) Refused) : Type 0 where
   pub answers : (r : R) (line : List ℕ)
-      → p.answer (p.among r) line ≡ event_answer p r line (p.event_in r line)
+      → answer (p.among r) line ≡ event_answer p r line (p.event_in r line)
   pub reads : (r : R) (line : List ℕ) (event : E) → p.event_in (p.after r line event) ≡ p.event_in r
   pub counts : (r : R) (line : List ℕ) (event : E)
       → p.events (p.after r line event) ≡ p.events r + 1

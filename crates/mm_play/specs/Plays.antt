@@ -23,8 +23,7 @@ IsTailShort taken = length (tail_of taken) ≤ longest_line
 -- How the answer fits what was taken of the input and written. `lines` is the run over whole lines,
 -- `whole` that over a whole input.
 abbrev pub Settles : {P T : Type 0} → (List (List ℕ) → Told P) → (List ℕ → Told P) → P
-    → Option (List ℕ) → List ℕ → List ℕ
-    → Result T ReplayFault → Type 0
+    → Option (List ℕ) → List ℕ → List ℕ → Result T ReplayFault → Type 0
 -- Ok: the input was taken to its end, and the run over it was written whole.
 Settles lines whole next left taken sent (Ok _) = IsAtEnd left × (whole taken ≡ told sent (Ok next))
 -- The source failed: each whole line that was taken is answered, and nothing else; and the bytes

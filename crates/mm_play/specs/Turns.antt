@@ -23,8 +23,7 @@ Answers number answer next old new (Err ReadFault) = ⊥
 Answers number answer next old new (Err WriteFault) = ⊥
 Answers number answer next old new (Err (LineLong line)) = ⊥
 Answers number answer next old new (Err (BadLine line)) =
-    (new ≡ old) × (why : Refused) × (answer ≡ Err why)
-    × (refusal_at number why ≡ BadLine line)
+    (new ≡ old) × (why : Refused) × (answer ≡ Err why) × (refusal_at number why ≡ BadLine line)
 Answers number answer next old new (Err TooMuch) =
     (new ≡ old) × (why : Refused) × (answer ≡ Err why) × (refusal_at number why ≡ TooMuch)
 
@@ -68,19 +67,15 @@ PlayedOn answer rest number player next left bytes held pending said (Err WriteF
     ForWhole left bytes (λ input. IsFrontOf said (pending ++ (rest input).written))
 PlayedOn answer rest number player next left bytes held pending said (Err Memory) = said ≡ pending
 PlayedOn answer rest number player next left bytes held pending said (Err (BadLine line)) =
-    (said ≡ pending)
-    × ForWhole left bytes (λ input. rest input ≡ stopped (BadLine line))
+    (said ≡ pending) × ForWhole left bytes (λ input. rest input ≡ stopped (BadLine line))
 PlayedOn answer rest number player next left bytes held pending said (Err (LineLong line)) =
-    (said ≡ pending)
-    × ForWhole left bytes (λ input. rest input ≡ stopped (LineLong line))
+    (said ≡ pending) × ForWhole left bytes (λ input. rest input ≡ stopped (LineLong line))
 PlayedOn answer rest number player next left bytes held pending said (Err TooMuch) =
-    (said ≡ pending)
-    × ForWhole left bytes (λ input. rest input ≡ stopped TooMuch)
+    (said ≡ pending) × ForWhole left bytes (λ input. rest input ≡ stopped TooMuch)
 
 -- A line was read and answered, or not, and nothing was sent.
 pub record Advances {P : Type 0} (answer : P → List ℕ → Result (List ℕ × P) Refused)
-    (closing : P → Option (List ℕ)) (number : ℕ)
-    (player next : P)
+    (closing : P → Option (List ℕ)) (number : ℕ) (player next : P)
     (left left' : Option (List ℕ)) (held held' pending pending' : List ℕ)
     (result : Result Bool ReplayFault) : Type 0 where
   pub taken : List ℕ
@@ -116,8 +111,7 @@ IsSent pending (Ok false) = pending ≡ []
 IsSent pending (Err fault) = pending ≡ []
 
 pub record PlaysNext {P : Type 0} (answer : P → List ℕ → Result (List ℕ × P) Refused)
-    (closing : P → Option (List ℕ)) (number : ℕ)
-    (player next : P)
+    (closing : P → Option (List ℕ)) (number : ℕ) (player next : P)
     (left left' : Option (List ℕ)) (held held' : List ℕ) (received received' : Option (List ℕ))
     (pending pending' : List ℕ)
     (result : Result Bool ReplayFault) : Type 0 where
@@ -126,7 +120,5 @@ pub record PlaysNext {P : Type 0} (answer : P → List ℕ → Result (List ℕ 
   pub consumed : Consumes left left' taken
   pub appended : Appends received received' sent
   pub went : PlayedOn answer (run_from answer closing number player) number player next left'
-      (held ++ taken) held' pending
-      (sent ++ pending')
-      result
+      (held ++ taken) held' pending (sent ++ pending') result
   pub is_sent : IsSent pending' result

@@ -1,5 +1,9 @@
 -- Receipts that aren't forged never clash: each known pair is one, and two of one position are equal.
-use Rattle.std.proofs.Common.{◌≡◌, ◌∙◌, ◌+◌, ◌≤◌, ◌==◌, ◌&&◌, ◌++◌, ℕ, Bool, true, false, cond, nat_lt, nat_le, List, [], ◌∷◌, length, drop, take, Option, Some, None, Result, Ok, Err, refl, sym, ap, subst, arith}
+use Rattle.mm_receipts.proofs.Below.{◌≡◌, ◌∙◌, ◌+◌, ◌≤◌, ◌==◌, ◌&&◌, ◌++◌, ℕ, Bool, true, false, cond, nat_lt, nat_le, List, [], ◌∷◌}
+use Rattle.mm_receipts.proofs.Below.{length, drop, take, Option, Some, None, Result, Ok, Err, refl, sym, ap, subst, arith, Refused}
+use Rattle.mm_receipts.proofs.Below.{first_answered, receipts-true, no-clash, Asked, Tally, Checking, pair_at, parted, asked_with}
+use Rattle.mm_receipts.proofs.Below.{is_too_much, known_at, against_pair, receipt_verdict, pair_verdict, verdict_text, after_pair, first_by}
+use Rattle.mm_receipts.proofs.Below.{second_answer, waits, settles, receipts_answer, first_tally}
 use Rattle.std.specs.Prelude.{if◌then◌else◌}
 use Rattle.std.specs.BTreeMap.{is_at, insert_entry}
 use Rattle.std.specs.List.{AllByRecursion, position}
@@ -14,28 +18,23 @@ use Rattle.mm_base.specs.Limits.{last_position, longest_request}
 use Rattle.mm_module.specs.Meaning.{Meaning}
 use Rattle.mm_module.specs.WordsWords.{is_space}
 use Rattle.mm_module.specs.LineLaws.{and-true}
-use Rattle.mm_play.specs.declared.player.Refused.{Refused}
+use Rattle.mm_play.specs.Counting.{no_answer, same_answer, same_next}
 use Rattle.mm_play.specs.declared.player.Refused.TheVariants.{Bad, Much}
 use Rattle.mm_play.specs.Play.{Told, told, run}
-use Rattle.mm_play.proofs.Events.{first_answered}
 use Rattle.mm_receipt.specs.declared.receipt.NotReceipt.{NotReceipt}
 use Rattle.mm_receipt.specs.declared.receipt.NotReceipt.TheVariants.{Form, Tag}
 use Rattle.mm_receipt.specs.Receipts.{verified}
 use Rattle.mm_receipt.specs.Tagged.{IsCounted, IsUnforged}
-use Rattle.mm_receipt.proofs.TaggedLaws.{receipts-true, no-clash}
-use Rattle.mm_receipts.specs.declared.pair.Asked.{Asked}
 use Rattle.mm_receipts.specs.declared.pair.Pair.{Pair}
 use Rattle.mm_receipts.specs.declared.pair.Verdict.{Verdict}
-use Rattle.mm_receipts.specs.declared.pair.Verdict.TheVariants.{NoForm, NoTag, Clash, Good}
-use Rattle.mm_receipts.specs.Checking.{Tally, Checking, pair_at, parted, asked_with, is_too_much, known_at, against_pair, receipt_verdict, pair_verdict, verdict_text, after_pair, first_by, second_answer, waits, settles, receipts_answer, first_tally}
+use Rattle.mm_receipts.specs.declared.pair.Verdict.TheVariants.{NoForm, Good}
 use Rattle.mm_receipts.specs.Honest.{pairs_of, text_alone, alone, WasTagged, IsTrue, IsHonest, ChecksAreHonest}
 
 -- a pair that nothing stands beside is answered by its output alone
 alone-text : (position : ℕ) (request output : List ℕ) (answer : Result (Unit {0}) NotReceipt)
     → verdict_text position (receipt_verdict answer None request output) ≡ text_alone position answer
 alone-text position request output (Err Form) = refl
-alone-text position request output (Err Tag) = refl
-alone-text position request output (Ok done) = refl
+alone-text position request output _ = refl
 
 -- what a first line keeps
 record IsFormed (asked : Asked) : Type 0 where
@@ -84,8 +83,7 @@ module _ (inner : Meaning) (requests : List (List ℕ)) (counted : AllByRecursio
   SoundAt number (Some pair) = IsUnforged inner requests key number pair.request pair.output
 
   sound-here : (number : ℕ) (entry : ℕ × Pair) (rest : List (ℕ × Pair)) (here : Bool) → is_at (nat_cmp number) entry.0 ≡ here
-      → IsSound entry
-      → SoundAt number (lookup (is_at (nat_cmp number)) rest)
+      → IsSound entry → SoundAt number (lookup (is_at (nat_cmp number)) rest)
       → SoundAt number (cond here (Some entry.1) (lookup (is_at (nat_cmp number)) rest))
   sound-here number entry rest true is sound later =
       subst (λ n. IsUnforged inner requests key n entry.1.request entry.1.output) (sym (at-key number entry.0 is)) sound
@@ -107,20 +105,17 @@ module _ (inner : Meaning) (requests : List (List ℕ)) (counted : AllByRecursio
   sound-by number pair entry known rest false false is new old more later = (old, later)
 
   sound-insert : (number : ℕ) (pair : Pair) (known : List (ℕ × Pair)) → IsUnforged inner requests key number pair.request pair.output
-      → AreSound known
-      → AreSound (insert_entry nat_cmp known number pair)
+      → AreSound known → AreSound (insert_entry nat_cmp known number pair)
   sound-insert number pair [] new sound = (new, tt)
   sound-insert number pair (entry ∷ known) new sound =
       sound-by number pair entry known (insert_entry nat_cmp known number pair) (nat_lt number entry.0) (number == entry.0) refl new sound.0
-      sound.1
-      (sound-insert number pair known new sound.1)
+      sound.1 (sound-insert number pair known new sound.1)
 
   same_bytes : (a b : List ℕ) → a ≡ b → bytes_eq a b ≡ true
   same_bytes a b is = grind (arith, bytes_eq-Decides)
 
   beside-good : (asked : Asked) (output : List ℕ) (known : Option Pair) → IsUnforged inner requests key asked.position asked.request output
-      → SoundAt asked.position known
-      → against_pair known asked.request output ≡ Good
+      → SoundAt asked.position known → against_pair known asked.request output ≡ Good
   beside-good asked output None new sound = refl
   beside-good asked output (Some pair) new sound =
       let same = no-clash inner requests counted key asked.position asked.request output pair.request pair.output new sound in
@@ -145,21 +140,11 @@ module _ (inner : Meaning) (requests : List (List ℕ)) (counted : AllByRecursio
   after-key : (tally : Tally) (asked : Asked) (output : List ℕ) (verdict : Verdict)
       → (after_pair tally asked output verdict).key ≡ tally.key
   after-key tally asked output NoForm = refl
-  after-key tally asked output NoTag = refl
-  after-key tally asked output Clash = refl
-  after-key tally asked output Good = refl
-
-  refuses : (why : Refused) (reply : List ℕ) (next : Checking)
-      → (let r : Result (List ℕ × Checking) Refused = Err why in r ≡ Ok (reply, next)) → ⊥
-  refuses why reply next h = cc
+  after-key tally asked output _ = refl
 
   same_reply : (reply said : List ℕ) (next it : Checking)
       → (let r : Result (List ℕ × Checking) Refused = Ok (said, it) in r ≡ Ok (reply, next)) → reply ≡ said
-  same_reply reply said next it h = let p : (said, it) ≡ (reply, next) = cc in sym (ap (λ (q : List ℕ × Checking). q.0) p)
-
-  same_mid : (reply said : List ℕ) (next it : Checking)
-      → (let r : Result (List ℕ × Checking) Refused = Ok (said, it) in r ≡ Ok (reply, next)) → next ≡ it
-  same_mid reply said next it h = let p : (said, it) ≡ (reply, next) = cc in sym (ap (λ (q : List ℕ × Checking). q.1) p)
+  same_reply reply said next it h = sym (ap (λ (q : List ℕ × Checking). q.0) (same_answer (said, it) (reply, next) h))
 
   -- what stands between two lines
   record Stands (tally : Tally) (asked : Option Asked) : Type 0 where
@@ -177,10 +162,10 @@ module _ (inner : Meaning) (requests : List (List ℕ)) (counted : AllByRecursio
   first-waits : (tally : Tally) (line : List ℕ) (found : Option Asked) (much : Bool) (reply : List ℕ) (mid : Checking)
       → pair_at line ≡ found → is_too_much tally line ≡ much
       → waits (first_by tally line found) ≡ Ok (reply, mid) → Waiting tally line reply mid
-  first-waits tally line None much reply mid is flag h = absurd (refuses Bad reply mid h)
-  first-waits tally line (Some asked) true reply mid is flag h = absurd (refuses Much reply mid (rw flag at h))
+  first-waits tally line None much reply mid is flag h = absurd (no_answer Bad reply mid h)
+  first-waits tally line (Some asked) true reply mid is flag h = absurd (no_answer Much reply mid (rw flag at h))
   first-waits tally line (Some asked) false reply mid is flag h =
-      let e = same_mid reply _ mid _ (rw flag at h) in
+      let e = sym (same_next reply _ mid _ (rw flag at h)) in
       record {
         silent = same_reply reply _ mid _ (rw flag at h);
         asked = ap (λ (c : Checking). c.asked) e ∙ sym is;
@@ -194,11 +179,10 @@ module _ (inner : Meaning) (requests : List (List ℕ)) (counted : AllByRecursio
     next : mid ≡ record { tally = after_pair tally asked line (pair_verdict tally asked line); asked = None }
 
   second-settles : (tally : Tally) (asked : Asked) (line : List ℕ) (much : Bool) (reply : List ℕ) (mid : Checking)
-      → is_too_much tally line ≡ much
-      → settles (second_answer tally asked line) ≡ Ok (reply, mid) → Settling tally asked line reply mid
-  second-settles tally asked line true reply mid flag h = absurd (refuses Much reply mid (rw flag at h))
+      → is_too_much tally line ≡ much → settles (second_answer tally asked line) ≡ Ok (reply, mid) → Settling tally asked line reply mid
+  second-settles tally asked line true reply mid flag h = absurd (no_answer Much reply mid (rw flag at h))
   second-settles tally asked line false reply mid flag h =
-      record { told = same_reply reply _ mid _ (rw flag at h); next = same_mid reply _ mid _ (rw flag at h) }
+      record { told = same_reply reply _ mid _ (rw flag at h); next = sym (same_next reply _ mid _ (rw flag at h)) }
 
   unforged : (asked : Asked) (line : List ℕ) → IsFormed asked → WasTagged inner requests key (record { asked = asked; output = line })
       → verified key asked.position asked.request line ≡ Ok tt → IsUnforged inner requests key asked.position asked.request line
@@ -211,8 +195,7 @@ module _ (inner : Meaning) (requests : List (List ℕ)) (counted : AllByRecursio
       receipts-true inner requests counted key asked.position asked.request line (unforged asked line formed genuine accepted)
 
   honest-from : (lines : List (List ℕ)) (number : ℕ) (tally : Tally) (asked : Option Asked) (written : List ℕ) (next : Checking)
-      → Stands tally asked
-      → run receipts_answer number (record { tally = tally; asked = asked }) lines ≡ told written (Ok next)
+      → Stands tally asked → run receipts_answer number (record { tally = tally; asked = asked }) lines ≡ told written (Ok next)
       → AllByRecursion (WasTagged inner requests key) (pairs_of asked lines) → IsHonest inner requests key (pairs_of asked lines) written
   honest-from [] number tally asked written next s ran genuine =
       record { plain = sym (ap (λ (t : Told Checking). t.written) ran); right = tt }

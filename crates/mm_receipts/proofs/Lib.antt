@@ -1,2 +1,3 @@
-pub mod Playing
-pub mod HonestLaws
+mod Below
+mod Playing
+mod HonestLaws

@@ -1,18 +1,12 @@
 -- An event hands out at most one snapshot.
-use Rattle.std.proofs.Common.{◌≡◌, ℕ, Bool, true, false, List, ◌++◌, Option, None, Some, refl, inl, inr}
+use Rattle.mm_replay.proofs.Below.{◌≡◌, ℕ, Bool, true, false, List, ◌++◌, Option, None, Some, refl, inl, inr, Meddle, Stop, Digests, Event}
+use Rattle.mm_replay.proofs.Below.{Ask, Checkpoint, Power, Extend, by_digests, Ending, Answers, Refuses, Breaks, called, course_of}
+use Rattle.mm_replay.proofs.Below.{snapshots_of, asked, event_outcome, Issues}
 use Rattle.std.proofs.lemmas.List.{append-nil}
 use Rattle.mm_module.specs.Batch.{Batch, normal}
-use Rattle.mm_platform.specs.declared.plan.Meddle.{Meddle}
-use Rattle.mm_platform.specs.declared.plan.Stop.{Stop}
 use Rattle.mm_model.specs.Instance.{Instance}
 use Rattle.mm_model.specs.Long.{is_long}
-use Rattle.mm_model.specs.Moves.{Digests}
-use Rattle.mm_schedule.specs.Events.{Event, Ask, Checkpoint, Power, Extend}
-use Rattle.mm_call.specs.Levels.{by_digests}
-use Rattle.mm_call.specs.Called.{Ending, Answers, Refuses, Breaks, called}
 use Rattle.mm_run.specs.Offered.{offered_bytes}
-use Rattle.mm_run.specs.Folds.{course_of, snapshots_of, asked, event_outcome}
-use Rattle.mm_replay.specs.Issues.{Issues}
 
 ended_issues : (issued : List (List ℕ)) (ending : Ending) → Issues issued (issued ++ snapshots_of ending)
 ended_issues issued (Answers answer) = inr (answer.snapshot, refl)
@@ -20,15 +14,13 @@ ended_issues issued (Refuses why) = inl (append-nil issued)
 ended_issues issued (Breaks fault kept) = inl (append-nil issued)
 
 long_issues : (i : Instance) (d : Digests) (issued : List (List ℕ)) (meddles : List Meddle) (stop : Stop) (bytes : List ℕ) (b : Batch)
-    (long : Bool)
-    → is_long b ≡ long → Issues issued (asked i (by_digests i) d issued meddles stop (Some bytes) b).issued
+    (long : Bool) → is_long b ≡ long → Issues issued (asked i (by_digests i) d issued meddles stop (Some bytes) b).issued
 long_issues i d issued meddles stop bytes b true is = rw is (inl refl)
 long_issues i d issued meddles stop bytes b false is =
     rw is (ended_issues issued (called i (by_digests i) d (course_of stop meddles) bytes (normal b)).ending)
 
 asked_issues : (i : Instance) (d : Digests) (issued : List (List ℕ)) (meddles : List Meddle) (stop : Stop) (bytes : Option (List ℕ))
-    (b : Batch)
-    → Issues issued (asked i (by_digests i) d issued meddles stop bytes b).issued
+    (b : Batch) → Issues issued (asked i (by_digests i) d issued meddles stop bytes b).issued
 asked_issues i d issued meddles stop None b = inl refl
 asked_issues i d issued meddles stop (Some bytes) b = long_issues i d issued meddles stop bytes b (is_long b) refl
 

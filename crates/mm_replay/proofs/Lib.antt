@@ -1,6 +1,5 @@
-pub mod Writing
-pub mod Answering
-pub mod Telling
-pub mod Issuing
-pub mod Progressing
-pub mod Replaying
+mod Below
+mod Writing
+mod Telling
+mod Issuing
+mod Progressing

@@ -1,25 +1,14 @@
 -- What an event leaves of a replay.
-use Rattle.std.proofs.Common.{◌≡◌, ◌∙◌, ◌+◌, ◌-◌, ◌^◌, ◌≤◌, ◌<◌, ℕ, List, [], ◌∷◌, ◌++◌, length, Some, None, inl, inr, refl, sym, ap, subst, arith}
-use Rattle.std.specs.List.{sum_by, slice_get}
+use Rattle.mm_replay.proofs.Below.{◌≡◌, ◌∙◌, ◌+◌, ◌-◌, ◌^◌, ◌≤◌, ◌<◌, ℕ, List, [], ◌∷◌, ◌++◌, length, Some, None, inl, inr, refl, sym, ap}
+use Rattle.mm_replay.proofs.Below.{subst, arith, sum_by, slice_get, slice_get_past, Header, Meddle, Stop, reading_steps, course_of}
+use Rattle.mm_replay.proofs.Below.{count_none, Event, Ask, Checkpoint, Power, Extend, Reply, Digests, Held, instance_of, within_bits}
+use Rattle.mm_replay.proofs.Below.{having_read, Follows, Wants, Issues, Running, after_event}
 use Rattle.std.proofs.lemmas.List.Sums.{sum_by-append}
 use Rattle.std.proofs.Math.Nat.{min-eq_left}
-use Rattle.std.proofs.lemmas.Option.{slice_get_past}
 use Rattle.mm_base.specs.Limits.{most_members}
-use Rattle.mm_schedule.specs.declared.header.Header.{Header}
-use Rattle.mm_platform.specs.declared.plan.Meddle.{Meddle}
-use Rattle.mm_platform.specs.declared.plan.Stop.{Stop}
 use Rattle.mm_call.specs.Courses.{seen_in}
-use Rattle.mm_call.specs.Called.{reading_steps}
-use Rattle.mm_run.specs.Folds.{course_of}
-use Rattle.mm_world.proofs.Committing.{count_none}
 use Rattle.mm_call.specs.WalkLaws.{seen_none}
-use Rattle.mm_schedule.specs.Events.{Event, Ask, Checkpoint, Power, Extend}
-use Rattle.mm_schedule.specs.declared.reply.Reply.{Reply}
-use Rattle.mm_model.specs.Moves.{Digests}
-use Rattle.mm_run.specs.Held.{Held, instance_of, within_bits, having_read, Follows, Wants}
 use Rattle.mm_run.specs.Held as held
-use Rattle.mm_replay.specs.Issues.{Issues}
-use Rattle.mm_replay.specs.Schedule.{Running, after_event}
 use Rattle.mm_replay.proofs.Issuing.{outcome_issues}
 
 -- a count of few requests is no greatest one
@@ -84,8 +73,7 @@ pub stands_after : (old new : Held) (event : Event) (line : List ℕ) (events re
       digests = new.digests;
       issued = new.issued;
       events = events + 1;
-      read = read +
-          length line;
+      read = read + length line;
     } in
     let before : Running = record { header = old.header; digests = old.digests; issued = old.issued; events = events; read = read } in
     now ≡ after_event before line event)

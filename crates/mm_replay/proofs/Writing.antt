@@ -1,7 +1,6 @@
 -- Lines that are put one after another.
-use Rattle.std.proofs.Common.{◌≡◌, ◌∙◌, ◌+◌, ◌<◌, ℕ, suc, List, ◌++◌, length, drop, Some, sym, ap, append_assoc, drop-cons, add-one}
-use Rattle.std.specs.List.{concat, slice_get}
-use Rattle.std.proofs.lemmas.Option.{slice_get_within, get_or_from_slice_get}
+use Rattle.mm_replay.proofs.Below.{◌≡◌, ◌∙◌, ◌+◌, ◌<◌, ℕ, suc, List, ◌++◌, length, drop, Some, sym, ap, append_assoc, drop-cons, add-one}
+use Rattle.mm_replay.proofs.Below.{concat, slice_get, slice_get_within, get_or_from_slice_get}
 
 -- a line and the lines behind it
 pub concat-drop : (lines : List (List ℕ)) (i : ℕ) (line : List ℕ) → slice_get lines i ≡ Some line

@@ -1,10 +1,8 @@
 -- What the lines of a schedule are answered: the whole run, and not its lines one by one.
-use Rattle.std.specs.Prelude.{◌≡◌, ◌≤◌, ◌<◌, ◌+◌, ℕ, List, [], ◌∷◌, ◌++◌, length, map, Option, Some, Result, ◌⊎◌}
+use Rattle.std.specs.Prelude.{◌≡◌, ◌≤◌, ◌<◌, ◌+◌, ℕ, List, [], ◌∷◌, ◌++◌, length, map, Option, Some, ◌⊎◌}
 use Rattle.std.specs.List.{sum_by}
-use Rattle.mm_base.specs.declared.replay_fault.ReplayFault.{ReplayFault}
 use Rattle.mm_base.specs.Limits.{most_events}
 use Rattle.mm_schedule.specs.declared.header.Header.{Header}
-use Rattle.mm_play.specs.Tells.{TellsBy}
 use Rattle.mm_schedule.specs.Events.{Event}
 use Rattle.mm_schedule.specs.Grammar.{event_at}
 use Rattle.mm_schedule.specs.Promises.{Promises}
@@ -97,9 +95,3 @@ pub record IsTooMuch (heading : List ℕ → Option Header) (done rest : List (L
   pub read : map event_at others ≡ map Some events
   pub follows : rest ≡ line ∷ more
   pub over : IsOver header others events line
-
--- What is out, by how a replay ended, where these bytes of the input were taken and those written.
-abbrev pub IsOut : {T : Type 0} → (List ℕ → Option Header) → Option (List ℕ) → List ℕ → List ℕ
-    → Result T ReplayFault → Type 0
-IsOut heading left taken sent result =
-    TellsBy (AnswersLines heading) (AnswersAll heading) (IsTooMuch heading) left taken sent result

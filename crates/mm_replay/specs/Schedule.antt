@@ -1,5 +1,5 @@
 -- A schedule line by line: the header, and then the events.
-use Rattle.std.specs.Prelude.{ℕ, ◌+◌, ◌-◌, Bool, ◌||◌, nat_le, nat_lt, List, [], length, Option, None, Some, Result, Ok, Err, if◌then◌else◌}
+use Rattle.std.specs.Prelude.{ℕ, ◌+◌, ◌-◌, Bool, List, length, Option, None, Some, Result}
 use Rattle.std.specs.List.{sum_by}
 use Rattle.mm_base.specs.Limits.{most_events}
 use Rattle.mm_schedule.specs.declared.header.Header.{Header}
@@ -10,8 +10,8 @@ use Rattle.mm_model.specs.Moves.{Digests}
 use Rattle.mm_call.specs.Levels.{by_digests}
 use Rattle.mm_run.specs.Folds.{Outcome, event_outcome, first_issued, first_digests}
 use Rattle.mm_run.specs.Held.{world_of}
+use Rattle.mm_play.specs.Events.{EventPlayer, is_over, event_answer as answer_by, header_answer as begins_by}
 use Rattle.mm_play.specs.declared.player.Refused.{Refused}
-use Rattle.mm_play.specs.declared.player.Refused.TheVariants.{Bad, Much}
 use Rattle.mm_replay.specs.TextWords.{text_of_replies}
 
 -- the most bytes of event lines and issued snapshots together
@@ -36,11 +36,6 @@ begun header = record {
   read = 0;
 }
 
--- one event more would be too many, or its line too many bytes
-abbrev pub is_too_much : Running → List ℕ → Bool
-is_too_much r line =
-    nat_le most_events r.events || nat_lt most_kept (r.read + length line + sum_by length r.issued)
-
 -- what an event comes to
 abbrev pub running_outcome : Running → Event → Outcome Digests
 running_outcome r event =
@@ -60,20 +55,29 @@ pub data ReplayStage : Type 0 where
   AtHeader : ReplayStage
   InEvents : Running → ReplayStage
 
+-- what is done with events
+abbrev pub replaying : EventPlayer Event Running ReplayStage
+replaying = record {
+  among = λ r. InEvents r;
+  event_in = λ r. event_at;
+  reply = λ r event. text_of_replies (running_outcome r event).reply;
+  after = after_event;
+  events = λ r. r.events;
+  bytes = λ r. r.read;
+  kept = λ r. sum_by length r.issued;
+  room = most_kept;
+}
+
+-- one event more would be too many, or its line too many bytes
+abbrev pub is_too_much : Running → List ℕ → Bool
+is_too_much r line = is_over replaying r line
+
 abbrev pub event_answer : Running → List ℕ → Option Event → Result (List ℕ × ReplayStage) Refused
-event_answer r line None = Err Bad
-event_answer r line (Some event) =
-    if is_too_much r line then Err Much
-    else Ok (
-      text_of_replies (running_outcome r event).reply,
-      InEvents
-          (after_event r line event),
-    )
+event_answer r line found = answer_by replaying r line found
 
 -- a header begins the events
 abbrev pub header_answer : Option Header → Result (List ℕ × ReplayStage) Refused
-header_answer None = Err Bad
-header_answer (Some header) = Ok ([], InEvents (begun header))
+header_answer found = begins_by begun replaying.among found
 
 -- the reply to a line, by what the header line names
 abbrev pub schedule_answer : (List ℕ → Option Header) → ReplayStage → List ℕ

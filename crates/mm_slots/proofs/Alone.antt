@@ -1,17 +1,9 @@
 -- Each slot is where its own fold leaves it.
-use Rattle.std.proofs.Common.{◌≡◌, ◌∙◌, ◌+◌, ◌==◌, ℕ, zero, suc, Bool, true, false, cond, List, [], ◌∷◌, ◌++◌, map, Option, Some, refl, sym, ap, arith, append-nil}
-use Rattle.std.specs.List.{slice_get}
-use Rattle.std.specs.Option.{option_map, option_map_or}
-use Rattle.std.proofs.lemmas.Bool.{eqb-true}
-use Rattle.std.proofs.lemmas.List.{append_assoc}
-use Rattle.mm_model.specs.Instance.{Instance}
-use Rattle.mm_slots.specs.declared.event.Action.{Action}
-use Rattle.mm_slots.specs.declared.event.SlotEvent.{SlotEvent}
-use Rattle.mm_slots.specs.declared.event.SlotEvent.TheVariants.{Power, At}
-use Rattle.mm_slots.specs.declared.said.Said.{Said}
-use Rattle.mm_slots.specs.Slot.{Slot, Turned, Met, Acts, Loses, turned, acted, folded, followed_by}
-use Rattle.mm_slots.specs.Table.{Row, instance_of, row_after, by_place, after_event, cuts_all, met_in, met_by, Answer, PowerLost, Says, said_at, answers_to, answers, said_for}
-use Rattle.mm_slots.specs.Laws.{SlotsAreAlone}
+use Rattle.mm_slots.proofs.Below.{◌≡◌, ◌∙◌, ◌+◌, ◌==◌, ℕ, zero, suc, Bool, true, false, cond, List, [], ◌∷◌, ◌++◌, map, Option, Some, refl}
+use Rattle.mm_slots.proofs.Below.{sym, ap, arith, append-nil, slice_get, option_map, option_map_or, eqb-true, append_assoc, Instance}
+use Rattle.mm_slots.proofs.Below.{Action, SlotEvent, Power, At, Said, Slot, Turned, Met, Acts, Loses, turned, acted, folded, followed_by}
+use Rattle.mm_slots.proofs.Below.{Row, instance_of, row_after, by_place, after_event, cuts_all, met_in, met_by, Answer, PowerLost, Says}
+use Rattle.mm_slots.proofs.Below.{said_at, answers_to, answers, said_for, SlotsAreAlone}
 
 pub by_place_get : {A B : Type 0} (f : ℕ → A → B) (place : ℕ) (xs : List A) (n at : ℕ) → at ≡ place + n
     → slice_get (by_place f place xs) n ≡ option_map (f at) (slice_get xs n)
@@ -40,8 +32,7 @@ pub folded_more : (i : Instance) (slot : Slot) (xs ys : List Met)
 folded_more i slot [] ys = refl
 folded_more i slot (x ∷ xs) ys =
     let t = turned i slot x in
-    ap (followed_by t) (folded_more i t.slot xs ys)
-    ∙ followed_assoc t (folded i t.slot xs) (folded i (folded i t.slot xs).slot ys)
+    ap (followed_by t) (folded_more i t.slot xs ys) ∙ followed_assoc t (folded i t.slot xs) (folded i (folded i t.slot xs).slot ys)
 
 said_more : (n : ℕ) (xs ys : List Answer) → said_for n (xs ++ ys) ≡ said_for n xs ++ said_for n ys
 said_more n [] ys = refl
@@ -60,14 +51,12 @@ said_others n other [] own = refl
 said_others n other (first ∷ said) own = rw own (said_others n other said own)
 
 -- what is said for a slot at what happens in it, or in another
-said_here : (rows : List Row) (n other : ℕ) (what : Action) (row : Row) (own cuts : Bool) → slice_get rows n ≡ Some row
-    → (n == other) ≡ own
-    → said_for n (map (Says other) (said_at rows other what))
-    ≡ (folded (instance_of row) row.slot (cond own (Acts what ∷ []) (cond cuts (Loses ∷ []) []))).said
+said_here : (rows : List Row) (n other : ℕ) (what : Action) (row : Row) (own cuts : Bool) → slice_get rows n ≡ Some row → (n == other) ≡ own
+    → said_for n (map (Says other) (said_at rows other what)) ≡
+    (folded (instance_of row) row.slot (cond own (Acts what ∷ []) (cond cuts (Loses ∷ []) []))).said
 said_here rows n other what row true cuts is own =
     let same : n ≡ other = eqb-true n other own in
-    said_own n other (said_at rows other what) own
-    ∙ ap (λ (k : ℕ). said_at rows k what) (sym same)
+    said_own n other (said_at rows other what) own ∙ ap (λ (k : ℕ). said_at rows k what) (sym same)
     ∙ ap (λ (found : Option Row). option_map_or (λ (r : Row). (acted (instance_of r) r.slot what).said) found []) is
     ∙ sym (append-nil (acted (instance_of row) row.slot what).said)
 said_here rows n other what row false true is own = said_others n other (said_at rows other what) own

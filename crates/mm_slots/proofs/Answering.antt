@@ -1,41 +1,18 @@
 -- A run of slots takes events line by line; what stands behind them is what their rows come to.
-use Rattle.std.proofs.Common.{◌≡◌, ◌∙◌, ◌+◌, ℕ, suc, List, [], ◌∷◌, ◌++◌, length, map, Option, None, Some, refl, sym, ap, arith}
-use Rattle.std.proofs.lemmas.Grind.{flat_map-append}
-use Rattle.mm_play.specs.Events.{EventPlayer, TakesEvents, event_answer as answer_by, behind, replies}
-use Rattle.mm_replay.specs.Schedule.{most_kept}
-use Rattle.mm_slots.specs.declared.event.SlotEvent.{SlotEvent}
-use Rattle.mm_slots.specs.Answers.{answer_text, answers_text}
-use Rattle.mm_slots.specs.Grammar.{event_at}
-use Rattle.mm_slots.specs.Stage.{Running, kept_in, after_line, SlotsStage, InEvents, event_answer, slots_answer}
-use Rattle.mm_slots.specs.Table.{by_place, row_after, met_in, after_event, after_events, answers_to, answers}
-
-abbrev pub playing : EventPlayer SlotEvent Running SlotsStage
-playing = record {
-  answer = slots_answer;
-  among = λ r. InEvents r;
-  event_in = λ r. event_at (length r.rows);
-  reply = λ r event. answers_text (answers_to r.rows event);
-  after = after_line;
-  events = λ r. r.events;
-  bytes = λ r. r.read;
-  kept = λ r. kept_in r.rows;
-  room = most_kept;
-}
+use Rattle.mm_slots.proofs.Below.{◌≡◌, ◌∙◌, ◌+◌, ℕ, suc, List, [], ◌∷◌, ◌++◌, length, map, Option, Some, refl, sym, ap, flat_map-append}
+use Rattle.mm_slots.proofs.Below.{TakesEvents, behind, replies, along, SlotEvent, answer_text, answers_text, event_at, Running, playing}
+use Rattle.mm_slots.proofs.Below.{slots_answer, by_place, row_after, met_in, after_event, after_events, answers_to, answers}
 
 pub length-by_place : {A B : Type 0} (f : ℕ → A → B) (place : ℕ) (xs : List A) → length (by_place f place xs) ≡ length xs
 length-by_place f place [] = refl
 length-by_place f place (x ∷ xs) = ap (λ (n : ℕ). suc n) (length-by_place f (place + 1) xs)
 
-answers_by : (r : Running) (line : List ℕ) (found : Option SlotEvent) → event_answer r line found ≡ answer_by playing r line found
-answers_by r line None = refl
-answers_by r line (Some event) = refl
-
-pub takes : TakesEvents playing
+pub takes : TakesEvents playing slots_answer
 takes = record {
-  answers = λ r line. answers_by r line (event_at (length r.rows) line);
+  answers = λ r line. refl;
   reads = λ r line event. ap event_at (length-by_place (λ k row. row_after row (met_in k r.rows event)) 0 r.rows);
-  counts = λ r line event. omega arith;
-  sums = λ r line event. omega arith;
+  counts = λ r line event. refl;
+  sums = λ r line event. refl;
 }
 
 -- what stands behind events, and what was written
@@ -45,17 +22,9 @@ pub record Follows (r : Running) (lines : List (List ℕ)) (events : List SlotEv
 
 pub follows : (reads : List ℕ → Option SlotEvent) (r : Running) (lines : List (List ℕ)) (events : List SlotEvent)
     → map reads lines ≡ map Some events → Follows r lines events
-follows reads r [] [] read = record { rows = refl; sent = refl }
-follows reads r [] (event ∷ events) read = cc
-follows reads r (line ∷ lines) [] read = cc
-follows reads r (line ∷ lines) (event ∷ events) read =
-    let f = follows reads (after_line r line event) lines events
-    (same_tail (reads line) (Some event) (map reads lines) (map Some events) read) in
-    record {
+follows reads =
+    along playing slots_answer takes reads Follows (λ r. record { rows = refl; sent = refl }) (λ r line lines event events f. record {
       rows = f.rows;
       sent = ap (λ (text : List ℕ). answers_text (answers_to r.rows event) ++ text) f.sent
           ∙ sym (flat_map-append answer_text (answers_to r.rows event) (answers (after_event r.rows event) events));
-    }
-  where
-    same_tail : (a b : Option SlotEvent) (us vs : List (Option SlotEvent)) → a ∷ us ≡ b ∷ vs → us ≡ vs
-    same_tail a b us vs h = cc
+    })

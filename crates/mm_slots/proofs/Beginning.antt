@@ -1,47 +1,19 @@
 -- What begins a call in a slot, what is refused, a value of others, and a loss of power.
-use Rattle.std.proofs.Common.{◌≡◌, ◌∙◌, ◌+◌, ◌<◌, ℕ, true, false, List, [], length, Option, None, Some, IsSome, refl, sym, ap, subst, arith}
-use Rattle.std.specs.Prelude.{vec_capacity}
-use Rattle.std.specs.Option.{option_map}
-use Rattle.std.specs.List.{sum_by}
+use Rattle.mm_slots.proofs.Below.{◌≡◌, ◌∙◌, ◌+◌, ◌<◌, ℕ, true, false, List, [], length, Option, None, Some, IsSome, refl, sym, ap, subst}
+use Rattle.mm_slots.proofs.Below.{arith, vec_capacity, option_map, sum_by, One, meaning_of, Meddle, Quiet, Item, Plan, Standing, next_step}
+use Rattle.mm_slots.proofs.Below.{item_values, register_after, next_plan, quiet_plan, meddling, cycled, Instance, Foreign, PowerMove}
+use Rattle.mm_slots.proofs.Below.{is_long, Digests, made, register_reads, Extend, rising_from, offered_bytes, begun_call, plan_by, meddled}
+use Rattle.mm_slots.proofs.Below.{digest_in, flag_in, Stands, IsQuiet, extended_by, stands_extended, stands_settled, AsksInFlight}
+use Rattle.mm_slots.proofs.Below.{ClosesInFlight, asks_begun, closes_begun, asks_take_in, closes_take_in, may_take_in, Action, Asking}
+use Rattle.mm_slots.proofs.Below.{Closing, CodeFlight, Said, Begun, Replied, CodeSlot, Turned, Asks, Closes, slot_instance, plays, merely}
+use Rattle.mm_slots.proofs.Below.{flying, beginning, begun, acted, acted_by, joined, digests_in, slot_in, flight_in, call_in, instance_in}
+use Rattle.mm_slots.proofs.Below.{FitsFlight, Fits, Comes, flown, HasRegister, within_64}
 use Rattle.mm_digest.specs.declared.digest.Digest.{Digest}
-use Rattle.mm_module.specs.Batch.{One}
-use Rattle.mm_modules.specs.Modules.{meaning_of}
-use Rattle.mm_platform.specs.declared.plan.Meddle.{Meddle}
-use Rattle.mm_platform.specs.declared.plan.Stop.TheVariants.{Quiet}
-use Rattle.mm_platform.specs.Standing.{Item, Plan, Standing, next_step, item_values, register_after}
-use Rattle.mm_platform.specs.Told.{next_plan, quiet_plan}
-use Rattle.mm_platform.specs.Memory.{meddling, cycled}
-use Rattle.mm_model.specs.Instance.{Instance}
-use Rattle.mm_model.specs.History.{Foreign, Power as PowerMove}
-use Rattle.mm_model.specs.Long.{is_long}
-use Rattle.mm_model.specs.Moves.{Digests, made}
-use Rattle.mm_model.specs.Standing.{register_reads}
-use Rattle.mm_schedule.specs.Events.{Extend}
 use Rattle.mm_schedule.specs.declared.reply.Reply.TheVariants as reply
-use Rattle.mm_run.specs.Held.{rising_from}
-use Rattle.mm_run.specs.Offered.{offered_bytes}
 use Rattle.mm_opt.specs.declared.stage.CheckpointStage.TheVariants as stage
-use Rattle.mm_flight.specs.Asks.{begun as begun_call}
-use Rattle.mm_flight.specs.InFlight.{plan_by}
-use Rattle.mm_flight.proofs.Flying.{meddled}
-use Rattle.mm_world.specs.Held.{digest_in, flag_in}
-use Rattle.mm_world.specs.Stands.{Stands, IsQuiet}
-use Rattle.mm_world.proofs.Worlds.{extended_by, stands_extended}
-use Rattle.mm_world.proofs.Asking.{stands_settled}
-use Rattle.mm_steps.specs.Asking.{AsksInFlight}
-use Rattle.mm_steps.specs.Closing.{ClosesInFlight}
-use Rattle.mm_steps.proofs.Beginning.{asks_begun, closes_begun, asks_take_in, closes_take_in, may_take_in}
-use Rattle.mm_slots.specs.declared.event.Action.{Action}
 use Rattle.mm_slots.specs.declared.event.Action.TheVariants as action
-use Rattle.mm_slots.specs.declared.flight.Asking.{Asking}
-use Rattle.mm_slots.specs.declared.flight.Closing.{Closing}
-use Rattle.mm_slots.specs.declared.flight.Flight.{Flight as CodeFlight}
 use Rattle.mm_slots.specs.declared.flight.Flight.TheVariants as code
-use Rattle.mm_slots.specs.declared.said.Said.{Said}
-use Rattle.mm_slots.specs.declared.said.Said.TheVariants.{Begun, Replied}
-use Rattle.mm_slots.specs.declared.slot.Slot.{Slot as CodeSlot}
-use Rattle.mm_slots.specs.Slot.{Turned, Asks, Closes, slot_instance, plays, merely, flying, beginning, begun, acted, acted_by, joined}
-use Rattle.mm_slots.specs.Held.{digests_in, slot_in, flight_in, call_in, instance_in, FitsFlight, Fits, Comes, Loses, flown, HasRegister, within_64}
+use Rattle.mm_slots.specs.Held.{Loses}
 use Rattle.mm_slots.proofs.Fitting.{settled, idle, mine_are}
 use Rattle.mm_slots.proofs.Planned.{flight_of, plan_is, asking_of, closing_of}
 
@@ -84,8 +56,7 @@ begins_comes standing slot flight q fits = record {
 
 pub ask_begins : (standing : Standing) (slot : CodeSlot) (asking : Asking) → Fits standing slot → slot.flight ≡ None
     → offered_bytes slot.issued.items asking.offer ≡ Some asking.bytes → is_long (One asking.request) ≡ false
-    → asking.call ≡ begun_call slot.header.variant
-    → length slot.issued.items < vec_capacity slot.issued
+    → asking.call ≡ begun_call slot.header.variant → length slot.issued.items < vec_capacity slot.issued
     → Comes standing slot (flown slot (code.Asks asking))
     (acted (instance_in slot) (slot_in standing slot) (action.Begin asking.offer asking.request)) Begun
 ask_begins standing slot asking fits none some short is room =
@@ -118,21 +89,17 @@ close_begins standing slot fits none =
     let begins = closes_begun slot.header.variant (meaning_of slot.header.«module») key barrier (digests_in standing slot) standing at.0
     at.1 in
     let flies = subst (λ (p : Plan). ClosesInFlight slot.header.variant (meaning_of slot.header.«module») key barrier
-    (digests_in standing slot) standing
-    stage.Begun standing p.meddles (p.at + 1)) (sym (quiet_next standing at.1)) begins in
+    (digests_in standing slot) standing stage.Begun standing p.meddles (p.at + 1)) (sym (quiet_next standing at.1)) begins in
     comes_by standing slot (flown slot (code.Closes closing)) (merely (flying s (beginning Closes)) Begun)
-    (acted (instance_in slot) s action.Close) Begun
-    (sym (acts_idle standing slot action.Close none))
+    (acted (instance_in slot) s action.Close) Begun (sym (acts_idle standing slot action.Close none))
     (begins_comes standing slot (code.Closes closing) at.1
     (record { flight = record { from = standing; flies = flies }; kept = fits.kept }))
 
 -- others extend the register
 
 pub extends_now : (old new : Standing) (slot slot' : CodeSlot) (value : Digest) → Fits old slot → slot.flight ≡ None
-    → new ≡ extended_by old value.bytes
-    → slot'.header ≡ slot.header → slot'.number ≡ slot.number → slot'.committed ≡ slot.committed → slot'.flight ≡ slot.flight
-    → slot'.kept ≡ slot.kept
-    → slot'.issued.items ≡ slot.issued.items → HasRegister new slot'
+    → new ≡ extended_by old value.bytes → slot'.header ≡ slot.header → slot'.number ≡ slot.number → slot'.committed ≡ slot.committed
+    → slot'.flight ≡ slot.flight → slot'.kept ≡ slot.kept → slot'.issued.items ≡ slot.issued.items → HasRegister new slot'
     → Comes new slot slot' (acted (instance_in slot) (slot_in old slot) (action.Extend value)) (Replied reply.Extended)
 extends_now old new slot slot' value fits none e h n c f k issued r =
     let i = instance_in slot in
@@ -155,8 +122,7 @@ extends_now old new slot slot' value fits none e h n c f k issued r =
             header = h;
             number = n;
             few = omega (arith, c);
-            short = omega
-                (arith, ap length issued);
+            short = omega (arith, ap length issued);
           };
       stands = λ j. record { digests = digests j; issued = issued j; flight = ap (flight_in (next_plan new)) idle' j };
       says = refl;
@@ -177,8 +143,7 @@ meddled_plan old new meddles made next value planned few is e =
 joins_comes : (old new : Standing) (slot : CodeSlot) (flight : CodeFlight) (value : Digest) → slot.flight ≡ Some flight
     → new.cell ≡ old.cell
     → next_plan new ≡ record (next_plan old) { stop = Quiet; meddles = meddled (next_plan old).meddles ((next_plan old).at + 1) value }
-    → Fits new slot
-    → Comes new slot slot (acted (instance_in slot) (slot_in old slot) (action.Extend value)) (Replied reply.Extended)
+    → Fits new slot → Comes new slot slot (acted (instance_in slot) (slot_in old slot) (action.Extend value)) (Replied reply.Extended)
 joins_comes old new slot flight value some cell plan fits =
     let s = slot_in old slot in
     let on : Turned = merely (flying s (joined (flight_of old flight) value.bytes)) (Replied reply.Extended) in
@@ -228,8 +193,7 @@ may_meddle standing slot (code.Closes closing) fits some =
     may_take_in standing (plan_by Quiet (next_plan standing).meddles) a.made a.flies.planned a.flies.few
 
 pub extends_flying : (old new : Standing) (slot : CodeSlot) (flight : CodeFlight) (value : Digest) → Fits old slot
-    → slot.flight ≡ Some flight
-    → new ≡ record old { plan = option_map (meddling value) old.plan }
+    → slot.flight ≡ Some flight → new ≡ record old { plan = option_map (meddling value) old.plan }
     → Comes new slot slot (acted (instance_in slot) (slot_in old slot) (action.Extend value)) (Replied reply.Extended)
 extends_flying old new slot (code.Asks asking) value fits some e =
     let f = asking_of old slot asking (some_flight old slot (code.Asks asking) some fits) in
@@ -244,18 +208,15 @@ extends_flying old new slot (code.Asks asking) value fits some e =
     meddled_plan old new p.meddles a.made (p.at + 1) value a.flies.planned a.flies.few a.is_next e
     ∙ ap (λ (n : ℕ). record (plan_by Quiet (meddled p.meddles (p.at + 1) value)) { at = n }) (sym (ap (λ (q : Plan). q.at) known)) in
     let taken = asks_take_in slot.header.variant (meaning_of slot.header.«module») key barrier (digests_in old slot) f.from asking.call old
-    new p.meddles (p.at + 1)
-    asking.bytes (One asking.request) value a e in
+    new p.meddles (p.at + 1) asking.bytes (One asking.request) value a e in
     let d : digests_in new slot ≡ digests_in old slot =
     (λ j. record { digest = digest_in (cell j); flag = flag_in (cell j); register = slot.register.bytes; count = slot.committed }) in
     let P : Digests → Plan
     → Type 0 = λ x q. AsksInFlight slot.header.variant (meaning_of slot.header.«module») key barrier x f.from asking.call new q.meddles
-    (q.at + 1)
-    asking.bytes (One asking.request) in
+    (q.at + 1) asking.bytes (One asking.request) in
     let flies = subst (λ (q : Plan). P (digests_in new slot) q) (sym plan)
     (subst (λ (x : Digests). P x (record p { stop = Quiet; meddles = meddled p.meddles (p.at + 1) value })) (sym d) taken) in
-    joins_comes old new slot (code.Asks asking) value some cell plan
-    (back_from new slot (code.Asks asking) some
+    joins_comes old new slot (code.Asks asking) value some cell plan (back_from new slot (code.Asks asking) some
     (record { flight = record { from = f.from; flies = flies; offered = f.offered; short = f.short; room = f.room }; kept = fits.kept }))
 extends_flying old new slot (code.Closes closing) value fits some e =
     let f = closing_of old slot closing (some_flight old slot (code.Closes closing) some fits) in
@@ -287,9 +248,8 @@ extends_flying old new slot (code.Closes closing) value fits some e =
 abbrev none_left : List Item → List Item
 none_left items = []
 
-emptied : (items : Option (List Item)) (value : List ℕ)
-    → option_map (λ xs. register_after (item_values xs)) (option_map none_left items) ≡ Some value
-    → option_map none_left items ≡ Some []
+emptied : (items : Option (List Item)) (value : List ℕ) → option_map (λ xs. register_after (item_values xs))
+    (option_map none_left items) ≡ Some value → option_map none_left items ≡ Some []
 emptied None value e = cc
 emptied (Some xs) value e = refl
 
@@ -314,8 +274,7 @@ items_told from value e = by_items from.items e
 
 pub loses : (old new : Standing) (slot slot' : CodeSlot) → Fits old slot → new ≡ record (cycled old) { plan = Some quiet_plan }
     → slot'.header ≡ slot.header → slot'.number ≡ slot.number → slot'.committed ≡ slot.committed → slot'.flight ≡ None
-    → slot'.kept ≡ slot.kept
-    → slot'.issued.items ≡ slot.issued.items → HasRegister new slot' → Loses old new slot slot'
+    → slot'.kept ≡ slot.kept → slot'.issued.items ≡ slot.issued.items → HasRegister new slot' → Loses old new slot slot'
 loses old new slot slot' fits e h n c none k issued r =
     let i = instance_in slot in
     let d = digests_in old slot in
@@ -337,8 +296,7 @@ loses old new slot slot' fits e h n c none k issued r =
             header = h;
             number = n;
             few = omega (arith, c);
-            short = omega
-                (arith, ap length issued);
+            short = omega (arith, ap length issued);
           };
       stands = λ j. record { digests = digests j; issued = issued j; flight = ap (flight_in (next_plan new)) none j };
       same = c;

@@ -1,39 +1,14 @@
 -- A slot in code over its platform: what stands, what ends a call, and what begins one.
-use Rattle.std.proofs.Common.{◌≡◌, ◌∙◌, ◌+◌, ◌^◌, ◌≤◌, ◌<◌, ℕ, List, [], ◌∷◌, ◌++◌, length, Option, None, Some, refl, sym, ap, subst, arith}
-use Rattle.std.specs.Prelude.{option_to_list, vec_capacity}
-use Rattle.std.specs.List.{sum_by}
-use Rattle.std.proofs.lemmas.List.Sums.{sum_by-append}
-use Rattle.mm_base.specs.Limits.{most_members}
-use Rattle.mm_digest.specs.declared.variant.Variant.{Variant}
-use Rattle.mm_digest.specs.declared.variant.Variant.TheVariants.{Basic, Opt}
-use Rattle.mm_module.specs.Meaning.{Meaning, IsLawful}
-use Rattle.mm_modules.specs.Modules.{meaning_of}
+use Rattle.mm_slots.proofs.Below.{◌≡◌, ◌∙◌, ◌+◌, ◌^◌, ◌≤◌, ◌<◌, ℕ, List, [], ◌∷◌, ◌++◌, length, Option, None, Some, refl, sym, ap, subst}
+use Rattle.mm_slots.proofs.Below.{arith, option_to_list, vec_capacity, sum_by, sum_by-append, most_members, Variant, Basic, Opt, Meaning}
+use Rattle.mm_slots.proofs.Below.{IsLawful, meaning_of, Standing, Instance, Digests, instance_by, Event, Header, Reply, rising_from}
+use Rattle.mm_slots.proofs.Below.{Outcome, few_committed, printable, Called, Came, digest_in, flag_in, value_in, Stands, IsQuiet}
+use Rattle.mm_slots.proofs.Below.{digests_are, counting, CodeFlight, Said, Replied, CodeSlot, IsSayable, Slot, slot_instance, outcome_in}
+use Rattle.mm_slots.proofs.Below.{plays, digests_in, slot_in, flight_in, instance_in, FitsFlight, Fits, Comes, flown, HasRegister}
+use Rattle.mm_slots.proofs.Below.{within_64, EndsCall, KeepsSlot, next_plan}
 use Rattle.mm_modules.specs.ModulesLaws.{any_is_lawful}
-use Rattle.mm_platform.specs.Standing.{Standing}
-use Rattle.mm_model.specs.Instance.{Instance}
-use Rattle.mm_model.specs.Moves.{Digests}
-use Rattle.mm_call.specs.Standing.{instance_by}
-use Rattle.mm_schedule.specs.Events.{Event}
-use Rattle.mm_schedule.specs.declared.header.Header.{Header}
-use Rattle.mm_schedule.specs.declared.reply.Reply.{Reply}
 use Rattle.mm_schedule.specs.Replies.{IsPrintable}
-use Rattle.mm_run.specs.Held.{rising_from}
-use Rattle.mm_run.specs.Folds.{Outcome}
-use Rattle.mm_run.proofs.Counting.{few_committed, printable}
-use Rattle.mm_world.specs.declared.call.Called.{Called}
-use Rattle.mm_world.specs.Asks.{Came}
-use Rattle.mm_world.specs.Held.{digest_in, flag_in, value_in}
-use Rattle.mm_world.specs.Stands.{Stands, IsQuiet}
-use Rattle.mm_world.proofs.Worlds.{digests_are, counting}
-use Rattle.mm_slots.specs.declared.flight.Flight.{Flight as CodeFlight}
-use Rattle.mm_slots.specs.declared.said.Said.{Said}
-use Rattle.mm_slots.specs.declared.said.Said.TheVariants.{Replied}
-use Rattle.mm_slots.specs.declared.slot.Slot.{Slot as CodeSlot}
-use Rattle.mm_slots.specs.Answers.{IsSayable}
-use Rattle.mm_slots.specs.Slot.{Slot, slot_instance, outcome_in, plays}
-use Rattle.mm_slots.specs.Held.{digests_in, slot_in, flight_in, instance_in, FitsFlight, Fits, Comes, flown, HasRegister, within_64, EndsCall, KeepsSlot}
 use Rattle.mm_slots.specs.Lengths.{length_if}
-use Rattle.mm_platform.specs.Told.{next_plan}
 
 -- where the platform of a slot stands, by the register's value that the slot has
 pub mine_are : (standing : Standing) (slot : CodeSlot) (d : Digests) → Stands (instance_in slot) standing d → HasRegister standing slot
@@ -50,16 +25,13 @@ mine_are standing slot d s r =
 
 -- a slot with no call in flight
 pub settled : (standing : Standing) (slot : CodeSlot) (d : Digests) → slot.flight ≡ None → Stands (instance_in slot) standing d
-    → IsQuiet standing
-    → HasRegister standing slot → slot.kept ≡ within_64 (sum_by length slot.issued.items) → Fits standing slot
+    → IsQuiet standing → HasRegister standing slot → slot.kept ≡ within_64 (sum_by length slot.issued.items) → Fits standing slot
 settled standing slot d none s q r kept =
     let stands = subst (λ (x : Digests). Stands (instance_in slot) standing x) (sym (mine_are standing slot d s r))
     (counting (instance_in slot) d standing slot.committed s) in
     record {
-      flight = subst
-          (λ (f : Option CodeFlight). FitsFlight slot.header slot.number (digests_in standing slot) slot.issued.items
-          (vec_capacity slot.issued) standing f) (sym none)
-          (stands, q);
+      flight = subst (λ (f : Option CodeFlight). FitsFlight slot.header slot.number (digests_in standing slot) slot.issued.items
+          (vec_capacity slot.issued) standing f) (sym none) (stands, q);
       kept = kept;
     }
 
@@ -150,8 +122,7 @@ still_fits standing slot slot' none f k issued kept =
       count = k.committed j;
     }) in
     record {
-      flight = subst
-          (λ (x : Option CodeFlight). FitsFlight slot'.header slot'.number (digests_in standing slot') slot'.issued.items
+      flight = subst (λ (x : Option CodeFlight). FitsFlight slot'.header slot'.number (digests_in standing slot') slot'.issued.items
           (vec_capacity slot'.issued) standing x)
           (sym (k.flight ∙ none)) (
             subst (λ (i : Instance). Stands i standing (digests_in standing slot')) (sym same)

@@ -1,17 +1,8 @@
 -- All slots lose their power, and what an event leaves of them.
-use Rattle.std.proofs.Common.{◌≡◌, ◌∙◌, ◌+◌, ◌≤◌, ◌<◌, ◌==◌, ℕ, Bool, true, false, cond, List, [], ◌∷◌, ◌++◌, length, get_or, Option, refl, sym, ap, arith}
-use Rattle.std.specs.Option.{option_map_or}
-use Rattle.std.proofs.lemmas.Bool.{ne_eqb}
-use Rattle.mm_platform.specs.Standing.{Standing}
-use Rattle.mm_platform.specs.Memory.{new_platform}
-use Rattle.mm_slots.specs.declared.event.Action.{Action}
-use Rattle.mm_slots.specs.declared.event.SlotEvent.TheVariants.{Power, At}
-use Rattle.mm_slots.specs.declared.said.Said.{Said}
-use Rattle.mm_slots.specs.declared.slot.Slot.{Slot as CodeSlot}
-use Rattle.mm_slots.specs.Held.{slot_in}
-use Rattle.mm_slots.specs.Slot.{Met, Acts, Loses}
-use Rattle.mm_slots.specs.Table.{Row, is_cut, cuts_all, met_in}
-use Rattle.mm_slots.specs.Rows.{rows_in, AllFit, ActsAt, LosesIf, LosesAll, others_lose, touched, only_at, Follows, Tells}
+use Rattle.mm_slots.proofs.Below.{◌≡◌, ◌∙◌, ◌+◌, ◌≤◌, ◌<◌, ◌==◌, ℕ, Bool, true, false, cond, List, [], ◌∷◌, ◌++◌, length, get_or, Option}
+use Rattle.mm_slots.proofs.Below.{refl, sym, ap, arith, option_map_or, ne_eqb, Standing, new_platform, Action, Power, At, Said, CodeSlot}
+use Rattle.mm_slots.proofs.Below.{slot_in, Met, Acts, Loses, Row, is_cut, cuts_all, met_in, rows_in, AllFit, ActsAt, LosesIf, LosesAll}
+use Rattle.mm_slots.proofs.Below.{others_lose, touched, only_at, Follows, Tells}
 use Rattle.mm_slots.proofs.Rowing.{touched_more, touched_same, untouched, rows_length, all_more, same_length, get_row}
 
 -- where no slot has the number, all lose their power
@@ -30,8 +21,7 @@ power_follows events n standings standings' slots slots' past fit l =
     }
 
 pub uncut_loses : (events but : ℕ) (cuts : Bool) (standings : List Standing) (slots : List CodeSlot) → cuts ≡ false
-    → AllFit events standings slots
-    → LosesIf events but cuts standings standings slots slots
+    → AllFit events standings slots → LosesIf events but cuts standings standings slots slots
 uncut_loses events but true standings slots is fit = cc
 uncut_loses events but false standings slots is fit = record { rows = sym (untouched (rows_in standings slots)); fit = fit }
 
@@ -44,8 +34,7 @@ acts_then number k what false true own = rw own refl
 acts_then number k what false false own = rw own refl
 
 pub tells : (events number : ℕ) (what : Action) (cuts : Bool) (first second last : List Standing) (slots0 slots1 slots2 : List CodeSlot)
-    (said : Said)
-    → cuts ≡ cuts_all (rows_in first slots0) number what → ActsAt events number what first second slots0 slots1 said
+    (said : Said) → cuts ≡ cuts_all (rows_in first slots0) number what → ActsAt events number what first second slots0 slots1 said
     → LosesIf (events + 1) number cuts second last slots1 slots2 → Tells events number what first last slots0 slots2 said
 tells events number what cuts first second last slots0 slots1 slots2 said is a l =
     let rows = rows_in first slots0 in
@@ -71,6 +60,5 @@ pub cuts_at : (events number : ℕ) (what : Action) (standings : List Standing) 
 cuts_at events number what standings slots dc cuts few fit is =
     let ds : Standing = new_platform [] in
     let there : number < length standings = omega (arith, few, same_length events standings slots fit) in
-    is (get_or standings number ds)
-    ∙ sym (ap (λ (found : Option Row). option_map_or (λ (r : Row). is_cut r.slot.flight what) found false)
+    is (get_or standings number ds) ∙ sym (ap (λ (found : Option Row). option_map_or (λ (r : Row). is_cut r.slot.flight what) found false)
     (get_row number standings slots ds dc there few))

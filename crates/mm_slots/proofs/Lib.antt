@@ -1,16 +1,16 @@
-pub mod Powering
-pub mod Alone
-pub mod Running
-pub mod Fitting
-pub mod Planned
-pub mod Stepping
-pub mod Beginning
-pub mod Rowing
-pub mod Answering
-pub mod Telling
-pub mod Concluding
-pub mod Following
-pub mod Starting
-pub mod Totalling
-pub mod Progressing
-pub mod Tellings
+mod Below
+mod Powering
+mod Alone
+mod Running
+mod Fitting
+mod Planned
+mod Stepping
+mod Beginning
+mod Rowing
+mod Answering
+mod Telling
+mod Following
+mod Starting
+mod Totalling
+mod Progressing
+mod Tellings

@@ -1,23 +1,10 @@
 -- What the platform plans behind the steps that a call in flight has made.
-use Rattle.std.proofs.Common.{◌≡◌, ◌∙◌, ◌+◌, ℕ, Bool, true, cond, List, [], ◌∷◌, Option, Some, refl, sym, ap, subst, arith}
-use Rattle.std.specs.Prelude.{vec_capacity}
-use Rattle.std.specs.Option.{option_map_or}
-use Rattle.mm_platform.specs.declared.plan.Meddle.{Meddle}
-use Rattle.mm_platform.specs.declared.plan.Stop.TheVariants.{Quiet}
-use Rattle.mm_platform.specs.Standing.{Plan, Standing}
-use Rattle.mm_platform.specs.Told.{next_plan, quiet_plan}
-use Rattle.mm_model.specs.Moves.{made}
-use Rattle.mm_flight.specs.InFlight.{plan_by}
-use Rattle.mm_world.specs.Held.{digest_in, flag_in}
-use Rattle.mm_steps.specs.Stopping.{is_nothing}
-use Rattle.mm_slots.specs.declared.flight.Asking.{Asking}
-use Rattle.mm_slots.specs.declared.flight.Closing.{Closing}
-use Rattle.mm_slots.specs.declared.flight.Flight.{Flight as CodeFlight}
+use Rattle.mm_slots.proofs.Below.{◌≡◌, ◌∙◌, ◌+◌, ℕ, Bool, true, cond, List, [], ◌∷◌, Option, Some, refl, sym, ap, subst, arith}
+use Rattle.mm_slots.proofs.Below.{vec_capacity, option_map_or, Meddle, Quiet, Plan, Standing, next_plan, quiet_plan, made, plan_by}
+use Rattle.mm_slots.proofs.Below.{digest_in, flag_in, is_nothing, Asking, Closing, CodeFlight, Going, CodeSlot, Flight, Turned, outcome_in}
+use Rattle.mm_slots.proofs.Below.{plays, merely, flying, so_far, stepped, digests_in, slot_in, call_in, instance_in, FitsAsking}
+use Rattle.mm_slots.proofs.Below.{FitsClosing, Fits, Comes, flown}
 use Rattle.mm_slots.specs.declared.flight.Flight.TheVariants as code
-use Rattle.mm_slots.specs.declared.said.Said.TheVariants.{Going}
-use Rattle.mm_slots.specs.declared.slot.Slot.{Slot as CodeSlot}
-use Rattle.mm_slots.specs.Slot.{Flight, Turned, outcome_in, plays, merely, flying, so_far, stepped}
-use Rattle.mm_slots.specs.Held.{digests_in, slot_in, call_in, instance_in, FitsAsking, FitsClosing, Fits, Comes, flown}
 
 -- the flight of a slot in the words of its fold
 abbrev pub flight_of : Standing → CodeFlight → Flight

@@ -1,12 +1,9 @@
 -- All slots lose their power, one after another.
-use Rattle.std.proofs.Common.{◌≡◌, ◌∙◌, ◌+◌, ◌<◌, ℕ, List, [], ◌∷◌, ◌++◌, map, take, drop, length, get_or, slice_set, None, true, refl, sym, ap, subst, arith}
-use Rattle.std.proofs.lemmas.List.{take_more_set, take_more, drop_more, drop-set-lt, map-append}
+use Rattle.mm_slots.proofs.Below.{◌≡◌, ◌∙◌, ◌+◌, ◌<◌, ℕ, List, [], ◌∷◌, ◌++◌, map, take, drop, length, get_or, slice_set, None, true, refl}
+use Rattle.mm_slots.proofs.Below.{sym, ap, subst, arith, take_more_set, take_more, drop_more, drop-set-lt, map-append, option_map, Standing}
+use Rattle.mm_slots.proofs.Below.{new_platform, cycled, Slots, selected_of, all_cycled}
 use Rattle.std.proofs.lemmas.Option.{get_or_from_slice_get, slice_get-get_or, slice_get-map}
-use Rattle.std.specs.Option.{option_map}
-use Rattle.mm_platform.specs.Standing.{Standing}
-use Rattle.mm_platform.specs.Memory.{new_platform, cycled}
 use Rattle.mm_platform.specs.Steps.{Cycles}
-use Rattle.mm_slots.specs.Slots.{Slots, selected_of, all_cycled}
 
 -- so many slots have lost it, and the others are as they were
 abbrev pub AreCycled : List Standing → List Standing → ℕ → Type 0
@@ -28,8 +25,7 @@ one_more before now i n x few few' is are =
       take_more_set now i n few ∙ ap (λ (front : List Standing). front ++ n ∷ []) are.0
           ∙ ap (λ (y : Standing). map cycled (take i before) ++ y ∷ []) (is ∙ ap cycled same)
           ∙ sym (map-append cycled (take i before) (get_or before i x ∷ [])) ∙ ap (map cycled) (sym (take_more before i x few')),
-      drop-set-lt (i + 1) now i n (omega arith)
-          ∙ tails (get_or now i x) (get_or before i x) (drop (i + 1) now) (drop (i + 1) before) both,
+      drop-set-lt (i + 1) now i n (omega arith) ∙ tails (get_or now i x) (get_or before i x) (drop (i + 1) now) (drop (i + 1) before) both,
     )
 
 -- the selected slot, once all have lost it

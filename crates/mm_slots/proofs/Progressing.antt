@@ -1,26 +1,13 @@
 -- A run of slots among its events: what it keeps, and what an event leaves.
-use Rattle.std.proofs.Common.{◌≡◌, ◌∙◌, ◌+◌, ◌≤◌, ◌<◌, ◌||◌, ℕ, Bool, true, false, List, length, map, nat_le, nat_lt, Option, None, Some, refl, sym, ap, subst, arith}
+use Rattle.mm_slots.proofs.Below.{◌≡◌, ◌∙◌, ◌+◌, ◌≤◌, ◌<◌, ◌||◌, ℕ, Bool, true, false, List, length, map, nat_le, nat_lt, Option, None}
+use Rattle.mm_slots.proofs.Below.{Some, refl, sym, ap, subst, arith, codes, if◌then◌else◌, nat_tests, longest_line, most_events, Standing}
+use Rattle.mm_slots.proofs.Below.{new_platform, Header, ◌>>=◌, number_at, word_at, Action, SlotEvent, Power, At, CodeSlot, AreFirst}
+use Rattle.mm_slots.proofs.Below.{action_at, within_64, rows_in, AllFit, KeepsAll, IsInside, Follows, Running, kept_in, is_too_much}
+use Rattle.mm_slots.proofs.Below.{after_line, Row, bytes_in}
 use Rattle.std.specs.Str.{bytes_eq}
-use Rattle.std.specs.Prelude.{codes, if◌then◌else◌}
-use Rattle.std.proofs.lemmas.Bool.Decides.{nat_tests}
-use Rattle.mm_base.specs.Limits.{longest_line, most_events}
-use Rattle.mm_platform.specs.Standing.{Standing}
-use Rattle.mm_platform.specs.Memory.{new_platform}
-use Rattle.mm_play.specs.Counting.{left_or}
 use Rattle.mm_replay.specs.Schedule.{most_kept}
-use Rattle.mm_schedule.specs.declared.header.Header.{Header}
-use Rattle.mm_schedule.specs.Words.{◌>>=◌, number_at, word_at}
-use Rattle.mm_slots.specs.declared.event.Action.{Action}
-use Rattle.mm_slots.specs.declared.event.SlotEvent.{SlotEvent}
-use Rattle.mm_slots.specs.declared.event.SlotEvent.TheVariants.{Power, At}
-use Rattle.mm_slots.specs.declared.slot.Slot.{Slot as CodeSlot}
-use Rattle.mm_slots.specs.First.{AreFirst}
-use Rattle.mm_slots.specs.Grammar.{action_at, event_at, index_at}
-use Rattle.mm_slots.specs.Held.{within_64}
-use Rattle.mm_slots.specs.Rows.{rows_in, AllFit, KeepsAll, IsInside, Follows}
-use Rattle.mm_slots.specs.Stage.{Running, begun, kept_in, is_too_much, after_line}
-use Rattle.mm_slots.specs.Table.{Row}
-use Rattle.mm_slots.specs.Totals.{bytes_in}
+use Rattle.mm_slots.specs.Grammar.{event_at, index_at}
+use Rattle.mm_slots.specs.Stage.{begun}
 use Rattle.mm_slots.proofs.Rowing.{rows_length}
 use Rattle.mm_slots.proofs.Starting.{rows_there, all_there, sizes}
 use Rattle.mm_slots.proofs.Totalling.{bytes_are}
@@ -30,8 +17,7 @@ stands rows events read = record { rows = rows; events = events; read = read }
 
 -- there are as many rows as slots
 pub sized : (r : Running) (standings : List Standing) (slots : List CodeSlot) (events read : ℕ)
-    → stands (rows_in standings slots) events read ≡ r
-    → AllFit events standings slots → length r.rows ≡ length slots
+    → stands (rows_in standings slots) events read ≡ r → AllFit events standings slots → length r.rows ≡ length slots
 sized r standings slots events read view fit = ap (λ (x : Running). length x.rows) (sym view) ∙ rows_length events standings slots fit
 
 -- a run at its first event
@@ -49,8 +35,7 @@ keeps_first headers cells slots standings at are some few =
     }
 
 pub runs_first : (headers : List Header) (cells : List (List ℕ)) (slots : List CodeSlot) (standings : List Standing)
-    → standings ≡ map new_platform cells
-    → AreFirst 0 headers cells slots → stands (rows_in standings slots) 0 0 ≡ begun headers
+    → standings ≡ map new_platform cells → AreFirst 0 headers cells slots → stands (rows_in standings slots) 0 0 ≡ begun headers
 runs_first headers cells slots standings at are =
     ap (λ (x : List Standing). stands (rows_in x slots) 0 0) at
     ∙ ap (λ (rows : List Row). stands rows 0 0) (rows_there 0 headers cells slots are)
@@ -66,8 +51,7 @@ same_test a b c to from = by_tests (nat_lt a b) (nat_lt a c) refl refl
     by_tests false true h g = let less : a < c = grind (arith, nat_tests) in let more = from less in absurd (grind (arith, nat_tests))
 
 pub over_by : (events read : ℕ) (line : List ℕ) (standings : List Standing) (slots : List CodeSlot) (bytes total : ℕ)
-    → AllFit events standings slots
-    → bytes ≡ within_64 (bytes_in slots) → total ≡ within_64 (read + length line + bytes)
+    → AllFit events standings slots → bytes ≡ within_64 (bytes_in slots) → total ≡ within_64 (read + length line + bytes)
     → nat_lt most_kept total ≡ nat_lt most_kept (read + length line + kept_in (rows_in standings slots))
 over_by events read line standings slots bytes total fit is sum =
     let all = bytes_are events standings slots fit in
@@ -83,14 +67,10 @@ full_by r events read line standings slots bytes total view few fit is sum =
     (over_by events read line standings slots bytes total fit is sum
     ∙ ap (λ (b : Bool). b || nat_lt most_kept (read + length line + kept_in (rows_in standings slots))) (sym less))
 
-pub few_events : (r : Running) (line : List ℕ) → is_too_much r line ≡ false → r.events < most_events
-few_events r line h = let a : nat_le most_events r.events ≡ false = left_or (nat_le most_events r.events) _ h in grind (arith, nat_tests)
-
 -- an event was followed, or memory was wanting
 pub keeps_on : (standings standings' : List Standing) (slots slots' : List CodeSlot) (events read more : ℕ)
-    → KeepsAll standings slots events read → events < most_events
-    → more ≤ longest_line → length slots' ≡ length slots → AllFit (events + 1) standings' slots'
-    → KeepsAll standings' slots' (events + 1) (read + more)
+    → KeepsAll standings slots events read → events < most_events → more ≤ longest_line → length slots' ≡ length slots
+    → AllFit (events + 1) standings' slots' → KeepsAll standings' slots' (events + 1) (read + more)
 keeps_on standings standings' slots slots' events read more k few line same fit = record {
   fit = fit;
   some = omega (arith, k.some, same);
@@ -100,10 +80,8 @@ keeps_on standings standings' slots slots' events read more k few line same fit 
 }
 
 pub stands_after : (standings standings' : List Standing) (slots slots' : List CodeSlot) (events read : ℕ) (line : List ℕ)
-    (event : SlotEvent)
-    → Follows events event standings standings' slots slots'
-    → stands (rows_in standings' slots') (events + 1) (read + length line)
-    ≡ after_line (stands (rows_in standings slots) events read) line event
+    (event : SlotEvent) → Follows events event standings standings' slots slots' → stands (rows_in standings' slots') (events + 1)
+    (read + length line) ≡ after_line (stands (rows_in standings slots) events read) line event
 stands_after standings standings' slots slots' events read line event f =
     ap (λ (rows : List Row). stands rows (events + 1) (read + length line)) f.rows
 
@@ -139,8 +117,7 @@ word_inside slots (Some w) event h = at_inside slots (index_at slots w.0) (actio
 
 power_inside : (slots : ℕ) (word : Option (List ℕ × List ℕ)) (event : SlotEvent) (power : Bool)
     → (let x : Option SlotEvent = if power then Some Power
-    else (word >>= λ w. index_at slots w.0 >>= λ n. action_at w.1 >>= λ what. Some (At n what)) in x ≡ Some event)
-    → IsInside slots event
+    else (word >>= λ w. index_at slots w.0 >>= λ n. action_at w.1 >>= λ what. Some (At n what)) in x ≡ Some event) → IsInside slots event
 power_inside slots word event true h = let same : Power ≡ event = cc in subst (λ (e : SlotEvent). IsInside slots e) same tt
 power_inside slots word event false h = word_inside slots word event h
 

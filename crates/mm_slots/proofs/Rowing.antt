@@ -1,20 +1,12 @@
 -- One slot of many goes on, and the others stay.
-use Rattle.std.proofs.Common.{◌≡◌, ◌∙◌, ◌+◌, ◌≤◌, ◌<◌, ◌==◌, ℕ, zero, suc, Bool, true, false, cond, List, [], ◌∷◌, ◌++◌, length, get_or, slice_set, Option, Some, refl, sym, ap, subst, append-nil, arith}
-use Rattle.std.specs.List.{slice_get}
-use Rattle.std.specs.Prelude.{Result, Ok, Err, IfOk, OnErr}
-use Rattle.std.proofs.lemmas.Bool.{eq-eqb, ne_eqb, eqb-true}
-use Rattle.std.proofs.lemmas.Bool.Decides.{nat_tests}
-use Rattle.std.specs.Prelude.{if◌then◌else◌, nat_lt}
-use Rattle.mm_platform.specs.Standing.{Standing}
-use Rattle.mm_slots.specs.declared.slot.Slot.{Slot as CodeSlot}
-use Rattle.std.specs.Option.{option_map_or}
-use Rattle.mm_slots.specs.declared.event.Action.{Action}
-use Rattle.mm_slots.specs.declared.said.Said.{Said}
-use Rattle.mm_slots.specs.Held.{instance_in, slot_in, GoesOn, Comes}
-use Rattle.mm_slots.specs.Held.{Loses as Lost}
-use Rattle.mm_slots.specs.Slot.{Slot, Turned, Met, Acts, Loses, acted, unpowered}
-use Rattle.mm_slots.specs.Table.{Row, instance_of, row_after, by_place}
-use Rattle.mm_slots.specs.Rows.{row_in, rows_in, FitsWithin, AllFit, ActsAt, LosesAt, LosesUnless, LosesAll, others_lose, touched, only_at}
+use Rattle.mm_slots.proofs.Below.{◌≡◌, ◌∙◌, ◌+◌, ◌≤◌, ◌<◌, ◌==◌, ℕ, zero, suc, Bool, true, false, cond, List, [], ◌∷◌, ◌++◌, length, get_or}
+use Rattle.mm_slots.proofs.Below.{slice_set, Option, Some, refl, sym, ap, subst, append-nil, arith, slice_get, Result, IfOk, OnErr, eq-eqb}
+use Rattle.mm_slots.proofs.Below.{ne_eqb, eqb-true, nat_tests, if◌then◌else◌, Standing, CodeSlot, option_map_or, Action, Said, instance_in}
+use Rattle.mm_slots.proofs.Below.{slot_in, GoesOn, Comes, Lost, Slot, Turned, Met, Acts, Loses, acted, unpowered, Row, instance_of}
+use Rattle.mm_slots.proofs.Below.{row_after, by_place, row_in, rows_in, FitsWithin, AllFit, ActsAt, LosesAt, LosesUnless, LosesAll}
+use Rattle.mm_slots.proofs.Below.{others_lose, touched, only_at}
+use Rattle.std.specs.Prelude.{Ok, Err}
+use Rattle.std.specs.Prelude.{nat_lt}
 use Rattle.mm_slots.proofs.Alone.{folded_more}
 
 -- a row that meets more
@@ -52,11 +44,10 @@ untouched_from f place (row ∷ rows) none =
 
 -- one slot is another one, and the rest as before
 set_from : (f : ℕ → List Met) (place n : ℕ) (standings : List Standing) (slots : List CodeSlot) (s : Standing) (c : CodeSlot)
-    (ds : Standing) (dc : CodeSlot)
-    → n < length standings → n < length slots
+    (ds : Standing) (dc : CodeSlot) → n < length standings → n < length slots
     → row_in s c ≡ row_after (row_in (get_or standings n ds) (get_or slots n dc)) (f (place + n))
-    → ((k : ℕ) → place ≤ k → (k ≡ place + n → ⊥) → f k ≡ [])
-    → rows_in (slice_set standings n s) (slice_set slots n c) ≡ by_place (λ k row. row_after row (f k)) place (rows_in standings slots)
+    → ((k : ℕ) → place ≤ k → (k ≡ place + n → ⊥) → f k ≡ []) → rows_in (slice_set standings n s)
+    (slice_set slots n c) ≡ by_place (λ k row. row_after row (f k)) place (rows_in standings slots)
 set_from f place n [] slots s c ds dc few few' here others = absurd (omega (arith, few))
 set_from f place n (x ∷ standings) [] s c ds dc few few' here others = absurd (omega (arith, few'))
 set_from f place zero (x ∷ standings) (y ∷ slots) s c ds dc few few' here others =
@@ -79,9 +70,8 @@ only_here : (n : ℕ) (met : Met) → only_at n met n ≡ met ∷ []
 only_here n met = rw (eq-eqb n n refl) refl
 
 pub set_rows : (n : ℕ) (met : Met) (standings : List Standing) (slots : List CodeSlot) (s : Standing) (c : CodeSlot) (ds : Standing)
-    (dc : CodeSlot)
-    → n < length standings → n < length slots → row_in s c ≡ row_after (row_in (get_or standings n ds) (get_or slots n dc)) (met ∷ [])
-    → rows_in (slice_set standings n s) (slice_set slots n c) ≡ touched (only_at n met) (rows_in standings slots)
+    (dc : CodeSlot) → n < length standings → n < length slots → row_in s c ≡ row_after (row_in (get_or standings n ds) (get_or slots n dc))
+    (met ∷ []) → rows_in (slice_set standings n s) (slice_set slots n c) ≡ touched (only_at n met) (rows_in standings slots)
 set_rows n met standings slots s c ds dc few few' here =
     let at : only_at n met (0 + n) ≡ met ∷ [] = ap (only_at n met) (omega arith) ∙ only_here n met in
     set_from (only_at n met) 0 n standings slots s c ds dc few few'
@@ -103,8 +93,7 @@ all_more events more (standing ∷ standings) (slot ∷ slots) less fit =
     (within_more events more standing slot less fit.0, all_more events more standings slots less fit.1)
 
 pub set_fit : (events more n : ℕ) (standings : List Standing) (slots : List CodeSlot) (s : Standing) (c : CodeSlot) → events ≤ more
-    → AllFit events standings slots → FitsWithin more s c
-    → AllFit more (slice_set standings n s) (slice_set slots n c)
+    → AllFit events standings slots → FitsWithin more s c → AllFit more (slice_set standings n s) (slice_set slots n c)
 set_fit events more n [] [] s c less fit new = tt
 set_fit events more n [] (slot ∷ slots) s c less fit new = absurd fit
 set_fit events more n (standing ∷ standings) [] s c less fit new = absurd fit
@@ -113,8 +102,7 @@ set_fit events more (suc n) (standing ∷ standings) (slot ∷ slots) s c less f
     (within_more events more standing slot less fit.0, set_fit events more n standings slots s c less fit.1 new)
 
 pub fit_at : (events n : ℕ) (standings : List Standing) (slots : List CodeSlot) (ds : Standing) (dc : CodeSlot) → n < length slots
-    → AllFit events standings slots
-    → FitsWithin events (get_or standings n ds) (get_or slots n dc)
+    → AllFit events standings slots → FitsWithin events (get_or standings n ds) (get_or slots n dc)
 fit_at events n [] [] ds dc few fit = absurd (omega (arith, few))
 fit_at events n [] (slot ∷ slots) ds dc few fit = absurd fit
 fit_at events n (standing ∷ standings) [] ds dc few fit = absurd fit
@@ -130,8 +118,7 @@ same_length events (standing ∷ standings) (slot ∷ slots) fit = ap (λ (n : �
 
 -- the row of a slot
 pub get_row : (n : ℕ) (standings : List Standing) (slots : List CodeSlot) (ds : Standing) (dc : CodeSlot) → n < length standings
-    → n < length slots
-    → slice_get (rows_in standings slots) n ≡ Some (row_in (get_or standings n ds) (get_or slots n dc))
+    → n < length slots → slice_get (rows_in standings slots) n ≡ Some (row_in (get_or standings n ds) (get_or slots n dc))
 get_row n [] slots ds dc few few' = absurd (omega (arith, few))
 get_row n (standing ∷ standings) [] ds dc few few' = absurd (omega (arith, few'))
 get_row zero (standing ∷ standings) (slot ∷ slots) ds dc few few' = refl
@@ -149,13 +136,10 @@ few_on events old new slot slot' f g = record { fits = g.fits; few = omega (arit
 
 -- something happened in the slot with this number
 pub acts_at : (events number : ℕ) (what : Action) (standings standings' : List Standing) (slots slots' : List CodeSlot) (new : Standing)
-    (slot' : CodeSlot) (said : Said)
-    (ds : Standing) (dc : CodeSlot)
-    → standings' ≡ slice_set standings number new → slots' ≡ slice_set slots number slot' → number < length slots
-    → AllFit events standings slots
-    → (let s = get_or standings number ds in
-    let c = get_or slots number dc in
-    Comes new c slot' (acted (instance_in c) (slot_in s c) what) said → ActsAt events number what standings standings' slots slots' said)
+    (slot' : CodeSlot) (said : Said) (ds : Standing) (dc : CodeSlot) → standings' ≡ slice_set standings number new
+    → slots' ≡ slice_set slots number slot' → number < length slots → AllFit events standings slots →
+    (let s = get_or standings number ds in let c = get_or slots number dc in Comes new c slot'
+    (acted (instance_in c) (slot_in s c) what) said → ActsAt events number what standings standings' slots slots' said)
 acts_at events number what standings standings' slots slots' new slot' said ds dc ps cs few fit c =
     let s = get_or standings number ds in
     let slot = get_or slots number dc in
@@ -175,10 +159,9 @@ acts_at events number what standings standings' slots slots' new slot' said ds d
 
 -- or memory was wanting
 pub lacks_at : (events number : ℕ) (standings standings' : List Standing) (slots slots' : List CodeSlot) (new : Standing) (slot' : CodeSlot)
-    (ds : Standing) (dc : CodeSlot)
-    → standings' ≡ slice_set standings number new → slots' ≡ slice_set slots number slot' → number < length slots
-    → AllFit events standings slots
-    → GoesOn new (get_or slots number dc) slot' → AllFit (events + 1) standings' slots'
+    (ds : Standing) (dc : CodeSlot) → standings' ≡ slice_set standings number new → slots' ≡ slice_set slots number slot'
+    → number < length slots → AllFit events standings slots → GoesOn new (get_or slots number dc) slot'
+    → AllFit (events + 1) standings' slots'
 lacks_at events number standings standings' slots slots' new slot' ds dc ps cs few fit g =
     let here = fit_at events number standings slots ds dc few fit in
     subst (λ (x : List Standing). AllFit (events + 1) x slots') (sym ps)
@@ -188,10 +171,9 @@ lacks_at events number standings standings' slots slots' new slot' ds dc ps cs f
 
 -- the slot with this number lost its power
 pub loses_at : (events number : ℕ) (standings standings' : List Standing) (slots slots' : List CodeSlot) (new : Standing) (slot' : CodeSlot)
-    (ds : Standing) (dc : CodeSlot)
-    → standings' ≡ slice_set standings number new → slots' ≡ slice_set slots number slot' → number < length slots
-    → AllFit events standings slots
-    → Lost (get_or standings number ds) new (get_or slots number dc) slot' → LosesAt events number standings standings' slots slots'
+    (ds : Standing) (dc : CodeSlot) → standings' ≡ slice_set standings number new → slots' ≡ slice_set slots number slot'
+    → number < length slots → AllFit events standings slots → Lost (get_or standings number ds) new (get_or slots number dc) slot'
+    → LosesAt events number standings standings' slots slots'
 loses_at events number standings standings' slots slots' new slot' ds dc ps cs few fit l =
     let s = get_or standings number ds in
     let slot = get_or slots number dc in
@@ -206,8 +188,7 @@ loses_at events number standings standings' slots slots' new slot' ds dc ps cs f
           (record {
             fits = l.goes.fits;
             few = omega (arith, l.same, here.few);
-            short = omega
-                (arith, ap (λ (x : Slot). length x.issued) l.stands, here.short);
+            short = omega (arith, ap (λ (x : Slot). length x.issued) l.stands, here.short);
           })));
     }
 
@@ -274,8 +255,7 @@ lost_first events but standings slots fit = record {
 }
 
 pub lost_all : (events but : ℕ) (first standings : List Standing) (slots0 slots : List CodeSlot) (n : ℕ) → length slots0 ≤ n
-    → AllFit events first slots0
-    → LostBelow events but n first standings slots0 slots → LosesAll events but first standings slots0 slots
+    → AllFit events first slots0 → LostBelow events but n first standings slots0 slots → LosesAll events but first standings slots0 slots
 lost_all events but first standings slots0 slots n size fit b =
     let len = rows_length events first slots0 fit in
     record {

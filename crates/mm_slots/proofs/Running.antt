@@ -1,27 +1,12 @@
 -- The calls of a slot that are over are a schedule, told by digests.
-use Rattle.std.proofs.Common.{◌≡◌, ◌∙◌, ℕ, Bool, true, false, List, [], ◌∷◌, ◌++◌, length, Option, None, Some, refl, sym, ap, subst}
-use Rattle.mm_digest.specs.declared.variant.Variant.{Variant}
-use Rattle.mm_digest.specs.declared.variant.Variant.TheVariants.{Basic, Opt}
-use Rattle.mm_module.specs.Batch.{Batch, One}
-use Rattle.mm_module.specs.Meaning.{Meaning}
-use Rattle.mm_model.specs.Instance.{Instance}
-use Rattle.mm_model.specs.History.{first_history, requests_of}
-use Rattle.mm_model.specs.Long.{is_long}
-use Rattle.mm_model.specs.Moves.{Digests}
-use Rattle.mm_call.specs.Levels.{by_digests}
-use Rattle.mm_call.specs.Standing.{instance_by}
-use Rattle.mm_schedule.specs.Events.{Event}
-use Rattle.mm_schedule.specs.declared.event.Offer.{Offer}
-use Rattle.mm_schedule.specs.Machine.{Runs}
-use Rattle.mm_run.specs.Folds.{Followed, followed, expected, replies_by_digests}
+use Rattle.mm_slots.proofs.Below.{◌≡◌, ◌∙◌, ℕ, Bool, true, false, List, [], ◌∷◌, ◌++◌, length, Option, None, Some, refl, sym, ap, subst}
+use Rattle.mm_slots.proofs.Below.{Variant, Basic, Opt, Batch, One, Meaning, Instance, first_history, requests_of, is_long, Digests}
+use Rattle.mm_slots.proofs.Below.{by_digests, instance_by, Event, Offer, Runs, Followed, followed, expected, replies_by_digests}
+use Rattle.mm_slots.proofs.Below.{offered_bytes, is_nothing, Action, Slot, Flight, Turned, Met, Acts, Loses, turned, acted_by, begun}
+use Rattle.mm_slots.proofs.Below.{stepped, outcome_in, so_far, folded, followed_by, first_slot, SlotRuns, SlotsRun}
 use Rattle.mm_run.specs.Premises.{IsClearRun, IsGenuineRun}
 use Rattle.mm_run.specs.Laws.{AgreesThroughout, BasicIsExpected, OptIsExpected, ExpectedRuns, SchedulesGoOn, continued}
-use Rattle.mm_run.specs.Offered.{offered_bytes}
-use Rattle.mm_steps.specs.Stopping.{is_nothing}
-use Rattle.mm_slots.specs.declared.event.Action.{Action}
 use Rattle.mm_slots.specs.declared.event.Action.TheVariants as action
-use Rattle.mm_slots.specs.Slot.{Slot, Flight, Turned, Met, Acts, Loses, turned, acted_by, begun, stepped, outcome_in, so_far, folded, followed_by, first_slot}
-use Rattle.mm_slots.specs.Laws.{SlotRuns, SlotsRun}
 
 abbrev told_from : Instance → Slot → List Event → Followed Digests
 told_from i slot events = followed i (by_digests i) slot.digests slot.issued events
@@ -43,22 +28,14 @@ asked_completes i slot offer batch None = record { state = refl; issued = refl; 
 asked_completes i slot offer batch (Some bytes) = begun_completes i slot offer batch bytes (is_long batch) refl
 
 step_completes : (i : Instance) (slot : Slot) (flight : Flight) (nothing : Bool)
-    → is_nothing (outcome_in i slot (so_far flight)).reply ≡ nothing
-    → Completes i slot (stepped i slot flight)
+    → is_nothing (outcome_in i slot (so_far flight)).reply ≡ nothing → Completes i slot (stepped i slot flight)
 step_completes i slot flight true is = rw is (record { state = refl; issued = refl; replies = refl })
 step_completes i slot flight false is = rw is (record { state = refl; issued = refl; replies = refl })
 
 action_completes : (i : Instance) (slot : Slot) (flight : Option Flight) (what : Action) → Completes i slot (acted_by i slot flight what)
 action_completes i slot None (action.Begin offer request) = asked_completes i slot offer (One request) (offered_bytes slot.issued offer)
-action_completes i slot None action.Close = record { state = refl; issued = refl; replies = refl }
-action_completes i slot None action.Step = record { state = refl; issued = refl; replies = refl }
-action_completes i slot None (action.Break how) = record { state = refl; issued = refl; replies = refl }
-action_completes i slot None (action.Extend value) = record { state = refl; issued = refl; replies = refl }
-action_completes i slot (Some flight) (action.Begin offer request) = record { state = refl; issued = refl; replies = refl }
-action_completes i slot (Some flight) action.Close = record { state = refl; issued = refl; replies = refl }
 action_completes i slot (Some flight) action.Step = step_completes i slot flight (is_nothing (outcome_in i slot (so_far flight)).reply) refl
-action_completes i slot (Some flight) (action.Break how) = record { state = refl; issued = refl; replies = refl }
-action_completes i slot (Some flight) (action.Extend value) = record { state = refl; issued = refl; replies = refl }
+action_completes i slot _ _ = record { state = refl; issued = refl; replies = refl }
 
 met_completes : (i : Instance) (slot : Slot) (met : Met) → Completes i slot (turned i slot met)
 met_completes i slot (Acts what) = action_completes i slot slot.flight what

@@ -1,44 +1,24 @@
 -- The slots at first: each is as its header and number say.
-use Rattle.std.proofs.Common.{◌≡◌, ◌∙◌, ◌+◌, ◌<◌, ℕ, suc, List, [], ◌∷◌, ◌++◌, length, map, take, get_or, Some, refl, sym, ap, subst, arith}
-use Rattle.std.specs.List.{sum_by}
-use Rattle.std.proofs.lemmas.List.{length-take-le, take_more}
+use Rattle.mm_slots.proofs.Below.{◌≡◌, ◌∙◌, ◌+◌, ◌<◌, ℕ, suc, List, [], ◌∷◌, ◌++◌, length, map, take, get_or, Some, refl, sym, ap, subst}
+use Rattle.mm_slots.proofs.Below.{arith, sum_by, length-take-le, take_more, new_platform, next_plan, Instance, first_history, cell_of}
+use Rattle.mm_slots.proofs.Below.{issued_bytes, cell_spelling, meaning_of, first_digests, Header, Stands, stands_new, CodeSlot, IsFirst}
+use Rattle.mm_slots.proofs.Below.{AreFirst, AddsSlot, digests_in, flight_in, instance_in, HasRegister, IsNewSlot, within_64, row_in}
+use Rattle.mm_slots.proofs.Below.{rows_in, FitsWithin, AllFit, slot_instance, by_place, first_row}
 use Rattle.std.proofs.lemmas.List.FromFn.{length-range_with_len}
-use Rattle.mm_platform.specs.Memory.{new_platform}
-use Rattle.mm_platform.specs.Told.{next_plan}
-use Rattle.mm_model.specs.Instance.{Instance}
-use Rattle.mm_model.specs.History.{first_history}
-use Rattle.mm_model.specs.Standing.{cell_of, issued_bytes}
 use Rattle.mm_call.specs.declared.first.Provisioned.{Provisioned}
-use Rattle.mm_seal.specs.Cell.{cell_spelling}
-use Rattle.mm_modules.specs.Modules.{meaning_of}
-use Rattle.mm_run.specs.Folds.{first_digests}
 use Rattle.mm_run.specs.Held.{rising_from}
-use Rattle.mm_schedule.specs.declared.header.Header.{Header}
-use Rattle.mm_world.specs.Stands.{Stands}
-use Rattle.mm_world.proofs.Worlds.{stands_new}
-use Rattle.mm_slots.specs.declared.slot.Slot.{Slot as CodeSlot}
-use Rattle.mm_slots.specs.First.{IsFirst, AreFirst, AddsSlot}
-use Rattle.mm_slots.specs.Held.{digests_in, flight_in, instance_in, HasRegister, IsNewSlot, within_64}
-use Rattle.mm_slots.specs.Rows.{row_in, rows_in, FitsWithin, AllFit}
-use Rattle.mm_slots.specs.Slot.{slot_instance}
-use Rattle.mm_slots.specs.Table.{by_place, first_row}
 use Rattle.mm_slots.proofs.Fitting.{settled, mine_are}
 
 -- one more slot behind these
 added : (number : ℕ) (headers : List Header) (cells : List (List ℕ)) (slots : List CodeSlot) (header : Header) (cell : List ℕ)
-    (slot : CodeSlot)
-    → AreFirst number headers cells slots → IsFirst (number + length headers) header cell slot
+    (slot : CodeSlot) → AreFirst number headers cells slots → IsFirst (number + length headers) header cell slot
     → AreFirst number (headers ++ header ∷ []) (cells ++ cell ∷ []) (slots ++ slot ∷ [])
 added number [] [] [] header cell slot are is = (subst (λ (n : ℕ). IsFirst n header cell slot) (omega arith) is, tt)
-added number [] [] (s ∷ slots) header cell slot are is = absurd are
-added number [] (c ∷ cells) slots header cell slot are is = absurd are
-added number (h ∷ headers) [] slots header cell slot are is = absurd are
-added number (h ∷ headers) (c ∷ cells) [] header cell slot are is = absurd are
 added number (h ∷ headers) (c ∷ cells) (s ∷ slots) header cell slot are is = (
   are.0,
-  added (number + 1) headers cells slots header cell slot are.1
-      (subst (λ (n : ℕ). IsFirst n header cell slot) (omega arith) is),
+  added (number + 1) headers cells slots header cell slot are.1 (subst (λ (n : ℕ). IsFirst n header cell slot) (omega arith) is),
 )
+added number _ _ _ header cell slot are is = absurd are
 
 pub adds : (number : ℕ) (header : Header) (cells cells' : List (List ℕ)) (slots slots' : List CodeSlot) (bytes snapshot : List ℕ)
     (made : Provisioned) (code : CodeSlot)
@@ -124,33 +104,24 @@ fits_there number header cell slot f =
 pub rows_there : (number : ℕ) (headers : List Header) (cells : List (List ℕ)) (slots : List CodeSlot) → AreFirst number headers cells slots
     → rows_in (map new_platform cells) slots ≡ by_place first_row number headers
 rows_there number [] [] [] are = refl
-rows_there number [] [] (slot ∷ slots) are = absurd are
-rows_there number [] (cell ∷ cells) slots are = absurd are
-rows_there number (header ∷ headers) [] slots are = absurd are
-rows_there number (header ∷ headers) (cell ∷ cells) [] are = absurd are
 rows_there number (header ∷ headers) (cell ∷ cells) (slot ∷ slots) are =
     let here = row_there number header cell slot are.0 in
     let there = rows_there (number + 1) headers cells slots are.1 in
     λ j. here j ∷ there j
+rows_there number _ _ _ are = absurd are
 
 pub all_there : (number : ℕ) (headers : List Header) (cells : List (List ℕ)) (slots : List CodeSlot) → AreFirst number headers cells slots
     → AllFit 0 (map new_platform cells) slots
 all_there number [] [] [] are = tt
-all_there number [] [] (slot ∷ slots) are = absurd are
-all_there number [] (cell ∷ cells) slots are = absurd are
-all_there number (header ∷ headers) [] slots are = absurd are
-all_there number (header ∷ headers) (cell ∷ cells) [] are = absurd are
 all_there number (header ∷ headers) (cell ∷ cells) (slot ∷ slots) are =
     (fits_there number header cell slot are.0, all_there (number + 1) headers cells slots are.1)
+all_there number _ _ _ are = absurd are
 
 -- as many as there are headers
 pub sizes : (number : ℕ) (headers : List Header) (cells : List (List ℕ)) (slots : List CodeSlot) → AreFirst number headers cells slots
     → (length cells ≡ length headers) × (length slots ≡ length headers)
 sizes number [] [] [] are = (refl, refl)
-sizes number [] [] (slot ∷ slots) are = absurd are
-sizes number [] (cell ∷ cells) slots are = absurd are
-sizes number (header ∷ headers) [] slots are = absurd are
-sizes number (header ∷ headers) (cell ∷ cells) [] are = absurd are
 sizes number (header ∷ headers) (cell ∷ cells) (slot ∷ slots) are =
     let more = sizes (number + 1) headers cells slots are.1 in
     (ap (λ (n : ℕ). suc n) more.0, ap (λ (n : ℕ). suc n) more.1)
+sizes number _ _ _ are = absurd are

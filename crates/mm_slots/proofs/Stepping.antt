@@ -1,64 +1,39 @@
 -- The call in flight of a slot: its next step, a step that breaks it off, a value that comes, a loss of power.
-use Rattle.std.proofs.Common.{◌≡◌, ◌∙◌, ◌+◌, ◌^◌, ◌<◌, ℕ, Bool, true, false, cond, List, [], ◌∷◌, ◌++◌, map, length, None, Some, IsSome, Ok, Err, refl, sym, ap, subst, arith, ◌⊎◌, inl, inr}
-use Rattle.std.specs.List.{sum_by}
-use Rattle.std.proofs.lemmas.Bool.{eq-eqb}
+use Rattle.mm_slots.proofs.Below.{◌≡◌, ◌∙◌, ◌+◌, ◌^◌, ◌<◌, ℕ, Bool, false, cond, List, [], ◌∷◌, ◌++◌, map, length, None, Some, Ok, Err}
+use Rattle.mm_slots.proofs.Below.{refl, sym, ap, subst, arith, ◌⊎◌, inl, inr, sum_by, One, meaning_of, Meddle, Stop, Quiet, Plan, Standing}
+use Rattle.mm_slots.proofs.Below.{next_plan, cell_spelling, Instance, Move, Foreign, Digests, made, by_digests, all_made, cell_at}
+use Rattle.mm_slots.proofs.Below.{course_of, rising_from, ask_number, plan_by, Called, Lacks, quiet_as, Reply, Stands, is_nothing}
+use Rattle.mm_slots.proofs.Below.{stop_behind, AsksInFlight, StepsAs, BreaksAs, ClosesInFlight, StepsClosingAs, BreaksClosingAs, Asking}
+use Rattle.mm_slots.proofs.Below.{Closing, CodeFlight, Said, Going, CodeSlot, Turned, outcome_in, plays, merely, flying, so_far, stepped}
+use Rattle.mm_slots.proofs.Below.{event_by, stop_at, digests_in, slot_in, call_in, instance_in, Fits, GoesOn, Wants, Comes, flown}
+use Rattle.mm_slots.proofs.Below.{HasRegister, within_64, EndsCall, count_none}
 use Rattle.mm_base.specs.declared.fault.Memory.{Memory}
-use Rattle.mm_module.specs.Batch.{One}
-use Rattle.mm_modules.specs.Modules.{meaning_of}
-use Rattle.mm_platform.specs.declared.plan.Meddle.{Meddle}
-use Rattle.mm_platform.specs.declared.plan.Stop.{Stop}
-use Rattle.mm_platform.specs.declared.plan.Stop.TheVariants.{Quiet}
-use Rattle.mm_platform.specs.Standing.{Plan, Standing, next_step}
-use Rattle.mm_platform.specs.Steps.{fault_at}
-use Rattle.mm_platform.specs.Told.{next_plan}
 use Rattle.mm_seal.specs.declared.cell.Cell.{Cell}
-use Rattle.mm_seal.specs.Cell.{cell_spelling}
-use Rattle.mm_model.specs.Instance.{Instance}
 use Rattle.mm_model.specs.Steps.{Step}
-use Rattle.mm_model.specs.History.{Move, Foreign}
-use Rattle.mm_model.specs.Moves.{Digests, made}
-use Rattle.mm_call.specs.Levels.{by_digests, all_made}
 use Rattle.mm_call.specs.Courses.{Fate, seen_in}
 use Rattle.mm_call.specs.Called.{seen_at, reading_steps}
-use Rattle.mm_call.specs.Standing.{cell_at}
-use Rattle.mm_run.specs.Folds.{course_of}
-use Rattle.mm_run.specs.Held.{rising_from}
 use Rattle.mm_opt.specs.declared.stage.CheckpointStage.{CheckpointStage}
 use Rattle.mm_opt.specs.Checkpoints.{closing_number_of}
 use Rattle.mm_flight.specs.declared.ask.AskCall.{AskCall}
-use Rattle.mm_flight.specs.Asks.{ask_number}
-use Rattle.mm_flight.specs.InFlight.{plan_by}
-use Rattle.mm_world.specs.declared.call.Called.{Called}
-use Rattle.mm_world.specs.Asks.{Lacks, quiet_as}
-use Rattle.mm_schedule.specs.declared.reply.Reply.{Reply}
 use Rattle.mm_world.specs.Calls.{stopped_step}
-use Rattle.mm_world.specs.Stands.{Stands}
-use Rattle.mm_steps.specs.Stopping.{BreaksNext, is_nothing, stop_behind}
-use Rattle.mm_steps.specs.Asking.{AsksInFlight, StepsAs, BreaksAs}
-use Rattle.mm_steps.specs.Closing.{ClosesInFlight, StepsClosingAs, BreaksClosingAs}
 use Rattle.mm_steps.specs.declared.asks.Stepped.TheVariants as asks
 use Rattle.mm_steps.specs.declared.closings.SteppedClosing.TheVariants as closings
 use Rattle.mm_slots.specs.declared.event.Breaking.{Breaking}
 use Rattle.mm_slots.specs.declared.event.Breaking.TheVariants as breaking
-use Rattle.mm_slots.specs.declared.flight.Asking.{Asking}
-use Rattle.mm_slots.specs.declared.flight.Closing.{Closing}
-use Rattle.mm_slots.specs.declared.flight.Flight.{Flight as CodeFlight}
 use Rattle.mm_slots.specs.declared.flight.Flight.TheVariants as code
-use Rattle.mm_slots.specs.declared.said.Said.{Said}
-use Rattle.mm_slots.specs.declared.said.Said.TheVariants.{Going}
-use Rattle.mm_slots.specs.declared.slot.Slot.{Slot as CodeSlot}
-use Rattle.mm_slots.specs.Slot.{Turned, outcome_in, plays, merely, flying, so_far, stepped, event_by, stop_at}
-use Rattle.mm_slots.specs.Held.{digests_in, slot_in, call_in, instance_in, Fits, GoesOn, Wants, Comes, flown, HasRegister, within_64, EndsCall}
 use Rattle.mm_call.specs.WalkLaws.{seen_none}
-use Rattle.mm_world.proofs.Committing.{count_none}
 use Rattle.mm_slots.proofs.Fitting.{mine_are, settled, over_comes, same_instance}
 use Rattle.mm_slots.proofs.Planned.{flight_of, goes_planned, digests_kept, goes_comes, asking_of, closing_of}
 
+-- what holds of the bytes and the request that were lent holds of those that are kept
+for_asked : (asking : Asking) (bytes request : List ℕ) → bytes ≡ asking.bytes → request ≡ asking.request
+    → (holds : List ℕ → List ℕ → Type 0) → holds bytes request → holds asking.bytes asking.request
+for_asked asking bytes request same-bytes same-request holds h =
+    subst (λ (x : List ℕ). holds x asking.request) same-bytes (subst (λ (y : List ℕ). holds bytes y) same-request h)
+
 -- a call that asks goes on
 pub ask_goes : (slot : CodeSlot) (asking : Asking) (call : AskCall) (keys : Unit {0}) (old new : Standing) (bytes request : List ℕ)
-    (step : ℕ)
-    → bytes ≡ asking.bytes → request ≡ asking.request
-    → Fits old (flown slot (code.Asks asking))
+    (step : ℕ) → bytes ≡ asking.bytes → request ≡ asking.request → Fits old (flown slot (code.Asks asking))
     → StepsAs (meaning_of slot.header.«module») asking.call old new bytes (One request) (Ok (asks.Going call)) → step ≡ ask_number call
     → Comes new (flown slot (code.Asks asking)) (record slot { flight = Some (code.Asks (record asking { call = call })); keys = keys })
     (stepped (instance_in slot) (slot_in old (flown slot (code.Asks asking))) (flight_of old (code.Asks asking))) (Going step)
@@ -68,11 +43,8 @@ ask_goes slot asking call keys old new bytes request step same-bytes same-reques
     let barrier = rising_from (128 + slot.number) in
     let d = digests_in old (flown slot (code.Asks asking)) in
     let p = next_plan old in
-    let there : StepsAs (meaning_of slot.header.«module») asking.call old new asking.bytes (One asking.request) (Ok (asks.Going call)) =
-    subst (λ (x : List ℕ). StepsAs (meaning_of slot.header.«module») asking.call old new x (One asking.request) (Ok (asks.Going call)))
-    same-bytes
-    (subst (λ (x : List ℕ). StepsAs (meaning_of slot.header.«module») asking.call old new bytes (One x) (Ok (asks.Going call))) same-request
-    goes) in
+    let there = for_asked asking bytes request same-bytes same-request
+    (λ x y. StepsAs (meaning_of slot.header.«module») asking.call old new x (One y) (Ok (asks.Going call))) goes in
     let t = there slot.header.variant key barrier d f.from slot.issued.items p.meddles (p.at + 1) asking.offer f.flies f.offered in
     let a = t.0 in
     let planned = goes_planned old new f.from p.meddles a.made (p.at + 1) f.flies.flies.cell a.flies.cell a.flies.planned a.is_next in
@@ -114,8 +86,7 @@ close_goes slot closing call old new step fits goes number =
     (number ∙ a.number ∙ sym a.is_next) t.1
 
 -- a step that ends the call
-stepped_over : (slot slot' : CodeSlot) (flight : CodeFlight) (old new : Standing) (said : Said)
-    → (let i = instance_in slot in
+stepped_over : (slot slot' : CodeSlot) (flight : CodeFlight) (old new : Standing) (said : Said) → (let i = instance_in slot in
     let s = slot_in old (flown slot flight) in
     is_nothing (outcome_in i s (so_far (flight_of old flight))).reply ≡ false
     → Comes new (flown slot flight) slot' (plays i s (so_far (flight_of old flight))) said
@@ -130,31 +101,24 @@ stepped_over slot slot' flight old new said something c =
 
 pub ask_over : (slot slot' : CodeSlot) (asking : Asking) (old new : Standing) (bytes request : List ℕ) (it : Called) (said : Said)
     → bytes ≡ asking.bytes → request ≡ asking.request → slot.flight ≡ None → slot.committed < 2 ^ 63
-    → Fits old (flown slot (code.Asks asking))
-    → StepsAs (meaning_of slot.header.«module») asking.call old new bytes (One request) (Ok (asks.Over it))
-    → EndsCall new it slot slot' said
-    → Comes new (flown slot (code.Asks asking)) slot'
+    → Fits old (flown slot (code.Asks asking)) → StepsAs (meaning_of slot.header.«module») asking.call old new bytes (One request)
+    (Ok (asks.Over it)) → EndsCall new it slot slot' said → Comes new (flown slot (code.Asks asking)) slot'
     (stepped (instance_in slot) (slot_in old (flown slot (code.Asks asking))) (flight_of old (code.Asks asking))) said
 ask_over slot slot' asking old new bytes request it said same-bytes same-request none few fits goes ends =
     let f = asking_of old slot asking fits in
     let d = digests_in old (flown slot (code.Asks asking)) in
     let p = next_plan old in
-    let there : StepsAs (meaning_of slot.header.«module») asking.call old new asking.bytes (One asking.request) (Ok (asks.Over it)) =
-    subst (λ (x : List ℕ). StepsAs (meaning_of slot.header.«module») asking.call old new x (One asking.request) (Ok (asks.Over it)))
-    same-bytes
-    (subst (λ (x : List ℕ). StepsAs (meaning_of slot.header.«module») asking.call old new bytes (One x) (Ok (asks.Over it))) same-request
-    goes) in
+    let there = for_asked asking bytes request same-bytes same-request
+    (λ x y. StepsAs (meaning_of slot.header.«module») asking.call old new x (One y) (Ok (asks.Over it))) goes in
     let t = there slot.header.variant (rising_from slot.number) (rising_from (128 + slot.number)) d f.from slot.issued.items p.meddles
     (p.at + 1) asking.offer f.flies f.offered in
     stepped_over slot slot' (code.Asks asking) old new said t.1
     (over_comes slot slot' (code.Asks asking) old f.from new (so_far (flight_of old (code.Asks asking))) it said none fits.kept few t.0
     ends)
 
-pub close_over : (slot slot' : CodeSlot) (closing : Closing) (old new : Standing) (reply : Reply) (said : Said)
-    → slot.flight ≡ None → slot.committed < 2 ^ 63
-    → Fits old (flown slot (code.Closes closing)) → StepsClosingAs closing.call old new (closings.Over reply)
-    → EndsCall new (quiet_as reply) slot slot' said
-    → Comes new (flown slot (code.Closes closing)) slot'
+pub close_over : (slot slot' : CodeSlot) (closing : Closing) (old new : Standing) (reply : Reply) (said : Said) → slot.flight ≡ None
+    → slot.committed < 2 ^ 63 → Fits old (flown slot (code.Closes closing)) → StepsClosingAs closing.call old new (closings.Over reply)
+    → EndsCall new (quiet_as reply) slot slot' said → Comes new (flown slot (code.Closes closing)) slot'
     (stepped (instance_in slot) (slot_in old (flown slot (code.Closes closing))) (flight_of old (code.Closes closing))) said
 close_over slot slot' closing old new reply said none few fits goes ends =
     let f = closing_of old slot closing fits in
@@ -169,34 +133,14 @@ close_over slot slot' closing old new reply said none few fits goes ends =
 -- a call is broken off
 
 pub stopped_at : (how : Breaking) (n : ℕ) → stopped_step (stop_at how n) ≡ n
-stopped_at breaking.Cut n = refl
-stopped_at breaking.Drop n = refl
 stopped_at (breaking.Fail done) n = refl
-
-fails_at : (how : Breaking) (n : ℕ) → IsSome (fault_at (stop_at how n) n)
-fails_at breaking.Cut n = rw (eq-eqb n n refl) refl
-fails_at breaking.Drop n = rw (eq-eqb n n refl) refl
-fails_at (breaking.Fail done) n = rw (eq-eqb n n refl) refl
-
-breaks_at : (how : Breaking) (standing : Standing) (meddles : List Meddle) (made n : ℕ) → standing.is_on ≡ true
-    → standing.plan ≡ Some (record (plan_by Quiet meddles) { at = made }) → made < 255 → n ≡ made + 1 → BreaksNext (stop_at how n) standing
-breaks_at how standing meddles made n on planned few is =
-    let plan : Plan = record (plan_by Quiet meddles) { at = made } in
-    let next : n ≡ next_step plan = omega (arith, is, few) in
-    record {
-      plan = plan;
-      is_on = on;
-      planned = planned;
-      fails = subst (λ (k : ℕ). IsSome (fault_at (stop_at how n) k)) next (fails_at how n);
-    }
+stopped_at _ n = refl
 
 pub ask_broken : (how : Breaking) (slot slot' : CodeSlot) (asking : Asking) (old new : Standing) (bytes request : List ℕ) (n : ℕ)
-    (it : Called) (said : Said)
-    → bytes ≡ asking.bytes → request ≡ asking.request → slot.flight ≡ None → slot.committed < 2 ^ 63
+    (it : Called) (said : Said) → bytes ≡ asking.bytes → request ≡ asking.request → slot.flight ≡ None → slot.committed < 2 ^ 63
     → Fits old (flown slot (code.Asks asking)) → n ≡ ask_number asking.call
     → BreaksAs (meaning_of slot.header.«module») asking.call old new bytes (One request) (stop_at how n) it
-    → EndsCall new it slot slot' said
-    → Comes new (flown slot (code.Asks asking)) slot'
+    → EndsCall new it slot slot' said → Comes new (flown slot (code.Asks asking)) slot'
     (plays (instance_in slot) (slot_in old (flown slot (code.Asks asking)))
     (event_by (call_in (code.Asks asking)) (next_plan old).meddles (stop_at how ((next_plan old).at + 1)))) said
 ask_broken how slot slot' asking old new bytes request n it said same-bytes same-request none few fits is breaks ends =
@@ -210,17 +154,14 @@ ask_broken how slot slot' asking old new bytes request n it said same-bytes same
     subst (λ (k : ℕ). P asking.bytes asking.request k) at
     (subst (λ (x : List ℕ). P x asking.request n) same-bytes (subst (λ (y : List ℕ). P bytes y n) same-request breaks)) in
     let t = there slot.header.variant (rising_from slot.number) (rising_from (128 + slot.number)) d f.from slot.issued.items p.meddles
-    (p.at + 1) asking.offer f.flies f.offered
-    (stopped_at how (p.at + 1)) in
+    (p.at + 1) asking.offer f.flies f.offered (stopped_at how (p.at + 1)) in
     over_comes slot slot' (code.Asks asking) old f.from new (event_by (call_in (code.Asks asking)) p.meddles (stop_at how (p.at + 1))) it
     said none fits.kept few t ends
 
 pub close_broken : (how : Breaking) (slot slot' : CodeSlot) (closing : Closing) (old new : Standing) (n : ℕ) (reply : Reply) (said : Said)
-    → slot.flight ≡ None → slot.committed < 2 ^ 63
-    → Fits old (flown slot (code.Closes closing)) → n ≡ closing_number_of closing.call
+    → slot.flight ≡ None → slot.committed < 2 ^ 63 → Fits old (flown slot (code.Closes closing)) → n ≡ closing_number_of closing.call
     → BreaksClosingAs closing.call old new (stop_at how n) reply → EndsCall new (quiet_as reply) slot slot' said
-    → Comes new (flown slot (code.Closes closing)) slot'
-    (plays (instance_in slot) (slot_in old (flown slot (code.Closes closing)))
+    → Comes new (flown slot (code.Closes closing)) slot' (plays (instance_in slot) (slot_in old (flown slot (code.Closes closing)))
     (event_by (call_in (code.Closes closing)) (next_plan old).meddles (stop_at how ((next_plan old).at + 1)))) said
 close_broken how slot slot' closing old new n reply said none few fits is breaks ends =
     let f = closing_of old slot closing fits in
@@ -229,8 +170,7 @@ close_broken how slot slot' closing old new n reply said none few fits is breaks
     let at : n ≡ p.at + 1 = is ∙ f.flies.number ∙ sym f.flies.is_next in
     let there = subst (λ (k : ℕ). BreaksClosingAs closing.call old new (stop_at how k) reply) at breaks in
     let t = there slot.header.variant (meaning_of slot.header.«module») (rising_from slot.number) (rising_from (128 + slot.number)) d f.from
-    slot.issued.items p.meddles (p.at + 1) f.flies
-    (stopped_at how (p.at + 1)) in
+    slot.issued.items p.meddles (p.at + 1) f.flies (stopped_at how (p.at + 1)) in
     over_comes slot slot' (code.Closes closing) old f.from new (event_by (call_in (code.Closes closing)) p.meddles (stop_at how (p.at + 1)))
     (quiet_as reply) said none fits.kept few t ends
 
@@ -244,8 +184,7 @@ brought_cell i (v ∷ values) rest d same = brought_cell i values rest (made i d
 seen_cell : (i : Instance) (fates : ℕ → Fate) (steps : List Step) (n : ℕ) (d : Digests)
     → cell_at i (all_made (by_digests i) d (seen_in fates steps n)) ≡ cell_at i d
 seen_cell i fates [] n d = refl
-seen_cell i fates (step ∷ steps) n d =
-    brought_cell i (fates n).brings (seen_in fates steps (n + 1)) d (seen_cell i fates steps (n + 1))
+seen_cell i fates (step ∷ steps) n d = brought_cell i (fates n).brings (seen_in fates steps (n + 1)) d (seen_cell i fates steps (n + 1))
 
 lacks_cell : (i : Instance) (d : Digests) (meddles : List Meddle) (stop : Stop) (old new : Standing) → Stands i old d
     → Lacks i d meddles stop old new → new.cell ≡ old.cell
@@ -278,20 +217,17 @@ lacks_stands slot slot' d meddles stop old new l s h n c r =
 
 -- want of memory: the call is over, and nothing was done but that it has read
 pub ask_lacks : (slot slot' : CodeSlot) (asking : Asking) (old new : Standing) (bytes request : List ℕ) (memory : Memory)
-    → bytes ≡ asking.bytes → request ≡ asking.request
-    → Fits old (flown slot (code.Asks asking))
-    → StepsAs (meaning_of slot.header.«module») asking.call old new bytes (One request) (Err memory)
-    → slot'.header ≡ slot.header → slot'.number ≡ slot.number → slot'.committed ≡ slot.committed → slot'.flight ≡ None
-    → slot'.kept ≡ slot.kept
+    → bytes ≡ asking.bytes → request ≡ asking.request → Fits old (flown slot (code.Asks asking))
+    → StepsAs (meaning_of slot.header.«module») asking.call old new bytes (One request) (Err memory) → slot'.header ≡ slot.header
+    → slot'.number ≡ slot.number → slot'.committed ≡ slot.committed → slot'.flight ≡ None → slot'.kept ≡ slot.kept
     → slot'.issued.items ≡ slot.issued.items → HasRegister new slot' → Wants old new (flown slot (code.Asks asking)) slot'
 ask_lacks slot slot' asking old new bytes request memory same-bytes same-request fits steps h n c none k issued r =
     let f = asking_of old slot asking fits in
     let i = instance_in slot in
     let d = digests_in old (flown slot (code.Asks asking)) in
     let p = next_plan old in
-    let there : StepsAs (meaning_of slot.header.«module») asking.call old new asking.bytes (One asking.request) (Err memory) =
-    subst (λ (x : List ℕ). StepsAs (meaning_of slot.header.«module») asking.call old new x (One asking.request) (Err memory)) same-bytes
-    (subst (λ (x : List ℕ). StepsAs (meaning_of slot.header.«module») asking.call old new bytes (One x) (Err memory)) same-request steps) in
+    let there = for_asked asking bytes request same-bytes same-request
+    (λ x y. StepsAs (meaning_of slot.header.«module») asking.call old new x (One y) (Err memory)) steps in
     let l : Lacks i d p.meddles (stop_behind (p.at + 1)) f.from new =
     there slot.header.variant (rising_from slot.number) (rising_from (128 + slot.number)) d f.from slot.issued.items p.meddles (p.at + 1)
     asking.offer f.flies f.offered in
@@ -317,8 +253,7 @@ ask_lacks slot slot' asking old new bytes request memory same-bytes same-request
 
 -- the key that a slot keeps is told by nothing
 pub rekeyed : (new : Standing) (it : Called) (slot slot' : CodeSlot) (keys : Unit {0}) (said : Said)
-    → EndsCall new it (record slot { keys = keys }) slot' said
-    → EndsCall new it slot slot' said
+    → EndsCall new it (record slot { keys = keys }) slot' said → EndsCall new it slot slot' said
 rekeyed new it slot slot' keys said e = record {
   header = e.header;
   number = e.number;

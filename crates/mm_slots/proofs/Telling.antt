@@ -1,38 +1,22 @@
 -- From a run over lines to what the lines of slots are answered.
-use Rattle.std.proofs.Common.{◌≡◌, ◌∙◌, ◌+◌, ◌≤◌, ◌<◌, ℕ, Bool, true, false, cond, ◌||◌, ◌==◌, List, [], ◌∷◌, ◌++◌, length, map, nat_lt, Result, Ok, Err, Option, None, Some, refl, sym, ap, subst, append-nil, arith, inl, inr, ◌⊎◌}
-use Rattle.std.specs.Prelude.{if◌then◌else◌, codes}
-use Rattle.std.specs.List.{slice_get}
-use Rattle.std.specs.Option.{option_map}
-use Rattle.std.proofs.lemmas.Bool.Decides.{nat_tests}
-use Rattle.std.proofs.lemmas.List.{append_assoc}
-use Rattle.mm_base.specs.declared.replay_fault.ReplayFault.{ReplayFault}
-use Rattle.mm_modules.specs.Modules.{meaning_of}
-use Rattle.mm_digest.specs.declared.variant.Variant.{Variant}
-use Rattle.mm_digest.specs.declared.variant.Variant.TheVariants.{Basic, Opt}
-use Rattle.mm_module.specs.Meaning.{Meaning}
-use Rattle.mm_call.specs.Standing.{instance_by}
-use Rattle.mm_schedule.specs.declared.header.Header.{Header}
+use Rattle.mm_slots.proofs.Below.{◌≡◌, ◌∙◌, ◌+◌, ◌≤◌, ◌<◌, ℕ, Bool, true, false, cond, ◌||◌, ◌==◌, List, [], ◌∷◌, ◌++◌, length, map, nat_lt}
+use Rattle.mm_slots.proofs.Below.{Ok, Err, Option, None, Some, refl, sym, ap, subst, append-nil, arith, inl, inr, ◌⊎◌, if◌then◌else◌, codes}
+use Rattle.mm_slots.proofs.Below.{slice_get, option_map, nat_tests, append_assoc, meaning_of, Variant, Basic, Opt, Meaning, instance_by}
+use Rattle.mm_slots.proofs.Below.{Header, ◌>>=◌, after_prefix, number_at, Runs, promises-kept, behind, NoneIsOver, AreEvents, none_answered}
+use Rattle.mm_slots.proofs.Below.{header_first, events_from, refused_over, ends_with, Means, rising_from, SlotEvent, answers_text}
+use Rattle.mm_slots.proofs.Below.{end_lines, event_at, SlotsRun, playing, kept_in, SlotsStage, AtFirst, AtHeads, InEvents, first_answer}
+use Rattle.mm_slots.proofs.Below.{head_answer, are_to_come, behind_heads, slots_answer, slots_closing, Row, first_row, first_rows, answers}
+use Rattle.mm_slots.proofs.Below.{met_by, after_events}
 use Rattle.mm_schedule.specs.Headers.{head_at}
-use Rattle.mm_schedule.specs.Words.{◌>>=◌, after_prefix, number_at}
-use Rattle.mm_schedule.specs.Machine.{Runs}
-use Rattle.mm_schedule.proofs.PromiseLaws.{promises-kept}
 use Rattle.mm_play.specs.declared.player.Refused.TheVariants.{Much}
-use Rattle.mm_play.specs.Events.{header_answer, behind, NoneIsOver, AreEvents}
-use Rattle.mm_play.specs.Play.{told, run, run_of}
-use Rattle.mm_play.specs.Plays.{Settles}
+use Rattle.mm_play.specs.Play.{told, run}
 use Rattle.mm_play.specs.Tells.{Answered, Finished, RefusesMuch}
-use Rattle.mm_play.proofs.Events.{none_answered, header_first, events_from, refused_over, ends_with}
-use Rattle.mm_play.proofs.Telling.{tells_by, tells_more}
-use Rattle.mm_run.specs.Held.{rising_from}
-use Rattle.mm_slots.specs.declared.event.SlotEvent.{SlotEvent}
-use Rattle.mm_slots.specs.Answers.{answers_text, end_lines}
-use Rattle.mm_slots.specs.Grammar.{first_at, event_at}
-use Rattle.mm_slots.specs.Laws.{SlotsRun}
-use Rattle.mm_slots.specs.Stage.{begun, kept_in, SlotsStage, AtFirst, AtHeads, InEvents, first_answer, head_answer, are_to_come, behind_heads, slots_answer, slots_closing}
-use Rattle.mm_slots.specs.Table.{Row, first_row, first_rows, answers, met_by, after_events}
-use Rattle.mm_slots.specs.Headline.{own_fold, AreOwn, AreContinuous, AreWithinLimits, AnswersSlots, unended, AnswersLines, AnswersAll, IsTooMuch, IsOut}
+use Rattle.mm_slots.specs.Grammar.{first_at}
+use Rattle.mm_slots.specs.Counting.{length-push}
+use Rattle.mm_slots.specs.Stage.{begun}
+use Rattle.mm_slots.specs.Headline.{own_fold, AreOwn, AreContinuous, AreWithinLimits, AnswersSlots, unended, AnswersLines, AnswersAll, IsTooMuch}
 use Rattle.mm_slots.proofs.Alone.{alone, by_place_get}
-use Rattle.mm_slots.proofs.Answering.{playing, length-by_place, takes, follows}
+use Rattle.mm_slots.proofs.Answering.{length-by_place, takes, follows}
 
 -- each slot's row at first
 first_at_place : (headers : List Header) (number : ℕ) (header : Header) → slice_get headers number ≡ Some header
@@ -102,11 +86,6 @@ heads_more count before line lines header written p is (inr e) = inr (record {
       subst (λ (x : List Header). AreEvents playing (begun x) e.others written p) (append_assoc before (header ∷ []) e.headers) e.answers;
 })
 
-length-push : (before : List Header) (header : Header) → length (before ++ header ∷ []) ≡ length before + 1
-length-push [] header = refl
-length-push (x ∷ before) header =
-    let one : length (before ++ header ∷ []) ≡ length before + 1 = length-push before header in omega (arith, one)
-
 -- by whether others are to come
 headed_behind : (count : ℕ) (before : List Header) (line : List ℕ) (lines : List (List ℕ)) (number : ℕ) (header : Header) (written : List ℕ)
     (p : SlotsStage) (more : Bool)
@@ -114,7 +93,8 @@ headed_behind : (count : ℕ) (before : List Header) (line : List ℕ) (lines : 
     → (length (before ++ header ∷ []) < count
     → run slots_answer (number + 1) (AtHeads count (before ++ header ∷ [])) lines ≡ told written (Ok p)
     → Headed count (before ++ header ∷ []) lines written p)
-    → run slots_answer (number + 1) (cond more (AtHeads count (before ++ header ∷ [])) (InEvents (begun (before ++ header ∷ [])))) lines ≡ told written (Ok p)
+    → run slots_answer (number + 1) (cond more (AtHeads count (before ++ header ∷ [])) (InEvents (begun (before ++ header ∷ [])))) lines
+    ≡ told written (Ok p)
     → Headed count before (line ∷ lines) written p
 headed_behind count before line lines number header written p true come room few is on h =
     let all = before ++ header ∷ [] in
@@ -134,13 +114,8 @@ headed_behind count before line lines number header written p false come room fe
       full = ap length (append-nil all) ∙ full;
       answers =
           subst (λ (x : List Header). AreEvents playing (begun x) lines written p) (sym (append-nil all))
-          (events_from playing takes lines (number + 1) (begun all) written p h);
+          (events_from playing slots_answer takes lines (number + 1) (begun all) written p h);
     }))
-
-heads_by : (count : ℕ) (before : List Header) (found : Option Header)
-    → head_answer count before found ≡ header_answer (λ header. before ++ header ∷ []) (behind_heads count) found
-heads_by count before None = refl
-heads_by count before (Some header) = refl
 
 headed_from : (count : ℕ) (lines : List (List ℕ)) (number : ℕ) (before : List Header) (written : List ℕ) (p : SlotsStage)
     → length before < count → count ≤ 16
@@ -156,7 +131,7 @@ headed_from count [] number before written p room few h =
     })
 headed_from count (line ∷ lines) number before written p room few h =
     let one = header_first slots_answer number (AtHeads count before) line lines written p (λ header. before ++ header ∷ [])
-    (behind_heads count) (head_at line) (heads_by count before (head_at line)) h in
+    (behind_heads count) (head_at line) refl h in
     let all = before ++ one.0 ∷ [] in
     headed_behind count before line lines number one.0 written p (are_to_come count all) refl room few one.1
     (λ fewer on. headed_from count lines (number + 1) all written p fewer few on) one.2
@@ -172,8 +147,7 @@ counted_by_test number count false is h =
     subst (λ (n : ℕ). (0 < n) × (n ≤ 16)) same both
 
 counted_word : (found : Option ℕ) (count : ℕ)
-    → (found >>= λ number. if number == 0 || nat_lt 16 number then None else Some number) ≡ Some count
-    → (0 < count) × (count ≤ 16)
+    → (found >>= λ number. if number == 0 || nat_lt 16 number then None else Some number) ≡ Some count → (0 < count) × (count ≤ 16)
 counted_word None count h = cc
 counted_word (Some number) count h = counted_by_test number count (number == 0 || nat_lt 16 number) refl h
 
@@ -199,16 +173,12 @@ record Opened (lines : List (List ℕ)) (written : List ℕ) (p : SlotsStage) : 
 abbrev Begun : List (List ℕ) → List ℕ → SlotsStage → Type 0
 Begun lines written p = ((lines ≡ []) × (written ≡ []) × (p ≡ AtFirst)) ⊎ Opened lines written p
 
-first_by : (found : Option ℕ) → first_answer found ≡ header_answer (λ count. count) (λ count. AtHeads count []) found
-first_by None = refl
-first_by (Some count) = refl
-
 opened : (lines : List (List ℕ)) (written : List ℕ) (p : SlotsStage) → run slots_answer 1 AtFirst lines ≡ told written (Ok p)
     → Begun lines written p
 opened [] written p h = let none = none_answered slots_answer 1 AtFirst written p h in inl (refl, none.0, none.1)
 opened (first ∷ others) written p h =
     let one = header_first slots_answer 1 AtFirst first others written p (λ count. count) (λ count. AtHeads count []) (first_at first)
-    (first_by (first_at first)) h in
+    refl h in
     let few = few_slots first one.0 one.1 in
     inr (record {
       first = first;
@@ -237,14 +207,10 @@ within_limits headers others within before line after events split read over =
     (elim over [ inl h ↦ inl (omega (arith, h)) | inr h ↦ inr (omega (arith, h, kept)) ])
 
 -- these lines were answered: what was written, and what any last lines add
-answers_slots : SlotsRun
-    → (first : List ℕ) (heads others : List (List ℕ)) (headers : List Header) (lines : List (List ℕ)) (said written : List ℕ)
-    (p : SlotsStage)
-    (last : List Row → List ℕ) → lines ≡ first ∷ heads ++ others → first_at first ≡ Some (length headers)
-    → map head_at heads ≡ map Some headers
-    → (a : AreEvents playing (begun headers) others said p)
-    → written ≡ said ++ last (behind playing (begun headers) others a.events).rows
-    → AnswersSlots lines written last
+answers_slots : SlotsRun → (first : List ℕ) (heads others : List (List ℕ)) (headers : List Header) (lines : List (List ℕ))
+    (said written : List ℕ) (p : SlotsStage) (last : List Row → List ℕ) → lines ≡ first ∷ heads ++ others
+    → first_at first ≡ Some (length headers) → map head_at heads ≡ map Some headers → (a : AreEvents playing (begun headers) others said p)
+    → written ≡ said ++ last (behind playing (begun headers) others a.events).rows → AnswersSlots lines written last
 answers_slots law first heads others headers lines said written p last split counted headed a whole =
     let f = follows (event_at (length (first_rows headers))) (begun headers) others a.events a.read in
     record {
@@ -293,15 +259,13 @@ answers_lines law lines written a = by_begun (opened lines written a.0 a.1)
 
 -- the last lines need all header lines
 closes_none : (p : SlotsStage) (last : List ℕ) → p ≡ AtFirst → slots_closing p ≡ Some last → ⊥
-closes_none AtFirst last is h = cc
 closes_none (AtHeads count headers) last is h = cc
-closes_none (InEvents r) last is h = cc
+closes_none _ last is h = cc
 
 closes_heads : (p : SlotsStage) (last : List ℕ) (count : ℕ) (headers : List Header) → p ≡ AtHeads count headers
     → slots_closing p ≡ Some last → ⊥
-closes_heads AtFirst last count headers is h = cc
 closes_heads (AtHeads n hs) last count headers is h = cc
-closes_heads (InEvents r) last count headers is h = cc
+closes_heads _ last count headers is h = cc
 
 answers_all : SlotsRun → (lines : List (List ℕ)) (written : List ℕ) → Finished slots_answer slots_closing AtFirst lines written
     → AnswersAll lines written
@@ -312,10 +276,9 @@ answers_all law lines written f = by_begun (opened lines f.said f.next f.ran)
     by_headed o (inr e) =
         let stands = behind playing (begun e.headers) e.others e.answers.events in
         answers_slots law o.first e.heads e.others e.headers lines f.said written f.next (end_lines 0)
-        (o.split ∙ ap (λ (x : List (List ℕ)). o.first ∷ x) e.split)
-        (o.counted ∙ ap Some (sym e.full)) e.headed e.answers
+        (o.split ∙ ap (λ (x : List (List ℕ)). o.first ∷ x) e.split) (o.counted ∙ ap Some (sym e.full)) e.headed e.answers
         (f.whole ∙ ap (λ (l : List ℕ). f.said ++ l)
-        (ends_with playing.among slots_closing (λ r. end_lines 0 r.rows) stands f.next f.last refl e.answers.stands f.closed))
+        (ends_with playing.among slots_closing (λ r. end_lines 0 r.rows) (λ r. refl) stands f.next f.last e.answers.stands f.closed))
 
     by_begun : Begun lines f.said f.next → AnswersAll lines written
     by_begun (inl none) = absurd (closes_none f.next f.last none.2 f.closed)
@@ -354,7 +317,7 @@ too_much done rest m = by_begun (opened done m.said m.next m.ran)
           headed = e.headed;
           read = read;
           follows = m.follows;
-          over = elim (refused_over playing takes (begun e.headers) e.others m.said m.next m.line a m.refused) [
+          over = elim (refused_over playing slots_answer takes (begun e.headers) e.others m.said m.next m.line a m.refused) [
             | inl many ↦ inl (omega (arith, many))
             | inr large ↦ inr (omega (arith, large, kept))
           ];
@@ -364,11 +327,6 @@ too_much done rest m = by_begun (opened done m.said m.next m.ran)
     by_begun (inl none) = absurd (first_refuses (first_at m.line) (ap (λ (p : SlotsStage). slots_answer p m.line) (sym none.2) ∙ m.refused))
     by_begun (inr o) = by_headed o o.headed
 
--- What is out tells the events.
-pub tells : {T : Type 0} → SlotsRun → (next : SlotsStage) (left : Option (List ℕ)) (taken sent : List ℕ) (result : Result T ReplayFault)
-    → Settles (run slots_answer 1 AtFirst) (run_of slots_answer slots_closing AtFirst) next left taken sent result
-    → IsOut left taken sent result
-tells law next left taken sent result s =
-    tells_more (Answered slots_answer AtFirst) AnswersLines (Finished slots_answer slots_closing AtFirst) AnswersAll
-    (RefusesMuch slots_answer AtFirst) IsTooMuch left taken sent result (answers_lines law) (answers_all law) too_much
-    (tells_by slots_answer slots_closing AtFirst next left taken sent result s)
+-- what the answers to the lines of slots mean
+pub means : SlotsRun → Means slots_answer slots_closing AtFirst AnswersLines AnswersAll IsTooMuch
+means law = record { lines = answers_lines law; whole = answers_all law; turn = too_much }

@@ -1,21 +1,10 @@
 -- The replies to calls that are said for a slot are those that its fold gives.
-use Rattle.std.proofs.Common.{◌≡◌, ◌∙◌, ◌+◌, ℕ, Bool, true, false, List, [], ◌∷◌, ◌++◌, Option, None, Some, refl, sym, ap₂}
-use Rattle.std.specs.Prelude.{if◌then◌else◌}
-use Rattle.std.specs.List.{flat_map}
-use Rattle.std.proofs.lemmas.Grind.{flat_map-append}
-use Rattle.mm_module.specs.Batch.{Batch, One}
-use Rattle.mm_model.specs.Instance.{Instance}
-use Rattle.mm_model.specs.Long.{is_long}
+use Rattle.mm_slots.proofs.Below.{◌≡◌, ◌∙◌, ◌+◌, ℕ, Bool, true, false, List, [], ◌∷◌, ◌++◌, Option, None, Some, refl, sym, ap₂}
+use Rattle.mm_slots.proofs.Below.{if◌then◌else◌, flat_map, flat_map-append, Batch, One, Instance, is_long, offered_bytes, Ask, Offer, Reply}
+use Rattle.mm_slots.proofs.Below.{is_nothing, Action, Begun, Going, Slot, Flight, Asks, Turned, Met, Acts, Loses, acted_by, begun}
+use Rattle.mm_slots.proofs.Below.{beginning, flying, folded, followed_by, merely, outcome_in, plays, so_far, stepped, turned}
 use Rattle.mm_platform.specs.declared.plan.Stop.TheVariants as stop
-use Rattle.mm_run.specs.Offered.{offered_bytes}
-use Rattle.mm_schedule.specs.Events.{Ask}
-use Rattle.mm_schedule.specs.declared.event.Offer.{Offer}
-use Rattle.mm_schedule.specs.declared.reply.Reply.{Reply}
-use Rattle.mm_steps.specs.Stopping.{is_nothing}
-use Rattle.mm_slots.specs.declared.event.Action.{Action}
 use Rattle.mm_slots.specs.declared.event.Action.TheVariants as action
-use Rattle.mm_slots.specs.declared.said.Said.TheVariants.{Begun, Going}
-use Rattle.mm_slots.specs.Slot.{Slot, Flight, Asks, Turned, Met, Acts, Loses, acted_by, begun, beginning, flying, folded, followed_by, merely, outcome_in, plays, so_far, stepped, turned}
 use Rattle.mm_slots.specs.Tellings.{SlotsTellReplies, said_to_call, to_call}
 
 abbrev TellsReplies : Turned → Type 0
@@ -35,21 +24,12 @@ begun_tells i slot offer batch (Some bytes) =
 stepped_tells : (i : Instance) (slot : Slot) (flight : Flight) → TellsReplies (stepped i slot flight)
 stepped_tells i slot flight =
     by_test (is_nothing (outcome_in i slot (so_far flight)).reply)
-    (merely (flying slot (record flight { next = flight.next + 1 })) (Going (flight.next + 1)))
-    (plays i slot (so_far flight)) refl refl
+    (merely (flying slot (record flight { next = flight.next + 1 })) (Going (flight.next + 1))) (plays i slot (so_far flight)) refl refl
 
 acted_tells : (i : Instance) (slot : Slot) (flight : Option Flight) (what : Action) → TellsReplies (acted_by i slot flight what)
-acted_tells i slot None (action.Begin offer request) =
-    begun_tells i slot offer (One request) (offered_bytes slot.issued offer)
-acted_tells i slot None action.Close = refl
-acted_tells i slot None action.Step = refl
-acted_tells i slot None (action.Break how) = refl
-acted_tells i slot None (action.Extend value) = refl
-acted_tells i slot (Some flight) (action.Begin offer request) = refl
-acted_tells i slot (Some flight) action.Close = refl
+acted_tells i slot None (action.Begin offer request) = begun_tells i slot offer (One request) (offered_bytes slot.issued offer)
 acted_tells i slot (Some flight) action.Step = stepped_tells i slot flight
-acted_tells i slot (Some flight) (action.Break how) = refl
-acted_tells i slot (Some flight) (action.Extend value) = refl
+acted_tells i slot _ _ = refl
 
 turned_tells : (i : Instance) (slot : Slot) (met : Met) → TellsReplies (turned i slot met)
 turned_tells i slot (Acts what) = acted_tells i slot slot.flight what
@@ -57,8 +37,7 @@ turned_tells i slot Loses = refl
 
 both_tell : (first rest : Turned) → TellsReplies first → TellsReplies rest → TellsReplies (followed_by first rest)
 both_tell first rest one other =
-    flat_map-append said_to_call first.said rest.said
-    ∙ ap₂ (λ (a b : List Reply). a ++ b) one other
+    flat_map-append said_to_call first.said rest.said ∙ ap₂ (λ (a b : List Reply). a ++ b) one other
     ∙ sym (flat_map-append to_call first.replies rest.replies)
 
 pub tells_replies : SlotsTellReplies

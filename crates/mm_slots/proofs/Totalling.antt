@@ -1,24 +1,14 @@
 -- What the slots in code count is what the slots' rows say.
-use Rattle.std.proofs.Common.{◌≡◌, ◌∙◌, ◌+◌, ◌*◌, ◌^◌, ◌≤◌, ◌<◌, ℕ, List, [], ◌∷◌, ◌++◌, length, take, get_or, refl, sym, ap, append-nil, arith}
-use Rattle.std.proofs.lemmas.List.{append_assoc, length-take-le, take_more}
+use Rattle.mm_slots.proofs.Below.{◌≡◌, ◌∙◌, ◌+◌, ◌*◌, ◌^◌, ◌≤◌, ◌<◌, ℕ, List, [], ◌∷◌, ◌++◌, length, take, get_or, refl, sym, ap}
+use Rattle.mm_slots.proofs.Below.{append-nil, arith, append_assoc, length-take-le, take_more, sum_by-cons, most_events, most_members}
+use Rattle.mm_slots.proofs.Below.{Standing, CodeSlot, slot_end_line, end_lines, within_64, committed_in, issued_in, rows_in, AllFit}
+use Rattle.mm_slots.proofs.Below.{FitsWithin, KeepsAll, Running, kept_in, Row, bytes_in, requests_in, snapshots_in, AreCounted, ends_from}
 use Rattle.std.proofs.lemmas.List.Elements.{All-cons, All-nil}
-use Rattle.std.proofs.lemmas.List.Sums.{sum_by-cons}
-use Rattle.mm_base.specs.Limits.{most_events, most_members}
-use Rattle.mm_platform.specs.Standing.{Standing}
-use Rattle.mm_slots.specs.declared.slot.Slot.{Slot as CodeSlot}
-use Rattle.mm_slots.specs.Answers.{slot_end_line, end_lines}
-use Rattle.mm_slots.specs.Held.{within_64}
-use Rattle.mm_slots.specs.Progress.{committed_in, issued_in}
-use Rattle.mm_slots.specs.Rows.{rows_in, AllFit, FitsWithin, KeepsAll}
-use Rattle.mm_slots.specs.Stage.{Running, kept_in}
-use Rattle.mm_slots.specs.Table.{Row}
-use Rattle.mm_slots.specs.Totals.{bytes_in, requests_in, snapshots_in, AreCounted, ends_from}
 use Rattle.mm_slots.proofs.Rowing.{all_more}
 
 -- the bytes of the snapshots
 bytes_more : (events : ℕ) (standing : Standing) (slot : CodeSlot) (standings : List Standing) (slots : List CodeSlot)
-    → FitsWithin events standing slot
-    → within_64 (bytes_in slots) ≡ within_64 (kept_in (rows_in standings slots))
+    → FitsWithin events standing slot → within_64 (bytes_in slots) ≡ within_64 (kept_in (rows_in standings slots))
     → within_64 (bytes_in (slot ∷ slots)) ≡ within_64 (kept_in (rows_in (standing ∷ standings) (slot ∷ slots)))
 bytes_more events standing slot standings slots f rest =
     let kept = f.fits.kept in
@@ -78,10 +68,8 @@ abbrev runs : List Row → ℕ → ℕ → Running
 runs rows events read = record { rows = rows; events = events; read = read }
 
 pub reports_requests : (events read : ℕ) (standings : List Standing) (slots : List CodeSlot) (r : Running) (total : ℕ)
-    (lent : List CodeSlot)
-    → runs (rows_in standings slots) events read ≡ r → KeepsAll standings slots events read → lent ≡ slots
-    → total ≡ within_64 (requests_in lent)
-    → total ≡ committed_in r.rows
+    (lent : List CodeSlot) → runs (rows_in standings slots) events read ≡ r → KeepsAll standings slots events read → lent ≡ slots
+    → total ≡ within_64 (requests_in lent) → total ≡ committed_in r.rows
 reports_requests events read standings slots r total lent view k same is =
     let fit = k.fit in
     let few = requests_few standings slots (all_more events most_events standings slots k.few fit) in
@@ -90,10 +78,8 @@ reports_requests events read standings slots r total lent view k same is =
     all ∙ requests_are events standings slots fit ∙ ap (λ (x : Running). committed_in x.rows) view
 
 pub reports_snapshots : (events read : ℕ) (standings : List Standing) (slots : List CodeSlot) (r : Running) (total : ℕ)
-    (lent : List CodeSlot)
-    → runs (rows_in standings slots) events read ≡ r → KeepsAll standings slots events read → lent ≡ slots
-    → total ≡ within_64 (snapshots_in lent)
-    → total ≡ issued_in r.rows
+    (lent : List CodeSlot) → runs (rows_in standings slots) events read ≡ r → KeepsAll standings slots events read → lent ≡ slots
+    → total ≡ within_64 (snapshots_in lent) → total ≡ issued_in r.rows
 reports_snapshots events read standings slots r total lent view k same is =
     let fit = k.fit in
     let few = snapshots_few standings slots (all_more events most_events standings slots k.few fit) in
@@ -119,22 +105,19 @@ ends_are events number (standing ∷ standings) (slot ∷ slots) fit =
     ap (λ (rest : List ℕ). slot_end_line number slot.committed (length slot.issued.items) ++ rest)
     (ends_are events (number + 1) standings slots fit.1)
 
-ends_more : (number : ℕ) (slots : List CodeSlot) (slot : CodeSlot)
-    → ends_from number (slots ++ slot ∷ [])
+ends_more : (number : ℕ) (slots : List CodeSlot) (slot : CodeSlot) → ends_from number (slots ++ slot ∷ [])
     ≡ ends_from number slots ++ slot_end_line (number + length slots) slot.committed (length slot.issued.items)
 ends_more number [] slot = ap (λ (n : ℕ). slot_end_line n slot.committed (length slot.issued.items) ++ []) (omega arith) ∙ append-nil _
 ends_more number (first ∷ slots) slot =
     let line = slot_end_line number first.committed (length first.issued.items) in
     let same : number + 1 + length slots ≡ number + length (first ∷ slots) = omega arith in
-    ap (λ (rest : List ℕ). line ++ rest) (ends_more (number + 1) slots slot)
-    ∙ sym (append_assoc line (ends_from (number + 1) slots)
+    ap (λ (rest : List ℕ). line ++ rest) (ends_more (number + 1) slots slot) ∙ sym (append_assoc line (ends_from (number + 1) slots)
     (slot_end_line (number + 1 + length slots) slot.committed (length slot.issued.items)))
     ∙ ap (λ (n : ℕ). line ++ ends_from (number + 1) slots ++ slot_end_line n slot.committed (length slot.issued.items)) same
 
 pub ends_on : (slots : List CodeSlot) (n number : ℕ) (d found : CodeSlot) (start before after : List ℕ) → n < length slots → number ≡ n
-    → found ≡ get_or slots n d
-    → before ≡ start ++ ends_from 0 (take n slots) → after ≡ before ++ slot_end_line number found.committed (length found.issued.items)
-    → after ≡ start ++ ends_from 0 (take (n + 1) slots)
+    → found ≡ get_or slots n d → before ≡ start ++ ends_from 0 (take n slots)
+    → after ≡ before ++ slot_end_line number found.committed (length found.issued.items) → after ≡ start ++ ends_from 0 (take (n + 1) slots)
 ends_on slots n number d found start before after few is here had ends =
     let slot = get_or slots n d in
     let e : after ≡ before ++ slot_end_line number slot.committed (length slot.issued.items) =

@@ -1,12 +1,10 @@
 -- What the lines of slots are answered: the whole run, and not its lines one by one.
-use Rattle.std.specs.Prelude.{◌≡◌, ◌≤◌, ◌<◌, ◌+◌, ℕ, List, [], ◌∷◌, ◌++◌, length, map, Option, Some, Result, slice_get, ◌⊎◌}
+use Rattle.std.specs.Prelude.{◌≡◌, ◌≤◌, ◌<◌, ◌+◌, ℕ, List, [], ◌∷◌, ◌++◌, length, map, Some, slice_get, ◌⊎◌}
 use Rattle.std.specs.List.{sum_by}
-use Rattle.mm_base.specs.declared.replay_fault.ReplayFault.{ReplayFault}
 use Rattle.mm_base.specs.Limits.{most_events}
 use Rattle.mm_schedule.specs.declared.header.Header.{Header}
 use Rattle.mm_schedule.specs.Headers.{head_at}
 use Rattle.mm_schedule.specs.Promises.{Promises}
-use Rattle.mm_play.specs.Tells.{TellsBy}
 use Rattle.mm_run.specs.Premises.{IsClearRun, IsGenuineRun}
 use Rattle.mm_replay.specs.Schedule.{most_kept}
 use Rattle.mm_slots.specs.declared.event.SlotEvent.{SlotEvent}
@@ -120,8 +118,3 @@ pub record IsTooMuch (done rest : List (List ℕ)) : Type 0 where
   pub read : map (event_at (length headers)) others ≡ map Some events
   pub follows : rest ≡ line ∷ more
   pub over : IsOver headers others events line
-
--- What is out, by how a run of slots ended, where these bytes of the input were taken and those
--- written.
-abbrev pub IsOut : {T : Type 0} → Option (List ℕ) → List ℕ → List ℕ → Result T ReplayFault → Type 0
-IsOut left taken sent result = TellsBy AnswersLines AnswersAll IsTooMuch left taken sent result

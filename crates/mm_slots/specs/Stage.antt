@@ -1,11 +1,11 @@
 -- Slots line by line: the first line, a header line for each slot, and then the events.
-use Rattle.std.specs.Prelude.{ℕ, ◌+◌, ◌-◌, Bool, ◌||◌, nat_le, nat_lt, min, List, [], ◌∷◌, ◌++◌, length, Option, None, Some, Result, Ok, Err, if◌then◌else◌}
+use Rattle.std.specs.Prelude.{ℕ, ◌+◌, ◌-◌, Bool, nat_lt, min, List, [], ◌∷◌, ◌++◌, length, Option, None, Some, Result, if◌then◌else◌}
 use Rattle.std.specs.List.{sum_by}
 use Rattle.mm_base.specs.Limits.{most_events}
 use Rattle.mm_schedule.specs.declared.header.Header.{Header}
 use Rattle.mm_schedule.specs.Headers.{head_at}
+use Rattle.mm_play.specs.Events.{EventPlayer, is_over, event_answer as answer_by, header_answer as begins_by}
 use Rattle.mm_play.specs.declared.player.Refused.{Refused}
-use Rattle.mm_play.specs.declared.player.Refused.TheVariants.{Bad, Much}
 use Rattle.mm_replay.specs.Schedule.{most_kept}
 use Rattle.mm_slots.specs.declared.event.SlotEvent.{SlotEvent}
 use Rattle.mm_slots.specs.Answers.{answers_text, end_lines}
@@ -26,11 +26,6 @@ abbrev pub kept_in : List Row → ℕ
 kept_in [] = 0
 kept_in (row ∷ rows) = sum_by length row.slot.issued + kept_in rows
 
--- one event more would be too many, or its line too many bytes
-abbrev pub is_too_much : Running → List ℕ → Bool
-is_too_much r line =
-    nat_le most_events r.events || nat_lt most_kept (r.read + length line + kept_in r.rows)
-
 abbrev pub after_line : Running → List ℕ → SlotEvent → Running
 after_line r line event =
     record { rows = after_event r.rows event; events = r.events + 1; read = r.read + length line }
@@ -43,8 +38,7 @@ pub data SlotsStage : Type 0 where
 
 -- the first line names the number of slots
 abbrev pub first_answer : Option ℕ → Result (List ℕ × SlotsStage) Refused
-first_answer None = Err Bad
-first_answer (Some count) = Ok ([], AtHeads count [])
+first_answer found = begins_by (λ count. count) (λ count. AtHeads count []) found
 
 -- behind one more header line others are to come, of 16 at most
 abbrev pub are_to_come : ℕ → List Header → Bool
@@ -55,14 +49,28 @@ behind_heads count headers =
     if are_to_come count headers then AtHeads count headers else InEvents (begun headers)
 
 abbrev pub head_answer : ℕ → List Header → Option Header → Result (List ℕ × SlotsStage) Refused
-head_answer count headers None = Err Bad
-head_answer count headers (Some header) = Ok ([], behind_heads count (headers ++ header ∷ []))
+head_answer count headers found =
+    begins_by (λ header. headers ++ header ∷ []) (behind_heads count) found
+
+-- what is done with events
+abbrev pub playing : EventPlayer SlotEvent Running SlotsStage
+playing = record {
+  among = λ r. InEvents r;
+  event_in = λ r. event_at (length r.rows);
+  reply = λ r event. answers_text (answers_to r.rows event);
+  after = after_line;
+  events = λ r. r.events;
+  bytes = λ r. r.read;
+  kept = λ r. kept_in r.rows;
+  room = most_kept;
+}
+
+-- one event more would be too many, or its line too many bytes
+abbrev pub is_too_much : Running → List ℕ → Bool
+is_too_much r line = is_over playing r line
 
 abbrev pub event_answer : Running → List ℕ → Option SlotEvent → Result (List ℕ × SlotsStage) Refused
-event_answer r line None = Err Bad
-event_answer r line (Some event) =
-    if is_too_much r line then Err Much
-    else Ok (answers_text (answers_to r.rows event), InEvents (after_line r line event))
+event_answer r line found = answer_by playing r line found
 
 -- the reply to a line
 abbrev pub slots_answer : SlotsStage → List ℕ → Result (List ℕ × SlotsStage) Refused

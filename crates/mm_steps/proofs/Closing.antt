@@ -1,24 +1,15 @@
 -- The next step of a checkpoint, and a step that breaks it off.
-use Rattle.std.proofs.Common.{◌≡◌, ℕ, ◌+◌, ◌<◌, ◌≤◌, Bool, true, false, ◌&&◌, List, Option, None, Some, Result, Ok, Err, refl, sym, ap, ◌∙◌, subst, arith}
-use Rattle.std.specs.Prelude.{◌==◌}
-use Rattle.std.specs.Option.{option_map}
-use Rattle.mm_base.specs.Faults.{counted}
-use Rattle.mm_digest.specs.declared.variant.Variant.{Variant}
-use Rattle.mm_platform.specs.declared.fault.StepFault.TheVariants.{Failed}
-use Rattle.mm_platform.specs.declared.plan.Meddle.{Meddle}
-use Rattle.mm_platform.specs.declared.plan.Stop.{Stop}
-use Rattle.mm_platform.specs.declared.plan.Stop.TheVariants.{Quiet, Fail}
-use Rattle.mm_platform.specs.Standing.{Plan, Standing}
-use Rattle.mm_platform.specs.Memory.{stopping}
-use Rattle.mm_platform.specs.Told.{quiet_plan, step_made}
-use Rattle.mm_module.specs.Meaning.{Meaning}
-use Rattle.mm_model.specs.Moves.{Digests}
-use Rattle.mm_call.specs.Standing.{instance_by}
+use Rattle.mm_steps.proofs.Below.{◌≡◌, ℕ, ◌+◌, ◌<◌, ◌≤◌, Bool, true, false, ◌&&◌, List, Option, None, Some, Result, Ok, Err, refl, sym, ap}
+use Rattle.mm_steps.proofs.Below.{◌∙◌, subst, arith, ◌==◌, option_map, counted, Variant, Failed, Meddle, Stop, Quiet, Fail, Plan, Standing}
+use Rattle.mm_steps.proofs.Below.{stopping, quiet_plan, step_made, Meaning, Digests, instance_by, CheckpointStage, plan_by, under}
+use Rattle.mm_steps.proofs.Below.{closing_replanned, closing_moves, closing_then, closing_done, closing_refused, closing_fails}
+use Rattle.mm_steps.proofs.Below.{closing_faultless, goes_on, stopped_step, closes_at, SettlesPlan, told_closing, stops_in, Came, quiet_as}
+use Rattle.mm_steps.proofs.Below.{checks_planned, is_nothing, stop_behind, checks_whole, checks_rest, ClosesInFlight, closed_so}
+use Rattle.mm_steps.proofs.Below.{SteppedClosingTo, ClosesAs}
 use Rattle.mm_opt.specs.declared.segment.Checkpointed.{Checkpointed}
 use Rattle.mm_opt.specs.declared.segment.Checkpointed.TheVariants as checkpointed
 use Rattle.mm_opt.specs.declared.segment.CheckpointRefusal.{CheckpointRefusal}
 use Rattle.mm_opt.specs.declared.segment.CheckpointRefusal.TheVariants as refusal
-use Rattle.mm_opt.specs.declared.stage.CheckpointStage.{CheckpointStage}
 use Rattle.mm_opt.specs.declared.stage.CheckpointStage.TheVariants as stage
 use Rattle.mm_opt.specs.declared.closing.CheckpointTurn.{CheckpointTurn}
 use Rattle.mm_opt.specs.declared.closing.CheckpointTurn.TheVariants as turn
@@ -28,15 +19,7 @@ use Rattle.mm_opt.specs.ChecksOn.{ChecksOn}
 use Rattle.mm_schedule.specs.declared.reply.Reply.{Reply}
 use Rattle.mm_schedule.specs.declared.reply.Way.TheVariants as way
 use Rattle.mm_run.specs.FoldsWords.{stopped_reply}
-use Rattle.mm_flight.specs.InFlight.{plan_by, under}
-use Rattle.mm_flight.proofs.ClosingTurning.{closing_replanned, closing_moves, closing_then, closing_done, closing_refused, closing_fails, closing_faultless}
-use Rattle.mm_flight.proofs.Flying.{goes_on}
-use Rattle.mm_world.specs.Calls.{stopped_step, closes_at, SettlesPlan, told_closing, stops_in}
-use Rattle.mm_world.specs.Asks.{Came, quiet_as}
-use Rattle.mm_world.proofs.Checking.{checks_planned}
 use Rattle.mm_steps.specs.declared.closings.SteppedClosing.TheVariants.{Going, Over}
-use Rattle.mm_steps.specs.Stopping.{is_nothing, stop_behind}
-use Rattle.mm_steps.specs.Closing.{checks_whole, checks_rest, ClosesInFlight, closed_so, SteppedClosingTo, ClosesAs}
 use Rattle.mm_steps.proofs.Stopping.{goes_as, fails_next, behind, replans_behind, settled_under}
 
 abbrev Said : Type 0
@@ -44,12 +27,11 @@ Said = Result Checkpointed CheckpointRefusal
 
 -- what a checkpoint came to that was made whole by what ended it
 comes : (variant : Variant) (meaning : Meaning) (key barrier : List ℕ) (d : Digests) (from : Standing) (call : CheckpointStage)
-    (now : Standing) (meddles : List Meddle) (next : ℕ)
-    → (f : ClosesInFlight variant meaning key barrier d from call now meddles next) → (stop : Stop) (mid new : Standing) (ended : Said)
-    → f.made < stopped_step stop → FinishesClosing call (under (plan_by stop meddles) f.made now) mid ended
-    → SettlesPlan stop (stops_in ended) mid new → (issued : List (List ℕ))
-    → Came (instance_by variant meaning key barrier) (closed_so (instance_by variant meaning key barrier) d issued meddles stop) d.count
-    issued from new (quiet_as (told_closing stop ended))
+    (now : Standing) (meddles : List Meddle) (next : ℕ) → (f : ClosesInFlight variant meaning key barrier d from call now meddles next)
+    → (stop : Stop) (mid new : Standing) (ended : Said) → f.made < stopped_step stop
+    → FinishesClosing call (under (plan_by stop meddles) f.made now) mid ended → SettlesPlan stop (stops_in ended) mid new
+    → (issued : List (List ℕ)) → Came (instance_by variant meaning key barrier) (closed_so (instance_by variant meaning key barrier) d
+    issued meddles stop) d.count issued from new (quiet_as (told_closing stop ended))
 comes variant meaning key barrier d from call now meddles next f stop mid new ended later finishes settles issued =
     let checks : ChecksOn (under (plan_by stop meddles) 0 from) mid ended = f.flies.joins (plan_by stop meddles)
     (goes_as stop meddles f.made later) mid ended finishes in
@@ -57,84 +39,66 @@ comes variant meaning key barrier d from call now meddles next f stop mid new en
 
 -- a checkpoint that no device's fault broke off comes to something
 something : (stop : Stop) (ended : Said) → closing_fault_in ended ≡ None → is_nothing (told_closing stop ended) ≡ false
-something stop (Ok checkpointed.Done) none = refl
-something stop (Ok checkpointed.NoSegment) none = refl
-something stop (Err refusal.Lost) none = refl
-something stop (Err refusal.Kind) none = refl
-something stop (Err refusal.Blank) none = refl
-something stop (Err refusal.Cell) none = refl
 something stop (Err (refusal.Device fault)) none = let clash : Some fault ≡ None = none in absurd (cc)
+something stop (Ok checkpointed.Done) none = refl
+something stop _ none = refl
 
--- a turn that is its last
-
-over_to : (variant : Variant) (meaning : Meaning) (key barrier : List ℕ) (d : Digests) (from : Standing) (issued : List (List ℕ))
-    (call : CheckpointStage) (now mid : Standing) (meddles : List Meddle) (next : ℕ) (new : Standing)
-    (ended : Said) (said : Reply) → (f : ClosesInFlight variant meaning key barrier d from call now meddles next)
-    → closing_fault_in ended ≡ None
-    → FinishesClosing call (under (behind meddles f.made) f.made now) (under (behind meddles f.made) (counted f.made) mid) ended
-    → ClosesAs (stop_behind next) ended mid new said → SteppedClosingTo variant meaning key barrier d from issued meddles next new
-    (Over said)
-over_to variant meaning key barrier d from issued call now mid meddles next new ended said f none finishes e =
-    let i = instance_by variant meaning key barrier in
-    let made = f.made in
-    let stop = stop_behind (made + 1) in
-    let settles = settled_under stop (stops_in ended) (behind meddles made) (counted made) mid new
-    (subst (λ (k : ℕ). SettlesPlan (stop_behind k) (stops_in ended) mid new) f.is_next e.settles) in
-    let came = comes variant meaning key barrier d from call now meddles next f stop (under (behind meddles made) (counted made) mid) new
-    ended (omega arith) finishes settles issued in
-    let back = subst (λ (k : ℕ). Came i (closed_so i d issued meddles (stop_behind k)) d.count issued from new
-    (quiet_as (told_closing (stop_behind k) ended))) (sym f.is_next) came in
-    let so : Came i (closed_so i d issued meddles (stop_behind next)) d.count issued from new (quiet_as said) =
-    subst (λ (x : Reply). Came i (closed_so i d issued meddles (stop_behind next)) d.count issued from new (quiet_as x)) (sym e.told)
-    back in
-    (so, ap (λ x. is_nothing x) (sym back.reply) ∙ something (stop_behind next) ended none)
-
-turned_under : (call : CheckpointStage) (now mid : Standing) (meddles : List Meddle) (made : ℕ) (turned : CheckpointTurn)
-    → now.is_on ≡ true → now.plan ≡ Some (record (plan_by Quiet meddles) { at = made })
-    → made < 255 → ClosingTurns call now mid turned → ClosingTurns call (under (behind meddles made) made now)
-    (under (behind meddles made) (counted made) mid) turned
+turned_under : (call : CheckpointStage) (now mid : Standing) (meddles : List Meddle) (made : ℕ) (turned : CheckpointTurn) → now.is_on ≡ true
+    → now.plan ≡ Some (record (plan_by Quiet meddles) { at = made }) → made < 255 → ClosingTurns call now mid turned
+    → ClosingTurns call (under (behind meddles made) made now) (under (behind meddles made) (counted made) mid) turned
 turned_under call now mid meddles made turned on planned few t =
     closing_replanned call now mid turned (behind meddles made) (plan_by Quiet meddles) made
     (replans_behind now meddles made on planned few) t
 
-pub done_to : (variant : Variant) (meaning : Meaning) (key barrier : List ℕ) (d : Digests) (from : Standing) (issued : List (List ℕ))
-    (call : CheckpointStage) (now mid : Standing) (meddles : List Meddle) (next : ℕ) (new : Standing)
-    (number : ℕ) (it : Checkpointed) (turned : CheckpointTurn) (said : Reply)
-    → ClosesInFlight variant meaning key barrier d from call now meddles next → number ≡ closing_number_of call
-    → ClosingTurns call now mid turned → turned ≡ turn.Done it
-    → ClosesAs (stop_behind number) (Ok it) mid new said → SteppedClosingTo variant meaning key barrier d from issued meddles next new
-    (Over said)
-done_to variant meaning key barrier d from issued call now mid meddles next new number it turned said f at t e ends =
-    let made = f.made in
-    let u = turned_under call now mid meddles made (turn.Done it) f.flies.is_on f.flies.planned f.flies.few
-    (subst (λ (x : CheckpointTurn). ClosingTurns call now mid x) e t) in
-    over_to variant meaning key barrier d from issued call now mid meddles next new (Ok it) said f refl
-    (closing_done call (under (behind meddles made) made now) (under (behind meddles made) (counted made) mid) it u)
-    (subst (λ (k : ℕ). ClosesAs (stop_behind k) (Ok it) mid new said) (at ∙ f.number ∙ sym f.is_next) ends)
+module _ (variant : Variant) (meaning : Meaning) (key barrier : List ℕ) (d : Digests) (from : Standing) (issued : List (List ℕ))
+    (call : CheckpointStage) (now mid : Standing) (meddles : List Meddle) where
+  -- a turn that is its last
 
-pub refused_to : (variant : Variant) (meaning : Meaning) (key barrier : List ℕ) (d : Digests) (from : Standing) (issued : List (List ℕ))
-    (call : CheckpointStage) (now mid : Standing) (meddles : List Meddle) (next : ℕ) (new : Standing)
-    (number : ℕ) (why : CheckpointRefusal) (turned : CheckpointTurn) (said : Reply)
-    → ClosesInFlight variant meaning key barrier d from call now meddles next → number ≡ closing_number_of call
-    → ClosingTurns call now mid turned → turned ≡ turn.Refused why
-    → ClosesAs (stop_behind number) (Err why) mid new said → SteppedClosingTo variant meaning key barrier d from issued meddles next new
-    (Over said)
-refused_to variant meaning key barrier d from issued call now mid meddles next new number why turned said f at t e ends =
-    let made = f.made in
-    let refused = subst (λ (x : CheckpointTurn). ClosingTurns call now mid x) e t in
-    let none : closing_fault_of why ≡ None = closing_faultless call now mid (turn.Refused why) meddles made f.flies.is_on f.flies.planned
-    refused in
-    let u = turned_under call now mid meddles made (turn.Refused why) f.flies.is_on f.flies.planned f.flies.few refused in
-    over_to variant meaning key barrier d from issued call now mid meddles next new (Err why) said f none
-    (closing_refused call (under (behind meddles made) made now) (under (behind meddles made) (counted made) mid) why u)
-    (subst (λ (k : ℕ). ClosesAs (stop_behind k) (Err why) mid new said) (at ∙ f.number ∙ sym f.is_next) ends)
+  over_to : (next : ℕ) (new : Standing) (ended : Said) (said : Reply) → (f : ClosesInFlight variant meaning key barrier d from call now
+      meddles next) → closing_fault_in ended ≡ None → FinishesClosing call (under (behind meddles f.made) f.made now)
+      (under (behind meddles f.made) (counted f.made) mid) ended → ClosesAs (stop_behind next) ended mid new said
+      → SteppedClosingTo variant meaning key barrier d from issued meddles next new (Over said)
+  over_to next new ended said f none finishes e =
+      let i = instance_by variant meaning key barrier in let made = f.made in let stop = stop_behind (made + 1) in
+      let settles = settled_under stop (stops_in ended) (behind meddles made) (counted made) mid new
+      (subst (λ (k : ℕ). SettlesPlan (stop_behind k) (stops_in ended) mid new) f.is_next e.settles) in
+      let came = comes variant meaning key barrier d from call now meddles next f stop (under (behind meddles made) (counted made) mid) new
+      ended (omega arith) finishes settles issued in
+      let back = subst (λ (k : ℕ). Came i (closed_so i d issued meddles (stop_behind k)) d.count issued from new
+      (quiet_as (told_closing (stop_behind k) ended))) (sym f.is_next) came in
+      let so : Came i (closed_so i d issued meddles (stop_behind next)) d.count issued from new (quiet_as said) = subst
+      (λ (x : Reply). Came i (closed_so i d issued meddles (stop_behind next)) d.count issued from new (quiet_as x)) (sym e.told) back in
+      (so, ap (λ x. is_nothing x) (sym back.reply) ∙ something (stop_behind next) ended none)
+
+  pub done_to : (next : ℕ) (new : Standing) (number : ℕ) (it : Checkpointed) (turned : CheckpointTurn) (said : Reply)
+      → ClosesInFlight variant meaning key barrier d from call now meddles next → number ≡ closing_number_of call
+      → ClosingTurns call now mid turned → turned ≡ turn.Done it → ClosesAs (stop_behind number) (Ok it) mid new said
+      → SteppedClosingTo variant meaning key barrier d from issued meddles next new (Over said)
+  done_to next new number it turned said f at t e ends =
+      let made = f.made in
+      let u = turned_under call now mid meddles made (turn.Done it) f.flies.is_on f.flies.planned f.flies.few
+      (subst (λ (x : CheckpointTurn). ClosingTurns call now mid x) e t) in
+      over_to next new (Ok it) said f refl (closing_done call (under (behind meddles made) made now) (under (behind meddles made)
+      (counted made) mid) it u) (subst (λ (k : ℕ). ClosesAs (stop_behind k) (Ok it) mid new said) (at ∙ f.number ∙ sym f.is_next) ends)
+
+  pub refused_to : (next : ℕ) (new : Standing) (number : ℕ) (why : CheckpointRefusal) (turned : CheckpointTurn) (said : Reply)
+      → ClosesInFlight variant meaning key barrier d from call now meddles next → number ≡ closing_number_of call
+      → ClosingTurns call now mid turned → turned ≡ turn.Refused why → ClosesAs (stop_behind number) (Err why) mid new said
+      → SteppedClosingTo variant meaning key barrier d from issued meddles next new (Over said)
+  refused_to next new number why turned said f at t e ends =
+      let made = f.made in
+      let refused = subst (λ (x : CheckpointTurn). ClosingTurns call now mid x) e t in
+      let none : closing_fault_of why ≡ None = closing_faultless call now mid (turn.Refused why) meddles made f.flies.is_on f.flies.planned
+      refused in
+      let u = turned_under call now mid meddles made (turn.Refused why) f.flies.is_on f.flies.planned f.flies.few refused in
+      over_to next new (Err why) said f none (closing_refused call (under (behind meddles made) made now) (under (behind meddles made)
+      (counted made) mid) why u) (subst (λ (k : ℕ). ClosesAs (stop_behind k) (Err why) mid new said) (at ∙ f.number ∙ sym f.is_next) ends)
 
 -- a turn that goes on
 
 three_steps : (call : CheckpointStage) → closing_number_of call ≤ 3
 three_steps stage.Begun = omega arith
-three_steps (stage.Seen cell) = omega arith
-three_steps (stage.Closing bytes) = omega arith
+three_steps _ = omega arith
 
 fewer : (on call made : ℕ) → on ≤ 3 → on ≡ call + 1 → call ≡ made + 1 → made + 1 < 255
 fewer on call made few counts number = omega arith
@@ -143,77 +107,68 @@ no_effect : (third : Bool) → (third && false) ≡ false
 no_effect true = refl
 no_effect false = refl
 
--- the checkpoint has come to nothing so far: its next step may still fail without effect
-nothing_yet : (variant : Variant) (meaning : Meaning) (key barrier : List ℕ) (d : Digests) (from : Standing) (issued : List (List ℕ))
-    (call : CheckpointStage) (now : Standing) (meddles : List Meddle) (next : ℕ)
-    → ClosesInFlight variant meaning key barrier d from call now meddles next
-    → is_nothing (closed_so (instance_by variant meaning key barrier) d issued meddles (Fail next false)).reply ≡ true
-nothing_yet variant meaning key barrier d from issued call now meddles next f =
-    let i = instance_by variant meaning key barrier in
-    let made = f.made in
-    let stop = stop_behind made in
-    let at : Standing = under (plan_by stop meddles) made now in
-    let last : Standing = step_made (closing_act_of call) at in
-    let ended : Said = Err (refusal.Device Failed) in
-    let finishes = closing_fails call at last Failed (fails_next (closing_act_of call) now meddles made f.flies.is_on f.flies.few) in
-    let settled : Standing = record last { plan = Some quiet_plan } in
-    let settles : SettlesPlan stop true last settled = record {
-      cell = refl;
-      items = refl;
-      is_on = refl;
-      plan = refl;
-      steps = refl;
-      writes = refl;
-    } in
-    let came = comes variant meaning key barrier d from call now meddles next f stop last settled ended (omega arith) finishes settles
-    issued in
-    let effect : closes_at stop ≡ false = no_effect (made + 1 == 3) in
-    let nothing : is_nothing (told_closing stop ended) ≡ true = ap (λ (x : Bool). is_nothing (stopped_reply way.Fault x)) effect in
-    let said : is_nothing (closed_so i d issued meddles stop).reply ≡ true = sym (ap (λ x. is_nothing x) came.reply) ∙ nothing in
-    subst (λ (k : ℕ). is_nothing (closed_so i d issued meddles (Fail k false)).reply ≡ true) (sym f.is_next) said
-
-pub going_to : (variant : Variant) (meaning : Meaning) (key barrier : List ℕ) (d : Digests) (from : Standing) (issued : List (List ℕ))
-    (call : CheckpointStage) (now new : Standing) (meddles : List Meddle) (next : ℕ)
-    (on : CheckpointStage) (turned : CheckpointTurn) → ClosesInFlight variant meaning key barrier d from call now meddles next
-    → ClosingTurns call now new turned → turned ≡ turn.Going on
-    → SteppedClosingTo variant meaning key barrier d from issued meddles next new (Going on)
-going_to variant meaning key barrier d from issued call now new meddles next on turned f turns e =
-    let made = f.made in
-    let t = subst (λ (x : CheckpointTurn). ClosingTurns call now new x) e turns in
-    let m = closing_moves call now new on t in
-    let few : made + 1 < 255 = fewer (closing_number_of on) (closing_number_of call) made (three_steps on) m.counts f.number in
-    let flies = goes_on checks_whole (checks_rest call) (checks_rest on) from now new meddles made (closing_number_of call)
-    (closing_number_of on) f.flies m few
-    (λ plan r end ended rest. closing_then call (under plan made now) (under plan (counted made) new) end on ended
-    (closing_replanned call now new (turn.Going on) plan (plan_by Quiet meddles) made r t) rest) in
-    let flight : ClosesInFlight variant meaning key barrier d from on new meddles (next + 1) = record {
-      stands = f.stands;
-      quiet = f.quiet;
-      made = made + 1;
-      flies = flies;
-      number = m.counts ∙ ap (λ (n : ℕ). n + 1) f.number;
-      is_next = ap (λ (n : ℕ). n + 1) f.is_next;
-    } in
-    (flight, nothing_yet variant meaning key barrier d from issued on new meddles (next + 1) flight)
-
 -- a step that breaks it off
 
 later_than : (made stop next : ℕ) → stop ≡ next → next ≡ made + 1 → made < stop
 later_than made stop next at is = omega arith
 
-pub breaks_to : (variant : Variant) (meaning : Meaning) (key barrier : List ℕ) (d : Digests) (from : Standing) (issued : List (List ℕ))
-    (call : CheckpointStage) (now stopped mid : Standing) (meddles : List Meddle) (next : ℕ)
-    (stop : Stop) (new : Standing) (ended : Said) (said : Reply) → ClosesInFlight variant meaning key barrier d from call now meddles
-    next → stopped_step stop ≡ next
-    → stopped ≡ record now { plan = option_map (stopping stop) now.plan } → FinishesClosing call stopped mid ended
-    → ClosesAs stop ended mid new said
-    → Came (instance_by variant meaning key barrier) (closed_so (instance_by variant meaning key barrier) d issued meddles stop) d.count
-    issued from new (quiet_as said)
-breaks_to variant meaning key barrier d from issued call now stopped mid meddles next stop new ended said f at is finishes e =
-    let i = instance_by variant meaning key barrier in
-    let under_it : stopped ≡ under (plan_by stop meddles) f.made now = is ∙ ap
-    (λ (p : Option Plan). record now { plan = option_map (stopping stop) p }) f.flies.planned in
-    let later : f.made < stopped_step stop = later_than f.made (stopped_step stop) next at f.is_next in
-    let came = comes variant meaning key barrier d from call now meddles next f stop mid new ended later
-    (subst (λ (s : Standing). FinishesClosing call s mid ended) under_it finishes) e.settles issued in
-    subst (λ (x : Reply). Came i (closed_so i d issued meddles stop) d.count issued from new (quiet_as x)) (sym e.told) came
+module _ (variant : Variant) (meaning : Meaning) (key barrier : List ℕ) (d : Digests) (from : Standing) (issued : List (List ℕ)) where
+  -- the checkpoint has come to nothing so far: its next step may still fail without effect
+  nothing_yet : (call : CheckpointStage) (now : Standing) (meddles : List Meddle) (next : ℕ) → ClosesInFlight variant meaning key barrier d
+      from call now meddles next → is_nothing (closed_so (instance_by variant meaning key barrier) d issued meddles (Fail next false)).reply
+      ≡ true
+  nothing_yet call now meddles next f =
+      let i = instance_by variant meaning key barrier in let made = f.made in let stop = stop_behind made in
+      let at : Standing = under (plan_by stop meddles) made now in
+      let last : Standing = step_made (closing_act_of call) at in let ended : Said = Err (refusal.Device Failed) in
+      let finishes = closing_fails call at last Failed (fails_next (closing_act_of call) now meddles made f.flies.is_on f.flies.few) in
+      let settled : Standing = record last { plan = Some quiet_plan } in
+      let settles : SettlesPlan stop true last settled = record {
+        cell = refl;
+        items = refl;
+        is_on = refl;
+        plan = refl;
+        steps = refl;
+        writes = refl;
+      } in
+      let came = comes variant meaning key barrier d from call now meddles next f stop last settled ended (omega arith) finishes settles
+      issued in
+      let effect : closes_at stop ≡ false = no_effect (made + 1 == 3) in
+      let nothing : is_nothing (told_closing stop ended) ≡ true = ap (λ (x : Bool). is_nothing (stopped_reply way.Fault x)) effect in
+      let said : is_nothing (closed_so i d issued meddles stop).reply ≡ true = sym (ap (λ x. is_nothing x) came.reply) ∙ nothing in
+      subst (λ (k : ℕ). is_nothing (closed_so i d issued meddles (Fail k false)).reply ≡ true) (sym f.is_next) said
+
+  pub going_to : (call : CheckpointStage) (now new : Standing) (meddles : List Meddle) (next : ℕ) (on : CheckpointStage)
+      (turned : CheckpointTurn) → ClosesInFlight variant meaning key barrier d from call now meddles next → ClosingTurns call now new turned
+      → turned ≡ turn.Going on → SteppedClosingTo variant meaning key barrier d from issued meddles next new (Going on)
+  going_to call now new meddles next on turned f turns e =
+      let made = f.made in
+      let t = subst (λ (x : CheckpointTurn). ClosingTurns call now new x) e turns in
+      let m = closing_moves call now new on t in
+      let few : made + 1 < 255 = fewer (closing_number_of on) (closing_number_of call) made (three_steps on) m.counts f.number in
+      let flies = goes_on checks_whole (checks_rest call) (checks_rest on) from now new meddles made (closing_number_of call)
+      (closing_number_of on) f.flies m few (λ plan r end ended rest. closing_then call (under plan made now) (under plan (counted made) new)
+      end on ended (closing_replanned call now new (turn.Going on) plan (plan_by Quiet meddles) made r t) rest) in
+      let flight : ClosesInFlight variant meaning key barrier d from on new meddles (next + 1) = record {
+        stands = f.stands;
+        quiet = f.quiet;
+        made = made + 1;
+        flies = flies;
+        number = m.counts ∙ ap (λ (n : ℕ). n + 1) f.number;
+        is_next = ap (λ (n : ℕ). n + 1) f.is_next;
+      } in
+      (flight, nothing_yet on new meddles (next + 1) flight)
+
+  pub breaks_to : (call : CheckpointStage) (now stopped mid : Standing) (meddles : List Meddle) (next : ℕ) (stop : Stop) (new : Standing)
+      (ended : Said) (said : Reply) → ClosesInFlight variant meaning key barrier d from call now meddles next → stopped_step stop ≡ next
+      → stopped ≡ record now { plan = option_map (stopping stop) now.plan } → FinishesClosing call stopped mid ended
+      → ClosesAs stop ended mid new said → Came (instance_by variant meaning key barrier)
+      (closed_so (instance_by variant meaning key barrier) d issued meddles stop) d.count issued from new (quiet_as said)
+  breaks_to call now stopped mid meddles next stop new ended said f at is finishes e =
+      let i = instance_by variant meaning key barrier in
+      let under_it : stopped ≡ under (plan_by stop meddles) f.made now = is ∙ ap
+      (λ (p : Option Plan). record now { plan = option_map (stopping stop) p }) f.flies.planned in
+      let later : f.made < stopped_step stop = later_than f.made (stopped_step stop) next at f.is_next in
+      let came = comes variant meaning key barrier d from call now meddles next f stop mid new ended later
+      (subst (λ (s : Standing). FinishesClosing call s mid ended) under_it finishes) e.settles issued in
+      subst (λ (x : Reply). Came i (closed_so i d issued meddles stop) d.count issued from new (quiet_as x)) (sym e.told) came

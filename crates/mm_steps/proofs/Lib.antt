@@ -1,4 +1,6 @@
-pub mod Stopping
-pub mod Steps
-pub mod Closing
-pub mod Beginning
+pub mod Above
+mod Below
+mod Stopping
+mod Steps
+mod Closing
+mod Beginning

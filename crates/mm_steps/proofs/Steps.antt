@@ -1,23 +1,15 @@
 -- The next step of a call that asks for a batch, and a step that breaks it off.
-use Rattle.std.proofs.Common.{◌≡◌, ℕ, ◌+◌, ◌<◌, ◌≤◌, Bool, true, false, List, Option, None, Some, Result, Ok, Err, refl, sym, ap, ◌∙◌, subst, arith}
-use Rattle.std.specs.Prelude.{MatchResult, IsErr}
-use Rattle.std.specs.Option.{option_map}
+use Rattle.mm_steps.proofs.Below.{◌≡◌, ℕ, ◌+◌, ◌<◌, ◌≤◌, Bool, true, false, List, Option, None, Some, Result, Ok, Err, refl, sym, ap, ◌∙◌}
+use Rattle.mm_steps.proofs.Below.{subst, arith, MatchResult, IsErr, option_map, counted, Variant, StepFault, Failed, Meddle, Stop, Quiet}
+use Rattle.mm_steps.proofs.Below.{Fail, Plan, Standing, stopping, quiet_plan, step_made, Meaning, Batch, size_of, Digests, instance_by}
+use Rattle.mm_steps.proofs.Below.{AskCall, ask_number, AskTurns, TurnMayAsk, AskFinishes, AdvancedAsk, plan_by, under, AlwaysFails, ask_act}
+use Rattle.mm_steps.proofs.Below.{ask_replanned, ask_moves, ask_then, ask_answers, ask_refuses, ask_fails, ask_faultless, ask_breaks}
+use Rattle.mm_steps.proofs.Below.{few_steps, goes_on, refused_call, answered_call, broken_as, stopped_step, RefusedAs, CalledAs}
+use Rattle.mm_steps.proofs.Below.{SettlesPlan, Came, Lacks, asks_planned, BreaksNext, is_nothing, stop_behind, asks_whole, asks_rest}
+use Rattle.mm_steps.proofs.Below.{AsksInFlight, asked_so, SteppedTo, MayStepOn, over_in, EndsAs}
 use Rattle.mm_base.specs.declared.fault.Memory.{Memory}
-use Rattle.mm_base.specs.Faults.{counted}
-use Rattle.mm_digest.specs.declared.variant.Variant.{Variant}
-use Rattle.mm_platform.specs.declared.fault.StepFault.{StepFault}
-use Rattle.mm_platform.specs.declared.fault.StepFault.TheVariants.{Failed}
-use Rattle.mm_platform.specs.declared.plan.Meddle.{Meddle}
-use Rattle.mm_platform.specs.declared.plan.Stop.{Stop}
-use Rattle.mm_platform.specs.declared.plan.Stop.TheVariants.{Quiet, Fail}
-use Rattle.mm_platform.specs.Standing.{Plan, Standing}
-use Rattle.mm_platform.specs.Memory.{stopping}
-use Rattle.mm_platform.specs.Told.{quiet_plan, step_made}
-use Rattle.mm_module.specs.Meaning.{Meaning}
-use Rattle.mm_module.specs.Batch.{Batch, size_of}
 use Rattle.mm_model.specs.Long.{is_long}
 use Rattle.mm_model.specs.Instance.{Instance}
-use Rattle.mm_model.specs.Moves.{Digests}
 use Rattle.mm_model.specs.declared.answer.BatchAnswer.{BatchAnswer}
 use Rattle.mm_model.specs.declared.refusal.Refusal.{Refusal}
 use Rattle.mm_model.specs.declared.refusal.Refusal.TheVariants as refusal
@@ -26,27 +18,15 @@ use Rattle.mm_call.specs.declared.ended.Ended.TheVariants.{Answered, Refused, Br
 use Rattle.mm_call.specs.Ended.{CallsTo, is_broken, ended_with, refused_as}
 use Rattle.mm_call.specs.Refusals.{fault_of}
 use Rattle.mm_call.specs.Levels.{by_digests}
-use Rattle.mm_call.specs.Standing.{instance_by}
 use Rattle.mm_schedule.specs.declared.event.Offer.{Offer}
 use Rattle.mm_schedule.specs.declared.reply.Cause.{Cause}
 use Rattle.mm_run.specs.Folds.{asked, cause_of}
 use Rattle.mm_run.specs.Offered.{offered_bytes}
-use Rattle.mm_flight.specs.declared.ask.AskCall.{AskCall}
 use Rattle.mm_flight.specs.declared.ask.AskTurn.{AskTurn}
 use Rattle.mm_flight.specs.declared.ask.AskTurn.TheVariants as turn
-use Rattle.mm_flight.specs.Asks.{ask_number, AskTurns, TurnMayAsk, AskFinishes, AdvancedAsk}
-use Rattle.mm_flight.specs.InFlight.{plan_by, under}
-use Rattle.mm_flight.proofs.Replanning.{AlwaysFails}
-use Rattle.mm_flight.proofs.Asking.{ask_act, ask_replanned, ask_moves, ask_then, ask_answers, ask_refuses, ask_fails, ask_faultless, ask_breaks, few_steps}
-use Rattle.mm_flight.proofs.Flying.{goes_on}
 use Rattle.mm_world.specs.declared.call.Called.{Called}
-use Rattle.mm_world.specs.Calls.{refused_call, answered_call, broken_as, stopped_step, RefusedAs, CalledAs, SettlesPlan}
-use Rattle.mm_world.specs.Asks.{Came, Lacks}
-use Rattle.mm_world.proofs.Calling.{asks_planned}
 use Rattle.mm_steps.specs.declared.asks.Stepped.{Stepped}
 use Rattle.mm_steps.specs.declared.asks.Stepped.TheVariants.{Going}
-use Rattle.mm_steps.specs.Stopping.{BreaksNext, is_nothing, stop_behind}
-use Rattle.mm_steps.specs.Asking.{asks_whole, asks_rest, AsksInFlight, asked_so, SteppedTo, MayStepOn, over_in, EndsAs}
 use Rattle.mm_steps.proofs.Stopping.{goes_as, fails_next, always_fails, behind, replans_behind, settled_under}
 
 -- what a call came to that was made whole by what ended it
@@ -58,9 +38,8 @@ Comes i d issued meddles stop bytes b from new result =
     (λ _. Lacks i d meddles stop from new)
 
 comes : (variant : Variant) (meaning : Meaning) (key barrier : List ℕ) (d : Digests) (from : Standing) (call : AskCall) (now : Standing)
-    (meddles : List Meddle) (next : ℕ) (bytes : List ℕ) (b : Batch)
-    → (f : AsksInFlight variant meaning key barrier d from call now meddles next bytes b) → is_long b ≡ false
-    → (stop : Stop) (mid new : Standing) (ended : Ended) (size : ℕ) (result : Result Called Memory)
+    (meddles : List Meddle) (next : ℕ) (bytes : List ℕ) (b : Batch) → (f : AsksInFlight variant meaning key barrier d from call now meddles
+    next bytes b) → is_long b ≡ false → (stop : Stop) (mid new : Standing) (ended : Ended) (size : ℕ) (result : Result Called Memory)
     → f.made < stopped_step stop → AskFinishes meaning call (under (plan_by stop meddles) f.made now) mid bytes b ended → size ≡ size_of b
     → SettlesPlan stop (is_broken ended) mid new → CalledAs stop size ended result → (issued : List (List ℕ))
     → Comes (instance_by variant meaning key barrier) d issued meddles stop bytes b from new result
@@ -120,107 +99,10 @@ unbroken_as : (fault : Option StepFault) (why : Refusal) → fault ≡ None → 
 unbroken_as None why e = refl
 unbroken_as (Some fault) why e = cc
 
--- what the step of a call that is over gives, by what it came to
-over_gives : (variant : Variant) (meaning : Meaning) (key barrier : List ℕ) (d : Digests) (from : Standing) (issued : List (List ℕ))
-    (meddles : List Meddle) (next : ℕ) (offer : Offer) (bytes : List ℕ) (b : Batch) (new : Standing)
-    (size : ℕ) (ended : Ended) (called result : Result Called Memory) → called ≡ result → is_broken ended ≡ false
-    → CalledAs (stop_behind next) size ended result → offered_bytes issued offer ≡ Some bytes
-    → Comes (instance_by variant meaning key barrier) d issued meddles (stop_behind next) bytes b from new called
-    → SteppedTo variant meaning key barrier d from issued meddles next offer bytes b new (over_in called)
-over_gives variant meaning key barrier d from issued meddles next offer bytes b new size ended (Ok it) result e whole told offered c =
-    let i = instance_by variant meaning key barrier in
-    let came = comes_so i d issued meddles (stop_behind next) offer bytes b from new it offered c in
-    (came, ap (λ x. is_nothing x) (sym came.reply) ∙ something (stop_behind next) size ended it result whole (sym e) told)
-over_gives variant meaning key barrier d from issued meddles next offer bytes b new size ended (Err memory) result e whole told offered c
-    = c
-
-pub over_to : (variant : Variant) (meaning : Meaning) (key barrier : List ℕ) (d : Digests) (from : Standing) (issued : List (List ℕ))
-    (call : AskCall) (now mid : Standing) (meddles : List Meddle) (next : ℕ) (offer : Offer)
-    (bytes : List ℕ) (b : Batch) (new : Standing) (size : ℕ) (ended : Ended) (result : Result Stepped Memory)
-    → (f : AsksInFlight variant meaning key barrier d from call now meddles next bytes b) → is_long b ≡ false → size ≡ size_of b
-    → offered_bytes issued offer ≡ Some bytes
-    → is_broken ended ≡ false → AskFinishes meaning call (under (behind meddles f.made) f.made now)
-    (under (behind meddles f.made) (counted f.made) mid) bytes b ended
-    → EndsAs (stop_behind next) size ended mid new result → SteppedTo variant meaning key barrier d from issued meddles next offer bytes
-    b new result
-over_to variant meaning key barrier d from issued call now mid meddles next offer bytes b new size ended result f short n offered whole
-    finishes e =
-    let i = instance_by variant meaning key barrier in
-    let made = f.made in
-    let stop = stop_behind (made + 1) in
-    let settles = settled_under stop (is_broken ended) (behind meddles made) (counted made) mid new
-    (subst (λ (k : ℕ). SettlesPlan (stop_behind k) (is_broken ended) mid new) f.is_next e.settles) in
-    let told : CalledAs stop size ended e.called = subst (λ (k : ℕ). CalledAs (stop_behind k) size ended e.called) f.is_next e.told in
-    let came = comes variant meaning key barrier d from call now meddles next bytes b f short stop
-    (under (behind meddles made) (counted made) mid) new ended size e.called (omega arith) finishes n settles told issued in
-    let back : Comes i d issued meddles (stop_behind next) bytes b from new e.called = subst
-    (λ (k : ℕ). Comes i d issued meddles (stop_behind k) bytes b from new e.called) (sym f.is_next) came in
-    subst (λ (r : Result Stepped Memory). SteppedTo variant meaning key barrier d from issued meddles next offer bytes b new r)
-    (sym e.gives)
-    (over_gives variant meaning key barrier d from issued meddles next offer bytes b new size ended e.called e.called refl whole e.told
-    offered back)
-
 -- a turn that goes on
 
 fewer : (on call made : ℕ) → on ≤ 5 → on ≡ call + 1 → call ≡ made + 1 → made + 1 < 255
 fewer on call made few counts number = omega arith
-
--- the call has come to nothing so far: its next step may still fail without effect
-nothing_yet : (variant : Variant) (meaning : Meaning) (key barrier : List ℕ) (d : Digests) (from : Standing) (issued : List (List ℕ))
-    (call : AskCall) (now : Standing) (meddles : List Meddle) (next : ℕ) (offer : Offer)
-    (bytes : List ℕ) (b : Batch) → AsksInFlight variant meaning key barrier d from call now meddles next bytes b → is_long b ≡ false
-    → offered_bytes issued offer ≡ Some bytes
-    → is_nothing (asked_so (instance_by variant meaning key barrier) d issued meddles (Fail next false) offer b).reply ≡ true
-nothing_yet variant meaning key barrier d from issued call now meddles next offer bytes b f short offered =
-    let i = instance_by variant meaning key barrier in
-    let made = f.made in
-    let stop = stop_behind made in
-    let at : Standing = under (plan_by stop meddles) made now in
-    let last : Standing = step_made (ask_act call) at in
-    let fails = ask_fails call meaning at last bytes b Failed (fails_next (ask_act call) now meddles made f.flies.is_on f.flies.few) in
-    let settled : Standing = record last { plan = Some quiet_plan } in
-    let it : Called = broken_as stop None (size_of b) in
-    let settles : SettlesPlan stop true last settled = record {
-      cell = refl;
-      items = refl;
-      is_on = refl;
-      plan = refl;
-      steps = refl;
-      writes = refl;
-    } in
-    let came = comes variant meaning key barrier d from call now meddles next bytes b f short stop last settled (Broken Failed fails.0)
-    (size_of b) (Ok it) (omega arith) fails.1 refl settles refl issued in
-    let so = comes_so i d issued meddles stop offer bytes b from settled it offered came in
-    let said : is_nothing (asked_so i d issued meddles stop offer b).reply ≡ true = sym (ap (λ x. is_nothing x) so.reply) in
-    subst (λ (k : ℕ). is_nothing (asked_so i d issued meddles (Fail k false) offer b).reply ≡ true) (sym f.is_next) said
-
-pub going_to : (variant : Variant) (meaning : Meaning) (key barrier : List ℕ) (d : Digests) (from : Standing) (issued : List (List ℕ))
-    (call : AskCall) (now new : Standing) (meddles : List Meddle) (next : ℕ) (offer : Offer)
-    (bytes : List ℕ) (b : Batch) (on : AskCall) (turned : AskTurn)
-    → AsksInFlight variant meaning key barrier d from call now meddles next bytes b → is_long b ≡ false
-    → offered_bytes issued offer ≡ Some bytes
-    → AdvancedAsk meaning call now new bytes b turned → turned ≡ turn.Going on
-    → SteppedTo variant meaning key barrier d from issued meddles next offer bytes b new (Ok (Going on))
-going_to variant meaning key barrier d from issued call now new meddles next offer bytes b on turned f short offered a e =
-    let made = f.made in
-    let t : AskTurns meaning call now new bytes b (turn.Going on) = subst (λ (x : AskTurn). AskTurns meaning call now new bytes b x) e
-    a.turns in
-    let m = ask_moves call meaning now new bytes b on t in
-    let few : made + 1 < 255 = fewer (ask_number on) (ask_number call) made (few_steps on) m.counts f.number in
-    let flies = goes_on (asks_whole variant meaning bytes b) (asks_rest meaning call bytes b) (asks_rest meaning on bytes b) from now new
-    meddles made (ask_number call) (ask_number on) f.flies m few
-    (λ plan r end ended rest. ask_then call meaning (under plan made now) (under plan (counted made) new) end bytes b on ended
-    (ask_replanned call meaning now new bytes b (turn.Going on) plan (plan_by Quiet meddles) made r t) rest) in
-    let flight : AsksInFlight variant meaning key barrier d from on new meddles (next + 1) bytes b = record {
-      stands = f.stands;
-      quiet = f.quiet;
-      made = made + 1;
-      flies = flies;
-      room = subst (λ (x : AskTurn). TurnMayAsk x new) e a.room;
-      number = m.counts ∙ ap (λ (n : ℕ). n + 1) f.number;
-      is_next = ap (λ (n : ℕ). n + 1) f.is_next;
-    } in
-    (flight, nothing_yet variant meaning key barrier d from issued on new meddles (next + 1) offer bytes b flight short offered)
 
 -- its end
 
@@ -232,45 +114,115 @@ finishes_under call meaning now mid meddles made bytes b turned on planned few t
     ask_replanned call meaning now mid bytes b turned (behind meddles made) (plan_by Quiet meddles) made
     (replans_behind now meddles made on planned few) t
 
-pub answers_to : (variant : Variant) (meaning : Meaning) (key barrier : List ℕ) (d : Digests) (from : Standing) (issued : List (List ℕ))
-    (call : AskCall) (now mid : Standing) (meddles : List Meddle) (next : ℕ) (offer : Offer)
-    (bytes : List ℕ) (b : Batch) (new : Standing) (size number : ℕ) (answer : BatchAnswer) (turned : AskTurn)
-    (result : Result Stepped Memory) → AsksInFlight variant meaning key barrier d from call now meddles next bytes b → is_long b ≡ false
-    → size ≡ size_of b → number ≡ ask_number call → offered_bytes issued offer ≡ Some bytes
-    → AdvancedAsk meaning call now mid bytes b turned → turned ≡ turn.Done answer
-    → EndsAs (stop_behind number) size (Answered answer) mid new result
-    → SteppedTo variant meaning key barrier d from issued meddles next offer bytes b new result
-answers_to variant meaning key barrier d from issued call now mid meddles next offer bytes b new size number answer turned result f short
-    n at offered a e ends =
-    let t = finishes_under call meaning now mid meddles f.made bytes b (turn.Done answer) f.flies.is_on f.flies.planned f.flies.few
-    (subst (λ (x : AskTurn). AskTurns meaning call now mid bytes b x) e a.turns) in
-    over_to variant meaning key barrier d from issued call now mid meddles next offer bytes b new size (Answered answer) result f short n
-    offered refl
-    (ask_answers call meaning (under (behind meddles f.made) f.made now) (under (behind meddles f.made) (counted f.made) mid) bytes b
-    answer t)
-    (subst (λ (k : ℕ). EndsAs (stop_behind k) size (Answered answer) mid new result) (at ∙ f.number ∙ sym f.is_next) ends)
+module _ (variant : Variant) (meaning : Meaning) (key barrier : List ℕ) (d : Digests) (from : Standing) (issued : List (List ℕ)) where
+  -- what the step of a call that is over gives, by what it came to
+  over_gives : (meddles : List Meddle) (next : ℕ) (offer : Offer) (bytes : List ℕ) (b : Batch) (new : Standing) (size : ℕ) (ended : Ended)
+      (called result : Result Called Memory) → called ≡ result → is_broken ended ≡ false → CalledAs (stop_behind next) size ended result
+      → offered_bytes issued offer ≡ Some bytes → Comes (instance_by variant meaning key barrier) d issued meddles (stop_behind next) bytes
+      b from new called → SteppedTo variant meaning key barrier d from issued meddles next offer bytes b new (over_in called)
+  over_gives meddles next offer bytes b new size ended (Ok it) result e whole told offered c =
+      let i = instance_by variant meaning key barrier in
+      let came = comes_so i d issued meddles (stop_behind next) offer bytes b from new it offered c in
+      (came, ap (λ x. is_nothing x) (sym came.reply) ∙ something (stop_behind next) size ended it result whole (sym e) told)
+  over_gives meddles next offer bytes b new size ended (Err memory) result e whole told offered c = c
 
-pub refuses_to : (variant : Variant) (meaning : Meaning) (key barrier : List ℕ) (d : Digests) (from : Standing) (issued : List (List ℕ))
-    (call : AskCall) (now mid : Standing) (meddles : List Meddle) (next : ℕ) (offer : Offer)
-    (bytes : List ℕ) (b : Batch) (new : Standing) (size number : ℕ) (why : Refusal) (turned : AskTurn) (ended : Ended)
-    (result : Result Stepped Memory) → AsksInFlight variant meaning key barrier d from call now meddles next bytes b → is_long b ≡ false
-    → size ≡ size_of b → number ≡ ask_number call → offered_bytes issued offer ≡ Some bytes
-    → AdvancedAsk meaning call now mid bytes b turned → turned ≡ turn.Refused why → ended ≡ refused_as why
-    → EndsAs (stop_behind number) size ended mid new result
-    → SteppedTo variant meaning key barrier d from issued meddles next offer bytes b new result
-refuses_to variant meaning key barrier d from issued call now mid meddles next offer bytes b new size number why turned ended result f
-    short n at offered a e is ends =
-    let refused = subst (λ (x : AskTurn). AskTurns meaning call now mid bytes b x) e a.turns in
-    let none : fault_of why ≡ None = ask_faultless call meaning now mid bytes b (turn.Refused why) meddles f.made f.flies.is_on
-    f.flies.planned refused in
-    let t = finishes_under call meaning now mid meddles f.made bytes b (turn.Refused why) f.flies.is_on f.flies.planned f.flies.few
-    refused in
-    over_to variant meaning key barrier d from issued call now mid meddles next offer bytes b new size (refused_as why) result f short n
-    offered (unbroken_as (fault_of why) why none)
-    (ask_refuses call meaning (under (behind meddles f.made) f.made now) (under (behind meddles f.made) (counted f.made) mid) bytes b why
-    t none)
-    (subst (λ (k : ℕ). EndsAs (stop_behind k) size (refused_as why) mid new result) (at ∙ f.number ∙ sym f.is_next)
-    (subst (λ (x : Ended). EndsAs (stop_behind number) size x mid new result) is ends))
+  pub over_to : (call : AskCall) (now mid : Standing) (meddles : List Meddle) (next : ℕ) (offer : Offer) (bytes : List ℕ) (b : Batch)
+      (new : Standing) (size : ℕ) (ended : Ended) (result : Result Stepped Memory)
+      → (f : AsksInFlight variant meaning key barrier d from call now meddles next bytes b) → is_long b ≡ false → size ≡ size_of b
+      → offered_bytes issued offer ≡ Some bytes → is_broken ended ≡ false → AskFinishes meaning call (under (behind meddles f.made) f.made
+      now) (under (behind meddles f.made) (counted f.made) mid) bytes b ended → EndsAs (stop_behind next) size ended mid new result
+      → SteppedTo variant meaning key barrier d from issued meddles next offer bytes b new result
+  over_to call now mid meddles next offer bytes b new size ended result f short n offered whole finishes e =
+      let i = instance_by variant meaning key barrier in let made = f.made in let stop = stop_behind (made + 1) in
+      let settles = settled_under stop (is_broken ended) (behind meddles made) (counted made) mid new
+      (subst (λ (k : ℕ). SettlesPlan (stop_behind k) (is_broken ended) mid new) f.is_next e.settles) in
+      let told : CalledAs stop size ended e.called = subst (λ (k : ℕ). CalledAs (stop_behind k) size ended e.called) f.is_next e.told in
+      let came = comes variant meaning key barrier d from call now meddles next bytes b f short stop
+      (under (behind meddles made) (counted made) mid) new ended size e.called (omega arith) finishes n settles told issued in
+      let back : Comes i d issued meddles (stop_behind next) bytes b from new e.called = subst
+      (λ (k : ℕ). Comes i d issued meddles (stop_behind k) bytes b from new e.called) (sym f.is_next) came in
+      subst (λ (r : Result Stepped Memory). SteppedTo variant meaning key barrier d from issued meddles next offer bytes b new r)
+      (sym e.gives) (over_gives meddles next offer bytes b new size ended e.called e.called refl whole e.told offered back)
+
+  -- the call has come to nothing so far: its next step may still fail without effect
+  nothing_yet : (call : AskCall) (now : Standing) (meddles : List Meddle) (next : ℕ) (offer : Offer) (bytes : List ℕ) (b : Batch)
+      → AsksInFlight variant meaning key barrier d from call now meddles next bytes b → is_long b ≡ false
+      → offered_bytes issued offer ≡ Some bytes → is_nothing (asked_so (instance_by variant meaning key barrier) d issued meddles
+      (Fail next false) offer b).reply ≡ true
+  nothing_yet call now meddles next offer bytes b f short offered =
+      let i = instance_by variant meaning key barrier in let made = f.made in let stop = stop_behind made in
+      let at : Standing = under (plan_by stop meddles) made now in let last : Standing = step_made (ask_act call) at in
+      let fails = ask_fails call meaning at last bytes b Failed (fails_next (ask_act call) now meddles made f.flies.is_on f.flies.few) in
+      let settled : Standing = record last { plan = Some quiet_plan } in
+      let it : Called = broken_as stop None (size_of b) in
+      let settles : SettlesPlan stop true last settled = record {
+        cell = refl;
+        items = refl;
+        is_on = refl;
+        plan = refl;
+        steps = refl;
+        writes = refl;
+      } in
+      let came = comes variant meaning key barrier d from call now meddles next bytes b f short stop last settled (Broken Failed fails.0)
+      (size_of b) (Ok it) (omega arith) fails.1 refl settles refl issued in
+      let so = comes_so i d issued meddles stop offer bytes b from settled it offered came in
+      let said : is_nothing (asked_so i d issued meddles stop offer b).reply ≡ true = sym (ap (λ x. is_nothing x) so.reply) in
+      subst (λ (k : ℕ). is_nothing (asked_so i d issued meddles (Fail k false) offer b).reply ≡ true) (sym f.is_next) said
+
+  pub going_to : (call : AskCall) (now new : Standing) (meddles : List Meddle) (next : ℕ) (offer : Offer) (bytes : List ℕ) (b : Batch)
+      (on : AskCall) (turned : AskTurn) → AsksInFlight variant meaning key barrier d from call now meddles next bytes b → is_long b ≡ false
+      → offered_bytes issued offer ≡ Some bytes → AdvancedAsk meaning call now new bytes b turned → turned ≡ turn.Going on
+      → SteppedTo variant meaning key barrier d from issued meddles next offer bytes b new (Ok (Going on))
+  going_to call now new meddles next offer bytes b on turned f short offered a e =
+      let made = f.made in
+      let t : AskTurns meaning call now new bytes b (turn.Going on) = subst (λ (x : AskTurn). AskTurns meaning call now new bytes b x) e
+      a.turns in
+      let m = ask_moves call meaning now new bytes b on t in
+      let few : made + 1 < 255 = fewer (ask_number on) (ask_number call) made (few_steps on) m.counts f.number in
+      let flies = goes_on (asks_whole variant meaning bytes b) (asks_rest meaning call bytes b) (asks_rest meaning on bytes b) from now new
+      meddles made (ask_number call) (ask_number on) f.flies m few
+      (λ plan r end ended rest. ask_then call meaning (under plan made now) (under plan (counted made) new) end bytes b on ended
+      (ask_replanned call meaning now new bytes b (turn.Going on) plan (plan_by Quiet meddles) made r t) rest) in
+      let flight : AsksInFlight variant meaning key barrier d from on new meddles (next + 1) bytes b = record {
+        stands = f.stands;
+        quiet = f.quiet;
+        made = made + 1;
+        flies = flies;
+        room = subst (λ (x : AskTurn). TurnMayAsk x new) e a.room;
+        number = m.counts ∙ ap (λ (n : ℕ). n + 1) f.number;
+        is_next = ap (λ (n : ℕ). n + 1) f.is_next;
+      } in
+      (flight, nothing_yet on new meddles (next + 1) offer bytes b flight short offered)
+
+  pub answers_to : (call : AskCall) (now mid : Standing) (meddles : List Meddle) (next : ℕ) (offer : Offer) (bytes : List ℕ) (b : Batch)
+      (new : Standing) (size number : ℕ) (answer : BatchAnswer) (turned : AskTurn) (result : Result Stepped Memory)
+      → AsksInFlight variant meaning key barrier d from call now meddles next bytes b → is_long b ≡ false → size ≡ size_of b
+      → number ≡ ask_number call → offered_bytes issued offer ≡ Some bytes → AdvancedAsk meaning call now mid bytes b turned
+      → turned ≡ turn.Done answer → EndsAs (stop_behind number) size (Answered answer) mid new result
+      → SteppedTo variant meaning key barrier d from issued meddles next offer bytes b new result
+  answers_to call now mid meddles next offer bytes b new size number answer turned result f short n at offered a e ends =
+      let t = finishes_under call meaning now mid meddles f.made bytes b (turn.Done answer) f.flies.is_on f.flies.planned f.flies.few
+      (subst (λ (x : AskTurn). AskTurns meaning call now mid bytes b x) e a.turns) in
+      over_to call now mid meddles next offer bytes b new size (Answered answer) result f short n offered refl (ask_answers call meaning
+      (under (behind meddles f.made) f.made now) (under (behind meddles f.made) (counted f.made) mid) bytes b answer t)
+      (subst (λ (k : ℕ). EndsAs (stop_behind k) size (Answered answer) mid new result) (at ∙ f.number ∙ sym f.is_next) ends)
+
+  pub refuses_to : (call : AskCall) (now mid : Standing) (meddles : List Meddle) (next : ℕ) (offer : Offer) (bytes : List ℕ) (b : Batch)
+      (new : Standing) (size number : ℕ) (why : Refusal) (turned : AskTurn) (ended : Ended) (result : Result Stepped Memory)
+      → AsksInFlight variant meaning key barrier d from call now meddles next bytes b → is_long b ≡ false → size ≡ size_of b
+      → number ≡ ask_number call → offered_bytes issued offer ≡ Some bytes → AdvancedAsk meaning call now mid bytes b turned
+      → turned ≡ turn.Refused why → ended ≡ refused_as why → EndsAs (stop_behind number) size ended mid new result
+      → SteppedTo variant meaning key barrier d from issued meddles next offer bytes b new result
+  refuses_to call now mid meddles next offer bytes b new size number why turned ended result f short n at offered a e is ends =
+      let refused = subst (λ (x : AskTurn). AskTurns meaning call now mid bytes b x) e a.turns in
+      let none : fault_of why ≡ None = ask_faultless call meaning now mid bytes b (turn.Refused why) meddles f.made f.flies.is_on
+      f.flies.planned refused in
+      let t = finishes_under call meaning now mid meddles f.made bytes b (turn.Refused why) f.flies.is_on f.flies.planned f.flies.few
+      refused in
+      over_to call now mid meddles next offer bytes b new size (refused_as why) result f short n offered (unbroken_as (fault_of why) why
+      none) (ask_refuses call meaning (under (behind meddles f.made) f.made now) (under (behind meddles f.made) (counted f.made) mid) bytes
+      b why t none) (subst (λ (k : ℕ). EndsAs (stop_behind k) size (refused_as why) mid new result) (at ∙ f.number ∙ sym f.is_next)
+      (subst (λ (x : Ended). EndsAs (stop_behind number) size x mid new result) is ends))
 
 -- the room that it takes, if it goes on
 
@@ -295,8 +247,7 @@ later_than made stop next at is = omega arith
 pub wants_none : (stop : Stop) (size : ℕ) (ended : Ended) (memory : Memory) (result : Result Called Memory) → is_broken ended ≡ true
     → result ≡ Err memory → CalledAs stop size ended result → ⊥
 wants_none stop size (Answered answer) memory result broken e told = cc
-wants_none stop size (Refused why) memory result broken e told = cc
-wants_none stop size (Broken fault commits) memory result broken e told = cc
+wants_none stop size _ memory result broken e told = cc
 
 pub broken_off : (stop : Stop) (old stopped : Standing) (call : AskCall) (meaning : Meaning) (mid : Standing) (bytes : List ℕ)
     (b : Batch) (ended : Ended) → BreaksNext stop old → stopped ≡ record old { plan = option_map (stopping stop) old.plan }
@@ -306,14 +257,14 @@ broken_off stop old stopped call meaning mid bytes b ended breaks is finishes =
     finishes
 
 pub breaks_to : (variant : Variant) (meaning : Meaning) (key barrier : List ℕ) (d : Digests) (from : Standing) (issued : List (List ℕ))
-    (call : AskCall) (now stopped mid : Standing) (meddles : List Meddle) (next : ℕ) (offer : Offer)
-    (bytes : List ℕ) (b : Batch) (stop : Stop) (new : Standing) (size : ℕ) (broken : Bool) (ended : Ended) (it : Called)
-    (result : Result Called Memory) → AsksInFlight variant meaning key barrier d from call now meddles next bytes b → is_long b ≡ false
-    → size ≡ size_of b → offered_bytes issued offer ≡ Some bytes → stopped_step stop ≡ next
-    → stopped ≡ record now { plan = option_map (stopping stop) now.plan } → AskFinishes meaning call stopped mid bytes b ended
-    → broken ≡ is_broken ended → SettlesPlan stop broken mid new → CalledAs stop size ended result → result ≡ Ok it
-    → Came (instance_by variant meaning key barrier) (asked_so (instance_by variant meaning key barrier) d issued meddles stop offer b)
-    d.count issued from new it
+    (call : AskCall) (now stopped mid : Standing) (meddles : List Meddle) (next : ℕ) (offer : Offer) (bytes : List ℕ) (b : Batch)
+    (stop : Stop) (new : Standing) (size : ℕ) (broken : Bool) (ended : Ended) (it : Called) (result : Result Called Memory)
+    → AsksInFlight variant meaning key barrier d from call now meddles next bytes b → is_long b ≡ false → size ≡ size_of b
+    → offered_bytes issued offer ≡ Some bytes → stopped_step stop ≡ next → stopped ≡ record now {
+      plan = option_map (stopping stop) now.plan;
+    } → AskFinishes meaning call stopped mid bytes b ended → broken ≡ is_broken ended → SettlesPlan stop broken mid new
+    → CalledAs stop size ended result → result ≡ Ok it → Came (instance_by variant meaning key barrier)
+    (asked_so (instance_by variant meaning key barrier) d issued meddles stop offer b) d.count issued from new it
 breaks_to variant meaning key barrier d from issued call now stopped mid meddles next offer bytes b stop new size broken ended it result
     f short n offered at is finishes known settles told e =
     let i = instance_by variant meaning key barrier in

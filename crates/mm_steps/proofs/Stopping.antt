@@ -1,25 +1,12 @@
 -- A stop says nothing of the steps before it; and what its step comes to.
-use Rattle.std.proofs.Common.{◌≡◌, ℕ, ◌+◌, ◌<◌, ◌≤◌, Bool, true, false, not, List, Option, None, Some, refl, sym, ap, ◌∙◌, arith}
-use Rattle.std.specs.Prelude.{◌==◌, is_some, if◌then◌else◌}
-use Rattle.std.specs.Option.{option_map}
+use Rattle.mm_steps.proofs.Below.{◌≡◌, ℕ, ◌+◌, ◌<◌, ◌≤◌, Bool, true, false, not, List, Option, None, Some, refl, sym, ap, ◌∙◌, arith, ◌==◌}
+use Rattle.mm_steps.proofs.Below.{is_some, if◌then◌else◌, option_map, counted, StepFault, Failed, Off, Meddle, Stop, Quiet, Cut, Drop, Fail}
+use Rattle.mm_steps.proofs.Below.{Plan, Standing, next_step, stopping, step_made, plan_by, under, SaySame, GoesOnAs, AlwaysFails}
+use Rattle.mm_steps.proofs.Below.{counted_few, Replans, stopped_step, SettlesPlan, BreaksNext, stop_behind, replans}
 use Rattle.std.proofs.lemmas.Bool.{ne_eqb}
 use Rattle.std.proofs.lemmas.Bool.Decides.{nat_tests}
-use Rattle.mm_base.specs.Faults.{counted}
-use Rattle.mm_platform.specs.declared.fault.StepFault.{StepFault}
-use Rattle.mm_platform.specs.declared.fault.StepFault.TheVariants.{Failed, Off}
-use Rattle.mm_platform.specs.declared.plan.Meddle.{Meddle}
-use Rattle.mm_platform.specs.declared.plan.Stop.{Stop}
-use Rattle.mm_platform.specs.declared.plan.Stop.TheVariants.{Quiet, Cut, Drop, Fail}
-use Rattle.mm_platform.specs.Standing.{Plan, Standing, next_step}
-use Rattle.mm_platform.specs.Memory.{stopping}
 use Rattle.mm_platform.specs.Steps.{Act, Goes, fault_at, will_answer}
-use Rattle.mm_platform.specs.Told.{step_made}
 use Rattle.mm_platform.specs.StepLaws.{goes}
-use Rattle.mm_flight.specs.InFlight.{plan_by, under, SaySame, GoesOnAs}
-use Rattle.mm_flight.proofs.Replanning.{AlwaysFails, counted_few, Replans}
-use Rattle.mm_world.specs.Calls.{stopped_step, SettlesPlan}
-use Rattle.mm_steps.specs.Stopping.{BreaksNext, stop_behind}
-use Rattle.mm_flight.proofs.Flying.{replans}
 
 off_here : (here : Bool) → here ≡ false → (if here then Some Off else None) ≡ None
 off_here true e = cc

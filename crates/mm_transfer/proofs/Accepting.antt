@@ -1,42 +1,16 @@
 -- An acceptance on a side comes to what it comes to by digests.
-use Rattle.std.proofs.Common.{◌≡◌, ◌≤◌, ◌+◌, ℕ, Bool, true, false, List, [], ◌∷◌, ◌++◌, length, Option, None, Some, Result, Ok, Err, inl, inr, refl, sym, ap, ◌∙◌, subst, arith, length-append}
-use Rattle.std.specs.Prelude.{◌&&◌, not, MatchResult, if◌then◌else◌}
-use Rattle.std.specs.List.{sum_by}
-use Rattle.mm_base.specs.declared.fault.Memory.{Memory}
-use Rattle.mm_module.specs.Meaning.{Meaning}
-use Rattle.mm_platform.specs.declared.fault.StepFault.{StepFault}
-use Rattle.mm_platform.specs.declared.plan.Meddle.{Meddle}
-use Rattle.mm_platform.specs.declared.plan.Stop.{Stop}
-use Rattle.mm_platform.specs.Standing.{Standing}
-use Rattle.mm_model.specs.Instance.{Instance}
-use Rattle.mm_model.specs.Moves.{Digests}
-use Rattle.mm_model.specs.Standing.{register_reads}
-use Rattle.mm_call.specs.Courses.{walk}
-use Rattle.mm_call.specs.Levels.{by_digests}
-use Rattle.mm_run.specs.Folds.{course_of, way_of}
-use Rattle.mm_run.specs.Offered.{offered_bytes}
-use Rattle.mm_schedule.specs.declared.event.Offer.{Offer}
+use Rattle.mm_transfer.proofs.Below.{◌≡◌, ◌≤◌, ◌+◌, ℕ, Bool, true, false, List, [], ◌∷◌, ◌++◌, length, Option, None, Some, Result, Ok, Err}
+use Rattle.mm_transfer.proofs.Below.{inl, inr, refl, sym, ap, ◌∙◌, subst, arith, length-append, ◌&&◌, not, MatchResult, if◌then◌else◌}
+use Rattle.mm_transfer.proofs.Below.{sum_by, Memory, Meaning, StepFault, Meddle, Stop, Standing, Instance, Digests, register_reads, walk}
+use Rattle.mm_transfer.proofs.Below.{by_digests, course_of, way_of, offered_bytes, Offer, IsQuiet, MoveRefusal, moved_of, accepts_in}
+use Rattle.mm_transfer.proofs.Below.{TicketContent, ticket_of, place_at, Content, sealed_of, digest_of, Role, Effect, Invites, Leaves}
+use Rattle.mm_transfer.proofs.Below.{Enters, is_live, Which, Pair, key_of, instance_on, Side, Both, digests_move, MoveCause, FoundMove}
+use Rattle.mm_transfer.proofs.Below.{Accept, accepted_on, ticket_by, ticket_in, Denied, move_steps, effect_of, brought_to, affected_if}
+use Rattle.mm_transfer.proofs.Below.{BothOutcome, moved_if, accepting, Between, MoveReply, CodeSide, EnteredAs, Tried, both_with, commanded}
+use Rattle.mm_transfer.proofs.Below.{FitsBetween, CommandDone, CommandLacks, link_of, role_in, at_in, within_64, FitsSide, MovesPlanned}
+use Rattle.mm_transfer.proofs.Below.{moves_at, reply_said, cell_of_role, stood, GivesEntry, GivesEntryBy, Matches, FitsCell}
 use Rattle.mm_move.specs.declared.accepting.Accepted.{Accepted}
-use Rattle.mm_world.specs.Stands.{IsQuiet}
-use Rattle.mm_move.specs.declared.refusal.MoveRefusal.{MoveRefusal}
-use Rattle.mm_move.specs.Cells.{moved_of}
-use Rattle.mm_move.specs.Orders.{accepts_in}
-use Rattle.mm_move.specs.Tickets.{TicketContent, ticket_of, place_at}
-use Rattle.mm_seal.specs.Snapshot.{Content, sealed_of}
-use Rattle.mm_model.specs.PlacesWords.{digest_of}
-use Rattle.mm_sides.specs.Roles.{Role, Effect, Invites, Leaves, Enters, is_live}
-use Rattle.mm_sides.specs.Both.{Which, Pair, key_of, instance_on, Side, Both, digests_move}
-use Rattle.mm_sides.specs.Moves.{MoveCause, FoundMove, Accept, accepted_on, ticket_by, ticket_in}
-use Rattle.mm_sides.specs.Folds.{Denied, move_steps, effect_of, brought_to, affected_if, BothOutcome, moved_if, accepting}
-use Rattle.mm_transfer.specs.declared.between.Between.{Between}
-use Rattle.mm_transfer.specs.declared.reply.MoveReply.{MoveReply}
 use Rattle.mm_transfer.specs.declared.reply.MoveReply.TheVariants as reply
-use Rattle.mm_transfer.specs.declared.side.Side.{Side as CodeSide}
-use Rattle.mm_transfer.specs.Between.{EnteredAs, Tried, both_with, commanded, FitsBetween, CommandDone, CommandLacks}
-use Rattle.mm_transfer.specs.OneSide.{link_of, role_in, at_in, within_64, FitsSide}
-use Rattle.mm_transfer.specs.Planned.{MovesPlanned, moves_at}
-use Rattle.mm_transfer.specs.Replies.{reply_said}
-use Rattle.mm_transfer.specs.RoleCells.{cell_of_role, stood, GivesEntry, GivesEntryBy, Matches, FitsCell}
 use Rattle.mm_transfer.proofs.Commanded.{keeps_own, made_as, err_match, ok_match, lacks_side, wanted, Told}
 use Rattle.mm_transfer.proofs.Commanding.{variant_by, meaning_by, IsFormed, KeepsFor, side_was, CameAs, Came, came_by, made_if, MovedBy}
 use Rattle.mm_transfer.proofs.Commanding as commanding
@@ -81,11 +55,10 @@ stood_digest d away true ticket = refl
 stood_digest d away false ticket = refl
 
 told_entered : (pair : Pair) (i : Instance) (role : Role) (d : Digests) (stop : Stop) (broken : Option StepFault)
-    (found : Result FoundMove MoveCause)
-    (effect : Option Effect) (live : Bool) (away : ℕ) (old new : CodeSide) (came : Result Accepted MoveRefusal)
-    (result : Result MoveReply Memory)
-    → CameAs (GivesEntry i d) broken found came → MovedBy stop broken found effect → AcceptsPlainly i role found → live ≡ is_live role
-    → old.position ≡ d.count → old.kept ≡ within_64 (sum_by length old.issued.items) → EnteredAs live away stop came old new result
+    (found : Result FoundMove MoveCause) (effect : Option Effect) (live : Bool) (away : ℕ) (old new : CodeSide)
+    (came : Result Accepted MoveRefusal) (result : Result MoveReply Memory) → CameAs (GivesEntry i d) broken found came
+    → MovedBy stop broken found effect → AcceptsPlainly i role found → live ≡ is_live role → old.position ≡ d.count
+    → old.kept ≡ within_64 (sum_by length old.issued.items) → EnteredAs live away stop came old new result
     → ToldEntered pair i d stop broken found effect away old new result
 told_entered pair i role d stop (Some fault) found effect live away old new came result says moved plain l count counted entered =
     let t = subst (λ (c : Result Accepted MoveRefusal). EnteredAs live away stop c old new result) says entered in record {
@@ -112,8 +85,7 @@ told_entered pair i role d stop None (Err cause) effect live away old new came r
       };
       position =
           t.position ∙ ap (λ b. if not live && b then away else old.position) (never_moved stop cause plain)
-          ∙ stays_there live old.position away ∙ count
-          ∙ sym (ap (λ x. (at_then away d x).count) moved);
+          ∙ stays_there live old.position away ∙ count ∙ sym (ap (λ x. (at_then away d x).count) moved);
       kept = subst (λ (x : List (List ℕ)). new.kept ≡ within_64 (sum_by length x)) (sym t.issued) (t.kept ∙ counted);
       few = omega (arith, ap length t.issued);
       platform = t.platform;
@@ -163,8 +135,7 @@ told_entered pair i role d stop None (Ok found) effect live away old new came re
 -- all together
 
 accepts_pair : (pair : Pair) (which : Which) (role : Role) (d : Digests) (bytes : List ℕ)
-    → FitsCell (instance_on pair which) (link_of pair) role d
-    → (let i = instance_on pair which in
+    → FitsCell (instance_on pair which) (link_of pair) role d → (let i = instance_on pair which in
     Matches (GivesEntry i d) i d (accepts_in pair.meaning pair.variant (link_of pair) bytes (moved_of (cell_of_role i role d)))
     (accepted_on (by_digests i) role d (ticket_in pair bytes)))
 accepts_pair pair which role d bytes fit =
@@ -189,8 +160,7 @@ are_for pair which bytes =
     (ticket_for_side i pair.link bytes))
 
 there : (i : Instance) (role : Role) (at d : Digests) (issued issued' tickets : List (List ℕ)) (other : Side Digests) (away committed : ℕ)
-    (effect : Option Effect)
-    → at.digest ≡ d.digest → issued ≡ issued'
+    (effect : Option Effect) → at.digest ≡ d.digest → issued ≡ issued'
     → StandsThere i (at_then away d effect).digest issued' (affected_if digests_move (record {
       first = record { role = role; at = at; issued = issued };
       second = other;
@@ -222,8 +192,7 @@ pub entered_done : (pair : Pair) (which : Which) (bytes : List ℕ) (offer : Off
     (live : Bool) (came : Result Accepted MoveRefusal) (result : Result MoveReply Memory) → IsFormed pair which
     → offered_bytes between.tickets.items offer ≡ Some bytes → live ≡ is_live (role_in old.platform.cell)
     → MovesPlanned (λ (cell : List ℕ). accepts_in pair.meaning pair.variant (link_of pair) bytes (moved_of cell)) stop meddles old.platform
-    mid.platform came
-    → mid.digest ≡ old.digest → mid.issued.items ≡ old.issued.items → mid.kept ≡ old.kept → mid.position ≡ old.position
+    mid.platform came → mid.digest ≡ old.digest → mid.issued.items ≡ old.issued.items → mid.kept ≡ old.kept → mid.position ≡ old.position
     → EnteredAs live between.away stop came mid new result → FitsSide pair which old → FitsBetween between
     → MatchResult result (CommandDone pair which old new between between (commanded pair which old between meddles stop (Accept offer)))
     (λ _. CommandLacks pair which old new between between)
@@ -245,8 +214,7 @@ entered_done pair which bytes offer stop meddles old mid new between live came r
           let plain = accepts_plainly i role d pair.meaning pair.link (ticket_of pair.variant pair.meaning.id bytes)
           (are_for pair which bytes) in
           let t = told_entered pair i role d stop (walk fates 1 (move_steps found)).broken found (effect_of fates found) live between.away
-          mid new came result
-          c.says moved plain lives position sum entered in
+          mid new came result c.says moved plain lives position sum entered in
           let m = made_as stop _ found _ moved in
           let effect = made_if m.moved found in
           let is = entered_made i role found m.moved plain in
@@ -256,8 +224,7 @@ entered_done pair which bytes offer stop meddles old mid new between live came r
           let kk = entered_keeps pair which i role new.digest.bytes between.away d effect keeps is in
           let c' = subst (λ (s : Standing). Came (GivesEntry i d) i role d stop meddles found s came) (sym t.platform) c in
           let s = side_then (GivesEntry i d) pair which role d stop meddles found new came between.away effect m.is c' w.0
-          (entered_fits i d effect is)
-          (t.position ∙ ap (λ x. (at_then between.away d x).count) m.is) kk.0 t.kept in
+          (entered_fits i d effect is) (t.position ∙ ap (λ x. (at_then between.away d x).count) m.is) kk.0 t.kept in
           let brought = brought_to digests_move i d meddles stop (move_steps found) in
           let stands : brought.digest ≡ d.digest = ap (λ (x : Digests). x.digest) (brought_digests i d stop meddles found) in
           ok_match _ _ result t.told.said t.told.is (record {
@@ -279,16 +246,14 @@ entered_done pair which bytes offer stop meddles old mid new between live came r
                   away = between.away;
                   tickets = between.tickets.items;
                   committed = committed;
-                }) e) (sym m.is))
-                ∙ sym (t.told.both _
+                }) e) (sym m.is)) ∙ sym (t.told.both _
                 (there i role brought d old.issued.items mid.issued.items between.tickets.items other between.away committed
                 (effect_of fates found) stands (sym issued)))
                 ∙ sym (ap (λ (x : Option (List ℕ)). (accepted_by pair which old between meddles stop offer x other committed).both) names);
             says =
                 λ other committed. t.told.says _
                 (there i role brought d old.issued.items mid.issued.items between.tickets.items other between.away committed
-                (effect_of fates found) stands (sym issued))
-                ∙ sym (ap (λ (x : Option (List ℕ)). reply_said
+                (effect_of fates found) stands (sym issued)) ∙ sym (ap (λ (x : Option (List ℕ)). reply_said
                 (accepted_by pair which old between meddles stop offer x other committed).reply) names);
             issued = let few = t.few in let same = ap length issued in omega (arith, few, same);
             tickets = omega arith;
@@ -307,22 +272,17 @@ entered_done pair which bytes offer stop meddles old mid new between live came r
           err_match _ _ result t.says
           (lacks_side pair which old new between between r.value formed fits (ap (λ (s : Standing). s.cell) t.platform ∙ w'.cell)
           (ap register_reads t.platform ∙ r.is) (subst IsQuiet (sym t.platform) w'.quiet)
-          (t.position ∙ stays_there live mid.position between.away ∙ position) keeps
-          (t.issued ∙ issued) (t.kept ∙ kept) refl refl refl)
+          (t.position ∙ stays_there live mid.position between.away ∙ position) keeps (t.issued ∙ issued) (t.kept ∙ kept) refl refl refl)
     ]
 
 -- with what the offer named
 pub accepted_done : (pair : Pair) (which : Which) (offer : Offer) (stop : Stop) (meddles : List Meddle) (old mid new : CodeSide)
-    (between : Between) (live : Bool)
-    (cell : List ℕ) (lent : List (List ℕ)) (field : Option (Result Accepted MoveRefusal)) (came : Result Accepted MoveRefusal)
-    (result : Result MoveReply Memory)
-    → IsFormed pair which → lent ≡ between.tickets.items
+    (between : Between) (live : Bool) (cell : List ℕ) (lent : List (List ℕ)) (field : Option (Result Accepted MoveRefusal))
+    (came : Result Accepted MoveRefusal) (result : Result MoveReply Memory) → IsFormed pair which → lent ≡ between.tickets.items
     → Tried (λ bytes (cell : List ℕ). accepts_in pair.meaning pair.variant (link_of pair) bytes (moved_of cell)) stop meddles
-    (offered_bytes lent offer)
-    old.platform mid.platform (Ok field)
-    → field ≡ Some came → live ≡ is_live (role_in (Some cell)) → old.platform.cell ≡ Some cell
-    → mid.digest ≡ old.digest → mid.issued.items ≡ old.issued.items → mid.kept ≡ old.kept → mid.position ≡ old.position
-    → EnteredAs live between.away stop came mid new result → FitsSide pair which old → FitsBetween between
+    (offered_bytes lent offer) old.platform mid.platform (Ok field) → field ≡ Some came → live ≡ is_live (role_in (Some cell))
+    → old.platform.cell ≡ Some cell → mid.digest ≡ old.digest → mid.issued.items ≡ old.issued.items → mid.kept ≡ old.kept
+    → mid.position ≡ old.position → EnteredAs live between.away stop came mid new result → FitsSide pair which old → FitsBetween between
     → MatchResult result (CommandDone pair which old new between between (commanded pair which old between meddles stop (Accept offer)))
     (λ _. CommandLacks pair which old new between between)
 accepted_done pair which offer stop meddles old mid new between live cell lent field came result formed same tries is lives holds digest
@@ -337,13 +297,12 @@ accepted_done pair which offer stop meddles old mid new between live cell lent f
 
 -- a ticket that isn't issued
 pub accepted_unissued : (pair : Pair) (which : Which) (offer : Offer) (stop : Stop) (meddles : List Meddle) (old new : CodeSide)
-    (between : Between)
-    (lent : List (List ℕ)) (field : Option (Result Accepted MoveRefusal)) → IsFormed pair which → lent ≡ between.tickets.items
+    (between : Between) (lent : List (List ℕ)) (field : Option (Result Accepted MoveRefusal)) → IsFormed pair which
+    → lent ≡ between.tickets.items
     → Tried (λ bytes (cell : List ℕ). accepts_in pair.meaning pair.variant (link_of pair) bytes (moved_of cell)) stop meddles
-    (offered_bytes lent offer)
-    old.platform new.platform (Ok field) → field ≡ None
-    → new.digest ≡ old.digest → new.issued.items ≡ old.issued.items → new.kept ≡ old.kept → new.position ≡ old.position
-    → FitsSide pair which old → FitsBetween between
+    (offered_bytes lent offer) old.platform new.platform (Ok field) → field ≡ None → new.digest ≡ old.digest
+    → new.issued.items ≡ old.issued.items → new.kept ≡ old.kept → new.position ≡ old.position → FitsSide pair which old
+    → FitsBetween between
     → CommandDone pair which old new between between (commanded pair which old between meddles stop (Accept offer)) reply.NoTicket
 accepted_unissued pair which offer stop meddles old new between lent field formed same tries is digest issued kept position fits counted =
     let finds = λ (bytes cell : List ℕ). accepts_in pair.meaning pair.variant (link_of pair) bytes (moved_of cell) in

@@ -1,38 +1,20 @@
 -- What happens on a side is what happens on both.
-use Rattle.std.proofs.Common.{◌≡◌, ◌∙◌, ◌^◌, ◌<◌, ℕ, List, length, Option, None, Some, Result, Ok, Err, refl, sym, ap, subst, arith}
-use Rattle.std.specs.Prelude.{MatchResult, IfOk, OnOk}
-use Rattle.std.specs.List.{sum_by}
-use Rattle.mm_base.specs.declared.fault.Memory.{Memory}
-use Rattle.mm_platform.specs.declared.fault.StepFault.{StepFault}
-use Rattle.mm_platform.specs.declared.plan.Meddle.{Meddle}
-use Rattle.mm_platform.specs.declared.plan.Stop.{Stop}
-use Rattle.mm_model.specs.Instance.{Instance}
-use Rattle.mm_model.specs.Moves.{Digests}
-use Rattle.mm_call.specs.Courses.{walk}
-use Rattle.mm_run.specs.Folds.{course_of}
-use Rattle.mm_schedule.specs.Events.{meddles_of}
+use Rattle.mm_transfer.proofs.Below.{◌≡◌, ◌∙◌, ◌^◌, ◌<◌, ℕ, List, length, Option, None, Some, Result, Ok, Err, refl, sym, ap, subst, arith}
+use Rattle.mm_transfer.proofs.Below.{MatchResult, IfOk, OnOk, sum_by, Memory, StepFault, Meddle, Stop, Instance, Digests, walk, course_of}
+use Rattle.mm_transfer.proofs.Below.{meddles_of, Header, Which, First, Second, Pair, instance_on, Side, Both, turned, digests_move, Moves}
+use Rattle.mm_transfer.proofs.Below.{BothEvent, affected_if, brought_to, effect_of, finding, move_ended, move_outcome, move_steps, moved_if}
+use Rattle.mm_transfer.proofs.Below.{Command, Invite, Retire, Accept, FoundMove, MoveCause, Effect, Invites, Between, MoveReply, CodeSide}
+use Rattle.mm_transfer.proofs.Below.{Inside, both_with, commanded, FitsBetween, CommandDone, CommandLacks, Commands, act_of, command_of}
+use Rattle.mm_transfer.proofs.Below.{side_event_of, which_of, side_in, within_64, pair_of, reply_said, IsSayable}
 use Rattle.mm_schedule.specs.declared.event.Meddles.{Meddles}
-use Rattle.mm_schedule.specs.declared.header.Header.{Header}
-use Rattle.mm_sides.specs.Both.{Which, First, Second, Pair, instance_on, Side, Both, turned, digests_move}
-use Rattle.mm_sides.specs.Folds.{Act, Moves, BothEvent, affected_if, brought_to, effect_of, finding, move_ended, move_outcome, move_steps, moved_if}
-use Rattle.mm_sides.specs.Moves.{Command, Invite, Retire, Accept, FoundMove, MoveCause}
-use Rattle.mm_sides.specs.Roles.{Effect, Invites, Leaves, Enters}
-use Rattle.mm_transfer.specs.declared.between.Between.{Between}
+use Rattle.mm_sides.specs.Folds.{Act}
 use Rattle.mm_transfer.specs.declared.event.Act.{Act as CodeAct}
 use Rattle.mm_transfer.specs.declared.event.Act.TheVariants as code
 use Rattle.mm_transfer.specs.declared.event.Command.{Command as CodeCommand}
 use Rattle.mm_transfer.specs.declared.event.SideEvent.{SideEvent}
 use Rattle.mm_transfer.specs.declared.event.Which.{Which as CodeWhich}
 use Rattle.mm_transfer.specs.declared.event.Which.TheVariants as which
-use Rattle.mm_transfer.specs.declared.reply.MoveReply.{MoveReply}
-use Rattle.mm_transfer.specs.declared.side.Side.{Side as CodeSide}
-use Rattle.mm_transfer.specs.declared.sides.Sides.TheInside.{Inside}
 use Rattle.mm_transfer.specs.Acting.{acted, AreWithin, ActDone, ActLacks, Acts}
-use Rattle.mm_transfer.specs.Between.{both_with, commanded, FitsBetween, CommandDone, CommandLacks, Commands}
-use Rattle.mm_transfer.specs.Events.{act_of, command_of, side_event_of, which_of}
-use Rattle.mm_transfer.specs.OneSide.{side_in, within_64}
-use Rattle.mm_transfer.specs.Pairs.{pair_of}
-use Rattle.mm_transfer.specs.Replies.{reply_said, IsSayable}
 use Rattle.mm_transfer.specs.Sides.{BothHeld, held_in, outcome_in}
 
 -- no move is answered as an event of a schedule is
@@ -40,8 +22,7 @@ told_sayable : (pair : Pair) (i : Instance) (both : Both Digests ℕ) (stop : St
     (had : Option Effect)
     → IsSayable (reply_said (move_ended digests_move pair i both stop None (Ok (record found { effect = effect })) had).reply)
 told_sayable pair i both stop found (Invites nonce) had = tt
-told_sayable pair i both stop found (Leaves ticket) had = tt
-told_sayable pair i both stop found (Enters ticket) had = tt
+told_sayable pair i both stop found _ had = tt
 
 ended_sayable : (pair : Pair) (i : Instance) (both : Both Digests ℕ) (stop : Stop) (fault : Option StepFault)
     (found : Result FoundMove MoveCause) (effect : Option Effect)
@@ -86,9 +67,8 @@ done_acts pair which meddles stop command old new was now committed said w d =
       tickets = d.tickets;
     }
 
-lacks_acts : (pair : Pair) (which : Which) (old new : CodeSide) (was now : Between) (committed : ℕ)
-    → FitsBetween was → AreWithin old was committed → CommandLacks pair which old new was now
-    → ActLacks pair which old new was now committed committed
+lacks_acts : (pair : Pair) (which : Which) (old new : CodeSide) (was now : Between) (committed : ℕ) → FitsBetween was
+    → AreWithin old was committed → CommandLacks pair which old new was now → ActLacks pair which old new was now committed committed
 lacks_acts pair which old new was now committed f w l =
     let position : new.position ≡ old.position = ap (λ (s : Side Digests). s.at.count) l.side in
     let away = l.away in
@@ -106,8 +86,7 @@ lacks_acts pair which old new was now committed f w l =
     }
 
 command_acts : (pair : Pair) (which : Which) (meddles : List Meddle) (stop : Stop) (command : Command) (old new : CodeSide)
-    (was now : Between) (committed : ℕ) (result : Result MoveReply Memory)
-    → Commands pair which meddles stop command old new was now result
+    (was now : Between) (committed : ℕ) (result : Result MoveReply Memory) → Commands pair which meddles stop command old new was now result
     → Acts pair which (Moves meddles stop command) old new was now committed committed result
 command_acts pair which meddles stop command old new was now committed (Ok said) c =
     λ f b w few. done_acts pair which meddles stop command old new was now committed said w (c f b)
@@ -155,10 +134,9 @@ second_comes header first second second' between between' committed committed' a
 second_comes header first second second' between between' committed committed' act (Err fault) d = record { reply = tt; after = tt }
 
 -- an event on either side, as the code has followed it
-pub event_first : (old : Inside) (held : BothHeld) (event : SideEvent) (new : Both Digests ℕ) (here : CodeSide)
-    (between : Between) (committed : ℕ) (result came : Result MoveReply Memory)
-    → held_in old.header old.first old.second old.between old.committed ≡ held → held.both.committed < 2 ^ 63
-    → event.which ≡ which.First → result ≡ came → new ≡ both_with here between (side_in old.second) committed
+pub event_first : (old : Inside) (held : BothHeld) (event : SideEvent) (new : Both Digests ℕ) (here : CodeSide) (between : Between)
+    (committed : ℕ) (result came : Result MoveReply Memory) → held_in old.header old.first old.second old.between old.committed ≡ held
+    → held.both.committed < 2 ^ 63 → event.which ≡ which.First → result ≡ came → new ≡ both_with here between (side_in old.second) committed
     → Acts (pair_of old.header) First (act_of event.act) old.first here old.between between old.committed committed came
     → Comes held (side_event_of event) new result
 event_first old held event new here between committed result came view few is came_is now acts =
@@ -173,10 +151,9 @@ event_first old held event new here between committed result came view few is ca
     let result_comes = subst (λ (r : Result MoveReply Memory). Comes held event new r) (sym came_is) new_comes in
     subst (λ (w : CodeWhich). Comes held (record { which = which_of w; act = act }) new result) (sym is) result_comes
 
-pub event_second : (old : Inside) (held : BothHeld) (event : SideEvent) (new : Both Digests ℕ) (here : CodeSide)
-    (between : Between) (committed : ℕ) (result came : Result MoveReply Memory)
-    → held_in old.header old.first old.second old.between old.committed ≡ held → held.both.committed < 2 ^ 63
-    → event.which ≡ which.Second → result ≡ came → new ≡ both_with old.first between (side_in here) committed
+pub event_second : (old : Inside) (held : BothHeld) (event : SideEvent) (new : Both Digests ℕ) (here : CodeSide) (between : Between)
+    (committed : ℕ) (result came : Result MoveReply Memory) → held_in old.header old.first old.second old.between old.committed ≡ held
+    → held.both.committed < 2 ^ 63 → event.which ≡ which.Second → result ≡ came → new ≡ both_with old.first between (side_in here) committed
     → Acts (pair_of old.header) Second (act_of event.act) old.second here old.between between old.committed committed came
     → Comes held (side_event_of event) new result
 event_second old held event new here between committed result came view few is came_is now acts =

@@ -1,37 +1,14 @@
 -- A command on a side comes to what it comes to by digests.
-use Rattle.std.proofs.Common.{◌≡◌, ◌≤◌, ℕ, Bool, true, false, List, length, Option, None, Some, Result, Ok, Err, IsErr, inl, inr, refl, sym, ap, ◌∙◌, subst, arith}
-use Rattle.std.specs.Prelude.{MatchResult, if◌then◌else◌}
-use Rattle.std.specs.List.{sum_by}
-use Rattle.mm_base.specs.declared.fault.Memory.{Memory}
-use Rattle.mm_module.specs.Meaning.{Meaning}
-use Rattle.mm_platform.specs.declared.fault.StepFault.{StepFault}
-use Rattle.mm_platform.specs.declared.plan.Meddle.{Meddle}
-use Rattle.mm_platform.specs.declared.plan.Stop.{Stop}
-use Rattle.mm_platform.specs.Standing.{Standing}
-use Rattle.mm_model.specs.Instance.{Instance}
-use Rattle.mm_model.specs.Moves.{Digests}
-use Rattle.mm_model.specs.Standing.{register_reads}
-use Rattle.mm_call.specs.Courses.{walk}
-use Rattle.mm_run.specs.Folds.{course_of, way_of}
-use Rattle.mm_world.specs.Stands.{IsQuiet}
-use Rattle.mm_move.specs.declared.inviting.Invited.{Invited}
-use Rattle.mm_move.specs.declared.link.Link.{Link}
-use Rattle.mm_move.specs.declared.refusal.MoveRefusal.{MoveRefusal}
-use Rattle.mm_move.specs.Cells.{moved_of}
-use Rattle.mm_move.specs.Orders.{waiting_for, invites_in}
-use Rattle.mm_sides.specs.Roles.{Role, Blank, Live, Waiting as Waits, Retired as Left, Effect, Invites, Leaves, Enters}
-use Rattle.mm_sides.specs.Both.{Which, Pair, key_of, instance_on, Both, digests_move}
-use Rattle.mm_sides.specs.Moves.{MoveCause, FoundMove, Invite, invited_on}
-use Rattle.mm_sides.specs.Folds.{Denied, move_steps, effect_if, effect_of, brought_to, affected_if, move_ended}
-use Rattle.mm_transfer.specs.declared.between.Between.{Between}
-use Rattle.mm_transfer.specs.declared.reply.MoveReply.{MoveReply}
+use Rattle.mm_transfer.proofs.Below.{◌≡◌, ◌≤◌, ℕ, Bool, true, false, List, length, Option, None, Some, Result, Ok, Err, IsErr, inl, inr}
+use Rattle.mm_transfer.proofs.Below.{refl, sym, ap, ◌∙◌, subst, arith, MatchResult, if◌then◌else◌, sum_by, Memory, Meaning, StepFault}
+use Rattle.mm_transfer.proofs.Below.{Meddle, Stop, Standing, Instance, Digests, register_reads, walk, course_of, way_of, IsQuiet, Invited}
+use Rattle.mm_transfer.proofs.Below.{Link, MoveRefusal, moved_of, waiting_for, invites_in, Role, Blank, Live, Waits, Left, Effect, Invites}
+use Rattle.mm_transfer.proofs.Below.{Leaves, Enters, Which, Pair, key_of, instance_on, Both, digests_move, MoveCause, FoundMove, Invite}
+use Rattle.mm_transfer.proofs.Below.{invited_on, Denied, move_steps, effect_if, effect_of, brought_to, affected_if, move_ended, Between}
+use Rattle.mm_transfer.proofs.Below.{MoveReply, CodeSide, InvitedAs, KeepsDigest, commanded, FitsBetween, CommandDone, CommandLacks}
+use Rattle.mm_transfer.proofs.Below.{link_of, role_in, at_by, at_in, within_64, FitsSide, WantsMemory, MovesPlanned, moves_at, reply_said}
+use Rattle.mm_transfer.proofs.Below.{cell_of_role, GivesInvited, FitsCell}
 use Rattle.mm_transfer.specs.declared.reply.MoveReply.TheVariants as reply
-use Rattle.mm_transfer.specs.declared.side.Side.{Side as CodeSide}
-use Rattle.mm_transfer.specs.Between.{InvitedAs, KeepsDigest, commanded, FitsBetween, CommandDone, CommandLacks}
-use Rattle.mm_transfer.specs.OneSide.{link_of, role_in, at_by, at_in, within_64, FitsSide}
-use Rattle.mm_transfer.specs.Planned.{WantsMemory, MovesPlanned, moves_at}
-use Rattle.mm_transfer.specs.Replies.{reply_said}
-use Rattle.mm_transfer.specs.RoleCells.{cell_of_role, GivesInvited, FitsCell}
 use Rattle.mm_transfer.proofs.Commanding.{variant_by, meaning_by, key_by, IsFormed, KeepsFor, IsSide, side_is, side_was, CameAs, came_by, made_if, MovedBy, moved_by}
 use Rattle.mm_transfer.proofs.Matching.{invites_match}
 use Rattle.mm_transfer.proofs.Plainly.{said_cause, InvitesPlainly, invites_plainly}
@@ -58,8 +35,7 @@ pub record IsMade (found : Result FoundMove MoveCause) (effect : Option Effect) 
   pub is : effect ≡ made_if moved found
 
 pub made_as : (stop : Stop) (broken : Option StepFault) (found : Result FoundMove MoveCause) (effect : Option Effect)
-    → MovedBy stop broken found effect
-    → IsMade found effect
+    → MovedBy stop broken found effect → IsMade found effect
 made_as stop None found effect e = record { moved = true; is = e }
 made_as stop (Some fault) found effect e = record { moved = moves_at stop; is = e.0 }
 
@@ -79,33 +55,25 @@ pub record Reads (new : Standing) : Type 0 where
 
 still_cell : (i : Instance) (role : Role) (d : Digests) (register : List ℕ)
     → cell_of_role i role d ≡ cell_of_role i role (record d { register = register })
-still_cell i Blank d register = refl
-still_cell i Live d register = refl
 still_cell i (Waits nonce) d register = refl
-still_cell i (Left nonce) d register = refl
+still_cell i _ d register = refl
 
-still_fit : (pair : Pair) (which : Which) (role : Role) (d : Digests) (register : List ℕ)
-    → FitsCell (instance_on pair which) (link_of pair) role d
-    → FitsCell (instance_on pair which) (link_of pair) role (record d { register = register })
-still_fit pair which Blank d register fit = record { key = fit.key; barrier = fit.barrier; linked = fit.linked; fits = fit.fits }
-still_fit pair which Live d register fit = record { key = fit.key; barrier = fit.barrier; linked = fit.linked; fits = fit.fits }
+still_fit : (pair : Pair) (which : Which) (role : Role) (d : Digests) (register : List ℕ) → FitsCell (instance_on pair which)
+    (link_of pair) role d → FitsCell (instance_on pair which) (link_of pair) role (record d { register = register })
 still_fit pair which (Waits nonce) d register fit = record { key = fit.key; barrier = fit.barrier; linked = fit.linked; fits = fit.fits }
-still_fit pair which (Left nonce) d register fit = record { key = fit.key; barrier = fit.barrier; linked = fit.linked; fits = fit.fits }
+still_fit pair which _ d register fit = record { key = fit.key; barrier = fit.barrier; linked = fit.linked; fits = fit.fits }
 
 still_keeps : (pair : Pair) (which : Which) (role : Role) (d : Digests) (register kept : List ℕ) → KeepsFor pair which role kept d
     → KeepsFor pair which role kept (record d { register = register })
-still_keeps pair which Blank d register kept k = k
-still_keeps pair which Live d register kept k = k
 still_keeps pair which (Waits nonce) d register kept k = k
-still_keeps pair which (Left nonce) d register kept k = k
+still_keeps pair which _ d register kept k = k
 
 -- a side whose cell is as it was
 pub lacks_side : (pair : Pair) (which : Which) (old new : CodeSide) (was now : Between) (value : List ℕ) → IsFormed pair which
-    → FitsSide pair which old
-    → new.platform.cell ≡ old.platform.cell → register_reads new.platform ≡ Some value → IsQuiet new.platform → new.position ≡ old.position
-    → KeepsFor pair which (role_in old.platform.cell) new.digest.bytes (at_in old) → new.issued.items ≡ old.issued.items
-    → new.kept ≡ old.kept
-    → now.tickets.items ≡ was.tickets.items → now.kept ≡ was.kept → now.away ≡ was.away → CommandLacks pair which old new was now
+    → FitsSide pair which old → new.platform.cell ≡ old.platform.cell → register_reads new.platform ≡ Some value → IsQuiet new.platform
+    → new.position ≡ old.position → KeepsFor pair which (role_in old.platform.cell) new.digest.bytes (at_in old)
+    → new.issued.items ≡ old.issued.items → new.kept ≡ old.kept → now.tickets.items ≡ was.tickets.items → now.kept ≡ was.kept
+    → now.away ≡ was.away → CommandLacks pair which old new was now
 lacks_side pair which old new was now value formed fits cell register quiet position keeps issued kept tickets counted away =
     let i = instance_on pair which in
     let role = role_in old.platform.cell in
@@ -128,8 +96,7 @@ lacks_side pair which old new was now value formed fits cell register quiet posi
     }
 
 pub wanted : {A : Type 0} (i : Instance) (d : Digests) (stop : Stop) (meddles : List Meddle) (old new : Standing)
-    (came : Result A MoveRefusal)
-    → WantsMemory i d stop meddles old new came → Reads new
+    (came : Result A MoveRefusal) → WantsMemory i d stop meddles old new came → Reads new
 wanted i d stop meddles old new came w = elim w.register [
   | inl e ↦ record { value = d.register; is = e }
   | inr e ↦ record { value = _; is = e }
@@ -144,8 +111,7 @@ IsInvited nonce d (Some (Leaves ticket)) = ⊥
 IsInvited nonce d (Some (Enters ticket)) = ⊥
 
 invited_made : (role : Role) (d : Digests) (nonce : List ℕ) (found : Result FoundMove MoveCause) (moved : Bool)
-    → InvitesPlainly role d nonce found
-    → IsInvited nonce d (made_if moved found)
+    → InvitesPlainly role d nonce found → IsInvited nonce d (made_if moved found)
 invited_made role d nonce (Err cause) moved plain = tt
 invited_made role d nonce (Ok found) moved plain = by_again found.again moved found.effect plain.effect
   where
@@ -162,10 +128,9 @@ invited_fits nonce d (Some (Leaves ticket)) size is = absurd is
 invited_fits nonce d (Some (Enters ticket)) size is = absurd is
 
 invited_keeps : (pair : Pair) (which : Which) (role : Role) (nonce kept : List ℕ) (away : ℕ) (d : Digests) (effect : Option Effect)
-    → kept ≡ d.digest
-    → IsInvited nonce d effect → KeepsFor pair which (role_then role effect) kept (at_then away d effect)
-    × ((at_then away d effect).count ≡ d.count)
-    × ((x : Digests) → away_then away x effect ≡ away)
+    → kept ≡ d.digest → IsInvited nonce d effect
+    → KeepsFor pair which (role_then role effect) kept (at_then away d effect) × ((at_then away d effect).count ≡ d.count) ×
+    ((x : Digests) → away_then away x effect ≡ away)
 invited_keeps pair which role nonce kept away d None e is = (keeps_equal pair which role kept d e, refl, λ x. refl)
 invited_keeps pair which role nonce kept away d (Some (Invites other)) e is = (e, refl, λ x. refl)
 invited_keeps pair which role nonce kept away d (Some (Leaves ticket)) e is = absurd is
@@ -181,10 +146,9 @@ pub record Told (pair : Pair) (i : Instance) (stop : Stop) (broken : Option Step
   pub both : (both : Both Digests ℕ) → fits both → (move_ended digests_move pair i both stop broken found effect).both ≡ ends both
 
 told_invite : (pair : Pair) (i : Instance) (role : Role) (d : Digests) (nonce : List ℕ) (stop : Stop) (broken : Option StepFault)
-    (found : Result FoundMove MoveCause)
-    (effect : Option Effect) (came : Result Invited MoveRefusal) (result : Result MoveReply Memory) → CameAs GivesInvited broken found came
-    → MovedBy stop broken found effect → InvitesPlainly role d nonce found → InvitedAs stop came result
-    → Told pair i stop broken found effect result (λ both. both) (λ both. Unit {0})
+    (found : Result FoundMove MoveCause) (effect : Option Effect) (came : Result Invited MoveRefusal) (result : Result MoveReply Memory)
+    → CameAs GivesInvited broken found came → MovedBy stop broken found effect → InvitesPlainly role d nonce found
+    → InvitedAs stop came result → Told pair i stop broken found effect result (λ both. both) (λ both. Unit {0})
 told_invite pair i role d nonce stop (Some fault) found effect came result says moved plain told = record {
   said = reply.Broken (way_of stop) (moves_at stop);
   is = subst (λ (c : Result Invited MoveRefusal). InvitedAs stop c result) says told;
@@ -223,8 +187,7 @@ pub invites_planned : (pair : Pair) (which : Which) (nonce : List ℕ) (stop : S
     → MovesPlanned (λ (bytes : List ℕ). invites_in (waiting_for link pair.variant id nonce key) (moved_of bytes)) stop meddles old new came
     → MovesPlanned (λ (bytes : List ℕ). invites_in
     (waiting_for (link_of pair) (instance_on pair which).variant (instance_on pair which).meaning.id nonce (instance_on pair which).key)
-    (moved_of bytes))
-    stop meddles old new came
+    (moved_of bytes)) stop meddles old new came
 invites_planned pair which nonce stop meddles link id key old new came el ei ek planned =
     let i = instance_on pair which in
     let v = variant_by pair.variant pair.meaning (key_of pair which) pair.barrier in
@@ -235,15 +198,11 @@ invites_planned pair which nonce stop meddles link id key old new came el ei ek 
     subst (λ w. MovesPlanned (λ (bytes : List ℕ). invites_in w (moved_of bytes)) stop meddles old new came) same planned
 
 pub invited_done : (pair : Pair) (which : Which) (nonce : List ℕ) (stop : Stop) (meddles : List Meddle) (old mid new : CodeSide)
-    (between : Between)
-    (came : Result Invited MoveRefusal) (result : Result MoveReply Memory) → IsFormed pair which → length nonce ≡ 32 → KeepsDigest old mid
-    → MovesPlanned (λ (bytes : List ℕ). invites_in
+    (between : Between) (came : Result Invited MoveRefusal) (result : Result MoveReply Memory) → IsFormed pair which → length nonce ≡ 32
+    → KeepsDigest old mid → MovesPlanned (λ (bytes : List ℕ). invites_in
     (waiting_for (link_of pair) (instance_on pair which).variant (instance_on pair which).meaning.id nonce (instance_on pair which).key)
-    (moved_of bytes))
-    stop meddles mid.platform new.platform came
-    → new.digest ≡ mid.digest → new.issued.items ≡ mid.issued.items → new.kept ≡ mid.kept → new.position ≡ mid.position
-    → InvitedAs stop came result
-    → FitsSide pair which old → FitsBetween between
+    (moved_of bytes)) stop meddles mid.platform new.platform came → new.digest ≡ mid.digest → new.issued.items ≡ mid.issued.items
+    → new.kept ≡ mid.kept → new.position ≡ mid.position → InvitedAs stop came result → FitsSide pair which old → FitsBetween between
     → MatchResult result (CommandDone pair which old new between between (commanded pair which old between meddles stop (Invite nonce)))
     (λ _. CommandLacks pair which old new between between)
 invited_done pair which nonce stop meddles old mid new between came result formed size k planned digest issued kept position told fits
@@ -286,8 +245,7 @@ invited_done pair which nonce stop meddles old mid new between came result forme
                   committed = committed;
                 })
                 ∙ sym (affected_is role (brought_to digests_move i d meddles stop (move_steps found)) old.issued.items between.tickets.items
-                other between.away committed
-                (made_if m.moved found))
+                other between.away committed (made_if m.moved found))
                 ∙ ap (λ e. affected_if digests_move (record {
                   first =
                       record { role = role; at = brought_to digests_move i d meddles stop (move_steps found); issued = old.issued.items };
@@ -295,8 +253,7 @@ invited_done pair which nonce stop meddles old mid new between came result forme
                   away = between.away;
                   tickets = between.tickets.items;
                   committed = committed;
-                }) e) (sym m.is)
-                ∙ sym (t.both _ tt);
+                }) e) (sym m.is) ∙ sym (t.both _ tt);
             says = λ other committed. t.says _ tt;
             issued = omega (arith, ap length same_issued);
             tickets = omega arith;
@@ -306,6 +263,5 @@ invited_done pair which nonce stop meddles old mid new between came result forme
           let r = wanted i d stop meddles mid.platform new.platform came w' in
           err_match _ _ result (subst (λ (c : Result Invited MoveRefusal). InvitedAs stop c result) w'.says told)
           (lacks_side pair which old new between between r.value formed fits (w'.cell ∙ ap (λ (s : Standing). s.cell) k.platform) r.is
-          w'.quiet same_position
-          (keeps_equal pair which role new.digest.bytes d keeps) same_issued same_kept refl refl refl)
+          w'.quiet same_position (keeps_equal pair which role new.digest.bytes d keeps) same_issued same_kept refl refl refl)
     ]

@@ -1,45 +1,19 @@
 -- A side and its cell, and what a move that was found makes of them.
-use Rattle.std.proofs.Common.{◌≡◌, ℕ, Bool, true, false, List, [], length, Option, None, Some, Result, Ok, Err, refl, sym, ap, ◌∙◌, subst}
-use Rattle.std.specs.Prelude.{◌==◌, ◌&&◌, is_some, if◌then◌else◌}
-use Rattle.std.specs.List.{sum_by}
-use Rattle.mm_digest.specs.declared.variant.Variant.{Variant}
+use Rattle.mm_transfer.proofs.Below.{◌≡◌, ℕ, Bool, true, false, List, [], length, Option, None, Some, Result, Ok, Err, refl, sym, ap, ◌∙◌}
+use Rattle.mm_transfer.proofs.Below.{subst, ◌==◌, ◌&&◌, is_some, if◌then◌else◌, sum_by, Variant, Meaning, StepFault, Meddle, Stop, Standing}
+use Rattle.mm_transfer.proofs.Below.{fault_at, is_made_at, Instance, Digests, register_reads, Reads, End, Done, Fails, walk, after_step}
+use Rattle.mm_transfer.proofs.Below.{end_of, instance_by, course_of, takes_effect, digest_in, value_in, Stands, IsQuiet, register_at}
+use Rattle.mm_transfer.proofs.Below.{stopped_at, digests_are, Ready, MoveRefusal, IsWaiting, waiting_spelling, barrier_of, waiting_for}
+use Rattle.mm_transfer.proofs.Below.{three, length-zero_bytes, Role, Blank, Live, Waits, Left, Effect, Which, Pair, instance_on, key_of}
+use Rattle.mm_transfer.proofs.Below.{digests_move, MoveCause, FoundMove, move_steps, is_moved, effect_if, effect_of, brought_to, CodeSide}
+use Rattle.mm_transfer.proofs.Below.{link_of, role_of, role_in, at_by, at_in, waiting_on, StandsAs, within_64, FitsSide, written_if}
+use Rattle.mm_transfer.proofs.Below.{ended_as, MakesMove, moves_at, waiting_at, retired_at, cell_of_role, refusal_of, next_if, Matches}
+use Rattle.mm_transfer.proofs.Below.{FitsRole, FitsCell}
 use Rattle.mm_digest.specs.declared.variant.Variant.TheVariants as variants
-use Rattle.mm_module.specs.Meaning.{Meaning}
-use Rattle.mm_platform.specs.declared.fault.StepFault.{StepFault}
-use Rattle.mm_platform.specs.declared.plan.Meddle.{Meddle}
-use Rattle.mm_platform.specs.declared.plan.Stop.{Stop}
-use Rattle.mm_platform.specs.Standing.{Standing}
-use Rattle.mm_platform.specs.Steps.{fault_at, is_made_at}
-use Rattle.mm_model.specs.Instance.{Instance}
-use Rattle.mm_model.specs.Moves.{Digests}
-use Rattle.mm_model.specs.Standing.{register_reads}
-use Rattle.mm_model.specs.Steps.{Reads}
 use Rattle.mm_model.specs.declared.refusal.Refusal.TheVariants as core
-use Rattle.mm_call.specs.Courses.{End, Done, Fails, walk, after_step}
-use Rattle.mm_call.specs.CoursesWords.{end_of}
-use Rattle.mm_call.specs.Standing.{instance_by}
-use Rattle.mm_run.specs.Folds.{course_of}
-use Rattle.mm_world.specs.Calls.{takes_effect}
-use Rattle.mm_world.specs.Held.{digest_in, value_in}
-use Rattle.mm_world.specs.Stands.{Stands, IsQuiet}
-use Rattle.mm_world.proofs.Asking.{register_at}
-use Rattle.mm_world.proofs.Checking.{stopped_at}
-use Rattle.mm_world.proofs.Worlds.{digests_are}
-use Rattle.mm_move.specs.declared.ready.Ready.{Ready}
-use Rattle.mm_move.specs.declared.refusal.MoveRefusal.{MoveRefusal}
 use Rattle.mm_move.specs.declared.refusal.MoveRefusal.TheVariants as refusal
-use Rattle.mm_move.specs.Cells.{IsWaiting, waiting_spelling, retired_spelling}
-use Rattle.mm_move.specs.Orders.{barrier_of, waiting_for}
-use Rattle.mm_move.proofs.Parts.{three}
-use Rattle.mm_move.proofs.TicketLaws.{length-zero_bytes}
-use Rattle.mm_sides.specs.Roles.{Role, Blank, Live, Waiting as Waits, Retired as Left, Effect}
-use Rattle.mm_sides.specs.Both.{Which, Pair, instance_on, key_of, digests_move}
-use Rattle.mm_sides.specs.Moves.{MoveCause, FoundMove}
-use Rattle.mm_sides.specs.Folds.{move_steps, is_moved, effect_if, effect_of, brought_to}
-use Rattle.mm_transfer.specs.declared.side.Side.{Side as CodeSide}
-use Rattle.mm_transfer.specs.OneSide.{link_of, role_of, role_in, at_by, at_in, waiting_on, StandsAs, within_64, FitsSide}
-use Rattle.mm_transfer.specs.Planned.{written_if, ended_as, MakesMove, moves_at}
-use Rattle.mm_transfer.specs.RoleCells.{waiting_at, retired_at, cell_of_role, cell_after, refusal_of, next_if, Matches, FitsRole, FitsCell}
+use Rattle.mm_move.specs.Cells.{retired_spelling}
+use Rattle.mm_transfer.specs.RoleCells.{cell_after}
 use Rattle.mm_transfer.proofs.SideCells.{read_as, role_read, is_waiting}
 
 -- an instance by its variant
@@ -86,9 +60,6 @@ same_waiting_on pair which nonce = waits_by pair.variant pair.meaning (key_of pa
 -- what a side's fields keep, by its role
 
 module _ (pair : Pair) (which : Which) where
-  abbrev I : Instance
-  I = instance_on pair which
-
   cell_fits : (role : Role) (d : Digests) → IsFormed pair which → FitsRole (instance_on pair which) role d
       → FitsCell (instance_on pair which) (link_of pair) role d
   cell_fits role d formed fits = record {
@@ -122,10 +93,8 @@ module _ (pair : Pair) (which : Which) where
 
   -- and back: a platform with such a cell stands there
   role_back : (role : Role) (d : Digests) → role_of (read_as (instance_on pair which) role d) ≡ role
-  role_back Blank d = refl
-  role_back Live d = refl
   role_back (Waits nonce) d = refl
-  role_back (Left nonce) d = refl
+  role_back _ d = refl
 
   stands_as : (role : Role) (standing : Standing) (d : Digests) → FitsCell (instance_on pair which) (link_of pair) role d
       → standing.cell ≡ Some (cell_of_role (instance_on pair which) role d) → register_reads standing ≡ Some d.register
@@ -195,12 +164,10 @@ pub record IsSide (pair : Pair) (which : Which) (role : Role) (d : Digests) (sid
   pub role_is : role_in side.platform.cell ≡ role
   pub at_is : at_in side ≡ d
 
-pub side_is : (pair : Pair) (which : Which) (role : Role) (d : Digests) (side : CodeSide)
-    → FitsCell (instance_on pair which) (link_of pair) role d
-    → side.platform.cell ≡ Some (cell_of_role (instance_on pair which) role d) → register_reads side.platform ≡ Some d.register
-    → IsQuiet side.platform
-    → side.position ≡ d.count → KeepsFor pair which role side.digest.bytes d → side.kept ≡ within_64 (sum_by length side.issued.items)
-    → IsSide pair which role d side
+pub side_is : (pair : Pair) (which : Which) (role : Role) (d : Digests) (side : CodeSide) → FitsCell (instance_on pair which)
+    (link_of pair) role d → side.platform.cell ≡ Some (cell_of_role (instance_on pair which) role d)
+    → register_reads side.platform ≡ Some d.register → IsQuiet side.platform → side.position ≡ d.count
+    → KeepsFor pair which role side.digest.bytes d → side.kept ≡ within_64 (sum_by length side.issued.items) → IsSide pair which role d side
 side_is pair which role d side fit cell register quiet count keeps kept =
     let is : role_in side.platform.cell ≡ role =
     ap role_in cell ∙ ap role_of (role_read (instance_on pair which) (link_of pair) role d fit) ∙ role_back pair which role d in
@@ -334,8 +301,7 @@ MovedBy stop None found effect = effect ≡ made_if true found
 MovedBy stop (Some fault) found effect = (effect ≡ made_if (moves_at stop) found) × (is_some effect ≡ moves_at stop)
 
 one_moved : (stop : Stop) (values : List (List ℕ)) (e other : End) (found : Result FoundMove MoveCause)
-    → end_of (fault_at stop 1) (is_made_at stop 1) ≡ e
-    → ((moved : Bool) → made_if moved found ≡ None)
+    → end_of (fault_at stop 1) (is_made_at stop 1) ≡ e → ((moved : Bool) → made_if moved found ≡ None)
     → MovedBy stop (after_step Reads values e (record { moves = []; steps = 0; writes = 0; broken = None })).broken found None
 one_moved stop values Done other found e none = sym (none true)
 one_moved stop values (Fails fault made) other found e none = (sym (none (moves_at stop)), fail_first stop fault made e)

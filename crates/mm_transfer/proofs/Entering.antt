@@ -1,16 +1,7 @@
 -- What an acceptance makes of a side: the module enters, or all stays.
-use Rattle.std.proofs.Common.{◌≡◌, ℕ, Bool, true, false, List, length, Option, None, Some, Result, Ok, Err, refl, sym, ap, ◌∙◌}
-use Rattle.std.specs.Prelude.{◌&&◌, not, is_some, if◌then◌else◌}
-use Rattle.mm_model.specs.Instance.{Instance}
-use Rattle.mm_model.specs.Moves.{Digests}
-use Rattle.mm_move.specs.Tickets.{summary_in}
-use Rattle.mm_seal.specs.Snapshot.{IsPlace}
-use Rattle.mm_seal.specs.declared.snapshot.Place.{Place}
-use Rattle.mm_seal.specs.declared.snapshot.Place.TheVariants.{Basic as InBasic, Opt as InOpt}
-use Rattle.mm_sides.specs.Roles.{Role, Effect, Invites, Leaves, Enters, is_live}
-use Rattle.mm_sides.specs.Both.{Which, Pair}
-use Rattle.mm_sides.specs.Moves.{MoveCause, FoundMove}
-use Rattle.mm_sides.specs.Folds.{effect_if}
+use Rattle.mm_transfer.proofs.Below.{◌≡◌, ℕ, Bool, true, false, List, length, Option, None, Some, Result, Ok, Err, refl, sym, ap, ◌∙◌, ◌&&◌}
+use Rattle.mm_transfer.proofs.Below.{not, is_some, if◌then◌else◌, Instance, Digests, summary_in, IsPlace, Place, InBasic, InOpt, Role}
+use Rattle.mm_transfer.proofs.Below.{Effect, Invites, Leaves, Enters, is_live, Which, Pair, MoveCause, FoundMove, effect_if}
 use Rattle.mm_transfer.proofs.Commanding.{KeepsFor, made_if}
 use Rattle.mm_transfer.proofs.Matching.{IsFor}
 use Rattle.mm_transfer.proofs.Plainly.{AcceptsPlainly, EntersFor}
@@ -49,7 +40,8 @@ entered_fits i d (Some (Enters ticket)) is = place_size ticket.content.place is.
 entered_fits i d (Some (Invites other)) is = absurd is
 entered_fits i d (Some (Leaves ticket)) is = absurd is
 
-pub entered_keeps : (pair : Pair) (which : Which) (i : Instance) (role : Role) (kept : List ℕ) (away : ℕ) (d : Digests) (effect : Option Effect)
+pub entered_keeps : (pair : Pair) (which : Which) (i : Instance) (role : Role) (kept : List ℕ) (away : ℕ) (d : Digests)
+    (effect : Option Effect)
     → KeepsFor pair which role kept d → IsEntered i effect
     → KeepsFor pair which (role_then role effect) kept (at_then away d effect) × ((x : Digests) → away_then away x effect ≡ away)
 entered_keeps pair which i role kept away d None k is = (k, λ x. refl)
@@ -81,8 +73,7 @@ turned_if true position away = refl
 turned_if false position away = refl
 
 pub count_broken : (i : Instance) (role : Role) (d : Digests) (away : ℕ) (live moved : Bool) (found : Result FoundMove MoveCause)
-    (effect : Option Effect)
-    → effect ≡ made_if moved found → is_some effect ≡ moved → AcceptsPlainly i role found → live ≡ is_live role
+    (effect : Option Effect) → effect ≡ made_if moved found → is_some effect ≡ moved → AcceptsPlainly i role found → live ≡ is_live role
     → (if not live && moved then away else d.count) ≡ (at_then away d effect).count
 count_broken i role d away live false found effect e some plain l =
     stays_there live d.count away ∙ sym (ap (λ x. (at_then away d x).count) (some_effect effect some))

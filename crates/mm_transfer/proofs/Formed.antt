@@ -1,10 +1,6 @@
 -- The keys and the barrier of a header's sides have 32 bytes each.
-use Rattle.std.proofs.Common.{◌≡◌, length, refl}
+use Rattle.mm_transfer.proofs.Below.{◌≡◌, length, refl, world_key, world_barrier, Header, Which, First, Second, pair_of}
 use Rattle.mm_run.specs.Held.{rising_from}
-use Rattle.mm_run.specs.HeldWords.{world_key, world_barrier}
-use Rattle.mm_schedule.specs.declared.header.Header.{Header}
-use Rattle.mm_sides.specs.Both.{Which, First, Second}
-use Rattle.mm_transfer.specs.Pairs.{pair_of}
 use Rattle.mm_transfer.proofs.Commanding.{IsFormed}
 
 first_key : length world_key ≡ 32

@@ -1,14 +1,7 @@
 -- What a retirement makes of a side: the module leaves, or all stays.
-use Rattle.std.proofs.Common.{◌≡◌, ◌+◌, ℕ, Bool, true, false, List, [], ◌∷◌, ◌++◌, length, Option, None, Some, Result, Ok, Err, refl, sym, ap, ◌∙◌, subst, arith}
-use Rattle.std.proofs.lemmas.List.Sums.{sum_by-append}
-use Rattle.std.specs.Prelude.{◌&&◌, not, is_some, if◌then◌else◌}
-use Rattle.std.specs.List.{sum_by}
-use Rattle.mm_model.specs.Moves.{Digests}
-use Rattle.mm_sides.specs.Roles.{Role, Effect, Invites, Leaves, Enters, is_live}
-use Rattle.mm_sides.specs.Both.{Which, Pair}
-use Rattle.mm_sides.specs.Moves.{MoveCause, FoundMove}
-use Rattle.mm_sides.specs.Folds.{effect_if}
-use Rattle.mm_transfer.specs.OneSide.{within_64}
+use Rattle.mm_transfer.proofs.Below.{◌≡◌, ◌+◌, ℕ, Bool, true, false, List, [], ◌∷◌, ◌++◌, length, Option, None, Some, Result, Ok, Err, refl}
+use Rattle.mm_transfer.proofs.Below.{sym, ap, ◌∙◌, subst, arith, sum_by-append, ◌&&◌, not, is_some, if◌then◌else◌, sum_by, Digests, Role}
+use Rattle.mm_transfer.proofs.Below.{Effect, Invites, Leaves, Enters, is_live, Which, Pair, MoveCause, FoundMove, effect_if, within_64}
 use Rattle.mm_transfer.proofs.Commanding.{KeepsFor, made_if}
 use Rattle.mm_transfer.proofs.Plainly.{RetiresPlainly, LeavesTo}
 use Rattle.mm_transfer.proofs.Sidewise.{role_then, at_then, away_then, FitsEffect}
@@ -28,8 +21,7 @@ left_by nonce d (Invites other) e clear size = absurd e
 left_by nonce d (Enters ticket) e clear size = absurd e
 
 pub left_made : (role : Role) (d : Digests) (nonce : List ℕ) (found : Result FoundMove MoveCause) (moved : Bool)
-    → RetiresPlainly role d nonce found
-    → IsLeft nonce d (made_if moved found)
+    → RetiresPlainly role d nonce found → IsLeft nonce d (made_if moved found)
 left_made role d nonce (Err cause) moved plain = tt
 left_made role d nonce (Ok found) moved plain = by_again found.again moved
   where
@@ -72,9 +64,8 @@ away_made nonce d away true false (Enters ticket) e is = absurd is
 away_made nonce d away false false made e is = cc
 
 pub away_broken : (role : Role) (d : Digests) (nonce : List ℕ) (away : ℕ) (live moved : Bool) (found : Result FoundMove MoveCause)
-    (effect : Option Effect)
-    → effect ≡ made_if moved found → is_some effect ≡ moved → RetiresPlainly role d nonce found → live ≡ is_live role
-    → (if live && moved then d.count else away) ≡ away_then away d effect
+    (effect : Option Effect) → effect ≡ made_if moved found → is_some effect ≡ moved → RetiresPlainly role d nonce found
+    → live ≡ is_live role → (if live && moved then d.count else away) ≡ away_then away d effect
 away_broken role d nonce away live false found effect e some plain l =
     away_none live d.count away ∙ sym (ap (away_then away d) (some_effect effect some))
 away_broken role d nonce away live true (Err cause) effect e some plain l = let none = sym some ∙ ap is_some e in absurd (cc)
@@ -89,8 +80,7 @@ away_broken role d nonce away live true (Ok found) effect e some plain l =
 -- what is told of it
 
 pub kept_one_more : (kept now : ℕ) (was tickets : List (List ℕ)) (ticket : List ℕ) → kept ≡ within_64 (sum_by length was)
-    → tickets ≡ was ++ ticket ∷ []
-    → now ≡ within_64 (kept + length ticket) → now ≡ within_64 (sum_by length tickets)
+    → tickets ≡ was ++ ticket ∷ [] → now ≡ within_64 (kept + length ticket) → now ≡ within_64 (sum_by length tickets)
 kept_one_more kept now was tickets ticket is more e =
     subst (λ (x : List (List ℕ)). now ≡ within_64 (sum_by length x)) (sym more)
     (let one : sum_by length (ticket ∷ []) ≡ length ticket = omega arith in

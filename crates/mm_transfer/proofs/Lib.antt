@@ -1,19 +1,18 @@
-pub mod VainEvents
-pub mod SideStands
-pub mod SideEvents
-pub mod Answering
-pub mod Telling
-pub mod Playing
-pub mod SideCells
-pub mod Matching
-pub mod Planning
-pub mod Commanding
-pub mod Acting
-pub mod Plainly
-pub mod Sidewise
-pub mod Commanded
-pub mod Formed
-pub mod Leaving
-pub mod Retiring
-pub mod Entering
-pub mod Accepting
+mod Below
+mod VainEvents
+mod SideStands
+mod SideEvents
+mod Telling
+mod SideCells
+mod Matching
+mod Planning
+mod Commanding
+mod Acting
+mod Plainly
+mod Sidewise
+mod Commanded
+mod Formed
+mod Leaving
+mod Retiring
+mod Entering
+mod Accepting

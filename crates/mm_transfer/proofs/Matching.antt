@@ -1,49 +1,25 @@
 -- What a move finds in a side's cell is what it finds by the side's role.
-use Rattle.std.proofs.Common.{◌≡◌, ℕ, Bool, true, false, List, [], ◌∷◌, length, Option, None, Result, Ok, Err, refl, sym, ap, ◌∙◌, subst}
-use Rattle.std.specs.Prelude.{◌&&◌, ◌||◌, not, if◌then◌else◌}
-use Rattle.std.specs.List.{list_any}
-use Rattle.std.specs.Str.{bytes_eq}
+use Rattle.mm_transfer.proofs.Below.{◌≡◌, ℕ, Bool, true, false, List, [], ◌∷◌, length, Option, None, Result, Ok, Err, refl, sym, ap, ◌∙◌}
+use Rattle.mm_transfer.proofs.Below.{subst, ◌&&◌, ◌||◌, not, if◌then◌else◌, list_any, bytes_eq, Variant, zero_bytes, anchored_of, Batch}
+use Rattle.mm_transfer.proofs.Below.{One, Meaning, CellFault, PartsFault, Form, Kind, Place, InBasic, InOpt, parts_of, Content, Snapshot}
+use Rattle.mm_transfer.proofs.Below.{tag_of, variant_of, Instance, Digests, digest_of, Refusal, by_digests, weighed, cell_at, MovedCell}
+use Rattle.mm_transfer.proofs.Below.{Link, MoveRefusal, IsWaiting, moved_of, waiting_spelling, retired_spelling, barrier_of, is_barred}
+use Rattle.mm_transfer.proofs.Below.{is_other, waiting_for, same_waiting, invites_in, stands_at, ticket_for, accepted_as, offer_by}
+use Rattle.mm_transfer.proofs.Below.{leaves_by, retires_in, arrives_by, has_arrived_by, accepts_in, refuse_if, TicketContent, TaggedTicket}
+use Rattle.mm_transfer.proofs.Below.{IsTicket, SpellsTicket, summary_in, place_at, sealed_ticket, ticket_of, bytes_are, bytes_tell}
+use Rattle.mm_transfer.proofs.Below.{moved_back, tickets_are_read, Role, Blank, Live, Waits, Left, Enters, digests_move, Refused, Open}
+use Rattle.mm_transfer.proofs.Below.{Gone, stands_here, verdict_here, invited_on, left_by, offered_to, retired_on, ticket_by, entered_as}
+use Rattle.mm_transfer.proofs.Below.{entered_again, accepted_on, waiting_at, retired_at, cell_of_role, next_if, GivesInvited, GivesTicket}
+use Rattle.mm_transfer.proofs.Below.{GivesEntry, Matches, FitsCell}
 use Rattle.mm_digest.specs.declared.digest.Digest.{Digest}
-use Rattle.mm_digest.specs.declared.variant.Variant.{Variant}
 use Rattle.mm_digest.specs.declared.variant.Variant.TheVariants as variants
-use Rattle.mm_digest.specs.Messages.{zero_bytes, anchored_of}
-use Rattle.mm_module.specs.Batch.{Batch, One}
-use Rattle.mm_module.specs.Meaning.{Meaning}
-use Rattle.mm_seal.specs.declared.cell.CellFault.{CellFault}
-use Rattle.mm_seal.specs.declared.snapshot.PartsFault.{PartsFault}
-use Rattle.mm_seal.specs.declared.snapshot.PartsFault.TheVariants.{Form, Kind}
-use Rattle.mm_seal.specs.declared.snapshot.Place.{Place}
-use Rattle.mm_seal.specs.declared.snapshot.Place.TheVariants.{Basic as InBasic, Opt as InOpt}
-use Rattle.mm_seal.specs.Parts.{parts_of}
-use Rattle.mm_seal.specs.Snapshot.{Content, Snapshot, tag_of, variant_of}
 use Rattle.mm_seal.specs.ReadingLaws.{spells_read}
-use Rattle.mm_model.specs.Instance.{Instance}
 use Rattle.mm_model.specs.Judge.{verdict_by, verdict_by_digests, fits_fresh}
-use Rattle.mm_model.specs.Moves.{Digests}
-use Rattle.mm_model.specs.PlacesWords.{digest_of}
 use Rattle.mm_model.specs.StandingHere.{is_new}
-use Rattle.mm_model.specs.declared.refusal.Refusal.{Refusal}
 use Rattle.mm_model.specs.declared.refusal.Refusal.TheVariants as core
-use Rattle.mm_call.specs.Levels.{by_digests}
-use Rattle.mm_call.specs.OrderWords.{weighed}
-use Rattle.mm_call.specs.Standing.{cell_at}
-use Rattle.mm_move.specs.declared.cell.MovedCell.{MovedCell}
 use Rattle.mm_move.specs.declared.cell.MovedCell.TheVariants as moved
-use Rattle.mm_move.specs.declared.link.Link.{Link}
-use Rattle.mm_move.specs.declared.refusal.MoveRefusal.{MoveRefusal}
 use Rattle.mm_move.specs.declared.refusal.MoveRefusal.TheVariants as refusal
-use Rattle.mm_move.specs.Cells.{IsWaiting, moved_of, waiting_spelling, retired_spelling}
-use Rattle.mm_move.specs.Orders.{barrier_of, is_barred, is_other, waiting_for, same_waiting, invites_in, stands_at, ticket_for, accepted_as, offer_by, leaves_by, retires_in, arrives_by, has_arrived_by, accepts_in}
 use Rattle.mm_move.specs.Orders as orders
-use Rattle.mm_move.specs.Refusals.{refuse_if}
-use Rattle.mm_move.specs.Tickets.{TicketContent, TaggedTicket, IsTicket, SpellsTicket, summary_in, place_at, sealed_ticket, ticket_of}
-use Rattle.mm_move.proofs.Parts.{bytes_are, bytes_tell}
-use Rattle.mm_move.proofs.CellLaws.{moved_back}
-use Rattle.mm_move.proofs.TicketLaws.{tickets_are_read}
-use Rattle.mm_sides.specs.Roles.{Role, Blank, Live, Waiting as Waits, Retired as Left, Enters}
-use Rattle.mm_sides.specs.Both.{digests_move}
-use Rattle.mm_sides.specs.Moves.{Refused, Open, Gone, stands_here, verdict_here, invited_on, left_by, offered_to, retired_on, ticket_by, entered_as, entered_again, accepted_on}
-use Rattle.mm_transfer.specs.RoleCells.{waiting_at, retired_at, cell_of_role, next_if, GivesInvited, GivesTicket, GivesEntry, Matches, FitsCell}
 use Rattle.mm_transfer.proofs.SideCells.{read_as, is_waiting, role_read, no_other, not_barred, same_tests, eq_turned, by_not, by_both, past, is_refused}
 
 -- invitations
@@ -57,14 +33,11 @@ waits_nonce other (Err why) = other
 same_nonces : (i : Instance) (one other : List ℕ) → IsWaiting (waiting_at i one) → IsWaiting (waiting_at i other)
     → same_waiting (waiting_at i one) (waiting_at i other) ≡ bytes_eq one other
 same_nonces i one other p q =
-    same_tests (same_waiting (waiting_at i one) (waiting_at i other)) (bytes_eq one other)
-    (λ e.
+    same_tests (same_waiting (waiting_at i one) (waiting_at i other)) (bytes_eq one other) (λ e.
     let read : Ok (moved.Waiting (waiting_at i one)) ≡ Ok (moved.Waiting (waiting_at i other)) =
     sym (moved_back (moved.Waiting (waiting_at i one)) p)
     ∙ ap moved_of (bytes_tell (waiting_spelling (waiting_at i one)) (waiting_spelling (waiting_at i other)) e)
-    ∙ moved_back (moved.Waiting (waiting_at i other)) q
-    in bytes_are one other (ap (waits_nonce []) read))
-    (λ e.
+    ∙ moved_back (moved.Waiting (waiting_at i other)) q in bytes_are one other (ap (waits_nonce []) read)) (λ e.
     bytes_are (waiting_spelling (waiting_at i one)) (waiting_spelling (waiting_at i other))
     (ap (λ n. waiting_spelling (waiting_at i n)) (bytes_tell one other e)))
 
@@ -86,8 +59,7 @@ invites i link (Left left) d nonce fit size = record { next = refl; answer = (no
 invites i link (Waits awaited) d nonce fit size =
     by_not GivesInvited i d (same_waiting (waiting_at i awaited) (waiting_at i nonce)) (bytes_eq awaited nonce) _ _ _ _
     (same_nonces i awaited nonce (is_waiting i link awaited fit.key fit.barrier fit.linked fit.fits.1)
-    (is_waiting i link nonce fit.key fit.barrier fit.linked size))
-    (record { next = refl; answer = (nonce, refl) }) refl
+    (is_waiting i link nonce fit.key fit.barrier fit.linked size)) (record { next = refl; answer = (nonce, refl) }) refl
 
 pub invites_match : (i : Instance) (link : Link) (role : Role) (d : Digests) (nonce : List ℕ) → FitsCell i link role d → length nonce ≡ 32
     → Matches GivesInvited i d (invites_in (waiting_for link i.variant i.meaning.id nonce i.key) (moved_of (cell_of_role i role d)))
@@ -133,8 +105,7 @@ left_content i d nonce content e = λ j. record {
 
 module _ (i : Instance) (link : Link) (d : Digests) (again : Bool) (next : Option (List ℕ)) (nonce : List ℕ) where
   left_match : (content : Content) (spelled tagged fresh : Bool) → next ≡ next_if again (retired_spelling (retired_at i d nonce))
-      → content.id ≡ i.meaning.id → fresh ≡ stands_at (digest_of d.digest) content.place
-      → Matches (GivesTicket link.key) i d
+      → content.id ≡ i.meaning.id → fresh ≡ stands_at (digest_of d.digest) content.place → Matches (GivesTicket link.key) i d
       (leaves_by i.variant link nonce (digest_of d.digest) next
       (refuse_if (not spelled) (refusal.Core core.State) (refuse_if (not tagged) (refusal.Core core.Tag) (Ok content))))
       (left_by digests_move i d again nonce content (weighed spelled tagged (verdict_here fresh) true))
@@ -182,8 +153,7 @@ pub retires_match : (i : Instance) (link : Link) (role : Role) (d : Digests) (no
     (retired_on digests_move i role d nonce bytes)
 retires_match i link role d nonce bytes fit =
     subst (λ r. Matches (GivesTicket link.key) i d (retires_in i.meaning i.variant link nonce bytes r)
-    (retired_on digests_move i role d nonce bytes))
-    (sym (role_read i link role d fit)) (retires i link role d nonce bytes fit)
+    (retired_on digests_move i role d nonce bytes)) (sym (role_read i link role d fit)) (retires i link role d nonce bytes fit)
 
 -- acceptances
 
@@ -264,13 +234,10 @@ and_or true = refl
 and_or false = refl
 
 one_form : (anchor extension digest : List ℕ) (closed : Bool) → closed ≡ true → bytes_eq extension zero_bytes ≡ true
-    → list_any (fits_fresh false digest zero_bytes)
-    (record { anchor = anchor; extension = extension }
-    ∷ (if closed then [] else record { anchor = anchored_of anchor extension; extension = zero_bytes } ∷ []))
-    ≡ bytes_eq anchor digest
+    → list_any (fits_fresh false digest zero_bytes) (record { anchor = anchor; extension = extension }
+    ∷ (if closed then [] else record { anchor = anchored_of anchor extension; extension = zero_bytes } ∷ [])) ≡ bytes_eq anchor digest
 one_form anchor extension digest false e z = cc
-one_form anchor extension digest true e z =
-    ap (λ x. (bytes_eq anchor digest && x) || false) z ∙ and_or (bytes_eq anchor digest)
+one_form anchor extension digest true e z = ap (λ x. (bytes_eq anchor digest && x) || false) z ∙ and_or (bytes_eq anchor digest)
 
 anchor_stands : (variant : Variant) (summary : Digest) (digest : List ℕ)
     → stands_at (digest_of digest) (place_at variant summary) ≡ bytes_eq summary.bytes digest
@@ -286,8 +253,7 @@ ticket_stands i d ticket is clear =
     ∙ anchor_stands (variant_of ticket.content.place) (summary_in ticket.content.place) d.digest)
 
 again_by : (i : Instance) (d : Digests) (ticket : TicketContent) → IsFor i ticket → (flag here stands : Bool) → d.flag ≡ flag
-    → bytes_eq (summary_in ticket.content.place).bytes d.digest ≡ here → (flag ≡ false → here ≡ stands)
-    → Matches (GivesEntry i d) i d
+    → bytes_eq (summary_in ticket.content.place).bytes d.digest ≡ here → (flag ≡ false → here ≡ stands) → Matches (GivesEntry i d) i d
     (refuse_if (flag || not here) (refusal.Core core.Stale) (Ok (record { next = None; answer = accepted_as i.key ticket.content })))
     (if flag then Err (Refused core.Stale)
     else (if stands then Ok (record { again = true; effect = Enters ticket }) else Err (Refused core.Stale)))
@@ -295,8 +261,7 @@ again_by i d ticket is true here stands f h s = refl
 again_by i d ticket is false true true f h s =
     record {
       next = refl;
-      answer = ap (accepted_as i.key)
-          (said_content i d.digest ticket is (bytes_tell (summary_in ticket.content.place).bytes d.digest h));
+      answer = ap (accepted_as i.key) (said_content i d.digest ticket is (bytes_tell (summary_in ticket.content.place).bytes d.digest h));
     }
 again_by i d ticket is false false false f h s = refl
 again_by i d ticket is false true false f h s = let e = s refl in cc
@@ -307,8 +272,7 @@ again_match : (i : Instance) (d : Digests) (read : Result TicketContent Refusal)
 again_match i d (Err why) is = refl
 again_match i d (Ok ticket) is =
     again_by i d ticket is d.flag (bytes_eq (summary_in ticket.content.place).bytes d.digest) (stands_here (by_digests i) d ticket.content)
-    refl refl
-    (ticket_stands i d ticket is)
+    refl refl (ticket_stands i d ticket is)
 
 accepts : (i : Instance) (link : Link) (role : Role) (d : Digests) (bytes : List ℕ) → FitsCell i link role d
     → Matches (GivesEntry i d) i d (accepts_in i.meaning i.variant link bytes (read_as i role d))

@@ -1,29 +1,11 @@
 -- What a command finds, as far as its reply and its role go: never want of memory, nor a device's fault.
-use Rattle.std.proofs.Common.{◌≡◌, ℕ, Bool, true, false, List, length, Result, Ok, Err, refl}
-use Rattle.std.specs.Prelude.{not, if◌then◌else◌}
-use Rattle.std.specs.Str.{bytes_eq}
-use Rattle.mm_base.specs.declared.fault.Memory.{Memory}
-use Rattle.mm_module.specs.Meaning.{Meaning}
-use Rattle.mm_platform.specs.declared.plan.Stop.{Stop}
-use Rattle.mm_seal.specs.declared.snapshot.PartsFault.{PartsFault}
-use Rattle.mm_seal.specs.declared.snapshot.PartsFault.TheVariants.{Form, Kind}
-use Rattle.mm_seal.specs.Parts.{parts_of}
-use Rattle.mm_seal.specs.Snapshot.{Content, Snapshot, tag_of}
-use Rattle.mm_model.specs.Instance.{Instance}
-use Rattle.mm_model.specs.Moves.{Digests}
-use Rattle.mm_model.specs.declared.refusal.Refusal.{Refusal}
+use Rattle.mm_transfer.proofs.Below.{◌≡◌, ℕ, Bool, true, false, List, length, Result, Ok, Err, refl, not, if◌then◌else◌, bytes_eq, Memory}
+use Rattle.mm_transfer.proofs.Below.{Meaning, Stop, PartsFault, Form, Kind, parts_of, Content, Snapshot, tag_of, Instance, Digests, Refusal}
+use Rattle.mm_transfer.proofs.Below.{by_digests, weighed, TicketContent, TaggedTicket, ticket_tag, digests_move, Denied, MoveCause, Refused}
+use Rattle.mm_transfer.proofs.Below.{Already, Open, Gone, Nonce, FoundMove, stands_here, verdict_here, invited_on, left_by, offered_to}
+use Rattle.mm_transfer.proofs.Below.{retired_on, ticket_by, entered_as, entered_again, accepted_on, Role, Blank, Live, Waits, Left, Effect}
+use Rattle.mm_transfer.proofs.Below.{Invites, Leaves, Enters, is_live, MoveReply, RefusedAs, has_moved, reply_said, FitsRole, refusal_of}
 use Rattle.mm_model.specs.declared.refusal.Refusal.TheVariants as core
-use Rattle.mm_call.specs.Levels.{by_digests}
-use Rattle.mm_call.specs.OrderWords.{weighed}
-use Rattle.mm_move.specs.Tickets.{TicketContent, TaggedTicket, ticket_tag}
-use Rattle.mm_sides.specs.Both.{digests_move}
-use Rattle.mm_sides.specs.Folds.{Denied}
-use Rattle.mm_sides.specs.Moves.{MoveCause, Refused, Already, Open, Gone, Nonce, FoundMove, stands_here, verdict_here, invited_on, left_by, offered_to, retired_on, ticket_by, entered_as, entered_again, accepted_on}
-use Rattle.mm_sides.specs.Roles.{Role, Blank, Live, Waiting as Waits, Retired as Left, Effect, Invites, Leaves, Enters, is_live}
-use Rattle.mm_transfer.specs.declared.reply.MoveReply.{MoveReply}
-use Rattle.mm_transfer.specs.Between.{RefusedAs, has_moved}
-use Rattle.mm_transfer.specs.Replies.{reply_said}
-use Rattle.mm_transfer.specs.RoleCells.{FitsRole, refusal_of}
 use Rattle.mm_transfer.proofs.Matching.{IsFor, AreFor}
 
 -- a cause that is told as it is
@@ -37,42 +19,17 @@ IsSaid Gone = Unit {0}
 IsSaid Nonce = Unit {0}
 
 pub said_cause : (stop : Stop) (cause : MoveCause) (result : Result MoveReply Memory) → IsSaid cause
-    → RefusedAs stop (refusal_of cause) result
-    → result ≡ Ok (reply_said (Denied cause))
+    → RefusedAs stop (refusal_of cause) result → result ≡ Ok (reply_said (Denied cause))
 said_cause stop (Refused core.Memory) result is e = absurd is
 said_cause stop (Refused (core.Device fault)) result is e = absurd is
 said_cause stop (Refused core.Lost) result is e = e
-said_cause stop (Refused core.Form) result is e = e
-said_cause stop (Refused core.Kind) result is e = e
-said_cause stop (Refused core.State) result is e = e
-said_cause stop (Refused core.Tag) result is e = e
-said_cause stop (Refused core.Stale) result is e = e
-said_cause stop (Refused core.Full) result is e = e
-said_cause stop (Refused core.Long) result is e = e
-said_cause stop (Refused core.Blank) result is e = e
-said_cause stop (Refused core.Cell) result is e = e
-said_cause stop Already result is e = e
-said_cause stop Open result is e = e
-said_cause stop Gone result is e = e
-said_cause stop Nonce result is e = e
+said_cause stop _ result is e = e
 
 pub never_moved : (stop : Stop) (cause : MoveCause) → IsSaid cause → has_moved stop (refusal_of cause) ≡ false
 never_moved stop (Refused core.Memory) is = absurd is
 never_moved stop (Refused (core.Device fault)) is = absurd is
 never_moved stop (Refused core.Lost) is = refl
-never_moved stop (Refused core.Form) is = refl
-never_moved stop (Refused core.Kind) is = refl
-never_moved stop (Refused core.State) is = refl
-never_moved stop (Refused core.Tag) is = refl
-never_moved stop (Refused core.Stale) is = refl
-never_moved stop (Refused core.Full) is = refl
-never_moved stop (Refused core.Long) is = refl
-never_moved stop (Refused core.Blank) is = refl
-never_moved stop (Refused core.Cell) is = refl
-never_moved stop Already is = refl
-never_moved stop Open is = refl
-never_moved stop Gone is = refl
-never_moved stop Nonce is = refl
+never_moved stop _ is = refl
 
 -- an invitation
 
@@ -144,8 +101,7 @@ retires_plainly i Live d nonce bytes fits =
     (λ clear. offered_plain i Live d false nonce (parts_of i.variant i.meaning.id bytes) refl clear fits.1)
 retires_plainly i (Left left) d nonce bytes fits =
     if_plain (Left left) d nonce (bytes_eq left nonce) (offered_to digests_move i d true nonce (parts_of i.variant i.meaning.id bytes))
-    (Err Gone)
-    (λ t. offered_plain i (Left left) d true nonce (parts_of i.variant i.meaning.id bytes) refl fits.0 fits.2) (λ f. tt)
+    (Err Gone) (λ t. offered_plain i (Left left) d true nonce (parts_of i.variant i.meaning.id bytes) refl fits.0 fits.2) (λ f. tt)
 
 -- an acceptance
 
@@ -179,8 +135,7 @@ read_said meaning link (Ok tagged) =
     read_by tagged.ticket (meaning.is_spelled tagged.ticket.content.state) (bytes_eq tagged.tag (ticket_tag link tagged.ticket))
 
 if_accepted : (i : Instance) (role : Role) (test : Bool) (one other : Result FoundMove MoveCause) → AcceptsPlainly i role one
-    → AcceptsPlainly i role other
-    → AcceptsPlainly i role (if test then one else other)
+    → AcceptsPlainly i role other → AcceptsPlainly i role (if test then one else other)
 if_accepted i role true one other p q = p
 if_accepted i role false one other p q = q
 

@@ -1,48 +1,27 @@
 -- A planned move, however it ended, made the steps of what it found.
-use Rattle.std.proofs.Common.{append_assoc, ◌≡◌, ℕ, Bool, true, false, List, [], ◌∷◌, ◌++◌, map, Option, None, Some, Result, Ok, Err, inl, inr, refl, sym, ap, ◌∙◌, subst}
-use Rattle.std.proofs.lemmas.List.{append-nil}
-use Rattle.std.specs.Prelude.{◌⊎◌, ◌==◌, is_some, not, if◌then◌else◌}
+use Rattle.mm_transfer.proofs.Below.{append_assoc, ◌≡◌, ℕ, Bool, true, false, List, [], ◌∷◌, ◌++◌, map, Option, None, Some, Result, Ok, Err}
+use Rattle.mm_transfer.proofs.Below.{inl, inr, refl, sym, ap, ◌∙◌, subst, append-nil, ◌⊎◌, ◌==◌, is_some, not, if◌then◌else◌, StepFault}
+use Rattle.mm_transfer.proofs.Below.{Meddle, Stop, Item, foreign_item, Plan, Standing, plan_after, item_values, register_after, Act}
+use Rattle.mm_transfer.proofs.Below.{ReadCell, WriteCell, Goes, EndsBy, fault_at, is_made_at, is_on_at, cell_after, items_after}
+use Rattle.mm_transfer.proofs.Below.{items_cycled, will_answer, will_be_made, will_be_on, will_bring, Move, Foreign, Instance, Digests}
+use Rattle.mm_transfer.proofs.Below.{made, register_reads, Reads, End, Done, Fails, Walked, walk, after_step, planned, end_of, by_digests}
+use Rattle.mm_transfer.proofs.Below.{all_made, shown, plan_of, is_cut, SettlesPlan, IsQuiet, reads_none, power_if, stop_power, on_settled}
+use Rattle.mm_transfer.proofs.Below.{reads_shown, CellFault, MovedCell, Invited, Ready, MoveRefusal, same_waiting, invites_in}
+use Rattle.mm_transfer.proofs.Below.{move_fault_of, move_fault_in, OrNoMemory, is_moved, is_written, stopped_moves, later_steps, written_if}
+use Rattle.mm_transfer.proofs.Below.{written_by, ended_as, Ends, MakesMove, WantsMemory, MovesPlanned}
 use Rattle.std.specs.Option.{option_map}
 use Rattle.mm_base.specs.Faults.{counted}
-use Rattle.mm_platform.specs.declared.fault.StepFault.{StepFault}
 use Rattle.mm_platform.specs.declared.fault.StepFault.TheVariants.{Failed}
-use Rattle.mm_platform.specs.declared.plan.Meddle.{Meddle}
-use Rattle.mm_platform.specs.declared.plan.Stop.{Stop}
 use Rattle.mm_platform.specs.declared.plan.Stop.TheVariants.{Quiet, Cut, Drop, Fail}
-use Rattle.mm_platform.specs.Standing.{Item, foreign_item, Plan, Standing, plan_after, item_values, register_after}
 use Rattle.mm_platform.specs.StandingWords.{due}
-use Rattle.mm_platform.specs.Steps.{Act, ReadCell, WriteCell, Goes, EndsBy, fault_at, is_made_at, is_on_at, cell_after, items_after, items_cycled, will_answer, will_be_made, will_be_on, will_bring}
-use Rattle.mm_model.specs.History.{Move, Foreign}
-use Rattle.mm_model.specs.Instance.{Instance}
-use Rattle.mm_model.specs.Moves.{Digests, made}
-use Rattle.mm_model.specs.Standing.{register_reads}
-use Rattle.mm_model.specs.Steps.{Reads}
 use Rattle.mm_model.specs.declared.refusal.Refusal.TheVariants.{Memory, Device}
-use Rattle.mm_call.specs.Courses.{End, Done, Fails, Walked, walk, after_step, planned}
-use Rattle.mm_call.specs.CoursesWords.{end_of}
 use Rattle.mm_call.specs.Ended.{StaysOn}
-use Rattle.mm_call.specs.Levels.{by_digests, all_made}
-use Rattle.mm_call.specs.Standing.{shown}
 use Rattle.mm_call.specs.TrailLaws.{all_made-append}
-use Rattle.mm_run.specs.FoldsWords.{plan_of}
-use Rattle.mm_world.specs.Calls.{is_cut, SettlesPlan}
-use Rattle.mm_world.specs.Stands.{IsQuiet}
-use Rattle.mm_world.proofs.Asking.{reads_none, power_if, stop_power, on_settled}
-use Rattle.mm_world.proofs.Committing.{reads_shown}
-use Rattle.mm_seal.specs.declared.cell.CellFault.{CellFault}
 use Rattle.mm_seal.specs.declared.cell.CellFault.TheVariants.{Blank, Cell as Unspelled}
-use Rattle.mm_move.specs.declared.cell.MovedCell.{MovedCell}
 use Rattle.mm_move.specs.declared.cell.MovedCell.TheVariants.{Live, Waiting as Waits, Retired}
 use Rattle.mm_move.specs.declared.cell.Waiting.{Waiting}
-use Rattle.mm_move.specs.declared.inviting.Invited.{Invited}
-use Rattle.mm_move.specs.declared.ready.Ready.{Ready}
-use Rattle.mm_move.specs.declared.refusal.MoveRefusal.{MoveRefusal}
 use Rattle.mm_move.specs.declared.refusal.MoveRefusal.TheVariants.{Core}
 use Rattle.mm_move.specs.Moves.{answered, Makes, GoesOn, AfterRead, MovedAs}
-use Rattle.mm_move.specs.Orders.{same_waiting, invites_in}
-use Rattle.mm_move.specs.Refusals.{move_fault_of, move_fault_in, OrNoMemory}
-use Rattle.mm_sides.specs.Folds.{is_moved, is_written, stopped_moves}
-use Rattle.mm_transfer.specs.Planned.{later_steps, written_if, written_by, ended_as, Ends, MakesMove, WantsMemory, MovesPlanned}
 
 -- what the register reads after values of others
 
@@ -71,14 +50,11 @@ stays_off (Drop at) n new e = e
 stays_off (Fail at done) n new e = e
 
 stays_done : (stop : Stop) (new : Standing) → new.is_on ≡ true → StaysOn stop false new
-stays_done Quiet new e = e
 stays_done (Cut at) new e = e
-stays_done (Drop at) new e = e
-stays_done (Fail at done) new e = e
+stays_done _ new e = e
 
 ends_on : (stop : Stop) (n : ℕ) (fault : Option StepFault) (old new : Standing) (is_made : Bool) → EndsBy fault old new is_made
-    → new.is_on ≡ is_on_at stop n
-    → StaysOn stop (is_some fault) new
+    → new.is_on ≡ is_on_at stop n → StaysOn stop (is_some fault) new
 ends_on stop n None old new is_made ends on = stays_done stop new ends.is_on
 ends_on stop n (Some fault) old new is_made ends on = stays_off stop n new on
 
@@ -112,8 +88,7 @@ module _ (i : Instance) (d : Digests) (stop : Stop) (meddles : List Meddle) wher
       }
 
   read_by : (at : ℕ) (old new : Standing) (fault : Option StepFault) → old.is_on ≡ true → old.plan ≡ Some (At at)
-      → register_reads old ≡ Some d.register
-      → Goes ReadCell old new fault → StepsBy i d stop meddles (counted at) ReadCell old new fault
+      → register_reads old ≡ Some d.register → Goes ReadCell old new fault → StepsBy i d stop meddles (counted at) ReadCell old new fault
   read_by at old new fault on plan register goes = step_by at ReadCell old new fault (λ made items. refl) on plan register goes
 
   write_by : (at : ℕ) (next : List ℕ) (old new : Standing) (fault : Option StepFault) → old.is_on ≡ true → old.plan ≡ Some (At at)
@@ -181,10 +156,9 @@ over old stop meddles = record old { plan = Some (plan_of stop meddles) }
 module _ {A : Type 0} (i : Instance) (d : Digests) (stop : Stop) (meddles : List Meddle) (bytes : List ℕ) where
   -- broken off at the first step
   first_failed : (found : Result (Ready A) MoveRefusal) (rest : Walked) (fault : StepFault) (is_made : Bool) (other : End)
-      (old mid new : Standing)
-      → old.cell ≡ Some bytes → StepsBy i d stop meddles 1 ReadCell old mid (Some fault) → SettlesPlan stop true mid new
-      → Ends i d stop bytes found (after_step Reads (due 1 meddles) (Fails fault is_made) rest) (is_moved (Fails fault is_made) other) new
-      (Err (Core (Device fault)))
+      (old mid new : Standing) → old.cell ≡ Some bytes → StepsBy i d stop meddles 1 ReadCell old mid (Some fault)
+      → SettlesPlan stop true mid new → Ends i d stop bytes found (after_step Reads (due 1 meddles) (Fails fault is_made) rest)
+      (is_moved (Fails fault is_made) other) new (Err (Core (Device fault)))
   first_failed found rest fault is_made other old mid new cell s settles = record {
     cell = settles.cell ∙ s.cell ∙ cell ∙ ap Some (sym (unwritten found bytes));
     register = settled_by i (seen_first i d meddles) stop (Some fault) mid new s.register settles;
@@ -207,8 +181,7 @@ module _ {A : Type 0} (i : Instance) (d : Digests) (stop : Stop) (meddles : List
   -- and a (second_end stop), which writes the cell
   second_done : (next : List ℕ) (answer : A) (old middle mid new : Standing) (fault : Option StepFault) → old.cell ≡ Some bytes
       → StepsBy i d stop meddles 1 ReadCell old middle None
-      → StepsBy i (seen_first i d meddles) stop meddles 2 (WriteCell next) middle mid fault
-      → SettlesPlan stop (is_some fault) mid new
+      → StepsBy i (seen_first i d meddles) stop meddles 2 (WriteCell next) middle mid fault → SettlesPlan stop (is_some fault) mid new
       → Ends i d stop bytes (Ok (record { next = Some next; answer = answer }))
       (after_step Reads (due 1 meddles) Done (one_step (due 2 meddles) (end_of fault (is_made_at stop 2))))
       (is_moved Done (end_of fault (is_made_at stop 2))) new (answered answer fault)
@@ -228,8 +201,7 @@ module _ {A : Type 0} (i : Instance) (d : Digests) (stop : Stop) (meddles : List
         settles.cell ∙ t.cell ∙ ap (cell_after (WriteCell next) (is_made_at stop 2)) (s.cell ∙ cell) ∙ written_at next (is_made_at stop 2);
     register =
         settled_by i (all_made (by_digests i) (seen_first i d meddles) (map Foreign (due 2 meddles))) stop (Some fault) mid new t.register
-        settles
-        ∙ ap (λ (e : Digests). Some (all_made (by_digests i) e (stopped_moves stop (Some fault))).register)
+        settles ∙ ap (λ (e : Digests). Some (all_made (by_digests i) e (stopped_moves stop (Some fault))).register)
         (sym (all_made-append i d (map Foreign (due 1 meddles)) (map Foreign (due 2 meddles))));
     quiet = quiet_by stop (Some fault) mid new t.stays settles;
     says = refl;
@@ -251,10 +223,8 @@ module _ {A : Type 0} (i : Instance) (d : Digests) (stop : Stop) (meddles : List
   Goal expected result = MakesMove i d stop meddles bytes expected new result ⊎ WantsMemory i d stop meddles old new result
 
   failed : (expected : Result (Ready A) MoveRefusal) (result : Result A MoveRefusal) (fault : StepFault) (mid : Standing)
-      → old.cell ≡ Some bytes
-      → StepsBy i d stop meddles 1 ReadCell (over old stop meddles) mid (Some fault) → SettlesPlan stop true mid new
-      → result ≡ Err (Core (Device fault))
-      → MakesMove i d stop meddles bytes expected new result
+      → old.cell ≡ Some bytes → StepsBy i d stop meddles 1 ReadCell (over old stop meddles) mid (Some fault) → SettlesPlan stop true mid new
+      → result ≡ Err (Core (Device fault)) → MakesMove i d stop meddles bytes expected new result
   failed expected result fault mid cell s settles e =
       let rest : Walked = walk (planned (plan_of stop meddles)) 2 (later_steps expected) in
       let m : Bool = is_made_at stop 1 in
@@ -287,11 +257,9 @@ module _ {A : Type 0} (i : Instance) (d : Digests) (stop : Stop) (meddles : List
       let m : Bool = is_made_at stop 1 in
       let n : Bool = is_made_at stop 2 in
       subst (λ f. Ends i d stop bytes found (after_step Reads (due 1 meddles) (end_of f m) (one_step (due 2 meddles) (second_end stop)))
-      (is_moved (end_of f m) (second_end stop)) new
-      (answered answer fault)) s.fault_is
+      (is_moved (end_of f m) (second_end stop)) new (answered answer fault)) s.fault_is
       (subst (λ f. Ends i d stop bytes found (after_step Reads (due 1 meddles) Done (one_step (due 2 meddles) (end_of f n)))
-      (is_moved Done (end_of f n)) new
-      (answered answer fault)) t.fault_is
+      (is_moved Done (end_of f n)) new (answered answer fault)) t.fault_is
       (second_done i d stop meddles bytes next answer (over old stop meddles) middle mid new fault cell s t settles))
 
   made_by : (next : Option (List ℕ)) (answer : A) (result : Result A MoveRefusal) (middle mid : Standing) (broken : Bool)
@@ -303,47 +271,40 @@ module _ {A : Type 0} (i : Instance) (d : Digests) (stop : Stop) (meddles : List
       let whole : broken ≡ false = is ∙ ap (λ (r : Result A MoveRefusal). is_some (move_fault_in r)) makes.1 in
       let here = subst (λ (m : Standing). SettlesPlan stop false m new) makes.0 (subst (λ b. SettlesPlan stop b mid new) whole settles) in
       subst (λ (r : Result A MoveRefusal). MakesMove i d stop meddles bytes (Ok (record { next = None; answer = answer })) new r)
-      (sym makes.1)
-      (one_made (Ok (record { next = None; answer = answer })) middle cell s here (λ moved. refl))
+      (sym makes.1) (one_made (Ok (record { next = None; answer = answer })) middle cell s here (λ moved. refl))
   made_by (Some next) answer result middle mid broken cell s on makes is settles =
       let t = write_by i (all_made (by_digests i) d (map Foreign (due 1 meddles))) stop meddles 1 next middle mid makes.fault on s.plan
       s.register makes.goes in
       let breaks : broken ≡ is_some makes.fault =
       is ∙ ap (λ (r : Result A MoveRefusal). is_some (move_fault_in r)) makes.gives ∙ ap is_some (answered_fault answer makes.fault) in
       subst (λ (r : Result A MoveRefusal). MakesMove i d stop meddles bytes (Ok (record { next = Some next; answer = answer })) new r)
-      (sym makes.gives)
-      (two_made next answer makes.fault middle mid cell s t (subst (λ b. SettlesPlan stop b mid new) breaks settles))
+      (sym makes.gives) (two_made next answer makes.fault middle mid cell s t (subst (λ b. SettlesPlan stop b mid new) breaks settles))
 
   -- memory was wanting, once the cell was read
   wants : (result : Result A MoveRefusal) (mid : Standing) → StepsBy i d stop meddles 1 ReadCell (over old stop meddles) mid None
-      → SettlesPlan stop false mid new
-      → result ≡ Err (Core Memory) → WantsMemory i d stop meddles old new result
+      → SettlesPlan stop false mid new → result ≡ Err (Core Memory) → WantsMemory i d stop meddles old new result
   wants result mid s settles e = record {
     says = e;
     cell = settles.cell ∙ s.cell;
     register =
         inr (subst (λ f. register_reads new ≡ Some
-        (all_made (by_digests i) d (one_step (due 1 meddles) (end_of f (is_made_at stop 1))).moves).register)
-        s.fault_is
+        (all_made (by_digests i) d (one_step (due 1 meddles) (end_of f (is_made_at stop 1))).moves).register) s.fault_is
         (settled_by i (all_made (by_digests i) d (map Foreign (due 1 meddles))) stop None mid new s.register settles
         ∙ ap (λ (ms : List Move). Some (all_made (by_digests i) d ms).register) (sym (append-nil (map Foreign (due 1 meddles))))));
     quiet = quiet_by stop None mid new s.stays settles;
   }
 
   refused : (expected : Result (Ready A) MoveRefusal) (why : MoveRefusal) (result : Result A MoveRefusal) (middle mid : Standing)
-      (broken : Bool)
-      → move_fault_of why ≡ None → (mid ≡ middle) × (result ≡ Err why) → broken ≡ is_some (move_fault_in result)
-      → SettlesPlan stop broken mid new
-      → SettlesPlan stop false middle new
+      (broken : Bool) → move_fault_of why ≡ None → (mid ≡ middle) × (result ≡ Err why) → broken ≡ is_some (move_fault_in result)
+      → SettlesPlan stop broken mid new → SettlesPlan stop false middle new
   refused expected why result middle mid broken none goes is settles =
       let whole : broken ≡ false = is ∙ ap (λ (r : Result A MoveRefusal). is_some (move_fault_in r)) goes.1 ∙ ap is_some none in
       subst (λ (m : Standing). SettlesPlan stop false m new) goes.0 (subst (λ b. SettlesPlan stop b mid new) whole settles)
 
   found_by : (expected found : Result (Ready A) MoveRefusal) (result : Result A MoveRefusal) (middle mid : Standing) (broken : Bool)
-      → old.cell ≡ Some bytes
-      → StepsBy i d stop meddles 1 ReadCell (over old stop meddles) middle None → middle.is_on ≡ true → move_fault_in expected ≡ None
-      → OrNoMemory expected found
-      → GoesOn found middle mid result → broken ≡ is_some (move_fault_in result) → SettlesPlan stop broken mid new → Goal expected result
+      → old.cell ≡ Some bytes → StepsBy i d stop meddles 1 ReadCell (over old stop meddles) middle None → middle.is_on ≡ true
+      → move_fault_in expected ≡ None → OrNoMemory expected found → GoesOn found middle mid result → broken ≡ is_some (move_fault_in result)
+      → SettlesPlan stop broken mid new → Goal expected result
   found_by (Err why) found result middle mid broken cell s on none is goes breaks settles =
       let ends = subst (λ (f : Result (Ready A) MoveRefusal). GoesOn f middle mid result) is goes in
       inl (subst (λ (r : Result A MoveRefusal). MakesMove i d stop meddles bytes (Err why) new r) (sym ends.1)
@@ -356,11 +317,10 @@ module _ {A : Type 0} (i : Instance) (d : Digests) (stop : Stop) (meddles : List
       inr (wants result middle s (refused (Ok ready) (Core Memory) result middle mid broken refl ends breaks settles) ends.1)
 
   after_read : (finds : List ℕ → Result (Ready A) MoveRefusal) (result : Result A MoveRefusal) (fault : Option StepFault)
-      (middle mid : Standing)
-      (broken : Bool) → ((xs : List ℕ) → move_fault_in (finds xs) ≡ None) → old.cell ≡ Some bytes → register_reads old ≡ Some d.register
-      → old.is_on ≡ true → Goes ReadCell (over old stop meddles) middle fault
-      → AfterRead finds fault (over old stop meddles) middle mid result
-      → broken ≡ is_some (move_fault_in result) → SettlesPlan stop broken mid new → Goal (finds bytes) result
+      (middle mid : Standing) (broken : Bool) → ((xs : List ℕ) → move_fault_in (finds xs) ≡ None) → old.cell ≡ Some bytes
+      → register_reads old ≡ Some d.register → old.is_on ≡ true → Goes ReadCell (over old stop meddles) middle fault
+      → AfterRead finds fault (over old stop meddles) middle mid result → broken ≡ is_some (move_fault_in result)
+      → SettlesPlan stop broken mid new → Goal (finds bytes) result
   after_read finds result (Some fault) middle mid broken none cell register on goes after breaks settles =
       let s = read_by i d stop meddles 0 (over old stop meddles) middle (Some fault) on refl register goes in
       let whole : broken ≡ true = breaks ∙ ap (λ (r : Result A MoveRefusal). is_some (move_fault_in r)) after.1 in
@@ -374,11 +334,9 @@ module _ {A : Type 0} (i : Instance) (d : Digests) (stop : Stop) (meddles : List
 
 -- a move over a planned platform, whose plan is over
 pub moves_planned : {A : Type 0} (finds : List ℕ → Result (Ready A) MoveRefusal) (stop : Stop) (meddles : List Meddle)
-    (old at mid new : Standing) (broken : Bool)
-    (result : Result A MoveRefusal) → ((xs : List ℕ) → move_fault_in (finds xs) ≡ None)
-    → at ≡ record old { plan = Some (plan_of stop meddles) }
-    → MovedAs finds at mid result → broken ≡ is_some (move_fault_in result) → SettlesPlan stop broken mid new
-    → MovesPlanned finds stop meddles old new result
+    (old at mid new : Standing) (broken : Bool) (result : Result A MoveRefusal) → ((xs : List ℕ) → move_fault_in (finds xs) ≡ None)
+    → at ≡ record old { plan = Some (plan_of stop meddles) } → MovedAs finds at mid result → broken ≡ is_some (move_fault_in result)
+    → SettlesPlan stop broken mid new → MovesPlanned finds stop meddles old new result
 moves_planned finds stop meddles old at mid new broken result none planned_at moved breaks settles = λ i d bytes cell register quiet.
     let goes = subst (λ (s : Standing). Goes ReadCell s moved.moves.middle moved.moves.fault) planned_at moved.moves.reads in
     let after = subst (λ (s : Standing). AfterRead finds moved.moves.fault s moved.moves.middle mid result) planned_at moved.moves.after in

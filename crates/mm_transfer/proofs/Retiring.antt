@@ -1,40 +1,15 @@
 -- A retirement of a side comes to what it comes to by digests.
-use Rattle.std.proofs.Common.{◌≡◌, ◌≤◌, ◌+◌, ℕ, Bool, List, [], ◌∷◌, ◌++◌, length, Option, None, Some, Result, Ok, Err, inl, inr, refl, sym, ap, ◌∙◌, subst, arith, length-append}
-use Rattle.std.specs.Prelude.{◌&&◌, not, MatchResult, if◌then◌else◌}
-use Rattle.std.specs.List.{sum_by}
-use Rattle.mm_base.specs.declared.fault.Memory.{Memory}
-use Rattle.mm_module.specs.Meaning.{Meaning}
-use Rattle.mm_platform.specs.declared.fault.StepFault.{StepFault}
-use Rattle.mm_platform.specs.declared.plan.Meddle.{Meddle}
-use Rattle.mm_platform.specs.declared.plan.Stop.{Stop}
-use Rattle.mm_platform.specs.Standing.{Standing}
-use Rattle.mm_model.specs.Instance.{Instance}
-use Rattle.mm_model.specs.Moves.{Digests}
-use Rattle.mm_model.specs.Standing.{register_reads}
-use Rattle.mm_call.specs.Courses.{walk}
-use Rattle.mm_run.specs.Folds.{course_of, way_of}
-use Rattle.mm_run.specs.Offered.{offered_bytes}
-use Rattle.mm_schedule.specs.declared.event.Offer.{Offer}
-use Rattle.mm_world.specs.Stands.{IsQuiet}
-use Rattle.mm_move.specs.declared.link.Link.{Link}
-use Rattle.mm_move.specs.declared.ready.Ready.{Ready}
-use Rattle.mm_move.specs.declared.refusal.MoveRefusal.{MoveRefusal}
-use Rattle.mm_move.specs.Cells.{moved_of}
-use Rattle.mm_move.specs.Orders.{retires_in}
-use Rattle.mm_move.specs.Tickets.{sealed_ticket}
-use Rattle.mm_sides.specs.Roles.{Role, Effect, Invites, Leaves, Enters, is_live}
-use Rattle.mm_sides.specs.Both.{Which, Pair, key_of, instance_on, Side, Both, digests_move}
-use Rattle.mm_sides.specs.Moves.{MoveCause, FoundMove, Command, Retire, retired_on}
-use Rattle.mm_sides.specs.Folds.{Denied, move_steps, effect_of, brought_to, affected_if, BothOutcome, moved_if, retiring, finding, unissued}
-use Rattle.mm_transfer.specs.declared.between.Between.{Between}
-use Rattle.mm_transfer.specs.declared.reply.MoveReply.{MoveReply}
+use Rattle.mm_transfer.proofs.Below.{◌≡◌, ◌≤◌, ◌+◌, ℕ, Bool, List, [], ◌∷◌, ◌++◌, length, Option, None, Some, Result, Ok, Err, inl, inr}
+use Rattle.mm_transfer.proofs.Below.{refl, sym, ap, ◌∙◌, subst, arith, length-append, ◌&&◌, not, MatchResult, if◌then◌else◌, sum_by, Memory}
+use Rattle.mm_transfer.proofs.Below.{Meaning, StepFault, Meddle, Stop, Standing, Instance, Digests, register_reads, walk, course_of, way_of}
+use Rattle.mm_transfer.proofs.Below.{offered_bytes, Offer, IsQuiet, Link, Ready, MoveRefusal, moved_of, retires_in, sealed_ticket, Role}
+use Rattle.mm_transfer.proofs.Below.{Effect, Invites, Leaves, Enters, is_live, Which, Pair, key_of, instance_on, Side, Both, digests_move}
+use Rattle.mm_transfer.proofs.Below.{MoveCause, FoundMove, Command, Retire, retired_on, Denied, move_steps, effect_of, brought_to}
+use Rattle.mm_transfer.proofs.Below.{affected_if, BothOutcome, moved_if, retiring, finding, unissued, Between, MoveReply, CodeSide, LeftAs}
+use Rattle.mm_transfer.proofs.Below.{Tried, both_with, commanded, FitsBetween, CommandDone, CommandLacks, has_moved, link_of, role_in}
+use Rattle.mm_transfer.proofs.Below.{at_by, at_in, side_in, within_64, FitsSide, MovesPlanned, moves_at, reply_said, cell_of_role}
+use Rattle.mm_transfer.proofs.Below.{GivesTicket, GivesTicketBy}
 use Rattle.mm_transfer.specs.declared.reply.MoveReply.TheVariants as reply
-use Rattle.mm_transfer.specs.declared.side.Side.{Side as CodeSide}
-use Rattle.mm_transfer.specs.Between.{LeftAs, Tried, both_with, commanded, FitsBetween, CommandDone, CommandLacks, has_moved}
-use Rattle.mm_transfer.specs.OneSide.{link_of, role_in, at_by, at_in, side_in, within_64, FitsSide}
-use Rattle.mm_transfer.specs.Planned.{MovesPlanned, moves_at}
-use Rattle.mm_transfer.specs.Replies.{reply_said}
-use Rattle.mm_transfer.specs.RoleCells.{cell_of_role, GivesTicket, GivesTicketBy}
 use Rattle.mm_transfer.proofs.Commanded.{keeps_own, made_as, err_match, ok_match, lacks_side, wanted, Told}
 use Rattle.mm_transfer.proofs.Commanding.{variant_by, meaning_by, IsFormed, KeepsFor, side_was, CameAs, came_by, made_if, MovedBy}
 use Rattle.mm_transfer.proofs.Commanding as commanding
@@ -52,11 +27,9 @@ record ToldLeft (pair : Pair) (i : Instance) (d : Digests) (stop : Stop) (broken
   few : length now.tickets.items ≤ length was.tickets.items + 1
 
 told_left : (pair : Pair) (i : Instance) (role : Role) (d : Digests) (nonce : List ℕ) (stop : Stop) (broken : Option StepFault)
-    (found : Result FoundMove MoveCause)
-    (effect : Option Effect) (live : Bool) (was now : Between) (came : Result (List ℕ) MoveRefusal) (result : Result MoveReply Memory)
-    → CameAs (GivesTicket pair.link) broken found came → MovedBy stop broken found effect → RetiresPlainly role d nonce found
-    → live ≡ is_live role
-    → FitsBetween was → LeftAs live d.count stop came was now result
+    (found : Result FoundMove MoveCause) (effect : Option Effect) (live : Bool) (was now : Between) (came : Result (List ℕ) MoveRefusal)
+    (result : Result MoveReply Memory) → CameAs (GivesTicket pair.link) broken found came → MovedBy stop broken found effect
+    → RetiresPlainly role d nonce found → live ≡ is_live role → FitsBetween was → LeftAs live d.count stop came was now result
     → ToldLeft pair i d stop broken found effect was now result
 told_left pair i role d nonce stop (Some fault) found effect live was now came result says moved plain l counted left =
     let t = subst (λ (c : Result (List ℕ) MoveRefusal). LeftAs live d.count stop c was now result) says left in record {
@@ -88,8 +61,7 @@ told_left pair i role d nonce stop None (Ok found) effect live was now came resu
     by_effect found.again found.effect says.0 says.2 plain.effect (l ∙ plain.live) moved t.tickets t.kept t.away t.says
   where
     by_effect : (again : Bool) (made : Effect) (ticket : List ℕ) → GivesTicketBy pair.link made ticket → LeavesTo nonce made
-        → live ≡ not again
-        → effect ≡ (if again then None else Some made) → now.tickets.items ≡ was.tickets.items ++ ticket ∷ []
+        → live ≡ not again → effect ≡ (if again then None else Some made) → now.tickets.items ≡ was.tickets.items ++ ticket ∷ []
         → now.kept ≡ within_64 (was.kept + length ticket)
         → now.away ≡ (if live then d.count else was.away) → result ≡ Ok (reply.Left (length was.tickets.items))
         → ToldLeft pair i d stop None (Ok (record { again = again; effect = made })) effect was now result
@@ -130,17 +102,14 @@ pub retires_planned : (pair : Pair) (which : Which) (nonce bytes : List ℕ) (st
     → MovesPlanned (λ (cell : List ℕ). retires_in pair.meaning pair.variant (link_of pair) nonce bytes (moved_of cell)) stop meddles old new
     came
     → MovesPlanned (λ (cell : List ℕ). retires_in (instance_on pair which).meaning (instance_on pair which).variant (link_of pair) nonce
-    bytes (moved_of cell))
-    stop meddles old new came
+    bytes (moved_of cell)) stop meddles old new came
 retires_planned pair which nonce bytes stop meddles old new came planned =
     let v = sym (variant_by pair.variant pair.meaning (key_of pair which) pair.barrier) in
     let m = sym (meaning_by pair.variant pair.meaning (key_of pair which) pair.barrier) in
     subst (λ variant. MovesPlanned
     (λ (cell : List ℕ). retires_in (instance_on pair which).meaning variant (link_of pair) nonce bytes (moved_of cell)) stop meddles old
-    new came) v
-    (subst (λ (meaning : Meaning). MovesPlanned
-    (λ (cell : List ℕ). retires_in meaning pair.variant (link_of pair) nonce bytes (moved_of cell)) stop meddles old new came) m
-    planned)
+    new came) v (subst (λ (meaning : Meaning). MovesPlanned
+    (λ (cell : List ℕ). retires_in meaning pair.variant (link_of pair) nonce bytes (moved_of cell)) stop meddles old new came) m planned)
 
 abbrev offered_by : Pair → Which → CodeSide → Between → List Meddle → Stop → List ℕ → Offer → Option (List ℕ) → Side Digests → ℕ
     → BothOutcome Digests ℕ
@@ -158,10 +127,8 @@ pub tickets_same : (role : Role) (at : Digests) (issued tickets : List (List ℕ
       tickets = tickets;
       committed = committed;
     }) effect).tickets ≡ tickets
-tickets_same role at issued tickets other away committed None = refl
 tickets_same role at issued tickets other away committed (Some (Invites n)) = refl
-tickets_same role at issued tickets other away committed (Some (Leaves ticket)) = refl
-tickets_same role at issued tickets other away committed (Some (Enters ticket)) = refl
+tickets_same role at issued tickets other away committed _ = refl
 
 pub left_done : (pair : Pair) (which : Which) (nonce bytes : List ℕ) (offer : Offer) (stop : Stop) (meddles : List Meddle)
     (old new : CodeSide) (was now : Between)
@@ -226,8 +193,7 @@ left_done pair which nonce bytes offer stop meddles old new was now live came re
                 (effect_of (course_of stop meddles).fates found)))
                 ∙ sym (ap (λ (x : Option (List ℕ)). (offered_by pair which old was meddles stop nonce offer x other committed).both) names);
             says = λ other committed. t.told.says _ (tickets_same role brought old.issued.items was.tickets.items other was.away committed
-                (effect_of (course_of stop meddles).fates found))
-                ∙ sym (ap (λ (x : Option (List ℕ)). reply_said
+                (effect_of (course_of stop meddles).fates found)) ∙ sym (ap (λ (x : Option (List ℕ)). reply_said
                 (offered_by pair which old was meddles stop nonce offer x other committed).reply) names);
             issued = omega (arith, ap length issued);
             tickets = t.few;
@@ -247,10 +213,9 @@ left_done pair which nonce bytes offer stop meddles old new was now live came re
 
 -- a move with what an offer names
 pub tried : {A : Type 0} (finds : Link → List ℕ → List ℕ → Result (Ready A) MoveRefusal) (stop : Stop) (meddles : List Meddle)
-    (offered : Option (List ℕ))
-    (old new : Standing) (came : Result A MoveRefusal) (called link : Link) (lent bytes : List ℕ) → called ≡ link → lent ≡ bytes
-    → Some bytes ≡ offered
-    → MovesPlanned (finds called lent) stop meddles old new came → Tried (finds link) stop meddles offered old new (Ok (Some came))
+    (offered : Option (List ℕ)) (old new : Standing) (came : Result A MoveRefusal) (called link : Link) (lent bytes : List ℕ)
+    → called ≡ link → lent ≡ bytes → Some bytes ≡ offered → MovesPlanned (finds called lent) stop meddles old new came
+    → Tried (finds link) stop meddles offered old new (Ok (Some came))
 tried finds stop meddles offered old new came called link lent bytes same are names planned =
     subst (λ (x : Option (List ℕ)). Tried (finds link) stop meddles x old new (Ok (Some came))) names
     (subst (λ (l : Link). MovesPlanned (finds l bytes) stop meddles old new came) same
@@ -258,8 +223,7 @@ tried finds stop meddles offered old new came called link lent bytes same are na
 
 -- the offer named nothing
 pub nothing_named : {A : Type 0} (finds : List ℕ → List ℕ → Result (Ready A) MoveRefusal) (stop : Stop) (meddles : List Meddle)
-    (offered : Option (List ℕ))
-    (old new : Standing) → Tried finds stop meddles offered old new (Ok None) → (offered ≡ None) × (new ≡ old)
+    (offered : Option (List ℕ)) (old new : Standing) → Tried finds stop meddles offered old new (Ok None) → (offered ≡ None) × (new ≡ old)
 nothing_named finds stop meddles None old new h = (refl, h)
 nothing_named finds stop meddles (Some bytes) old new h = absurd h
 
@@ -272,9 +236,8 @@ pub record Named {A : Type 0} (finds : List ℕ → List ℕ → Result (Ready A
   pub planned : MovesPlanned (finds bytes) stop meddles old new came
 
 pub named_by : {A : Type 0} (finds : List ℕ → List ℕ → Result (Ready A) MoveRefusal) (stop : Stop) (meddles : List Meddle)
-    (offered : Option (List ℕ))
-    (old new : Standing) (came : Result A MoveRefusal) → Tried finds stop meddles offered old new (Ok (Some came))
-    → Named finds stop meddles offered old new came
+    (offered : Option (List ℕ)) (old new : Standing) (came : Result A MoveRefusal)
+    → Tried finds stop meddles offered old new (Ok (Some came)) → Named finds stop meddles offered old new came
 named_by finds stop meddles None old new came h = absurd h
 named_by finds stop meddles (Some bytes) old new came h = record { bytes = bytes; names = refl; planned = h }
 
@@ -287,21 +250,18 @@ still_lacks pair which old new was now formed fits platform digest issued kept p
     let role = role_in old.platform.cell in
     let w = side_was pair which old formed fits in
     lacks_side pair which old new was now (at_in old).register formed fits (ap (λ (s : Standing). s.cell) platform)
-    (ap register_reads platform ∙ w.2)
-    (subst IsQuiet (sym platform) fits.quiet) position
+    (ap register_reads platform ∙ w.2) (subst IsQuiet (sym platform) fits.quiet) position
     (subst (λ x. KeepsFor pair which role x.bytes (at_in old)) (sym digest)
     (keeps_own pair which role old.platform old.digest.bytes old.position)) issued kept tickets counted away
 
 -- a number that isn't issued: nothing is called
 pub unissued_done : (pair : Pair) (which : Which) (stop : Stop) (meddles : List Meddle) (command : Command) (said : MoveReply)
-    (old new : CodeSide) (was now : Between)
-    → IsFormed pair which → FitsSide pair which old → FitsBetween was
-    → new.platform ≡ old.platform → new.digest ≡ old.digest → new.issued.items ≡ old.issued.items → new.kept ≡ old.kept
-    → new.position ≡ old.position
-    → now.tickets.items ≡ was.tickets.items → now.kept ≡ was.kept → now.away ≡ was.away → said ≡ reply_said (unissued command)
-    → ((other : Side Digests) (committed : ℕ)
-    → finding digests_move pair (instance_on pair which) (both_with old was other committed) command ≡ None)
-    → CommandDone pair which old new was now (commanded pair which old was meddles stop command) said
+    (old new : CodeSide) (was now : Between) → IsFormed pair which → FitsSide pair which old → FitsBetween was → new.platform ≡ old.platform
+    → new.digest ≡ old.digest → new.issued.items ≡ old.issued.items → new.kept ≡ old.kept → new.position ≡ old.position
+    → now.tickets.items ≡ was.tickets.items → now.kept ≡ was.kept → now.away ≡ was.away → said ≡ reply_said (unissued command) →
+    ((other : Side Digests) (committed : ℕ) → finding digests_move pair (instance_on pair which)
+    (both_with old was other committed) command ≡ None) → CommandDone pair which old new was now
+    (commanded pair which old was meddles stop command) said
 unissued_done pair which stop meddles command said old new was now formed fits counted platform digest issued kept position tickets kept'
     away says none =
     let l = still_lacks pair which old new was now formed fits platform digest issued kept position tickets kept' away in
@@ -327,12 +287,11 @@ unissued_done pair which stop meddles command said old new was now formed fits c
     }
 
 pub retired_unissued : (pair : Pair) (which : Which) (finds : List ℕ → List ℕ → Result (Ready (List ℕ)) MoveRefusal) (nonce : List ℕ)
-    (offer : Offer) (stop : Stop)
-    (meddles : List Meddle) (old new : CodeSide) (was now : Between) (lent : List (List ℕ)) (field : Option (Result (List ℕ) MoveRefusal))
-    → IsFormed pair which
-    → lent ≡ old.issued.items → Tried finds stop meddles (offered_bytes lent offer) old.platform new.platform (Ok field) → field ≡ None
-    → new.digest ≡ old.digest → new.issued.items ≡ old.issued.items → new.kept ≡ old.kept → new.position ≡ old.position
-    → now.tickets.items ≡ was.tickets.items → now.kept ≡ was.kept → now.away ≡ was.away → FitsSide pair which old → FitsBetween was
+    (offer : Offer) (stop : Stop) (meddles : List Meddle) (old new : CodeSide) (was now : Between) (lent : List (List ℕ))
+    (field : Option (Result (List ℕ) MoveRefusal)) → IsFormed pair which → lent ≡ old.issued.items
+    → Tried finds stop meddles (offered_bytes lent offer) old.platform new.platform (Ok field) → field ≡ None → new.digest ≡ old.digest
+    → new.issued.items ≡ old.issued.items → new.kept ≡ old.kept → new.position ≡ old.position → now.tickets.items ≡ was.tickets.items
+    → now.kept ≡ was.kept → now.away ≡ was.away → FitsSide pair which old → FitsBetween was
     → CommandDone pair which old new was now (commanded pair which old was meddles stop (Retire nonce offer)) reply.NoSnapshot
 retired_unissued pair which finds nonce offer stop meddles old new was now lent field formed same tries is digest issued kept position
     tickets kept' away fits counted =
@@ -346,9 +305,8 @@ retired_unissued pair which finds nonce offer stop meddles old new was now lent 
 
 -- the same over a list with room for the ticket
 left_from : (live : Bool) (position : ℕ) (stop : Stop) (came : Result (List ℕ) MoveRefusal) (was mid now : Between)
-    (result : Result MoveReply Memory)
-    → mid.tickets.items ≡ was.tickets.items → mid.kept ≡ was.kept → mid.away ≡ was.away → LeftAs live position stop came mid now result
-    → LeftAs live position stop came was now result
+    (result : Result MoveReply Memory) → mid.tickets.items ≡ was.tickets.items → mid.kept ≡ was.kept → mid.away ≡ was.away
+    → LeftAs live position stop came mid now result → LeftAs live position stop came was now result
 left_from live position stop (Ok ticket) was mid now result tickets kept away left = record {
   tickets = left.tickets ∙ ap (λ (x : List (List ℕ)). x ++ ticket ∷ []) tickets;
   kept = left.kept ∙ ap (λ n. within_64 (n + length ticket)) kept;
@@ -364,17 +322,14 @@ left_from live position stop (Err why) was mid now result tickets kept away left
 
 -- a retirement with what the offer named
 pub retired_done : (pair : Pair) (which : Which) (nonce : List ℕ) (offer : Offer) (stop : Stop) (meddles : List Meddle) (old new : CodeSide)
-    (was mid now : Between)
-    (live : Bool) (cell : List ℕ) (lent : List (List ℕ)) (field : Option (Result (List ℕ) MoveRefusal)) (came : Result (List ℕ) MoveRefusal)
-    (result : Result MoveReply Memory)
-    → IsFormed pair which → length nonce ≡ 32 → lent ≡ old.issued.items
+    (was mid now : Between) (live : Bool) (cell : List ℕ) (lent : List (List ℕ)) (field : Option (Result (List ℕ) MoveRefusal))
+    (came : Result (List ℕ) MoveRefusal) (result : Result MoveReply Memory) → IsFormed pair which → length nonce ≡ 32
+    → lent ≡ old.issued.items
     → Tried (λ bytes (cell : List ℕ). retires_in pair.meaning pair.variant (link_of pair) nonce bytes (moved_of cell)) stop meddles
-    (offered_bytes lent offer)
-    old.platform new.platform (Ok field)
-    → field ≡ Some came → live ≡ is_live (role_in (Some cell)) → old.platform.cell ≡ Some cell
-    → new.digest ≡ old.digest → new.issued.items ≡ old.issued.items → new.kept ≡ old.kept → new.position ≡ old.position
-    → mid.tickets.items ≡ was.tickets.items → mid.kept ≡ was.kept → mid.away ≡ was.away → LeftAs live old.position stop came mid now result
-    → FitsSide pair which old → FitsBetween was
+    (offered_bytes lent offer) old.platform new.platform (Ok field) → field ≡ Some came → live ≡ is_live (role_in (Some cell))
+    → old.platform.cell ≡ Some cell → new.digest ≡ old.digest → new.issued.items ≡ old.issued.items → new.kept ≡ old.kept
+    → new.position ≡ old.position → mid.tickets.items ≡ was.tickets.items → mid.kept ≡ was.kept → mid.away ≡ was.away
+    → LeftAs live old.position stop came mid now result → FitsSide pair which old → FitsBetween was
     → MatchResult result (CommandDone pair which old new was now (commanded pair which old was meddles stop (Retire nonce offer)))
     (λ _. CommandLacks pair which old new was now)
 retired_done pair which nonce offer stop meddles old new was mid now live cell lent field came result formed size same tries is lives holds
@@ -385,5 +340,4 @@ retired_done pair which nonce offer stop meddles old new was mid now live cell l
     (Ok x)) is tries) in
     left_done pair which nonce n.bytes offer stop meddles old new was now live came result formed size
     (ap (λ (x : List (List ℕ)). offered_bytes x offer) (sym same) ∙ n.names) (lives ∙ ap (λ x. is_live (role_in x)) (sym holds)) n.planned
-    digest issued kept position
-    (left_from live old.position stop came was mid now result tickets kept' away left) fits counted
+    digest issued kept position (left_from live old.position stop came was mid now result tickets kept' away left) fits counted

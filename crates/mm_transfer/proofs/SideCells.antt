@@ -1,29 +1,13 @@
 -- What a side's cell reads as, by its role.
-use Rattle.std.proofs.Common.{◌≡◌, ℕ, Bool, true, false, List, length, Result, Ok, Err, refl, sym, ap, ◌∙◌}
-use Rattle.std.specs.Prelude.{◌==◌, ◌&&◌, not, if◌then◌else◌}
-use Rattle.std.specs.Str.{bytes_eq}
-use Rattle.mm_digest.specs.declared.variant.Variant.{Variant}
+use Rattle.mm_transfer.proofs.Below.{◌≡◌, ℕ, Bool, true, false, List, length, Result, Ok, Err, refl, sym, ap, ◌∙◌, ◌==◌, ◌&&◌, not}
+use Rattle.mm_transfer.proofs.Below.{if◌then◌else◌, bytes_eq, Variant, CellFault, FitsVariant, blank_cell, Instance, Digests, cell_at}
+use Rattle.mm_transfer.proofs.Below.{MovedCell, Link, Ready, MoveRefusal, IsWaiting, moved_of, barrier_of, is_barred, is_other, refuse_if}
+use Rattle.mm_transfer.proofs.Below.{bytes_are, bytes_tell, eq_is, moved_back, blank_read, Role, Blank, Live, Waits, Left, MoveCause}
+use Rattle.mm_transfer.proofs.Below.{FoundMove, waiting_at, retired_at, cell_of_role, refusal_of, Matches, FitsCell}
 use Rattle.mm_digest.specs.declared.variant.Variant.TheVariants as variants
-use Rattle.mm_seal.specs.declared.cell.CellFault.{CellFault}
 use Rattle.mm_seal.specs.declared.cell.CellFault.TheVariants as fault
-use Rattle.mm_seal.specs.Cell.{FitsVariant, blank_cell}
 use Rattle.mm_seal.specs.PartsWords.{same_variant}
-use Rattle.mm_model.specs.Instance.{Instance}
-use Rattle.mm_model.specs.Moves.{Digests}
-use Rattle.mm_call.specs.Standing.{cell_at}
-use Rattle.mm_move.specs.declared.cell.MovedCell.{MovedCell}
 use Rattle.mm_move.specs.declared.cell.MovedCell.TheVariants as moved
-use Rattle.mm_move.specs.declared.link.Link.{Link}
-use Rattle.mm_move.specs.declared.ready.Ready.{Ready}
-use Rattle.mm_move.specs.declared.refusal.MoveRefusal.{MoveRefusal}
-use Rattle.mm_move.specs.Cells.{IsWaiting, moved_of}
-use Rattle.mm_move.specs.Orders.{barrier_of, is_barred, is_other}
-use Rattle.mm_move.specs.Refusals.{refuse_if}
-use Rattle.mm_move.proofs.Parts.{bytes_are, bytes_tell, eq_is}
-use Rattle.mm_move.proofs.CellLaws.{moved_back, blank_read}
-use Rattle.mm_sides.specs.Roles.{Role, Blank, Live, Waiting as Waits, Retired as Left}
-use Rattle.mm_sides.specs.Moves.{MoveCause, FoundMove}
-use Rattle.mm_transfer.specs.RoleCells.{waiting_at, retired_at, cell_of_role, refusal_of, Matches, FitsCell}
 
 -- what a side's cell reads as
 abbrev pub read_as : Instance → Role → Digests → Result MovedCell CellFault
@@ -37,8 +21,7 @@ fits_linked variants.Basic barrier link e = (refl, sym e)
 fits_linked variants.Opt barrier link e = tt
 
 pub is_waiting : (i : Instance) (link : Link) (nonce : List ℕ) → length i.key ≡ 32 → length i.barrier ≡ 32
-    → barrier_of i.variant link ≡ i.barrier
-    → length nonce ≡ 32 → IsWaiting (waiting_at i nonce)
+    → barrier_of i.variant link ≡ i.barrier → length nonce ≡ 32 → IsWaiting (waiting_at i nonce)
 is_waiting i link nonce key barrier linked size =
     record { nonce = size; key = key; barrier = barrier; variant = fits_linked i.variant i.barrier link linked }
 
@@ -79,15 +62,15 @@ eq_turned xs ys =
 module _ {A : Type 0} (gives : FoundMove → A → Type 0) (i : Instance) (d : Digests) where
   -- one is refused where the other goes on
   pub by_not : (one other : Bool) (why : MoveRefusal) (rest : Result (Ready A) MoveRefusal) (found : Result FoundMove MoveCause)
-      (cause : MoveCause)
-      → one ≡ other → Matches gives i d rest found → why ≡ refusal_of cause
+      (cause : MoveCause) → one ≡ other → Matches gives i d rest found → why ≡ refusal_of cause
       → Matches gives i d (refuse_if (not one) why rest) (if other then found else Err cause)
   by_not true true why rest found cause e m r = m
   by_not true false why rest found cause e m r = cc
   by_not false true why rest found cause e m r = cc
   by_not false false why rest found cause e m r = r
 
-  pub by_both : (one : Bool) (why : MoveRefusal) (rest : Result (Ready A) MoveRefusal) (found : Result FoundMove MoveCause) (cause : MoveCause)
+  pub by_both : (one : Bool) (why : MoveRefusal) (rest : Result (Ready A) MoveRefusal) (found : Result FoundMove MoveCause)
+      (cause : MoveCause)
       → why ≡ refusal_of cause → (one ≡ false → Matches gives i d rest found)
       → Matches gives i d (refuse_if one why rest) (if one then Err cause else found)
   by_both true why rest found cause r m = r

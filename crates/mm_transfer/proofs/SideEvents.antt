@@ -1,48 +1,21 @@
 -- A side in code goes on as its events say.
-use Rattle.std.proofs.Common.{◌≡◌, ◌∙◌, ◌+◌, ◌^◌, ◌≤◌, ◌<◌, ℕ, List, ◌++◌, length, Option, Some, Result, Ok, Err, inl, inr, refl, sym, ap, subst, arith}
-use Rattle.std.proofs.lemmas.List.{append-nil}
-use Rattle.std.specs.Prelude.{option_to_list, MatchResult}
-use Rattle.std.specs.List.{sum_by}
-use Rattle.mm_base.specs.declared.fault.Memory.{Memory}
+use Rattle.mm_transfer.proofs.Below.{◌≡◌, ◌∙◌, ◌+◌, ◌^◌, ◌≤◌, ◌<◌, ℕ, List, ◌++◌, length, Option, Some, Result, Ok, Err, inl, inr, refl}
+use Rattle.mm_transfer.proofs.Below.{sym, ap, subst, arith, append-nil, option_to_list, MatchResult, sum_by, Memory, Variant, Basic, Opt}
+use Rattle.mm_transfer.proofs.Below.{Batch, Meaning, IsLawful, meaning_of, Meddle, Stop, Standing, cell_spelling, Instance, Digests}
+use Rattle.mm_transfer.proofs.Below.{seen_in, reading_steps, by_digests, all_made, instance_by, cell_at, Event, Ask, Checkpoint}
+use Rattle.mm_transfer.proofs.Below.{IsPrintable, Header, Offer, Reply, Outcome, course_of, event_outcome, event_in_vain, offered_bytes}
+use Rattle.mm_transfer.proofs.Below.{few_committed, printable, issues_one, CameInVain, AsksPlanned, ChecksPlanned, Stands, IsQuiet, Role}
+use Rattle.mm_transfer.proofs.Below.{Blank, Live, Waiting, Retired, Which, Pair, key_of, instance_on, digests_move, plain_on, grown}
+use Rattle.mm_transfer.proofs.Below.{CodeSide, pair_of, length_if, role_in, at_in, side_in, waiting_on, StandsAs, within_64, FitsSide}
+use Rattle.mm_transfer.proofs.Below.{Comes, Lacks, EndsCall, outcome_on}
 use Rattle.mm_base.specs.Limits.{most_members}
-use Rattle.mm_digest.specs.declared.variant.Variant.{Variant}
-use Rattle.mm_digest.specs.declared.variant.Variant.TheVariants.{Basic, Opt}
-use Rattle.mm_module.specs.Batch.{Batch}
-use Rattle.mm_module.specs.Meaning.{Meaning, IsLawful}
-use Rattle.mm_modules.specs.Modules.{meaning_of}
 use Rattle.mm_modules.specs.ModulesLaws.{any_is_lawful}
-use Rattle.mm_platform.specs.declared.plan.Meddle.{Meddle}
-use Rattle.mm_platform.specs.declared.plan.Stop.{Stop}
-use Rattle.mm_platform.specs.Standing.{Standing}
 use Rattle.mm_seal.specs.declared.cell.CellFault.TheVariants as fault
-use Rattle.mm_seal.specs.Cell.{cell_spelling}
-use Rattle.mm_model.specs.Instance.{Instance}
-use Rattle.mm_model.specs.Moves.{Digests}
 use Rattle.mm_model.specs.declared.refusal.Refusal.TheVariants as refusal
-use Rattle.mm_call.specs.Courses.{seen_in}
-use Rattle.mm_call.specs.Called.{reading_steps}
-use Rattle.mm_call.specs.Levels.{by_digests, all_made}
-use Rattle.mm_call.specs.Standing.{instance_by, cell_at}
-use Rattle.mm_schedule.specs.Events.{Event, Ask, Checkpoint}
-use Rattle.mm_schedule.specs.Replies.{IsPrintable}
-use Rattle.mm_schedule.specs.declared.header.Header.{Header}
-use Rattle.mm_schedule.specs.declared.event.Offer.{Offer}
-use Rattle.mm_schedule.specs.declared.reply.Reply.{Reply}
-use Rattle.mm_run.specs.Folds.{Outcome, course_of, event_outcome, event_in_vain}
-use Rattle.mm_run.specs.Offered.{offered_bytes}
-use Rattle.mm_run.proofs.Counting.{few_committed, printable, issues_one}
 use Rattle.mm_world.specs.declared.call.Called.{Called}
 use Rattle.mm_world.specs.Asks.{Came, AsksAs, ChecksAs, quiet_as}
 use Rattle.mm_world.specs.Asks as asks
-use Rattle.mm_world.specs.InVain.{CameInVain, AsksPlanned, ChecksPlanned}
-use Rattle.mm_world.specs.Stands.{Stands, IsQuiet}
-use Rattle.mm_sides.specs.Roles.{Role, Blank, Live, Waiting, Retired}
-use Rattle.mm_sides.specs.Both.{Which, Pair, key_of, instance_on, digests_move}
-use Rattle.mm_sides.specs.Folds.{plain_on, grown}
-use Rattle.mm_transfer.specs.declared.side.Side.{Side as CodeSide}
-use Rattle.mm_transfer.specs.Pairs.{pair_of}
-use Rattle.mm_transfer.specs.Lengths.{length_if}
-use Rattle.mm_transfer.specs.OneSide.{role_in, at_in, side_in, waiting_on, retired_on, StandsAs, within_64, FitsSide, Comes, Lacks, EndsCall, outcome_on}
+use Rattle.mm_transfer.specs.OneSide.{retired_on}
 use Rattle.mm_transfer.proofs.VainEvents.{IsRegister, others_made, seen_others, IsVain, event_vain}
 use Rattle.mm_transfer.proofs.SideStands.{role_live, at_same, still_fits, kept_more, live_fits, Stays, register_as, stays_same, blank_reads, waiting_reads, retired_reads}
 
@@ -92,9 +65,8 @@ none_grown (Waiting nonce) n m e = refl
 none_grown (Retired nonce) n m e = refl
 
 vain_comes : (pair : Pair) (which : Which) (old new : CodeSide) (o : Outcome Digests) (it : Called) → FitsSide pair which old
-    → old.position < 2 ^ 63
-    → IsVain (at_in old) old.issued.items o → CameInVain o old.issued.items old.platform new.platform it → Ended old new it
-    → Comes pair which old new o it.reply
+    → old.position < 2 ^ 63 → IsVain (at_in old) old.issued.items o → CameInVain o old.issued.items old.platform new.platform it
+    → Ended old new it → Comes pair which old new o it.reply
 vain_comes pair which old new o it f bound v c e =
     let none = c.committed in
     let position : new.position ≡ old.position = omega (arith, e.position, none, bound) in
@@ -144,8 +116,7 @@ few_live header which d issued event =
     record { count = few_committed i d issued event; one = issues_one i d issued event; printable = printable i lawful d issued event }
 
 comes_as : (header : Header) (which : Which) (role : Role) (old new : CodeSide) (event : Event) (it : Called)
-    → role_in old.platform.cell ≡ role
-    → FitsSide (pair_of header) which old → old.position < 2 ^ 63
+    → role_in old.platform.cell ≡ role → FitsSide (pair_of header) which old → old.position < 2 ^ 63
     → CameBy (pair_of header) which role (at_in old) old.issued.items old.platform new.platform event it → Ended old new it
     → Comes (pair_of header) which old new (plain_on digests_move (instance_on (pair_of header) which) role (side_in old) event) it.reply
 comes_as header which Live old new event it is f bound c e =
@@ -163,28 +134,22 @@ comes_as header which (Retired nonce) old new event it is f bound c e =
 -- a call that asks
 
 asks_by : (pair : Pair) (which : Which) (role : Role) (d : Digests) (old new : Standing) (issued : List (List ℕ)) (meddles : List Meddle)
-    (stop : Stop) (offer : Offer) (b : Batch)
-    (it : Called) → StandsAs pair which role old d → IsQuiet old
+    (stop : Stop) (offer : Offer) (b : Batch) (it : Called) → StandsAs pair which role old d → IsQuiet old
     → AsksPlanned pair.variant pair.meaning old new issued meddles stop (offered_bytes issued offer) b (Ok it)
     → CameBy pair which role d issued old new (Ask meddles stop offer b) it
 asks_by pair which Live d old new issued meddles stop offer b it s q asks = asks.own (key_of pair which) pair.barrier d s q
 asks_by pair which Blank d old new issued meddles stop offer b it s q asks =
-    asks.vain (instance_on pair which) d (Err fault.Blank) refusal.Blank
-    (blank_reads old d s q) refl
+    asks.vain (instance_on pair which) d (Err fault.Blank) refusal.Blank (blank_reads old d s q) refl
 asks_by pair which (Waiting nonce) d old new issued meddles stop offer b it s q asks =
-    asks.vain (instance_on pair which) d (Err fault.Cell) refusal.Cell
-    (waiting_reads (waiting_on pair which nonce) old d s.1 q) refl
+    asks.vain (instance_on pair which) d (Err fault.Cell) refusal.Cell (waiting_reads (waiting_on pair which nonce) old d s.1 q) refl
 asks_by pair which (Retired nonce) d old new issued meddles stop offer b it s q asks =
-    asks.vain (instance_on pair which) d (Err fault.Cell) refusal.Cell
-    (retired_reads (retired_on pair which d nonce) old d s.1 q) refl
+    asks.vain (instance_on pair which) d (Err fault.Cell) refusal.Cell (retired_reads (retired_on pair which d nonce) old d s.1 q) refl
 
 pub asked_comes : (header : Header) (which : Which) (old mid new : CodeSide) (lent : List (List ℕ)) (meddles : List Meddle) (stop : Stop)
-    (offer : Offer) (b : Batch) (it : Called) (said : Reply)
-    → old.position < 2 ^ 63 → mid.digest ≡ old.digest → mid.kept ≡ old.kept → mid.position ≡ old.position
-    → mid.issued.items ≡ old.issued.items → lent ≡ mid.issued.items
+    (offer : Offer) (b : Batch) (it : Called) (said : Reply) → old.position < 2 ^ 63 → mid.digest ≡ old.digest → mid.kept ≡ old.kept
+    → mid.position ≡ old.position → mid.issued.items ≡ old.issued.items → lent ≡ mid.issued.items
     → AsksPlanned header.variant (meaning_of header.«module») old.platform mid.platform lent meddles stop (offered_bytes lent offer) b
-    (Ok it)
-    → EndsCall it mid new said → FitsSide (pair_of header) which old
+    (Ok it) → EndsCall it mid new said → FitsSide (pair_of header) which old
     → Comes (pair_of header) which old new (outcome_on (pair_of header) which old (Ask meddles stop offer b)) said
 asked_comes header which old mid new lent meddles stop offer b it said bound digest kept position issued same asks ends f =
     let pair = pair_of header in
@@ -192,11 +157,9 @@ asked_comes header which old mid new lent meddles stop offer b it said bound dig
     let there : AsksPlanned header.variant (meaning_of header.«module») old.platform new.platform old.issued.items meddles stop
     (offered_bytes old.issued.items offer) b (Ok it) =
     subst (λ (s : Standing). AsksPlanned header.variant (meaning_of header.«module») old.platform s old.issued.items meddles stop
-    (offered_bytes old.issued.items offer) b (Ok it))
-    (sym ends.keeps.platform)
+    (offered_bytes old.issued.items offer) b (Ok it)) (sym ends.keeps.platform)
     (subst (λ (x : List (List ℕ)). AsksPlanned header.variant (meaning_of header.«module») old.platform mid.platform x meddles stop
-    (offered_bytes x offer) b (Ok it))
-    (same ∙ issued) asks) in
+    (offered_bytes x offer) b (Ok it)) (same ∙ issued) asks) in
     let e : Ended old new it = record {
       digest = ends.keeps.digest ∙ digest;
       issued = ends.keeps.issued ∙ ap (λ (x : List (List ℕ)). x ++ option_to_list it.snapshot) issued;
@@ -229,22 +192,18 @@ live_stays i d meddles stop old new s q l = elim l.called [
 ]
 
 lacks_by : (pair : Pair) (which : Which) (role : Role) (d : Digests) (old new : Standing) (issued : List (List ℕ)) (meddles : List Meddle)
-    (stop : Stop) (bytes : Option (List ℕ)) (b : Batch)
-    (memory : Memory) → StandsAs pair which role old d → IsQuiet old
+    (stop : Stop) (bytes : Option (List ℕ)) (b : Batch) (memory : Memory) → StandsAs pair which role old d → IsQuiet old
     → AsksPlanned pair.variant pair.meaning old new issued meddles stop bytes b (Err memory) → Stays old new
 lacks_by pair which Live d old new issued meddles stop bytes b memory s q asks =
     live_stays (instance_on pair which) d meddles stop old new s q (asks.own (key_of pair which) pair.barrier d s q)
 lacks_by pair which Blank d old new issued meddles stop bytes b memory s q asks =
-    stays_same old new d.register s.register q
-    (asks.vain (instance_on pair which) d (Err fault.Blank) refusal.Blank
+    stays_same old new d.register s.register q (asks.vain (instance_on pair which) d (Err fault.Blank) refusal.Blank
     (blank_reads old d s q) refl)
 lacks_by pair which (Waiting nonce) d old new issued meddles stop bytes b memory s q asks =
-    stays_same old new d.register s.1.register q
-    (asks.vain (instance_on pair which) d (Err fault.Cell) refusal.Cell
+    stays_same old new d.register s.1.register q (asks.vain (instance_on pair which) d (Err fault.Cell) refusal.Cell
     (waiting_reads (waiting_on pair which nonce) old d s.1 q) refl)
 lacks_by pair which (Retired nonce) d old new issued meddles stop bytes b memory s q asks =
-    stays_same old new d.register s.1.register q
-    (asks.vain (instance_on pair which) d (Err fault.Cell) refusal.Cell
+    stays_same old new d.register s.1.register q (asks.vain (instance_on pair which) d (Err fault.Cell) refusal.Cell
     (retired_reads (retired_on pair which d nonce) old d s.1 q) refl)
 
 lacks_as : (pair : Pair) (which : Which) (old new : CodeSide) → FitsSide pair which old → Stays old.platform new.platform
@@ -267,23 +226,19 @@ lacks_as pair which old new f s digest issued kept position =
     }
 
 pub asked_lacks : (header : Header) (which : Which) (old new : CodeSide) (lent : List (List ℕ)) (meddles : List Meddle) (stop : Stop)
-    (offer : Offer) (b : Batch) (memory : Memory)
-    → new.digest ≡ old.digest → new.kept ≡ old.kept → new.position ≡ old.position → new.issued.items ≡ old.issued.items
-    → lent ≡ new.issued.items
+    (offer : Offer) (b : Batch) (memory : Memory) → new.digest ≡ old.digest → new.kept ≡ old.kept → new.position ≡ old.position
+    → new.issued.items ≡ old.issued.items → lent ≡ new.issued.items
     → AsksPlanned header.variant (meaning_of header.«module») old.platform new.platform lent meddles stop (offered_bytes lent offer) b
-    (Err memory)
-    → FitsSide (pair_of header) which old → Lacks (pair_of header) which old new
+    (Err memory) → FitsSide (pair_of header) which old → Lacks (pair_of header) which old new
 asked_lacks header which old new lent meddles stop offer b memory digest kept position issued same asks f =
     lacks_as (pair_of header) which old new f
     (lacks_by (pair_of header) which (role_in old.platform.cell) (at_in old) old.platform new.platform lent meddles stop
-    (offered_bytes lent offer) b memory f.stands f.quiet asks)
-    digest issued kept position
+    (offered_bytes lent offer) b memory f.stands f.quiet asks) digest issued kept position
 
 -- a checkpoint
 
 checks_by : (pair : Pair) (which : Which) (role : Role) (d : Digests) (old new : Standing) (issued : List (List ℕ)) (meddles : List Meddle)
-    (stop : Stop) (said : Reply)
-    → StandsAs pair which role old d → IsQuiet old → ChecksPlanned old new issued meddles stop (Ok said)
+    (stop : Stop) (said : Reply) → StandsAs pair which role old d → IsQuiet old → ChecksPlanned old new issued meddles stop (Ok said)
     → CameBy pair which role d issued old new (Checkpoint meddles stop) (quiet_as said)
 checks_by pair which Live d old new issued meddles stop said s q checks =
     checks.own pair.variant pair.meaning (key_of pair which) pair.barrier d s q
@@ -327,8 +282,7 @@ checked header which old new meddles stop (Ok said) bound digest kept position i
     let pair = pair_of header in
     comes_as header which (role_in old.platform.cell) old new (Checkpoint meddles stop) (quiet_as said) refl f bound
     (checks_by pair which (role_in old.platform.cell) (at_in old) old.platform new.platform old.issued.items meddles stop said f.stands
-    f.quiet checks)
-    (ended_quiet pair which old new said f bound digest kept position issued)
+    f.quiet checks) (ended_quiet pair which old new said f bound digest kept position issued)
 checked header which old new meddles stop (Err memory) bound digest kept position issued checks f =
     let pair = pair_of header in
     let role = role_in old.platform.cell in

@@ -1,44 +1,20 @@
 -- Where a side in code stands, by its role.
-use Rattle.std.proofs.Common.{◌≡◌, ◌∙◌, ◌+◌, ◌<◌, ℕ, false, List, [], ◌∷◌, ◌++◌, length, get_or, Option, None, Some, Err, refl, sym, ap, subst, arith}
-use Rattle.std.proofs.lemmas.List.Sums.{sum_by-append}
-use Rattle.std.specs.Prelude.{◌≢◌, option_to_list}
-use Rattle.std.specs.List.{sum_by}
-use Rattle.mm_digest.specs.declared.variant.Variant.{Variant}
-use Rattle.mm_digest.specs.declared.variant.Variant.TheVariants.{Basic, Opt}
-use Rattle.mm_digest.specs.Messages.{zero_bytes, start_of}
-use Rattle.mm_module.specs.Meaning.{Meaning}
-use Rattle.mm_modules.specs.Modules.{meaning_of}
+use Rattle.mm_transfer.proofs.Below.{◌≡◌, ◌∙◌, ◌+◌, ◌<◌, ℕ, false, List, [], ◌∷◌, ◌++◌, length, get_or, Option, None, Some, Err, refl, sym}
+use Rattle.mm_transfer.proofs.Below.{ap, subst, arith, sum_by-append, ◌≢◌, option_to_list, sum_by, Variant, Basic, Opt, zero_bytes}
+use Rattle.mm_transfer.proofs.Below.{start_of, Meaning, meaning_of, Standing, IsNoCell, Instance, first_history, Digests, register_reads}
+use Rattle.mm_transfer.proofs.Below.{cell_of, issued_bytes, instance_by, cell_at, Header, first_digests, world_key, world_barrier, IsRead}
+use Rattle.mm_transfer.proofs.Below.{value_in, digests_in, Stands, IsQuiet, register_at, digests_are, stands_new, WaitingCell, moved_back}
+use Rattle.mm_transfer.proofs.Below.{blank_read, bytes_are, Role, Blank, Live, Waiting, Retired, Which, First, Second, Pair, first_both}
+use Rattle.mm_transfer.proofs.Below.{key_of, instance_on, CodeSide, pair_of, length_if, role_in, role_of, at_by, at_in, digest_by, flag_by}
+use Rattle.mm_transfer.proofs.Below.{Rests, StandsAs, within_64, FitsSide, IsBare, IsNew}
 use Rattle.mm_platform.specs.Memory.{new_platform}
-use Rattle.mm_platform.specs.Standing.{Standing}
 use Rattle.mm_seal.specs.declared.cell.Cell.{Cell}
 use Rattle.mm_seal.specs.declared.cell.CellFault.TheVariants as fault
-use Rattle.mm_seal.specs.Cell.{IsNoCell, cell_spelling, blank_cell}
-use Rattle.mm_model.specs.Instance.{Instance}
-use Rattle.mm_model.specs.History.{first_history}
-use Rattle.mm_model.specs.Moves.{Digests}
-use Rattle.mm_model.specs.Standing.{register_reads, cell_of, issued_bytes}
-use Rattle.mm_call.specs.Standing.{instance_by, cell_at}
-use Rattle.mm_schedule.specs.declared.header.Header.{Header}
-use Rattle.mm_run.specs.Folds.{first_digests}
+use Rattle.mm_seal.specs.Cell.{cell_spelling, blank_cell}
 use Rattle.mm_run.specs.Held.{rising_from}
-use Rattle.mm_run.specs.HeldWords.{world_key, world_barrier}
-use Rattle.mm_world.specs.InVain.{IsRead}
-use Rattle.mm_world.specs.Held.{value_in, digests_in}
-use Rattle.mm_world.specs.Stands.{Stands, IsQuiet}
-use Rattle.mm_world.proofs.Asking.{register_at}
-use Rattle.mm_world.proofs.Worlds.{digests_are, stands_new}
 use Rattle.mm_move.specs.declared.cell.MovedCell.TheVariants as moved
 use Rattle.mm_move.specs.Cells.{waiting_spelling, retired_spelling}
-use Rattle.mm_move.specs.declared.cell.Waiting.{Waiting as WaitingCell}
 use Rattle.mm_move.specs.declared.cell.Retired.{Retired as RetiredCell}
-use Rattle.mm_move.proofs.CellLaws.{moved_back, blank_read}
-use Rattle.mm_move.proofs.Parts.{bytes_are}
-use Rattle.mm_sides.specs.Roles.{Role, Blank, Live, Waiting, Retired}
-use Rattle.mm_sides.specs.Both.{Which, First, Second, Pair, first_both, key_of, instance_on}
-use Rattle.mm_transfer.specs.declared.side.Side.{Side as CodeSide}
-use Rattle.mm_transfer.specs.Pairs.{pair_of}
-use Rattle.mm_transfer.specs.Lengths.{length_if}
-use Rattle.mm_transfer.specs.OneSide.{role_in, role_of, at_by, at_in, digest_by, flag_by, Rests, StandsAs, within_64, FitsSide, IsBare, IsNew}
 
 -- the roles that cells tell
 
@@ -103,8 +79,7 @@ stays_as pair which (Retired nonce) old new d value s e r = (s.0, record { cell 
 
 -- where it stands by digests then
 pub at_same : (old new : CodeSide) (value : List ℕ) → new.platform.cell ≡ old.platform.cell → new.digest ≡ old.digest
-    → new.position ≡ old.position
-    → register_reads new.platform ≡ Some value → at_in new ≡ record (at_in old) { register = value }
+    → new.position ≡ old.position → register_reads new.platform ≡ Some value → at_in new ≡ record (at_in old) { register = value }
 at_same old new value cell digest position register =
     let r : value_in (register_reads new.platform) ≡ value = ap value_in register in
     λ j. record {
@@ -213,10 +188,9 @@ length-barrier = refl
 
 pub live_new : (header : Header) (cell snapshot : List ℕ) (bare new : CodeSide) → IsBare header cell bare
     → cell ≡ cell_spelling (cell_of (instance_on (pair_of header) First) first_history)
-    → snapshot ≡ issued_bytes (instance_on (pair_of header) First) first_history
-    → new.platform ≡ bare.platform → new.position ≡ bare.position → new.issued.items ≡ bare.issued.items ++ snapshot ∷ []
-    → new.kept ≡ within_64 (bare.kept + length snapshot)
-    → IsNew (pair_of header) First (first_both (pair_of header)).first new
+    → snapshot ≡ issued_bytes (instance_on (pair_of header) First) first_history → new.platform ≡ bare.platform
+    → new.position ≡ bare.position → new.issued.items ≡ bare.issued.items ++ snapshot ∷ []
+    → new.kept ≡ within_64 (bare.kept + length snapshot) → IsNew (pair_of header) First (first_both (pair_of header)).first new
 live_new header cell snapshot bare new is spelled issues platform position issued kept =
     let pair = pair_of header in
     let i = instance_on pair First in

@@ -1,24 +1,10 @@
 -- Where a side stands after a move, and what both sides are then.
-use Rattle.std.proofs.Common.{◌≡◌, ℕ, false, List, [], ◌∷◌, length, Option, None, Some, Result, refl, sym, ap, ◌∙◌, subst}
-use Rattle.std.specs.List.{sum_by}
-use Rattle.mm_platform.specs.declared.plan.Meddle.{Meddle}
-use Rattle.mm_platform.specs.declared.plan.Stop.{Stop}
-use Rattle.mm_model.specs.History.{Move, Commit, Foreign, Placed, Reset, Close, Power as PowerMove}
-use Rattle.mm_model.specs.Instance.{Instance}
-use Rattle.mm_model.specs.Moves.{Digests, made}
-use Rattle.mm_call.specs.Courses.{walk}
-use Rattle.mm_call.specs.Levels.{by_digests, all_made}
-use Rattle.mm_run.specs.Folds.{course_of}
-use Rattle.mm_move.specs.declared.refusal.MoveRefusal.{MoveRefusal}
-use Rattle.mm_move.specs.Tickets.{summary_in}
-use Rattle.mm_sides.specs.Roles.{Role, Blank, Live, Waiting as Waits, Retired as Left, Effect, Invites, Leaves, Enters, role_after}
-use Rattle.mm_sides.specs.Both.{Which, Pair, instance_on, Side, digests_move}
-use Rattle.mm_sides.specs.Moves.{MoveCause, FoundMove}
-use Rattle.mm_sides.specs.Folds.{move_steps, effect_of, brought_to, stopped_moves, affected_if}
-use Rattle.mm_sides.proofs.Outer.{AreOuter, any_value, found_outer, stopped_outer}
-use Rattle.mm_transfer.specs.declared.side.Side.{Side as CodeSide}
-use Rattle.mm_transfer.specs.OneSide.{link_of, within_64}
-use Rattle.mm_transfer.specs.RoleCells.{cell_of_role, FitsRole, FitsCell}
+use Rattle.mm_transfer.proofs.Below.{◌≡◌, ℕ, false, List, [], ◌∷◌, length, Option, None, Some, Result, refl, sym, ap, ◌∙◌, subst, sum_by}
+use Rattle.mm_transfer.proofs.Below.{Meddle, Stop, Move, Commit, Foreign, PowerMove, Instance, Digests, made, walk, by_digests, all_made}
+use Rattle.mm_transfer.proofs.Below.{course_of, MoveRefusal, summary_in, Role, Waits, Effect, Invites, Leaves, Enters, role_after, Which}
+use Rattle.mm_transfer.proofs.Below.{Pair, instance_on, Side, digests_move, MoveCause, FoundMove, move_steps, effect_of, brought_to}
+use Rattle.mm_transfer.proofs.Below.{stopped_moves, affected_if, AreOuter, any_value, found_outer, stopped_outer, CodeSide, link_of}
+use Rattle.mm_transfer.proofs.Below.{within_64, cell_of_role, FitsRole, FitsCell}
 use Rattle.mm_transfer.proofs.Commanding.{cell_if, Came, KeepsFor, IsSide, side_is}
 use Rattle.mm_transfer.proofs.SideCells.{fits_linked}
 
@@ -30,9 +16,7 @@ outer_digests P i [] d h = refl
 outer_digests P i (Foreign v ∷ moves) d h = outer_digests P i moves (made i d (Foreign v)) h.1
 outer_digests P i (PowerMove ∷ moves) d h = outer_digests P i moves (made i d PowerMove) h.1
 outer_digests P i (Commit b ∷ moves) d h = absurd h.0
-outer_digests P i (Placed b ∷ moves) d h = absurd h.0
-outer_digests P i (Reset ∷ moves) d h = absurd h.0
-outer_digests P i (Close ∷ moves) d h = absurd h.0
+outer_digests P i _ d h = absurd h.0
 
 pub brought_digests : (i : Instance) (d : Digests) (stop : Stop) (meddles : List Meddle) (found : Result FoundMove MoveCause)
     → brought_to digests_move i d meddles stop (move_steps found)
@@ -81,10 +65,8 @@ pub affected_is : (role : Role) (at : Digests) (issued tickets : List (List ℕ)
       tickets = tickets;
       committed = committed;
     }
-affected_is role at issued tickets other away committed None = refl
 affected_is role at issued tickets other away committed (Some (Invites nonce)) = refl
-affected_is role at issued tickets other away committed (Some (Leaves ticket)) = refl
-affected_is role at issued tickets other away committed (Some (Enters ticket)) = refl
+affected_is role at issued tickets other away committed _ = refl
 
 -- what is asked of an effect so that the side fits again
 abbrev pub FitsEffect : Digests → Option Effect → Type 0
@@ -99,23 +81,18 @@ reading d register = record d { register = register }
 
 cell_reading : (i : Instance) (role : Role) (d : Digests) (register : List ℕ)
     → cell_of_role i role d ≡ cell_of_role i role (reading d register)
-cell_reading i Blank d register = refl
-cell_reading i Live d register = refl
 cell_reading i (Waits nonce) d register = refl
-cell_reading i (Left nonce) d register = refl
+cell_reading i _ d register = refl
 
 cell_then : (i : Instance) (role : Role) (d : Digests) (register : List ℕ) (away : ℕ) (effect : Option Effect)
     → cell_if i role d effect ≡ cell_of_role i (role_then role effect) (at_then away (reading d register) effect)
 cell_then i role d register away None = cell_reading i role d register
 cell_then i role d register away (Some (Invites nonce)) = refl
-cell_then i role d register away (Some (Leaves ticket)) = refl
-cell_then i role d register away (Some (Enters ticket)) = refl
+cell_then i role d register away _ = refl
 
 fits_reading : (i : Instance) (role : Role) (d : Digests) (register : List ℕ) → FitsRole i role d → FitsRole i role (reading d register)
-fits_reading i Blank d register fits = fits
-fits_reading i Live d register fits = fits
 fits_reading i (Waits nonce) d register fits = fits
-fits_reading i (Left nonce) d register fits = fits
+fits_reading i _ d register fits = fits
 
 fits_then : (pair : Pair) (which : Which) (role : Role) (d : Digests) (register : List ℕ) (away : ℕ) (effect : Option Effect)
     → FitsCell (instance_on pair which) (link_of pair) role d → FitsEffect d effect
@@ -127,21 +104,17 @@ fits_then pair which role d register away (Some (Enters ticket)) fit is =
     (fits_linked (instance_on pair which).variant (instance_on pair which).barrier (link_of pair) fit.linked, is)
 
 register_then : (d : Digests) (away : ℕ) (effect : Option Effect) → d.register ≡ (at_then away d effect).register
-register_then d away None = refl
 register_then d away (Some (Invites nonce)) = refl
-register_then d away (Some (Leaves ticket)) = refl
-register_then d away (Some (Enters ticket)) = refl
+register_then d away _ = refl
 
 -- a side whose move came to this effect
 pub side_then : {A : Type 0} (gives : FoundMove → A → Type 0) (pair : Pair) (which : Which) (role : Role) (d : Digests) (stop : Stop)
-    (meddles : List Meddle)
-    (found : Result FoundMove MoveCause) (new : CodeSide) (came : Result A MoveRefusal) (away : ℕ) (effect : Option Effect)
-    → effect_of (course_of stop meddles).fates found ≡ effect
-    → Came gives (instance_on pair which) role d stop meddles found new.platform came
-    → FitsCell (instance_on pair which) (link_of pair) role d → FitsEffect d effect
-    → new.position ≡ (at_then away d effect).count → KeepsFor pair which (role_then role effect) new.digest.bytes (at_then away d effect)
-    → new.kept ≡ within_64 (sum_by length new.issued.items)
-    → IsSide pair which (role_then role effect)
+    (meddles : List Meddle) (found : Result FoundMove MoveCause) (new : CodeSide) (came : Result A MoveRefusal) (away : ℕ)
+    (effect : Option Effect) → effect_of (course_of stop meddles).fates found ≡ effect
+    → Came gives (instance_on pair which) role d stop meddles found new.platform came → FitsCell (instance_on pair which)
+    (link_of pair) role d → FitsEffect d effect → new.position ≡ (at_then away d effect).count
+    → KeepsFor pair which (role_then role effect) new.digest.bytes (at_then away d effect)
+    → new.kept ≡ within_64 (sum_by length new.issued.items) → IsSide pair which (role_then role effect)
     (at_then away (brought_to digests_move (instance_on pair which) d meddles stop (move_steps found)) effect) new
 side_then gives pair which role d stop meddles found new came away effect is c fit fits count keeps kept =
     let i = instance_on pair which in
@@ -153,30 +126,23 @@ side_then gives pair which role d stop meddles found new came away effect is c f
     let here : IsSide pair which (role_then role effect) (at_then away (reading d register) effect) new =
     side_is pair which (role_then role effect) (at_then away (reading d register) effect) new
     (record { key = fit.key; barrier = fit.barrier; linked = fit.linked; fits = fits_then pair which role d register away effect fit fits })
-    cell
-    (c.register ∙ ap Some (register_then (reading d register) away effect)) c.quiet (count ∙ count_then d register away effect)
+    cell (c.register ∙ ap Some (register_then (reading d register) away effect)) c.quiet (count ∙ count_then d register away effect)
     (keeps_then pair which role d register away effect new.digest.bytes keeps) kept in
     subst (λ (x : Digests). IsSide pair which (role_then role effect) (at_then away x effect) new) to here
   where
     count_then : (d : Digests) (register : List ℕ) (away : ℕ) (effect : Option Effect)
         → (at_then away d effect).count ≡ (at_then away (reading d register) effect).count
-    count_then d register away None = refl
     count_then d register away (Some (Invites nonce)) = refl
-    count_then d register away (Some (Leaves ticket)) = refl
-    count_then d register away (Some (Enters ticket)) = refl
+    count_then d register away _ = refl
 
     keeps_role : (pair : Pair) (which : Which) (role : Role) (d : Digests) (register kept : List ℕ) → KeepsFor pair which role kept d
         → KeepsFor pair which role kept (reading d register)
-    keeps_role pair which Blank d register kept k = k
-    keeps_role pair which Live d register kept k = k
     keeps_role pair which (Waits nonce) d register kept k = k
-    keeps_role pair which (Left nonce) d register kept k = k
+    keeps_role pair which _ d register kept k = k
 
     keeps_then : (pair : Pair) (which : Which) (role : Role) (d : Digests) (register : List ℕ) (away : ℕ) (effect : Option Effect)
-        (kept : List ℕ)
-        → KeepsFor pair which (role_then role effect) kept (at_then away d effect)
+        (kept : List ℕ) → KeepsFor pair which (role_then role effect) kept (at_then away d effect)
         → KeepsFor pair which (role_then role effect) kept (at_then away (reading d register) effect)
     keeps_then pair which role d register away None kept k = keeps_role pair which role d register kept k
     keeps_then pair which role d register away (Some (Invites nonce)) kept k = k
-    keeps_then pair which role d register away (Some (Leaves ticket)) kept k = k
-    keeps_then pair which role d register away (Some (Enters ticket)) kept k = k
+    keeps_then pair which role d register away _ kept k = k

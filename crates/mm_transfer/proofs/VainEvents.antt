@@ -1,30 +1,16 @@
 -- An event where the module isn't: what it comes to.
-use Rattle.std.proofs.Common.{◌≡◌, ◌∙◌, ◌+◌, ℕ, Bool, true, false, List, [], ◌∷◌, ◌++◌, map, Option, None, Some, Err, refl, ap}
-use Rattle.std.proofs.lemmas.List.{append-nil}
-use Rattle.std.specs.Prelude.{if◌then◌else◌}
-use Rattle.mm_module.specs.Batch.{Batch, One}
-use Rattle.mm_platform.specs.declared.plan.Meddle.{Meddle}
-use Rattle.mm_platform.specs.declared.plan.Stop.{Stop}
+use Rattle.mm_transfer.proofs.Below.{◌≡◌, ◌∙◌, ◌+◌, ℕ, Bool, true, false, List, [], ◌∷◌, ◌++◌, map, Option, None, Some, Err, refl, ap}
+use Rattle.mm_transfer.proofs.Below.{append-nil, if◌then◌else◌, Batch, One, Meddle, Stop, Instance, Move, Commit, Foreign, Placed, Reset}
+use Rattle.mm_transfer.proofs.Below.{Close, PowerMove, Digests, made, Step, Reads, Refusal, Walked, End, Done, Fails, Fate, after_step}
+use Rattle.mm_transfer.proofs.Below.{commits, seen_in, called_by, by_digests, all_made, Event, Ask, Checkpoint, Power, Extend, IsPrintable}
+use Rattle.mm_transfer.proofs.Below.{Reply, Outcome, way_of, after_stop, course_of, uncalled, reads_only, asked_in_vain, event_in_vain}
+use Rattle.mm_transfer.proofs.Below.{outcome_by, broken_reply, offered_bytes}
 use Rattle.mm_platform.specs.declared.plan.Stop.TheVariants as stop
-use Rattle.mm_model.specs.Instance.{Instance}
-use Rattle.mm_model.specs.History.{Move, Commit, Foreign, Placed, Reset, Close, Power as PowerMove}
 use Rattle.mm_model.specs.Long.{is_long}
-use Rattle.mm_model.specs.Moves.{Digests, made}
-use Rattle.mm_model.specs.Steps.{Step, Reads}
-use Rattle.mm_model.specs.declared.refusal.Refusal.{Refusal}
-use Rattle.mm_call.specs.Courses.{Walked, End, Done, Fails, Fate, after_step, commits, seen_in}
-use Rattle.mm_call.specs.Called.{called_by}
 use Rattle.mm_call.specs.CalledWords.{kept_at}
-use Rattle.mm_call.specs.Levels.{by_digests, all_made}
-use Rattle.mm_schedule.specs.Events.{Event, Ask, Checkpoint, Power, Extend}
-use Rattle.mm_schedule.specs.Replies.{IsPrintable}
-use Rattle.mm_schedule.specs.declared.reply.Reply.{Reply}
 use Rattle.mm_schedule.specs.declared.reply.Reply.TheVariants as reply
 use Rattle.mm_schedule.specs.declared.reply.Cause.TheVariants as cause
 use Rattle.mm_schedule.specs.declared.reply.Way.{Way}
-use Rattle.mm_run.specs.Folds.{Outcome, way_of, after_stop, course_of, uncalled, reads_only, asked_in_vain, event_in_vain, outcome_by}
-use Rattle.mm_run.specs.FoldsWords.{broken_reply}
-use Rattle.mm_run.specs.Offered.{offered_bytes}
 
 -- values of others and losses of power
 
@@ -46,28 +32,22 @@ others_made i d [] are = refl
 others_made i d (Foreign v ∷ moves) are = others_made i (made i d (Foreign v)) moves are
 others_made i d (PowerMove ∷ moves) are = others_made i (made i d PowerMove) moves are
 others_made i d (Commit b ∷ moves) are = absurd are
-others_made i d (Placed b ∷ moves) are = absurd are
-others_made i d (Reset ∷ moves) are = absurd are
-others_made i d (Close ∷ moves) are = absurd are
+others_made i d _ are = absurd are
 
 others-append : (one other : List Move) → AreOthers one → AreOthers other → AreOthers (one ++ other)
 others-append [] other a b = b
 others-append (Foreign v ∷ one) other a b = others-append one other a b
 others-append (PowerMove ∷ one) other a b = others-append one other a b
 others-append (Commit c ∷ one) other a b = absurd a
-others-append (Placed c ∷ one) other a b = absurd a
-others-append (Reset ∷ one) other a b = absurd a
-others-append (Close ∷ one) other a b = absurd a
+others-append _ other a b = absurd a
 
 foreign_others : (values : List (List ℕ)) → AreOthers (map Foreign values)
 foreign_others [] = tt
 foreign_others (v ∷ values) = foreign_others values
 
 stop_others : (stop : Stop) → AreOthers (after_stop stop)
-stop_others stop.Quiet = tt
 stop_others (stop.Cut step) = tt
-stop_others (stop.Drop step) = tt
-stop_others (stop.Fail step done) = tt
+stop_others _ = tt
 
 pub seen_others : (fates : ℕ → Fate) (steps : List Step) (n : ℕ) → AreOthers (seen_in fates steps n)
 seen_others fates [] n = tt
@@ -94,8 +74,7 @@ kept_printed how None = tt
 kept_printed how (Some position) = tt
 
 read_vain : (i : Instance) (d : Digests) (issued : List (List ℕ)) (stop : Stop) (why : Refusal) (fate : Fate) (ends : End)
-    → fate.ends ≡ ends
-    → (let nothing : Walked = record { moves = []; steps = 0; writes = 0; broken = None } in
+    → fate.ends ≡ ends → (let nothing : Walked = record { moves = []; steps = 0; writes = 0; broken = None } in
     IsVain d issued (outcome_by (by_digests i) stop issued
     (called_by (by_digests i) d d (One []) (Err why) (after_step Reads fate.brings ends nothing))))
 read_vain i d issued stop why fate Done is = record {
@@ -125,8 +104,7 @@ ask_vain i d issued meddles stop why true = uncalled_vain d issued _ tt
 ask_vain i d issued meddles stop why false = reads_vain i d issued meddles stop why
 
 asked_vain : (i : Instance) (d : Digests) (issued : List (List ℕ)) (meddles : List Meddle) (stop : Stop) (why : Refusal)
-    (bytes : Option (List ℕ)) (b : Batch)
-    → IsVain d issued (asked_in_vain (by_digests i) d issued meddles stop why bytes b)
+    (bytes : Option (List ℕ)) (b : Batch) → IsVain d issued (asked_in_vain (by_digests i) d issued meddles stop why bytes b)
 asked_vain i d issued meddles stop why None b = uncalled_vain d issued _ tt
 asked_vain i d issued meddles stop why (Some bytes) b = ask_vain i d issued meddles stop why (is_long b)
 

@@ -1,10 +1,10 @@
 -- A transfer line by line: the first line, and then the events.
-use Rattle.std.specs.Prelude.{ℕ, ◌+◌, ◌-◌, Bool, ◌||◌, nat_le, nat_lt, List, [], length, Option, None, Some, Result, Ok, Err, if◌then◌else◌}
+use Rattle.std.specs.Prelude.{ℕ, ◌+◌, ◌-◌, Bool, List, length, Option, None, Some, Result}
 use Rattle.std.specs.List.{sum_by}
 use Rattle.mm_base.specs.Limits.{most_events}
 use Rattle.mm_model.specs.Moves.{Digests}
+use Rattle.mm_play.specs.Events.{EventPlayer, is_over, event_answer as answer_by, header_answer as begins_by}
 use Rattle.mm_play.specs.declared.player.Refused.{Refused}
-use Rattle.mm_play.specs.declared.player.Refused.TheVariants.{Bad, Much}
 use Rattle.mm_replay.specs.Schedule.{most_kept}
 use Rattle.mm_schedule.specs.declared.header.Header.{Header}
 use Rattle.mm_sides.specs.Both.{Both, digests_move, first_both}
@@ -30,11 +30,6 @@ abbrev pub kept_in : {S A : Type 0} → Both S A → ℕ
 kept_in both =
     sum_by length both.first.issued + sum_by length both.second.issued + sum_by length both.tickets
 
--- one event more would be too many, or its line too many bytes
-abbrev pub is_too_much : Running → List ℕ → Bool
-is_too_much r line =
-    nat_le most_events r.events || nat_lt most_kept (r.read + length line + kept_in r.both)
-
 -- what an event comes to
 abbrev pub running_outcome : Running → BothEvent → BothOutcome Digests ℕ
 running_outcome r event = both_outcome digests_move (pair_of r.header) r.both event
@@ -53,25 +48,34 @@ pub data TransferStage : Type 0 where
   AtHeader : TransferStage
   InEvents : Running → TransferStage
 
--- the first line begins the events
-abbrev pub first_answer : Option Header → Result (List ℕ × TransferStage) Refused
-first_answer None = Err Bad
-first_answer (Some header) = Ok ([], InEvents (begun header))
-
 -- the line that answers an event
 abbrev pub running_text : Running → BothEvent → List ℕ
 running_text r event = answer_text event.which (reply_said (running_outcome r event).reply)
 
--- an event is answered, unless it is one too many
-abbrev pub answered_unless : (much : Bool) → Running → List ℕ → BothEvent
-    → Result (List ℕ × TransferStage) Refused
-answered_unless much r line event =
-    if much then Err Much else Ok (running_text r event, InEvents (after_event r line event))
+-- what is done with events
+abbrev pub playing : EventPlayer BothEvent Running TransferStage
+playing = record {
+  among = λ r. InEvents r;
+  event_in = λ r. event_at;
+  reply = running_text;
+  after = after_event;
+  events = λ r. r.events;
+  bytes = λ r. r.read;
+  kept = λ r. kept_in r.both;
+  room = most_kept;
+}
+
+-- one event more would be too many, or its line too many bytes
+abbrev pub is_too_much : Running → List ℕ → Bool
+is_too_much r line = is_over playing r line
 
 abbrev pub event_answer : Running → List ℕ → Option BothEvent
     → Result (List ℕ × TransferStage) Refused
-event_answer r line None = Err Bad
-event_answer r line (Some event) = answered_unless (is_too_much r line) r line event
+event_answer r line found = answer_by playing r line found
+
+-- the first line begins the events
+abbrev pub first_answer : Option Header → Result (List ℕ × TransferStage) Refused
+first_answer found = begins_by begun playing.among found
 
 -- the reply to a line
 abbrev pub transfer_answer : TransferStage → List ℕ → Result (List ℕ × TransferStage) Refused

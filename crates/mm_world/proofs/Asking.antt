@@ -1,41 +1,16 @@
 -- A planned call comes to what it does by digests.
-use Rattle.std.proofs.Common.{◌≡◌, ℕ, suc, ◌+◌, Bool, true, false, ◌&&◌, List, [], ◌∷◌, ◌++◌, length, map, Option, None, Some, Result, Ok, Err, refl, sym, ap, ◌∙◌, subst, arith}
-use Rattle.std.specs.Prelude.{if◌then◌else◌, option_to_list}
-use Rattle.std.specs.Option.{option_map}
-use Rattle.std.proofs.lemmas.List.{append-nil}
-use Rattle.mm_digest.specs.declared.variant.Variant.{Variant}
-use Rattle.mm_digest.specs.declared.variant.Variant.TheVariants.{Basic, Opt}
-use Rattle.mm_digest.specs.Messages.{zero_bytes}
-use Rattle.mm_module.specs.Batch.{Batch}
-use Rattle.mm_platform.specs.declared.fault.StepFault.{StepFault}
-use Rattle.mm_platform.specs.declared.plan.Stop.{Stop}
-use Rattle.mm_platform.specs.declared.plan.Stop.TheVariants.{Quiet, Cut, Drop, Fail}
-use Rattle.mm_platform.specs.Standing.{Item, Standing, item_values, register_after}
-use Rattle.mm_platform.specs.Steps.{items_cycled}
-use Rattle.mm_model.specs.Instance.{Instance}
-use Rattle.mm_model.specs.History.{Move, Commit, Foreign, Power}
-use Rattle.mm_model.specs.Moves.{Digests, made}
-use Rattle.mm_model.specs.Standing.{register_reads}
-use Rattle.mm_model.specs.Steps.{Step, Reads, Changes, Writes, ask_steps}
+use Rattle.mm_world.proofs.Below.{◌≡◌, ℕ, suc, ◌+◌, Bool, true, false, ◌&&◌, List, [], ◌∷◌, ◌++◌, length, map, Option, None, Some, Result}
+use Rattle.mm_world.proofs.Below.{Ok, Err, refl, sym, ap, ◌∙◌, subst, arith, if◌then◌else◌, option_to_list, option_map, append-nil, Variant}
+use Rattle.mm_world.proofs.Below.{Basic, Opt, zero_bytes, Batch, StepFault, Stop, Quiet, Cut, Drop, Fail, Item, Standing, item_values}
+use Rattle.mm_world.proofs.Below.{register_after, items_cycled, Instance, Move, Commit, Foreign, Power, Digests, made, register_reads, Step}
+use Rattle.mm_world.proofs.Below.{Reads, Changes, Writes, ask_steps, Refusal, by_digests, all_made, Found, found_at, found_unless_wanting}
+use Rattle.mm_world.proofs.Below.{is_fresh, End, Done, Fails, Fate, Walked, walk, after_step, commits, seen_in, Ending, Answers, Refuses}
+use Rattle.mm_world.proofs.Below.{Breaks, Called, called, called_by, position_of, given_for, ended_by, reading_steps, kept_at, RegisterAt}
+use Rattle.mm_world.proofs.Below.{StandsAt, shown, counted_by, StaysOn, fault_of, changing, commits-none, reading_none, way_of, after_stop}
+use Rattle.mm_world.proofs.Below.{reply_of, snapshots_of, moves_then, outcome_by, Stands, is_cut, SettlesPlan, Came}
 use Rattle.mm_model.specs.declared.answer.BatchAnswer.{BatchAnswer}
-use Rattle.mm_model.specs.declared.refusal.Refusal.{Refusal}
 use Rattle.mm_model.specs.declared.refusal.Refusal.TheVariants as refusal
-use Rattle.mm_call.specs.Levels.{by_digests, all_made}
-use Rattle.mm_call.specs.Found.{Found, found_at}
-use Rattle.mm_call.specs.FoundWords.{found_unless_wanting, is_fresh}
-use Rattle.mm_call.specs.Courses.{End, Done, Fails, Fate, Walked, walk, after_step, commits, seen_in}
-use Rattle.mm_call.specs.Called.{Ending, Answers, Refuses, Breaks, Called, called, called_by, position_of, given_for, ended_by, reading_steps}
-use Rattle.mm_call.specs.CalledWords.{kept_at}
-use Rattle.mm_call.specs.Standing.{RegisterAt, StandsAt, shown, counted_by}
-use Rattle.mm_call.specs.Ended.{StaysOn}
-use Rattle.mm_call.specs.Refusals.{fault_of}
-use Rattle.mm_call.specs.WalkLaws.{changing, commits-none}
-use Rattle.mm_call.specs.AlongLaws.{reading_none}
-use Rattle.mm_run.specs.Folds.{way_of, after_stop, reply_of, snapshots_of, moves_then, outcome_by}
 use Rattle.mm_world.specs.declared.call.Called as code
-use Rattle.mm_world.specs.Stands.{Stands}
-use Rattle.mm_world.specs.Calls.{is_cut, SettlesPlan}
-use Rattle.mm_world.specs.Asks.{Came}
 use Rattle.mm_world.proofs.Committing.{committed_by, reads_shown}
 
 -- steps that read
@@ -43,8 +18,7 @@ use Rattle.mm_world.proofs.Committing.{committed_by, reads_shown}
 abbrev AreReads : List Step → Type 0
 AreReads [] = Unit {0}
 AreReads (Reads ∷ steps) = AreReads steps
-AreReads (Changes m ∷ steps) = ⊥
-AreReads (Writes m ∷ steps) = ⊥
+AreReads _ = ⊥
 
 reading_reads : (variant : Variant) → AreReads (reading_steps variant)
 reading_reads Basic = tt
@@ -59,11 +33,9 @@ behind Opt flag true b = changing flag true b
 ask_split : (variant : Variant) (flag fresh : Bool) (b : Batch) → ask_steps variant flag fresh b ≡ reading_steps variant
     ++ behind variant flag fresh b
 ask_split Basic flag false b = refl
-ask_split Basic flag true b = refl
 ask_split Opt true false b = refl
 ask_split Opt false false b = refl
-ask_split Opt true true b = refl
-ask_split Opt false true b = refl
+ask_split _ _ _ b = refl
 
 -- reading steps are all done, or one of them fails: then it doesn't matter what would follow
 data Reading (fates : ℕ → Fate) (n : ℕ) (reads rest : List Step) : Type 0 where
@@ -86,8 +58,7 @@ reading_more fates n reads rest (Fails fault made) e r =
 reading : (fates : ℕ → Fate) (n : ℕ) (reads rest : List Step) → AreReads reads → Reading fates n reads rest
 reading fates n [] rest are = whole refl
 reading fates n (Reads ∷ reads) rest are = reading_more fates n reads rest (fates n).ends refl (reading fates (n + 1) reads rest are)
-reading fates n (Changes m ∷ reads) rest are = absurd are
-reading fates n (Writes m ∷ reads) rest are = absurd are
+reading fates n _ rest are = absurd are
 
 -- reading steps that are all done
 record AllRead (fates : ℕ → Fate) (n : ℕ) (reads : List Step) : Type 0 where
@@ -111,8 +82,7 @@ all_read : (fates : ℕ → Fate) (n : ℕ) (reads : List Step) → AreReads rea
 all_read fates n [] are none = record { moves = refl; steps = refl; writes = refl }
 all_read fates n (Reads ∷ reads) are none =
     all_read_more fates n reads (fates n).ends refl none (λ later. all_read fates (n + 1) reads are later)
-all_read fates n (Changes m ∷ reads) are none = absurd are
-all_read fates n (Writes m ∷ reads) are none = absurd are
+all_read fates n _ are none = absurd are
 
 -- the step at which a walk is broken off
 pub record BreaksAt (fates : ℕ → Fate) (n : ℕ) (walked : Walked) : Type 0 where
@@ -147,18 +117,6 @@ breaks_at fates n [] f broken = cc
 breaks_at fates n (step ∷ steps) f broken =
     breaks_more fates n step (walk fates (n + 1) steps) (fates n).ends f refl broken (λ later. breaks_at fates (n + 1) steps f later)
 
--- want of memory
-
--- with nothing left to make but reading steps
-same_broken : (i : Instance) (d seen s : Digests) (b : Batch) (f : Found) (walked : Walked) (fault : StepFault) (broken : Option StepFault)
-    → walked.broken ≡ broken
-    → broken ≡ Some fault → commits walked.moves ≡ false
-    → ended_by (by_digests i) seen s b (Err refusal.Memory) walked.moves broken ≡ ended_by (by_digests i) seen s b (Ok f) walked.moves
-    broken
-same_broken i d seen s b f walked fault None e known none = cc
-same_broken i d seen s b f walked fault (Some g) e known none =
-    ap (λ c. Breaks g (kept_at c 0)) none ∙ sym (ap (λ c. Breaks g (kept_at c (position_of (by_digests i) seen s b (Ok f)))) none)
-
 pub data Lacking (o o' : Called Digests) : Type 0 where
   refuses : o.ending ≡ Refuses refusal.Memory → Lacking o o'
   same : o ≡ o' → Lacking o o'
@@ -166,43 +124,55 @@ pub data Lacking (o o' : Called Digests) : Type 0 where
 abbrev call_of : Instance → Digests → Digests → Batch → Result Found Refusal → Walked → Called Digests
 call_of i d seen b found walked = called_by (by_digests i) d seen b found walked
 
-refuses_by : (i : Instance) (d seen : Digests) (b : Batch) (walked : Walked) (broken : Option StepFault) → walked.broken ≡ broken
-    → broken ≡ None
-    → ended_by (by_digests i) seen (all_made (by_digests i) d walked.moves) b (Err refusal.Memory) walked.moves broken ≡ Refuses
-    refusal.Memory
-refuses_by i d seen b walked None e none = refl
-refuses_by i d seen b walked (Some f) e none = cc
-
-lacking_found : (i : Instance) (d seen : Digests) (b : Batch) (fates : ℕ → Fate) (rest : List Step) (f : Found)
-    → Reading fates 1 (reading_steps i.variant) rest
-    → Lacking (call_of i d seen b (Err refusal.Memory) (walk fates 1 (reading_steps i.variant)))
-    (call_of i d seen b (Ok f) (walk fates 1 (reading_steps i.variant ++ rest)))
-lacking_found i d seen b fates rest f (whole none) =
-    let w = walk fates 1 (reading_steps i.variant) in refuses (refuses_by i d seen b w w.broken refl none)
-lacking_found i d seen b fates rest f (cut_off fault broken alike) =
-    let w = walk fates 1 (reading_steps i.variant) in
-    let none = commits-none w.moves (reading_none i.variant fates) in
-    let ends = same_broken i d seen (all_made (by_digests i) d w.moves) b f w fault w.broken refl broken none in
-    same ((λ j. record { state = all_made (by_digests i) d w.moves; ending = ends j; moves = w.moves; steps = w.steps; writes = w.writes })
-    ∙ ap (call_of i d seen b (Ok f)) (sym alike))
-
 read_only : (variant : Variant) (flag : Bool) (b : Batch) (fates : ℕ → Fate)
     → walk fates 1 (ask_steps variant flag false b) ≡ walk fates 1 (reading_steps variant)
 read_only variant flag b fates = ap (walk fates 1) (ask_split variant flag false b ∙ append-nil (reading_steps variant))
 
-lacking : (i : Instance) (d seen : Digests) (b : Batch) (fates : ℕ → Fate) (found : Result Found Refusal)
-    → Lacking (call_of i d seen b (found_unless_wanting found true)
-    (walk fates 1 (ask_steps i.variant d.flag (is_fresh (found_unless_wanting found true)) b)))
-    (call_of i d seen b (found_unless_wanting found false)
-    (walk fates 1 (ask_steps i.variant d.flag (is_fresh (found_unless_wanting found false)) b)))
-lacking i d seen b fates (Err why) = same refl
-lacking i d seen b fates (Ok f) =
-    let fresh = is_fresh (Ok f) in
-    let rest = behind i.variant d.flag fresh b in
-    let P : Walked → Walked → Type 0 = λ w v. Lacking (call_of i d seen b (Err refusal.Memory) w) (call_of i d seen b (Ok f) v) in
-    subst (λ w. P w (walk fates 1 (ask_steps i.variant d.flag fresh b))) (sym (read_only i.variant d.flag b fates))
-    (subst (λ v. P (walk fates 1 (reading_steps i.variant)) v) (sym (ap (walk fates 1) (ask_split i.variant d.flag fresh b)))
-    (lacking_found i d seen b fates rest f (reading fates 1 (reading_steps i.variant) rest (reading_reads i.variant))))
+module _ (i : Instance) (d seen : Digests) where
+  -- want of memory
+
+  -- with nothing left to make but reading steps
+  same_broken : (s : Digests) (b : Batch) (f : Found) (walked : Walked) (fault : StepFault) (broken : Option StepFault)
+      → walked.broken ≡ broken → broken ≡ Some fault → commits walked.moves ≡ false → ended_by (by_digests i) seen s b (Err refusal.Memory)
+      walked.moves broken ≡ ended_by (by_digests i) seen s b (Ok f) walked.moves broken
+  same_broken s b f walked fault None e known none = cc
+  same_broken s b f walked fault (Some g) e known none =
+      ap (λ c. Breaks g (kept_at c 0)) none ∙ sym (ap (λ c. Breaks g (kept_at c (position_of (by_digests i) seen s b (Ok f)))) none)
+
+  refuses_by : (b : Batch) (walked : Walked) (broken : Option StepFault) → walked.broken ≡ broken → broken ≡ None
+      → ended_by (by_digests i) seen (all_made (by_digests i) d walked.moves) b (Err refusal.Memory) walked.moves broken ≡ Refuses
+      refusal.Memory
+  refuses_by b walked None e none = refl
+  refuses_by b walked (Some f) e none = cc
+
+  lacking_found : (b : Batch) (fates : ℕ → Fate) (rest : List Step) (f : Found) → Reading fates 1 (reading_steps i.variant) rest
+      → Lacking (call_of i d seen b (Err refusal.Memory) (walk fates 1 (reading_steps i.variant))) (call_of i d seen b (Ok f)
+      (walk fates 1 (reading_steps i.variant ++ rest)))
+  lacking_found b fates rest f (whole none) = let w = walk fates 1 (reading_steps i.variant) in refuses (refuses_by b w w.broken refl none)
+  lacking_found b fates rest f (cut_off fault broken alike) =
+      let w = walk fates 1 (reading_steps i.variant) in
+      let none = commits-none w.moves (reading_none i.variant fates) in
+      let ends = same_broken (all_made (by_digests i) d w.moves) b f w fault w.broken refl broken none in
+      same ((λ j. record {
+        state = all_made (by_digests i) d w.moves;
+        ending = ends j;
+        moves = w.moves;
+        steps = w.steps;
+        writes = w.writes;
+      }) ∙ ap (call_of i d seen b (Ok f)) (sym alike))
+
+  lacking : (b : Batch) (fates : ℕ → Fate) (found : Result Found Refusal)
+      → Lacking (call_of i d seen b (found_unless_wanting found true)
+      (walk fates 1 (ask_steps i.variant d.flag (is_fresh (found_unless_wanting found true)) b)))
+      (call_of i d seen b (found_unless_wanting found false)
+      (walk fates 1 (ask_steps i.variant d.flag (is_fresh (found_unless_wanting found false)) b)))
+  lacking b fates (Err why) = same refl
+  lacking b fates (Ok f) =
+      let fresh = is_fresh (Ok f) in let rest = behind i.variant d.flag fresh b in
+      let P : Walked → Walked → Type 0 = λ w v. Lacking (call_of i d seen b (Err refusal.Memory) w) (call_of i d seen b (Ok f) v) in
+      subst (λ w. P w (walk fates 1 (ask_steps i.variant d.flag fresh b))) (sym (read_only i.variant d.flag b fates))
+      (subst (λ v. P (walk fates 1 (reading_steps i.variant)) v) (sym (ap (walk fates 1) (ask_split i.variant d.flag fresh b)))
+      (lacking_found b fates rest f (reading fates 1 (reading_steps i.variant) rest (reading_reads i.variant))))
 
 -- a call on a course is refused for want of memory, or is the call with memory at hand
 pub lacks_or_same : (i : Instance) (d : Digests) (fates : ℕ → Fate) (lacks : Bool) (bytes : List ℕ) (b : Batch)
@@ -225,8 +195,7 @@ unbroken : (i : Instance) (d seen s : Digests) (b : Batch) (found : Result Found
     → ended_by (by_digests i) seen s b found moves broken ≡ Refuses why → (broken ≡ None) × (is_fresh found ≡ false)
 unbroken i d seen s b (Err w) why moves None e = (refl, refl)
 unbroken i d seen s b (Ok f) why moves None e = cc
-unbroken i d seen s b (Err w) why moves (Some fault) e = cc
-unbroken i d seen s b (Ok f) why moves (Some fault) e = cc
+unbroken i d seen s b _ why moves _ e = cc
 
 pub refused_read : (i : Instance) (d seen : Digests) (b : Batch) (fates : ℕ → Fate) (found : Result Found Refusal) (why : Refusal)
     → (let o = call_of i d seen b found (walk fates 1 (ask_steps i.variant d.flag (is_fresh found) b)) in o.ending ≡ Refuses why
@@ -246,8 +215,7 @@ refused_read i d seen b fates found why e =
 
 pub told_ok : (e : Ending) (a : BatchAnswer) → given_for e ≡ Ok a → e ≡ Answers a
 told_ok (Answers x) a e = let s : x ≡ a = cc in ap Answers s
-told_ok (Refuses why) a e = cc
-told_ok (Breaks fault kept) a e = cc
+told_ok _ a e = cc
 
 pub told_err : (e : Ending) (why : Refusal) → given_for e ≡ Err why → fault_of why ≡ None → e ≡ Refuses why
 told_err (Answers x) why e none = cc
@@ -264,9 +232,8 @@ register_at Opt reads register e = e
 
 -- whether a call was broken off
 abbrev pub breaks : Ending → Bool
-breaks (Answers answer) = false
-breaks (Refuses why) = false
 breaks (Breaks fault kept) = true
+breaks _ = false
 
 -- the loss of power by a cut
 abbrev pub power_if : Bool → List Move
@@ -275,14 +242,11 @@ power_if false = []
 
 pub stop_power : (stop : Stop) → after_stop stop ≡ power_if (is_cut stop)
 stop_power Quiet = refl
-stop_power (Cut n) = refl
-stop_power (Drop n) = refl
-stop_power (Fail n done) = refl
+stop_power _ = refl
 
 moves_power : (stop : Stop) (e : Ending) → moves_then stop e ≡ power_if (breaks e && is_cut stop)
-moves_power stop (Answers answer) = refl
-moves_power stop (Refuses why) = refl
 moves_power stop (Breaks fault kept) = stop_power stop
+moves_power stop _ = refl
 
 pub reads_none : (items : Option (List Item)) (r : List ℕ) → option_map (λ xs. register_after (item_values xs)) items ≡ Some r
     → option_map (λ xs. register_after (item_values xs)) (items_cycled true items) ≡ Some zero_bytes
@@ -308,13 +272,10 @@ stands_settled i d mid new true s cell items =
 pub on_settled : (stop : Stop) (broken : Bool) (mid new : Standing) → StaysOn stop broken mid
     → new.is_on ≡ (if broken && is_cut stop then true else mid.is_on) → new.is_on ≡ true
 on_settled (Cut n) true mid new stays e = e
-on_settled (Cut n) false mid new stays e = e ∙ stays
 on_settled Quiet true mid new stays e = e ∙ stays
-on_settled Quiet false mid new stays e = e ∙ stays
 on_settled (Drop n) true mid new stays e = e ∙ stays
-on_settled (Drop n) false mid new stays e = e ∙ stays
 on_settled (Fail n done) true mid new stays e = e ∙ stays
-on_settled (Fail n done) false mid new stays e = e ∙ stays
+on_settled _ _ mid new stays e = e ∙ stays
 
 -- what a call came to, in the words of its ending
 pub record Tells (stop : Stop) (size : ℕ) (e : Ending) (it : code.Called) : Type 0 where
@@ -334,17 +295,15 @@ came_register i d o planned_at mid items state register =
     ap (λ x. option_map (λ xs. register_after (item_values xs)) x) items ∙ reads_shown i o.moves d planned_at.items register
     ∙ ap (λ (e : Digests). Some e.register) (sym state)
 
-pub came : (i : Instance) (d : Digests) (stop : Stop) (issued : List (List ℕ)) (size : ℕ) (o : Called Digests)
-    (old planned_at mid new : Standing) (it : code.Called)
-    → StandsAt i mid o.state → mid.items ≡ option_map (shown i d o.moves) planned_at.items → o.state ≡ all_made (by_digests i) d o.moves
-    → mid.steps ≡ counted_by o.steps planned_at.steps → mid.writes ≡ counted_by o.writes planned_at.writes
-    → planned_at.steps ≡ old.steps → planned_at.writes ≡ old.writes → register_reads planned_at ≡ Some d.register
-    → o.state.count ≡ d.count + committed_by o.ending size → SettlesPlan stop (breaks o.ending) mid new → StaysOn stop (breaks o.ending) mid
-    → Tells stop size o.ending it
+pub came : (i : Instance) (d : Digests) (stop : Stop) (issued : List (List ℕ)) (size : ℕ) (o : Called Digests) (old planned_at mid new
+    : Standing) (it : code.Called) → StandsAt i mid o.state → mid.items ≡ option_map (shown i d o.moves) planned_at.items
+    → o.state ≡ all_made (by_digests i) d o.moves → mid.steps ≡ counted_by o.steps planned_at.steps
+    → mid.writes ≡ counted_by o.writes planned_at.writes → planned_at.steps ≡ old.steps → planned_at.writes ≡ old.writes
+    → register_reads planned_at ≡ Some d.register → o.state.count ≡ d.count + committed_by o.ending size
+    → SettlesPlan stop (breaks o.ending) mid new → StaysOn stop (breaks o.ending) mid → Tells stop size o.ending it
     → Came i (outcome_by (by_digests i) stop issued o) d.count issued old new it
 came i d stop issued size o old planned_at mid new it stands items state steps writes s w register counts settles stays tells =
-    let read = came_register i d o planned_at mid items state register in
-    let lost = breaks o.ending && is_cut stop in
+    let read = came_register i d o planned_at mid items state register in let lost = breaks o.ending && is_cut stop in
     let P : List Move → Type 0 = λ ms. Stands i new (all_made (by_digests i) o.state ms) in
     let C : List Move → Type 0 = λ ms. (all_made (by_digests i) o.state ms).count ≡ d.count + it.committed in
     let power = moves_power stop o.ending in

@@ -1,43 +1,16 @@
 -- A planned checkpoint, however it ended, comes to what it does by digests.
-use Rattle.std.proofs.Common.{◌≡◌, ℕ, ◌+◌, Bool, true, false, ◌&&◌, List, [], ◌∷◌, ◌++◌, map, Option, None, Some, Result, Ok, Err, refl, sym, ap, ◌∙◌, subst, arith}
-use Rattle.std.proofs.lemmas.Bool.{eqb-true}
-use Rattle.std.proofs.lemmas.List.{append-nil}
-use Rattle.std.specs.Prelude.{if◌then◌else◌, ◌==◌}
-use Rattle.std.specs.Option.{option_map}
-use Rattle.mm_base.specs.declared.fault.Memory.{Memory}
-use Rattle.mm_digest.specs.declared.variant.Variant.{Variant}
-use Rattle.mm_digest.specs.declared.variant.Variant.TheVariants.{Basic, Opt}
-use Rattle.mm_module.specs.Meaning.{Meaning}
-use Rattle.mm_platform.specs.declared.fault.StepFault.{StepFault}
+use Rattle.mm_world.proofs.Below.{◌≡◌, ℕ, ◌+◌, Bool, true, false, ◌&&◌, List, [], ◌∷◌, ◌++◌, map, Option, None, Some, Result, Ok, Err, refl}
+use Rattle.mm_world.proofs.Below.{sym, ap, ◌∙◌, subst, arith, eqb-true, append-nil, if◌then◌else◌, ◌==◌, option_map, Memory, Variant, Basic}
+use Rattle.mm_world.proofs.Below.{Opt, Meaning, StepFault, Meddle, Stop, Quiet, Cut, Drop, Fail, Standing, item_values, register_after}
+use Rattle.mm_world.proofs.Below.{fault_at, is_made_at, Instance, Move, Foreign, Close, Digests, register_reads, Reads, Writes}
+use Rattle.mm_world.proofs.Below.{checkpoint_steps, Said, CheckpointRefusal, closing_told, ChecksBy, ChecksOn, by_digests, all_made, End}
+use Rattle.mm_world.proofs.Below.{Done, Fails, Fate, Walked, walk, after_step, planned, closes, end_of, made_move, seen_at, instance_by}
+use Rattle.mm_world.proofs.Below.{StandsAt, StaysOn, closes-foreign, closes_first, checkpoint_none, Reply, way_of, course_of, closing_reply}
+use Rattle.mm_world.proofs.Below.{closing_then, closed_outcome, plan_of, stopped_reply, Stands, takes_effect, is_cut, SettlesPlan}
+use Rattle.mm_world.proofs.Below.{stopped_step, closes_at, told_closing, stops_in, Came, ChecksAs, quiet_as}
 use Rattle.mm_platform.specs.declared.fault.StepFault.TheVariants as step
-use Rattle.mm_platform.specs.declared.plan.Meddle.{Meddle}
-use Rattle.mm_platform.specs.declared.plan.Stop.{Stop}
-use Rattle.mm_platform.specs.declared.plan.Stop.TheVariants.{Quiet, Cut, Drop, Fail}
-use Rattle.mm_platform.specs.Standing.{Standing, item_values, register_after}
-use Rattle.mm_platform.specs.Steps.{fault_at, is_made_at}
-use Rattle.mm_model.specs.Instance.{Instance}
-use Rattle.mm_model.specs.History.{Move, Foreign, Close}
-use Rattle.mm_model.specs.Moves.{Digests}
-use Rattle.mm_model.specs.Standing.{register_reads}
-use Rattle.mm_model.specs.Steps.{Reads, Writes, checkpoint_steps}
-use Rattle.mm_opt.specs.declared.segment.Checkpointed.{Checkpointed as Said}
-use Rattle.mm_opt.specs.declared.segment.CheckpointRefusal.{CheckpointRefusal}
-use Rattle.mm_opt.specs.ChecksOn.{closing_told, ChecksBy, ChecksOn}
-use Rattle.mm_call.specs.Levels.{by_digests, all_made}
-use Rattle.mm_call.specs.Courses.{End, Done, Fails, Fate, Walked, walk, after_step, planned, closes}
-use Rattle.mm_call.specs.CoursesWords.{end_of, made_move}
-use Rattle.mm_call.specs.Called.{seen_at}
 use Rattle.mm_call.specs.Checkpoints.{closing_of, checkpointed}
 use Rattle.mm_call.specs.CheckpointsWords.{closed_by}
-use Rattle.mm_call.specs.Standing.{instance_by, StandsAt}
-use Rattle.mm_call.specs.Ended.{StaysOn}
-use Rattle.mm_call.specs.AlongLaws.{closes-foreign, closes_first, checkpoint_none}
-use Rattle.mm_schedule.specs.declared.reply.Reply.{Reply}
-use Rattle.mm_run.specs.Folds.{way_of, course_of, closing_reply, closing_then, closed_outcome}
-use Rattle.mm_run.specs.FoldsWords.{plan_of, stopped_reply}
-use Rattle.mm_world.specs.Stands.{Stands}
-use Rattle.mm_world.specs.Calls.{takes_effect, is_cut, SettlesPlan, stopped_step, closes_at, told_closing, stops_in}
-use Rattle.mm_world.specs.Asks.{Came, ChecksAs, quiet_as}
 use Rattle.mm_world.proofs.Committing.{reads_shown, count_none}
 use Rattle.mm_world.proofs.Asking.{stands_settled, on_settled, power_if, stop_power, power_count}
 
@@ -47,8 +20,7 @@ pub record StoppedAt (stop : Stop) (n : ℕ) (made : Bool) : Type 0 where
   pub effect : made ≡ takes_effect stop
 
 stopped_off : (stop : Stop) (at n : ℕ) (here : Bool) (fault : StepFault) (made : Bool) → (at == n) ≡ here → stopped_step stop ≡ at
-    → takes_effect stop ≡ true
-    → end_of (if here then Some step.Off else None) true ≡ Fails fault made → StoppedAt stop n made
+    → takes_effect stop ≡ true → end_of (if here then Some step.Off else None) true ≡ Fails fault made → StoppedAt stop n made
 stopped_off stop at n true fault made here number effect e =
     record { number = number ∙ eqb-true at n here; effect = (let x : true ≡ made = cc in sym x ∙ sym effect) }
 stopped_off stop at n false fault made here number effect e = cc
@@ -78,9 +50,8 @@ Planned fates stop = (n : ℕ) → (fates n).ends ≡ end_of (fault_at stop n) (
 
 -- a reading step, before a walk of which this holds
 read_closes : (fates : ℕ → Fate) (stop : Stop) (n : ℕ) (values : List (List ℕ)) (e : End) (rest : Walked) (fault : StepFault)
-    → e ≡ end_of (fault_at stop n) (is_made_at stop n) → (n == 3) ≡ false
-    → (after_step Reads values e rest).broken ≡ Some fault → (rest.broken ≡ Some fault → closes rest.moves ≡ closes_at stop)
-    → closes (after_step Reads values e rest).moves ≡ closes_at stop
+    → e ≡ end_of (fault_at stop n) (is_made_at stop n) → (n == 3) ≡ false → (after_step Reads values e rest).broken ≡ Some fault
+    → (rest.broken ≡ Some fault → closes rest.moves ≡ closes_at stop) → closes (after_step Reads values e rest).moves ≡ closes_at stop
 read_closes fates stop n values Done rest fault ends other broken later = closes_first values rest.moves ∙ later broken
 read_closes fates stop n values (Fails f made) rest fault ends other broken later =
     let at = stopped_at stop n f made (sym ends) in
@@ -88,8 +59,7 @@ read_closes fates stop n values (Fails f made) rest fault ends other broken late
 
 -- the step that closes
 write_closes : (stop : Stop) (values : List (List ℕ)) (e : End) (rest : Walked) (fault : StepFault)
-    → e ≡ end_of (fault_at stop 3) (is_made_at stop 3) → rest.broken ≡ None
-    → (after_step (Writes Close) values e rest).broken ≡ Some fault
+    → e ≡ end_of (fault_at stop 3) (is_made_at stop 3) → rest.broken ≡ None → (after_step (Writes Close) values e rest).broken ≡ Some fault
     → closes (after_step (Writes Close) values e rest).moves ≡ closes_at stop
 write_closes stop values Done rest fault ends none broken = cc
 write_closes stop values (Fails f made) rest fault ends none broken =
@@ -102,12 +72,6 @@ nothing_more broken fault stop none some = cc
 closes_planned : (fates : ℕ → Fate) (stop : Stop) (variant : Variant) (is_open is_lost : Bool) (fault : StepFault) → Planned fates stop
     → (walk fates 1 (checkpoint_steps variant is_open is_lost)).broken ≡ Some fault
     → closes (walk fates 1 (checkpoint_steps variant is_open is_lost)).moves ≡ closes_at stop
-closes_planned fates stop Basic is_open is_lost fault told broken =
-    read_closes fates stop 1 (fates 1).brings (fates 1).ends (walk fates 2 []) fault (told 1) refl broken
-    (nothing_more None fault stop refl)
-closes_planned fates stop Opt false is_lost fault told broken =
-    read_closes fates stop 1 (fates 1).brings (fates 1).ends (walk fates 2 []) fault (told 1) refl broken
-    (nothing_more None fault stop refl)
 closes_planned fates stop Opt true true fault told broken =
     read_closes fates stop 1 (fates 1).brings (fates 1).ends (walk fates 2 (Reads ∷ [])) fault (told 1) refl broken (λ later.
     read_closes fates stop 2 (fates 2).brings (fates 2).ends (walk fates 3 []) fault (told 2) refl later
@@ -116,20 +80,22 @@ closes_planned fates stop Opt true false fault told broken =
     read_closes fates stop 1 (fates 1).brings (fates 1).ends (walk fates 2 (Reads ∷ Writes Close ∷ [])) fault (told 1) refl broken (λ later.
     read_closes fates stop 2 (fates 2).brings (fates 2).ends (walk fates 3 (Writes Close ∷ [])) fault (told 2) refl later (λ last.
     write_closes stop (fates 3).brings (fates 3).ends (walk fates 4 []) fault (told 3) refl last))
+closes_planned fates stop _ _ is_lost fault told broken =
+    read_closes fates stop 1 (fates 1).brings (fates 1).ends (walk fates 2 []) fault (told 1) refl broken (nothing_more None fault stop
+    refl)
 
 -- what is told
 
 closing_said : (stop : Stop) (variant : Variant) (is_open is_lost closed : Bool) (broken : Option StepFault)
-    (result : Result Said CheckpointRefusal)
-    → result ≡ closing_told (closed_by broken closed (closing_of variant is_open is_lost))
-    → ((fault : StepFault) → broken ≡ Some fault → closed ≡ closes_at stop)
-    → told_closing stop result ≡ closing_reply (way_of stop) (closed_by broken closed (closing_of variant is_open is_lost))
+    (result : Result Said CheckpointRefusal) → result ≡ closing_told (closed_by broken closed (closing_of variant is_open is_lost))
+    → ((fault : StepFault) → broken ≡ Some fault → closed ≡ closes_at stop) → told_closing stop result ≡ closing_reply (way_of stop)
+    (closed_by broken closed (closing_of variant is_open is_lost))
 closing_said stop variant is_open is_lost closed (Some fault) result e known =
     ap (told_closing stop) e ∙ ap (stopped_reply (way_of stop)) (sym (known fault refl))
 closing_said stop Basic is_open is_lost closed None result e known = ap (told_closing stop) e
 closing_said stop Opt false is_lost closed None result e known = ap (told_closing stop) e
 closing_said stop Opt true true closed None result e known = ap (told_closing stop) e
-closing_said stop Opt true false closed None result e known = ap (told_closing stop) e
+closing_said stop _ _ _ closed None result e known = ap (told_closing stop) e
 
 stops_said : (variant : Variant) (is_open is_lost closed : Bool) (broken : Option StepFault) (result : Result Said CheckpointRefusal)
     → result ≡ closing_told (closed_by broken closed (closing_of variant is_open is_lost)) → (stop : Stop)
@@ -139,7 +105,7 @@ stops_said variant is_open is_lost closed (Some fault) result e stop =
 stops_said Basic is_open is_lost closed None result e stop = sym (ap (λ x. power_if (stops_in x && is_cut stop)) e)
 stops_said Opt false is_lost closed None result e stop = sym (ap (λ x. power_if (stops_in x && is_cut stop)) e)
 stops_said Opt true true closed None result e stop = sym (ap (λ x. power_if (stops_in x && is_cut stop)) e)
-stops_said Opt true false closed None result e stop = sym (ap (λ x. power_if (stops_in x && is_cut stop)) e)
+stops_said _ _ _ closed None result e stop = sym (ap (λ x. power_if (stops_in x && is_cut stop)) e)
 
 -- a checkpoint on the planned course
 closed_came : (i : Instance) (d : Digests) (stop : Stop) (meddles : List Meddle) (old mid new : Standing)
@@ -149,10 +115,8 @@ closed_came : (i : Instance) (d : Digests) (stop : Stop) (meddles : List Meddle)
     → Came i (closed_outcome (by_digests i) stop issued (checkpointed i (by_digests i) d (course_of stop meddles))) d.count issued old new
     (quiet_as (told_closing stop result))
 closed_came i d stop meddles old mid new result issued goes register settles stays =
-    let c = course_of stop meddles in
-    let is_lost = (by_digests i).is_lost (seen_at i (by_digests i) d c) in
-    let o = checkpointed i (by_digests i) d c in
-    let w = walk c.fates 1 (checkpoint_steps i.variant d.flag is_lost) in
+    let c = course_of stop meddles in let is_lost = (by_digests i).is_lost (seen_at i (by_digests i) d c) in
+    let o = checkpointed i (by_digests i) d c in let w = walk c.fates 1 (checkpoint_steps i.variant d.flag is_lost) in
     let read : register_reads mid ≡ Some o.state.register =
     ap (λ x. option_map (λ xs. register_after (item_values xs)) x) goes.items ∙ reads_shown i o.moves d old.items register in
     let lost = stops_in result && is_cut stop in
@@ -185,10 +149,9 @@ checks_planned old mid new meddles stop result checks settles variant meaning is
     let stands : StandsAt i at d = record { spells = s.at.spells; cell = s.at.cell; reads = s.at.reads } in
     let stays = checks.plans (plan_of stop meddles) q.is_on refl refl in
     let told = checks.tells (plan_of stop meddles) q.is_on refl refl in
-    let goes : ChecksBy i d (checkpointed i (by_digests i) d (course_of stop meddles)) at mid result =
-    subst (λ (f : ℕ → Fate). ChecksBy i d (checkpointed i (by_digests i) d (record { fates = f; lacks = false })) at mid result)
-    (λ j. λ n. told n j)
-    (checks.goes variant meaning key barrier d stands) in
+    let goes : ChecksBy i d (checkpointed i (by_digests i) d (course_of stop meddles)) at mid result = subst (λ (f : ℕ → Fate). ChecksBy i d
+    (checkpointed i (by_digests i) d (record { fates = f; lacks = false })) at mid result) (λ j. λ n. told n j) (checks.goes variant meaning
+    key barrier d stands) in
     closed_came i d stop meddles old mid new result issued goes s.register settles stays.0
 
 pub checks_wanting : (old new : Standing) (meddles : List Meddle) (stop : Stop) (memory : Memory) → new ≡ old
@@ -197,9 +160,8 @@ checks_wanting old new meddles stop memory e variant meaning issued = λ key bar
 
 -- the same, in the words of the code
 pub checks_over : (old planned_at mid new : Standing) (meddles : List Meddle) (stop : Stop) (broken : Bool) (said : Reply)
-    (result : Result Said CheckpointRefusal)
-    → planned_at ≡ record old { plan = Some (plan_of stop meddles) } → ChecksOn planned_at mid result → broken ≡ stops_in result
-    → SettlesPlan stop broken mid new → said ≡ told_closing stop result
+    (result : Result Said CheckpointRefusal) → planned_at ≡ record old { plan = Some (plan_of stop meddles) }
+    → ChecksOn planned_at mid result → broken ≡ stops_in result → SettlesPlan stop broken mid new → said ≡ told_closing stop result
     → (variant : Variant) (meaning : Meaning) (issued : List (List ℕ)) → ChecksAs variant meaning old new issued meddles stop (Ok said)
 checks_over old planned_at mid new meddles stop broken said result planned checks is settles told variant meaning issued =
     subst (λ r. ChecksAs variant meaning old new issued meddles stop (Ok r)) (sym told)

@@ -1,33 +1,14 @@
 -- How many requests a call commits, and what the register reads after its moves.
-use Rattle.std.proofs.Common.{◌≡◌, ℕ, ◌+◌, Bool, true, false, List, [], ◌∷◌, ◌++◌, length, Option, None, Some, Result, Ok, Err, refl, ap, ◌∙◌, arith}
-use Rattle.std.specs.Prelude.{if◌then◌else◌}
-use Rattle.std.specs.Option.{option_map}
-use Rattle.std.proofs.lemmas.List.{map-append}
+use Rattle.mm_world.proofs.Below.{◌≡◌, ℕ, ◌+◌, Bool, true, false, List, [], ◌∷◌, ◌++◌, length, Option, None, Some, Result, Ok, Err, refl}
+use Rattle.mm_world.proofs.Below.{ap, ◌∙◌, arith, if◌then◌else◌, option_map, map-append, Variant, Basic, Opt, zero_bytes, extended_of}
+use Rattle.mm_world.proofs.Below.{Batch, members_of, size_of, outputs_from, StepFault, Item, own_item, foreign_item, item_values}
+use Rattle.mm_world.proofs.Below.{register_after, Instance, Move, Commit, Foreign, Placed, Reset, Close, Power, Digests, made, committing}
+use Rattle.mm_world.proofs.Below.{Refusal, by_digests, all_made, Found, is_fresh, Walked, commits, Ending, Answers, Refuses, Breaks}
+use Rattle.mm_world.proofs.Below.{position_of, ended_by, kept_at, shown_by, shown, again_of, fresh_of, committed_in, Commits, nothing}
+use Rattle.mm_world.proofs.Below.{batch, commits-none, commits_batch, size_if}
 use Rattle.std.proofs.lemmas.List.Sums.{fold-append}
-use Rattle.mm_digest.specs.declared.variant.Variant.{Variant}
-use Rattle.mm_digest.specs.declared.variant.Variant.TheVariants.{Basic, Opt}
-use Rattle.mm_digest.specs.Messages.{zero_bytes, extended_of}
-use Rattle.mm_module.specs.Batch.{Batch, members_of, size_of}
-use Rattle.mm_module.specs.Meaning.{outputs_from}
 use Rattle.mm_module.specs.RunLaws.{length-outputs_from}
-use Rattle.mm_platform.specs.declared.fault.StepFault.{StepFault}
-use Rattle.mm_platform.specs.Standing.{Item, own_item, foreign_item, item_values, register_after}
 use Rattle.mm_model.specs.Chains.{guard}
-use Rattle.mm_model.specs.Instance.{Instance}
-use Rattle.mm_model.specs.History.{Move, Commit, Foreign, Placed, Reset, Close, Power}
-use Rattle.mm_model.specs.Moves.{Digests, made, committing}
-use Rattle.mm_model.specs.declared.refusal.Refusal.{Refusal}
-use Rattle.mm_call.specs.Levels.{by_digests, all_made}
-use Rattle.mm_call.specs.Found.{Found}
-use Rattle.mm_call.specs.FoundWords.{is_fresh}
-use Rattle.mm_call.specs.Courses.{Walked, commits}
-use Rattle.mm_call.specs.Called.{Ending, Answers, Refuses, Breaks, position_of, ended_by}
-use Rattle.mm_call.specs.CalledWords.{kept_at}
-use Rattle.mm_call.specs.Standing.{shown_by, shown}
-use Rattle.mm_call.proofs.Endings.{again_of, fresh_of}
-use Rattle.mm_call.specs.MoveLaws.{committed_in}
-use Rattle.mm_call.specs.WalkLaws.{Commits, nothing, batch, commits-none, commits_batch}
-use Rattle.mm_world.specs.Calls.{size_if}
 
 -- the requests of batches
 abbrev sizes : List Batch → ℕ
@@ -36,9 +17,8 @@ sizes (b ∷ bs) = size_of b + sizes bs
 
 committing_count : (variant : Variant) (flag : Bool) (i : Instance) (d : Digests) (b : Batch)
     → (committing variant flag i d b).count ≡ d.count + size_of b
-committing_count Basic flag i d b = refl
 committing_count Opt true i d b = refl
-committing_count Opt false i d b = refl
+committing_count _ _ i d b = refl
 
 counted_moves : (i : Instance) (moves : List Move) (d : Digests)
     → (all_made (by_digests i) d moves).count ≡ d.count + sizes (committed_in moves)
@@ -81,28 +61,6 @@ told_again : (again : Bool) (n : ℕ) → again ≡ true → (if again then 0 el
 told_again true n e = refl
 told_again false n e = cc
 
-pub counted_end : (i : Instance) (d seen : Digests) (b : Batch) (found : Result Found Refusal) (walked : Walked) (broken : Option StepFault)
-    → walked.broken ≡ broken
-    → Commits b (is_fresh found) walked
-    → (all_made (by_digests i) d walked.moves).count
-    ≡ d.count + committed_by (ended_by (by_digests i) seen (all_made (by_digests i) d walked.moves) b found walked.moves broken) (size_of b)
-counted_end i d seen b (Err why) walked (Some fault) e (nothing none unless) =
-    let k = kept_none (commits walked.moves) 0 (size_of b) (commits-none walked.moves none)
-    in omega (arith, count_none i walked.moves d none, k)
-counted_end i d seen b (Err why) walked None e (nothing none unless) = omega (arith, count_none i walked.moves d none)
-counted_end i d seen b (Err why) walked broken e (batch one fresh) = cc
-counted_end i d seen b (Ok f) walked (Some fault) e (nothing none unless) =
-    let k = kept_none (commits walked.moves) (position_of (by_digests i) seen (all_made (by_digests i) d walked.moves) b (Ok f)) (size_of b)
-    (commits-none walked.moves none) in omega (arith, count_none i walked.moves d none, k)
-counted_end i d seen b (Ok f) walked (Some fault) e (batch one fresh) =
-    let k = kept_some (commits walked.moves) (position_of (by_digests i) seen (all_made (by_digests i) d walked.moves) b (Ok f)) (size_of b)
-    (commits_batch walked.moves b one) in omega (arith, count_one i walked.moves d b one, k)
-counted_end i d seen b (Ok f) walked None e (nothing none unless) =
-    let k = told_again f.again (length (outputs_from i.meaning f.offered.state (members_of b))) (again_of f.again (unless e)) in
-    omega (arith, count_none i walked.moves d none, k)
-counted_end i d seen b (Ok f) walked None e (batch one fresh) =
-    let k = told_new i f.offered.state b f.again (fresh_of f.again fresh) in omega (arith, count_one i walked.moves d b one, k)
-
 -- the register reads what its items show of moves
 
 read_push : (items : List Item) (item : Item)
@@ -112,29 +70,46 @@ read_push items item =
     ∙ fold-append extended_of zero_bytes (item_values items) (item.value ∷ [])
 
 shown_reads : (variant : Variant) (flag : Bool) (i : Instance) (d : Digests) (m : Move) (items : List Item) → i.variant ≡ variant
-    → d.flag ≡ flag
-    → register_after (item_values items) ≡ d.register
-    → register_after (item_values (shown_by variant flag i m items)) ≡ (made i d m).register
+    → d.flag ≡ flag → register_after (item_values items) ≡ d.register → register_after (item_values (shown_by variant flag i m items))
+    ≡ (made i d m).register
 shown_reads Basic flag i d (Commit b) items v f e = e ∙ rw v refl
 shown_reads Opt true i d (Commit b) items v f e = read_push items (own_item (guard i.barrier b)) ∙ rw (e, v, f) refl
 shown_reads Opt false i d (Commit b) items v f e = e ∙ rw (v, f) refl
 shown_reads variant flag i d (Foreign x) items v f e = read_push items (foreign_item x) ∙ ap (λ r. extended_of r x) e
 shown_reads variant flag i d (Placed b) items v f e =
     read_push items (own_item (guard i.barrier b)) ∙ ap (λ r. extended_of r (guard i.barrier b)) e
-shown_reads variant flag i d Reset items v f e = refl
 shown_reads variant flag i d Close items v f e = e
-shown_reads variant flag i d Power items v f e = refl
+shown_reads variant flag i d _ items v f e = refl
 
-shown_all : (i : Instance) (moves : List Move) (d : Digests) (items : List Item) → register_after (item_values items) ≡ d.register
-    → register_after (item_values (shown i d moves items)) ≡ (all_made (by_digests i) d moves).register
-shown_all i [] d items e = e
-shown_all i (m ∷ moves) d items e =
-    shown_all i moves (made i d m) (shown_by i.variant d.flag i m items) (shown_reads i.variant d.flag i d m items refl refl e)
+module _ (i : Instance) where
+  pub counted_end : (d seen : Digests) (b : Batch) (found : Result Found Refusal) (walked : Walked) (broken : Option StepFault)
+      → walked.broken ≡ broken → Commits b (is_fresh found) walked → (all_made (by_digests i) d walked.moves).count ≡ d.count + committed_by
+      (ended_by (by_digests i) seen (all_made (by_digests i) d walked.moves) b found walked.moves broken) (size_of b)
+  counted_end d seen b (Err why) walked (Some fault) e (nothing none unless) =
+      let k = kept_none (commits walked.moves) 0 (size_of b) (commits-none walked.moves none)
+      in omega (arith, count_none i walked.moves d none, k)
+  counted_end d seen b (Err why) walked None e (nothing none unless) = omega (arith, count_none i walked.moves d none)
+  counted_end d seen b (Err why) walked broken e (batch one fresh) = cc
+  counted_end d seen b (Ok f) walked (Some fault) e (nothing none unless) =
+      let k = kept_none (commits walked.moves) (position_of (by_digests i) seen (all_made (by_digests i) d walked.moves) b (Ok f))
+      (size_of b) (commits-none walked.moves none) in omega (arith, count_none i walked.moves d none, k)
+  counted_end d seen b (Ok f) walked (Some fault) e (batch one fresh) =
+      let k = kept_some (commits walked.moves) (position_of (by_digests i) seen (all_made (by_digests i) d walked.moves) b (Ok f))
+      (size_of b) (commits_batch walked.moves b one) in omega (arith, count_one i walked.moves d b one, k)
+  counted_end d seen b (Ok f) walked None e (nothing none unless) =
+      let k = told_again f.again (length (outputs_from i.meaning f.offered.state (members_of b))) (again_of f.again (unless e)) in
+      omega (arith, count_none i walked.moves d none, k)
+  counted_end d seen b (Ok f) walked None e (batch one fresh) =
+      let k = told_new i f.offered.state b f.again (fresh_of f.again fresh) in omega (arith, count_one i walked.moves d b one, k)
 
-pub reads_shown : (i : Instance) (moves : List Move) (d : Digests) (items : Option (List Item))
-    → option_map (λ xs. register_after (item_values xs)) items ≡ Some d.register
-    → option_map (λ xs. register_after (item_values xs)) (option_map (shown i d moves) items) ≡ Some
-    (all_made (by_digests i) d moves).register
-reads_shown i moves d None e = cc
-reads_shown i moves d (Some xs) e =
-    let f : register_after (item_values xs) ≡ d.register = cc in ap Some (shown_all i moves d xs f)
+  shown_all : (moves : List Move) (d : Digests) (items : List Item) → register_after (item_values items) ≡ d.register
+      → register_after (item_values (shown i d moves items)) ≡ (all_made (by_digests i) d moves).register
+  shown_all [] d items e = e
+  shown_all (m ∷ moves) d items e =
+      shown_all moves (made i d m) (shown_by i.variant d.flag i m items) (shown_reads i.variant d.flag i d m items refl refl e)
+
+  pub reads_shown : (moves : List Move) (d : Digests) (items : Option (List Item)) → option_map (λ xs. register_after (item_values xs))
+      items ≡ Some d.register → option_map (λ xs. register_after (item_values xs)) (option_map (shown i d moves) items) ≡ Some
+      (all_made (by_digests i) d moves).register
+  reads_shown moves d None e = cc
+  reads_shown moves d (Some xs) e = let f : register_after (item_values xs) ≡ d.register = cc in ap Some (shown_all moves d xs f)

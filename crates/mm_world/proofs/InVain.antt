@@ -1,58 +1,22 @@
 -- A planned call over a cell that it doesn't go on with comes to what its one reading step gives.
-use Rattle.std.proofs.Common.{append_assoc, ◌≡◌, ℕ, ◌+◌, Bool, true, false, ◌&&◌, List, [], ◌∷◌, ◌++◌, map, Option, None, Some, Result, Ok, Err, refl, sym, ap, ◌∙◌, subst}
-use Rattle.std.proofs.lemmas.List.{append-nil}
-use Rattle.std.specs.Prelude.{if◌then◌else◌, ◌==◌, is_some, MatchResult, option_to_list}
-use Rattle.std.specs.Option.{option_map}
+use Rattle.mm_world.proofs.Below.{append_assoc, ◌≡◌, ℕ, ◌+◌, Bool, true, false, ◌&&◌, List, [], ◌∷◌, ◌++◌, map, Option, None, Some, Result}
+use Rattle.mm_world.proofs.Below.{Ok, Err, refl, sym, ap, ◌∙◌, subst, append-nil, if◌then◌else◌, ◌==◌, is_some, MatchResult, option_to_list}
+use Rattle.mm_world.proofs.Below.{option_map, Memory, Variant, Meaning, Batch, One, size_of, StepFault, Meddle, Stop, Item, foreign_item}
+use Rattle.mm_world.proofs.Below.{Standing, item_values, register_after, ReadCell, Goes, fault_at, is_made_at, items_cycled, will_answer}
+use Rattle.mm_world.proofs.Below.{will_bring, Cell, CellFault, Blank, Unspelled, ReadsCell, same_variant, Instance, Move, Foreign, is_long}
+use Rattle.mm_world.proofs.Below.{Digests, made, register_reads, Refusal, Ended, by_digests, all_made, Walked, after_step, commits, end_of}
+use Rattle.mm_world.proofs.Below.{Reads, called_by, kept_at, shown, ended_with, is_broken, StaysOn, StaysPlanned, CallsTo, Said}
+use Rattle.mm_world.proofs.Below.{CheckpointRefusal, ClosesSegment, ChecksOn, AskCall, begun, FinishedAsk, Cause, Reply, Outcome, way_of}
+use Rattle.mm_world.proofs.Below.{cause_of, outcome_by, uncalled, reads_only, plan_of, broken_reply, stopped_reply, IsQuiet, quiet_as}
+use Rattle.mm_world.proofs.Below.{refused_call, broken_as, takes_effect, size_if, is_cut, CalledAs, RefusedAs, SettlesPlan, told_closing}
+use Rattle.mm_world.proofs.Below.{stops_in, missing, why_vain, CameInVain, AsksInVain, ChecksInVain, AsksPlanned, ChecksPlanned}
 use Rattle.mm_base.specs.Faults.{counted}
-use Rattle.mm_base.specs.declared.fault.Memory.{Memory}
-use Rattle.mm_digest.specs.declared.variant.Variant.{Variant}
-use Rattle.mm_module.specs.Meaning.{Meaning}
-use Rattle.mm_module.specs.Batch.{Batch, One, size_of}
-use Rattle.mm_platform.specs.declared.fault.StepFault.{StepFault}
-use Rattle.mm_platform.specs.declared.plan.Meddle.{Meddle}
-use Rattle.mm_platform.specs.declared.plan.Stop.{Stop}
-use Rattle.mm_platform.specs.Standing.{Item, foreign_item, Standing, item_values, register_after}
 use Rattle.mm_platform.specs.StandingWords.{due}
-use Rattle.mm_platform.specs.Steps.{ReadCell, Goes, fault_at, is_made_at, items_cycled, will_answer, will_bring}
-use Rattle.mm_seal.specs.declared.cell.Cell.{Cell}
-use Rattle.mm_seal.specs.declared.cell.CellFault.{CellFault}
-use Rattle.mm_seal.specs.declared.cell.CellFault.TheVariants.{Blank, Cell as Unspelled}
-use Rattle.mm_seal.specs.Cell.{ReadsCell}
-use Rattle.mm_seal.specs.PartsWords.{same_variant}
-use Rattle.mm_model.specs.Instance.{Instance}
-use Rattle.mm_model.specs.History.{Move, Foreign}
-use Rattle.mm_model.specs.Long.{is_long}
-use Rattle.mm_model.specs.Moves.{Digests, made}
-use Rattle.mm_model.specs.Standing.{register_reads}
-use Rattle.mm_model.specs.declared.refusal.Refusal.{Refusal}
 use Rattle.mm_model.specs.declared.refusal.Refusal.TheVariants as refusal
-use Rattle.mm_call.specs.declared.ended.Ended.{Ended}
-use Rattle.mm_call.specs.Levels.{by_digests, all_made}
-use Rattle.mm_call.specs.Courses.{Walked, after_step, commits}
-use Rattle.mm_call.specs.CoursesWords.{end_of}
-use Rattle.mm_model.specs.Steps.{Reads}
-use Rattle.mm_call.specs.Called.{called_by}
-use Rattle.mm_call.specs.CalledWords.{kept_at}
-use Rattle.mm_call.specs.Standing.{shown}
-use Rattle.mm_call.specs.Ended.{ended_with, is_broken, StaysOn, StaysPlanned, CallsTo}
-use Rattle.mm_opt.specs.declared.segment.Checkpointed.{Checkpointed as Said}
-use Rattle.mm_opt.specs.declared.segment.CheckpointRefusal.{CheckpointRefusal}
-use Rattle.mm_opt.specs.Checkpoints.{ClosesSegment}
-use Rattle.mm_opt.specs.ChecksOn.{ChecksOn}
 use Rattle.mm_opt.specs.Closed.{ClosedInOpt}
-use Rattle.mm_flight.specs.declared.ask.AskCall.{AskCall}
-use Rattle.mm_flight.specs.Asks.{begun, FinishedAsk}
-use Rattle.mm_schedule.specs.declared.reply.Cause.{Cause}
 use Rattle.mm_schedule.specs.declared.reply.Cause.TheVariants as cause
-use Rattle.mm_schedule.specs.declared.reply.Reply.{Reply}
 use Rattle.mm_schedule.specs.declared.reply.Reply.TheVariants as reply
-use Rattle.mm_run.specs.Folds.{Outcome, way_of, cause_of, outcome_by, uncalled, reads_only}
-use Rattle.mm_run.specs.FoldsWords.{plan_of, broken_reply, stopped_reply}
 use Rattle.mm_world.specs.declared.call.Called as code
-use Rattle.mm_world.specs.Stands.{IsQuiet}
-use Rattle.mm_world.specs.Asks.{quiet_as}
-use Rattle.mm_world.specs.Calls.{refused_call, broken_as, takes_effect, size_if, is_cut, CalledAs, RefusedAs, SettlesPlan, told_closing, stops_in}
-use Rattle.mm_world.specs.InVain.{missing, why_vain, CameInVain, AsksInVain, ChecksInVain, AsksPlanned, ChecksPlanned}
 use Rattle.mm_world.proofs.Committing.{reads_shown}
 use Rattle.mm_world.proofs.StoppingReading.{StopsReading, ask_stops, unless_own, closing_ended, stops_looking}
 use Rattle.mm_world.proofs.Asking.{reads_none, power_if, stop_power, on_settled}
@@ -82,17 +46,15 @@ foreign_shown i d (v ∷ values) items =
 
 -- what the register reads after values of others, and then perhaps a loss of power
 read_mid : (i : Instance) (d : Digests) (values : List (List ℕ)) (before after : Option (List Item))
-    → option_map (λ xs. register_after (item_values xs)) before ≡ Some d.register
-    → after ≡ option_map (λ xs. xs ++ map foreign_item values) before
-    → option_map (λ xs. register_after (item_values xs)) after ≡ Some (all_made (by_digests i) d (map Foreign values)).register
+    → option_map (λ xs. register_after (item_values xs)) before ≡ Some d.register → after ≡ option_map (λ xs. xs ++ map foreign_item values)
+    before → option_map (λ xs. register_after (item_values xs)) after ≡ Some (all_made (by_digests i) d (map Foreign values)).register
 read_mid i d values None after e is = cc
 read_mid i d values (Some xs) after e is =
     ap (λ x. option_map (λ ys. register_after (item_values ys)) x) (is ∙ ap Some (sym (foreign_shown i d values xs)))
     ∙ reads_shown i (map Foreign values) d (Some xs) e
 
 settled_reads : (i : Instance) (s : Digests) (mid new : Standing) (lost : Bool) → register_reads mid ≡ Some s.register
-    → new.items ≡ items_cycled lost mid.items
-    → register_reads new ≡ Some (all_made (by_digests i) s (power_if lost)).register
+    → new.items ≡ items_cycled lost mid.items → register_reads new ≡ Some (all_made (by_digests i) s (power_if lost)).register
 settled_reads i s mid new false e items = ap (λ x. option_map (λ xs. register_after (item_values xs)) x) items ∙ e
 settled_reads i s mid new true e items =
     ap (λ x. option_map (λ xs. register_after (item_values xs)) x) items ∙ reads_none mid.items s.register e
@@ -118,77 +80,64 @@ record Settled (stop : Stop) (broken : Bool) (old mid new : Standing) : Type 0 w
   pub steps : mid.steps ≡ counted old.steps
   pub writes : mid.writes ≡ old.writes
 
-came_by : (i : Instance) (d : Digests) (stop : Stop) (issued values : List (List ℕ)) (why : Refusal) (fault : Option StepFault)
-    (made : Bool) (old mid new : Standing) (it : code.Called)
-    → Settled stop (is_some fault) old mid new → register_reads mid ≡ Some (all_made (by_digests i) d (map Foreign values)).register
-    → TellsVain stop why fault it
-    → CameInVain (read_by i d issued stop why values fault made) issued old new it
-came_by i d stop issued values why None made old mid new it s register t = record {
-  reply = t.reply;
-  issues = ap (λ x. issued ++ option_to_list x) t.snapshot;
-  committed = t.committed;
-  cell = s.settles.cell ∙ s.cell;
-  register = settled_reads i (all_made (by_digests i) d (map Foreign values)) mid new false register s.settles.items
-      ∙ ap (λ (ms : List Move). Some (all_made (by_digests i) d ms).register) (sym (append-nil (map Foreign values)));
-  quiet = record { is_on = on_settled stop false mid new s.stays s.settles.is_on; plan = s.settles.plan };
-  steps = s.settles.steps ∙ s.steps;
-  writes = s.settles.writes ∙ s.writes;
-}
-came_by i d stop issued values why (Some fault) made old mid new it s register t =
-    let seen : Digests = all_made (by_digests i) d (map Foreign values) in record {
-      reply = t.reply ∙ ap (λ (c : Bool). broken_reply (way_of stop) (kept_at c 0)) (sym (foreign_commits values));
-      issues = ap (λ x. issued ++ option_to_list x) t.snapshot;
-      committed = t.committed;
-      cell = s.settles.cell ∙ s.cell;
-      register = settled_reads i seen mid new (is_cut stop) register s.settles.items
-          ∙ ap (λ (ms : List Move). Some (all_made (by_digests i) seen ms).register) (sym (stop_power stop));
-      quiet = record { is_on = on_settled stop true mid new s.stays s.settles.is_on; plan = s.settles.plan };
-      steps = s.settles.steps ∙ s.steps;
-      writes = s.settles.writes ∙ s.writes;
-    }
+module _ (i : Instance) where
+  came_by : (d : Digests) (stop : Stop) (issued values : List (List ℕ)) (why : Refusal) (fault : Option StepFault) (made : Bool)
+      (old mid new : Standing) (it : code.Called) → Settled stop (is_some fault) old mid new
+      → register_reads mid ≡ Some (all_made (by_digests i) d (map Foreign values)).register → TellsVain stop why fault it
+      → CameInVain (read_by i d issued stop why values fault made) issued old new it
+  came_by d stop issued values why None made old mid new it s register t = record {
+    reply = t.reply;
+    issues = ap (λ x. issued ++ option_to_list x) t.snapshot;
+    committed = t.committed;
+    cell = s.settles.cell ∙ s.cell;
+    register = settled_reads i (all_made (by_digests i) d (map Foreign values)) mid new false register s.settles.items
+        ∙ ap (λ (ms : List Move). Some (all_made (by_digests i) d ms).register) (sym (append-nil (map Foreign values)));
+    quiet = record { is_on = on_settled stop false mid new s.stays s.settles.is_on; plan = s.settles.plan };
+    steps = s.settles.steps ∙ s.steps;
+    writes = s.settles.writes ∙ s.writes;
+  }
+  came_by d stop issued values why (Some fault) made old mid new it s register t =
+      let seen : Digests = all_made (by_digests i) d (map Foreign values) in record {
+        reply = t.reply ∙ ap (λ (c : Bool). broken_reply (way_of stop) (kept_at c 0)) (sym (foreign_commits values));
+        issues = ap (λ x. issued ++ option_to_list x) t.snapshot;
+        committed = t.committed;
+        cell = s.settles.cell ∙ s.cell;
+        register = settled_reads i seen mid new (is_cut stop) register s.settles.items
+            ∙ ap (λ (ms : List Move). Some (all_made (by_digests i) seen ms).register) (sym (stop_power stop));
+        quiet = record { is_on = on_settled stop true mid new s.stays s.settles.is_on; plan = s.settles.plan };
+        steps = s.settles.steps ∙ s.steps;
+        writes = s.settles.writes ∙ s.writes;
+      }
 
--- the step over a planned platform
-stopped_came : (i : Instance) (d : Digests) (stop : Stop) (meddles : List Meddle) (issued : List (List ℕ)) (why : Refusal)
-    (old mid new : Standing) (it : code.Called)
-    (fault : Option StepFault) → IsQuiet old → register_reads old ≡ Some d.register
-    → Goes ReadCell (record old { plan = Some (plan_of stop meddles) }) mid fault → SettlesPlan stop (is_some fault) mid new
-    → StaysOn stop (is_some fault) mid
-    → TellsVain stop why fault it
-    → CameInVain (reads_only (by_digests i) d issued meddles stop why) issued old new it
-stopped_came i d stop meddles issued why old mid new it fault q register goes settles stays tells =
-    let told = goes.told (plan_of stop meddles) refl in
-    let is : fault ≡ fault_at stop 1 = told.answers ∙ ap (λ on. will_answer on (plan_of stop meddles)) q.is_on in
-    let brings : goes.others ≡ due 1 meddles = told.brings ∙ ap (λ on. will_bring on (plan_of stop meddles)) q.is_on in
-    let read : register_reads mid ≡ Some (all_made (by_digests i) d (map Foreign (due 1 meddles))).register =
-    read_mid i d (due 1 meddles) old.items mid.items register (goes.items
-    ∙ ap (λ vs. option_map (λ xs. xs ++ map foreign_item vs) old.items) brings) in
-    subst (λ f. CameInVain (read_by i d issued stop why (due 1 meddles) f (is_made_at stop 1)) issued old new it) is
-    (came_by i d stop issued (due 1 meddles) why fault (is_made_at stop 1) old mid new it
-    (record { settles = settles; stays = stays; cell = goes.cell; steps = goes.steps; writes = goes.writes }) read tells)
+  -- the step over a planned platform
+  stopped_came : (d : Digests) (stop : Stop) (meddles : List Meddle) (issued : List (List ℕ)) (why : Refusal) (old mid new : Standing)
+      (it : code.Called) (fault : Option StepFault) → IsQuiet old → register_reads old ≡ Some d.register
+      → Goes ReadCell (record old { plan = Some (plan_of stop meddles) }) mid fault → SettlesPlan stop (is_some fault) mid new
+      → StaysOn stop (is_some fault) mid → TellsVain stop why fault it → CameInVain (reads_only (by_digests i) d issued meddles stop why)
+      issued old new it
+  stopped_came d stop meddles issued why old mid new it fault q register goes settles stays tells =
+      let told = goes.told (plan_of stop meddles) refl in
+      let is : fault ≡ fault_at stop 1 = told.answers ∙ ap (λ on. will_answer on (plan_of stop meddles)) q.is_on in
+      let brings : goes.others ≡ due 1 meddles = told.brings ∙ ap (λ on. will_bring on (plan_of stop meddles)) q.is_on in
+      let read : register_reads mid ≡ Some (all_made (by_digests i) d (map Foreign (due 1 meddles))).register = read_mid i d (due 1 meddles)
+      old.items mid.items register (goes.items ∙ ap (λ vs. option_map (λ xs. xs ++ map foreign_item vs) old.items) brings) in
+      subst (λ f. CameInVain (read_by i d issued stop why (due 1 meddles) f (is_made_at stop 1)) issued old new it) is
+      (came_by d stop issued (due 1 meddles) why fault (is_made_at stop 1) old mid new it
+      (record { settles = settles; stays = stays; cell = goes.cell; steps = goes.steps; writes = goes.writes }) read tells)
 
 -- what is told of a call that ended so
 
 refused_why : (why : Refusal) (result : Result code.Called Memory) → (why ≡ refusal.Memory → ⊥) → RefusedAs why result
     → result ≡ Ok (refused_call (cause_of why))
 refused_why refusal.Memory result never e = absurd (never refl)
-refused_why refusal.Lost result never e = e
-refused_why refusal.Form result never e = e
-refused_why refusal.Kind result never e = e
-refused_why refusal.State result never e = e
-refused_why refusal.Tag result never e = e
-refused_why refusal.Stale result never e = e
-refused_why refusal.Full result never e = e
-refused_why refusal.Long result never e = e
-refused_why refusal.Blank result never e = e
-refused_why refusal.Cell result never e = e
-refused_why (refusal.Device fault) result never e = e
+refused_why _ result never e = e
 
 never_memory : (variant : Variant) (id : ℕ) (read : Result Cell CellFault) → why_vain variant id read ≡ Some refusal.Memory → ⊥
-never_memory variant id (Err Blank) e = cc
-never_memory variant id (Err Unspelled) e = cc
 never_memory variant id (Ok cell) e =
     let u = unless_own (same_variant cell.variant variant && (cell.module == id)) refusal.Memory e in
     let clash : refusal.Cell ≡ refusal.Memory = u.1 in absurd (cc)
+never_memory variant id (Err Blank) e = cc
+never_memory variant id _ e = cc
 
 broken_with : (fault : Option StepFault) (why : Refusal) → is_broken (ended_with fault why) ≡ is_some fault
 broken_with None why = refl
@@ -208,42 +157,9 @@ vain_told stop size (Some fault) why = record {
 }
 
 vain_result : (stop : Stop) (size : ℕ) (fault : Option StepFault) (why : Refusal) (result : Result code.Called Memory)
-    → (why ≡ refusal.Memory → ⊥)
-    → CalledAs stop size (ended_with fault why) result → result ≡ Ok (vain_call stop size fault why)
+    → (why ≡ refusal.Memory → ⊥) → CalledAs stop size (ended_with fault why) result → result ≡ Ok (vain_call stop size fault why)
 vain_result stop size None why result never e = refused_why why result never e
 vain_result stop size (Some fault) why result never e = e
-
--- a call that isn't too long, over a planned platform
-pub asks_in_vain : (variant : Variant) (meaning : Meaning) (old planned_at mid new : Standing) (meddles : List Meddle) (stop : Stop)
-    (offer : List ℕ) (b : Batch) (size : ℕ)
-    (broken : Bool) (ended : Ended) (result : Result code.Called Memory) → is_long b ≡ false
-    → planned_at ≡ record old { plan = Some (plan_of stop meddles) }
-    → ((bytes : List ℕ) (read : Result Cell CellFault) (why : Refusal) → planned_at.cell ≡ Some bytes → ReadsCell bytes read
-    → why_vain variant meaning.id read ≡ Some why
-    → StopsReading planned_at mid why ended)
-    → StaysPlanned planned_at mid (is_broken ended) → broken ≡ is_broken ended → SettlesPlan stop broken mid new
-    → CalledAs stop size ended result
-    → (issued : List (List ℕ)) → AsksInVain variant meaning old new issued meddles stop (Some offer) b result
-asks_in_vain variant meaning old planned_at mid new meddles stop offer b size broken ended result short planned stops plans is settles told
-    issued = λ i d read why at vain.
-    let r = stops at.bytes read why (ap (λ (s : Standing). s.cell) planned ∙ at.cell) at.reads vain in
-    let p = plans (plan_of stop meddles) (ap (λ (s : Standing). s.is_on) planned ∙ at.quiet.is_on) (ap (λ (s : Standing). s.plan) planned)
-    refl in
-    let breaks : is_broken ended ≡ is_some r.fault = ap is_broken r.ends ∙ broken_with r.fault why in
-    let it : code.Called = vain_call stop size r.fault why in
-    let came : CameInVain (reads_only (by_digests i) d issued meddles stop why) issued old new it =
-    stopped_came i d stop meddles issued why old mid new it r.fault at.quiet at.register
-    (subst (λ (s : Standing). Goes ReadCell s mid r.fault) planned r.goes)
-    (subst (λ x. SettlesPlan stop x mid new) (is ∙ breaks) settles) (subst (λ x. StaysOn stop x mid) breaks p.0)
-    (vain_told stop size r.fault why) in
-    let gives : result ≡ Ok it = vain_result stop size r.fault why result (λ e. never_memory variant meaning.id read (vain ∙ ap Some e))
-    (subst (λ (x : Ended). CalledAs stop size x result) r.ends told) in
-    subst (λ (x : Result code.Called Memory). MatchResult x
-    (CameInVain (if is_long b then uncalled d issued (reply.No cause.Long) else reads_only (by_digests i) d issued meddles stop why) issued
-    old new) (λ _. new ≡ old)) (sym gives)
-    (subst (λ (long : Bool). CameInVain
-    (if long then uncalled d issued (reply.No cause.Long) else reads_only (by_digests i) d issued meddles stop why) issued old new it)
-    (sym short) came)
 
 -- nothing was called
 
@@ -251,27 +167,24 @@ asks_in_vain variant meaning old planned_at mid new meddles stop offer b size br
 
 stopped_ended : (fault : Option StepFault) (missed : CellFault) → stops_in (closing_ended fault missed) ≡ is_some fault
 stopped_ended None Blank = refl
-stopped_ended None Unspelled = refl
-stopped_ended (Some f) missed = refl
+stopped_ended _ _ = refl
 
 closing_told_vain : (stop : Stop) (missed : CellFault) (fault : Option StepFault) → fault ≡ fault_at stop 1
     → TellsVain stop (missing missed) fault (quiet_as (told_closing stop (closing_ended fault missed)))
-closing_told_vain stop Blank None e = record { reply = refl; snapshot = refl; committed = refl }
-closing_told_vain stop Unspelled None e = record { reply = refl; snapshot = refl; committed = refl }
 closing_told_vain stop missed (Some fault) e =
     let at = stopped_at stop 1 fault (is_made_at stop 1) (ap (λ f. end_of f (is_made_at stop 1)) (sym e)) in record {
       reply = ap (λ (n : ℕ). stopped_reply (way_of stop) ((n == 3) && takes_effect stop)) at.number;
       snapshot = refl;
       committed = refl;
     }
+closing_told_vain stop Blank None e = record { reply = refl; snapshot = refl; committed = refl }
+closing_told_vain stop _ None e = record { reply = refl; snapshot = refl; committed = refl }
 
 -- a checkpoint over a planned platform
 pub checks_in_vain : (old planned_at mid new : Standing) (meddles : List Meddle) (stop : Stop) (broken : Bool) (said : Reply)
-    (result : Result Said CheckpointRefusal)
-    → planned_at ≡ record old { plan = Some (plan_of stop meddles) } → ClosesSegment planned_at mid result → ChecksOn planned_at mid result
-    → broken ≡ stops_in result
-    → SettlesPlan stop broken mid new → said ≡ told_closing stop result
-    → (issued : List (List ℕ)) → ChecksInVain old new issued meddles stop (Ok said)
+    (result : Result Said CheckpointRefusal) → planned_at ≡ record old { plan = Some (plan_of stop meddles) }
+    → ClosesSegment planned_at mid result → ChecksOn planned_at mid result → broken ≡ stops_in result → SettlesPlan stop broken mid new
+    → said ≡ told_closing stop result → (issued : List (List ℕ)) → ChecksInVain old new issued meddles stop (Ok said)
 checks_in_vain old planned_at mid new meddles stop broken said result planned closes checks is settles told issued = λ i d missed at.
     let r = stops_looking planned_at closes.middle mid at.bytes missed closes.found result (ap (λ (s : Standing). s.cell) planned ∙ at.cell)
     at.reads closes.looks closes.ends in
@@ -282,36 +195,56 @@ checks_in_vain old planned_at mid new meddles stop broken said result planned cl
     let fault_is : r.fault ≡ fault_at stop 1 = (goes.told (plan_of stop meddles) refl).answers
     ∙ ap (λ on. will_answer on (plan_of stop meddles)) at.quiet.is_on in
     let it : code.Called = quiet_as (told_closing stop (closing_ended r.fault missed)) in
-    let came : CameInVain (reads_only (by_digests i) d issued meddles stop (missing missed)) issued old new it =
-    stopped_came i d stop meddles issued (missing missed) old mid new it r.fault at.quiet at.register goes
-    (subst (λ x. SettlesPlan stop x mid new) (is ∙ breaks) settles) (subst (λ x. StaysOn stop x mid) breaks p.0)
-    (closing_told_vain stop missed r.fault fault_is) in
+    let came : CameInVain (reads_only (by_digests i) d issued meddles stop (missing missed)) issued old new it = stopped_came i d stop
+    meddles issued (missing missed) old mid new it r.fault at.quiet at.register goes (subst (λ x. SettlesPlan stop x mid new) (is ∙ breaks)
+    settles) (subst (λ x. StaysOn stop x mid) breaks p.0) (closing_told_vain stop missed r.fault fault_is) in
     subst (λ (x : Reply). CameInVain (reads_only (by_digests i) d issued meddles stop (missing missed)) issued old new (quiet_as x))
     (sym (told ∙ ap (told_closing stop) r.ends)) came
 
--- either way
+module _ (variant : Variant) (meaning : Meaning) (old planned_at mid new : Standing) (meddles : List Meddle) (stop : Stop) where
+  -- a call that isn't too long, over a planned platform
+  pub asks_in_vain : (offer : List ℕ) (b : Batch) (size : ℕ) (broken : Bool) (ended : Ended) (result : Result code.Called Memory)
+      → is_long b ≡ false → planned_at ≡ record old { plan = Some (plan_of stop meddles) }
+      → ((bytes : List ℕ) (read : Result Cell CellFault) (why : Refusal) → planned_at.cell ≡ Some bytes → ReadsCell bytes read
+      → why_vain variant meaning.id read ≡ Some why → StopsReading planned_at mid why ended) → StaysPlanned planned_at mid (is_broken ended)
+      → broken ≡ is_broken ended → SettlesPlan stop broken mid new → CalledAs stop size ended result → (issued : List (List ℕ))
+      → AsksInVain variant meaning old new issued meddles stop (Some offer) b result
+  asks_in_vain offer b size broken ended result short planned stops plans is settles told issued = λ i d read why at vain.
+      let r = stops at.bytes read why (ap (λ (s : Standing). s.cell) planned ∙ at.cell) at.reads vain in
+      let p = plans (plan_of stop meddles) (ap (λ (s : Standing). s.is_on) planned ∙ at.quiet.is_on) (ap (λ (s : Standing). s.plan) planned)
+      refl in
+      let breaks : is_broken ended ≡ is_some r.fault = ap is_broken r.ends ∙ broken_with r.fault why in
+      let it : code.Called = vain_call stop size r.fault why in
+      let came : CameInVain (reads_only (by_digests i) d issued meddles stop why) issued old new it = stopped_came i d stop meddles issued
+      why old mid new it r.fault at.quiet at.register (subst (λ (s : Standing). Goes ReadCell s mid r.fault) planned r.goes)
+      (subst (λ x. SettlesPlan stop x mid new) (is ∙ breaks) settles) (subst (λ x. StaysOn stop x mid) breaks p.0)
+      (vain_told stop size r.fault why) in
+      let gives : result ≡ Ok it = vain_result stop size r.fault why result (λ e. never_memory variant meaning.id read (vain ∙ ap Some e))
+      (subst (λ (x : Ended). CalledAs stop size x result) r.ends told) in
+      subst (λ (x : Result code.Called Memory). MatchResult x (CameInVain (if is_long b then uncalled d issued (reply.No cause.Long) else
+      reads_only (by_digests i) d issued meddles stop why) issued old new) (λ _. new ≡ old)) (sym gives)
+      (subst (λ (long : Bool). CameInVain (if long then uncalled d issued (reply.No cause.Long) else reads_only (by_digests i) d issued
+      meddles stop why) issued old new it) (sym short) came)
 
-pub asks_either : (variant : Variant) (meaning : Meaning) (old planned_at mid new : Standing) (meddles : List Meddle) (stop : Stop)
-    (offer : List ℕ) (b : Batch) (size : ℕ)
-    (broken : Bool) (call : AskCall) (ended : Ended) (result : Result code.Called Memory) → is_long b ≡ false → size ≡ size_of b
-    → planned_at ≡ record old { plan = Some (plan_of stop meddles) }
-    → call ≡ begun variant → FinishedAsk meaning call planned_at mid offer b ended → broken ≡ is_broken ended
-    → SettlesPlan stop broken mid new → CalledAs stop size ended result
-    → (issued : List (List ℕ)) → AsksPlanned variant meaning old new issued meddles stop (Some offer) b result
-asks_either variant meaning old planned_at mid new meddles stop offer b size broken call ended result short n planned is finished breaks
-    settles told issued =
-    let calls : CallsTo variant meaning planned_at mid offer b ended = finished.ends variant is in record {
-      own =
-          asks_over variant meaning old planned_at mid new meddles stop offer b size broken ended result short n planned calls breaks
-          settles told issued;
-      vain = asks_in_vain variant meaning old planned_at mid new meddles stop offer b size broken ended result short planned
-          (ask_stops variant meaning call planned_at mid offer b ended is finished.finishes) calls.plans breaks settles told issued;
-    }
+  -- either way
+
+  pub asks_either : (offer : List ℕ) (b : Batch) (size : ℕ) (broken : Bool) (call : AskCall) (ended : Ended) (result : Result code.Called
+      Memory) → is_long b ≡ false → size ≡ size_of b → planned_at ≡ record old { plan = Some (plan_of stop meddles) } → call ≡ begun variant
+      → FinishedAsk meaning call planned_at mid offer b ended → broken ≡ is_broken ended → SettlesPlan stop broken mid new
+      → CalledAs stop size ended result → (issued : List (List ℕ)) → AsksPlanned variant meaning old new issued meddles stop (Some offer) b
+      result
+  asks_either offer b size broken call ended result short n planned is finished breaks settles told issued =
+      let calls : CallsTo variant meaning planned_at mid offer b ended = finished.ends variant is in record {
+        own =
+            asks_over variant meaning old planned_at mid new meddles stop offer b size broken ended result short n planned calls breaks
+            settles told issued;
+        vain = asks_in_vain offer b size broken ended result short planned
+            (ask_stops variant meaning call planned_at mid offer b ended is finished.finishes) calls.plans breaks settles told issued;
+      }
 
 pub checks_either : (old planned_at mid new : Standing) (meddles : List Meddle) (stop : Stop) (broken : Bool) (said : Reply)
-    (result : Result Said CheckpointRefusal)
-    → planned_at ≡ record old { plan = Some (plan_of stop meddles) } → ClosedInOpt planned_at mid result → broken ≡ stops_in result
-    → SettlesPlan stop broken mid new → said ≡ told_closing stop result
+    (result : Result Said CheckpointRefusal) → planned_at ≡ record old { plan = Some (plan_of stop meddles) }
+    → ClosedInOpt planned_at mid result → broken ≡ stops_in result → SettlesPlan stop broken mid new → said ≡ told_closing stop result
     → (issued : List (List ℕ)) → ChecksPlanned old new issued meddles stop (Ok said)
 checks_either old planned_at mid new meddles stop broken said result planned closed is settles told issued = record {
   own =

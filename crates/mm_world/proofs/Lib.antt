@@ -1,8 +1,10 @@
-pub mod Committing
-pub mod Asking
-pub mod Calling
-pub mod Checking
-pub mod Worlds
-pub mod Printing
-pub mod StoppingReading
-pub mod InVain
+pub mod Above
+mod Below
+mod Committing
+mod Asking
+mod Calling
+mod Checking
+mod Worlds
+mod Printing
+mod StoppingReading
+mod InVain

@@ -170,12 +170,18 @@ fn restore(platform: &mut MemPlatform, stop: Stop)
     }
 }
 
+// A module in a variant, and the allocator of its calls.
+#[derive(Drop)]
+struct Caller<'a, M> {
+    alloc: Global,
+    variant: Variant,
+    module: &'a M,
+}
+
 // Makes the call that offers these bytes and asks for a batch, under the plan of these meddles and
 // this stop, over a platform that is on and has no plan.
 fn planned_call<M: Module>(
-    alloc: Global,
-    variant: Variant,
-    module: &M,
+    caller: &Caller<M>,
     platform: &mut MemPlatform,
     offer: &[u8],
     batch: Batch<'_>,
@@ -184,15 +190,15 @@ fn planned_call<M: Module>(
     keys: &mut KeptKey,
 ) -> Result<Called, Memory>
     ensures { (issued : List (List ℕ))
-        → AsksPlanned variant (M.meaning «module».now) platform.old platform.new issued meddles.now
-        stop (Some offer.now) (batch_of batch.entry) result }
+        → AsksPlanned caller.now.variant (M.meaning caller.now.«module».now) platform.old
+        platform.new issued meddles.now stop (Some offer.now) (batch_of batch.entry) result }
 {
-    match AskCall::begin(variant, batch) {
+    match AskCall::begin(caller.variant, batch) {
         Err(_) => Ok(Called::refused(Cause::Long)),
         Ok(call) => match platform.plan(stop, meddles) {
             Err(memory) => Err(memory),
             Ok(()) => {
-                let ended = call.finish(alloc, module, platform, offer, batch, keys);
+                let ended = call.finish(caller.alloc, caller.module, platform, offer, batch, keys);
                 settle(platform, stop, is_broken(&ended));
                 came_to(stop, ended, batch.len() as u64)
             }
@@ -217,20 +223,25 @@ pub fn call_by_offer<M: Module>(
     ensures { AsksPlanned variant (M.meaning «module».now) platform.old platform.new issued.now
         meddles.now stop (offered_bytes issued.now offer.now) (batch_of batch.entry) result }
 {
+    let caller = Caller {
+        alloc,
+        variant,
+        module,
+    };
     match offered(alloc, issued, offer) {
         Err(memory) => Err(memory),
         Ok(None) => Ok(Called::refused(Cause::Snapshot)),
-        Ok(Some(offered)) => planned_call(
-            alloc,
-            variant,
-            module,
-            platform,
-            offered.bytes(),
-            batch,
-            meddles,
-            stop,
-            keys,
-        ),
+        Ok(Some(offered)) => {
+            planned_call(
+                &caller,
+                platform,
+                offered.bytes(),
+                batch,
+                meddles,
+                stop,
+                keys,
+            )
+        }
     }
 }
 

@@ -3,10 +3,8 @@ use Rattle.mm_check.proofs.checking.judge.Goals as goal
 
 pub returns-in-Ok-into_verdicts-clause-judges : goal.returns-in-Ok-into_verdicts-clause-judges
 returns-in-Ok-into_verdicts-clause-judges g c =
-    judged_ok c.new-player.result c.new-player.ensures _ _ _ _ c.play.new.player _ c.play.result tt c.play.ensures.plays c.in-Ok.is
-    c.in-Ok-into_verdicts.ensures
+    judged_ok c.new-player.ensures c.play.ensures.plays _ tt c.in-Ok.is c.in-Ok-into_verdicts.ensures
 
 pub returns-in-Err-clause-judges : goal.returns-in-Err-clause-judges
 returns-in-Err-clause-judges g c =
-    judged_err c.new-player.result c.new-player.ensures _ _ _ _ c.play.new.player c.play.result c.in-Err.fault c.play.ensures.plays
-    c.play.ensures.wrote c.in-Err.is
+    judged_err c.new-player.ensures c.play.ensures.plays c.in-Err.fault c.play.ensures.wrote c.in-Err.is

@@ -1,7 +1,4 @@
-use Rattle.std.proofs.Common.{◌∙◌, length, ap, refl, arith}
-use Rattle.std.specs.List.{slice_get}
-use Rattle.std.proofs.lemmas.Option.{slice_get_read}
-use Rattle.mm_check.specs.Verdicts.{is_found}
+use Rattle.mm_check.proofs.Below.{◌∙◌, length, ap, refl, arith, slice_get, slice_get_read, is_found}
 use Rattle.mm_check.proofs.DifferenceLaws.{same_more, differs_here, surplus}
 use Rattle.mm_check.proofs.difference.difference.Goals as goal
 

@@ -1,5 +1,4 @@
-use Rattle.std.proofs.Common.{◌≡◌, ◌+◌, drop}
-use Rattle.mm_check.specs.Verdicts.{difference_from, first_difference}
+use Rattle.mm_check.proofs.Below.{◌≡◌, ◌+◌, drop, difference_from, first_difference}
 use Rattle.mm_check.proofs.difference.difference.Given as goal
 
 abbrev pub invariant-lines : goal.invariant-lines

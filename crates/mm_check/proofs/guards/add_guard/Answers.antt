@@ -1,5 +1,4 @@
-use Rattle.std.proofs.Common.{ap, ◌∙◌, sym}
-use Rattle.mm_check.specs.Guards.{digest_items}
+use Rattle.mm_check.proofs.Below.{ap, ◌∙◌, sym, digest_items}
 use Rattle.mm_check.proofs.GuardLaws.{has_more}
 use Rattle.mm_check.proofs.guards.add_guard.Goals as goal
 

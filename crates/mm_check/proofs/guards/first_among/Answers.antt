@@ -1,7 +1,4 @@
-use Rattle.std.proofs.Common.{ap, sym, ◌∙◌}
-use Rattle.mm_schedule.specs.Events.{event_of}
-use Rattle.mm_run.specs.Premises.{foreign_of}
-use Rattle.mm_check.specs.Numbering.{is_secured}
+use Rattle.mm_check.proofs.Below.{ap, sym, ◌∙◌, event_of, foreign_of, is_secured}
 use Rattle.mm_check.proofs.GuardLaws.{first_at, none_more, secured_same}
 use Rattle.mm_check.proofs.guards.first_among.Goals as goal
 

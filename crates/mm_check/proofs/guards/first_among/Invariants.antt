@@ -1,7 +1,4 @@
-use Rattle.std.proofs.Common.{◌≡◌, ℕ, List, take, None}
-use Rattle.mm_check.specs.Listing.{first_where}
-use Rattle.mm_check.specs.Numbering.{is_secured}
-use Rattle.mm_check.specs.Guards.{events_of, HasAll}
+use Rattle.mm_check.proofs.Below.{◌≡◌, ℕ, List, take, None, first_where, is_secured, events_of, HasAll}
 use Rattle.mm_check.proofs.guards.first_among.Given as goal
 
 abbrev pub invariant-events : goal.invariant-events

@@ -1,8 +1,4 @@
-use Rattle.std.proofs.Common.{take}
-use Rattle.mm_model.specs.ChainsWords.{own_values}
-use Rattle.mm_run.specs.HeldWords.{world_barrier}
-use Rattle.mm_run.specs.PremisesWords.{asked_batches}
-use Rattle.mm_check.specs.Guards.{events_of}
+use Rattle.mm_check.proofs.Below.{take, own_values, world_barrier, asked_batches, events_of}
 use Rattle.mm_check.proofs.GuardLaws.{guards_more_at}
 use Rattle.mm_check.proofs.guards.guards_of.Goals as goal
 

@@ -1,5 +1,4 @@
-use Rattle.std.proofs.Common.{◌≡◌, ◌++◌, take}
-use Rattle.mm_schedule.specs.Replies.{lines_of_reply}
+use Rattle.mm_check.proofs.Below.{◌≡◌, ◌++◌, take, lines_of_reply}
 use Rattle.mm_check.proofs.lines.put_reply.Given as goal
 
 abbrev pub invariant-lines : goal.invariant-lines

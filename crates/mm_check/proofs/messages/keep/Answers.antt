@@ -1,7 +1,4 @@
-use Rattle.std.proofs.Common.{◌∙◌, ℕ, List, ap}
-use Rattle.std.specs.Prelude.{◌||◌, not}
-use Rattle.std.specs.Str.{bytes_eq}
-use Rattle.mm_check.specs.Lists.{has_message}
+use Rattle.mm_check.proofs.Below.{◌∙◌, ℕ, List, ap, ◌||◌, not, bytes_eq, has_message}
 use Rattle.mm_check.proofs.SetLaws.{has_compared, has_inserted}
 use Rattle.mm_check.proofs.messages.keep.Goals as goal
 

@@ -1,5 +1,4 @@
-use Rattle.std.proofs.Common.{◌≡◌, ◌∙◌, ◌+◌, ap}
-use Rattle.rand_chacha.specs.ChaCha.{ChaCha}
+use Rattle.mm_gen.proofs.Below.{◌≡◌, ◌∙◌, ◌+◌, ap, ChaCha}
 use Rattle.mm_gen.proofs.Going.{goes_on}
 use Rattle.mm_gen.proofs.schedule.generate.Goals as goal
 

@@ -1,6 +1,4 @@
-use Rattle.std.proofs.Common.{◌≡◌, ◌-◌}
-use Rattle.rand_chacha.specs.ChaCha.{key_of}
-use Rattle.mm_gen.specs.Schedules.{seed_from}
+use Rattle.mm_gen.proofs.Below.{◌≡◌, ◌-◌, key_of, seed_from}
 use Rattle.mm_gen.proofs.Going.{Going}
 use Rattle.mm_gen.proofs.schedule.generate.Given as goal
 

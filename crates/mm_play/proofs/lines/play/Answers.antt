@@ -11,9 +11,7 @@ returns-in_err-reader-clause-plays g c =
 pub returns-in_err-play_next-clause-plays : goal.returns-in_err-play_next-clause-plays
 returns-in_err-play_next-clause-plays g c =
     let p = err_from_is_err_and c.from_residual-in_err-play_next.result c.from_residual-in_err-play_next.ensures.1 in
-    rw (p.1, p.2) (plays_stopped g.P.Player.answer g.P.Player.closing c.args.player.now c.lines.player c.play_next.new.player c.lines.number
-    _ _ _ _ _ _ c.lines.reader c.play_next.new.reader c.lines.pending c.play_next.new.pending c.play_next.result _ c.lines.invariant.stands
-    c.play_next.ensures.turns c.in_err-play_next.was)
+    rw (p.1, p.2) (plays_stopped c.lines.invariant.stands c.play_next.ensures.turns _ c.in_err-play_next.was)
 
 pub lines-init : goal.lines-init
 lines-init g c = record {
@@ -28,12 +26,8 @@ lines-init g c = record {
 pub lines-preserved : goal.lines-preserved
 lines-preserved g c =
     let went = c.in_ok-play_next.was ∙ ap Ok c.if-branch.true in
-    let s = stands_on g.P.Player.answer g.P.Player.closing c.args.player.now c.lines.player c.play_next.new.player c.lines.number
-    _ _ _ _ _ _ c.lines.reader c.play_next.new.reader c.lines.pending c.play_next.new.pending c.play_next.result c.lines.invariant.stands
-    c.play_next.ensures.turns went in
-    let a = answered_line g.P.Player.answer g.P.Player.closing c.lines.player c.play_next.new.player c.lines.number
-    _ _ _ _ c.lines.reader c.play_next.new.reader c.lines.pending c.play_next.new.pending c.play_next.result c.play_next.ensures.turns went
-    in
+    let s = stands_on c.lines.invariant.stands c.play_next.ensures.turns went in
+    let a = answered_line c.lines.invariant.stands c.play_next.ensures.turns went in
     let fewer : g.P.Player.lines_left c.play_next.new.player < g.P.Player.lines_left c.lines.player =
     g.met.P.Player.counts_down c.lines.player c.play_next.new.player a.0 a.1 a.2 in
     record {
@@ -44,7 +38,4 @@ lines-preserved g c =
     }
 
 pub returns-clause-plays : goal.returns-clause-plays
-returns-clause-plays g c =
-    plays_ended g.P.Player.answer g.P.Player.closing c.args.player.now c.lines.player c.play_next.new.player c.lines.number
-    _ _ _ _ _ _ c.lines.reader c.play_next.new.reader c.lines.pending c.play_next.new.pending c.play_next.result c.lines.invariant.stands
-    c.play_next.ensures.turns (c.in_ok-play_next.was ∙ ap Ok c.if-branch.false)
+returns-clause-plays g c = plays_ended c.lines.invariant.stands c.play_next.ensures.turns (c.in_ok-play_next.was ∙ ap Ok c.if-branch.false)

@@ -1,6 +1,4 @@
-use Rattle.std.proofs.Common.{◌≡◌, ◌++◌, drop}
-use Rattle.std.specs.List.{concat}
-use Rattle.mm_schedule.specs.Replies.{lines_of_reply}
+use Rattle.mm_replay.proofs.Below.{◌≡◌, ◌++◌, drop, concat, lines_of_reply}
 use Rattle.mm_replay.proofs.put.put_reply.Given as goal
 
 -- the lines from the index on are to come

@@ -1,5 +1,4 @@
-use Rattle.std.proofs.Common.{take}
-use Rattle.mm_slots.specs.First.{AreFirst}
+use Rattle.mm_slots.proofs.Below.{take, AreFirst}
 use Rattle.mm_slots.proofs.first.first_slots.Given as goal
 
 abbrev pub invariant-loop-number : goal.invariant-loop-number

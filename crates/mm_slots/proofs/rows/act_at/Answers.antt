@@ -1,9 +1,5 @@
-use Rattle.std.proofs.Common.{ℕ, [], ◌+◌, ◌-◌, ◌^◌, get_or, slice_set, refl, sym, subst, arith}
-use Rattle.mm_platform.specs.Standing.{Standing}
-use Rattle.mm_platform.specs.Memory.{new_platform}
-use Rattle.mm_slots.specs.Held.{Fits, Wants, Comes, instance_in, slot_in}
-use Rattle.mm_slots.specs.Rows.{AllFit, ActsAt}
-use Rattle.mm_slots.specs.Slot.{acted}
+use Rattle.mm_slots.proofs.Below.{ℕ, [], ◌+◌, ◌-◌, ◌^◌, get_or, slice_set, refl, sym, subst, arith, Standing, new_platform, Fits, Wants}
+use Rattle.mm_slots.proofs.Below.{Comes, instance_in, slot_in, AllFit, ActsAt, acted}
 use Rattle.mm_slots.proofs.Rowing.{same_length, fit_at, acts_at, lacks_at, on_ok, on_err}
 use Rattle.mm_slots.proofs.rows.act_at.Goals as goal
 
@@ -35,8 +31,7 @@ returns-clause-ok c =
     c.act.new.self said (new_platform [])
     c.index-slots-number.result refl refl c.requires.inside fit
     (subst (λ (s : Standing). Comes c.act.new.platform slot c.act.new.self (acted (instance_in slot) (slot_in s slot) c.args.action) said)
-    c.slot.ensures.value d))
-    c.act.ensures.ok
+    c.slot.ensures.value d)) c.act.ensures.ok
 
 pub returns-clause-err : goal.returns-clause-err
 returns-clause-err c =
@@ -47,5 +42,4 @@ returns-clause-err c =
     (slice_set c.args.slots.now c.args.number c.act.new.self))
     (λ w events fit. lacks_at events c.args.number c.args.platform.now.slots _ c.args.slots.now _ c.act.new.platform c.act.new.self
     (new_platform [])
-    c.index-slots-number.result refl refl c.requires.inside fit w.goes)
-    c.act.ensures.err
+    c.index-slots-number.result refl refl c.requires.inside fit w.goes) c.act.ensures.err

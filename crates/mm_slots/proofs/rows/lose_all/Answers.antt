@@ -11,12 +11,10 @@ loop-number-preserved c = (
   λ events fit.
       let b = c.loop-number.invariant.1 events fit in
       lost_more events c.args.but c.loop-number.number c.args.platform.now.slots c.loop-number.platform.slots
-      c.lose_unless.new.platform.slots
-      c.args.slots.now c.loop-number.slots c.lose_unless.new.slots b (c.lose_unless.ensures events b.fit),
+      c.lose_unless.new.platform.slots c.args.slots.now c.loop-number.slots c.lose_unless.new.slots b (c.lose_unless.ensures events b.fit),
 )
 
 pub returns : goal.returns
 returns c = λ events fit.
     lost_all events c.args.but c.args.platform.now.slots c.loop-number.platform.slots c.args.slots.now
-    c.loop-number.slots c.loop-number.number
-    (search rules) fit (c.loop-number.invariant.1 events fit)
+    c.loop-number.slots c.loop-number.number (search rules) fit (c.loop-number.invariant.1 events fit)

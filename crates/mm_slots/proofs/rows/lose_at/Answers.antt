@@ -1,7 +1,5 @@
-use Rattle.std.proofs.Common.{[], ◌^◌, get_or, refl, sym, subst, arith}
-use Rattle.mm_platform.specs.Standing.{Standing}
-use Rattle.mm_platform.specs.Memory.{new_platform}
-use Rattle.mm_slots.specs.Held.{Fits, Loses}
+use Rattle.mm_slots.proofs.Below.{[], ◌^◌, get_or, refl, sym, subst, arith, Standing, new_platform, Fits}
+use Rattle.mm_slots.specs.Held.{Loses}
 use Rattle.mm_slots.proofs.Rowing.{same_length, fit_at, loses_at}
 use Rattle.mm_slots.proofs.rows.lose_at.Goals as goal
 
@@ -17,8 +15,6 @@ lose_power-requires c =
 pub returns : goal.returns
 returns c = λ events fit.
     loses_at events c.args.number c.args.platform.now.slots _ c.args.slots.now _ c.lose_power.new.platform c.lose_power.new.self
-    (new_platform []) c.index-slots-number.result
-    refl refl c.requires.inside fit
+    (new_platform []) c.index-slots-number.result refl refl c.requires.inside fit
     (subst (λ (s : Standing). Loses s c.lose_power.new.platform (get_or c.args.slots.now c.args.number c.index-slots-number.result)
-    c.lose_power.new.self)
-    c.slot.ensures.value c.lose_power.ensures)
+    c.lose_power.new.self) c.slot.ensures.value c.lose_power.ensures)

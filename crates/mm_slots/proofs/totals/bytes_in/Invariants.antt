@@ -1,6 +1,4 @@
-use Rattle.std.proofs.Common.{◌≡◌, take}
-use Rattle.mm_slots.specs.Held.{within_64}
-use Rattle.mm_slots.specs.Totals.{bytes_in}
+use Rattle.mm_slots.proofs.Below.{◌≡◌, take, within_64, bytes_in}
 use Rattle.mm_slots.proofs.totals.bytes_in.Given as goal
 
 abbrev pub invariant-loop-slot : goal.invariant-loop-slot

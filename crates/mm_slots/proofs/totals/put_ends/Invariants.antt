@@ -1,5 +1,4 @@
-use Rattle.std.proofs.Common.{◌≡◌, ◌++◌, take}
-use Rattle.mm_slots.specs.Totals.{ends_from}
+use Rattle.mm_slots.proofs.Below.{◌≡◌, ◌++◌, take, ends_from}
 use Rattle.mm_slots.proofs.totals.put_ends.Given as goal
 
 abbrev pub invariant-loop-number : goal.invariant-loop-number

@@ -1,6 +1,4 @@
-use Rattle.std.proofs.Common.{◌≡◌, take}
-use Rattle.mm_slots.specs.Held.{within_64}
-use Rattle.mm_slots.specs.Totals.{requests_in}
+use Rattle.mm_slots.proofs.Below.{◌≡◌, take, within_64, requests_in}
 use Rattle.mm_slots.proofs.totals.requests_in.Given as goal
 
 abbrev pub invariant-loop-slot : goal.invariant-loop-slot

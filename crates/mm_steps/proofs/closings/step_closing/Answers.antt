@@ -3,20 +3,17 @@ use Rattle.mm_steps.proofs.closings.step_closing.Goals as goal
 
 pub returns-in-Going : goal.returns-in-Going
 returns-in-Going c =
-    λ variant meaning key barrier d from issued meddles next f.
-    going_to variant meaning key barrier d from issued c.args.call c.args.platform.now c.advance.new.platform meddles next c.in-Going.call
-    c.advance.result f c.advance.ensures.turns c.in-Going.is
+    λ variant meaning key barrier d from issued meddles next f. going_to variant meaning key barrier d from issued c.args.call
+    c.args.platform.now c.advance.new.platform meddles next c.in-Going.call c.advance.result f c.advance.ensures.turns c.in-Going.is
 
 pub returns-in-Done : goal.returns-in-Done
 returns-in-Done c =
-    λ variant meaning key barrier d from issued meddles next f.
-    done_to variant meaning key barrier d from issued c.args.call c.args.platform.now c.advance.new.platform meddles next
-    c.closed.new.platform c.next_step.result c.in-Done.it c.advance.result c.closed.result
-    f c.next_step.ensures c.advance.ensures.turns c.in-Done.is c.closed.ensures
+    λ variant meaning key barrier d from issued meddles next f. done_to variant meaning key barrier d from issued c.args.call
+    c.args.platform.now c.advance.new.platform meddles next c.closed.new.platform c.next_step.result c.in-Done.it c.advance.result
+    c.closed.result f c.next_step.ensures c.advance.ensures.turns c.in-Done.is c.closed.ensures
 
 pub returns-in-Refused : goal.returns-in-Refused
 returns-in-Refused c =
-    λ variant meaning key barrier d from issued meddles next f.
-    refused_to variant meaning key barrier d from issued c.args.call c.args.platform.now c.advance.new.platform meddles next
-    c.closed-in-Refused.new.platform c.next_step.result c.in-Refused.refusal c.advance.result c.closed-in-Refused.result
-    f c.next_step.ensures c.advance.ensures.turns c.in-Refused.is c.closed-in-Refused.ensures
+    λ variant meaning key barrier d from issued meddles next f. refused_to variant meaning key barrier d from issued c.args.call
+    c.args.platform.now c.advance.new.platform meddles next c.closed-in-Refused.new.platform c.next_step.result c.in-Refused.refusal
+    c.advance.result c.closed-in-Refused.result f c.next_step.ensures c.advance.ensures.turns c.in-Refused.is c.closed-in-Refused.ensures

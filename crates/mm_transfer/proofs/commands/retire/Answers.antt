@@ -1,8 +1,4 @@
-use Rattle.std.proofs.Common.{List, ℕ, refl}
-use Rattle.mm_move.specs.Cells.{moved_of}
-use Rattle.mm_move.specs.Orders.{retires_in}
-use Rattle.mm_transfer.specs.OneSide.{link_of}
-use Rattle.mm_transfer.specs.Pairs.{pair_of}
+use Rattle.mm_transfer.proofs.Below.{List, ℕ, refl, moved_of, retires_in, link_of, pair_of}
 use Rattle.mm_transfer.proofs.Formed.{formed_of}
 use Rattle.mm_transfer.proofs.Retiring.{still_lacks, retired_unissued, retired_done}
 use Rattle.mm_transfer.proofs.commands.retire.Goals as goal
@@ -11,16 +7,15 @@ pub returns-in-Err : goal.returns-in-Err
 returns-in-Err c = λ which fits counted.
     let pair = pair_of c.args.header.now in
     still_lacks pair which c.args.here.now _ c.args.between.now _ (formed_of c.args.header.now which) fits
-    (c.in-Err.ensures (link_of pair) refl) refl refl
-    refl refl c.reserve.ensures.items refl refl
+    (c.in-Err.ensures (link_of pair) refl) refl refl refl refl c.reserve.ensures.items refl refl
 
 pub returns-in-Ok-None : goal.returns-in-Ok-None
 returns-in-Ok-None c = λ which fits counted.
     let pair = pair_of c.args.header.now in
     retired_unissued pair which
-    (λ bytes (cell : List ℕ). retires_in pair.meaning pair.variant (link_of pair) c.args.nonce.now bytes (moved_of cell))
-    c.args.nonce.now
-    c.args.offer.now c.args.course.now.stop c.args.course.now.meddles.now c.args.here.now _ c.args.between.now _ c.as_slice.result.now c.in-Ok-None.field-0
+    (λ bytes (cell : List ℕ). retires_in pair.meaning pair.variant (link_of pair) c.args.nonce.now bytes (moved_of cell)) c.args.nonce.now
+    c.args.offer.now c.args.course.now.stop c.args.course.now.meddles.now c.args.here.now _ c.args.between.now _ c.as_slice.result.now
+    c.in-Ok-None.field-0
     (formed_of c.args.header.now which)
     c.as_slice.ensures.value (c.in-Ok-None.ensures (link_of pair) refl) c.in-Ok-None.field-0-is refl refl refl refl c.reserve.ensures.items
     refl refl fits counted
@@ -28,10 +23,9 @@ returns-in-Ok-None c = λ which fits counted.
 pub returns-in-Ok-Some : goal.returns-in-Ok-Some
 returns-in-Ok-Some c = λ which fits counted.
     let pair = pair_of c.args.header.now in
-    retired_done pair which c.args.nonce.now c.args.offer.now c.args.course.now.stop c.args.course.now.meddles.now c.args.here.now _ c.args.between.now _
-    c.leave.new.self
-    c.is_live-was_live.result c.cell.result.now c.as_slice.result.now c.in-Ok-Some.field-0 c.in-Ok-Some.came c.leave.result
+    retired_done pair which c.args.nonce.now c.args.offer.now c.args.course.now.stop c.args.course.now.meddles.now c.args.here.now _
+    c.args.between.now _
+    c.leave.new.self c.is_live-was_live.result c.cell.result.now c.as_slice.result.now c.in-Ok-Some.field-0 c.in-Ok-Some.came c.leave.result
     (formed_of c.args.header.now which) c.told-nonce
     c.as_slice.ensures.value (c.in-Ok-Some.ensures (link_of pair) refl) c.in-Ok-Some.field-0-is c.is_live-was_live.ensures c.cell.ensures
-    refl refl refl refl c.reserve.ensures.items refl refl
-    c.leave.ensures fits counted
+    refl refl refl refl c.reserve.ensures.items refl refl c.leave.ensures fits counted

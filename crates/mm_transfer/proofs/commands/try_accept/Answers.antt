@@ -1,7 +1,4 @@
-use Rattle.std.proofs.Common.{◌∙◌, List, ℕ, Some, ap, sym, refl}
-use Rattle.mm_modules.specs.Modules.{meaning_of}
-use Rattle.mm_move.specs.Cells.{moved_of}
-use Rattle.mm_move.specs.Orders.{accepts_in}
+use Rattle.mm_transfer.proofs.Below.{◌∙◌, List, ℕ, Some, ap, sym, refl, meaning_of, moved_of, accepts_in}
 use Rattle.mm_transfer.proofs.Retiring.{tried}
 use Rattle.mm_transfer.proofs.commands.try_accept.Goals as goal
 
@@ -11,5 +8,4 @@ returns-in-Ok-Some c = λ link is.
     tried (λ link bytes (cell : List ℕ). accepts_in (meaning_of c.args.header.now.module) c.args.header.now.variant link bytes
     (moved_of cell)) c.args.course.now.stop
     c.args.course.now.meddles.now _ _ _ _ c.link.result link c.bytes.result.now _ (c.link.ensures c.args.header.now ∙ sym is) refl
-    (ap Some c.bytes.ensures ∙ found)
-    c.planned_accept.ensures
+    (ap Some c.bytes.ensures ∙ found) c.planned_accept.ensures

@@ -1,7 +1,4 @@
-use Rattle.std.proofs.Common.{◌∙◌, List, ℕ, Some, ap, sym, refl}
-use Rattle.mm_modules.specs.Modules.{meaning_of}
-use Rattle.mm_move.specs.Cells.{moved_of}
-use Rattle.mm_move.specs.Orders.{retires_in}
+use Rattle.mm_transfer.proofs.Below.{◌∙◌, List, ℕ, Some, ap, sym, refl, meaning_of, moved_of, retires_in}
 use Rattle.mm_transfer.proofs.Retiring.{tried}
 use Rattle.mm_transfer.proofs.commands.try_retire.Goals as goal
 
@@ -9,7 +6,8 @@ pub returns-in-Ok-Some : goal.returns-in-Ok-Some
 returns-in-Ok-Some c = λ link is.
     let found = rw c.in-Ok-Some.field-0-is at c.in-Ok-Some.ensures in
     tried (λ link bytes (cell : List ℕ).
-    retires_in (meaning_of c.args.header.now.module) c.args.header.now.variant link c.args.nonce.now bytes (moved_of cell)) c.args.course.now.stop
+    retires_in (meaning_of c.args.header.now.module) c.args.header.now.variant link c.args.nonce.now bytes (moved_of cell))
+    c.args.course.now.stop
     c.args.course.now.meddles.now _ _ _ _
     c.link.result link c.bytes.result.now _ (c.link.ensures c.args.header.now ∙ sym is) refl (ap Some c.bytes.ensures ∙ found)
     c.planned_retire.ensures

@@ -1,17 +1,13 @@
-use Rattle.std.proofs.Common.{List, ℕ}
-use Rattle.mm_modules.specs.Modules.{meaning_of}
-use Rattle.mm_move.specs.Cells.{moved_of}
-use Rattle.mm_move.specs.Orders.{accepts_in}
-use Rattle.mm_move.proofs.Orders.{accepts_no_fault}
+use Rattle.mm_transfer.proofs.Below.{List, ℕ, meaning_of, moved_of, accepts_in, accepts_no_fault}
 use Rattle.mm_transfer.proofs.Planning.{moves_planned}
 use Rattle.mm_transfer.proofs.moving.planned_accept.Goals as goal
 
 pub returns-in-Ok : goal.returns-in-Ok
 returns-in-Ok c =
     let meaning = meaning_of c.args.header.now.module in
-    moves_planned (λ (bytes : List ℕ). accepts_in meaning c.args.header.now.variant c.args.link.now c.args.ticket.now (moved_of bytes)) c.args.course.now.stop
+    moves_planned (λ (bytes : List ℕ). accepts_in meaning c.args.header.now.variant c.args.link.now c.args.ticket.now (moved_of bytes))
+    c.args.course.now.stop
     c.args.course.now.meddles.now
     c.args.platform.now c.plan.new.self c.accept-came.new.platform c.settle.new.platform c.is_broken.result c.accept-came.result
     (λ bytes. accepts_no_fault meaning c.args.header.now.variant c.args.link.now c.args.ticket.now (moved_of bytes)) c.in-Ok.ensures.ok
-    c.accept-came.ensures
-    c.is_broken.ensures c.settle.ensures
+    c.accept-came.ensures c.is_broken.ensures c.settle.ensures

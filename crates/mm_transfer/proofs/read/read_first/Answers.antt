@@ -1,6 +1,4 @@
-use Rattle.std.proofs.Common.{◌≡◌, ◌∙◌, ap, Option, Some, List, ℕ}
-use Rattle.std.specs.Prelude.{codes}
-use Rattle.mm_schedule.specs.declared.header.Header.{Header}
+use Rattle.mm_transfer.proofs.Below.{◌≡◌, ◌∙◌, ap, Option, Some, List, ℕ, codes, Header}
 use Rattle.mm_schedule.specs.Headers.{head_at}
 use Rattle.mm_schedule.specs.Words.{◌>>=◌, after_prefix}
 use Rattle.mm_transfer.specs.Grammar.{first_at}

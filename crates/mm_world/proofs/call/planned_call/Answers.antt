@@ -4,8 +4,8 @@ use Rattle.mm_world.proofs.call.planned_call.Goals as goal
 
 pub returns-in-Ok-plan : goal.returns-in-Ok-plan
 returns-in-Ok-plan g c =
-    asks_either c.args.variant (g.M.Module.meaning c.args.module.now) c.args.platform.now c.plan.new.self c.finish-ended.new.platform
-    c.settle.new.platform c.args.meddles.now c.args.stop
-    c.args.offer.now (batch_of c.args.batch) c.len.result c.is_broken.result c.in-Ok.call c.finish-ended.result c.came_to.result
-    c.in-Ok.ensures.ok.1 c.len.ensures
-    c.in-Ok-plan.ensures.ok c.in-Ok.ensures.ok.0 c.finish-ended.ensures c.is_broken.ensures c.settle.ensures c.came_to.ensures
+    asks_either c.args.caller.now.variant (g.M.Module.meaning c.args.caller.now.module.now) c.args.platform.now
+    c.plan.new.self c.finish-ended.new.platform c.settle.new.platform c.args.meddles.now c.args.stop c.args.offer.now
+    (batch_of c.args.batch) c.len.result c.is_broken.result
+    c.in-Ok.call c.finish-ended.result c.came_to.result c.in-Ok.ensures.ok.1 c.len.ensures c.in-Ok-plan.ensures.ok c.in-Ok.ensures.ok.0
+    c.finish-ended.ensures c.is_broken.ensures c.settle.ensures c.came_to.ensures

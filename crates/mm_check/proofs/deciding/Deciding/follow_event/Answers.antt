@@ -1,11 +1,4 @@
-use Rattle.std.proofs.Common.{ℕ, List, length, take, ap, subst, arith}
-use Rattle.std.specs.List.{fold}
-use Rattle.mm_run.specs.Held.{world_of}
-use Rattle.mm_schedule.specs.Events.{event_of}
-use Rattle.mm_check.specs.Guards.{events_of}
-use Rattle.mm_check.specs.Listing.{listed}
-use Rattle.mm_check.specs.Lists.{Lists}
-use Rattle.mm_check.specs.Numbering.{numbered}
+use Rattle.mm_check.proofs.Below.{ℕ, List, length, take, ap, subst, arith, fold, world_of, event_of, events_of, listed, Lists, numbered}
 use Rattle.mm_check.proofs.DecidingLaws.{heard_after, room_for, stands_after}
 use Rattle.mm_check.proofs.deciding.Deciding.follow_event.Goals as goal
 
@@ -15,8 +8,7 @@ list_all-requires c =
     let before = events_of (take c.args.index c.args.events.now) in
     let told = c.in_ok-heard.ensures in
     let heard = heard_after header before c.args.self.now.expecting (event_of c.index-events-index.result) c.in_ok-heard.heard
-    c.requires.stands.after told.hears
-    (told.genuine header before c.requires.stands.after) in
+    c.requires.stands.after told.hears (told.genuine header before c.requires.stands.after) in
     let room = room_for header c.args.events.now c.args.index c.index-events-index.result c.args.self.now c.in_ok-heard.heard c.requires.few
     c.requires.stands heard in
     let same = ap length c.as_slice.ensures.value in
@@ -28,8 +20,7 @@ returns c =
     let before = events_of (take c.args.index c.args.events.now) in
     let told = c.in_ok-heard.ensures in
     let heard = heard_after header before c.args.self.now.expecting (event_of c.index-events-index.result) c.in_ok-heard.heard
-    c.requires.stands.after told.hears
-    (told.genuine header before c.requires.stands.after) in
+    c.requires.stands.after told.hears (told.genuine header before c.requires.stands.after) in
     let after = c.in_ok-heard.ensures.after header before c.requires.stands.after in
     let lists = c.in_ok-list_all.ensures in
     stands_after header c.args.events.now c.args.index c.index-events-index.result c.args.self.now
@@ -41,5 +32,4 @@ returns c =
     })
     c.in_ok-heard.heard c.requires.within c.index-events-index.is c.requires.stands heard after c.in_ok-heard.ensures.grows
     (subst (λ (l : List (List ℕ)). Lists (fold listed (numbered (world_of header) before) l) c.list_all.new.self) c.as_slice.ensures.value
-    (lists (numbered (world_of header) before) c.requires.stands.lists))
-    c.in_ok-put_reply.ensures c.forged_then-self.ensures
+    (lists (numbered (world_of header) before) c.requires.stands.lists)) c.in_ok-put_reply.ensures c.forged_then-self.ensures

@@ -1,10 +1,4 @@
-use Rattle.std.proofs.Common.{sym, subst, arith}
-use Rattle.std.proofs.lemmas.List.{length-map}
-use Rattle.mm_schedule.specs.Events.{event_of}
-use Rattle.mm_run.specs.Held.{world_of}
-use Rattle.mm_check.specs.Guards.{events_of}
-use Rattle.mm_check.specs.Numbering.{Decides}
-use Rattle.mm_check.specs.declared.verdicts.Premise.{Premise}
+use Rattle.mm_check.proofs.Below.{sym, subst, arith, length-map, event_of, world_of, events_of, Decides, Premise}
 use Rattle.mm_check.proofs.DecidingLaws.{decided, lines_end}
 use Rattle.mm_check.proofs.deciding.Deciding.into_decided.Goals as goal
 

@@ -1,6 +1,4 @@
-use Rattle.std.proofs.Common.{[], ◌∷◌, None, refl}
-use Rattle.mm_digest.specs.Messages.{variant_byte}
-use Rattle.mm_modules.specs.Modules.{meaning_of}
+use Rattle.mm_check.proofs.Below.{[], ◌∷◌, None, refl, variant_byte, meaning_of}
 use Rattle.mm_check.proofs.DecidingLaws.{stands_first, start_is}
 use Rattle.mm_check.proofs.deciding.Deciding.new.Goals as goal
 

@@ -1,9 +1,5 @@
-use Rattle.std.proofs.Common.{◌∙◌, ℕ, List, sym, ap, refl}
+use Rattle.mm_check.proofs.Below.{◌∙◌, ℕ, List, sym, ap, refl, slice_cmp, option_copied, nat_cmp, pair_of}
 use Rattle.std.specs.BTreeMap.{get}
-use Rattle.std.specs.Cmp.Lexicographic.{slice_cmp}
-use Rattle.std.specs.Option.{option_copied}
-use Rattle.std.specs.Ordering.{nat_cmp}
-use Rattle.mm_check.specs.Lists.{pair_of}
 use Rattle.mm_check.proofs.CountsLaws.{counts-known, counts-new}
 use Rattle.mm_check.proofs.digests.Digests.add.Goals as goal
 use Rattle.mm_check.proofs.digests.Digests.add.Goals.{in-Some, in-None+in_ok-put-in-None}

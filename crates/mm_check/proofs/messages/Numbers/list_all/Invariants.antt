@@ -1,7 +1,4 @@
-use Rattle.std.proofs.Common.{ℕ, ◌+◌, ◌≤◌, List, take}
-use Rattle.std.specs.List.{fold}
-use Rattle.mm_check.specs.Listing.{listed}
-use Rattle.mm_check.specs.Lists.{Lists}
+use Rattle.mm_check.proofs.Below.{ℕ, ◌+◌, ◌≤◌, List, take, fold, listed, Lists}
 use Rattle.mm_check.proofs.messages.Numbers.list_all.Given as goal
 
 abbrev pub invariant-messages : goal.invariant-messages

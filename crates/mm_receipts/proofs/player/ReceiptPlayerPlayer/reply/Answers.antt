@@ -1,7 +1,5 @@
-use Rattle.std.proofs.Common.{sym, ◌∙◌, ap, Option}
-use Rattle.mm_receipts.specs.Checking.{Checking}
+use Rattle.mm_receipts.proofs.Below.{sym, ◌∙◌, ap, Option, Checking, Asked}
 use Rattle.mm_receipts.specs.Tallies.{tallied}
-use Rattle.mm_receipts.specs.declared.pair.Asked.{Asked}
 use Rattle.mm_receipts.proofs.Playing.{takes-second}
 use Rattle.mm_receipts.proofs.player.ReceiptPlayerPlayer.reply.Goals as goal
 

@@ -1,6 +1,4 @@
-use Rattle.std.proofs.Common.{arith, ℕ, List, length, sym, ap, ◌∙◌}
-use Rattle.std.specs.List.{sum_by}
-use Rattle.mm_schedule.specs.Events.{event_of}
+use Rattle.mm_replay.proofs.Below.{arith, ℕ, List, length, sym, ap, ◌∙◌, sum_by, event_of}
 use Rattle.mm_replay.proofs.Progressing.{leaves, stays, stands_after, counted_on}
 use Rattle.mm_replay.proofs.progress.Progress.play_event.Goals as goal
 
@@ -9,8 +7,7 @@ invariant_of-self-2-clause-counted c =
     let l = leaves c.args.self.now.world c.event.new.self (event_of c.args.event.now) c.in_ok-reply.reply
     (omega (arith, c.args.self.now.fits, c.args.self.now.few)) c.event.ensures.few c.in_ok-reply.ensures.ok in
     counted_on c.args.self.now.world.issued c.event.new.self.issued c.args.self.now.issued c.issued-before.result c.snapshot_length.result
-    l.issues c.issued-before.ensures
-    c.snapshot_length.ensures.some c.snapshot_length.ensures.none c.args.self.now.counted
+    l.issues c.issued-before.ensures c.snapshot_length.ensures.some c.snapshot_length.ensures.none c.args.self.now.counted
 
 pub invariant_of-self-2-clause-fits : goal.invariant_of-self-2-clause-fits
 invariant_of-self-2-clause-fits c =

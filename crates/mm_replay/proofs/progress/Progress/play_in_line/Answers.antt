@@ -1,6 +1,4 @@
-use Rattle.std.proofs.Common.{arith, ℕ, List, length, sym, ap, ◌∙◌}
-use Rattle.std.specs.List.{sum_by}
-use Rattle.mm_schedule.specs.Events.{meddles_of}
+use Rattle.mm_replay.proofs.Below.{arith, ℕ, List, length, sym, ap, ◌∙◌, sum_by, meddles_of}
 use Rattle.mm_schedule.specs.Texts.{event_in}
 use Rattle.mm_replay.proofs.Progressing.{leaves, stays, stands_after, counted_on}
 use Rattle.mm_replay.proofs.progress.Progress.play_in_line.Goals as goal
@@ -9,9 +7,9 @@ pub invariant_of-self-2-clause-counted : goal.invariant_of-self-2-clause-counted
 invariant_of-self-2-clause-counted c =
     let l = leaves c.args.self.now.world c.event_in_line.new.self (event_in (meddles_of c.args.meddles.now) c.args.text) c.in_ok-reply.reply
     (omega (arith, c.args.self.now.fits, c.args.self.now.few)) c.event_in_line.ensures.few c.in_ok-reply.ensures.ok in
-    counted_on c.args.self.now.world.issued c.event_in_line.new.self.issued c.args.self.now.issued c.issued-before.result c.snapshot_length.result
-    l.issues c.issued-before.ensures
-    c.snapshot_length.ensures.some c.snapshot_length.ensures.none c.args.self.now.counted
+    counted_on c.args.self.now.world.issued c.event_in_line.new.self.issued c.args.self.now.issued c.issued-before.result
+    c.snapshot_length.result
+    l.issues c.issued-before.ensures c.snapshot_length.ensures.some c.snapshot_length.ensures.none c.args.self.now.counted
 
 pub invariant_of-self-2-clause-fits : goal.invariant_of-self-2-clause-fits
 invariant_of-self-2-clause-fits c =
@@ -23,12 +21,14 @@ pub returns-clause-after : goal.returns-clause-after
 returns-clause-after c =
     let l = leaves c.args.self.now.world c.event_in_line.new.self (event_in (meddles_of c.args.meddles.now) c.args.text) c.in_ok-reply.reply
     (omega (arith, c.args.self.now.fits, c.args.self.now.few)) c.event_in_line.ensures.few c.in_ok-reply.ensures.ok in
-    stands_after c.args.self.now.world c.event_in_line.new.self (event_in (meddles_of c.args.meddles.now) c.args.text) c.args.line.now c.args.self.now.events
+    stands_after c.args.self.now.world c.event_in_line.new.self (event_in (meddles_of c.args.meddles.now) c.args.text) c.args.line.now
+    c.args.self.now.events
     c.args.self.now.read l
 
 pub invariant_of-self : goal.invariant_of-self
 invariant_of-self c =
-    let s = stays (event_in (meddles_of c.args.meddles.now) c.args.text) c.args.self.now.world c.event_in_line.new.self c.in_err-reply.ensures.wants in
+    let s = stays (event_in (meddles_of c.args.meddles.now) c.args.text) c.args.self.now.world c.event_in_line.new.self
+    c.in_err-reply.ensures.wants in
     record {
       few = c.args.self.now.few;
       short = c.args.self.now.short;

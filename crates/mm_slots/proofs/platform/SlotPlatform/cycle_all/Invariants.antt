@@ -1,5 +1,4 @@
-use Rattle.std.proofs.Common.{◌≡◌, map, take, drop}
-use Rattle.mm_platform.specs.Memory.{cycled}
+use Rattle.mm_slots.proofs.Below.{◌≡◌, map, take, drop, cycled}
 use Rattle.mm_slots.proofs.platform.SlotPlatform.cycle_all.Given as goal
 
 -- the slots behind the ones that lost their power are as they were

@@ -1,5 +1,4 @@
-use Rattle.std.proofs.Common.{◌≡◌, map, take}
-use Rattle.mm_platform.specs.Memory.{new_platform}
+use Rattle.mm_slots.proofs.Below.{◌≡◌, map, take, new_platform}
 use Rattle.mm_slots.proofs.platform.SlotPlatform.new.Given as goal
 
 abbrev pub invariant-loop-cell : goal.invariant-loop-cell

@@ -1,6 +1,4 @@
-use Rattle.std.proofs.Common.{◌∙◌, ℕ, List, length, map, ap, arith}
-use Rattle.mm_platform.specs.Memory.{new_platform}
-use Rattle.mm_slots.specs.Slots.{Slots}
+use Rattle.mm_slots.proofs.Below.{◌∙◌, ℕ, List, length, map, ap, arith, new_platform, Slots}
 use Rattle.mm_slots.proofs.Starting.{sizes}
 use Rattle.mm_slots.proofs.Progressing.{keeps_first, runs_first}
 use Rattle.mm_slots.proofs.progress.Progress.new.Goals as goal

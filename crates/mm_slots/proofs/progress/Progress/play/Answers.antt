@@ -1,6 +1,4 @@
-use Rattle.std.proofs.Common.{◌∙◌, ◌-◌, ◌^◌, ℕ, List, length, sym, ap, subst, arith}
-use Rattle.mm_slots.specs.declared.slot.Slot.{Slot as CodeSlot}
-use Rattle.mm_slots.specs.Rows.{AllFit, IsInside}
+use Rattle.mm_slots.proofs.Below.{◌∙◌, ◌-◌, ◌^◌, ℕ, List, length, sym, ap, subst, arith, CodeSlot, AllFit, IsInside}
 use Rattle.mm_slots.proofs.Rowing.{all_more}
 use Rattle.mm_slots.proofs.Progressing.{sized}
 use Rattle.mm_slots.proofs.progress.Progress.play.Goals as goal

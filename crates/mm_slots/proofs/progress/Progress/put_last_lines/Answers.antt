@@ -1,10 +1,5 @@
-use Rattle.std.proofs.Common.{◌≡◌, ◌∙◌, ◌++◌, List, ℕ, sym, ap, subst}
-use Rattle.std.specs.Prelude.{OnOk}
-use Rattle.mm_base.specs.Limits.{most_events}
-use Rattle.mm_slots.specs.declared.slot.Slot.{Slot as CodeSlot}
-use Rattle.mm_slots.specs.Answers.{end_lines}
-use Rattle.mm_slots.specs.Stage.{Running}
-use Rattle.mm_slots.specs.Totals.{AreCounted, ends_from}
+use Rattle.mm_slots.proofs.Below.{◌≡◌, ◌∙◌, ◌++◌, List, ℕ, sym, ap, subst, OnOk, most_events, CodeSlot, end_lines, Running, AreCounted}
+use Rattle.mm_slots.proofs.Below.{ends_from}
 use Rattle.mm_slots.proofs.Rowing.{all_more}
 use Rattle.mm_slots.proofs.Totalling.{are_counted, ends_are}
 use Rattle.mm_slots.proofs.progress.Progress.put_last_lines.Goals as goal
@@ -12,8 +7,7 @@ use Rattle.mm_slots.proofs.progress.Progress.put_last_lines.Goals as goal
 pub put_ends-requires-clause-counted : goal.put_ends-requires-clause-counted
 put_ends-requires-clause-counted c =
     let p = c.self.inside in
-    subst AreCounted (sym c.as_slice.ensures.value)
-    (are_counted p.platform.slots p.slots.items
+    subst AreCounted (sym c.as_slice.ensures.value) (are_counted p.platform.slots p.slots.items
     (all_more p.events most_events p.platform.slots p.slots.items c.self.invariant.few c.self.invariant.fit))
 
 pub returns : goal.returns
@@ -21,6 +15,5 @@ returns c =
     let p = c.self.inside in
     subst (λ (x : List ℕ). OnOk c.put_ends.result (c.put_ends.new.into ≡ c.args.into.now ++ x))
     (ap (λ (x : List CodeSlot). ends_from 0 x) c.as_slice.ensures.value
-    ∙ ends_are p.events 0 p.platform.slots p.slots.items c.self.invariant.fit
-    ∙ ap (λ (r : Running). end_lines 0 r.rows) c.self.view_is)
+    ∙ ends_are p.events 0 p.platform.slots p.slots.items c.self.invariant.fit ∙ ap (λ (r : Running). end_lines 0 r.rows) c.self.view_is)
     c.put_ends.ensures

@@ -1,5 +1,4 @@
-use Rattle.std.proofs.Common.{◌≡◌, ℕ, Some, length, subst}
-use Rattle.mm_slots.specs.Grammar.{event_at}
+use Rattle.mm_slots.proofs.Below.{◌≡◌, ℕ, Some, length, subst, event_at}
 use Rattle.mm_slots.proofs.Progressing.{event_inside}
 use Rattle.mm_slots.proofs.progress.Progress.reply_to_line.Goals as goal
 

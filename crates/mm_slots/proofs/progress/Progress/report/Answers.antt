@@ -1,7 +1,4 @@
-use Rattle.std.proofs.Common.{List, ap, arith}
-use Rattle.mm_base.specs.Limits.{most_events}
-use Rattle.mm_slots.specs.declared.slot.Slot.{Slot as CodeSlot}
-use Rattle.mm_slots.specs.Totals.{snapshots_in}
+use Rattle.mm_slots.proofs.Below.{List, ap, arith, most_events, CodeSlot, snapshots_in}
 use Rattle.mm_slots.proofs.Rowing.{all_more}
 use Rattle.mm_slots.proofs.Totalling.{reports_requests, reports_snapshots, snapshots_few}
 use Rattle.mm_slots.proofs.progress.Progress.report.Goals as goal

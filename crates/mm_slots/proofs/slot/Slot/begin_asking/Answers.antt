@@ -1,6 +1,4 @@
-use Rattle.std.proofs.Common.{◌≡◌, ℕ, List, false, subst, rules}
-use Rattle.mm_module.specs.Batch.{One}
-use Rattle.mm_model.specs.Long.{is_long}
+use Rattle.mm_slots.proofs.Below.{◌≡◌, ℕ, List, false, subst, rules, One, is_long}
 use Rattle.mm_slots.proofs.Beginning.{ask_begins}
 use Rattle.mm_slots.proofs.slot.Slot.begin_asking.Goals as goal
 

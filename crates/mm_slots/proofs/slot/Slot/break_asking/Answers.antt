@@ -1,8 +1,4 @@
-use Rattle.std.proofs.Common.{subst}
-use Rattle.mm_module.specs.Batch.{One}
-use Rattle.mm_modules.specs.Modules.{meaning_of}
-use Rattle.mm_platform.specs.declared.plan.Stop.{Stop}
-use Rattle.mm_steps.specs.Asking.{BreaksAs}
+use Rattle.mm_slots.proofs.Below.{subst, One, meaning_of, Stop, BreaksAs}
 use Rattle.mm_slots.proofs.Stepping.{ask_broken, rekeyed}
 use Rattle.mm_slots.proofs.slot.Slot.break_asking.Goals as goal
 

@@ -1,18 +1,12 @@
-use Rattle.std.proofs.Common.{subst}
-use Rattle.mm_platform.specs.declared.plan.Stop.{Stop}
-use Rattle.mm_steps.specs.Closing.{BreaksClosingAs}
-use Rattle.mm_world.specs.declared.call.Called.{Called}
-use Rattle.mm_slots.specs.Held.{EndsCall}
+use Rattle.mm_slots.proofs.Below.{subst, Stop, BreaksClosingAs, Called, EndsCall}
 use Rattle.mm_slots.proofs.Stepping.{close_broken}
 use Rattle.mm_slots.proofs.slot.Slot.break_closing.Goals as goal
 
 pub returns : goal.returns
 returns c =
     close_broken c.args.how c.args.self.now c.end.new.self c.args.closing c.args.platform.now c.break_closing-reply.new.platform
-    c.next_step.result
-    c.break_closing-reply.result c.end.result c.requires.idle c.requires.few c.requires.fits c.next_step.ensures
+    c.next_step.result c.break_closing-reply.result c.end.result c.requires.idle c.requires.few c.requires.fits c.next_step.ensures
     (subst (λ (s : Stop). BreaksClosingAs c.args.closing.call c.args.platform.now c.break_closing-reply.new.platform s
-    c.break_closing-reply.result)
-    c.stop_at-stop.ensures c.break_closing-reply.ensures)
+    c.break_closing-reply.result) c.stop_at-stop.ensures c.break_closing-reply.ensures)
     (subst (λ (it : Called). EndsCall c.break_closing-reply.new.platform it c.args.self.now c.end.new.self c.end.result) c.quiet.ensures
     c.end.ensures)

@@ -1,8 +1,5 @@
-use Rattle.std.proofs.Common.{subst, rules}
-use Rattle.mm_steps.specs.Closing.{StepsClosingAs}
+use Rattle.mm_slots.proofs.Below.{subst, rules, StepsClosingAs, Called, EndsCall}
 use Rattle.mm_steps.specs.declared.closings.SteppedClosing.{SteppedClosing}
-use Rattle.mm_world.specs.declared.call.Called.{Called}
-use Rattle.mm_slots.specs.Held.{EndsCall}
 use Rattle.mm_slots.proofs.Stepping.{close_goes, close_over}
 use Rattle.mm_slots.proofs.slot.Slot.step_closing.Goals as goal
 
@@ -19,5 +16,4 @@ pub returns-in-Going : goal.returns-in-Going
 returns-in-Going c =
     close_goes c.args.self.now c.args.closing c.in-Going.call c.args.platform.now c.step_closing.new.platform _ c.requires.fits
     (subst (λ (t : SteppedClosing). StepsClosingAs c.args.closing.call c.args.platform.now c.step_closing.new.platform t) c.in-Going.is
-    c.step_closing.ensures)
-    (search rules)
+    c.step_closing.ensures) (search rules)

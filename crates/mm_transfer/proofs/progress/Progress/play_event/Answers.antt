@@ -1,6 +1,4 @@
-use Rattle.std.proofs.Common.{arith, ℕ, List, length, ap}
-use Rattle.mm_model.specs.Moves.{Digests}
-use Rattle.mm_sides.specs.Both.{Side}
+use Rattle.mm_transfer.proofs.Below.{arith, ℕ, List, length, ap, Digests, Side}
 use Rattle.mm_transfer.proofs.progress.Progress.play_event.Goals as goal
 
 pub invariant_of-self : goal.invariant_of-self

@@ -1,10 +1,4 @@
-use Rattle.std.proofs.Common.{ℕ, ap}
-use Rattle.mm_model.specs.Moves.{Digests}
-use Rattle.mm_sides.specs.Both.{Both}
-use Rattle.mm_transfer.specs.declared.sides.Sides.TheInside.{Inside}
-use Rattle.mm_transfer.specs.Between.{both_with}
-use Rattle.mm_transfer.specs.Events.{side_event_of}
-use Rattle.mm_transfer.specs.OneSide.{side_in}
+use Rattle.mm_transfer.proofs.Below.{ℕ, ap, Digests, Both, Inside, both_with, side_event_of, side_in}
 use Rattle.mm_transfer.proofs.Acting.{Comes, event_first, event_second}
 use Rattle.mm_transfer.proofs.sides.Sides.event.Goals as goal
 use Rattle.mm_transfer.proofs.sides.Sides.event.Goals.{in-First, in-Second}

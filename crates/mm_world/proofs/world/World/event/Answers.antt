@@ -1,6 +1,5 @@
-use Rattle.mm_schedule.specs.Events.{event_of}
+use Rattle.mm_world.proofs.Below.{event_of, world_few}
 use Rattle.mm_world.proofs.Printing.{printed_event, grown_event}
-use Rattle.mm_run.proofs.Counting.{world_few}
 use Rattle.mm_world.proofs.world.World.event.Goals as goal
 
 pub returns-clause-printable : goal.returns-clause-printable

@@ -1,5 +1,0 @@
-use Rattle.mm_bulk.proofs.Replaying.{replayed}
-use Rattle.mm_bulk.proofs.run.bulk.Goals as goal
-
-pub returns-clause-replayed : goal.returns-clause-replayed
-returns-clause-replayed c = replayed _ _ _ _ c.requires.count c.run_schedule.ensures.sums c.run_schedule.ensures.limit

@@ -1,0 +1,42 @@
+-- The words and laws that the proofs of this crate take from specs/ and from the crates below.
+pub use Rattle.std.specs.Fmt.{decimal}
+pub use Rattle.std.specs.List.{AllByRecursion, fold, list_all, position, position_or_len}
+pub use Rattle.std.specs.Prelude.{◌==◌, All, codes, IfOk, if◌then◌else◌, is_some, min, nat_lt, None, not, Option}
+pub use Rattle.std.proofs.Common.{◌%◌, ◌*◌, ◌++◌, ◌+◌, ◌-◌, ◌<◌, ◌^◌, ◌∙◌, ◌∷◌, ◌≡◌, ◌≢◌, ◌≤◌, [], ap, append-nil, append_assoc, arith}
+pub use Rattle.std.proofs.Common.{Bool, Err, false, inl, inr, length, List, lit≤, map, Ok, refl, Result, rules, Some, subst, suc, sym, take}
+pub use Rattle.std.proofs.Common.{true, zero, ℕ}
+pub use Rattle.std.proofs.lemmas.Bool.{cases_lt, ne_eqb}
+pub use Rattle.std.proofs.lemmas.Bool.Decides.{nat_tests}
+pub use Rattle.std.proofs.lemmas.List.{length-append, length-take, length-take-le}
+pub use Rattle.std.proofs.lemmas.List.Elements.{All-append, All-from_recursion, All-nil, All-take, All-weaker, recursion_from_All}
+pub use Rattle.rand_chacha.specs.ChaCha.{ChaCha, key_of}
+pub use Rattle.sha2.specs.Sha256.{sha256}
+pub use Rattle.mm_base.specs.Input.{IsUnbroken, lines_joined, lines_of, tail_of}
+pub use Rattle.mm_base.specs.InputLaws.{joined-append, lines_of-joined, tail_of-joined}
+pub use Rattle.mm_base.specs.Limits.{longest_line, most_events}
+pub use Rattle.mm_digest.specs.declared.variant.Variant.{Variant}
+pub use Rattle.mm_digest.specs.declared.variant.Variant.TheVariants.{Basic, Opt}
+pub use Rattle.mm_modules.specs.Modules.{any_is_found, any_is_listed, name_of}
+pub use Rattle.mm_schedule.specs.Events.{Ask, Checkpoint, Event, Power}
+pub use Rattle.mm_schedule.specs.Grammar.{event_at}
+pub use Rattle.mm_schedule.specs.Headers.{header_at, header_text, variant_text}
+pub use Rattle.mm_schedule.specs.Replies.{end_line}
+pub use Rattle.mm_schedule.specs.declared.header.Header.{Header}
+pub use Rattle.mm_schedule.proofs.Above.{header-read, spelled_is_read}
+pub use Rattle.mm_run.specs.Folds.{Followed, followed, replies_by_digests}
+pub use Rattle.mm_run.specs.Held.{world_of}
+pub use Rattle.mm_replay.specs.Progress.{running}
+pub use Rattle.mm_replay.specs.Schedule.{after_event, AtHeader, begun, InEvents, is_too_much, ReplayStage, Running, running_outcome}
+pub use Rattle.mm_replay.specs.Schedule.{schedule_answer, schedule_closing}
+pub use Rattle.mm_replay.specs.Text.{texts_of}
+pub use Rattle.mm_replay.specs.TextWords.{text_of_replies}
+pub use Rattle.mm_gen.specs.Laws.{IsEventLine, IsSchedule}
+pub use Rattle.mm_gen.specs.Limits.{is_over, IsLimited}
+pub use Rattle.mm_gen.specs.LineBreaks.{is_break, line_at}
+pub use Rattle.mm_gen.specs.Schedules.{lines_from, schedule_lines, schedule_text, seed_from, words_at}
+pub use Rattle.mm_gen.specs.Sums.{SumsUp}
+pub use Rattle.mm_gen.specs.Turns.{ask_text, cut_word, effect_word, pair, request_chosen, row_14, row_15, turn_lines}
+pub use Rattle.mm_gen.specs.declared.fault.BulkFault.{BulkFault}
+pub use Rattle.mm_gen.specs.declared.fault.BulkFault.TheVariants.{Memory, TooMuch}
+pub use Rattle.mm_gen.specs.declared.summary.Summary.{Summary}
+pub use Rattle.mm_gen.specs.declared.words.Words.{Words}

@@ -1,0 +1,286 @@
+-- A schedule among its events: the lines left, and what stands of its summary.
+use Rattle.mm_gen.proofs.Below.{◌≡◌, ◌≢◌, ◌<◌, ◌≤◌, ◌∙◌, ℕ, ◌+◌, suc, true, false, List, [], ◌∷◌, ◌++◌, length, map, refl, sym, ap, subst}
+use Rattle.mm_gen.proofs.Below.{arith, append_assoc, append-nil, Option, None, is_some, nat_lt, AllByRecursion, fold, position}
+use Rattle.mm_gen.proofs.Below.{position_or_len, ne_eqb, nat_tests, length-append, recursion_from_All, sha256, IsUnbroken, lines_joined}
+use Rattle.mm_gen.proofs.Below.{longest_line, most_events, Header, Event, event_at, header_text, end_line, spelled_is_read, IsEventLine}
+use Rattle.mm_gen.proofs.Below.{schedule_lines, schedule_text, Followed, followed, replies_by_digests, world_of, Running, after_event}
+use Rattle.mm_gen.proofs.Below.{begun, is_too_much, running_outcome, texts_of, text_of_replies, IsLimited, is_over, is_break, SumsUp}
+use Rattle.mm_gen.proofs.Below.{BulkFault, Memory, TooMuch, Summary}
+use Rattle.std.specs.Prelude.{Some, Err}
+use Rattle.std.specs.Option.{option_map_or}
+use Rattle.std.proofs.Math.Seq.{take-append_seam, drop-append-add}
+use Rattle.mm_digest.specs.declared.digest.Digest.{Digest}
+use Rattle.mm_schedule.specs.declared.reply.Reply.{Reply}
+use Rattle.mm_schedule.specs.declared.reply.Reply.TheVariants.{Told, No, Kept, Nothing, Closed, Checkpointed, Power, Extended}
+use Rattle.mm_gen.proofs.Readable.{header-unbroken, is_schedule}
+use Rattle.mm_model.specs.Moves.{Digests}
+use Rattle.mm_call.specs.Levels.{by_digests}
+use Rattle.mm_gen.specs.Answered.{RunsLine}
+use Rattle.mm_gen.specs.Counting.{counted_reply, counts_of, no_counts, total}
+use Rattle.mm_gen.specs.LineBreaks.{line_at}
+use Rattle.mm_gen.specs.declared.counts.Counts.{Counts}
+
+-- ---- the first line
+
+abbrev IsNoBreak : ℕ → Type 0
+IsNoBreak byte = byte ≢ 10
+
+first_break : (line more : List ℕ) → AllByRecursion IsNoBreak line → position_or_len is_break (line ++ 10 ∷ more) ≡ length line
+first_break [] more none = refl
+first_break (byte ∷ line) more none =
+    let one : 1 + length line ≡ suc (length line) = omega arith in
+    rw (ne_eqb byte 10 none.0) (ap (λ (n : ℕ). 1 + n) (first_break line more none.1) ∙ one)
+
+pub line_again : (line more : List ℕ) → IsUnbroken line → line_at (line ++ 10 ∷ more) ≡ Some (line, more)
+unfolding line_at
+line_again line more unbroken =
+    let within : length line < length (line ++ 10 ∷ more) = omega (arith, length-append line (10 ∷ more)) in
+    let test : nat_lt (length line) (length (line ++ 10 ∷ more)) ≡ true = grind (arith, nat_tests) in
+    let found : position is_break (line ++ 10 ∷ more) ≡ Some
+    (length line) = rw (first_break line more (recursion_from_All IsNoBreak line unbroken), test) refl in
+    rw (found, take-append_seam line (10 ∷ more), drop-append-add line (10 ∷ more) 1) refl
+
+no_line : line_at [] ≡ None
+unfolding line_at
+no_line = refl
+
+no_pair : (p : List ℕ × List ℕ) → (let none : Option (List ℕ × List ℕ) = None in none ≡ Some p) → ⊥
+no_pair p is = cc
+
+pub no_events : (one : Option Event) (more : List (Option Event)) → (let none : List (Option Event) = [] in one ∷ more ≡ none) → ⊥
+no_events one more is = cc
+
+-- ---- what is left
+
+-- what follows of these events
+abbrev pub left_of : Running → List Event → Followed Digests
+left_of r events = followed (world_of r.header) (by_digests (world_of r.header)) r.digests r.issued events
+
+-- the whole is what was counted and written, and then what is left
+record Rests (r : Running) (counts : Counts) (text : List ℕ) (left whole : Followed Digests) : Type 0 where
+  replies : text ++ texts_of left.replies ≡ texts_of whole.replies
+  counted : fold counted_reply counts left.replies ≡ counts_of whole.replies
+  state : left.state ≡ whole.state
+  issued : left.issued ≡ whole.issued
+
+-- with these lines and events left
+record GoingWith (lines : List (List ℕ)) (rest : List ℕ) (r : Running) (counts : Counts) (text : List ℕ) (left : List (List ℕ))
+    (events : List Event) : Type 0 where
+  all : List Event
+  bytes : rest ≡ lines_joined left
+  are : AllByRecursion IsEventLine left
+  read : map event_at left ≡ map Some events
+  whole : map event_at lines ≡ map Some all
+  few : total counts + length left ≤ most_events
+  over : is_over r left ≡ is_over (begun r.header) lines
+  rests : Rests r counts text (left_of r events) (replies_by_digests (world_of r.header) all)
+
+pub record Going (lines : List (List ℕ)) (rest : List ℕ) (r : Running) (counts : Counts) (text : List ℕ) : Type 0 where
+  left : List (List ℕ)
+  events : List Event
+  stands : GoingWith lines rest r counts text left events
+
+-- the summary of what was counted and written so far
+abbrev pub so_far : Running → Counts → List ℕ → Summary
+so_far r counts text = record {
+  counts = counts;
+  committed = r.digests.count;
+  issued = length r.issued;
+  replies = record { bytes = sha256 (text ++ end_line r.digests.count (length r.issued)) };
+}
+
+-- an event line that is answered next
+pub record Next (lines : List (List ℕ)) (rest : List ℕ) (r : Running) (counts : Counts) (text line behind : List ℕ) : Type 0 where
+  pub less : length behind < length rest
+  pub header : (reply : Reply) (new : Running) → RunsLine r new line reply → new.header ≡ r.header
+  pub short : length line ≤ longest_line
+  pub known : is_some (event_at line) ≡ true
+  pub room : total counts < most_events
+  pub over : is_too_much r line ≡ true → is_over (begun r.header) lines ≡ true
+  pub on : (reply : Reply) (new : Running) → RunsLine r new line reply
+      → Going lines behind new (counted_reply counts reply) (text ++ text_of_replies reply)
+
+total-counted : (counts : Counts) (reply : Reply) → total (counted_reply counts reply) ≡ total counts + 1
+total-counted counts (Told false before outputs) = omega arith
+total-counted counts _ = omega arith
+
+-- the first of the options, and the others
+pub heads : (one other : Option Event) (more others : List (Option Event)) → one ∷ more ≡ other ∷ others → (one ≡ other) × (more ≡ others)
+heads one other more others is = (ap (first_or one) is, ap rest_of is) where
+  first_or : Option Event → List (Option Event) → Option Event
+  first_or default [] = default
+  first_or default (x ∷ xs) = x
+
+  rest_of : List (Option Event) → List (Option Event)
+  rest_of [] = []
+  rest_of (x ∷ xs) = xs
+
+-- a line that passes no limit: those behind it decide
+pub over_behind : (r : Running) (line : List ℕ) (more : List (List ℕ)) (event : Event) → event_at line ≡ Some event
+    → is_too_much r line ≡ false → is_over (after_event r line event) more ≡ is_over r (line ∷ more)
+over_behind r line more event is room = rw (is, room) refl
+
+-- a line that passes a limit
+pub over_at : (r : Running) (line : List ℕ) (more : List (List ℕ)) → is_too_much r line ≡ true → is_over r (line ∷ more) ≡ true
+over_at r line more much = rw much refl
+
+module _ (lines : List (List ℕ)) where
+  answered_on : (more : List (List ℕ)) (line rest : List ℕ) (r : Running) (counts : Counts) (text : List ℕ) (event : Event)
+      (events : List Event) → event_at line ≡ Some event → is_too_much r line ≡ false
+      → GoingWith lines rest r counts text (line ∷ more) (event ∷ events) → map event_at more ≡ map Some events
+      → Going lines (lines_joined more) (after_event r line event) (counted_reply counts (running_outcome r event).reply)
+      (text ++ text_of_replies (running_outcome r event).reply)
+  answered_on more line rest r counts text event events is room going read =
+      let said : Reply = (running_outcome r event).reply in
+      let behind : Followed Digests = left_of (after_event r line event) events in
+      let few = going.few in let rests = going.rests in
+      record {
+        left = more;
+        events = events;
+        stands = record {
+          all = going.all;
+          bytes = refl;
+          are = going.are.1;
+          read = read;
+          whole = going.whole;
+          few = omega (arith, total-counted counts said, few);
+          over = over_behind r line more event is room ∙ going.over;
+          rests = record {
+            replies = append_assoc text (text_of_replies said) (texts_of behind.replies) ∙ rests.replies;
+            counted = rests.counted;
+            state = rests.state;
+            issued = rests.issued;
+          };
+        };
+      }
+
+  next_line : (left : List (List ℕ)) (rest : List ℕ) (r : Running) (counts : Counts) (text : List ℕ) (events : List Event)
+      (line behind : List ℕ) → GoingWith lines rest r counts text left events → line_at rest ≡ Some (line, behind)
+      → Next lines rest r counts text line behind
+  next_line [] rest r counts text events line behind going found =
+      absurd (no_pair (line, behind) (sym no_line ∙ ap line_at (sym going.bytes) ∙ found))
+  next_line (l ∷ more) rest r counts text [] line behind going found = absurd (no_events (event_at l) (map event_at more) going.read)
+  next_line (l ∷ more) rest r counts text (event ∷ events) line behind going found =
+      let few = going.few in let are = going.are in
+      let both = heads (event_at l) (Some event) (map event_at more) (map Some events) going.read in
+      let first : Some (l, lines_joined more) ≡ Some (line, behind) = sym (line_again l (lines_joined more) are.0.unbroken)
+      ∙ ap line_at (sym going.bytes) ∙ found in
+      let same : (l, lines_joined more) ≡ (line, behind) = ap
+      (λ (o : Option (List ℕ × List ℕ)). option_map_or (λ (p : List ℕ × List ℕ). p) o (line, behind)) first in
+      let made : Next lines rest r counts text l (lines_joined more) = record {
+        less = omega (arith, length-append l (10 ∷ lines_joined more), ap (λ (b : List ℕ). length b) going.bytes);
+        header = λ reply new answered. ap (λ (x : Running). x.header) (answered.1 event both.0).1;
+        short = are.0.short;
+        known = rw both.0 refl;
+        room = omega (arith, few);
+        over = λ much. sym going.over ∙ over_at r l more much;
+        on = λ reply new answered.
+            let is = answered.1 event both.0 in
+            rw (is.0, is.1) (answered_on more l rest r counts text event events both.0 answered.0 going both.1);
+      } in
+      subst (λ (p : List ℕ × List ℕ). Next lines rest r counts text p.0 p.1) same made
+
+  pub next : (rest : List ℕ) (r : Running) (counts : Counts) (text line behind : List ℕ) → Going lines rest r counts text
+      → line_at rest ≡ Some (line, behind) → Next lines rest r counts text line behind
+  next rest r counts text line behind going found =
+      next_line going.left rest r counts text going.events line behind going.stands found
+
+  -- ---- the end
+
+  line_found : (l : List ℕ) (more : List (List ℕ)) (rest : List ℕ) → rest ≡ lines_joined (l ∷ more) → IsUnbroken l
+      → line_at rest ≡ None → ⊥
+  line_found l more rest bytes unbroken none =
+      no_pair (l, lines_joined more) (sym none ∙ ap line_at bytes ∙ line_again l (lines_joined more) unbroken)
+
+  ended_at : (left : List (List ℕ)) (rest : List ℕ) (r : Running) (counts : Counts) (text : List ℕ) (events : List Event)
+      → GoingWith lines rest r counts text left events → line_at rest ≡ None
+      → (is_over (begun r.header) lines ≡ false) × SumsUp r.header lines (so_far r counts text)
+  ended_at [] rest r counts text [] going none =
+      let rests = going.rests in
+      let written : text ≡ texts_of (replies_by_digests (world_of r.header) going.all).replies = sym (append-nil text) ∙ rests.replies in
+      let numbered = rests.counted in let state = rests.state in let issued = rests.issued in (
+        sym going.over,
+        record { events = going.all; read = going.whole; told = rw (sym state, sym issued, sym numbered, sym written) refl },
+      )
+  ended_at [] rest r counts text (event ∷ events) going none = absurd (no_events (Some event) (map Some events) (sym going.read))
+  ended_at (l ∷ more) rest r counts text events going none = absurd (line_found l more rest going.bytes going.are.0.unbroken none)
+
+  -- no line was one too many
+  pub within : (rest : List ℕ) (r : Running) (counts : Counts) (text : List ℕ) (header : Header) → Going lines rest r counts text
+      → r.header ≡ header → line_at rest ≡ None → is_over (begun header) lines ≡ false
+  within rest r counts text header going same none =
+      subst (λ (h : Header). is_over (begun h) lines ≡ false) same
+      (ended_at going.left rest r counts text going.events going.stands none).0
+
+  -- a line was one too many, or memory was wanting
+  pub stops : (rest : List ℕ) (r : Running) (counts : Counts) (text line behind : List ℕ) (header : Header) (fault : BulkFault)
+      → Next lines rest r counts text line behind → r.header ≡ header → (fault ≡ TooMuch → is_too_much r line ≡ true)
+      → IsLimited (is_over (begun header) lines) (Err fault)
+  stops rest r counts text line behind header TooMuch step same limit =
+      subst (λ (h : Header). is_over (begun h) lines ≡ true) same (step.over (limit refl))
+  stops rest r counts text line behind header Memory step same limit = tt
+
+  pub ended : (rest : List ℕ) (r : Running) (counts : Counts) (text : List ℕ) → Going lines rest r counts text → line_at rest ≡ None
+      → SumsUp r.header lines (so_far r counts text)
+  ended rest r counts text going none = (ended_at going.left rest r counts text going.events going.stands none).1
+
+-- ---- the beginning
+
+events_of : (lines : List (List ℕ)) → AllByRecursion IsEventLine lines → List Event
+events_of [] are = []
+events_of (line ∷ lines) are = are.0.event ∷ events_of lines are.1
+
+events_read : (lines : List (List ℕ)) (are : AllByRecursion IsEventLine lines) → map event_at lines ≡ map Some (events_of lines are)
+unfolding events_of
+events_read [] are = refl
+events_read (line ∷ lines) are =
+    rw (spelled_is_read line are.0.event are.0.spelled)
+    (ap (λ (more : List (Option Event)). Some are.0.event ∷ more) (events_read lines are.1))
+
+pub begins : (number count : ℕ) (header : Header) → count ≤ most_events
+    → Going (schedule_lines number count header) (lines_joined (schedule_lines number count header)) (begun header) no_counts []
+begins number count header few =
+    let is = is_schedule number count header few in let lines : List (List ℕ) = schedule_lines number count header in
+    let are = recursion_from_All IsEventLine lines is.events in let read = events_read lines are in
+    record {
+      left = lines;
+      events = events_of lines are;
+      stands = record {
+        all = events_of lines are;
+        bytes = refl;
+        are = are;
+        read = read;
+        whole = read;
+        few = omega (arith, is.counted, few);
+        over = refl;
+        rests = record { replies = refl; counted = refl; state = refl; issued = refl };
+      };
+    }
+
+pub behind_first : (number count : ℕ) (header : Header)
+    → line_at (schedule_text number count header) ≡ Some (header_text header, lines_joined (schedule_lines number count header))
+behind_first number count header =
+    line_again (header_text header) (lines_joined (schedule_lines number count header)) (header-unbroken header)
+
+-- a summary by its parts
+pub told_at : (header : Header) (lines : List (List ℕ)) (r : Running) (counts : Counts) (committed issued : ℕ) (digest : Digest)
+    (text : List ℕ) → r.header ≡ header → committed ≡ r.digests.count → issued ≡ length r.issued
+    → digest.bytes ≡ sha256 (text ++ end_line r.digests.count (length r.issued)) → SumsUp r.header lines (so_far r counts text)
+    → SumsUp header lines (record { counts = counts; committed = committed; issued = issued; replies = digest })
+told_at header lines r counts committed issued digest text same one two three made =
+    let equal : so_far r counts text ≡ record { counts = counts; committed = committed; issued = issued; replies = digest } =
+    λ i. record { counts = counts; committed = sym one i; issued = sym two i; replies = record { bytes = sym three i } } in
+    subst (λ (m : Header). SumsUp m lines (record { counts = counts; committed = committed; issued = issued; replies = digest })) same
+    (subst (λ (it : Summary). SumsUp r.header lines it) equal made)
+
+-- the beginning, by what stands there
+pub starts : (number count : ℕ) (header : Header) (rest : List ℕ) (r : Running) (counts : Counts) (text : List ℕ) → count ≤ most_events
+    → rest ≡ lines_joined (schedule_lines number count header) → r ≡ begun header → counts ≡ no_counts → text ≡ []
+    → Going (schedule_lines number count header) rest r counts text
+starts number count header rest r counts text few one two three four = rw (one, two, three, four) (begins number count header few)
+
+-- a line more, by what stands behind it
+pub goes_on : (lines : List (List ℕ)) (rest : List ℕ) (r new : Running) (counts more : Counts) (text written line behind : List ℕ)
+    (reply : Reply) → Next lines rest r counts text line behind → RunsLine r new line reply → more ≡ counted_reply counts reply
+    → written ≡ text ++ text_of_replies reply → Going lines behind new more written
+goes_on lines rest r new counts more text written line behind reply step answered one two = rw (one, two) (step.on reply new answered)

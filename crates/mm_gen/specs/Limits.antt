@@ -1,0 +1,21 @@
+-- When a schedule passes the limits of a replay.
+use Rattle.std.specs.Prelude.{◌≡◌, ℕ, Bool, true, false, ◌||◌, List, [], ◌∷◌, Result, Ok, Err}
+use Rattle.std.specs.Option.{option_map_or}
+use Rattle.mm_schedule.specs.Grammar.{event_at}
+use Rattle.mm_replay.specs.Schedule.{Running, after_event, is_too_much}
+use Rattle.mm_gen.specs.declared.fault.BulkFault.{BulkFault}
+use Rattle.mm_gen.specs.declared.fault.BulkFault.TheVariants.{Memory, TooMuch}
+use Rattle.mm_gen.specs.declared.summary.Summary.{Summary}
+
+-- one of these lines, answered one after another, is one too many
+abbrev pub is_over : Running → List (List ℕ) → Bool
+is_over r [] = false
+is_over r (line ∷ lines) =
+    is_too_much r line || option_map_or (λ event. is_over (after_event r line event) lines)
+    (event_at line) false
+
+-- The limits are passed exactly where that is told. Want of memory says nothing of them.
+abbrev pub IsLimited : Bool → Result Summary BulkFault → Type 0
+IsLimited over (Ok summary) = over ≡ false
+IsLimited over (Err TooMuch) = over ≡ true
+IsLimited over (Err Memory) = Unit {0}

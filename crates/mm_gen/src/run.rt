@@ -1,0 +1,116 @@
+//! A generated schedule, run from its first line to its last.
+
+ghost use Rattle.std.specs.Prelude.{◌≡◌, ◌≤◌, ℕ, List, length, true, is_some, Some, Err, IfOk};
+ghost use Rattle.sha2.specs.Sha256.{sha256};
+ghost use Rattle.mm_base.specs.Limits.{longest_line, most_events};
+ghost use Rattle.mm_schedule.specs.Grammar.{event_at};
+ghost use Rattle.mm_schedule.specs.Replies.{IsPrintable};
+ghost use Rattle.mm_gen.specs.Schedules.{schedule_lines};
+ghost use Rattle.mm_replay.specs.Progress.{running};
+ghost use Rattle.mm_replay.specs.Schedule.{begun, is_too_much};
+ghost use Rattle.mm_gen.specs.Answered.{RunsLine};
+ghost use Rattle.mm_gen.specs.Limits.{IsLimited, is_over};
+ghost use Rattle.mm_gen.specs.LineBreaks.{line_at};
+ghost use Rattle.mm_gen.specs.Replayed.{IsReplayed, replay_of};
+ghost use Rattle.mm_gen.specs.Sums.{SumsUp};
+
+use crate::breaks::first_line;
+use crate::counts::Counts;
+use crate::fault::BulkFault;
+use crate::schedule::generate;
+use crate::summary::Summary;
+use mm_base::Bytes;
+use mm_digest::Digest;
+use mm_play::{Refused, ReplyFault};
+use mm_replay::{Progress, put_reply};
+use mm_schedule::{EventFault, Header, Reply, read_event};
+use sha2::{Digest as _, Sha256};
+use std::alloc::Global;
+
+/// Makes the schedule of a number, with `count` events, and runs it as a replay does: its replies are counted by their
+/// kinds, and digested with the last line.
+///
+/// `TooMuch` comes exactly where a replay of the schedule's text answers so: where an event line, with those before it
+/// and the snapshots issued till then, has more than 268,435,456 bytes. That event isn't run.
+pub fn bulk(alloc: Global, number: u64, count: u32, header: &Header) -> Result<Summary, BulkFault>
+    requires count { count ≤ most_events }
+    ensures sums { IfOk result (SumsUp header.now (schedule_lines number count header.now)) }
+    ensures limit { IsLimited (is_over (begun header.now) (schedule_lines number count header.now))
+        result }
+    ensures replayed { IsReplayed (replay_of number count header.now) result }
+{
+    run_schedule(alloc, number, count, header)
+}
+
+// Makes the schedule, and runs it line by line.
+fn run_schedule(
+    alloc: Global,
+    number: u64,
+    count: u32,
+    header: &Header,
+) -> Result<Summary, BulkFault>
+    requires count { count ≤ most_events }
+    ensures sums { IfOk result (SumsUp header.now (schedule_lines number count header.now)) }
+    ensures limit { IsLimited (is_over (begun header.now) (schedule_lines number count header.now))
+        result }
+{
+    let schedule = generate(alloc, number, count, header)?;
+    let mut rest = behind_header(schedule.as_slice());
+    let mut progress = Progress::new(alloc, header)?;
+    let mut counts = Counts::none();
+    let mut replies = Bytes::new(alloc);
+    'lines: while let Some((line, behind)) = first_line(rest) {
+        let reply = answered(alloc, line, &mut progress)?;
+        counts.count(&reply);
+        put_reply(&reply, &mut replies)?;
+        rest = behind;
+    }
+    progress.put_last_line(&mut replies)?;
+    let report = progress.report();
+    Ok(Summary {
+        counts,
+        committed: report.committed,
+        issued: report.issued,
+        replies: digest_of(replies.as_slice()),
+    })
+}
+
+/// What follows the first line.
+fn behind_header(text: &[u8]) -> &[u8]
+    ensures { (first behind : List ℕ) → line_at text.now ≡ Some (first, behind)
+        → result.now ≡ behind }
+{
+    match first_line(text) {
+        Some((_, behind)) => behind,
+        None => text,
+    }
+}
+
+/// The reply to an event line.
+fn answered(alloc: Global, line: &[u8], progress: &mut Progress) -> Result<Reply, BulkFault>
+    requires short { length line.now ≤ longest_line }
+    requires known { is_some (event_at line.now) ≡ true }
+    ensures reply { IfOk result (RunsLine (running progress.old) (running progress.new) line.now) }
+    ensures printable { IfOk result IsPrintable }
+    ensures limit { result ≡ Err BulkFault.TooMuch
+        → is_too_much (running progress.old) line.now ≡ true }
+{
+    let event = match read_event(alloc, line) {
+        Ok(event) => event,
+        Err(EventFault::Memory) => return Err(BulkFault::Memory),
+        Err(EventFault::Bad) => unreachable!(),
+    };
+    match progress.reply_to_event(line, &event) {
+        Ok(reply) => Ok(reply),
+        Err(ReplyFault::Refused(Refused::Much)) => Err(BulkFault::TooMuch),
+        Err(_) => Err(BulkFault::Memory),
+    }
+}
+
+fn digest_of(bytes: &[u8]) -> Digest
+    ensures { result.bytes ≡ sha256 bytes.now }
+{
+    Digest {
+        bytes: Sha256::digest(bytes),
+    }
+}

@@ -1,0 +1,88 @@
+//! What is told of a schedule that was run.
+
+ghost use Rattle.std.specs.Prelude.{◌≡◌, [], ◌∷◌, ◌++◌, IfOk, OnOk};
+ghost use Rattle.std.specs.Fmt.{decimal};
+ghost use Rattle.mm_gen.specs.Summaries.{bulk_text, end_text, events_text, other_counts, replies_text, told_counts};
+
+use crate::counts::Counts;
+use mm_base::{Bytes, Memory, put_decimal};
+use mm_digest::Digest;
+use std::alloc::Global;
+
+/// What came of a schedule.
+#[derive(Clone, Copy, Debug, PartialEq, Eq)]
+pub struct Summary {
+    pub counts: Counts,
+    /// How many requests were committed.
+    pub committed: u64,
+    /// How many snapshots were issued, number 0 counted.
+    pub issued: u32,
+    /// The SHA-256 of all lines that a replay writes, each with its LF, the last one included.
+    pub replies: Digest,
+}
+
+/// The five lines of a schedule of so many events: the number of events, the counts, the last line of the replies, and
+/// their digest in 64 lower-case hexadecimal digits.
+pub fn summary_text(alloc: Global, events: u32, it: &Summary) -> Result<Bytes, Memory>
+    ensures { IfOk result (λ text. text ≡ bulk_text events it.now) }
+{
+    let mut text = Bytes::new(alloc);
+    put_events(&mut text, events)?;
+    put_told_counts(&mut text, &it.counts)?;
+    put_other_counts(&mut text, &it.counts)?;
+    put_end(&mut text, it)?;
+    put_replies(alloc, &mut text, &it.replies)?;
+    Ok(text)
+}
+
+fn put_events(into: &mut Bytes, events: u32) -> Result<(), Memory>
+    ensures { OnOk result (into.new ≡ into.old ++ events_text events ++ 10 ∷ []) }
+{
+    put_numbered(into, b"events ", u64::from(events))?;
+    into.append(b"\n")
+}
+
+fn put_told_counts(into: &mut Bytes, counts: &Counts) -> Result<(), Memory>
+    ensures { OnOk result (into.new ≡ into.old ++ told_counts counts.now ++ 10 ∷ []) }
+{
+    put_numbered(into, b"ok ", u64::from(counts.ok))?;
+    put_numbered(into, b" again ", u64::from(counts.again))?;
+    put_numbered(into, b" no ", u64::from(counts.no))?;
+    into.append(b"\n")
+}
+
+fn put_other_counts(into: &mut Bytes, counts: &Counts) -> Result<(), Memory>
+    ensures { OnOk result (into.new ≡ into.old ++ other_counts counts.now ++ 10 ∷ []) }
+{
+    put_numbered(into, b"kept ", u64::from(counts.kept))?;
+    put_numbered(into, b" lost ", u64::from(counts.lost))?;
+    put_numbered(into, b" other ", u64::from(counts.other))?;
+    into.append(b"\n")
+}
+
+/// Puts the last line of the replies.
+fn put_end(into: &mut Bytes, it: &Summary) -> Result<(), Memory>
+    ensures { OnOk result (into.new ≡ into.old ++ end_text it.now ++ 10 ∷ []) }
+{
+    put_numbered(into, b"end ", it.committed)?;
+    put_numbered(into, b" ", u64::from(it.issued))?;
+    into.append(b"\n")
+}
+
+/// Puts the digest of the replies.
+fn put_replies(alloc: Global, into: &mut Bytes, digest: &Digest) -> Result<(), Memory>
+    ensures { OnOk result (into.new ≡ into.old ++ replies_text digest.now.bytes ++ 10 ∷ []) }
+{
+    let digits = hex::encode(alloc, digest.bytes)?;
+    into.append(b"replies ")?;
+    into.append(digits.as_bytes())?;
+    into.append(b"\n")
+}
+
+/// Puts a word and a number.
+fn put_numbered(into: &mut Bytes, word: &[u8], number: u64) -> Result<(), Memory>
+    ensures { OnOk result (into.new ≡ into.old ++ word.now ++ decimal number) }
+{
+    into.append(word)?;
+    put_decimal(into, number)
+}
