@@ -1,62 +1,43 @@
 -- A command of the host isn't refused where it may be done.
-use Rattle.std.proofs.Common.{◌≡◌, ◌≢◌, ◌∙◌, ◌+◌, ◌≤◌, ◌<◌, ℕ, Bool, true, false, List, [], ◌∷◌, ◌++◌, length, Option, None, Some, Result, Ok, Err, refl, sym, ap, subst, inl, inr, ◌⊎◌, arith, length-append}
-use Rattle.std.specs.Io.KnownBytes.{Consumes, IsAtEnd}
+use Rattle.mm_app.proofs.Below.{◌≡◌, ◌≢◌, ◌∙◌, ◌+◌, ◌≤◌, ◌<◌, ℕ, Bool, true, false, List, [], ◌∷◌, ◌++◌, length, Option, None, Some, Result}
+use Rattle.mm_app.proofs.Below.{Ok, Err, refl, sym, ap, subst, inl, inr, ◌⊎◌, arith, length-append, Consumes, IsAtEnd, Variant, TellsUse}
+use Rattle.mm_app.proofs.Below.{AfterLooking, AfterPuts, AfterTaking, Devices, Inits, SetsUp, TakesBytes, devices, instance_from}
+use Rattle.mm_app.proofs.Below.{written_as, SessionFault, InitFault, Instance, Refusal, meaning_of, module_with, any_is_found, AnyModule}
+use Rattle.mm_app.proofs.Below.{ClosesSegment, EndsClosing, EndsLooking, FindsClosing, FindsSegment, Looks, Weighs, closing_by}
+use Rattle.mm_app.proofs.Below.{closing_handed_on, segment_by, segment_in, Checkpointed, CheckpointRefusal, StepFault, Item, Standing}
+use Rattle.mm_app.proofs.Below.{item_values, register_after, Header, CellFault, StoreStanding, Command, Init, Run, Checkpoint, Power, Gen}
+use Rattle.mm_app.proofs.Below.{Help, Replay, Check, Bulk, Slots, Receipts, Transfer, checkpoint_told, Does, DoesOrLacks, IsDoneOrFailed}
+use Rattle.mm_app.proofs.Below.{CanStart, CanClose, CanRun, CanBeDone, ShowsPower, Outside, power_told, FindsInstance, RunsInstance}
+use Rattle.mm_app.proofs.Below.{SeesInstance, ServesAndStops, ServesIfFound, header_found, instance_found, session_status, init_told, Tells}
+use Rattle.mm_app.proofs.Below.{WritesText, status_by, Status, PlatformFault}
 use Rattle.std.specs.Str.{bytes_eq}
 use Rattle.std.proofs.lemmas.Slice.Eq.{bytes_eq-Decides}
 use Rattle.mm_base.specs.declared.fault.Failed.{Failed}
 use Rattle.mm_base.specs.declared.fault.WriteFault as write
 use Rattle.mm_digest.specs.Messages.{zero_bytes}
-use Rattle.mm_digest.specs.declared.variant.Variant.{Variant}
 use Rattle.mm_digest.specs.declared.variant.Variant.TheVariants.{Basic, Opt}
-use Rattle.mm_host.specs.Begins.{TellsUse}
-use Rattle.mm_host.specs.Continuing.{RefusesAs}
-use Rattle.mm_host.specs.Init.{AfterLooking, AfterPuts, AfterTaking, Devices, Inits, SetsUp, TakesBytes, devices, instance_from, written_as}
+use Rattle.mm_base.specs.declared.replay_fault.ReplayFault.TheVariants as replay
+use Rattle.mm_host.specs.declared.fault.HostFault.TheVariants as host
+use Rattle.mm_session.specs.Continuing.{RefusesAs}
 use Rattle.mm_host.specs.InitFaults.{store_failed_as}
-use Rattle.mm_host.specs.SessionLines.{IsNoLines}
-use Rattle.mm_host.specs.declared.fault.SessionFault.{SessionFault}
-use Rattle.mm_host.specs.declared.fault.SessionFault.TheVariants as session
-use Rattle.mm_host.specs.declared.init_fault.InitFault.{InitFault}
+use Rattle.mm_session.specs.SessionLines.{IsNoLines}
+use Rattle.mm_session.specs.declared.fault.SessionFault.TheVariants as session
 use Rattle.mm_host.specs.declared.init_fault.InitFault.TheVariants as init
 use Rattle.mm_model.specs.History.{first_history}
-use Rattle.mm_model.specs.Instance.{Instance}
 use Rattle.mm_model.specs.InstanceWords.{basic}
 use Rattle.mm_model.specs.Life.{Live}
 use Rattle.mm_model.specs.Standing.{cell_of}
-use Rattle.mm_model.specs.declared.refusal.Refusal.{Refusal}
 use Rattle.mm_model.specs.declared.refusal.Refusal.TheVariants as refused
 use Rattle.mm_module.specs.Meaning.{Meaning}
-use Rattle.mm_modules.specs.Modules.{meaning_of, module_with}
-use Rattle.mm_modules.specs.Modules.{any_is_found}
-use Rattle.mm_modules.specs.declared.any.AnyModule.{AnyModule}
-use Rattle.mm_opt.specs.Checkpoints.{ClosesSegment, EndsClosing, EndsLooking, FindsClosing, FindsSegment, Looks, Weighs, closing_by, closing_handed_on, segment_by, segment_in}
-use Rattle.mm_opt.specs.declared.segment.Checkpointed.{Checkpointed}
 use Rattle.mm_opt.specs.declared.segment.Checkpointed.TheVariants as said
-use Rattle.mm_opt.specs.declared.segment.CheckpointRefusal.{CheckpointRefusal}
 use Rattle.mm_opt.specs.declared.segment.CheckpointRefusal.TheVariants as refusal
 use Rattle.mm_opt.specs.declared.segment.Segment.{Segment}
 use Rattle.mm_opt.specs.declared.segment.Segment.TheVariants.{Open, Shut}
-use Rattle.mm_platform.specs.declared.fault.StepFault.{StepFault}
-use Rattle.mm_platform.specs.Standing.{Item, Standing, item_values, register_after}
-use Rattle.mm_schedule.specs.declared.header.Header.{Header}
 use Rattle.mm_seal.specs.Cell.{IsCell, blank_cell, cell_spelling}
 use Rattle.mm_seal.specs.declared.cell.Cell.{Cell}
-use Rattle.mm_seal.specs.declared.cell.CellFault.{CellFault}
 use Rattle.mm_seal.specs.CellLaws.{reads_cell-same}
 use Rattle.mm_store.specs.declared.fault.StoreFault.{StoreFault}
 use Rattle.mm_store.specs.declared.fault.StoreFault.TheVariants as unstored
-use Rattle.mm_store.specs.Kept.{StoreStanding}
-use Rattle.mm_words.specs.declared.command.Command.{Command}
-use Rattle.mm_words.specs.declared.command.Command.TheVariants.{Init, Run, Checkpoint, Power, Gen, Help, Replay, Check, Bulk, Slots, Receipts, Transfer}
-use Rattle.mm_app.specs.Checkpoint.{checkpoint_told}
-use Rattle.mm_app.specs.Commands.{Does, DoesOrLacks}
-use Rattle.mm_app.specs.Completeness.{IsDoneOrFailed, CanStart, CanClose, CanRun, CanBeDone, ShowsPower}
-use Rattle.mm_app.specs.Outside.{Outside}
-use Rattle.mm_app.specs.Power.{power_told}
-use Rattle.mm_app.specs.Running.{FindsInstance, RunsInstance, SeesInstance, ServesAndStops, ServesIfFound, header_found, instance_found, session_status}
-use Rattle.mm_app.specs.Starting.{init_told}
-use Rattle.mm_app.specs.Telling.{Tells, WritesText, status_by}
-use Rattle.mm_app.specs.declared.status.Status.{Status}
-use Rattle.mm_app.specs.declared.status.Status.TheVariants.{PlatformFault}
 use Rattle.mm_app.proofs.Blame.{end_of}
 
 -- what was told
@@ -100,8 +81,7 @@ unstored_whole unstored.Memory result got e s = cc
 unstored_whole unstored.Failed result got e s = cc
 
 put_whole : (cell : List ℕ) (before after : Standing) (stored : Result (Unit {0}) StoreFault) (result : Result (Unit {0}) InitFault)
-    (got : ℕ)
-    → AfterPuts cell before after stored result → Shorts result got → ⊥
+    (got : ℕ) → AfterPuts cell before after stored result → Shorts result got → ⊥
 put_whole cell before after (Ok done) result got a s = written_whole a.written result got a.gives s
 put_whole cell before after (Err why) result got a s = unstored_whole why result got a.1 s
 
@@ -112,10 +92,9 @@ set_whole i before after old new result got up s = elim up [
   | inr both ↦ put_whole (cell_spelling (cell_of i first_history)) before after both.stored result got both.goes s
 ]
 
-taken_whole : (variant : Variant) (meaning : Meaning) (middle after : Devices) (taken : Result (List ℕ) Failed)
-    (result : Result (Unit {0}) InitFault) (got : ℕ)
-    → ((bytes : List ℕ) → taken ≡ Ok bytes → length bytes < 64 → ⊥)
-    → AfterTaking variant meaning middle after taken result → Shorts result got → ⊥
+taken_whole : (variant : Variant) (meaning : Meaning) (middle after : Devices) (taken : Result (List ℕ) Failed) (result : Result (Unit {0})
+    InitFault) (got : ℕ) → ((bytes : List ℕ) → taken ≡ Ok bytes → length bytes < 64 → ⊥) → AfterTaking variant meaning middle after taken
+    result → Shorts result got → ⊥
 taken_whole variant meaning middle after (Err why) result got enough a s = let e = a.1 in cc
 taken_whole variant meaning middle after (Ok bytes) result got enough a s = elim a [
   | inl few ↦ enough bytes refl few.0
@@ -123,34 +102,27 @@ taken_whole variant meaning middle after (Ok bytes) result got enough a s = elim
 ]
 
 never_short : (variant : Variant) (meaning : Meaning) (middle after : Devices) (is_blank : Result Bool StepFault)
-    (result : Result (Unit {0}) InitFault)
-    (secrets : List ℕ) (got : ℕ) → middle.left ≡ Some secrets → 64 ≤ length secrets
+    (result : Result (Unit {0}) InitFault) (secrets : List ℕ) (got : ℕ) → middle.left ≡ Some secrets → 64 ≤ length secrets
     → AfterLooking variant meaning middle after is_blank result → Shorts result got → ⊥
 never_short variant meaning middle after (Err fault) result secrets got left many a s = let e = a.1 in cc
 never_short variant meaning middle after (Ok false) result secrets got left many a s = let e = a.1 in cc
 never_short variant meaning middle after (Ok true) result secrets got left many a s =
     taken_whole variant meaning (record middle { left = a.left; source_faults = a.source_faults }) after a.taken result got
-    (enough a.taken a.takes) a.goes s
-  where
-    enough : (taken : Result (List ℕ) Failed) → TakesBytes middle.left a.left middle.source_faults a.source_faults taken
-        → (bytes : List ℕ) → taken ≡ Ok bytes → length bytes < 64 → ⊥
-    enough taken t bytes is few =
-        let u = subst (λ (r : Result (List ℕ) Failed). TakesBytes middle.left a.left middle.source_faults a.source_faults r) is t in
-        long_enough secrets bytes a.left many (subst (λ (l : Option (List ℕ)). Consumes l a.left bytes) left u.consumed) u.ended few
+    (enough a.taken a.takes) a.goes s where
+      enough : (taken : Result (List ℕ) Failed) → TakesBytes middle.left a.left middle.source_faults a.source_faults taken
+          → (bytes : List ℕ) → taken ≡ Ok bytes → length bytes < 64 → ⊥
+      enough taken t bytes is few =
+          let u = subst (λ (r : Result (List ℕ) Failed). TakesBytes middle.left a.left middle.source_faults a.source_faults r) is t in
+          long_enough secrets bytes a.left many (subst (λ (l : Option (List ℕ)). Consumes l a.left bytes) left u.consumed) u.ended few
 
 start_ends : (answer : Result (Unit {0}) InitFault) → ((got : ℕ) → Shorts answer got → ⊥) → (answer ≡ Err init.Already → ⊥)
     → IsDoneOrFailed (end_of (init_told answer))
-start_ends (Ok done) short used = tt
-start_ends (Err init.Memory) short used = tt
-start_ends (Err (init.Platform fault)) short used = tt
 start_ends (Err init.Already) short used = absurd (used refl)
-start_ends (Err init.ReadFault) short used = tt
 start_ends (Err (init.Short got)) short used = absurd (short got refl)
-start_ends (Err init.Store) short used = tt
+start_ends _ short used = tt
 
 unused : (before : Devices) (cell : List ℕ) (answer : Result (Unit {0}) InitFault) → TellsUse before answer
-    → before.platform.cell ≡ Some cell
-    → cell ≡ blank_cell → answer ≡ Err init.Already → ⊥
+    → before.platform.cell ≡ Some cell → cell ≡ blank_cell → answer ≡ Err init.Already → ⊥
 unused before cell answer uses told blank is =
     let u = subst (λ (r : Result (Unit {0}) InitFault). TellsUse before r) is uses in u cell told blank
 
@@ -161,8 +133,7 @@ Ends answer = IsDoneOrFailed (end_of (checkpoint_told answer))
 
 -- what a read finds in the cell
 segment_is : (held : Cell) (standing : Standing) (found : Result Segment CheckpointRefusal) → IsCell held
-    → standing.cell ≡ Some (cell_spelling held)
-    → held.variant ≡ Opt → FindsSegment standing found → found ≡ segment_by Opt held.flag held
+    → standing.cell ≡ Some (cell_spelling held) → held.variant ≡ Opt → FindsSegment standing found → found ≡ segment_by Opt held.flag held
 segment_is held standing found formed told variant f =
     let read : f.sees.read ≡ Ok held = reads_cell-same f.bytes f.sees.read (Ok held) f.sees.reads (formed, f.told (cell_spelling held) told)
     in
@@ -192,12 +163,10 @@ unlost cell standing why shows f =
 handed_ends : (written : Result Checkpointed StepFault) (answer : Result Checkpointed CheckpointRefusal)
     → answer ≡ closing_handed_on written → Ends answer
 handed_ends (Ok said.Done) answer e = subst Ends (sym e) tt
-handed_ends (Ok said.NoSegment) answer e = subst Ends (sym e) tt
-handed_ends (Err fault) answer e = subst Ends (sym e) tt
+handed_ends _ answer e = subst Ends (sym e) tt
 
-weighed_ends : (cell : Cell) (old middle new : Standing) (found : Result (List ℕ) CheckpointRefusal)
-    (answer : Result Checkpointed CheckpointRefusal)
-    → ShowsPower new → Weighs cell old middle found → EndsClosing found middle new answer → Ends answer
+weighed_ends : (cell : Cell) (old middle new : Standing) (found : Result (List ℕ) CheckpointRefusal) (answer : Result Checkpointed
+    CheckpointRefusal) → ShowsPower new → Weighs cell old middle found → EndsClosing found middle new answer → Ends answer
 weighed_ends cell old middle new (Err (refusal.Device fault)) answer shows w e = subst Ends (sym e.1) tt
 weighed_ends cell old middle new (Err refusal.Blank) answer shows w e =
     absurd (unlost cell middle refusal.Blank (subst ShowsPower e.0 shows) (w.finds refl))
@@ -209,11 +178,9 @@ weighed_ends cell old middle new (Err refusal.Lost) answer shows w e =
     absurd (unlost cell middle refusal.Lost (subst ShowsPower e.0 shows) (w.finds refl))
 weighed_ends cell old middle new (Ok next) answer shows w e = handed_ends e.written answer e.gives
 
-looked_ends : (held : Cell) (old middle new : Standing) (found : Result Segment CheckpointRefusal)
-    (answer : Result Checkpointed CheckpointRefusal)
-    → ((seen : FindsSegment old found) → found ≡ segment_by Opt held.flag held) → (held.flag ≡ true → ShowsPower new)
+looked_ends : (held : Cell) (old middle new : Standing) (found : Result Segment CheckpointRefusal) (answer : Result Checkpointed
+    CheckpointRefusal) → ((seen : FindsSegment old found) → found ≡ segment_by Opt held.flag held) → (held.flag ≡ true → ShowsPower new)
     → Looks old middle found → EndsLooking found middle new answer → Ends answer
-looked_ends held old middle new (Err (refusal.Device fault)) answer is shows l e = subst Ends (sym e.1) tt
 looked_ends held old middle new (Err refusal.Blank) answer is shows l e =
     absurd (not_refused held.flag held refusal.Blank (is (l.finds refl)))
 looked_ends held old middle new (Err refusal.Cell) answer is shows l e =
@@ -222,9 +189,9 @@ looked_ends held old middle new (Err refusal.Kind) answer is shows l e =
     absurd (not_refused held.flag held refusal.Kind (is (l.finds refl)))
 looked_ends held old middle new (Err refusal.Lost) answer is shows l e =
     absurd (not_refused held.flag held refusal.Lost (is (l.finds refl)))
-looked_ends held old middle new (Ok Shut) answer is shows l e = subst Ends (sym e.1) tt
 looked_ends held old middle new (Ok (Open cell)) answer is shows l e =
     weighed_ends cell middle e.middle new e.found answer (shows (is_open held.flag held cell (is (l.finds refl)))) e.weighs e.ends
+looked_ends held old middle new _ answer is shows l e = subst Ends (sym e.1) tt
 
 closing_ends : (old new : Outside) (answer : Result Checkpointed CheckpointRefusal) → CanClose old new
     → ClosesSegment old.standing new.standing answer → Ends answer
@@ -237,82 +204,66 @@ closing_ends old new answer can c =
 header_is : (it : AnyModule) → header_found Basic (module_with (meaning_of it).id) ≡ Ok (record { variant = Basic; «module» = it })
 header_is it = ap (header_found Basic) (any_is_found it).by_id
 
-refused_ends : (why : Refusal) → RefusesAs {T = Unit {0}} (Err (session.Refused why)) Live
-    → IsDoneOrFailed (session_status (Err (session.Refused why)))
+refused_ends : (why : Refusal) → RefusesAs {T = Unit {0}} (Err (session.Host (host.Refused why))) Live
+    → IsDoneOrFailed (session_status (Err (session.Host (host.Refused why))))
 refused_ends (refused.Device fault) r = tt
 refused_ends refused.Lost r = absurd (cc)
 refused_ends refused.Stale r = absurd (cc)
-refused_ends refused.Memory r = absurd r
-refused_ends refused.Long r = absurd r
-refused_ends refused.Blank r = absurd r
-refused_ends refused.Cell r = absurd r
-refused_ends refused.Form r = absurd r
-refused_ends refused.Kind r = absurd r
-refused_ends refused.State r = absurd r
-refused_ends refused.Tag r = absurd r
-refused_ends refused.Full r = absurd r
+refused_ends _ r = absurd r
 
 session_ends : (answer : Result (Unit {0}) SessionFault) → IsNoLines answer → RefusesAs answer Live → IsDoneOrFailed (session_status answer)
 session_ends (Ok done) lines r = tt
-session_ends (Err session.Memory) lines r = tt
-session_ends (Err session.Store) lines r = tt
-session_ends (Err (session.Refused why)) lines r = refused_ends why r
-session_ends (Err session.ReadFault) lines r = tt
-session_ends (Err session.WriteFault) lines r = tt
-session_ends (Err (session.LineLong line)) lines r = absurd lines
-session_ends (Err (session.BadLine line)) lines r = absurd lines
-session_ends (Err session.TooMuch) lines r = absurd lines
-
-served_ends : (old new : Outside) (status : Status) (middle : Standing) (can : CanRun old) → middle.cell ≡ old.standing.cell
-    → ServesAndStops (record { variant = Basic; «module» = can.it }) middle new.standing old.kept new.kept old.left new.left old.received
-    new.received old.reads new.reads
-    old.writes new.writes status → IsDoneOrFailed status
-served_ends old new status middle can same s =
-    let at = can.serves.can in
-    let served = s.served in
-    let continues = served.continues served.sessions can.key can.y can.slots can.all can.others can.asked can.input can.left
-    (record {
-      can = record {
-        honest = at.honest;
-        told = at.told;
-        stands = record { spells = at.stands.spells; cell = same ∙ at.stands.cell; register = tt };
-        fits = at.fits;
-        clear = at.clear;
-        apart = at.apart;
-        within = at.within;
-        is_asked = at.is_asked;
-      };
-      follow = can.serves.follow;
-    }) in
-    subst IsDoneOrFailed (sym served.ends) (session_ends served.answer (served.lines can.input can.left can.lines) continues.refuses)
+session_ends (Err (session.Host host.Memory)) lines r = tt
+session_ends (Err (session.Host host.Store)) lines r = tt
+session_ends (Err (session.Host (host.Refused why))) lines r = refused_ends why r
+session_ends (Err (session.Lines replay.Memory)) lines r = tt
+session_ends (Err (session.Lines replay.ReadFault)) lines r = tt
+session_ends (Err (session.Lines replay.WriteFault)) lines r = tt
+session_ends (Err (session.Lines (replay.LineLong line))) lines r = absurd lines
+session_ends (Err (session.Lines (replay.BadLine line))) lines r = absurd lines
+session_ends (Err (session.Lines replay.TooMuch)) lines r = absurd lines
 
 -- what is found in the cell
 instance_is : (old : Outside) (can : CanRun old) (found : Result Header Status) (bytes : List ℕ)
     → ((cell : List ℕ) → old.standing.cell ≡ Some cell → bytes ≡ cell)
     → SeesInstance bytes found → found ≡ Ok (record { variant = Basic; «module» = can.it })
 instance_is old can found bytes told sees =
-    let held = cell_of (basic (meaning_of can.it) can.key) can.y in
-    let stands = can.serves.can.stands in
+    let held = cell_of (basic (meaning_of can.it) can.key) can.y in let stands = can.serves.can.stands in
     let read : sees.read ≡ Ok held = reads_cell-same bytes sees.read (Ok held) sees.reads
     (stands.spells, told (cell_spelling held) stands.cell) in
     sees.found_is ∙ ap instance_found read ∙ header_is can.it
 
-found_ends : (old new : Outside) (status : Status) (middle : Standing) (fault : Option StepFault) (found : Result Header Status)
-    (can : CanRun old)
-    → middle.cell ≡ old.standing.cell → FindsInstance fault old.standing found
-    → ServesIfFound found middle new.standing old.kept new.kept old.left new.left old.received new.received old.reads new.reads old.writes
-    new.writes status
-    → IsDoneOrFailed status
-found_ends old new status middle None found can same f goes =
-    served_ends old new status middle can same
-    (subst (λ (r : Result Header Status). ServesIfFound r middle new.standing old.kept new.kept old.left new.left old.received new.received
-    old.reads new.reads
-    old.writes new.writes status) (instance_is old can found f.0 f.1 f.2) goes)
-found_ends old new status middle (Some fault) found can same f goes =
-    let none = subst (λ (r : Result Header Status). ServesIfFound r middle new.standing old.kept new.kept old.left new.left old.received
-    new.received old.reads new.reads
-    old.writes new.writes status) f goes in
-    subst IsDoneOrFailed (sym none.stops.ends) tt
+module _ (old new : Outside) (status : Status) where
+  served_ends : (middle : Standing) (can : CanRun old) → middle.cell ≡ old.standing.cell
+      → ServesAndStops (record { variant = Basic; «module» = can.it }) middle new.standing old.kept new.kept old.left new.left old.received
+      new.received old.reads new.reads old.writes new.writes status → IsDoneOrFailed status
+  served_ends middle can same s =
+      let at = can.serves.can in let served = s.served in
+      let continues = served.continues served.sessions can.key can.y can.slots can.all can.others can.asked can.input can.left (record {
+        can = record {
+          honest = at.honest;
+          told = at.told;
+          stands = record { spells = at.stands.spells; cell = same ∙ at.stands.cell; register = tt };
+          fits = at.fits;
+          clear = at.clear;
+          apart = at.apart;
+          within = at.within;
+          is_asked = at.is_asked;
+        };
+        follow = can.serves.follow;
+      }) in
+      subst IsDoneOrFailed (sym served.ends) (session_ends served.answer (served.lines can.input can.left can.lines) continues.refuses)
+
+  found_ends : (middle : Standing) (fault : Option StepFault) (found : Result Header Status) (can : CanRun old)
+      → middle.cell ≡ old.standing.cell → FindsInstance fault old.standing found → ServesIfFound found middle new.standing old.kept new.kept
+      old.left new.left old.received new.received old.reads new.reads old.writes new.writes status → IsDoneOrFailed status
+  found_ends middle None found can same f goes =
+      served_ends middle can same (subst (λ (r : Result Header Status). ServesIfFound r middle new.standing old.kept new.kept old.left
+      new.left old.received new.received old.reads new.reads old.writes new.writes status) (instance_is old can found f.0 f.1 f.2) goes)
+  found_ends middle (Some fault) found can same f goes =
+      let none = subst (λ (r : Result Header Status). ServesIfFound r middle new.standing old.kept new.kept old.left new.left old.received
+      new.received old.reads new.reads old.writes new.writes status) f goes in
+      subst IsDoneOrFailed (sym none.stops.ends) tt
 
 -- the commands
 
@@ -322,11 +273,9 @@ does_end (Init header) old new status can d =
     let before : Devices = devices old.standing old.kept old.entropy old.takes in
     let after : Devices = devices new.standing new.kept new.entropy new.takes in
     told_ends (init_told d.answer) old.received new.received old.writes new.writes status d.tells
-    (start_ends d.answer
-    (λ got s. never_short header.variant (meaning_of header.module) (record before { platform = d.steps.platform }) after d.steps.is_blank
-    d.answer can.secrets got
-    can.left can.many d.steps.goes s)
-    (unused before blank_cell d.answer d.uses can.cell refl))
+    (start_ends d.answer (λ got s. never_short header.variant (meaning_of header.module) (record before { platform = d.steps.platform })
+    after d.steps.is_blank d.answer can.secrets got can.left can.many d.steps.goes s) (unused before blank_cell d.answer d.uses can.cell
+    refl))
 does_end Run old new status can d = found_ends old new status d.middle d.looks.fault d.found can d.looks.goes.cell d.looks.finds d.goes
 does_end Checkpoint old new status can d =
     told_ends (checkpoint_told d.answer) old.received new.received old.writes new.writes status d.tells
@@ -335,12 +284,7 @@ does_end Power old new status can d =
     told_ends (power_told d.fault) old.received new.received old.writes new.writes status d.tells (power_ends d.fault)
 does_end (Gen it) old new status can d = written_ends d.given.result status d.given.ends
 does_end Help old new status can d = written_ends d.given.result status d.given.ends
-does_end Replay old new status can d = absurd can
-does_end Check old new status can d = absurd can
-does_end (Bulk it) old new status can d = absurd can
-does_end Slots old new status can d = absurd can
-does_end (Receipts key) old new status can d = absurd can
-does_end Transfer old new status can d = absurd can
+does_end _ old new status can d = absurd can
 
 pub may_be_done : (command : Command) (old new : Outside) (status : Status) → CanBeDone command old new → DoesOrLacks command old new status
     → IsDoneOrFailed status

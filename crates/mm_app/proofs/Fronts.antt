@@ -1,9 +1,6 @@
 -- Fronts of an input and of an output.
-use Rattle.std.proofs.Common.{◌≡◌, ◌∙◌, ℕ, ◌==◌, Bool, true, false, cond, List, [], ◌∷◌, ◌++◌, Option, refl, ap, subst, append-nil, inl, inr}
-use Rattle.mm_base.specs.Input.{lines_of, onto_first}
-use Rattle.mm_play.specs.Plays.{ForWhole}
-use Rattle.mm_app.specs.declared.status.Status.{Status}
-use Rattle.mm_app.specs.declared.status.Status.TheVariants.{Done, WriteFault}
+use Rattle.mm_app.proofs.Below.{◌≡◌, ◌∙◌, ℕ, ◌==◌, Bool, true, false, cond, List, [], ◌∷◌, ◌++◌, Option, refl, ap, subst, append-nil, inl}
+use Rattle.mm_app.proofs.Below.{inr, lines_of, onto_first, ForWhole, Status, Done, WriteFault}
 
 -- lines in front stay so, whatever comes before the first or behind the last
 onto_front : (byte : ℕ) (lines rest : List (List ℕ))
@@ -12,9 +9,8 @@ onto_front byte [] rest = (onto_first (byte ∷ []) rest, refl)
 onto_front byte (line ∷ lines) rest = (rest, refl)
 
 -- the lines of a front are the first ones
-front_lines_by : (is_break : Bool) (byte : ℕ) (lines rest : List (List ℕ))
-    → (more : List (List ℕ)) × (cond is_break ([] ∷ (lines ++ rest)) (onto_first (byte ∷ []) (lines ++ rest))
-    ≡ cond is_break ([] ∷ lines) (onto_first (byte ∷ []) lines) ++ more)
+front_lines_by : (is_break : Bool) (byte : ℕ) (lines rest : List (List ℕ)) → (more : List (List ℕ)) × (cond is_break ([] ∷ (lines ++ rest))
+    (onto_first (byte ∷ []) (lines ++ rest)) ≡ cond is_break ([] ∷ lines) (onto_first (byte ∷ []) lines) ++ more)
 front_lines_by true byte lines rest = (rest, refl)
 front_lines_by false byte lines rest = onto_front byte lines rest
 

@@ -1,17 +1,11 @@
 -- The theorem of slots, drawn from what was played and its stop line.
-use Rattle.std.proofs.Common.{◌≡◌, ℕ, List, Option, Result, refl, sym, append-nil, inl, inr}
-use Rattle.mm_base.specs.Streams.{Sends}
+use Rattle.mm_app.proofs.Below.{◌≡◌, ℕ, List, Option, Result, refl, sym, append-nil, inl, inr, Sends, Slots, DoesOrLacks, Outside}
+use Rattle.mm_app.proofs.Below.{stop_line, Status, Memory}
 use Rattle.mm_base.specs.declared.fault.WriteFault as write
 use Rattle.mm_slots.specs.Answers.{answers_text, end_lines}
 use Rattle.mm_slots.specs.Headline.{AnswersAll, AnswersLines, IsTooMuch}
 use Rattle.mm_slots.specs.Table.{after_events, answers, first_rows}
-use Rattle.mm_words.specs.declared.command.Command.TheVariants.{Slots}
-use Rattle.mm_app.specs.Commands.{DoesOrLacks}
-use Rattle.mm_app.specs.Outside.{Outside}
 use Rattle.mm_app.specs.Slots.{InterleavesRuns}
-use Rattle.mm_app.specs.Status.{stop_line}
-use Rattle.mm_app.specs.declared.status.Status.{Status}
-use Rattle.mm_app.specs.declared.status.Status.TheVariants.{Memory}
 use Rattle.mm_app.proofs.Played.{IsParted, answers_input, ended_input, lacks_input}
 
 -- the last lines stand behind the answers
@@ -47,8 +41,5 @@ lacks_interleaved left received received' result status is sends =
 pub interleaved_by : (old new : Outside) (status : Status) → DoesOrLacks Slots old new status
     → InterleavesRuns old.left new.left old.received new.received status
 interleaved_by old new status (inl does) =
-    let plays = does.played.plays in
-    answers_input AnswersLines AnswersAll IsTooMuch slots_parted old.left new.left old.received does.middle new.received
-    plays.taken plays.sent does.played.answer does.stops.result status plays.consumed plays.appended plays.told does.played.ends
-    does.stops.sends
+    answers_input AnswersLines AnswersAll IsTooMuch slots_parted does.played.plays does.played.ends does.stops.sends
 interleaved_by old new status (inr lacks) = ended_input AnswersLines AnswersAll (inl (inl refl, refl)) old new status lacks

@@ -1,13 +1,14 @@
-pub mod Blame
-pub mod OutputBlame
-pub mod Completing
-pub mod Ended
-pub mod Ending
-pub mod Fronts
-pub mod Interleaving
-pub mod Moving
-pub mod OneRun
-pub mod Played
-pub mod Sending
-pub mod Stopping
+mod Below
+mod Blame
+mod OutputBlame
+mod Completing
+mod Ended
+mod Ending
+mod Fronts
+mod Interleaving
+mod Moving
+mod OneRun
+mod Played
+mod Sending
+mod Stopping
 mod RunningOnce

@@ -1,19 +1,13 @@
 -- The theorem of a transfer, drawn from what was played and its stop line.
-use Rattle.std.proofs.Common.{◌≡◌, ℕ, List, Option, Result, refl, sym, append-nil, inl, inr}
-use Rattle.mm_base.specs.Streams.{Sends}
+use Rattle.mm_app.proofs.Below.{◌≡◌, ℕ, List, Option, Result, refl, sym, append-nil, inl, inr, Sends, Transfer, DoesOrLacks, Outside}
+use Rattle.mm_app.proofs.Below.{stop_line, Status, Memory}
 use Rattle.mm_base.specs.declared.fault.WriteFault as write
 use Rattle.mm_sides.specs.Folds.{both_by_digests}
 use Rattle.mm_transfer.specs.Answers.{answers_text}
 use Rattle.mm_transfer.specs.Headline.{AnswersAll, AnswersLines, IsTooMuch}
 use Rattle.mm_transfer.specs.Pairs.{pair_of}
 use Rattle.mm_transfer.specs.Stage.{both_end_line}
-use Rattle.mm_words.specs.declared.command.Command.TheVariants.{Transfer}
-use Rattle.mm_app.specs.Commands.{DoesOrLacks}
-use Rattle.mm_app.specs.Outside.{Outside}
-use Rattle.mm_app.specs.Status.{stop_line}
 use Rattle.mm_app.specs.Transfer.{MovesOneRun}
-use Rattle.mm_app.specs.declared.status.Status.{Status}
-use Rattle.mm_app.specs.declared.status.Status.TheVariants.{Memory}
 use Rattle.mm_app.proofs.Played.{IsParted, answers_input, ended_input, lacks_input}
 
 -- the last line stands behind the answers
@@ -46,8 +40,5 @@ lacks_moving left received received' result status is sends =
 pub moved_by : (old new : Outside) (status : Status) → DoesOrLacks Transfer old new status
     → MovesOneRun old.left new.left old.received new.received status
 moved_by old new status (inl does) =
-    let plays = does.played.plays in
-    answers_input AnswersLines AnswersAll IsTooMuch transfer_parted old.left new.left old.received does.middle new.received
-    plays.taken plays.sent does.played.answer does.stops.result status plays.consumed plays.appended plays.told does.played.ends
-    does.stops.sends
+    answers_input AnswersLines AnswersAll IsTooMuch transfer_parted does.played.plays does.played.ends does.stops.sends
 moved_by old new status (inr lacks) = ended_input AnswersLines AnswersAll (inl (refl, refl)) old new status lacks

@@ -1,37 +1,23 @@
 -- The headline drawn from a replay and its stop line.
-use Rattle.std.proofs.Common.{◌≡◌, ◌∙◌, ℕ, suc, List, [], ◌∷◌, ◌++◌, length, map, take, Option, Some, Result, Ok, Err, refl, sym, ap, subst, append-nil, inl, inr, ◌⊎◌}
-use Rattle.std.proofs.KnownBytes.{Appends-trans, Consumes-nil}
+use Rattle.mm_app.proofs.Below.{◌≡◌, ◌∙◌, ℕ, suc, List, [], ◌∷◌, ◌++◌, length, map, take, Option, Some, Result, Ok, Err, refl, sym, ap}
+use Rattle.mm_app.proofs.Below.{subst, append-nil, inl, inr, ◌⊎◌, Appends-trans, Consumes-nil, lines_of, Sends, ReplayFault, Instance}
+use Rattle.mm_app.proofs.Below.{IsFrontOf, AnswersFirst, TellsBy, anywhere, before_line, Report, AnswersAll, AnswersEvents, AnswersLines}
+use Rattle.mm_app.proofs.Below.{IsTooMuch, unended, Replays, header_at, Header, Replay, DoesOrLacks, Outside, status_of, stop_line, Status}
+use Rattle.mm_app.proofs.Below.{Done, WriteFault, Memory, TooMuch}
 use Rattle.std.proofs.Math.Seq.{take-append_seam}
-use Rattle.mm_base.specs.Input.{lines_of}
-use Rattle.mm_base.specs.Streams.{Sends}
 use Rattle.mm_base.specs.declared.fault.WriteFault as write
-use Rattle.mm_base.specs.declared.replay_fault.ReplayFault.{ReplayFault}
 use Rattle.mm_base.specs.declared.replay_fault.ReplayFault.TheVariants as fault
 use Rattle.mm_call.specs.Levels.{Level, by_digests}
-use Rattle.mm_model.specs.Instance.{Instance}
 use Rattle.mm_model.specs.Moves.{Digests}
-use Rattle.mm_play.specs.Takes.{IsFrontOf}
-use Rattle.mm_play.specs.Tells.{AnswersFirst, anywhere, before_line}
-use Rattle.mm_replay.specs.declared.report.Report.{Report}
-use Rattle.mm_replay.specs.Headline.{AnswersAll, AnswersEvents, AnswersLines, IsTooMuch, IsOut, unended}
-use Rattle.mm_replay.specs.Replays.{Replays}
 use Rattle.mm_replay.specs.Text.{texts_of}
 use Rattle.mm_run.specs.Folds.{Followed, event_outcome, followed, replies_by_digests}
 use Rattle.mm_run.specs.Held.{world_of}
 use Rattle.mm_run.specs.OneRun.{IsOneRun}
 use Rattle.mm_schedule.specs.Events.{Event}
 use Rattle.mm_schedule.specs.Grammar.{event_at}
-use Rattle.mm_schedule.specs.Headers.{header_at}
 use Rattle.mm_schedule.specs.Replies.{end_line}
-use Rattle.mm_schedule.specs.declared.header.Header.{Header}
 use Rattle.mm_schedule.specs.declared.reply.Reply.{Reply}
-use Rattle.mm_words.specs.declared.command.Command.TheVariants.{Replay}
-use Rattle.mm_app.specs.Commands.{DoesOrLacks}
 use Rattle.mm_app.specs.Headline.{AreLeft, IsOver, IsSent, IsUnbegun, ReplaysOneRun, TellsOneRun}
-use Rattle.mm_app.specs.Outside.{Outside}
-use Rattle.mm_app.specs.Status.{status_of, stop_line}
-use Rattle.mm_app.specs.declared.status.Status.{Status}
-use Rattle.mm_app.specs.declared.status.Status.TheVariants.{Done, WriteFault, Memory, TooMuch}
 use Rattle.mm_app.proofs.Ended.{ended_so}
 use Rattle.mm_app.proofs.Fronts.{for_taken, front_lines, undone, unsent_after}
 
@@ -60,92 +46,83 @@ abbrev closing_after : Header → List Event → List ℕ
 closing_after header events =
     end_line (replies_by_digests (world_of header) events).state.count (length (replies_by_digests (world_of header) events).issued)
 
--- What was answered, in front of what else is in the input.
-continues : (lines rest all : List (List ℕ)) (written sent : List ℕ) (ends : ℕ → ℕ → List ℕ) (status : Status)
-    → all ≡ lines ++ rest → (answers : AnswersEvents header_at lines written ends)
-    → AreLeft status (length lines) rest (IsOver answers.others (issued_after answers.header answers.events))
-    → IsSent status rest (text_after answers.header answers.events) (closing_after answers.header answers.events) sent
-    → TellsOneRun all sent status
-continues lines rest all written sent ends status is answers left went =
-    let i = world_of answers.header in
-    let run = replies_by_digests i answers.events in
-    record {
-      header = answers.header;
-      events = answers.events;
-      replies = run.replies;
-      committed = λ events. (replies_by_digests i events).state.count;
-      issued = λ events. (replies_by_digests i events).issued;
-      begins = record {
-        first = answers.first;
-        others = answers.others;
-        rest = rest;
-        split = is ∙ ap (λ (ls : List (List ℕ)). ls ++ rest) answers.split;
-        headed = answers.headed;
-        read = answers.read;
-      };
-      each = one_each i (by_digests i) answers.events _ _;
-      left = subst
-          (λ (ls : List (List ℕ)). AreLeft status (length ls) rest (IsOver answers.others (issued_after answers.header answers.events)))
-          answers.split left;
-      within = answers.within;
-      went = went;
-      one_run = λ front later so clear genuine.
-          let it : Followed Digests = replies_by_digests i front in
-          let own = answers.headline front later so in
-          subst (λ (rs : List Reply). IsOneRun i front rs it.state.count it.issued)
-          (first_replies front run.replies it.replies _ (ap (λ (f : Followed Digests). f.replies) own.0)
-          (one_each i (by_digests i) front _ _))
-          (own.1 clear genuine).run;
-    }
-
 -- what a replay that took these lines tells
 abbrev WhatIsOut : List (List ℕ) → List ℕ → Status → Type 0
 WhatIsOut lines sent status = IsUnbegun lines sent status ⊎ TellsOneRun lines sent status
 
--- no line was answered: all are left
-none_left : (lines rest all : List (List ℕ)) (status : Status) → lines ≡ [] → all ≡ lines ++ rest
-    → AreLeft status (length lines) rest (λ line. ⊥) → AreLeft status 0 all (λ line. ⊥)
-none_left lines rest all status none is left =
-    subst (λ (ls : List (List ℕ)). AreLeft status 0 ls (λ line. ⊥)) (sym (is ∙ ap (λ (ls : List (List ℕ)). ls ++ rest) none))
-    (subst (λ (n : ℕ). AreLeft status n rest (λ line. ⊥)) (ap length none) left)
+module _ (lines : List (List ℕ)) where
+  -- What was answered, in front of what else is in the input.
+  continues : (rest all : List (List ℕ)) (written sent : List ℕ) (ends : ℕ → ℕ → List ℕ) (status : Status) → all ≡ lines ++ rest
+      → (answers : AnswersEvents header_at lines written ends)
+      → AreLeft status (length lines) rest (IsOver answers.others (issued_after answers.header answers.events))
+      → IsSent status rest (text_after answers.header answers.events) (closing_after answers.header answers.events) sent
+      → TellsOneRun all sent status
+  continues rest all written sent ends status is answers left went =
+      let i = world_of answers.header in let run = replies_by_digests i answers.events in
+      record {
+        header = answers.header;
+        events = answers.events;
+        replies = run.replies;
+        committed = λ events. (replies_by_digests i events).state.count;
+        issued = λ events. (replies_by_digests i events).issued;
+        begins = record {
+          first = answers.first;
+          others = answers.others;
+          rest = rest;
+          split = is ∙ ap (λ (ls : List (List ℕ)). ls ++ rest) answers.split;
+          headed = answers.headed;
+          read = answers.read;
+        };
+        each = one_each i (by_digests i) answers.events _ _;
+        left = subst (λ (ls : List (List ℕ)). AreLeft status (length ls) rest (IsOver answers.others (issued_after answers.header
+            answers.events))) answers.split left;
+        within = answers.within;
+        went = went;
+        one_run = λ front later so clear genuine.
+            let it : Followed Digests = replies_by_digests i front in let own = answers.headline front later so in
+            subst (λ (rs : List Reply). IsOneRun i front rs it.state.count it.issued) (first_replies front run.replies it.replies _
+            (ap (λ (f : Followed Digests). f.replies) own.0) (one_each i (by_digests i) front _ _)) (own.1 clear genuine).run;
+      }
 
--- some lines were answered, and the stop line, or a front of it, went out
-stopped_behind : (lines rest all : List (List ℕ)) (written stop : List ℕ) (status : Status)
-    → all ≡ lines ++ rest → AnswersLines header_at lines written → (status ≡ Done → ⊥)
-    → ((over : List ℕ → Type 0) → AreLeft status (length lines) rest over)
-    → ((left : List (List ℕ)) (text closing : List ℕ) → IsSent status left text closing (text ++ stop))
-    → WhatIsOut all (written ++ stop) status
-stopped_behind lines rest all written stop status is (inl none) unfinished left went = inl (record {
-  undone = unfinished;
-  left = none_left lines rest all status none.0 is (left (λ line. ⊥));
-  went = subst (λ (w : List ℕ). IsSent status all [] [] (w ++ stop)) (sym none.1) (went all [] []);
-})
-stopped_behind lines rest all written stop status is (inr answers) unfinished left went =
-    inr (continues lines rest all written (written ++ stop) unended status is answers (left _)
-    (subst (λ (w : List ℕ). IsSent status rest (text_after answers.header answers.events)
-    (closing_after answers.header answers.events) (w ++ stop))
-    (sym (answers.told ∙ append-nil (text_after answers.header answers.events))) (went rest _ _)))
+  -- no line was answered: all are left
+  none_left : (rest all : List (List ℕ)) (status : Status) → lines ≡ [] → all ≡ lines ++ rest
+      → AreLeft status (length lines) rest (λ line. ⊥) → AreLeft status 0 all (λ line. ⊥)
+  none_left rest all status none is left =
+      subst (λ (ls : List (List ℕ)). AreLeft status 0 ls (λ line. ⊥)) (sym (is ∙ ap (λ (ls : List (List ℕ)). ls ++ rest) none))
+      (subst (λ (n : ℕ). AreLeft status n rest (λ line. ⊥)) (ap length none) left)
 
--- a front of what was answered went out, and no stop line
-cut_short : (lines rest all : List (List ℕ)) (written sent : List ℕ) → all ≡ lines ++ rest → IsFrontOf sent written
-    → AnswersLines header_at lines written
-    → WhatIsOut all sent WriteFault
-cut_short lines rest all written sent is front (inl none) =
-    inl (record { undone = λ h. undone h; left = tt; went = inl (front.0, front.1 ∙ none.1) })
-cut_short lines rest all written sent is front (inr answers) =
-    inr (continues lines rest all written sent unended WriteFault is answers tt
-    (inl (front.0, front.1 ∙ answers.told ∙ append-nil (text_after answers.header answers.events))))
+  -- some lines were answered, and the stop line, or a front of it, went out
+  stopped_behind : (rest all : List (List ℕ)) (written stop : List ℕ) (status : Status) → all ≡ lines ++ rest
+      → AnswersLines header_at lines written → (status ≡ Done → ⊥) → ((over : List ℕ → Type 0) → AreLeft status (length lines) rest over)
+      → ((left : List (List ℕ)) (text closing : List ℕ) → IsSent status left text closing (text ++ stop))
+      → WhatIsOut all (written ++ stop) status
+  stopped_behind rest all written stop status is (inl none) unfinished left went = inl (record {
+    undone = unfinished;
+    left = none_left rest all status none.0 is (left (λ line. ⊥));
+    went = subst (λ (w : List ℕ). IsSent status all [] [] (w ++ stop)) (sym none.1) (went all [] []);
+  })
+  stopped_behind rest all written stop status is (inr answers) unfinished left went =
+      inr (continues rest all written (written ++ stop) unended status is answers (left _)
+      (subst (λ (w : List ℕ). IsSent status rest (text_after answers.header answers.events) (closing_after answers.header answers.events)
+      (w ++ stop)) (sym (answers.told ∙ append-nil (text_after answers.header answers.events))) (went rest _ _)))
 
-cut_short_all : (lines : List (List ℕ)) (written sent : List ℕ) → IsFrontOf sent written → AnswersAll header_at lines written
-    → WhatIsOut lines sent WriteFault
-cut_short_all lines written sent front answers =
-    inr (continues lines [] lines written sent end_line WriteFault (sym (append-nil lines)) answers tt
-    (inr (refl, (front.0, front.1 ∙ answers.told))))
+  -- a front of what was answered went out, and no stop line
+  cut_short : (rest all : List (List ℕ)) (written sent : List ℕ) → all ≡ lines ++ rest → IsFrontOf sent written
+      → AnswersLines header_at lines written → WhatIsOut all sent WriteFault
+  cut_short rest all written sent is front (inl none) =
+      inl (record { undone = λ h. undone h; left = tt; went = inl (front.0, front.1 ∙ none.1) })
+  cut_short rest all written sent is front (inr answers) =
+      inr (continues rest all written sent unended WriteFault is answers tt
+      (inl (front.0, front.1 ∙ answers.told ∙ append-nil (text_after answers.header answers.events))))
 
--- all lines were answered
-finished : (lines : List (List ℕ)) (sent : List ℕ) → AnswersAll header_at lines sent → WhatIsOut lines sent Done
-finished lines sent answers =
-    inr (continues lines [] lines sent sent end_line Done (sym (append-nil lines)) answers refl answers.told)
+  cut_short_all : (written sent : List ℕ) → IsFrontOf sent written → AnswersAll header_at lines written → WhatIsOut lines sent WriteFault
+  cut_short_all written sent front answers =
+      inr (continues [] lines written sent end_line WriteFault (sym (append-nil lines)) answers tt
+      (inr (refl, (front.0, front.1 ∙ answers.told))))
+
+  -- all lines were answered
+  finished : (sent : List ℕ) → AnswersAll header_at lines sent → WhatIsOut lines sent Done
+  finished sent answers = inr (continues [] lines sent sent end_line Done (sym (append-nil lines)) answers refl answers.told)
 
 same_first : (a b : List ℕ) (us vs : List (List ℕ)) → a ∷ us ≡ b ∷ vs → a ≡ b
 same_first a b us vs h = cc
@@ -164,12 +141,11 @@ event_tail a b us vs h = cc
 
 same_events : (es fs : List Event) → map Some es ≡ map Some fs → es ≡ fs
 same_events [] [] h = refl
-same_events [] (f ∷ fs) h = cc
-same_events (e ∷ es) [] h = cc
 same_events (e ∷ es) (f ∷ fs) h =
     let head = event_head e f (map Some es) (map Some fs) h in
     let tail = same_events es fs (event_tail e f (map Some es) (map Some fs) h) in
     λ j. head j ∷ tail j
+same_events _ _ h = cc
 
 none_headed : (first : List ℕ) (others done : List (List ℕ)) → done ≡ first ∷ others → done ≡ [] → ⊥
 none_headed first others done is none = cc
@@ -189,9 +165,8 @@ over_behind done rest written answers much =
     (subst (λ (h : Header). IsOver much.others (issued_after h much.events) much.line) header much.over))
 
 -- too much: the lines before the first that is one too many were answered
-at_much : (taken sent stop : List ℕ) → IsFrontOf stop (stop_line TooMuch)
-    → AnswersFirst (AnswersLines header_at) (IsTooMuch header_at) (lines_of taken) sent
-    → WhatIsOut (lines_of taken) (sent ++ stop) TooMuch
+at_much : (taken sent stop : List ℕ) → IsFrontOf stop (stop_line TooMuch) → AnswersFirst (AnswersLines header_at) (IsTooMuch header_at)
+    (lines_of taken) sent → WhatIsOut (lines_of taken) (sent ++ stop) TooMuch
 at_much taken sent stop parts first = elim first.answered [
   | inl none ↦ absurd (none_headed first.stopped.first first.stopped.others first.done first.stopped.split none.0)
   | inr answers ↦ inr (continues first.done first.rest (lines_of taken) sent (sent ++ stop) unended TooMuch first.split answers
@@ -215,7 +190,8 @@ at_write taken sent (written, front, inl first) =
 at_write taken sent (written, front, inr all) = cut_short_all (lines_of taken) written sent front all
 
 at_end : (left : Option (List ℕ)) (taken sent stop unsent : List ℕ) (answer : Result Report ReplayFault)
-    → IsOut header_at left taken sent answer → stop_line (status_of answer) ≡ stop ++ unsent
+    → TellsBy (AnswersLines header_at) (AnswersAll header_at) (IsTooMuch header_at) left taken sent answer
+    → stop_line (status_of answer) ≡ stop ++ unsent
     → WhatIsOut (lines_of taken) (sent ++ stop) (status_of answer)
 at_end left taken sent stop unsent (Ok report) tells parts =
     subst (λ s. WhatIsOut (lines_of taken) s Done) (sym (unsent_after sent stop unsent parts)) (finished (lines_of taken) sent tells)
@@ -226,8 +202,7 @@ at_end left taken sent stop unsent (Err fault.ReadFault) tells parts =
     stopped_behind (lines_of taken) [] (lines_of taken) sent stop _ (sym (append-nil (lines_of taken))) tells.1 (λ h. cc) (λ over. refl)
     (λ ls text closing. (stop, (unsent, sym parts), refl))
 at_end left taken sent stop unsent (Err fault.Memory) tells parts =
-    let front = tells.1 in
-    let more = front_lines tells.0 front.0 in
+    let front = tells.1 in let more = front_lines tells.0 front.0 in
     stopped_behind (lines_of tells.0) more.0 (lines_of taken) sent stop _ (ap lines_of (sym front.1) ∙ more.1) tells.2 (λ h. cc)
     (λ over. tt) (λ ls text closing. (stop, (unsent, sym parts), refl))
 at_end left taken sent stop unsent (Err (fault.BadLine line)) tells parts =
@@ -246,15 +221,17 @@ pub is_one_run : (left left' received middle received' : Option (List ℕ)) (ans
     (result : Result (Unit {0}) write.WriteFault) (status : Status)
     → Replays left left' received middle answer → status ≡ status_of answer → Sends middle received' (stop_line status) result
     → ReplaysOneRun left left' received received' status
-is_one_run left left' received middle received' answer result status replays ends sends = record {
-  taken = replays.taken;
-  sent = replays.sent ++ sends.sent;
-  consumed = replays.consumed;
-  appended = Appends-trans received middle received' replays.sent sends.sent replays.appended sends.appended;
-  ended = λ done. ended_so replays.next left' replays.taken replays.sent answer replays.settled replays.told (sym ends ∙ done);
-  continues = subst (λ s. WhatIsOut (lines_of replays.taken) (replays.sent ++ sends.sent) s) (sym ends)
-      (at_end left' replays.taken replays.sent sends.sent sends.unsent answer replays.told (ap stop_line (sym ends) ∙ sends.parts));
-}
+is_one_run left left' received middle received' answer result status replays ends sends =
+    let p = replays.plays in
+    record {
+      taken = p.taken;
+      sent = p.sent ++ sends.sent;
+      consumed = p.consumed;
+      appended = Appends-trans received middle received' p.sent sends.sent p.appended sends.appended;
+      ended = λ done. ended_so replays.next left' p.taken p.sent answer p.settled replays.told (sym ends ∙ done);
+      continues = subst (λ s. WhatIsOut (lines_of p.taken) (p.sent ++ sends.sent) s) (sym ends)
+          (at_end left' p.taken p.sent sends.sent sends.unsent answer replays.told (ap stop_line (sym ends) ∙ sends.parts));
+    }
 
 -- memory was wanting before anything was read
 lacks_at : (left received received' : Option (List ℕ)) (result : Result (Unit {0}) write.WriteFault)
@@ -266,10 +243,9 @@ lacks_at left received received' result sends = record {
   appended = sends.appended;
   ended = λ done. absurd (unfinished done);
   continues = inl (record { undone = λ h. unfinished h; left = tt; went = (sends.sent, (sends.unsent, sym sends.parts), refl) });
-}
-  where
-    unfinished : Memory ≡ Done → ⊥
-    unfinished h = cc
+} where
+  unfinished : Memory ≡ Done → ⊥
+  unfinished h = cc
 
 pub lacks_one_run : (left received received' : Option (List ℕ)) (result : Result (Unit {0}) write.WriteFault) (status : Status)
     → status ≡ Memory → Sends received received' (stop_line Memory) result → ReplaysOneRun left left received received' status

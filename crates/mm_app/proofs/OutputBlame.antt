@@ -1,39 +1,20 @@
 -- What the status of each command tells of the output.
-use Rattle.std.proofs.Common.{◌≡◌, ◌∙◌, ℕ, List, Option, None, Some, Result, Ok, Err, refl, sym, ap, subst, inl, inr, ◌⊎◌}
-use Rattle.mm_base.specs.Faults.{counted, CountsFaults, Rose}
+use Rattle.mm_app.proofs.Below.{◌≡◌, ◌∙◌, ℕ, List, Option, None, Some, Result, Ok, Err, refl, sym, ap, subst, inl, inr, ◌⊎◌, counted}
+use Rattle.mm_app.proofs.Below.{CountsFaults, Rose, ReplayFault, BulkFault, Summary, SessionFault, Checkpointed, CheckpointRefusal}
+use Rattle.mm_app.proofs.Below.{StepFault, Standing, Header, Command, Init, Run, Checkpoint, Power, Replay, Check, Gen, Bulk, Slots}
+use Rattle.mm_app.proofs.Below.{Receipts, Transfer, Help, BlamesOutput, bulk_told, checkpoint_told, Does, DoesOrLacks, StoreStanding}
+use Rattle.mm_app.proofs.Below.{Outside, power_told, ServesIfFound, FindsInstance, session_status, init_told, status_of, EndsAtOnce}
+use Rattle.mm_app.proofs.Below.{GivesText, TellsStop, StopsAs, Tells, status_by, Status, Usage, Memory, WriteFault}
 use Rattle.mm_base.specs.declared.fault.WriteFault as write
-use Rattle.mm_base.specs.declared.replay_fault.ReplayFault.{ReplayFault}
 use Rattle.mm_base.specs.declared.replay_fault.ReplayFault.TheVariants as fault
-use Rattle.mm_bulk.specs.declared.fault.BulkFault.{BulkFault}
-use Rattle.mm_bulk.specs.declared.fault.BulkFault.TheVariants as much
-use Rattle.mm_bulk.specs.declared.summary.Summary.{Summary}
-use Rattle.mm_host.specs.SessionBlame as session_blame
-use Rattle.mm_host.specs.declared.fault.SessionFault.{SessionFault}
-use Rattle.mm_host.specs.declared.fault.SessionFault.TheVariants as session
-use Rattle.mm_opt.specs.declared.segment.Checkpointed.{Checkpointed}
+use Rattle.mm_gen.specs.declared.fault.BulkFault.TheVariants as much
+use Rattle.mm_host.specs.declared.fault.HostFault.TheVariants as host
+use Rattle.mm_session.specs.SessionBlame as session_blame
+use Rattle.mm_session.specs.declared.fault.SessionFault.TheVariants as session
 use Rattle.mm_opt.specs.declared.segment.Checkpointed.TheVariants as said
-use Rattle.mm_opt.specs.declared.segment.CheckpointRefusal.{CheckpointRefusal}
 use Rattle.mm_opt.specs.declared.segment.CheckpointRefusal.TheVariants as refusal
-use Rattle.mm_platform.specs.declared.fault.StepFault.{StepFault}
-use Rattle.mm_platform.specs.Standing.{Standing}
 use Rattle.mm_play.specs.Plays as plays
-use Rattle.mm_schedule.specs.declared.header.Header.{Header}
-use Rattle.mm_words.specs.declared.command.Command.{Command}
-use Rattle.mm_words.specs.declared.command.Command.TheVariants.{Init, Run, Checkpoint, Power, Replay, Check, Gen, Bulk, Slots, Receipts, Transfer, Help}
-use Rattle.mm_app.specs.Blame.{BlamesOutput}
-use Rattle.mm_app.specs.Bulk.{bulk_told}
-use Rattle.mm_app.specs.Checkpoint.{checkpoint_told}
-use Rattle.mm_app.specs.Commands.{Does, DoesOrLacks}
-use Rattle.mm_store.specs.Kept.{StoreStanding}
-use Rattle.mm_app.specs.Outside.{Outside}
-use Rattle.mm_app.specs.Power.{power_told}
-use Rattle.mm_app.specs.Running.{ServesIfFound, FindsInstance, session_status}
-use Rattle.mm_app.specs.Starting.{init_told}
-use Rattle.mm_app.specs.Status.{status_of}
-use Rattle.mm_app.specs.Telling.{EndsAtOnce, GivesText, TellsStop, StopsAs, Tells, status_by}
-use Rattle.mm_app.specs.declared.status.Status.{Status}
-use Rattle.mm_app.specs.declared.status.Status.TheVariants.{Usage, Memory, WriteFault}
-use Rattle.mm_app.proofs.Blame.{end_of, start_blames, refused_as, unheld_as, unheld_end, platform_end}
+use Rattle.mm_app.proofs.Blame.{end_of, start_blames, refused_as, unheld_as, platform_end}
 
 -- the output
 
@@ -44,8 +25,7 @@ told_once (Ok done) writes count writes' same c = inl (c.kept ∙ same)
 told_once (Err fault) writes count writes' same c = inr (c.failed ∙ ap counted same)
 
 output_by : (r : Result (Unit {0}) write.WriteFault) (status : Status) (writes writes' : ℕ) → CountsFaults writes writes' r
-    → status ≡ status_by r
-    → BlamesOutput status writes writes'
+    → status ≡ status_by r → BlamesOutput status writes writes'
 output_by (Ok done) status writes writes' c e = record { failed = λ h. absurd (cc); done = λ h. c.kept; once = inl c.kept }
 output_by (Err fault) status writes writes' c e = record { failed = λ h. c.failed; done = λ h. absurd (cc); once = inr c.failed }
 
@@ -58,10 +38,8 @@ output_stopped end status received received' writes writes' other s = record {
 }
 
 output_played : {T : Type 0} (answer : Result T ReplayFault) (status : Status) (middle received' : Option (List ℕ))
-    (writes count writes' : ℕ)
-    → plays.IsBlamed (plays.is_write_fault answer) writes count → status ≡ status_of answer
-    → TellsStop middle received' count writes' status
-    → BlamesOutput status writes writes'
+    (writes count writes' : ℕ) → plays.IsBlamed (plays.is_write_fault answer) writes count → status ≡ status_of answer
+    → TellsStop middle received' count writes' status → BlamesOutput status writes writes'
 output_played (Ok it) status middle received' writes count writes' b e s = record {
   failed = λ h. absurd (cc);
   done = λ h. s.done h ∙ b;
@@ -72,15 +50,7 @@ output_played (Err fault.WriteFault) status middle received' writes count writes
   done = λ h. absurd (cc);
   once = inr (s.failed e ∙ b);
 }
-output_played (Err fault.Memory) status middle received' writes count writes' b e s =
-    record { failed = λ h. absurd (cc); done = λ h. absurd (cc); once = told_once s.result writes count writes' b s.counts }
-output_played (Err fault.ReadFault) status middle received' writes count writes' b e s =
-    record { failed = λ h. absurd (cc); done = λ h. absurd (cc); once = told_once s.result writes count writes' b s.counts }
-output_played (Err (fault.BadLine line)) status middle received' writes count writes' b e s =
-    record { failed = λ h. absurd (cc); done = λ h. absurd (cc); once = told_once s.result writes count writes' b s.counts }
-output_played (Err (fault.LineLong line)) status middle received' writes count writes' b e s =
-    record { failed = λ h. absurd (cc); done = λ h. absurd (cc); once = told_once s.result writes count writes' b s.counts }
-output_played (Err fault.TooMuch) status middle received' writes count writes' b e s =
+output_played _ status middle received' writes count writes' b e s =
     record { failed = λ h. absurd (cc); done = λ h. absurd (cc); once = told_once s.result writes count writes' b s.counts }
 
 output_told : (told : Result (List ℕ) Status) (received received' : Option (List ℕ)) (writes writes' : ℕ) (status : Status)
@@ -90,43 +60,30 @@ output_told (Err end) received received' writes writes' status other t = output_
 
 output_served : (answer : Result (Unit {0}) SessionFault) (status : Status) (middle received' : Option (List ℕ)) (writes count writes' : ℕ)
     → plays.IsBlamed (session_blame.is_write_fault answer) writes count → status ≡ session_status answer
-    → TellsStop middle received' count writes' status
-    → BlamesOutput status writes writes'
+    → TellsStop middle received' count writes' status → BlamesOutput status writes writes'
 output_served (Ok it) status middle received' writes count writes' b e s =
     record { failed = λ h. absurd (cc); done = λ h. s.done h ∙ b; once = told_once s.result writes count writes' b s.counts }
-output_served (Err session.WriteFault) status middle received' writes count writes' b e s = record {
-  failed = λ h. subst (λ (n : ℕ). Rose writes n) (sym (s.failed h)) b;
-  done = λ h. absurd (cc);
-  once = inr (s.failed e ∙ b);
-}
-output_served (Err (session.Refused why)) status middle received' writes count writes' b e s =
+output_served (Err (session.Host (host.Refused why))) status middle received' writes count writes' b e s =
     let as_told = refused_as why in
     record {
       failed = λ h. absurd (as_told.other (sym e ∙ h));
       done = λ h. absurd (as_told.undone (sym e ∙ h));
       once = told_once s.result writes count writes' b s.counts;
     }
-output_served (Err session.Memory) status middle received' writes count writes' b e s =
+output_served (Err (session.Host host.Memory)) status middle received' writes count writes' b e s =
     record { failed = λ h. absurd (cc); done = λ h. absurd (cc); once = told_once s.result writes count writes' b s.counts }
-output_served (Err session.Store) status middle received' writes count writes' b e s =
+output_served (Err (session.Host host.Store)) status middle received' writes count writes' b e s =
     record { failed = λ h. absurd (cc); done = λ h. absurd (cc); once = told_once s.result writes count writes' b s.counts }
-output_served (Err session.ReadFault) status middle received' writes count writes' b e s =
-    record { failed = λ h. absurd (cc); done = λ h. absurd (cc); once = told_once s.result writes count writes' b s.counts }
-output_served (Err (session.LineLong line)) status middle received' writes count writes' b e s =
-    record { failed = λ h. absurd (cc); done = λ h. absurd (cc); once = told_once s.result writes count writes' b s.counts }
-output_served (Err (session.BadLine line)) status middle received' writes count writes' b e s =
-    record { failed = λ h. absurd (cc); done = λ h. absurd (cc); once = told_once s.result writes count writes' b s.counts }
-output_served (Err session.TooMuch) status middle received' writes count writes' b e s =
-    record { failed = λ h. absurd (cc); done = λ h. absurd (cc); once = told_once s.result writes count writes' b s.counts }
+output_served (Err (session.Lines fault)) status middle received' writes count writes' b e s =
+    output_played {T = Unit {0}} (Err fault) status middle received' writes count writes' b e s
 
 -- what no session is served over is no fault of the output
 unserved : (fault : Option StepFault) (before : Standing) (end : Status) → FindsInstance fault before (Err end) → end ≡ WriteFault → ⊥
-unserved None before end f = (unheld_as end (unheld_end f.2.read end f.2.found_is)).other
+unserved None before end f = (unheld_as f.2.read end f.2.found_is).other
 unserved (Some fault) before end f = let is = platform_end end f in λ h. cc
 
 output_run : (fault : Option StepFault) (found : Result Header Status) (before middle after : Standing) (old new : StoreStanding)
-    (left left' received received' : Option (List ℕ)) (reads reads' writes writes' : ℕ) (status : Status)
-    → FindsInstance fault before found
+    (left left' received received' : Option (List ℕ)) (reads reads' writes writes' : ℕ) (status : Status) → FindsInstance fault before found
     → ServesIfFound found middle after old new left left' received received' reads reads' writes writes' status
     → BlamesOutput status writes writes'
 output_run fault (Ok header) before middle after old new left left' received received' reads reads' writes writes' status f a =
@@ -135,9 +92,8 @@ output_run fault (Err end) before middle after old new left left' received recei
     output_stopped end status received received' writes writes' (unserved fault before end f) a.stops
 
 bulk_no_write : (count : ℕ) (answer : Result Summary BulkFault) → end_of (bulk_told count answer) ≡ WriteFault → ⊥
-bulk_no_write count (Ok summary) h = cc
 bulk_no_write count (Err much.Memory) h = cc
-bulk_no_write count (Err much.TooMuch) h = cc
+bulk_no_write count _ h = cc
 
 power_no_write : (fault : Option StepFault) → end_of (power_told fault) ≡ WriteFault → ⊥
 power_no_write None h = cc
@@ -145,12 +101,8 @@ power_no_write (Some fault) h = cc
 
 checkpoint_no_write : (answer : Result Checkpointed CheckpointRefusal) → end_of (checkpoint_told answer) ≡ WriteFault → ⊥
 checkpoint_no_write (Ok said.Done) h = cc
-checkpoint_no_write (Ok said.NoSegment) h = cc
-checkpoint_no_write (Err (refusal.Device fault)) h = cc
 checkpoint_no_write (Err refusal.Blank) h = cc
-checkpoint_no_write (Err refusal.Cell) h = cc
-checkpoint_no_write (Err refusal.Kind) h = cc
-checkpoint_no_write (Err refusal.Lost) h = cc
+checkpoint_no_write _ h = cc
 
 -- the output, for each command
 
@@ -175,21 +127,13 @@ output_done (Init header) old new status d =
 output_done Run old new status d =
     output_run d.looks.fault d.found old.standing d.middle new.standing old.kept new.kept old.left new.left
     old.received new.received old.reads new.reads old.writes new.writes status d.looks.finds d.goes
-output_done Check old new status d =
-    output_played d.played.answer status d.middle new.received _ _ _ d.played.wrote d.played.ends d.stops
 output_done (Gen it) old new status d = output_given old new _ status d
 output_done Help old new status d = output_given old new _ status d
 output_done (Bulk it) old new status d =
     output_told (bulk_told it.count d.1.answer) _ _ _ _ status (bulk_no_write it.count d.1.answer) d.1.tells
-output_done Replay old new status d =
-    output_played d.played.answer status d.middle new.received _ _ _ d.played.wrote d.played.ends d.stops
-output_done Slots old new status d = output_played d.played.answer status d.middle new.received _ _ _ d.played.wrote d.played.ends d.stops
-output_done (Receipts key) old new status d =
-    output_played d.played.answer status d.middle new.received _ _ _ d.played.wrote d.played.ends d.stops
-output_done Transfer old new status d =
-    output_played d.played.answer status d.middle new.received _ _ _ d.played.wrote d.played.ends d.stops
 output_done Power old new status d = output_told (power_told d.fault) _ _ _ _ status (power_no_write d.fault) d.tells
 output_done Checkpoint old new status d = output_told (checkpoint_told d.answer) _ _ _ _ status (checkpoint_no_write d.answer) d.tells
+output_done _ old new status d = output_played d.played.answer status d.middle new.received _ _ _ d.played.wrote d.played.ends d.stops
 
 pub output_blamed : (command : Command) (old new : Outside) (status : Status) → DoesOrLacks command old new status
     → BlamesOutput status old.writes new.writes

@@ -1,20 +1,11 @@
 -- What is out of a command that plays lines, drawn from its answer and its stop line.
-use Rattle.std.proofs.Common.{◌≡◌, ◌∙◌, ℕ, List, [], ◌++◌, Option, Result, Ok, Err, refl, sym, ap, subst, append-nil, append_assoc, inl, inr, ◌⊎◌}
-use Rattle.std.specs.Io.KnownBytes.{Appends, Consumes}
-use Rattle.std.proofs.KnownBytes.{Appends-trans, Consumes-nil}
-use Rattle.mm_base.specs.Input.{lines_of}
-use Rattle.mm_base.specs.Streams.{Sends}
+use Rattle.mm_app.proofs.Below.{◌≡◌, ◌∙◌, ℕ, List, [], ◌++◌, Option, Result, Ok, Err, refl, sym, ap, subst, append-nil, append_assoc, inl}
+use Rattle.mm_app.proofs.Below.{inr, ◌⊎◌, Appends-trans, Consumes-nil, lines_of, Sends, ReplayFault, IsFrontOf, AnswersFirst, PlaysWhole}
+use Rattle.mm_app.proofs.Below.{TellsBy, anywhere, before_line, Outside, status_of, stop_line, EndsAtOnce, Status, Done, Memory, WriteFault}
 use Rattle.mm_base.specs.declared.fault.WriteFault as write
-use Rattle.mm_base.specs.declared.replay_fault.ReplayFault.{ReplayFault}
 use Rattle.mm_base.specs.declared.replay_fault.ReplayFault.TheVariants as fault
-use Rattle.mm_play.specs.Takes.{IsFrontOf}
-use Rattle.mm_play.specs.Tells.{AnswersFirst, TellsBy, anywhere, before_line}
-use Rattle.mm_app.specs.Outside.{Outside}
+use Rattle.mm_play.specs.declared.player.Refused.{Refused}
 use Rattle.mm_app.specs.Played.{AnswersInput, TellsAnswers}
-use Rattle.mm_app.specs.Status.{status_of, stop_line}
-use Rattle.mm_app.specs.Telling.{EndsAtOnce}
-use Rattle.mm_app.specs.declared.status.Status.{Status}
-use Rattle.mm_app.specs.declared.status.Status.TheVariants.{Done, Memory, WriteFault}
 use Rattle.mm_app.proofs.Fronts.{for_taken, front_lines, undone, unsent_after}
 
 -- what was written for all lines is the text that answers them, and what comes behind it
@@ -113,8 +104,7 @@ at_end some all much parted left taken sent stop unsent (Err fault.ReadFault) to
     stopped_behind some all (lines_of taken) [] (lines_of taken) sent stop unsent _
     (sym (append-nil (lines_of taken))) told.1 parts (λ h. cc)
 at_end some all much parted left taken sent stop unsent (Err fault.Memory) told parts =
-    let front = told.1 in
-    let more = front_lines told.0 front.0 in
+    let front = told.1 in let more = front_lines told.0 front.0 in
     stopped_behind some all (lines_of told.0) more.0 (lines_of taken) sent stop unsent _
     (ap lines_of (sym front.1) ∙ more.1) told.2 parts (λ h. cc)
 at_end some all much parted left taken sent stop unsent (Err (fault.BadLine line)) told parts =
@@ -127,19 +117,23 @@ at_end some all much parted left taken sent stop unsent (Err fault.TooMuch) told
     at_first some all much taken sent stop unsent _ (for_taken left taken (StopsAt some much sent) told) parts (λ h. cc)
 
 -- what was played, and then the stop line
-pub answers_input : {T : Type 0} (some all : List (List ℕ) → List ℕ → Type 0) (much : List (List ℕ) → List (List ℕ) → Type 0)
-    → IsParted some all → (left left' received middle received' : Option (List ℕ)) (taken sent : List ℕ) (answer : Result T ReplayFault)
-    (result : Result (Unit {0}) write.WriteFault) (status : Status) → Consumes left left' taken → Appends received middle sent
-    → TellsBy some all much left' taken sent answer → status ≡ status_of answer → Sends middle received' (stop_line status) result
-    → AnswersInput some all left left' received received' status
-answers_input some all much parted left left' received middle received' taken sent answer result status consumed appended told ends
-    sends = record {
-      taken = taken;
-      sent = sent ++ sends.sent;
-      consumed = consumed;
-      appended = Appends-trans received middle received' sent sends.sent appended sends.appended;
-      tells = subst (λ s. TellsAnswers some all (lines_of taken) (sent ++ sends.sent) s) (sym ends)
-          (at_end some all much parted left' taken sent sends.sent sends.unsent answer told (ap stop_line (sym ends) ∙ sends.parts));
+pub answers_input : {P T : Type 0} {moves : P → List ℕ → Result (List ℕ × P) Refused} {closing : P → Option (List ℕ)} {first : P}
+    {reports : P → T → Type 0} (some all : List (List ℕ) → List ℕ → Type 0) (much : List (List ℕ) → List (List ℕ) → Type 0)
+    → IsParted some all → {left left' received middle received' : Option (List ℕ)} {answer : Result T ReplayFault}
+    {result : Result (Unit {0}) write.WriteFault} {status : Status}
+    → PlaysWhole moves closing first reports some all much left left' received middle answer → status ≡ status_of answer
+    → Sends middle received' (stop_line status) result → AnswersInput some all left left' received received' status
+answers_input some all much parted {left' = left'} {received = received} {middle = middle} {received' = received'} {answer = answer} played
+    ends sends =
+    let p = played.plays in
+    record {
+      taken = p.taken;
+      sent = p.sent ++ sends.sent;
+      consumed = p.consumed;
+      appended = Appends-trans received middle received' p.sent sends.sent p.appended sends.appended;
+      tells = subst (λ s. TellsAnswers some all (lines_of p.taken) (p.sent ++ sends.sent) s) (sym ends)
+          (at_end some all much parted left' p.taken p.sent sends.sent sends.unsent answer played.told (ap stop_line (sym ends)
+          ∙ sends.parts));
     }
 
 undone_memory : Memory ≡ Done → ⊥

@@ -1,13 +1,7 @@
 -- A session behind the reading of the cell is one run whatever the slots hold.
 use Rattle.std.specs.Prelude.{ℕ, List, Option, Result, Ok, Err}
-use Rattle.mm_host.proofs.Looking.{runs_once_from}
-use Rattle.mm_modules.specs.Modules.{meaning_of}
+use Rattle.mm_app.proofs.Below.{runs_once_from, meaning_of, Standing, Header, StoreStanding, LooksAtInstance, RunsOnceIfFound, Status}
 use Rattle.mm_modules.specs.ModulesLaws.{any_is_lawful}
-use Rattle.mm_platform.specs.Standing.{Standing}
-use Rattle.mm_schedule.specs.declared.header.Header.{Header}
-use Rattle.mm_store.specs.Kept.{StoreStanding}
-use Rattle.mm_app.specs.Running.{LooksAtInstance, RunsOnceIfFound}
-use Rattle.mm_app.specs.declared.status.Status.{Status}
 
 pub runs_once_if_found : (found : Result Header Status) (entry before after : Standing) (old new : StoreStanding)
     (left left' received : Option (List ℕ)) → LooksAtInstance entry before found

@@ -1,8 +1,6 @@
 -- Writes that go out one after another.
-use Rattle.std.proofs.Common.{◌≡◌, ◌∙◌, ℕ, List, [], ◌++◌, Option, Result, Ok, Err, sym, ap, append_assoc, append-nil, subst, OnOk}
-use Rattle.std.specs.Io.KnownBytes.{Appends}
-use Rattle.std.proofs.KnownBytes.{Appends-trans}
-use Rattle.mm_base.specs.Streams.{Sends}
+use Rattle.mm_app.proofs.Below.{◌≡◌, ◌∙◌, ℕ, List, [], ◌++◌, Option, Result, Ok, Err, sym, ap, append_assoc, append-nil, subst, OnOk}
+use Rattle.mm_app.proofs.Below.{Appends, Appends-trans, Sends}
 use Rattle.mm_base.specs.declared.fault.WriteFault.{WriteFault}
 
 -- what comes after a write that failed doesn't go out

@@ -20,11 +20,16 @@ abbrev pub tells_read_fault : Status → Bool
 tells_read_fault ReadFault = true
 tells_read_fault _ = false
 
--- Of the source that the command takes from, the count rose exactly where ReadFault is told: of the
--- entropy for `init`, and of the input for any other.
+-- the count of faults of the source that a command takes from: of the entropy for `init`, and of
+-- the input for any other
+abbrev pub source_faults : Command → Outside → ℕ
+source_faults (Init header) it = it.takes
+source_faults _ it = it.reads
+
+-- it rose exactly where ReadFault is told
 abbrev pub BlamesSource : Command → (old new : Outside) → Status → Type 0
-BlamesSource (Init header) old new status = IsBlamed (tells_read_fault status) old.takes new.takes
-BlamesSource _ old new status = IsBlamed (tells_read_fault status) old.reads new.reads
+BlamesSource command old new status =
+    IsBlamed (tells_read_fault status) (source_faults command old) (source_faults command new)
 
 -- The output's count rose where WriteFault is told, and is as before where all was done. Beside
 -- another status it may have risen, where the output failed within the stop line. It never rises

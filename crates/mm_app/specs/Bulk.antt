@@ -1,13 +1,13 @@
 -- What the command `bulk` does.
 use Rattle.std.specs.Prelude.{◌⊎◌, ℕ, List, Option, Result, Ok, Err, IfOk}
 use Rattle.mm_gen.specs.Schedules.{schedule_lines}
-use Rattle.mm_bulk.specs.Limits.{IsLimited, is_over}
-use Rattle.mm_bulk.specs.Replayed.{IsReplayed, replay_of}
-use Rattle.mm_bulk.specs.Sums.{SumsUp}
-use Rattle.mm_bulk.specs.Summaries.{bulk_text}
-use Rattle.mm_bulk.specs.declared.fault.BulkFault.{BulkFault}
-use Rattle.mm_bulk.specs.declared.fault.BulkFault.TheVariants as fault
-use Rattle.mm_bulk.specs.declared.summary.Summary.{Summary}
+use Rattle.mm_gen.specs.Limits.{IsLimited, is_over}
+use Rattle.mm_gen.specs.Replayed.{IsReplayed, replay_of}
+use Rattle.mm_gen.specs.Sums.{SumsUp}
+use Rattle.mm_gen.specs.Summaries.{bulk_text}
+use Rattle.mm_gen.specs.declared.fault.BulkFault.{BulkFault}
+use Rattle.mm_gen.specs.declared.fault.BulkFault.TheVariants as fault
+use Rattle.mm_gen.specs.declared.summary.Summary.{Summary}
 use Rattle.mm_replay.specs.Schedule.{begun}
 use Rattle.mm_words.specs.declared.command.Generated.{Generated}
 use Rattle.mm_app.specs.Telling.{Tells}

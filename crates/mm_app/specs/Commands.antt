@@ -6,6 +6,7 @@ use Rattle.mm_words.specs.Commands.{SpellsCommand, help_text}
 use Rattle.mm_words.specs.declared.command.Command.{Command}
 use Rattle.mm_words.specs.declared.command.Command.TheVariants.{Init, Run, Checkpoint, Power, Replay, Check, Gen, Bulk, Slots, Receipts, Transfer, Help}
 use Rattle.mm_host.specs.Init.{devices}
+use Rattle.mm_receipts.specs.Reports.{ChecksHonestly}
 use Rattle.mm_replay.specs.Replays.{Replays}
 use Rattle.mm_slots.specs.Plays.{PlaysSlots}
 use Rattle.mm_transfer.specs.Plays.{PlaysTransfer}
@@ -14,7 +15,6 @@ use Rattle.mm_app.specs.Bulk.{RunsInBulk}
 use Rattle.mm_app.specs.Checkpoint.{Checkpoints}
 use Rattle.mm_app.specs.Outside.{Outside, IsStill}
 use Rattle.mm_app.specs.Power.{LosesPower}
-use Rattle.mm_app.specs.Receipts.{ChecksUnder}
 use Rattle.mm_app.specs.Running.{RunsInstance}
 use Rattle.mm_app.specs.Starting.{StartsInstance}
 use Rattle.mm_app.specs.Telling.{EndsAtOnce, GivesText}
@@ -48,8 +48,8 @@ Does Slots old new status =
     PlaysAndStops PlaysSlots old.left new.left old.received new.received old.reads new.reads
     old.writes new.writes status
 Does (Receipts key) old new status =
-    PlaysAndStops (ChecksUnder key) old.left new.left old.received new.received old.reads new.reads
-    old.writes new.writes status
+    PlaysAndStops (ChecksHonestly key) old.left new.left old.received new.received old.reads
+    new.reads old.writes new.writes status
 Does Transfer old new status =
     PlaysAndStops PlaysTransfer old.left new.left old.received new.received old.reads new.reads
     old.writes new.writes status

@@ -3,8 +3,8 @@ use Rattle.std.specs.Prelude.{◌≡◌, ◌≢◌, ◌≤◌, ℕ, true, List, 
 use Rattle.mm_base.specs.Input.{lines_of}
 use Rattle.mm_digest.specs.Messages.{zero_bytes}
 use Rattle.mm_digest.specs.declared.variant.Variant.TheVariants.{Opt}
-use Rattle.mm_host.specs.Continuing.{CanServe}
-use Rattle.mm_host.specs.SessionLines.{AreWithin}
+use Rattle.mm_session.specs.Continuing.{CanServe}
+use Rattle.mm_session.specs.SessionLines.{AreWithin}
 use Rattle.mm_module.specs.Batch.{Batch}
 use Rattle.mm_model.specs.History.{History}
 use Rattle.mm_model.specs.InstanceWords.{basic}

@@ -101,6 +101,5 @@ pub record ReplaysOneRun (left left' received received' : Option (List ℕ)) (st
   pub sent : List ℕ
   pub consumed : Consumes left left' taken
   pub appended : Appends received received' sent
-  pub ended : status ≡ Done
-      → IsAtEnd left' × ((before : List ℕ) × (taken ≡ before ++ 10 ∷ []))
+  pub ended : status ≡ Done → IsAtEnd left' × ((before : List ℕ) × (taken ≡ before ++ 10 ∷ []))
   pub continues : IsUnbegun (lines_of taken) sent status ⊎ TellsOneRun (lines_of taken) sent status

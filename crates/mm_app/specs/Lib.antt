@@ -8,7 +8,6 @@ pub mod Headline
 pub mod Outside
 pub mod Played
 pub mod Power
-pub mod Receipts
 pub mod Running
 pub mod Slots
 pub mod Starting

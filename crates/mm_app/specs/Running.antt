@@ -1,14 +1,15 @@
 -- What the command `run` does.
 use Rattle.std.specs.Prelude.{◌≡◌, ℕ, List, Option, None, Some, Result, Ok, Err}
 use Rattle.mm_digest.specs.declared.variant.Variant.{Variant}
-use Rattle.mm_host.specs.AnySlots.{RunsOnceFrom}
-use Rattle.mm_host.specs.Continuing.{SessionContinues}
-use Rattle.mm_host.specs.SessionWrites.{SessionWrites}
-use Rattle.mm_host.specs.SessionBlame.{IsRefusalNamed, is_platform_fault, is_read_fault, is_store_fault, is_write_fault}
-use Rattle.mm_host.specs.SessionLines.{SparesLines}
-use Rattle.mm_host.specs.Sessions.{Sessions}
-use Rattle.mm_host.specs.declared.fault.SessionFault.{SessionFault}
-use Rattle.mm_host.specs.declared.fault.SessionFault.TheVariants as session
+use Rattle.mm_host.specs.declared.fault.HostFault.TheVariants as host
+use Rattle.mm_session.specs.AnySlots.{RunsOnceFrom}
+use Rattle.mm_session.specs.Continuing.{SessionContinues}
+use Rattle.mm_session.specs.SessionWrites.{SessionWrites}
+use Rattle.mm_session.specs.SessionBlame.{IsRefusalNamed, is_platform_fault, is_read_fault, is_store_fault, is_write_fault}
+use Rattle.mm_session.specs.SessionLines.{SparesLines}
+use Rattle.mm_session.specs.Sessions.{Sessions}
+use Rattle.mm_session.specs.declared.fault.SessionFault.{SessionFault}
+use Rattle.mm_session.specs.declared.fault.SessionFault.TheVariants as session
 use Rattle.mm_model.specs.declared.refusal.Refusal.{Refusal}
 use Rattle.mm_model.specs.declared.refusal.Refusal.TheVariants as refusal
 use Rattle.mm_modules.specs.Modules.{meaning_of, module_with}
@@ -23,6 +24,7 @@ use Rattle.mm_seal.specs.declared.cell.Cell.{Cell as Held}
 use Rattle.mm_seal.specs.declared.cell.CellFault.{CellFault}
 use Rattle.mm_seal.specs.declared.cell.CellFault.TheVariants as unheld
 use Rattle.mm_store.specs.Kept.{StoreStanding}
+use Rattle.mm_app.specs.Status.{status_at}
 use Rattle.mm_app.specs.Telling.{TellsStop, StopsAs}
 use Rattle.mm_app.specs.declared.status.Status.{Status}
 use Rattle.mm_app.specs.declared.status.Status.TheVariants.{Done, ReadFault, WriteFault, Memory, PlatformFault, StoreFault, Blank, Cell, Lost, Refused, BadLine, LineLong, TooMuch}
@@ -39,14 +41,10 @@ refused_at why = Refused why
 
 -- how the program ends where a session stopped so
 abbrev pub session_at : SessionFault → Status
-session_at session.Memory = Memory
-session_at session.Store = StoreFault
-session_at (session.Refused why) = refused_at why
-session_at session.ReadFault = ReadFault
-session_at session.WriteFault = WriteFault
-session_at (session.LineLong line) = LineLong line
-session_at (session.BadLine line) = BadLine line
-session_at session.TooMuch = TooMuch
+session_at (session.Host host.Memory) = Memory
+session_at (session.Host host.Store) = StoreFault
+session_at (session.Host (host.Refused why)) = refused_at why
+session_at (session.Lines fault) = status_at fault
 
 abbrev pub session_status : Result (Unit {0}) SessionFault → Status
 session_status (Ok _) = Done

@@ -7,7 +7,7 @@ ghost use Rattle.mm_app.specs.Bulk.{RunsInBulk, TellsSummary};
 use crate::status::Status;
 use crate::telling::{stopped, written};
 use mm_base::Sink;
-use mm_bulk::{BulkFault, Summary, bulk, summary_text};
+use mm_gen::{BulkFault, Summary, bulk, summary_text};
 use mm_words::Generated;
 use std::alloc::Global;
 

@@ -2,9 +2,9 @@
 
 ghost use Rattle.std.specs.Prelude.{◌≡◌, ℕ, List, Some, Ok};
 ghost use Rattle.mm_play.specs.Play.{run_of};
+ghost use Rattle.mm_receipts.specs.Reports.{ChecksHonestly};
 ghost use Rattle.mm_receipts.specs.Checking.{Checking, first_checking, receipts_answer, receipts_closing};
 ghost use Rattle.mm_app.specs.Answering.{PlaysAndStops};
-ghost use Rattle.mm_app.specs.Receipts.{ChecksUnder};
 ghost use Rattle.mm_app.specs.Status.{EndsUnrefused};
 
 use crate::status::Status;
@@ -20,7 +20,7 @@ pub fn check_receipts<S: Source, K: Sink>(
     input: &mut S,
     out: &mut K,
 ) -> Status
-    ensures checks { PlaysAndStops (ChecksUnder key.now) (S.left input.old) (S.left input.new)
+    ensures checks { PlaysAndStops (ChecksHonestly key.now) (S.left input.old) (S.left input.new)
         (K.received out.old) (K.received out.new) (S.faults input.old) (S.faults input.new)
         (K.faults out.old) (K.faults out.new) result }
     ensures complete { (bytes : List ℕ) → (next : Checking) → S.left input.old ≡ Some bytes

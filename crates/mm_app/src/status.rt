@@ -1,8 +1,9 @@
 //! How the program ends.
 
 use mm_base::ReplayFault;
-use mm_host::SessionFault;
+use mm_host::HostFault;
 use mm_model::Refusal;
+use mm_session::SessionFault;
 
 /// How the program ends. Lines are numbered from 1.
 #[derive(Clone, Copy, Debug, PartialEq, Eq)]
@@ -102,14 +103,10 @@ impl Status {
         ensures { result ≡ session_at fault }
     {
         match fault {
-            SessionFault::Memory => Status::Memory,
-            SessionFault::Store => Status::StoreFault,
-            SessionFault::Refused(why) => Status::at_refusal(why),
-            SessionFault::ReadFault => Status::ReadFault,
-            SessionFault::WriteFault => Status::WriteFault,
-            SessionFault::LineLong { line } => Status::LineLong { line },
-            SessionFault::BadLine { line } => Status::BadLine { line },
-            SessionFault::TooMuch => Status::TooMuch,
+            SessionFault::Host(HostFault::Memory) => Status::Memory,
+            SessionFault::Host(HostFault::Store) => Status::StoreFault,
+            SessionFault::Host(HostFault::Refused(why)) => Status::at_refusal(why),
+            SessionFault::Lines(fault) => Status::of(fault),
         }
     }
 

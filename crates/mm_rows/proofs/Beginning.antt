@@ -1,27 +1,10 @@
 -- A session goes on from a first start.
-use Rattle.std.specs.Prelude.{ℕ, List, [], None, Some, Option, Result, take, refl}
-use Rattle.std.proofs.Common.{ap, subst, sym}
-use Rattle.mm_base.specs.Input.{lines_of}
-use Rattle.mm_digest.specs.declared.variant.Variant.TheVariants.{Basic}
-use Rattle.mm_module.specs.Batch.{Batch}
-use Rattle.mm_module.specs.Meaning.{Meaning}
-use Rattle.mm_model.specs.Instance.{Instance}
-use Rattle.mm_model.specs.InstanceWords.{basic}
-use Rattle.mm_model.specs.History.{first_history}
-use Rattle.mm_host.specs.Begins.{IsFirstStore, first_slots}
-use Rattle.mm_host.specs.Continuing.{AreToFollow, SessionContinues, ContinuesTo, IsInHand, history_then, told_in}
-use Rattle.mm_host.specs.Recovery.{CanRecover, IsAskedFor}
-use Rattle.mm_host.specs.Sessions.{Sessions}
-use Rattle.mm_host.specs.declared.fault.SessionFault.{SessionFault}
-use Rattle.mm_pages.specs.Cached.{Cached}
-use Rattle.mm_pages.specs.Sheets.{Sheets}
+use Rattle.mm_rows.proofs.Below.{ℕ, List, [], None, Some, Option, Result, take, refl, ap, subst, sym, lines_of, Basic, Batch, Meaning}
+use Rattle.mm_rows.proofs.Below.{Instance, basic, first_history, IsFirstStore, first_slots, CanRecover, IsAskedFor, Sessions, SessionFault}
+use Rattle.mm_rows.proofs.Below.{Cached, Sheets, Slots, Torn, TwoCell, kept_in_pages, two_cells, StartsInMemory}
+use Rattle.mm_session.specs.Continuing.{AreToFollow, SessionContinues, ContinuesTo, IsInHand, history_then, told_in}
 use Rattle.mm_store.specs.Pending.{Pending}
-use Rattle.mm_store.specs.Slots.{Slots}
-use Rattle.mm_twocell.specs.Torn.{Torn}
-use Rattle.mm_twocell.specs.declared.pair.TwoCell.{TwoCell}
-use Rattle.mm_rows.specs.Devices.{kept_in_pages, two_cells}
 use Rattle.mm_rows.specs.FirstSession.{BeginsAndServes, CanBegin}
-use Rattle.mm_rows.specs.Starting.{StartsInMemory}
 
 -- what is asked of a recovery holds, as nothing waits
 can_recover : (all others : List (List ℕ)) (asked : List Batch) (meaning : Meaning) (middle : TwoCell Torn) (store : Cached Sheets)

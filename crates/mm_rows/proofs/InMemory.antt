@@ -1,29 +1,15 @@
 -- What is asked of devices in memory, which tell what they hold, is what is asked of any.
-use Rattle.std.specs.Prelude.{◌≡◌, List, ℕ, Result, Ok, Err, Option, Some, length, OnOk, refl}
+use Rattle.mm_rows.proofs.Below.{◌≡◌, List, ℕ, Result, Ok, Err, Option, Some, length, OnOk, refl, ap, ◌∙◌, Variant, Basic, Opt, Meaning}
+use Rattle.mm_rows.proofs.Below.{Batch, Instance, History, Begins, Leaves, CanRecover, Recovers, Cached, Sheets, Slots, Torn, whole_bytes}
+use Rattle.mm_rows.proofs.Below.{TwoCell, first_devices, kept_in_pages, two_cells, StartsInMemory}
 use Rattle.std.specs.Option.{option_map}
-use Rattle.std.proofs.Common.{ap, ◌∙◌}
-use Rattle.mm_digest.specs.declared.variant.Variant.{Variant}
-use Rattle.mm_digest.specs.declared.variant.Variant.TheVariants.{Basic, Opt}
-use Rattle.mm_module.specs.Meaning.{Meaning}
-use Rattle.mm_module.specs.Batch.{Batch}
-use Rattle.mm_model.specs.Instance.{Instance}
-use Rattle.mm_model.specs.History.{History}
 use Rattle.mm_base.specs.Streams.{Supply}
-use Rattle.mm_host.specs.Begins.{Begins, Leaves}
 use Rattle.mm_host.specs.declared.fault.HostFault.{HostFault}
 use Rattle.mm_host.specs.declared.init_fault.InitFault.{InitFault}
 use Rattle.mm_host.specs.declared.resuming.Resumed.{Resumed}
-use Rattle.mm_host.specs.Recovery.{CanRecover, Recovers}
-use Rattle.mm_pages.specs.Cached.{Cached}
-use Rattle.mm_pages.specs.Sheets.{Sheets}
-use Rattle.mm_store.specs.Slots.{Slots}
 use Rattle.mm_store.specs.Unsynced.{Unsynced}
 use Rattle.mm_twocell.specs.Pairs.{picked}
-use Rattle.mm_twocell.specs.Torn.{Torn, whole_bytes}
-use Rattle.mm_twocell.specs.declared.pair.TwoCell.{TwoCell}
-use Rattle.mm_rows.specs.Devices.{first_devices, kept_in_pages, two_cells}
 use Rattle.mm_rows.specs.Recovering.{CanRecoverInMemory, RecoversInMemory}
-use Rattle.mm_rows.specs.Starting.{StartsInMemory}
 
 can_recover : {all others : List (List ℕ)} {asked : List Batch} {i : Instance} {y : History} {it : TwoCell Torn} {store : Cached Sheets} →
     CanRecoverInMemory all others asked i y it store

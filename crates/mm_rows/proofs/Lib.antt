@@ -1,3 +1,4 @@
-pub mod InMemory
-pub mod Beginning
+mod Below
+mod InMemory
+mod Beginning
 mod OldCopies

@@ -1,21 +1,7 @@
 -- A session over an old copy of the pages is one run, as one over any slots is.
-use Rattle.std.specs.Prelude.{ℕ, List, Some, Result, refl}
-use Rattle.mm_base.specs.Input.{lines_of}
-use Rattle.mm_digest.specs.declared.variant.Variant.{Variant}
-use Rattle.mm_digest.specs.declared.variant.Variant.TheVariants.{Basic, Opt}
-use Rattle.mm_module.specs.Batch.{Batch}
-use Rattle.mm_module.specs.Meaning.{Meaning}
-use Rattle.mm_model.specs.Instance.{Instance}
-use Rattle.mm_model.specs.InstanceWords.{basic, opt}
-use Rattle.mm_model.specs.History.{History}
-use Rattle.mm_host.specs.AnySlots.{MayStart, SessionRunsOnce, requests_with}
-use Rattle.mm_host.specs.Sessions.{Sessions}
-use Rattle.mm_host.specs.declared.fault.SessionFault.{SessionFault}
-use Rattle.mm_pages.specs.Cached.{Cached}
-use Rattle.mm_pages.specs.Sheets.{Sheets}
-use Rattle.mm_twocell.specs.Torn.{Torn}
-use Rattle.mm_twocell.specs.declared.pair.TwoCell.{TwoCell}
-use Rattle.mm_rows.specs.Devices.{kept_in_pages, two_cells}
+use Rattle.mm_rows.proofs.Below.{ℕ, List, Some, Result, refl, lines_of, Variant, Basic, Opt, Batch, Meaning, Instance, basic, opt, History}
+use Rattle.mm_rows.proofs.Below.{Sessions, SessionFault, Cached, Sheets, Torn, TwoCell, kept_in_pages, two_cells}
+use Rattle.mm_session.specs.AnySlots.{MayStart, SessionRunsOnce, requests_with}
 use Rattle.mm_rows.specs.OldCopy.{CanServeCopy, CopyRunsOnce, ServesCopy}
 
 may_start : (all others : List (List ℕ)) (asked : List Batch) (i : Instance) (y : History) (it : TwoCell Torn) (copy : Cached Sheets)

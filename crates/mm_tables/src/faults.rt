@@ -1,13 +1,14 @@
 //! What faults say.
 
 use mm_base::{Failed, LineFault, Memory, ReplayFault, WriteFault};
-use mm_bulk::BulkFault;
-use mm_host::{HostFault, InitFault, SessionFault};
+use mm_gen::BulkFault;
+use mm_host::{HostFault, InitFault};
 use mm_model::Refusal;
 use mm_move::MoveRefusal;
 use mm_platform::StepFault;
 use mm_schedule::EventFault;
 use mm_seal::{CellFault, OpenFault, PartsFault};
+use mm_session::SessionFault;
 use mm_store::StoreFault;
 use mm_words::WordsFault;
 use std::alloc::AllocError;
@@ -88,14 +89,17 @@ fn put_host(text: &mut String) -> Result<(), AllocError> {
 }
 
 fn put_session(text: &mut String) -> Result<(), AllocError> {
-    put(text, &SessionFault::Memory)?;
-    put(text, &SessionFault::Store)?;
-    put(text, &SessionFault::Refused(Refusal::Full))?;
-    put(text, &SessionFault::ReadFault)?;
-    put(text, &SessionFault::WriteFault)?;
-    put(text, &SessionFault::LineLong { line: 2 })?;
-    put(text, &SessionFault::BadLine { line: 3 })?;
-    put(text, &SessionFault::TooMuch)
+    put(text, &SessionFault::Host(HostFault::Memory))?;
+    put(text, &SessionFault::Host(HostFault::Store))?;
+    put(text, &SessionFault::Host(HostFault::Refused(Refusal::Full)))?;
+    put(text, &SessionFault::Lines(ReplayFault::ReadFault))?;
+    put(text, &SessionFault::Lines(ReplayFault::WriteFault))?;
+    put(
+        text,
+        &SessionFault::Lines(ReplayFault::LineLong { line: 2 }),
+    )?;
+    put(text, &SessionFault::Lines(ReplayFault::BadLine { line: 3 }))?;
+    put(text, &SessionFault::Lines(ReplayFault::TooMuch))
 }
 
 fn put_start(text: &mut String) -> Result<(), AllocError> {

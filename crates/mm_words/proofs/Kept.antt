@@ -1,34 +1,21 @@
 -- No word of a command but `--help` is refused before the parse.
-use Rattle.std.proofs.Common.{◌≡◌, ◌∙◌, ◌<◌, ◌≤◌, ◌^◌, ℕ, true, false, List, [], ◌∷◌, length, refl, sym, subst, arith, codes}
-use Rattle.std.specs.Prelude.{Some, None, Result, Ok, Err, ◌==◌}
+use Rattle.mm_words.proofs.Below.{◌≡◌, ◌∙◌, ◌<◌, ◌≤◌, ◌^◌, ℕ, true, false, List, [], ◌∷◌, length, refl, sym, subst, arith, codes, Some}
+use Rattle.mm_words.proofs.Below.{None, Result, Ok, Err, ◌==◌, decimal, AllPass, list_any, all_ascii_digits, bytes_eq, nat_tests}
+use Rattle.mm_words.proofs.Below.{decode_of-ok, decode_sized-ok, decode_sized-twice, Variant, Basic, Opt, AnyModule, name_of, any_is_listed}
+use Rattle.mm_words.proofs.Below.{variant_text, Header, IsGenerated, SpellsCommand, generated_words, header_words, IsMatched, is_refused}
+use Rattle.mm_words.proofs.Below.{Command, Init, Run, Checkpoint, Power, Replay, Check, Gen, Bulk, Slots, Receipts, Transfer, Help}
+use Rattle.mm_words.proofs.Below.{Generated}
 use Rattle.std.specs.Char.{is_ascii_digit}
-use Rattle.std.specs.Fmt.{decimal}
-use Rattle.std.specs.List.{AllPass, list_any}
 use Rattle.std.specs.Result.{result_ok}
-use Rattle.std.specs.Str.{all_ascii_digits, bytes_eq}
 use Rattle.std.proofs.lemmas.Bool.{or_parts}
-use Rattle.std.proofs.lemmas.Bool.Decides.{nat_tests}
 use Rattle.std.proofs.lemmas.Fmt.{decimal_nonempty, digits_decimal}
 use Rattle.std.proofs.lemmas.Str.Parse.{numerals_by_value, tells_all_ascii_digits}
 use Rattle.std.proofs.lemmas.List.Elements.{All-head}
 use Rattle.hex.specs.Hex.{decode_sized, is_hex_digit}
 use Rattle.hex.specs.declared.error.FromHexError.{FromHexError}
-use Rattle.hex.proofs.HexLemmas.{decode_of-ok, decode_sized-ok, decode_sized-twice}
 use Rattle.clap.specs.Lexer.{long_of, short_of}
-use Rattle.mm_digest.specs.declared.variant.Variant.{Variant}
-use Rattle.mm_digest.specs.declared.variant.Variant.TheVariants.{Basic, Opt}
 use Rattle.mm_listing.specs.Listing.{IsName, is_letter}
 use Rattle.mm_module.specs.Values.{value_at}
-use Rattle.mm_modules.specs.declared.any.AnyModule.{AnyModule}
-use Rattle.mm_modules.specs.Modules.{name_of}
-use Rattle.mm_modules.specs.Modules.{any_is_listed}
-use Rattle.mm_schedule.specs.Headers.{variant_text}
-use Rattle.mm_schedule.specs.declared.header.Header.{Header}
-use Rattle.mm_words.specs.Commands.{IsGenerated, SpellsCommand, generated_words, header_words}
-use Rattle.mm_words.specs.Forms.{IsMatched, is_refused}
-use Rattle.mm_words.specs.declared.command.Command.{Command}
-use Rattle.mm_words.specs.declared.command.Command.TheVariants.{Init, Run, Checkpoint, Power, Replay, Check, Gen, Bulk, Slots, Receipts, Transfer, Help}
-use Rattle.mm_words.specs.declared.command.Generated.{Generated}
 
 -- `clap` reads the word as a value
 pub record IsPlainWord (word : List ℕ) : Type 0 where

@@ -1,5 +1,7 @@
-pub mod Kept
-pub mod Matched
-pub mod OneCommand
-pub mod Reading
-pub mod Taken
+pub mod Above
+mod Below
+mod Kept
+mod Matched
+mod OneCommand
+mod Reading
+mod Taken

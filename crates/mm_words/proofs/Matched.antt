@@ -1,31 +1,12 @@
 -- The words of a command are taken, and what is matched is the command's.
-use Rattle.std.proofs.Common.{◌≡◌, ◌≤◌, ◌∙◌, ℕ, true, false, List, [], ◌∷◌, refl, sym, ap, subst, arith, codes}
-use Rattle.std.specs.Prelude.{Option, Some, nat_lt, option_map}
-use Rattle.std.specs.Fmt.{decimal}
-use Rattle.std.specs.Option.{option_map_or}
-use Rattle.std.proofs.lemmas.Bool.Decides.{nat_tests}
-use Rattle.clap.specs.Simple.{subcommand_of}
-use Rattle.clap.specs.Takes.{takes}
-use Rattle.clap.specs.Walk.{Text, first_of, rows_of}
+use Rattle.mm_words.proofs.Below.{◌≡◌, ◌≤◌, ◌∙◌, ℕ, true, false, List, [], ◌∷◌, refl, sym, ap, subst, arith, codes, Option, Some, nat_lt}
+use Rattle.mm_words.proofs.Below.{option_map, decimal, option_map_or, nat_tests, subcommand_of, takes, Text, first_of, rows_of}
+use Rattle.mm_words.proofs.Below.{first_value-rows, read_by_spelling, most_events, Variant, Basic, Opt, value_at, AnyModule, module_named}
+use Rattle.mm_words.proofs.Below.{name_of, any_is_found, variant_text, variant_at, Header, the_app, IsGenerated, SpellsCommand}
+use Rattle.mm_words.proofs.Below.{generated_words, header_words, IsMatched, Command, Init, Run, Checkpoint, Power, Replay, Check, Gen, Bulk}
+use Rattle.mm_words.proofs.Below.{Slots, Receipts, Transfer, Help, Generated}
 use Rattle.clap.specs.declared.parser.matches.Found.{Found}
-use Rattle.clap.proofs.WalkLemmas.{first_value-rows}
-use Rattle.mm_base.specs.DecimalLaws.{read_by_spelling}
-use Rattle.mm_base.specs.Limits.{most_events}
-use Rattle.mm_digest.specs.declared.variant.Variant.{Variant}
-use Rattle.mm_digest.specs.declared.variant.Variant.TheVariants.{Basic, Opt}
-use Rattle.mm_module.specs.Values.{value_at}
-use Rattle.mm_modules.specs.declared.any.AnyModule.{AnyModule}
-use Rattle.mm_modules.specs.Modules.{module_named, name_of}
-use Rattle.mm_modules.specs.Modules.{any_is_found}
-use Rattle.mm_schedule.specs.Headers.{variant_text}
-use Rattle.mm_schedule.specs.HeadersWords.{variant_at}
-use Rattle.mm_schedule.specs.declared.header.Header.{Header}
-use Rattle.mm_words.specs.App.{the_app}
-use Rattle.mm_words.specs.Commands.{IsGenerated, SpellsCommand, generated_words, header_words}
-use Rattle.mm_words.specs.Forms.{IsMatched, command_in, generated_in, header_in, key_found}
-use Rattle.mm_words.specs.declared.command.Command.{Command}
-use Rattle.mm_words.specs.declared.command.Command.TheVariants.{Init, Run, Checkpoint, Power, Replay, Check, Gen, Bulk, Slots, Receipts, Transfer, Help}
-use Rattle.mm_words.specs.declared.command.Generated.{Generated}
+use Rattle.mm_words.specs.Forms.{command_in, generated_in, header_in, key_found}
 use Rattle.mm_words.proofs.Kept.{IsPlainWord, key_kept, name_kept, number_kept, plain_word, variant_kept}
 use Rattle.mm_words.proofs.Taken.{AreGeneratedTaken, Given, IsTaken, alone, bulk_taken, check_taken, checkpoint_taken, gen_taken, generating, given_in, init_taken, power_taken, receipts_taken, replay_taken, run_taken, slots_taken, transfer_taken, with_header, with_key}
 
@@ -117,7 +98,8 @@ init_brings header =
     }
 
 -- a command of one word
-alone_brings : (command : Command) (name : Text) → IsTaken (name ∷ []) (alone name) → ((found : Found) → command_in name found ≡ Some command)
+alone_brings : (command : Command) (name : Text) → IsTaken (name ∷ []) (alone name)
+    → ((found : Found) → command_in name found ≡ Some command)
     → Brings command (name ∷ [])
 alone_brings command name taken is = record {
   given = alone name;
@@ -165,9 +147,11 @@ pub brings : (command : Command) (words : List (List ℕ)) → SpellsCommand com
 unfolding command_in
 brings (Init header) words spells matched = brings_as (Init header) words _ spells.spelled (init_brings header)
 brings Run words spells matched = brings_as Run words _ spells.spelled (alone_brings Run (codes "run") run_taken (λ found. refl))
-brings Checkpoint words spells matched = brings_as Checkpoint words _ spells.spelled (alone_brings Checkpoint (codes "checkpoint") checkpoint_taken (λ found. refl))
+brings Checkpoint words spells matched =
+    brings_as Checkpoint words _ spells.spelled (alone_brings Checkpoint (codes "checkpoint") checkpoint_taken (λ found. refl))
 brings Power words spells matched = brings_as Power words _ spells.spelled (alone_brings Power (codes "power") power_taken (λ found. refl))
-brings Replay words spells matched = brings_as Replay words _ spells.spelled (alone_brings Replay (codes "replay") replay_taken (λ found. refl))
+brings Replay words spells matched =
+    brings_as Replay words _ spells.spelled (alone_brings Replay (codes "replay") replay_taken (λ found. refl))
 brings Check words spells matched = brings_as Check words _ spells.spelled (alone_brings Check (codes "check") check_taken (λ found. refl))
 brings (Gen it) words spells matched =
     brings_as (Gen it) words _ spells.spelled
@@ -178,7 +162,8 @@ brings (Bulk it) words spells matched =
 brings Slots words spells matched = brings_as Slots words _ spells.spelled (alone_brings Slots (codes "slots") slots_taken (λ found. refl))
 brings (Receipts key) words spells matched =
     let given = spells.spelled in brings_as (Receipts key) words _ given.2 (receipts_brings given.0 key given.1)
-brings Transfer words spells matched = brings_as Transfer words _ spells.spelled (alone_brings Transfer (codes "transfer") transfer_taken (λ found. refl))
+brings Transfer words spells matched =
+    brings_as Transfer words _ spells.spelled (alone_brings Transfer (codes "transfer") transfer_taken (λ found. refl))
 brings Help words spells matched = absurd matched
 
 pub is_taken : (command : Command) (words : List (List ℕ)) → SpellsCommand command words → IsMatched command → takes the_app words ≡ true

@@ -1,22 +1,10 @@
 -- Words spell one command.
-use Rattle.std.proofs.Common.{◌≡◌, ◌≤◌, ◌∙◌, ℕ, List, [], ◌∷◌, refl, sym, ap, arith, codes}
-use Rattle.std.specs.Prelude.{Option, Some, None, if◌then◌else◌}
-use Rattle.std.specs.Fmt.{decimal}
-use Rattle.std.specs.Option.{option_map_or}
-use Rattle.std.specs.Str.{bytes_eq}
+use Rattle.mm_words.proofs.Below.{◌≡◌, ◌≤◌, ◌∙◌, ℕ, List, [], ◌∷◌, refl, sym, ap, arith, codes, Option, Some, None, if◌then◌else◌, decimal}
+use Rattle.mm_words.proofs.Below.{option_map_or, bytes_eq, read_by_spelling, most_events, value_at, module_named, name_of, variant_text}
+use Rattle.mm_words.proofs.Below.{variant_at, Header, IsGenerated, SpellsCommand, Command, Init, Run, Checkpoint, Power, Replay, Check, Gen}
+use Rattle.mm_words.proofs.Below.{Bulk, Slots, Receipts, Transfer, Help, Generated}
 use Rattle.mm_base.specs.Decimals.{decimal_number}
-use Rattle.mm_base.specs.DecimalLaws.{read_by_spelling}
-use Rattle.mm_base.specs.Limits.{most_events}
-use Rattle.mm_module.specs.Values.{value_at}
-use Rattle.mm_modules.specs.Modules.{module_named, name_of}
-use Rattle.mm_schedule.specs.Headers.{variant_text}
-use Rattle.mm_schedule.specs.HeadersWords.{variant_at}
 use Rattle.mm_schedule.specs.Words.{◌>>=◌}
-use Rattle.mm_schedule.specs.declared.header.Header.{Header}
-use Rattle.mm_words.specs.Commands.{IsGenerated, SpellsCommand}
-use Rattle.mm_words.specs.declared.command.Command.{Command}
-use Rattle.mm_words.specs.declared.command.Command.TheVariants.{Init, Run, Checkpoint, Power, Replay, Check, Gen, Bulk, Slots, Receipts, Transfer, Help}
-use Rattle.mm_words.specs.declared.command.Generated.{Generated}
 use Rattle.mm_words.proofs.Matched.{name-read, variant-read}
 
 abbrev header_by : List ℕ → List ℕ → Option Header

@@ -1,19 +1,10 @@
 -- Words and the commands that they spell.
-use Rattle.std.proofs.Common.{◌≡◌, ◌<◌, ◌≤◌, ◌∙◌, ℕ, Bool, true, false, List, [], ◌∷◌, length, get_or, refl, sym, ap, subst, arith, codes}
-use Rattle.std.specs.Prelude.{Option, Some, None, IsTrue, ◌↔◌, option_map, map, ◌||◌}
-use Rattle.std.specs.Borrow.{Bor}
+use Rattle.mm_words.proofs.Below.{◌≡◌, ◌<◌, ◌≤◌, ◌∙◌, ℕ, Bool, true, false, List, [], ◌∷◌, length, get_or, refl, sym, ap, subst, arith}
+use Rattle.mm_words.proofs.Below.{codes, Option, Some, None, IsTrue, ◌↔◌, option_map, map, ◌||◌, Bor, list_any, option_map_or, bytes_eq}
+use Rattle.mm_words.proofs.Below.{bytes_eq-Decides, Row, Text, value_at, AreReceiptsWords, AreWordsOf, SpellsCommand, IsMatched, is_refused}
+use Rattle.mm_words.proofs.Below.{Command, Init, Run, Checkpoint, Power, Replay, Check, Gen, Bulk, Slots, Receipts, Transfer, Help}
 use Rattle.std.specs.Cmp.Lexicographic.{pointwise, pointwise_decides}
-use Rattle.std.specs.List.{list_any}
-use Rattle.std.specs.Option.{option_map_or}
-use Rattle.std.specs.Str.{bytes_eq}
 use Rattle.std.proofs.lemmas.List.{length-map}
-use Rattle.std.proofs.lemmas.Slice.Eq.{bytes_eq-Decides}
-use Rattle.clap.specs.Walk.{Row, Text}
-use Rattle.mm_module.specs.Values.{value_at}
-use Rattle.mm_words.specs.Commands.{AreReceiptsWords, AreWordsOf, SpellsCommand}
-use Rattle.mm_words.specs.Forms.{IsMatched, is_refused}
-use Rattle.mm_words.specs.declared.command.Command.{Command}
-use Rattle.mm_words.specs.declared.command.Command.TheVariants.{Init, Run, Checkpoint, Power, Replay, Check, Gen, Bulk, Slots, Receipts, Transfer, Help}
 use Rattle.mm_words.proofs.Kept.{are_kept}
 
 pub same_words : (words others : List (List ℕ)) → pointwise bytes_eq words others ≡ true → words ≡ others

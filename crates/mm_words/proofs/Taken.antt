@@ -1,11 +1,7 @@
 -- What `clap` makes of the words of each form.
-use Rattle.std.proofs.Common.{◌≡◌, true, List, [], ◌∷◌, refl, codes}
-use Rattle.std.specs.Prelude.{Option, Some, None, option_map}
-use Rattle.clap.specs.Simple.{is_simple, subcommand_of}
-use Rattle.clap.specs.Takes.{takes}
-use Rattle.clap.specs.Walk.{Row, Text, first_of}
+use Rattle.mm_words.proofs.Below.{◌≡◌, true, List, [], ◌∷◌, refl, codes, Option, Some, None, option_map, is_simple, subcommand_of, takes}
+use Rattle.mm_words.proofs.Below.{Row, Text, first_of, the_app}
 use Rattle.clap.proofs.OnLiterals.{clap_on_literals}
-use Rattle.mm_words.specs.App.{the_app}
 use Rattle.mm_words.proofs.Kept.{IsPlainWord}
 
 pub is_simple_app : is_simple the_app ≡ true

@@ -1,5 +1,5 @@
 use Rattle.std.proofs.Common.{Ok, Err, inl, inr}
-use Rattle.mm_bulk.specs.declared.fault.BulkFault.TheVariants.{Memory}
+use Rattle.mm_gen.specs.declared.fault.BulkFault.TheVariants.{Memory}
 use Rattle.mm_app.proofs.bulk.run_in_bulk.Goals as goal
 
 pub returns-in-Ok : goal.returns-in-Ok

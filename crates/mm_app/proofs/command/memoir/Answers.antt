@@ -1,16 +1,8 @@
-use Rattle.std.proofs.Common.{ap, map, refl, subst, sym}
-use Rattle.mm_play.specs.Plays.{IsBlamed}
+use Rattle.mm_app.proofs.Below.{ap, map, refl, subst, sym, IsBlamed, Command, Check, Receipts, Replay, Slots, Transfer, one_command}
+use Rattle.mm_app.proofs.Below.{BlamesSource, tells_platform_fault, tells_store_fault, DoesOrLacks, IsDoneOrFailed, Outside, outside}
+use Rattle.mm_app.proofs.Below.{EndsUnrefused, Status}
 use Rattle.mm_words.specs.Commands.{SpellsCommand}
-use Rattle.mm_words.specs.declared.command.Command.{Command}
-use Rattle.mm_words.specs.declared.command.Command.TheVariants.{Check, Receipts, Replay, Slots, Transfer}
-use Rattle.mm_words.proofs.OneCommand.{one_command}
-use Rattle.mm_app.specs.Blame.{BlamesSource, tells_platform_fault, tells_store_fault}
-use Rattle.mm_app.specs.Commands.{DoesOrLacks}
-use Rattle.mm_app.specs.Completeness.{IsDoneOrFailed}
-use Rattle.mm_app.specs.Outside.{Outside, outside}
-use Rattle.mm_app.specs.Status.{EndsUnrefused}
-use Rattle.mm_app.specs.declared.status.Status.{Status}
-use Rattle.mm_app.proofs.Blame.{Blamed, Frames, blamed, memory_alike, stopped_blamed}
+use Rattle.mm_app.proofs.Blame.{Blamed, Frames, blamed, memory_none, stopped_blamed}
 use Rattle.mm_app.proofs.OutputBlame.{no_memory, no_usage, output_blamed, output_stopped}
 use Rattle.mm_app.proofs.Completing.{may_be_done}
 use Rattle.mm_app.proofs.Interleaving.{interleaved_by, lacks_interleaved}
@@ -51,8 +43,7 @@ blames g c =
     blamed c.in-Ok.command (told_before g c) (told_after g c) c.done.result frames c.done.ensures.does
 
 pub returns-in-Ok-clause-does : goal.returns-in-Ok-clause-does
-returns-in-Ok-clause-does g c command spells =
-    did g (goal.at.returns-in-Ok-clause-does g c).After-done command spells
+returns-in-Ok-clause-does g c command spells = did g (goal.at.returns-in-Ok-clause-does g c).After-done command spells
 
 pub returns-in-Ok-clause-complete : goal.returns-in-Ok-clause-complete
 returns-in-Ok-clause-complete g c spells = c.done.ensures.complete (one_command _ c.in-Ok.command Replay c.in-Ok.ensures.ok spells)
@@ -64,16 +55,13 @@ returns-in-Ok-clause-receipts g c key spells =
 pub returns-in-Ok-clause-headline : goal.returns-in-Ok-clause-headline
 returns-in-Ok-clause-headline g c spells =
     let it = (goal.at.returns-in-Ok-clause-headline g c).After-done in
-    headline_of (told_before g it) (told_after g it) c.done.result
-    (did g it Replay spells)
+    headline_of (told_before g it) (told_after g it) c.done.result (did g it Replay spells)
 
 pub returns-in-Ok-clause-device : goal.returns-in-Ok-clause-device
-returns-in-Ok-clause-device g c =
-    (blames g (goal.at.returns-in-Ok-clause-device g c).After-done).platform
+returns-in-Ok-clause-device g c = (blames g (goal.at.returns-in-Ok-clause-device g c).After-done).platform
 
 pub returns-in-Ok-clause-disk : goal.returns-in-Ok-clause-disk
-returns-in-Ok-clause-disk g c =
-    (blames g (goal.at.returns-in-Ok-clause-disk g c).After-done).store
+returns-in-Ok-clause-disk g c = (blames g (goal.at.returns-in-Ok-clause-disk g c).After-done).store
 
 pub returns-in-Ok-clause-source : goal.returns-in-Ok-clause-source
 returns-in-Ok-clause-source g c command spells =
@@ -115,16 +103,20 @@ returns-in-Err-Memory-clause-headline g c spells =
 pub returns-in-Err-Memory-clause-source : goal.returns-in-Err-Memory-clause-source
 returns-in-Err-Memory-clause-source g c command spells =
     let old = outside (g.P.Device.standing c.args.platform.now) (g.T.Store.kept c.args.store.now) (g.S.Source.left c.args.input.now)
-    (g.S.Source.faults c.args.input.now)
-    (g.E.Source.left c.args.entropy.now) (g.E.Source.faults c.args.entropy.now) (g.K.Sink.received c.args.out.now)
-    (g.K.Sink.faults c.args.out.now) in
+    (g.S.Source.faults c.args.input.now) (g.E.Source.left c.args.entropy.now) (g.E.Source.faults c.args.entropy.now)
+    (g.K.Sink.received c.args.out.now) (g.K.Sink.faults c.args.out.now) in
     let new = outside (g.P.Device.standing c.args.platform.now) (g.T.Store.kept c.args.store.now) (g.S.Source.left c.args.input.now)
-    (g.S.Source.faults c.args.input.now)
-    (g.E.Source.left c.args.entropy.now) (g.E.Source.faults c.args.entropy.now) (g.K.Sink.received c.stopped-in-Err-Memory.new.out)
-    (g.K.Sink.faults c.stopped-in-Err-Memory.new.out) in
-    (stopped_blamed command old new _ c.stopped-in-Err-Memory.result memory_alike
-    (record { standing = refl; kept = refl; left = refl; reads = refl; entropy = refl; takes = refl })
-    c.stopped-in-Err-Memory.ensures.told).source
+    (g.S.Source.faults c.args.input.now) (g.E.Source.left c.args.entropy.now) (g.E.Source.faults c.args.entropy.now)
+    (g.K.Sink.received c.stopped-in-Err-Memory.new.out) (g.K.Sink.faults c.stopped-in-Err-Memory.new.out) in
+    (stopped_blamed command old new c.stopped-in-Err-Memory.result _ memory_none (record {
+      standing = refl;
+      kept = refl;
+      left = refl;
+      reads
+          = refl;
+      entropy = refl;
+      takes = refl;
+    }) c.stopped-in-Err-Memory.ensures.told).source
 
 pub returns-in-Err-Usage-clause-device : goal.returns-in-Err-Usage-clause-device
 returns-in-Err-Usage-clause-device g c =
@@ -172,8 +164,7 @@ returns-in-Err-Memory-clause-check g c spells bytes next left run = subst EndsUn
 pub returns-in-Ok-clause-host : goal.returns-in-Ok-clause-host
 returns-in-Ok-clause-host g c command spells can =
     let it = (goal.at.returns-in-Ok-clause-host g c).After-done in
-    may_be_done command (told_before g it) (told_after g it) c.done.result can
-    (did g it command spells)
+    may_be_done command (told_before g it) (told_after g it) c.done.result can (did g it command spells)
 
 pub returns-in-Err-Usage-clause-host : goal.returns-in-Err-Usage-clause-host
 returns-in-Err-Usage-clause-host g c command spells can =
@@ -195,8 +186,7 @@ returns-in-Err-Memory-clause-slots g c spells bytes next left run = subst EndsUn
 pub returns-in-Ok-clause-interleaved : goal.returns-in-Ok-clause-interleaved
 returns-in-Ok-clause-interleaved g c spells =
     let it = (goal.at.returns-in-Ok-clause-interleaved g c).After-done in
-    interleaved_by (told_before g it) (told_after g it) c.done.result
-    (did g it Slots spells)
+    interleaved_by (told_before g it) (told_after g it) c.done.result (did g it Slots spells)
 
 pub returns-in-Err-Usage-clause-interleaved : goal.returns-in-Err-Usage-clause-interleaved
 returns-in-Err-Usage-clause-interleaved g c spells = absurd (c.in-Err-Usage.ensures.usage (rw c.in-Err-Usage.field-0-is refl) Slots spells)
@@ -218,8 +208,7 @@ returns-in-Err-Memory-clause-transfer g c spells bytes next left run = subst End
 pub returns-in-Ok-clause-one_transfer : goal.returns-in-Ok-clause-one_transfer
 returns-in-Ok-clause-one_transfer g c spells =
     let it = (goal.at.returns-in-Ok-clause-one_transfer g c).After-done in
-    moved_by (told_before g it) (told_after g it) c.done.result
-    (did g it Transfer spells)
+    moved_by (told_before g it) (told_after g it) c.done.result (did g it Transfer spells)
 
 pub returns-in-Err-Usage-clause-one_transfer : goal.returns-in-Err-Usage-clause-one_transfer
 returns-in-Err-Usage-clause-one_transfer g c spells =

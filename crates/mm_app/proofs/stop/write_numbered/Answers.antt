@@ -1,5 +1,4 @@
-use Rattle.std.proofs.Common.{◌∙◌, ◌++◌, ◌∷◌, [], subst}
-use Rattle.mm_base.specs.Streams.{Sends}
+use Rattle.mm_app.proofs.Below.{◌∙◌, ◌++◌, ◌∷◌, [], subst, Sends}
 use Rattle.std.specs.Fmt.{decimal}
 use Rattle.std.proofs.lemmas.Result.{err_from_is_err_and}
 use Rattle.mm_app.proofs.Sending.{Sends-stopped, Sends-append}
@@ -17,8 +16,7 @@ returns-in_err-write_all-2-clause-sent g c =
     let second = subst (λ bytes. Sends (g.K.Sink.received c.write_all.new.sink) (g.K.Sink.received c.write_all-2.new.sink) bytes
     c.write_all-2.result) digits c.write_all-2.ensures.sent in
     rw p.1 (Sends-append _ _ _ c.args.words.now (decimal c.args.number ++ 10 ∷ []) c.write_all.result _ _ c.write_all.ensures.sent
-    c.in_ok-write_all.was
-    (Sends-stopped _ _ (decimal c.args.number) (10 ∷ []) c.write_all-2.result _ second))
+    c.in_ok-write_all.was (Sends-stopped _ _ (decimal c.args.number) (10 ∷ []) c.write_all-2.result _ second))
 
 pub returns-clause-sent : goal.returns-clause-sent
 returns-clause-sent g c =
@@ -26,6 +24,5 @@ returns-clause-sent g c =
     let second = subst (λ bytes. Sends (g.K.Sink.received c.write_all.new.sink) (g.K.Sink.received c.write_all-2.new.sink) bytes
     c.write_all-2.result) digits c.write_all-2.ensures.sent in
     Sends-append _ _ _ c.args.words.now (decimal c.args.number ++ 10 ∷ []) c.write_all.result c.write_all-3.result _
-    c.write_all.ensures.sent c.in_ok-write_all.was
-    (Sends-append _ _ _ (decimal c.args.number) (10 ∷ []) c.write_all-2.result c.write_all-3.result _ second c.in_ok-write_all-2.was
-    c.write_all-3.ensures.sent)
+    c.write_all.ensures.sent c.in_ok-write_all.was (Sends-append _ _ _ (decimal c.args.number) (10 ∷ []) c.write_all-2.result
+    c.write_all-3.result _ second c.in_ok-write_all-2.was c.write_all-3.ensures.sent)

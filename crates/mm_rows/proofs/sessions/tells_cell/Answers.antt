@@ -1,5 +1,4 @@
-use Rattle.std.proofs.Common.{ap, sym, ◌∙◌}
-use Rattle.mm_twocell.specs.Torn.{Torn}
+use Rattle.mm_rows.proofs.Below.{ap, sym, ◌∙◌, Torn}
 use Rattle.mm_rows.proofs.InMemory.{tells_picked}
 use Rattle.mm_rows.proofs.sessions.tells_cell.Goals as goal
 

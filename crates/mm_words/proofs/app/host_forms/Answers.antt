@@ -1,6 +1,4 @@
-use Rattle.std.proofs.Common.{refl, codes}
-use Rattle.clap.specs.Words.{app_of, new_app}
-use Rattle.mm_words.specs.App.{header_app}
+use Rattle.mm_words.proofs.Below.{refl, codes, app_of, new_app, header_app}
 use Rattle.mm_words.proofs.app.host_forms.Goals as goal
 
 pub returns : goal.returns

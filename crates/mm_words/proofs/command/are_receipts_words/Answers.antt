@@ -1,5 +1,4 @@
-use Rattle.std.proofs.Common.{◌∙◌, sym}
-use Rattle.std.proofs.lemmas.Slice.Eq.{bytes_eq-Decides}
+use Rattle.mm_words.proofs.Below.{◌∙◌, sym, bytes_eq-Decides}
 use Rattle.mm_words.proofs.Reading.{tells_two}
 use Rattle.mm_words.proofs.command.are_receipts_words.Goals as goal
 

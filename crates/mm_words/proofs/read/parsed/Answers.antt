@@ -1,9 +1,4 @@
-use Rattle.std.proofs.Common.{◌∙◌, ℕ, List, sym, ap}
-use Rattle.std.specs.Prelude.{map}
-use Rattle.std.specs.Borrow.{Bor}
-use Rattle.clap.specs.Simple.{App, is_simple, subcommand_of}
-use Rattle.clap.specs.Takes.{takes}
-use Rattle.clap.specs.Walk.{rows_of}
+use Rattle.mm_words.proofs.Below.{◌∙◌, ℕ, List, sym, ap, map, Bor, App, is_simple, subcommand_of, takes, rows_of}
 use Rattle.clap.specs.Matches.{found_of}
 use Rattle.mm_words.proofs.Matched.{is_matched, is_taken}
 use Rattle.mm_words.proofs.Reading.{both_of, none_some, same_some}
