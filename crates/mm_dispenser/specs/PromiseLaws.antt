@@ -1,8 +1,7 @@
 -- Runs of a dispenser keep its promise.
-use Rattle.std.specs.Prelude.{◌≡◌, ℕ, ◌+◌, ◌<◌, ◌≤◌, ◌⊎◌, nat_lt, Bool, true, false, List, Option, Some, option_and_then}
+use Rattle.std.specs.Prelude.{◌≡◌, ℕ, ◌<◌, ◌⊎◌, List, Option, Some, option_and_then}
 use Rattle.std.specs.List.{AllByRecursion}
-use Rattle.std.proofs.Common.{inl, inr, refl, ◌∙◌, ap, arith}
-use Rattle.std.proofs.lemmas.Bool.Decides.{nat_tests}
+use Rattle.std.proofs.Common.{inl, inr, ◌∙◌, ap, arith}
 use Rattle.mm_module.specs.Meaning.{outputs_from}
 use Rattle.mm_listing.specs.Tellings.{AreSaid, Telling, WasSaid}
 use Rattle.mm_listing.specs.TellingLaws.{at-place, one-telling}
@@ -17,30 +16,23 @@ places-are : (outputs : List (List ℕ)) (telling : Telling) (p : PlacesFrom)
 places-are outputs telling p said is =
     ap (λ (o : Option (List ℕ)). option_and_then places_told o) said ∙ is
 
-apart-by : (outputs : List (List ℕ)) → RisesByPlaces outputs
-    → (a b : Telling) (p q : PlacesFrom) (before behind : Bool)
-    → nat_lt a.before b.before ≡ before → nat_lt b.before a.before ≡ behind
-    → WasSaid outputs a → WasSaid outputs b → places_told a.output ≡ Some p
-    → places_told b.output ≡ Some q
-    → (a ≡ b) ⊎ ((p.from + p.size ≤ q.from) ⊎ (q.from + q.size ≤ p.from))
-apart-by outputs rises a b p q true behind is after one two pp qq =
-    let first : a.before < b.before = grind (arith, nat_tests) in
-    inr (inl (rises a.before b.before p q first (places-are outputs a p one pp)
-    (places-are outputs b q two qq)))
-apart-by outputs rises a b p q false true is after one two pp qq =
-    let first : b.before < a.before = grind (arith, nat_tests) in
-    inr (inr (rises b.before a.before q p first (places-are outputs b q two qq)
-    (places-are outputs a p one pp)))
-apart-by outputs rises a b p q false false is after one two pp qq =
-    let same : a.before ≡ b.before = grind (arith, nat_tests) in
-    inl (one-telling outputs a b one two same)
+by_order : (a b : ℕ) → (a ≡ b) ⊎ ((a < b) ⊎ (b < a))
+by_order a b = grind arith
 
 places-apart : (outputs : List (List ℕ)) → RisesByPlaces outputs → (tellings : List Telling)
     → AllByRecursion (WasSaid outputs) tellings → TellsPlacesOnce tellings
 places-apart outputs rises tellings said i j a b p q at_a at_b pp qq =
-    apart-by outputs rises a b p q (nat_lt a.before b.before) (nat_lt b.before a.before) refl refl
-    (at-place (WasSaid outputs) tellings i a said at_a)
-    (at-place (WasSaid outputs) tellings j b said at_b) pp qq
+    let one = at-place (WasSaid outputs) tellings i a said at_a in
+    let two = at-place (WasSaid outputs) tellings j b said at_b in
+    let first = places-are outputs a p one pp in
+    let second = places-are outputs b q two qq in
+    elim (by_order a.before b.before) [
+      | inl same ↦ inl (one-telling outputs a b one two same)
+      | inr other ↦ inr (elim other [
+        | inl before ↦ inl (rises a.before b.before p q before first second)
+        | inr behind ↦ inr (rises b.before a.before q p behind second first)
+      ])
+    ]
 
 -- every run keeps the promise
 pub keeps-apart : (requests : List (List ℕ)) (tellings : List Telling)

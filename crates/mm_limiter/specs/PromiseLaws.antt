@@ -1,15 +1,15 @@
 -- Runs of a limiter keep its promise.
-use Rattle.std.specs.Prelude.{◌≡◌, ℕ, suc, zero, ◌+◌, ◌≤◌, ◌==◌, ◌&&◌, ◌||◌, Bool, true, false, cond, List, [], ◌∷◌, take, drop, Some, slice_get, count_by}
+use Rattle.std.specs.Prelude.{◌≡◌, ℕ, suc, zero, ◌+◌, ◌≤◌, ◌==◌, ◌&&◌, ◌||◌, ◌⊎◌, Bool, true, false, cond, List, [], ◌∷◌, take, drop, Some, slice_get, count_by}
 use Rattle.std.specs.List.{AllByRecursion, range_with_len}
-use Rattle.std.proofs.Common.{refl, sym, ◌∙◌, ap, subst, arith}
+use Rattle.std.proofs.Common.{inl, inr, refl, sym, ◌∙◌, ap, subst, arith}
 use Rattle.std.proofs.lemmas.Bool.Decides.{nat_tests}
 use Rattle.std.proofs.lemmas.List.Sums.{sum_by-cons}
 use Rattle.mm_module.specs.Meaning.{outputs_from}
 use Rattle.mm_listing.specs.Tellings.{AreSaid, Telling, WasSaid}
-use Rattle.mm_listing.specs.TellingLaws.{drop-next, none-some, slice_get-drop, some-same}
-use Rattle.mm_limiter.specs.Guesses.{is_wrong, GuessesAreLimited}
+use Rattle.mm_listing.specs.TellingLaws.{drop-next, slice_get-drop, some-same}
+use Rattle.mm_limiter.specs.Guesses.{is_wrong}
 use Rattle.mm_limiter.specs.GuessLaws.{guesses-limited}
-use Rattle.mm_limiter.specs.Promise.{tells_wrong, KeepsGuessesFew, TellsFewWrong}
+use Rattle.mm_limiter.specs.Promise.{tells_wrong, KeepsGuessesFew}
 use Rattle.mm_limiter.specs.Table.{limiter}
 
 -- the output at this place is a wrong guess
@@ -17,53 +17,34 @@ abbrev IsWrongAt : List (List ℕ) → ℕ → Type 0
 IsWrongAt outputs before =
     (output : List ℕ) × (slice_get outputs before ≡ Some output) × (is_wrong output ≡ true)
 
-both : (a b : Bool) → (a && b) ≡ true → (a ≡ true) × (b ≡ true)
-both true b is = (refl, is)
-both false b is = cc
-
-same_place : (n before : ℕ) → (n == before) ≡ true → n ≡ before
-same_place n before is = grind (arith, nat_tests)
-
 -- a place that is told wrong was wrong
-told_wrong-by : (outputs : List (List ℕ)) (telling : Telling) (before : ℕ) (flag more : Bool)
-    → (telling.before == before && is_wrong telling.output) ≡ flag
-    → WasSaid outputs telling → (more ≡ true → IsWrongAt outputs before) → (flag || more) ≡ true
-    → IsWrongAt outputs before
-told_wrong-by outputs telling before true more here said later is =
-    let w = both (telling.before == before) (is_wrong telling.output) here in (
-      telling.output,
-      subst (λ n. slice_get outputs n ≡ Some telling.output)
-          (same_place telling.before before w.0) said,
-      w.1,
-    )
-told_wrong-by outputs telling before false more here said later is = later is
+told_first : (telling : Telling) (before : ℕ) (more : Bool)
+    → ((telling.before == before && is_wrong telling.output) || more) ≡ true
+    → ((telling.before ≡ before) × (is_wrong telling.output ≡ true)) ⊎ (more ≡ true)
+told_first telling before more is = grind (arith, nat_tests)
 
 told_wrong : (outputs : List (List ℕ)) (tellings : List Telling) (before : ℕ)
     → AllByRecursion (WasSaid outputs) tellings
     → tells_wrong tellings before ≡ true → IsWrongAt outputs before
-told_wrong outputs [] before said is = absurd (nothing is)
-  where
-    nothing : false ≡ true → ⊥
-    nothing h = cc
+told_wrong outputs [] before said is = cc
 told_wrong outputs (telling ∷ tellings) before said is =
-    told_wrong-by outputs telling before (telling.before == before && is_wrong telling.output)
-    (tells_wrong tellings before) refl said.0
-    (told_wrong outputs tellings before said.1) is
-
-less : (a b : Bool) → (a ≡ true → b ≡ true) → cond a 1 0 ≤ cond b 1 0
-less false true h = omega arith
-less false false h = omega arith
-less true true h = omega arith
-less true false h = absurd (nothing (h refl))
-  where
-    nothing : false ≡ true → ⊥
-    nothing h = cc
+    elim (told_first telling before (tells_wrong tellings before) is) [
+      | inl w ↦ (
+        telling.output,
+        subst (λ n. slice_get outputs n ≡ Some telling.output) w.0 said.0,
+        w.1,
+      )
+      | inr later ↦ told_wrong outputs tellings before said.1 later
+    ]
 
 -- one place more
+less : (a b : Bool) → (a ≡ true → b ≡ true) → cond a 1 0 ≤ cond b 1 0
+less a b h = grind arith
+
 place-counts : (p : Bool) (rest : List (List ℕ)) (size : ℕ) → (p ≡ true → IsWrongAt rest 0)
     → cond p 1 0 + count_by is_wrong (take size (drop 1 rest)) ≤ count_by is_wrong
     (take (suc size) rest)
-place-counts true [] size holds = absurd (let w = holds refl in none-some w.0 w.1)
+place-counts true [] size holds = let none = (holds refl).1 in cc
 place-counts false [] zero holds = omega arith
 place-counts false [] (suc size) holds = omega arith
 place-counts p (x ∷ rest) size holds =
@@ -89,20 +70,14 @@ places-count (suc size) from p outputs holds =
     let sum = sum_by-cons (λ (n : ℕ). cond (p n) 1 0) from (range_with_len (from + 1) size) in
     omega (arith, sum, more, place-counts (p from) (drop from outputs) size here)
 
-few-told : (law : GuessesAreLimited) (requests : List (List ℕ)) (tellings : List Telling)
-    → AreSaid limiter requests tellings → TellsFewWrong requests tellings
-few-told law requests tellings said from size none =
-    let outputs = outputs_from limiter limiter.first requests in
-    let counted = places-count size from (tells_wrong tellings) outputs
-    (λ before is. told_wrong outputs tellings before said is) in
-    omega (arith, counted, law requests from size none)
-
 -- every run keeps the promise
 pub keeps-few : (requests : List (List ℕ)) (tellings : List Telling)
     → AreSaid limiter requests tellings → KeepsGuessesFew requests tellings
-keeps-few requests tellings said =
-    record {
-      guesses = guesses-limited requests;
-      told = few-told guesses-limited requests tellings
-          said;
-    }
+keeps-few requests tellings said = record {
+  guesses = guesses-limited requests;
+  told = λ from size none.
+      let outputs = outputs_from limiter limiter.first requests in
+      let counted = places-count size from (tells_wrong tellings) outputs
+      (λ before is. told_wrong outputs tellings before said is) in
+      omega (arith, counted, guesses-limited requests from size none);
+}

@@ -1,8 +1,8 @@
 -- Laws of batches.
-use Rattle.std.proofs.Common.{◌≡◌, ℕ, ◌<◌, ◌≤◌, List, [], ◌∷◌, length, Bool, true, false, ◌||◌, cond, refl, ap, sym, ◌∙◌, arith, if◌then◌else◌, rules}
+use Rattle.std.proofs.Common.{◌≡◌, ℕ, ◌<◌, List, [], ◌∷◌, Bool, true, false, ◌||◌, cond, refl, ap, sym, arith, if◌then◌else◌}
 use Rattle.std.specs.List.{slice_split, onto_first, join_with_byte}
 use Rattle.std.proofs.lemmas.List.Splits.{join_with_byte-slice_split, length-slice_split}
-use Rattle.mm_module.specs.Batch.{Batch, One, Many, members_of, batch_text, size_of, IsBatch, normal}
+use Rattle.mm_module.specs.Batch.{Batch, One, Many, members_of, batch_text, size_of, normal}
 use Rattle.mm_module.specs.BatchWords.{is_tab, has_tab}
 
 -- the members, joined by TABs, are the text

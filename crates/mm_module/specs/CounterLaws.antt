@@ -1,34 +1,34 @@
 -- The laws of the counter.
-use Rattle.std.specs.Prelude.{◌≡◌, ◌==◌, ℕ, ◌+◌, ◌^◌, ◌<◌, List, length, Bool, true, false, nat_lt, All, Option, Some, None, if◌then◌else◌}
-use Rattle.std.proofs.Common.{refl, arith, rules}
-use Rattle.mm_module.specs.LineLaws.{and-true, is_byte-rem, All-are_bytes, IsText, IsLine-text, is_unbroken-decimal, length-decimal}
+use Rattle.std.specs.Prelude.{◌≡◌, ℕ, ◌^◌, ◌<◌, List, length, true}
+use Rattle.std.proofs.Common.{refl, arith}
+use Rattle.mm_module.specs.LineLaws.{is_byte-rem, All-are_bytes, IsText, is_unbroken-decimal, length-decimal}
 use Rattle.std.proofs.lemmas.Bool.Decides.{nat_tests}
 use Rattle.mm_base.specs.Fields.{eight_bytes}
 use Rattle.mm_module.specs.Bytes.{are_bytes}
 use Rattle.mm_module.specs.Numbers.{of_eight_bytes}
-use Rattle.mm_module.specs.declared.counter.Request.{Request}
-use Rattle.mm_module.specs.declared.counter.Request.TheVariants.{Read, Add}
+use Rattle.mm_module.specs.PartLaws.{of_eight_bytes-eight}
+use Rattle.mm_module.specs.Words.{words_of}
 use Rattle.mm_module.specs.declared.counter.Says.{Says}
-use Rattle.mm_module.specs.declared.counter.Says.TheVariants.{Value, Full, Bad}
+use Rattle.mm_module.specs.declared.counter.Says.TheVariants.{Value}
 use Rattle.mm_module.specs.Meaning.{IsLawful, IsShort}
-use Rattle.mm_module.specs.CounterTable.{counter, stepped, is_state, outcome_of, text_of}
+use Rattle.mm_module.specs.TableLaws.{IsTable, IsOutcome, table_is_lawful, table_is_short}
+use Rattle.mm_module.specs.CounterTable.{counter, stepped, is_state, request_of, outcome_of, text_of}
 
 -- a state has 8 bytes
-length-state : (state : List ℕ) → is_state state ≡ true → length state ≡ 8
-unfolding is_state
-length-state state is =
-    let eight = (and-true (are_bytes state) (length state == 8) is).1 in grind (arith, nat_tests)
+record IsEight (state : List ℕ) : Type 0 where
+  long : length state ≡ 8
+  bytes : are_bytes state ≡ true
 
-bytes-state : (state : List ℕ) → is_state state ≡ true → All (λ byte. byte < 256) state
+state-eight : (state : List ℕ) → is_state state ≡ true → IsEight state
 unfolding is_state
-bytes-state state is = All-are_bytes state (and-true (are_bytes state) (length state == 8) is).0
+state-eight state is = grind (arith, nat_tests)
 
 -- a state's value has 64 bits
 value-lt : (state : List ℕ) → is_state state ≡ true → of_eight_bytes state < 2 ^ 64
 unfolding of_eight_bytes
 value-lt state is =
-    let eight = length-state state is in
-    let small = bytes-state state is in
+    let eight = (state-eight state is).long in
+    let small = All-are_bytes state (state-eight state is).bytes in
     omega (
       arith,
       small 0 0 (omega arith),
@@ -49,57 +49,42 @@ is_state-eight value = simp is_byte-rem
 -- what is said of 64 bits
 abbrev Says64 : Says → Type 0
 Says64 (Value value) = value < 2 ^ 64
-Says64 Full = Unit {0}
-Says64 Bad = Unit {0}
+Says64 _ = Unit {0}
 
 -- its text is at most 20 bytes, with no LF
 text_of-IsText : (says : Says) → Says64 says → IsText 20 (text_of says)
-text_of-IsText (Value value) small =
-    record { short = length-decimal value small; unbroken = is_unbroken-decimal value small }
-text_of-IsText Full _ = record { short = omega arith; unbroken = refl }
-text_of-IsText Bad _ = record { short = omega arith; unbroken = refl }
+text_of-IsText says small = grind (arith, length-decimal, is_unbroken-decimal)
 
-added-64 : (value number : ℕ) (flag : Bool) → nat_lt (value + number) (2 ^ 64) ≡ flag
-    → Says64 (if◌then◌else◌ {A = ℕ × Says} flag (value + number, Value (value + number))
-    (value, Full)).1
-added-64 value number true is = grind (arith, nat_tests)
-added-64 value number false is = tt
-
-outcome_of-64 : (value : ℕ) (request : Option Request) → value < 2 ^ 64
-    → Says64 (outcome_of value request).1
-outcome_of-64 value (Some Read) small = small
-outcome_of-64 value (Some (Add number)) small =
-    added-64 value number (nat_lt (value + number) (2 ^ 64)) refl
-outcome_of-64 value None small = tt
-
--- what a counter says is at most 20 bytes, with no LF
-counter_says : (state request : List ℕ) → is_state state ≡ true
-    → IsText 20 (counter.says state request)
-unfolding stepped
-counter_says state request is =
-    text_of-IsText _ (outcome_of-64 (of_eight_bytes state) _ (value-lt state is))
-
-counter_begins : is_state counter.first ≡ true
-unfolding is_state
-counter_begins = refl
+outcome_of-64 : (value : ℕ) (request : List ℕ) → value < 2 ^ 64
+    → IsOutcome (λ v. v < 2 ^ 64) Says64 (outcome_of value (request_of (words_of request)))
+outcome_of-64 value request small = grind (arith, nat_tests)
 
 -- the counter is a module
-pub counter_is_lawful : IsLawful counter
-counter_is_lawful = record {
-  begins = search (rules, counter_begins);
-  goes_on = λ state request is. search (rules, is_state-eight (stepped state request).0);
-  fits = λ state is. omega (arith, length-state state (search (rules, is)));
-  has_bytes = λ state is. bytes-state state (search (rules, is));
-  says_lines =
-      λ state request is. IsLine-text 20 _ (omega arith)
-      (counter_says state request (search (rules, is)));
+counter_table : IsTable (record {
+  first = 0;
+  read = of_eight_bytes;
+  spelling = eight_bytes;
+  does = λ value request.
+      let o = outcome_of value (request_of (words_of request)) in (o.0, text_of o.1);
+}) counter (λ value. value < 2 ^ 64) 8 20
+unfolding stepped
+counter_table = record {
+  begins = unfold eight_bytes in refl;
+  first = omega arith;
+  reads = value-lt;
+  spells = λ value small. is_state-eight value;
+  back = of_eight_bytes-eight;
+  next = λ state request. refl;
+  says = λ state request. refl;
+  stays = λ value request small. (outcome_of-64 value request small).state;
+  tells = λ value request small. text_of-IsText _ (outcome_of-64 value request small).said;
+  fits = λ state is. omega (arith, (state-eight state is).long);
+  bytes = λ state is. (state-eight state is).bytes;
 }
+
+pub counter_is_lawful : IsLawful counter
+counter_is_lawful = table_is_lawful counter_table (omega arith) (omega arith)
 
 -- a counter is short
 pub counter_is_short : IsShort counter
-counter_is_short = record {
-  state = λ state is. omega (arith, length-state state (search (rules, is)));
-  output =
-      λ state request is. let text = counter_says state request (search (rules, is))
-      in omega (arith, text.short);
-}
+counter_is_short = table_is_short counter_table (omega arith) (omega arith)

@@ -61,20 +61,24 @@ are_bytes-Fits (x ∷ xs) fits =
 pub is_byte-rem : (x : ℕ) → is_byte (x % 256) ≡ true
 is_byte-rem x = let small : x % 256 < 256 = omega arith in grind (arith, nat_tests)
 
-digit_unbroken : (d : ℕ) → is_ascii_digit d ≡ true → not (d == 10) ≡ true
-digit_unbroken d is = grind (arith, nat_tests)
+-- what each digit passes, a decimal passes
+digits-pass : (p : ℕ → Bool) → ((d : ℕ) → is_ascii_digit d ≡ true → p d ≡ true)
+    → (digits : List ℕ) → all_ascii_digits digits ≡ true → list_all p digits ≡ true
+digits-pass p each [] is = refl
+digits-pass p each (d ∷ ds) is = let w = and-true (is_ascii_digit d) (all_ascii_digits ds) is in
+    and-both (p d) (list_all p ds) (each d w.0) (digits-pass p each ds w.1)
 
-digits_unbroken : (digits : List ℕ) → all_ascii_digits digits ≡ true → is_unbroken digits ≡ true
-digits_unbroken [] is = refl
-digits_unbroken (d ∷ ds) is = let w = and-true (is_ascii_digit d) (all_ascii_digits ds) is in
-    and-both (not (d == 10)) (is_unbroken ds) (digit_unbroken d w.0) (digits_unbroken ds w.1)
+pub passes-decimal : (p : ℕ → Bool) → ((d : ℕ) → is_ascii_digit d ≡ true → p d ≡ true)
+    → (n : ℕ) → n < 2 ^ 64 → list_all p (decimal n) ≡ true
+passes-decimal p each n small =
+    digits-pass p each (decimal n)
+    (digits_decimal (numerals_by_value (λ ds. all_ascii_digits ds ≡ true)
+    tells_all_ascii_digits) n small)
 
 -- a decimal has no LF
 pub is_unbroken-decimal : (n : ℕ) → n < 2 ^ 64 → is_unbroken (decimal n) ≡ true
 is_unbroken-decimal n small =
-    digits_unbroken (decimal n)
-    (digits_decimal (numerals_by_value (λ ds. all_ascii_digits ds ≡ true)
-    tells_all_ascii_digits) n small)
+    passes-decimal (λ byte. not (byte == 10)) (λ d is. grind (arith, nat_tests)) n small
 
 -- a decimal of 64 bits has at most 20 digits
 pub length-decimal : (n : ℕ) → n < 2 ^ 64 → length (decimal n) ≤ 20

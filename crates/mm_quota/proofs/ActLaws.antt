@@ -1,9 +1,9 @@
 -- What an action does to the bytes of a ledger.
-use Rattle.mm_quota.proofs.Below.{Result, Ok, Err, IfOk, ◌≡◌, suc, ◌+◌, ◌^◌, ◌<◌, ◌≤◌, Bool, true, false, nat_le, List, [], ◌++◌, length}
+use Rattle.mm_quota.proofs.Below.{Result, Ok, Err, IfOk, ◌≡◌, ◌+◌, ◌^◌, ◌<◌, ◌≤◌, Bool, true, false, nat_le, List, [], ◌++◌, length}
 use Rattle.mm_quota.proofs.Below.{Option, Some, None, is_some, option_map, if◌then◌else◌, refl, sym, ◌∙◌, ap, arith, subst, nat_tests}
 use Rattle.mm_quota.proofs.Below.{Account, Action, Request, On, Says, account_named, put, decision_of, is_name, is_account, request_of}
 use Rattle.mm_quota.proofs.Below.{rises, account_bytes, body_of, count_bytes, is_state, ledger_of, stepped, greatest_limit, FoundOf}
-use Rattle.mm_quota.proofs.Below.{account_named-found, length-put-there, length-put-absent, is_state-SpellsLedger, IsAccount-from}
+use Rattle.mm_quota.proofs.Below.{account_named-found, length-put, is_state-SpellsLedger, IsAccount-from}
 use Rattle.mm_quota.proofs.Below.{IsSpelled, as_account}
 use Rattle.std.specs.Prelude.{ℕ, min}
 use Rattle.mm_quota.specs.Table.{spelling_of}
@@ -16,9 +16,7 @@ pub IsSpelled-from : (most : ℕ) (bytes : List ℕ) → most < 2 ^ 16 → is_st
 IsSpelled-from most bytes small is =
     let h = is_state-SpellsLedger most bytes is in
     record {
-      few = omega (arith, h.ledger.few);
-      good = h.ledger.good;
-      rising = h.ledger.rising;
+      ledger = record { few = omega (arith, h.ledger.few); good = h.ledger.good; rising = h.ledger.rising };
       spelled = h.spelled;
       body = h.body;
       counted = h.counted;
@@ -29,26 +27,17 @@ pub few-from : (most : ℕ) (bytes : List ℕ) → is_state most bytes ≡ true 
 few-from most bytes is = (is_state-SpellsLedger most bytes is).ledger.few
 
 -- the account that was found
-within-step : (name : List ℕ) (found : Option declared.Account) (named : Option Account) → option_map as_account found ≡ named
+within : (name : List ℕ) (found : Option declared.Account) (named : Option Account) → option_map as_account found ≡ named
     → FoundOf is_account name named → (account : declared.Account) → found ≡ Some account
     → (account.used ≤ account.limit) × (account.limit ≤ greatest_limit)
-within-step name found None same is account this =
-    let clash : true ≡ false = sym (ap (λ (f : Option declared.Account). is_some (option_map as_account f)) this)
-    ∙ ap (λ (n : Option Account). is_some n) same in cc
-within-step name found (Some other) same is account this =
-    let one : Some (as_account account) ≡ Some other = sym (ap (λ (f : Option declared.Account). option_map as_account f) this) ∙ same in
-    let e : as_account account ≡ other = cc in
-    let kept = IsAccount-from other is.passed in
-    let used : account.used ≡ other.used = ap (λ (a : Account). a.used) e in
-    let limit : account.limit ≡ other.limit = ap (λ (a : Account). a.limit) e in
-    (omega (arith, used, limit, kept.within), omega (arith, limit, kept.limited))
+within name found (Some other) same is account this = grind (arith, IsAccount-from other is.passed)
+within name found None same is account this = grind arith
 
 pub found-within : (bytes name : List ℕ) (found : Option declared.Account) → IsSpelled bytes
     → option_map as_account found ≡ account_named name (ledger_of bytes) → (account : declared.Account) → found ≡ Some account
     → (account.used ≤ account.limit) × (account.limit ≤ greatest_limit)
 found-within bytes name found is same account this =
-    within-step name found (account_named name (ledger_of bytes)) same (account_named-found is_account name (ledger_of bytes) is.good)
-    account this
+    within name found _ same (account_named-found is_account name (ledger_of bytes) is.ledger.good) account this
 
 -- the account that a decision puts
 pub put-is : (most : ℕ) (bytes name : List ℕ) (action : Action) (account : Account) → IsSpelled bytes → is_name name ≡ true
@@ -56,7 +45,7 @@ pub put-is : (most : ℕ) (bytes name : List ℕ) (action : Action) (account : A
     account → IsPut (nat_le most (length (ledger_of bytes))) name (account_named name (ledger_of bytes)) account
 put-is most bytes name action account is named acts puts =
     let d = decision_of-is (nat_le most (length (ledger_of bytes))) name (account_named name (ledger_of bytes)) action named acts
-    (account_named-found is_account name (ledger_of bytes) is.good) in
+    (account_named-found is_account name (ledger_of bytes) is.ledger.good) in
     let P : Option Account
     → Type 0 = λ change. PutIf (nat_le most (length (ledger_of bytes))) name (account_named name (ledger_of bytes)) change in
     subst P puts d.change
@@ -64,12 +53,7 @@ put-is most bytes name action account is named acts puts =
 count-case : (most : ℕ) (accounts : List Account) (account : Account) (there : Bool) → is_some (account_named account.name accounts) ≡ there
     → rises [] accounts ≡ true → (there ≡ false → nat_le most (length accounts) ≡ false) → most < 2 ^ 16
     → (if there then length accounts else min (length accounts + 1) 65535) ≡ length (put account accounts)
-count-case most accounts account true is rising room small = sym (length-put-there [] account accounts rising is)
-count-case most accounts account false is rising room small =
-    let free : length accounts < most = let spare : nat_le most (length accounts) ≡ false = room refl in grind (arith, nat_tests) in
-    let longer : length (put account accounts) ≡ suc (length accounts) = length-put-absent account accounts is in
-    let fits : min (length accounts + 1) 65535 ≡ length accounts + 1 = omega arith in
-    fits ∙ omega arith
+count-case most accounts account there is rising room small = grind (arith, nat_tests, length-put account accounts rising)
 
 -- the bytes with the account at its place are those of the ledger with the account
 pub put-spelled : (most count : ℕ) (bytes name front back : List ℕ) (account : Account) (there : Bool) → most < 2 ^ 16 → IsSpelled bytes
@@ -83,7 +67,7 @@ put-spelled most count bytes name front back account there small is puts there_i
     let found : is_some (account_named account.name (ledger_of bytes)) ≡ there = ap
     (λ (n : List ℕ). is_some (account_named n (ledger_of bytes))) puts.named ∙ sym there_is in
     let counted : count ≡ length (put account (ledger_of bytes)) = count_is
-    ∙ count-case most (ledger_of bytes) account there found is.rising (λ absent. puts.room (sym there_is ∙ absent)) small in
+    ∙ count-case most (ledger_of bytes) account there found is.ledger.rising (λ absent. puts.room (sym there_is ∙ absent)) small in
     rw (counted, stands account puts.named) refl
 
 pub is_some-as_account : (found : Option declared.Account) → is_some found ≡ is_some (option_map as_account found)

@@ -1,10 +1,10 @@
 -- Going through the accounts of a ledger.
-use Rattle.mm_quota.proofs.Below.{◌≡◌, suc, ◌+◌, ◌*◌, ◌^◌, ◌<◌, ◌≤◌, ◌&&◌, Bool, true, false, nat_le, List, [], ◌∷◌, ◌++◌, length, take}
+use Rattle.mm_quota.proofs.Below.{◌≡◌, suc, ◌+◌, ◌^◌, ◌<◌, ◌≤◌, ◌&&◌, Bool, true, false, nat_le, List, [], ◌∷◌, ◌++◌, length, take}
 use Rattle.mm_quota.proofs.Below.{drop, Option, Some, None, option_map, option_and_then, refl, sym, ◌∙◌, ap, arith, subst, append_assoc}
 use Rattle.mm_quota.proofs.Below.{length-append, nat_tests, and-true, Account, order_of, account_named, put, total_used, is_account, rises}
 use Rattle.mm_quota.proofs.Below.{account_bytes, body_of, account_at, accounts_from, of_count_bytes, holds_ledger, ledger_of}
-use Rattle.mm_quota.proofs.Below.{greatest_limit, account_named-other, account_named-this, account_named-absent, bytes_eq-order}
-use Rattle.mm_quota.proofs.Below.{account_at-account_bytes, ReadsBody, accounts_from-reads, IsAccount-from, IsSpelled, follow}
+use Rattle.mm_quota.proofs.Below.{total_used-le, account_named-other, account_named-this, account_named-absent, bytes_eq-order}
+use Rattle.mm_quota.proofs.Below.{account_at-account_bytes, ReadsBody, accounts_from-reads, IsSpelled, follow}
 use Rattle.std.specs.Prelude.{ℕ, ◌-◌}
 use Rattle.std.specs.declared.cmp.Ordering.{Ordering}
 use Rattle.std.specs.declared.cmp.Ordering.TheVariants.{Less, Equal, Greater}
@@ -16,29 +16,42 @@ use Rattle.mm_module.specs.PartLaws.{are_bytes-drop}
 use Rattle.mm_quota.specs.Table.{accounts_of, is_ledger, is_state}
 
 -- the rest, where an account stands in front of it
-and-false : (b : Bool) → (b && false) ≡ false
-and-false true = refl
-and-false false = refl
-
-and-swap : (a b c d : Bool) → ((a && b) && (c && d)) ≡ (a && (c && (b && d)))
-and-swap true true c d = refl
-and-swap true false c d = sym (and-false c)
-and-swap false b c d = refl
-
 pub follow-front : (previous : List ℕ) (account : Account) (accounts : Option (List Account))
     → follow previous (option_map (λ others. account ∷ others) accounts) ≡ (is_account account
     && (is_lt (order_of previous account.name) && follow account.name accounts))
-follow-front previous account None =
-    sym (ap (λ b. is_account account && b) (and-false (is_lt (order_of previous account.name))) ∙ and-false (is_account account))
-follow-front previous account (Some accounts) =
-    and-swap (is_account account) (list_all is_account accounts) (is_lt (order_of previous account.name)) (rises account.name accounts)
+follow-front previous account accounts = grind arith
+
+-- the accounts that are left, whose bytes are the rest
+pub record Left (rest : List ℕ) (count number : ℕ) (todo : List Account) : Type 0 where
+  pub counted : length todo + number ≡ count
+  pub good : list_all is_account todo ≡ true
+  pub spelled : rest ≡ body_of todo
+
+-- the first of them is read
+record ReadsNext (rest : List ℕ) (count number : ℕ) (todo : List Account) : Type 0 where
+  account : Account
+  others : List Account
+  is : todo ≡ account ∷ others
+  read : account_at rest ≡ Some (account, body_of others)
+  later : Left (body_of others) count (number + 1) others
+
+reads-next : (rest : List ℕ) (count number : ℕ) (todo : List Account) → Left rest count number todo → number < count
+    → ReadsNext rest count number todo
+reads-next rest count number [] left going = absurd (omega (arith, left.counted))
+reads-next rest count number (account ∷ others) left going =
+    let w = and-true (is_account account) (list_all is_account others) left.good in
+    record {
+      account = account;
+      others = others;
+      is = refl;
+      read = ap account_at left.spelled ∙ account_at-account_bytes account (body_of others) w.0;
+      later = record { counted = omega (arith, left.counted); good = w.1; spelled = refl };
+    }
 
 -- a sum that goes on
 pub record Summing (bytes rest : List ℕ) (count number total : ℕ) : Type 0 where
   pub todo : List Account
-  pub counted : length todo + number ≡ count
-  pub good : list_all is_account todo ≡ true
-  pub spelled : rest ≡ body_of todo
+  pub left : Left rest count number todo
   pub summed : total + total_used todo ≡ total_used (ledger_of bytes)
 
 -- what the next account gives
@@ -47,44 +60,25 @@ NextSum bytes count number total None = ⊥
 NextSum bytes count number total (Some front) =
     (total + front.0.used ≤ total_used (ledger_of bytes)) × Summing bytes front.1 count (number + 1) (total + front.0.used)
 
-next-sum : (bytes rest : List ℕ) (count number total : ℕ) (todo : List Account) → length todo + number ≡ count
-    → list_all is_account todo ≡ true → rest ≡ body_of todo → total + total_used todo ≡ total_used (ledger_of bytes) → number < count
-    → NextSum bytes count number total (account_at rest)
-next-sum bytes rest count number total [] counted good spelled summed going = absurd (omega arith)
-next-sum bytes rest count number total (account ∷ others) counted good spelled summed going =
-    let w = and-true (is_account account) (list_all is_account others) good in
-    let front : account_at rest ≡ Some (account, body_of others) = ap (λ (b : List ℕ). account_at b) spelled
-    ∙ account_at-account_bytes account (body_of others) w.0 in
-    let next : NextSum bytes count number total
-    (Some (account, body_of others)) =
-    (omega arith, record { todo = others; counted = omega arith; good = w.1; spelled = refl; summed = omega arith }) in
-    subst (λ (f : Option (Account × List ℕ)). NextSum bytes count number total f) (sym front) next
-
-pub Summing-next : (bytes rest : List ℕ) (count number total : ℕ) → Summing bytes rest count number total → number < count
-    → NextSum bytes count number total (account_at rest)
-Summing-next bytes rest count number total is going =
-    next-sum bytes rest count number total is.todo is.counted is.good is.spelled is.summed going
-
-total_used-small : (accounts : List Account) → list_all is_account accounts ≡ true → total_used accounts ≤ greatest_limit * length accounts
-total_used-small [] all = omega arith
-total_used-small (account ∷ accounts) all =
-    let w = and-true (is_account account) (list_all is_account accounts) all in
-    let kept = IsAccount-from account w.0 in
-    omega (arith, kept.limited, kept.within, total_used-small accounts w.1)
+pub Summing-given : (bytes rest : List ℕ) (count number total : ℕ) (front : Option (Account × List ℕ))
+    → Summing bytes rest count number total → number < count → front ≡ account_at rest → NextSum bytes count number total front
+Summing-given bytes rest count number total front is going read =
+    let n = reads-next rest count number is.todo is.left going in
+    let used : total_used is.todo ≡ n.account.used + total_used n.others = ap total_used n.is in
+    subst (NextSum bytes count number total) (sym (read ∙ n.read))
+    (omega (arith, used, is.summed), record { todo = n.others; left = n.later; summed = omega (arith, used, is.summed) })
 
 -- the sum has 64 bits
 pub IsSpelled-sum : (bytes : List ℕ) → IsSpelled bytes → total_used (ledger_of bytes) < 2 ^ 64
-IsSpelled-sum bytes is = omega (arith, total_used-small (ledger_of bytes) is.good, is.few)
+IsSpelled-sum bytes is = omega (arith, total_used-le (ledger_of bytes) is.ledger.good, is.ledger.few)
 
 -- a search that goes on: every account so far comes before the name
 pub record Finding (bytes name body rest : List ℕ) (count number : ℕ) : Type 0 where
   pub todo : List Account
   pub front : List ℕ
   pub previous : List ℕ
-  pub counted : length todo + number ≡ count
-  pub good : list_all is_account todo ≡ true
+  pub left : Left rest count number todo
   pub rising : rises previous todo ≡ true
-  pub spelled : rest ≡ body_of todo
   pub whole : body ≡ front ++ rest
   pub fits : length rest ≤ length body
   pub named : account_named name (ledger_of bytes) ≡ account_named name todo
@@ -97,11 +91,8 @@ Finding-begins bytes name body count is body_is count_is =
       todo = ledger_of bytes;
       front = [];
       previous = [];
-      counted = omega arith;
-      good = is.good;
-      rising = is.rising;
-      spelled = body_is
-          ∙ is.body;
+      left = record { counted = omega arith; good = is.ledger.good; spelled = body_is ∙ is.body };
+      rising = is.ledger.rising;
       whole = refl;
       fits = omega arith;
       named = refl;
@@ -130,90 +121,60 @@ in-front body front rest whole =
     let n : length body - length rest ≡ length front = omega (arith, ap (λ (b : List ℕ). length b) whole, length-append front rest) in
     rw (n, whole) (take-append_seam front rest)
 
-put-order : (new account : Account) (accounts : List Account) (order : Ordering) → order_of new.name account.name ≡ order
-    → put new (account ∷ accounts) ≡ match_ordering order (new ∷ account ∷ accounts) (new ∷ accounts) (account ∷ put new accounts)
-put-order new account accounts order is = rw is refl
-
 put-by : (new account : Account) (accounts : List Account) (name : List ℕ) (order : Ordering) → new.name ≡ name
     → order_of name account.name ≡ order
     → put new (account ∷ accounts) ≡ match_ordering order (new ∷ account ∷ accounts) (new ∷ accounts) (account ∷ put new accounts)
 put-by new account accounts name order named is =
-    put-order new account accounts order (ap (λ (n : List ℕ). order_of n account.name) named ∙ is)
+    let e : order_of new.name account.name ≡ order = ap (λ (n : List ℕ). order_of n account.name) named ∙ is in rw e refl
 
--- what the next account gives, of the accounts that are left
-module _ (bytes name body rest : List ℕ) (count number : ℕ) (front previous : List ℕ) where
-  next-place : (todo : List Account) → length todo + number ≡ count → list_all is_account todo ≡ true → rises previous todo ≡ true
-      → rest ≡ body_of todo → body ≡ front ++ rest → length rest ≤ length body
-      → account_named name (ledger_of bytes) ≡ account_named name todo
-      → ((new : Account) → new.name ≡ name → body_of (put new (ledger_of bytes)) ≡ front ++ body_of (put new todo)) → number < count
-      → NextOf bytes name body rest count number (account_at rest)
-  next-place [] counted good rising spelled whole fits named puts going = absurd (omega arith)
-  next-place (account ∷ others) counted good rising spelled whole fits named puts going =
-      let w = and-true (is_account account) (list_all is_account others) good in
-      let r = and-true (is_lt (order_of previous account.name)) (rises account.name others) rising in
-      let read : account_at rest ≡ Some (account, body_of others) = ap (λ (b : List ℕ). account_at b) spelled
-      ∙ account_at-account_bytes account (body_of others) w.0 in
-      let head : take (length body - length rest) body ≡ front = in-front body front rest whole in
-      let split : body ≡ (front ++ account_bytes account) ++ body_of others = whole ∙ ap (λ (b : List ℕ). front ++ b) spelled
-      ∙ sym (append_assoc front (account_bytes account) (body_of others)) in
-      let next : NextPlace bytes name body rest count number account (body_of others) = record {
-        greater = λ order. record {
-          todo = others;
-          front = front ++ account_bytes account;
-          previous = account.name;
-          counted = omega arith;
-          good = w.1;
-          rising = r.1;
-          spelled = refl;
-          whole = split;
-          fits = omega (arith, ap (λ (b : List ℕ). length b) split, length-append (front ++ account_bytes account) (body_of others));
-          named = named ∙ account_named-other name account others (bytes_eq-order name account.name Greater order);
-          puts =
-              λ new is_named. puts new is_named
-              ∙ ap (λ (all : List Account). front ++ body_of all) (put-by new account others name Greater is_named order)
-              ∙ sym (append_assoc front (account_bytes account) (body_of (put new others)));
-        };
-        equal = λ order. (
-          named ∙ account_named-this name account others (bytes_eq-order name account.name Equal order),
-          λ new is_named. puts new is_named
-              ∙ ap (λ (all : List Account). front ++ body_of all) (put-by new account others name Equal is_named order)
-              ∙ ap (λ (f : List ℕ). f ++ (account_bytes new ++ body_of others)) (sym head),
-        );
-        less = λ order. (
-          named ∙ account_named-other name account others (bytes_eq-order name account.name Less order)
-              ∙ account_named-absent name account.name others order r.1,
-          λ new is_named. puts new is_named
-              ∙ ap (λ (all : List Account). front ++ body_of all) (put-by new account others name Less is_named order)
-              ∙ ap (λ (f : List ℕ). f ++ (account_bytes new ++ body_of (account ∷ others))) (sym head)
-              ∙ ap (λ (b : List ℕ). take (length body - length rest) body ++ (account_bytes new ++ b)) (sym spelled),
-        );
-      } in
-      subst (λ (f : Option (Account × List ℕ)). NextOf bytes name body rest count number f) (sym read) next
-
-pub Finding-next : (bytes name body rest : List ℕ) (count number : ℕ) → Finding bytes name body rest count number → number < count
-    → NextOf bytes name body rest count number (account_at rest)
-Finding-next bytes name body rest count number is going =
-    next-place bytes name body rest count number is.front is.previous is.todo is.counted is.good is.rising is.spelled is.whole is.fits
-    is.named is.puts going
+-- what the next account gives
+pub Finding-given : (bytes name body rest : List ℕ) (count number : ℕ) (front : Option (Account × List ℕ))
+    → Finding bytes name body rest count number → number < count → front ≡ account_at rest → NextOf bytes name body rest count number front
+Finding-given bytes name body rest count number front is going read =
+    let n = reads-next rest count number is.todo is.left going in
+    let account = n.account in
+    let others = n.others in
+    let named = is.named ∙ ap (account_named name) n.is in
+    let rising : rises is.previous (account ∷ others) ≡ true = ap (rises is.previous) (sym n.is) ∙ is.rising in
+    let later = (and-true (is_lt (order_of is.previous account.name)) (rises account.name others) rising).1 in
+    let puts = λ (new : Account) (is_named : new.name ≡ name) (order : Ordering) (o : order_of name account.name ≡ order).
+    is.puts new is_named
+    ∙ ap (λ (all : List Account). is.front ++ body_of all) (ap (put new) n.is ∙ put-by new account others name order is_named o) in
+    let spelled : rest ≡ account_bytes account ++ body_of others = is.left.spelled ∙ ap body_of n.is in
+    let split : body ≡ (is.front ++ account_bytes account) ++ body_of others = is.whole ∙ ap (λ (b : List ℕ). is.front ++ b) spelled
+    ∙ sym (append_assoc is.front (account_bytes account) (body_of others)) in
+    let head = in-front body is.front rest is.whole in
+    subst (NextOf bytes name body rest count number) (sym (read ∙ n.read)) (record {
+      greater = λ o. record {
+        todo = others;
+        front = is.front ++ account_bytes account;
+        previous = account.name;
+        left = n.later;
+        rising = later;
+        whole = split;
+        fits = omega (arith, ap (λ (b : List ℕ). length b) split, length-append (is.front ++ account_bytes account) (body_of others));
+        named = named ∙ account_named-other name account others (bytes_eq-order name account.name Greater o);
+        puts = λ new is_named. puts new is_named Greater o
+            ∙ sym (append_assoc is.front (account_bytes account) (body_of (put new others)));
+      };
+      equal = λ o. (
+        named ∙ account_named-this name account others (bytes_eq-order name account.name Equal o),
+        λ new is_named. puts new is_named Equal o ∙ ap (λ (f : List ℕ). f ++ (account_bytes new ++ body_of others)) (sym head),
+      );
+      less = λ o. (
+        named ∙ account_named-other name account others (bytes_eq-order name account.name Less o)
+            ∙ account_named-absent name account.name others o later,
+        λ new is_named. puts new is_named Less o
+            ∙ ap (λ (f : List ℕ). f ++ (account_bytes new ++ body_of (account ∷ others))) (sym head)
+            ∙ ap (λ (b : List ℕ). take (length body - length rest) body ++ (account_bytes new ++ b)) (sym spelled),
+      );
+    })
 
 -- one account more of a body
 pub accounts_from-suc : (count number : ℕ) (rest : List ℕ) → number < count
     → accounts_from (count - number) rest ≡ option_and_then
     (λ (f : Account × List ℕ). option_map (λ accounts. f.0 ∷ accounts) (accounts_from (count - (number + 1)) f.1)) (account_at rest)
 accounts_from-suc count number rest going = let n : count - number ≡ suc (count - (number + 1)) = omega arith in rw n refl
-
--- the same, of what was read at the front of the rest
-pub Summing-given : (bytes rest : List ℕ) (count number total : ℕ) (front : Option (Account × List ℕ))
-    → Summing bytes rest count number total → number < count → front ≡ account_at rest → NextSum bytes count number total front
-Summing-given bytes rest count number total front is going read =
-    subst (λ (f : Option (Account × List ℕ)). NextSum bytes count number total f) (sym read)
-    (Summing-next bytes rest count number total is going)
-
-pub Finding-given : (bytes name body rest : List ℕ) (count number : ℕ) (front : Option (Account × List ℕ))
-    → Finding bytes name body rest count number → number < count → front ≡ account_at rest → NextOf bytes name body rest count number front
-Finding-given bytes name body rest count number front is going read =
-    subst (λ (f : Option (Account × List ℕ)). NextOf bytes name body rest count number f) (sym read)
-    (Finding-next bytes name body rest count number is going)
 
 -- the rest follows, where a formed account of a later name stands in front of it
 pub follow-next : (previous rest : List ℕ) (count number : ℕ) (front : Account × List ℕ) → number < count → Some front ≡ account_at rest
@@ -228,21 +189,14 @@ follow-next previous rest count number front going read formed later =
     (sym formed) ∙
     ap (λ (b : Bool). b && follow front.0.name (accounts_from (count - (number + 1)) front.1)) (sym later)
 
-and-assoc : (a b c : Bool) → ((a && b) && c) ≡ (a && (b && c))
-and-assoc true b c = refl
-and-assoc false b c = refl
-
 holds-follow : (most count : ℕ) (body : List ℕ) (accounts : Option (List Account)) → ReadsBody count body accounts
     → holds_ledger most accounts ≡ (nat_le count most && follow [] accounts)
 unfolding is_ledger
-holds-follow most count body None reads = sym (and-false (nat_le count most))
-holds-follow most count body (Some accounts) reads =
-    and-assoc (nat_le (length accounts) most) (list_all is_account accounts) (rises [] accounts)
-    ∙ ap (λ (n : ℕ). nat_le n most && (list_all is_account accounts && rises [] accounts)) reads.counted
+holds-follow most count body accounts reads = grind arith
 
 accounts_of-short : (bytes : List ℕ) → length bytes < 2 → accounts_of bytes ≡ None
 unfolding accounts_of
-accounts_of-short bytes short = let flag : nat_le 2 (length bytes) ≡ false = grind (arith, nat_tests) in rw flag refl
+accounts_of-short bytes short = grind (arith, nat_tests)
 
 accounts_of-long : (bytes : List ℕ) → 2 ≤ length bytes → accounts_of bytes ≡ accounts_from (of_count_bytes (take 2 bytes)) (drop 2 bytes)
 unfolding accounts_of
@@ -251,7 +205,7 @@ accounts_of-long bytes long = let flag : nat_le 2 (length bytes) ≡ true = grin
 -- fewer than two bytes are no state
 pub is_state-short : (most : ℕ) (bytes : List ℕ) → length bytes < 2 → is_state most bytes ≡ false
 unfolding is_state
-is_state-short most bytes short = rw (accounts_of-short bytes short) (and-false (are_bytes bytes))
+is_state-short most bytes short = rw (accounts_of-short bytes short) (grind arith)
 
 -- bytes with a count that the ledger allows are a state, where their accounts follow
 pub is_state-long : (most : ℕ) (bytes : List ℕ) → 2 ≤ length bytes → are_bytes bytes ≡ true

@@ -1,6 +1,6 @@
 -- Laws of lists of accounts.
-use Rattle.std.specs.Prelude.{◌≡◌, ℕ, suc, ◌+◌, ◌≤◌, ◌&&◌, Bool, true, false, List, [], ◌∷◌, length, Option, Some, None, is_some, if◌then◌else◌}
-use Rattle.std.proofs.Common.{refl, sym, ◌∙◌, ap, arith}
+use Rattle.std.specs.Prelude.{◌≡◌, ℕ, suc, Bool, true, false, List, [], ◌∷◌, length, Option, Some, None, is_some, if◌then◌else◌}
+use Rattle.std.proofs.Common.{refl, ◌∙◌, ap, arith}
 use Rattle.std.specs.declared.cmp.Ordering.{Ordering}
 use Rattle.std.specs.declared.cmp.Ordering.TheVariants.{Less, Equal, Greater}
 use Rattle.std.specs.Cmp.Lexicographic.{texts_ties}
@@ -12,26 +12,32 @@ use Rattle.std.proofs.lemmas.Slice.Eq.{bytes_eq-Decides}
 use Rattle.mm_module.specs.LineLaws.{and-true, and-both}
 use Rattle.mm_quota.specs.Table.{Account, order_of, account_named, put, rises}
 
--- names that the order does not tell apart are one
-pub order-Equal : (name other : List ℕ) → order_of name other ≡ Equal → name ≡ other
-order-Equal name other same =
-    let e : bytes_eq name other ≡ true = texts_ties name other ∙ ap is_eq same in
-    (bytes_eq-Decides name other).0 e
-
 -- names that the order tells apart are not the same bytes
 pub bytes_eq-order : (name other : List ℕ) (order : Ordering) → order_of name other ≡ order
     → bytes_eq name other ≡ is_eq order
 bytes_eq-order name other order is = texts_ties name other ∙ ap is_eq is
 
--- the order the other way round
-pub order-turned : (name other : List ℕ) (order : Ordering) → order_of name other ≡ order
-    → order_of other name ≡ ordering_reverse order
-order-turned name other order is = nat_list_cmp_total.antisymm other name ∙ ap ordering_reverse is
+-- names that the order does not tell apart are one
+order-Equal : (name other : List ℕ) → order_of name other ≡ Equal → name ≡ other
+order-Equal name other same = (bytes_eq-Decides name other).0 (bytes_eq-order name other Equal same)
 
-pub is_lt-Less : (order : Ordering) → is_lt order ≡ true → order ≡ Less
-is_lt-Less Less is = refl
-is_lt-Less Equal is = cc
-is_lt-Less Greater is = cc
+-- the order the other way round
+order-turned : (name other : List ℕ) → order_of name other ≡ Greater → order_of other name ≡ Less
+order-turned name other is = nat_list_cmp_total.antisymm other name ∙ ap ordering_reverse is
+
+-- the names rise from the first on, and then from the one behind it
+record RisesOn (previous : List ℕ) (account : Account) (accounts : List Account) : Type 0 where
+  first : order_of previous account.name ≡ Less
+  later : rises account.name accounts ≡ true
+
+is_lt-Less : (order : Ordering) → is_lt order ≡ true → order ≡ Less
+is_lt-Less order is = grind arith
+
+rises-on : (previous : List ℕ) (account : Account) (accounts : List Account)
+    → rises previous (account ∷ accounts) ≡ true → RisesOn previous account accounts
+rises-on previous account accounts rising =
+    let w = and-true (is_lt (order_of previous account.name)) (rises account.name accounts) rising
+    in record { first = is_lt-Less _ w.0; later = w.1 }
 
 -- an account of another name is passed over
 pub account_named-other : (name : List ℕ) (account : Account) (accounts : List Account)
@@ -51,188 +57,111 @@ pub account_named-absent : (name previous : List ℕ) (accounts : List Account)
     → rises previous accounts ≡ true → account_named name accounts ≡ None
 account_named-absent name previous [] less rising = refl
 account_named-absent name previous (account ∷ accounts) less rising =
-    let w = and-true (is_lt (order_of previous account.name)) (rises account.name accounts) rising
-    in
-    let below : order_of name account.name ≡ Less = nat_list_cmp_total.trans name previous
-    account.name less (is_lt-Less _ w.0) in
+    let r = rises-on previous account accounts rising in
+    let below = nat_list_cmp_total.trans name previous account.name less r.first in
     account_named-other name account accounts (bytes_eq-order name account.name Less below)
-    ∙ account_named-absent name account.name accounts below w.1
+    ∙ account_named-absent name account.name accounts below r.later
 
--- what a put keeps: names that rise
-rises-step : (previous : List ℕ) (new account : Account) (accounts : List Account)
-    (order : Ordering)
-    → order_of new.name account.name ≡ order → order_of previous new.name ≡ Less
-    → rises previous (account ∷ accounts) ≡ true
-    → (order_of account.name new.name ≡ Less → rises account.name (put new accounts) ≡ true)
-    → rises previous (match_ordering order (new ∷ account ∷ accounts) (new ∷ accounts)
-    (account ∷ put new accounts)) ≡ true
-rises-step previous new account accounts Less is less rising more =
-    let w = and-true (is_lt (order_of previous account.name)) (rises account.name accounts) rising
-    in
-    and-both _ _ (ap is_lt less) (and-both _ _ (ap is_lt is) w.1)
-rises-step previous new account accounts Equal is less rising more =
-    let w = and-true (is_lt (order_of previous account.name)) (rises account.name accounts) rising
-    in
-    and-both _ _ (ap is_lt less)
-    (ap (λ name. rises name accounts) (order-Equal new.name account.name is) ∙ w.1)
-rises-step previous new account accounts Greater is less rising more =
-    let w = and-true (is_lt (order_of previous account.name)) (rises account.name accounts) rising
-    in
-    and-both _ _ w.0 (more (order-turned new.name account.name Greater is))
+-- Where an account is put: behind all, before a greater name, in the place of its name, or behind
+-- a smaller one.
+data Puts (new : Account) : List Account → List Account → Type 0 where
+  Last : Puts new [] (new ∷ [])
+  Before : {account : Account} {accounts : List Account} → order_of new.name account.name ≡ Less
+      → Puts new (account ∷ accounts) (new ∷ account ∷ accounts)
+  Instead : {account : Account} {accounts : List Account} → order_of new.name account.name ≡ Equal
+      → Puts new (account ∷ accounts) (new ∷ accounts)
+  Behind : {account : Account} {accounts after : List Account}
+      → order_of new.name account.name ≡ Greater → Puts new accounts after
+      → Puts new (account ∷ accounts) (account ∷ after)
+
+puts-by : (new account : Account) (accounts : List Account) (order : Ordering)
+    → order_of new.name account.name ≡ order → Puts new accounts (put new accounts)
+    → Puts new (account ∷ accounts)
+    (match_ordering order (new ∷ account ∷ accounts) (new ∷ accounts) (account ∷ put new accounts))
+puts-by new account accounts Less is later = Before is
+puts-by new account accounts Equal is later = Instead is
+puts-by new account accounts Greater is later = Behind is later
+
+puts : (new : Account) (accounts : List Account) → Puts new accounts (put new accounts)
+puts new [] = Last
+puts new (account ∷ accounts) = puts-by new account accounts _ refl (puts new accounts)
+
+-- a put keeps names that rise
+rises-after : {new : Account} {accounts after : List Account} → Puts new accounts after
+    → (previous : List ℕ) → order_of previous new.name ≡ Less
+    → rises previous accounts ≡ true → rises previous after ≡ true
+rises-after Last previous less rising = rw less refl
+rises-after (Before {account} {accounts} is) previous less rising =
+    rw (less, is) (rises-on previous account accounts rising).later
+rises-after {new = new} (Instead {account} {accounts} is) previous less rising =
+    rw (less, order-Equal new.name account.name is)
+    (rises-on previous account accounts rising).later
+rises-after {new = new} (Behind {account} {accounts} is later) previous less rising =
+    let r = rises-on previous account accounts rising in
+    rw r.first
+    (rises-after later account.name (order-turned new.name account.name is) r.later)
 
 pub rises-put : (previous : List ℕ) (new : Account) (accounts : List Account)
     → order_of previous new.name ≡ Less
     → rises previous accounts ≡ true → rises previous (put new accounts) ≡ true
-rises-put previous new [] less rising = and-both _ _ (ap is_lt less) refl
-rises-put previous new (account ∷ accounts) less rising =
-    rises-step previous new account accounts (order_of new.name account.name) refl less rising
-    (λ below. rises-put account.name new accounts below
-    (and-true (is_lt (order_of previous account.name)) (rises account.name accounts) rising).1)
+rises-put previous new accounts less rising =
+    rises-after (puts new accounts) previous less rising
 
--- what a put keeps: a test of each account
-all-step : (p : Account → Bool) (new account : Account) (accounts : List Account) (order : Ordering)
-    → p new ≡ true
-    → (p account && list_all p accounts) ≡ true → list_all p (put new accounts) ≡ true
-    → list_all p (match_ordering order (new ∷ account ∷ accounts) (new ∷ accounts)
-    (account ∷ put new accounts)) ≡ true
-all-step p new account accounts Less is all more = and-both _ _ is all
-all-step p new account accounts Equal is all more =
-    and-both _ _ is (and-true (p account) (list_all p accounts) all).1
-all-step p new account accounts Greater is all more =
-    and-both _ _ (and-true (p account) (list_all p accounts) all).0 more
+-- and a test of each account
+all-after : {new : Account} {accounts after : List Account} → Puts new accounts after
+    → (p : Account → Bool) → p new ≡ true → list_all p accounts ≡ true → list_all p after ≡ true
+all-after Last p is all = rw is refl
+all-after (Before _) p is all = rw is all
+all-after (Instead {account} {accounts} _) p is all =
+    rw is (and-true (p account) (list_all p accounts) all).1
+all-after (Behind {account} {accounts} _ later) p is all =
+    let w = and-true (p account) (list_all p accounts) all in
+    and-both _ _ w.0 (all-after later p is w.1)
 
 pub list_all-put : (p : Account → Bool) (new : Account) (accounts : List Account) → p new ≡ true
     → list_all p accounts ≡ true
     → list_all p (put new accounts) ≡ true
-list_all-put p new [] is all = and-both _ _ is refl
-list_all-put p new (account ∷ accounts) is all =
-    all-step p new account accounts (order_of new.name account.name) is all
-    (list_all-put p new accounts is (and-true (p account) (list_all p accounts) all).1)
+list_all-put p new accounts is all = all-after (puts new accounts) p is all
 
--- a put adds at most one account
-length-step : (new account : Account) (accounts : List Account) (order : Ordering)
-    → length (put new accounts) ≤ length accounts + 1
-    → length (match_ordering order (new ∷ account ∷ accounts) (new ∷ accounts)
-    (account ∷ put new accounts)) ≤ length accounts + 2
-length-step new account accounts Less more = omega arith
-length-step new account accounts Equal more = omega arith
-length-step new account accounts Greater more = omega arith
+-- it adds an account where there is none of the name
+length-after : {new : Account} {accounts after : List Account} → Puts new accounts after
+    → (previous : List ℕ) → rises previous accounts ≡ true
+    → length after ≡ (if is_some (account_named new.name accounts) then length accounts
+    else suc (length accounts))
+length-after Last previous rising = refl
+length-after {new = new} (Before {account} {accounts} is) previous rising =
+    rw (
+      bytes_eq-order new.name account.name Less is,
+      account_named-absent new.name account.name
+          accounts is (rises-on previous account accounts rising).later,
+    ) refl
+length-after {new = new} (Instead {account} is) previous rising =
+    rw (bytes_eq-order new.name account.name Equal is) refl
+length-after {new = new} (Behind {account} {accounts} is later) previous rising =
+    let more = length-after later account.name (rises-on previous account accounts rising).later in
+    rw (bytes_eq-order new.name account.name Greater is) (grind (arith, more))
 
-pub length-put : (new : Account) (accounts : List Account)
-    → length (put new accounts) ≤ length accounts + 1
-length-put new [] = omega arith
-length-put new (account ∷ accounts) =
-    omega (
-      arith,
-      length-step new account accounts (order_of new.name account.name)
-          (length-put new accounts),
-    )
-
--- and none where the name is there
-same-step : (new account : Account) (accounts : List Account) (order : Ordering)
-    → order_of new.name account.name ≡ order
-    → rises account.name accounts ≡ true
-    → is_some (account_named new.name (account ∷ accounts)) ≡ true
-    → (is_some (account_named new.name accounts) ≡ true
-    → length (put new accounts) ≡ length accounts)
-    → length (match_ordering order (new ∷ account ∷ accounts) (new ∷ accounts)
-    (account ∷ put new accounts)) ≡ suc (length accounts)
-same-step new account accounts Less is rising there more =
-    let none : account_named new.name (account ∷ accounts) ≡ None =
-    account_named-other new.name account accounts (bytes_eq-order new.name account.name Less is)
-    ∙ account_named-absent new.name account.name accounts is rising in
-    let no : is_some {T = Account} None ≡ true = rw none at there in cc
-same-step new account accounts Equal is rising there more = refl
-same-step new account accounts Greater is rising there more =
-    let passed = account_named-other new.name account accounts
-    (bytes_eq-order new.name account.name Greater is) in
-    ap (λ n. suc n) (more (rw passed at there))
-
-pub length-put-there : (previous : List ℕ) (new : Account) (accounts : List Account)
-    → rises previous accounts ≡ true
-    → is_some (account_named new.name accounts) ≡ true → length (put new accounts) ≡ length accounts
-length-put-there previous new [] rising there = cc
-length-put-there previous new (account ∷ accounts) rising there =
-    let w = and-true (is_lt (order_of previous account.name)) (rises account.name accounts) rising
-    in
-    same-step new account accounts (order_of new.name account.name) refl w.1 there
-    (length-put-there account.name new accounts w.1)
-
--- and one where it is not
-absent-step : (new account : Account) (accounts : List Account) (order : Ordering)
-    → order_of new.name account.name ≡ order
-    → is_some (account_named new.name (account ∷ accounts)) ≡ false
-    → (is_some (account_named new.name accounts) ≡ false
-    → length (put new accounts) ≡ suc (length accounts))
-    → length (match_ordering order (new ∷ account ∷ accounts) (new ∷ accounts)
-    (account ∷ put new accounts)) ≡ suc (suc (length accounts))
-absent-step new account accounts Less is absent more = refl
-absent-step new account accounts Equal is absent more =
-    let found = account_named-this new.name account accounts
-    (bytes_eq-order new.name account.name Equal is) in
-    let no : is_some {T = Account} (Some account) ≡ false = rw found at absent in cc
-absent-step new account accounts Greater is absent more =
-    let passed = account_named-other new.name account accounts
-    (bytes_eq-order new.name account.name Greater is) in
-    ap (λ n. suc n) (more (rw passed at absent))
-
-pub length-put-absent : (new : Account) (accounts : List Account)
-    → is_some (account_named new.name accounts) ≡ false
-    → length (put new accounts) ≡ suc (length accounts)
-length-put-absent new [] absent = refl
-length-put-absent new (account ∷ accounts) absent =
-    absent-step new account accounts (order_of new.name account.name) refl absent
-    (length-put-absent new accounts)
-
--- the account that was put is found
-this-step : (new account : Account) (accounts : List Account) (order : Ordering)
-    → order_of new.name account.name ≡ order
-    → account_named new.name (put new accounts) ≡ Some new
-    → account_named new.name
-    (match_ordering order (new ∷ account ∷ accounts) (new ∷ accounts)
-    (account ∷ put new accounts)) ≡ Some new
-this-step new account accounts Less is more =
-    account_named-this new.name new (account ∷ accounts)
-    ((bytes_eq-Decides new.name new.name).1 refl)
-this-step new account accounts Equal is more =
-    account_named-this new.name new accounts ((bytes_eq-Decides new.name new.name).1 refl)
-this-step new account accounts Greater is more =
-    account_named-other new.name account (put new accounts)
-    (bytes_eq-order new.name account.name Greater is) ∙ more
-
-pub account_named-put : (new : Account) (accounts : List Account)
-    → account_named new.name (put new accounts) ≡ Some new
-account_named-put new [] =
-    account_named-this new.name new [] ((bytes_eq-Decides new.name new.name).1 refl)
-account_named-put new (account ∷ accounts) =
-    this-step new account accounts (order_of new.name account.name) refl
-    (account_named-put new accounts)
+pub length-put : (new : Account) (accounts : List Account) → rises [] accounts ≡ true
+    → length (put new accounts) ≡ (if is_some (account_named new.name accounts) then length accounts
+    else suc (length accounts))
+length-put new accounts rising = length-after (puts new accounts) [] rising
 
 -- accounts of other names stay
-others-step : (name : List ℕ) (new account : Account) (accounts : List Account) (order : Ordering)
-    → order_of new.name account.name ≡ order
-    → bytes_eq name new.name ≡ false
-    → account_named name (put new accounts) ≡ account_named name accounts
-    → account_named name
-    (match_ordering order (new ∷ account ∷ accounts) (new ∷ accounts)
-    (account ∷ put new accounts))
-    ≡ account_named name (account ∷ accounts)
-others-step name new account accounts Less is other more =
-    account_named-other name new (account ∷ accounts) other
-others-step name new account accounts Equal is other more =
-    account_named-other name new accounts other ∙
-    sym (account_named-other name account accounts
-    (ap (λ n. bytes_eq name n) (sym (order-Equal new.name account.name is)) ∙ other))
-others-step name new account accounts Greater is other more =
-    ap (λ found. if bytes_eq name account.name then Some account else found) more
+others-after : {new : Account} {accounts after : List Account} → Puts new accounts after
+    → (name : List ℕ) → bytes_eq name new.name ≡ false
+    → account_named name after ≡ account_named name accounts
+others-after Last name other = rw other refl
+others-after (Before _) name other = rw other refl
+others-after {new = new} (Instead {account} {accounts} is) name other =
+    rw (other, ← order-Equal new.name account.name is, other) refl
+others-after (Behind {account} _ later) name other =
+    ap (λ found. if bytes_eq name account.name then Some account else found)
+    (others-after later name other)
 
 pub account_named-put-other : (name : List ℕ) (new : Account) (accounts : List Account)
     → bytes_eq name new.name ≡ false
     → account_named name (put new accounts) ≡ account_named name accounts
-account_named-put-other name new [] other = account_named-other name new [] other
-account_named-put-other name new (account ∷ accounts) other =
-    others-step name new account accounts (order_of new.name account.name) refl other
-    (account_named-put-other name new accounts other)
+account_named-put-other name new accounts other = others-after (puts new accounts) name other
 
 -- an account that was found has the name and passes the test of all
 pub record IsFound (p : Account → Bool) (wanted : List ℕ) (account : Account) : Type 0 where
@@ -243,14 +172,10 @@ abbrev pub FoundOf : (Account → Bool) → List ℕ → Option Account → Type
 FoundOf p name None = Unit {0}
 FoundOf p name (Some account) = IsFound p name account
 
-found-step : (p : Account → Bool) (name : List ℕ) (account : Account) (accounts : List Account)
-    (flag : Bool)
-    → bytes_eq name account.name ≡ flag → p account ≡ true
-    → FoundOf p name (account_named name accounts)
-    → FoundOf p name (if flag then Some account else account_named name accounts)
-found-step p name account accounts true is passed more =
-    record { named = sym ((bytes_eq-Decides name account.name).0 is); passed = passed }
-found-step p name account accounts false is passed more = more
+found-first : (p : Account → Bool) (name : List ℕ) (account : Account) (more : Option Account)
+    → p account ≡ true → FoundOf p name more
+    → FoundOf p name (if bytes_eq name account.name then Some account else more)
+found-first p name account more passed later = grind (arith, bytes_eq-Decides name account.name)
 
 pub account_named-found : (p : Account → Bool) (name : List ℕ) (accounts : List Account)
     → list_all p accounts ≡ true
@@ -258,5 +183,4 @@ pub account_named-found : (p : Account → Bool) (name : List ℕ) (accounts : L
 account_named-found p name [] all = tt
 account_named-found p name (account ∷ accounts) all =
     let w = and-true (p account) (list_all p accounts) all in
-    found-step p name account accounts (bytes_eq name account.name) refl w.0
-    (account_named-found p name accounts w.1)
+    found-first p name account _ w.0 (account_named-found p name accounts w.1)

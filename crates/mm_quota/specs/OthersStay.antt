@@ -1,13 +1,14 @@
 -- Accounts that a request does not name stay.
 use Rattle.std.specs.Prelude.{◌≡◌, ◌≢◌, ℕ, ◌^◌, ◌<◌, Bool, true, false, nat_le, List, length, Option, Some, None}
-use Rattle.std.proofs.Common.{refl, sym, ◌∙◌, ap}
+use Rattle.std.proofs.Common.{refl, sym, ◌∙◌, ap, arith}
 use Rattle.std.specs.Str.{bytes_eq}
 use Rattle.std.proofs.lemmas.Slice.Eq.{bytes_eq-Decides}
 use Rattle.mm_module.specs.Words.{words_of}
 use Rattle.mm_quota.specs.Table.{Account, Request, Sum, On, account_named, settled, outcome_of, request_of, is_account, spelling_of, is_state, ledger_of, stepped}
 use Rattle.mm_quota.specs.LedgerLaws.{account_named-found, account_named-put-other}
-use Rattle.mm_quota.specs.SpellingLaws.{IsLedger, is_state-SpellsLedger, ledger_of-spelling_of}
-use Rattle.mm_quota.specs.QuotaLaws.{IsQuotaRequest, request_of-IsQuotaRequest, PutIf, decision_of-is, stepped-IsOutcome}
+use Rattle.mm_quota.specs.Spelled.{IsLedger}
+use Rattle.mm_quota.specs.SpellingLaws.{is_state-SpellsLedger, ledger_of-spelling_of}
+use Rattle.mm_quota.specs.QuotaLaws.{IsQuotaRequest, request_of-IsQuotaRequest, PutIf, decision_of-is, outcome-IsOutcome}
 
 -- the name that a request gives
 abbrev pub name_in : Option Request → Option (List ℕ)
@@ -21,42 +22,41 @@ OthersStay state request after =
     (name : List ℕ) → name_in (request_of (words_of request)) ≢ Some name
     → account_named name (ledger_of after) ≡ account_named name (ledger_of state)
 
-differ : (name other : List ℕ) (flag : Bool) → bytes_eq name other ≡ flag → (other ≡ name → ⊥)
-    → flag ≡ false
-differ name other true is apart = absurd (apart (sym ((bytes_eq-Decides name other).0 is)))
-differ name other false is apart = refl
-
 settled-others : (full : Bool) (wanted name : List ℕ) (accounts : List Account)
     (change : Option Account)
     → PutIf full wanted (account_named wanted accounts) change → (wanted ≡ name → ⊥)
     → account_named name (settled accounts change) ≡ account_named name accounts
 settled-others full wanted name accounts None is apart = refl
 settled-others full wanted name accounts (Some account) is apart =
+    let named = is.named in
     account_named-put-other name account accounts
-    (differ name account.name (bytes_eq name account.name) refl
-    (λ same. apart (sym is.named ∙ same)))
-
-outcome-others : (most : ℕ) (accounts : List Account) (request : Option Request) (name : List ℕ)
-    → IsLedger most accounts
-    → IsQuotaRequest request → name_in request ≢ Some name
-    → account_named name (outcome_of most accounts request).0 ≡ account_named name accounts
-outcome-others most accounts (Some Sum) name ledger asked apart = refl
-outcome-others most accounts (Some (On wanted action)) name ledger asked apart =
-    let d = decision_of-is (nat_le most (length accounts)) wanted (account_named wanted accounts)
-    action asked.0 asked.1
-    (account_named-found is_account wanted accounts ledger.good) in
-    settled-others (nat_le most (length accounts)) wanted name accounts _ d.change
-    (λ same. apart (ap (λ (n : List ℕ). Some n) same))
-outcome-others most accounts None name ledger asked apart = refl
+    (differ (bytes_eq name account.name) (λ same. apart
+    (sym named ∙ sym ((bytes_eq-Decides name account.name).0 same))))
+  where
+    differ : (flag : Bool) → (flag ≡ true → ⊥) → flag ≡ false
+    differ flag apart = grind arith
 
 pub others_stay : (most : ℕ) (state request : List ℕ) → most < 2 ^ 16 → is_state most state ≡ true
     → OthersStay state request (spelling_of (stepped most state request).0)
+unfolding stepped
 others_stay most state request small is = λ name apart.
-    let h = is_state-SpellsLedger most state is in
-    let o = stepped-IsOutcome most state request small is in
+    let ledger = (is_state-SpellsLedger most state is).ledger in
     ap (λ (accounts : List Account). account_named name accounts)
-    (ledger_of-spelling_of most (stepped most state request).0 small o.state)
-    ∙
-    unfold stepped in outcome-others most (ledger_of state) (request_of (words_of request)) name
-    h.ledger
+    (ledger_of-spelling_of most _ small
+    (outcome-IsOutcome most (ledger_of state) request small ledger).state)
+    ∙ by name ledger (request_of (words_of request))
     (request_of-IsQuotaRequest (words_of request)) apart
+  where
+    by : (name : List ℕ) → IsLedger most (ledger_of state) → (asked : Option Request)
+        → IsQuotaRequest asked → name_in asked ≢ Some name
+        → account_named name (outcome_of most (ledger_of state) asked).0
+        ≡ account_named name (ledger_of state)
+    by name ledger (Some Sum) is apart = refl
+    by name ledger None is apart = refl
+    by name ledger (Some (On wanted action)) is apart =
+        let accounts = ledger_of state in
+        let d = decision_of-is (nat_le most (length accounts)) wanted
+        (account_named wanted accounts) action is.0 is.1
+        (account_named-found is_account wanted accounts ledger.good) in
+        settled-others (nat_le most (length accounts)) wanted name accounts _ d.change
+        (λ same. apart (ap (λ (n : List ℕ). Some n) same))

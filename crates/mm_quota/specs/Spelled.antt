@@ -1,17 +1,25 @@
 -- Bytes that spell a ledger.
-use Rattle.std.specs.Prelude.{◌≡◌, ℕ, ◌<◌, ◌≤◌, ◌^◌, ◌&&◌, Bool, true, false, List, [], length, take, drop, Option, Some, None}
+use Rattle.std.specs.Prelude.{◌≡◌, ℕ, ◌≤◌, ◌&&◌, Bool, true, false, List, [], length, take, drop, Option, Some, None}
 use Rattle.std.specs.List.{list_all}
 use Rattle.mm_quota.specs.Table.{Account, is_account, rises, body_of, spelling_of, of_count_bytes, ledger_of}
 
--- the bytes spell a ledger of some size
-pub record IsSpelled (bytes : List ℕ) : Type 0 where
-  pub few : length (ledger_of bytes) < 2 ^ 16
-  pub good : list_all is_account (ledger_of bytes) ≡ true
-  pub rising : rises [] (ledger_of bytes) ≡ true
+-- what a ledger of at most so many accounts keeps
+pub record IsLedger (most : ℕ) (accounts : List Account) : Type 0 where
+  pub few : length accounts ≤ most
+  pub good : list_all is_account accounts ≡ true
+  pub rising : rises [] accounts ≡ true
+
+-- the bytes spell such a ledger
+pub record SpellsLedger (most : ℕ) (bytes : List ℕ) : Type 0 where
+  pub ledger : IsLedger most (ledger_of bytes)
   pub spelled : bytes ≡ spelling_of (ledger_of bytes)
   pub body : drop 2 bytes ≡ body_of (ledger_of bytes)
   pub counted : of_count_bytes (take 2 bytes) ≡ length (ledger_of bytes)
   pub headed : 2 ≤ length bytes
+
+-- they spell one of some size
+abbrev pub IsSpelled : List ℕ → Type 0
+IsSpelled bytes = SpellsLedger 65535 bytes
 
 -- accounts whose names rise from this one on
 abbrev pub follow : List ℕ → Option (List Account) → Bool

@@ -4,8 +4,8 @@ pub use Rattle.std.proofs.Common.{◌&&◌, ◌++◌, ◌+◌, ◌<◌, ◌==◌
 pub use Rattle.std.proofs.Common.{length, length-append, List, None, Option, refl, rules, Some, subst, suc, sym, take, true, zero, ℕ}
 pub use Rattle.mm_base.specs.Limits.{last_position, longest_request}
 pub use Rattle.mm_module.specs.Meaning.{Meaning, outputs_from}
-pub use Rattle.mm_receipt.specs.ReceiptedLaws.{is-true, IsKept, kept_of-IsKept, kept_of-spelling_of, outcome_of-IsKept, SpellsKept}
-pub use Rattle.mm_receipt.specs.ReceiptedLaws.{SpellsKept-from}
+pub use Rattle.mm_module.specs.TableLaws.{is-true}
+pub use Rattle.mm_receipt.specs.ReceiptedLaws.{IsKept, kept_of-IsKept, kept_of-spelling_of, outcome_of-IsKept, SpellsKept, SpellsKept-from}
 pub use Rattle.mm_receipt.specs.Receipts.{digits_of, is_lower_digit, parts_by, receipt_of, receipt_parts, verified, verified_by}
 pub use Rattle.mm_receipt.specs.Table.{first_kept, is_front, outcome_of, receipt_state_in, receipted, ReceiptState, spelling_of, taken}
 pub use Rattle.mm_receipt.specs.Views.{as_kept}

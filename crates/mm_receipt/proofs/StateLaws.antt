@@ -1,6 +1,6 @@
 -- What the code reads of a state.
-use Rattle.mm_receipt.proofs.Below.{◌≡◌, ◌≢◌, ℕ, zero, suc, ◌<◌, ◌≤◌, ◌&&◌, Bool, true, false, List, [], ◌∷◌, length, take, drop, refl, sym}
-use Rattle.mm_receipt.proofs.Below.{◌∙◌, ap, subst, arith, rules, IsTrue, last_position, Meaning, parts_by, receipt_parts, ReceiptState}
+use Rattle.mm_receipt.proofs.Below.{◌≡◌, ◌≢◌, ℕ, zero, suc, ◌<◌, ◌≤◌, Bool, true, false, List, [], ◌∷◌, length, take, drop, refl, sym}
+use Rattle.mm_receipt.proofs.Below.{ap, subst, arith, rules, IsTrue, last_position, Meaning, parts_by, receipt_parts, ReceiptState}
 use Rattle.mm_receipt.proofs.Below.{is_front, receipt_state_in, SpellsKept, SpellsKept-from, kept_of-IsKept, is-true}
 use Rattle.std.specs.Prelude.{None}
 use Rattle.mm_module.specs.Bytes.{are_bytes}
@@ -19,16 +19,11 @@ parts_of-short output short = ap (λ (l : List ℕ). parts_by (take 64 output) l
 pub spelled-then : (inner : Meaning) (bytes : List ℕ) (answer : Bool) (kept : ReceiptState) → are_bytes bytes ≡ true → is_front bytes ≡ true
     → answer ≡ inner.is_spelled kept.inner → kept ≡ receipt_state_in bytes → answer ≡ is_state inner bytes
 unfolding is_state
-spelled-then inner bytes answer kept all front is read =
-    is ∙ ap (λ (k : ReceiptState). inner.is_spelled k.inner) read
-    ∙ sym (ap (λ b. b && (is_front bytes && inner.is_spelled (receipt_state_in bytes).inner)) all
-    ∙ ap (λ b. b && inner.is_spelled (receipt_state_in bytes).inner) front)
+spelled-then inner bytes answer kept all front is read = rw (is, read, all, front) refl
 
 pub spelled-else : (inner : Meaning) (bytes : List ℕ) → are_bytes bytes ≡ true → is_front bytes ≡ false → is_state inner bytes ≡ false
 unfolding is_state
-spelled-else inner bytes all front =
-    ap (λ b. b && (is_front bytes && inner.is_spelled (receipt_state_in bytes).inner)) all
-    ∙ ap (λ b. b && inner.is_spelled (receipt_state_in bytes).inner) front
+spelled-else inner bytes all front = rw (all, front) refl
 
 spelled-at : (inner : Meaning) (bytes : List ℕ) → IsTrue (is_state inner bytes) → SpellsKept inner bytes
 spelled-at inner bytes is = SpellsKept-from inner bytes (is-true (is_state inner bytes) is)

@@ -1,18 +1,15 @@
 -- What receipts prove of a run: a message tells its parts, and the count of a state is the position.
-use Rattle.mm_receipt.proofs.Below.{inl, inr, ◌≡◌, ◌≢◌, ℕ, zero, suc, ◌+◌, ◌<◌, ◌≤◌, ◌^◌, ◌==◌, ◌&&◌, Bool, true, false, List, [], ◌∷◌}
-use Rattle.mm_receipt.proofs.Below.{◌++◌, length, take, drop, Option, Some, None, refl, sym, ◌∙◌, ap, arith, length-append, slice_get}
-use Rattle.mm_receipt.proofs.Below.{Result, Ok, Err, ◌⊎◌, if◌then◌else◌, codes, last_position, longest_request, Meaning, outputs_from}
-use Rattle.mm_receipt.proofs.Below.{digits_of, receipt_of, is_lower_digit, parts_by, verified_by, verified, ReceiptState, taken, outcome_of}
+use Rattle.mm_receipt.proofs.Below.{inl, inr, ◌≡◌, ◌≢◌, ℕ, zero, suc, ◌+◌, ◌<◌, ◌≤◌, ◌^◌, List, [], ◌∷◌}
+use Rattle.mm_receipt.proofs.Below.{◌++◌, length, take, drop, Some, refl, sym, ◌∙◌, ap, arith, length-append, slice_get}
+use Rattle.mm_receipt.proofs.Below.{Ok, ◌⊎◌, last_position, longest_request, Meaning, outputs_from}
+use Rattle.mm_receipt.proofs.Below.{digits_of, receipt_of, parts_by, verified_by, verified, ReceiptState, outcome_of}
 use Rattle.mm_receipt.proofs.Below.{first_kept, spelling_of, receipt_state_in, receipted, IsKept, kept_of-spelling_of, outcome_of-IsKept}
-use Rattle.std.specs.List.{AllByRecursion, list_all}
-use Rattle.std.specs.Str.{bytes_eq}
+use Rattle.std.specs.List.{AllByRecursion}
 use Rattle.std.proofs.lemmas.Bool.Decides.{nat_tests}
 use Rattle.std.proofs.lemmas.List.{take-append-drop}
 use Rattle.std.proofs.lemmas.Slice.Eq.{bytes_eq-Decides}
 use Rattle.mm_base.specs.Fields.{eight_bytes, four_bytes}
 use Rattle.mm_base.specs.FieldLaws.{length-eight_bytes, length-four_bytes, eight_bytes-injective, four_bytes-injective, append-injective}
-use Rattle.mm_receipt.specs.declared.receipt.NotReceipt.{NotReceipt}
-use Rattle.mm_receipt.specs.declared.receipt.NotReceipt.TheVariants.{Form, Tag}
 use Rattle.mm_receipt.specs.Receipts.{receipt_front, receipt_message}
 use Rattle.mm_receipt.specs.Tagged.{IsTaggedBy, IsTagged, IsCounted, ReceiptsAreTrue, ReceiptsDoNotClash}
 
@@ -52,38 +49,19 @@ receipt_message-injective position request said other asked told one two three f
     let rest = append-injective request asked said told front.sizes halves.1 in
     record { positions = front.positions; requests = rest.0; outputs = rest.1 }
 
-not_ok : (why : NotReceipt) → (let r : Result (Unit {0}) NotReceipt = Err why in r ≡ Ok tt) → ⊥
-not_ok why h = cc
-
-both : (a b : Bool) → (a && b) ≡ true → (a ≡ true) × (b ≡ true)
-both true b is = (refl, is)
-both false b is = cc
-
-same_digits : (a b : List ℕ) (flag : Bool) → bytes_eq a b ≡ flag
-    → (let r : Result (Unit {0}) NotReceipt = if flag then Ok tt else Err Tag in r ≡ Ok tt) → a ≡ b
-same_digits a b true is accepted = grind (arith, bytes_eq-Decides)
-same_digits a b false is accepted = absurd (not_ok Tag accepted)
-
-space-is : (space : ℕ) → (space == 32) ≡ true → space ≡ 32
-space-is space is = grind (arith, nat_tests)
-
-formed-receipt : (key : List ℕ) (position : ℕ) (request digits said : List ℕ) (space : ℕ) (formed : Bool)
-    → (space == 32 && list_all is_lower_digit digits) ≡ formed
-    → verified_by key position request (if formed then Some (digits, said) else None) ≡ Ok tt
-    → digits ++ space ∷ said ≡ receipt_of key position request said
-formed-receipt key position request digits said space true is accepted =
-    let e : space ≡ 32 = space-is space (both (space == 32) (list_all is_lower_digit digits) is).0 in
-    let same : digits ≡ digits_of key position request said = same_digits digits (digits_of key position request said)
-    (bytes_eq digits (digits_of key position request said)) refl accepted in
-    ap (λ (l : List ℕ). l ++ space ∷ said) same ∙ ap (λ n. digits_of key position request said ++ n ∷ said) e
-formed-receipt key position request digits said space false is accepted = absurd (not_ok Form accepted)
+formed-receipt : (key : List ℕ) (position : ℕ) (request digits said : List ℕ) (space : ℕ)
+    → verified_by key position request (parts_by digits (space ∷ said)) ≡ Ok tt
+    → (digits ≡ digits_of key position request said) × (space ≡ 32)
+formed-receipt key position request digits said space accepted =
+    grind (arith, nat_tests, bytes_eq-Decides digits (digits_of key position request said))
 
 parts-receipt : (key : List ℕ) (position : ℕ) (request digits rest : List ℕ)
     → verified_by key position request (parts_by digits rest) ≡ Ok tt
     → digits ++ rest ≡ receipt_of key position request (drop 1 rest)
-parts-receipt key position request digits [] accepted = absurd (not_ok Form accepted)
+parts-receipt key position request digits [] accepted = cc
 parts-receipt key position request digits (space ∷ said) accepted =
-    formed-receipt key position request digits said space (space == 32 && list_all is_lower_digit digits) refl accepted
+    let f = formed-receipt key position request digits said space accepted in
+    ap (λ (l : List ℕ). l ++ space ∷ said) f.0 ∙ ap (λ n. digits_of key position request said ++ n ∷ said) f.1
 
 drop-suc : (n : ℕ) (xs : List ℕ) → drop (suc n) xs ≡ drop 1 (drop n xs)
 drop-suc zero xs = refl
@@ -113,32 +91,17 @@ outputs-same inner kept (request ∷ requests) good =
     (outputs-same inner (outcome_of inner kept request).0 requests (outcome_of-IsKept inner kept request good))
 
 -- a tagged request is told its receipt
-tagged-said : (inner : Meaning) (key : List ℕ) (kept : ReceiptState) (request : List ℕ) (full : Bool) → (kept.count == last_position) ≡ full
+tagged-said : (inner : Meaning) (key : List ℕ) (kept : ReceiptState) (request : List ℕ)
     → kept.count ≢ last_position → kept.key ≡ Some key
-    → (let o : ReceiptState × List ℕ = if full then (kept, codes "full") else taken inner kept request kept.key in o.1) ≡ receipt_of key
-    (kept.count + 1) request (inner.says kept.inner request)
-tagged-said inner key kept request true is room keyed = absurd (room (last kept.count is))
-  where
-    last : (n : ℕ) → (n == last_position) ≡ true → n ≡ last_position
-    last n h = grind (arith, nat_tests)
-tagged-said inner key kept request false is room keyed = ap (λ (k : Option (List ℕ)). (taken inner kept request k).1) keyed
-
-taken-count : (inner : Meaning) (kept : ReceiptState) (request : List ℕ) (key : Option (List ℕ))
-    → (taken inner kept request key).0.count ≡ kept.count + 1
-taken-count inner kept request None = refl
-taken-count inner kept request (Some key) = refl
+    → (outcome_of inner kept request).1 ≡ receipt_of key (kept.count + 1) request (inner.says kept.inner request)
+tagged-said inner key kept request room keyed = grind (arith, nat_tests)
 
 -- the count goes up by one, until it is full
 abbrev Counts : ReceiptState → ReceiptState → Type 0
 Counts kept next = (next.count ≡ kept.count + 1) ⊎ ((kept.count ≡ last_position) × (next.count ≡ last_position))
 
-counts-by : (inner : Meaning) (kept : ReceiptState) (request : List ℕ) (full : Bool) → (kept.count == last_position) ≡ full
-    → Counts kept (let o : ReceiptState × List ℕ = if full then (kept, codes "full") else taken inner kept request kept.key in o.0)
-counts-by inner kept request true is = inr (last kept.count is, last kept.count is)
-  where
-    last : (n : ℕ) → (n == last_position) ≡ true → n ≡ last_position
-    last n h = grind (arith, nat_tests)
-counts-by inner kept request false is = inl (taken-count inner kept request kept.key)
+counts-by : (inner : Meaning) (kept : ReceiptState) (request : List ℕ) → Counts kept (outcome_of inner kept request).0
+counts-by inner kept request = grind (arith, nat_tests)
 
 -- a request that was tagged, so many requests later
 record WasTagged (inner : Meaning) (kept : ReceiptState) (requests : List (List ℕ)) (key : List ℕ) (position : ℕ)
@@ -156,7 +119,7 @@ here-tagged : (inner : Meaning) (key : List ℕ) (kept : ReceiptState) (first : 
 here-tagged inner key kept first requests good counted position request said near short t =
     let same = receipt_message-injective position request said (kept.count + 1) first (inner.says kept.inner first) (omega (arith, near))
     (omega (arith, good.few)) (omega (arith, short)) counted t.is in
-    let told = tagged-said inner key kept first (kept.count == last_position) refl t.room t.keyed in
+    let told = tagged-said inner key kept first t.room t.keyed in
     let receipt : receipt_of key (kept.count + 1) first (inner.says kept.inner first) ≡ receipt_of key position request said =
     ap (λ n. receipt_of key n first (inner.says kept.inner first)) (sym same.positions)
     ∙ ap (λ (l : List ℕ). receipt_of key position l (inner.says kept.inner first)) (sym same.requests)
@@ -185,7 +148,7 @@ was-tagged inner key kept [] good counted position request said near short t = a
 was-tagged inner key kept (first ∷ requests) good counted position request said near short (inl t) =
     here-tagged inner key kept first requests good counted.0 position request said near short t
 was-tagged inner key kept (first ∷ requests) good counted position request said near short (inr t) =
-    later-tagged inner key kept first requests position request said near (counts-by inner kept first (kept.count == last_position) refl)
+    later-tagged inner key kept first requests position request said near (counts-by inner kept first)
     (was-tagged inner key (outcome_of inner kept first).0 requests (outcome_of-IsKept inner kept first good) counted.1 position request said
     near short t)
 
@@ -204,15 +167,11 @@ receipts-true inner requests counted key position request output u =
           ∙ w.told ∙ ap (λ (l : List ℕ). Some l) (sym (accepted-receipt key position request output u.accepted));
     }
 
-some_same : (a b : List ℕ) → (let o : Option (List ℕ) = Some a in o ≡ Some b) → a ≡ b
-some_same a b h = cc
-
 pub no-clash : ReceiptsDoNotClash
 no-clash inner requests counted key position request output other said u v =
     let w = receipts-true inner requests counted key position request output u in
     let z = receipts-true inner requests counted key position other said v in
     let outputs = outputs_from (receipted inner) (receipted inner).first requests in
-    let same : w.before ≡ z.before = omega (arith, w.place, z.place) in (
-      some_same request other (sym w.asked ∙ ap (λ n. slice_get requests n) same ∙ z.asked),
-      some_same output said (sym w.said ∙ ap (λ n. slice_get outputs n) same ∙ z.said),
-    )
+    let same : w.before ≡ z.before = omega (arith, w.place, z.place) in
+    let asked = w.asked in let again = z.asked in let said_one = w.said in let said_two = z.said in
+    (cc, cc)

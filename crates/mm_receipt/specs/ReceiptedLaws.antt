@@ -1,66 +1,34 @@
 -- The laws of a module that gives receipts, from those of the module inside.
-use Rattle.std.specs.Prelude.{◌≡◌, ◌≢◌, ℕ, ◌+◌, ◌%◌, ◌≤◌, ◌==◌, ◌&&◌, Bool, true, false, not, nat_le, nat_lt, List, [], ◌∷◌, ◌++◌, length, take, drop, Option, Some, None, if◌then◌else◌, codes, All, IsTrue}
+use Rattle.std.specs.Prelude.{◌≡◌, ℕ, ◌+◌, ◌≤◌, ◌==◌, ◌&&◌, Bool, true, nat_le, List, [], ◌∷◌, ◌++◌, length, take, drop, Option, Some, None, if◌then◌else◌}
 use Rattle.std.proofs.Common.{refl, ◌∙◌, ap, arith, rules, length-append}
-use Rattle.std.specs.Str.{bytes_eq}
 use Rattle.std.proofs.lemmas.Bool.Decides.{nat_tests}
 use Rattle.std.proofs.lemmas.List.{length-take-le, length-drop}
 use Rattle.std.proofs.lemmas.List.Folds.{list_all-append}
 use Rattle.hex.specs.Hex.{lower_digits}
 use Rattle.hex.proofs.HexLemmas.{length-encode_with}
 use Rattle.mm_base.specs.Fields.{eight_bytes}
-use Rattle.mm_base.specs.Limits.{last_position}
+use Rattle.mm_base.specs.Limits.{last_position, limit_of}
 use Rattle.mm_digest.specs.Hmac.{hmac_of}
 use Rattle.mm_digest.specs.LengthLaws.{length-hmac_of}
 use Rattle.mm_module.specs.Bytes.{is_byte, are_bytes}
-use Rattle.mm_module.specs.LineLaws.{is_unbroken, and-true, and-both, All-are_bytes, IsText, IsLine-text, is_unbroken-All}
+use Rattle.mm_module.specs.LineLaws.{is_unbroken, and-true, and-both, IsText, is_unbroken-All}
 use Rattle.mm_module.specs.Meaning.{Meaning, IsLawful, IsShort}
 use Rattle.mm_module.specs.Numbers.{of_eight_bytes}
 use Rattle.mm_module.specs.PartLaws.{take-front, drop-front, are_bytes-take, are_bytes-drop, are_bytes-append, are_bytes-All, length-eight, are_bytes-eight, of_eight_bytes-eight}
+use Rattle.mm_module.specs.TableLaws.{Table, IsTable, is-true, table_is_lawful}
 use Rattle.mm_module.specs.ValueLaws.{IsValue, MayBeValue, value_at-value, is_unbroken-encoded}
-use Rattle.mm_module.specs.Values.{value_at}
-use Rattle.mm_module.specs.Words.{words_of}
-use Rattle.mm_receipt.specs.Receipts.{receipt_message, digits_of, receipt_of}
-use Rattle.mm_receipt.specs.Table.{ReceiptState, key_of_words, keyed_text, taken, outcome_of, first_kept, key_bytes, spelling_of, is_keyed, is_front, as_receipt_state, receipt_state_in, is_state, receipted}
+use Rattle.mm_receipt.specs.Receipts.{receipt_message, digits_of}
+use Rattle.mm_receipt.specs.Table.{ReceiptState, outcome_of, first_kept, key_bytes, spelling_of, is_keyed, is_front, as_receipt_state, receipt_state_in, is_state, receipted}
 
 -- what is kept has its form, but for the state inside
 pub record IsKept (kept : ReceiptState) : Type 0 where
   pub few : kept.count ≤ last_position
   pub keyed : MayBeValue kept.key
 
-named-key : (named : Bool) (digits : List ℕ) → MayBeValue (if named then value_at digits else None)
-named-key true digits = value_at-value digits
-named-key false digits = tt
-
-key_of_words-key : (words : List (List ℕ)) → MayBeValue (key_of_words words)
-key_of_words-key [] = tt
-key_of_words-key (word ∷ []) = tt
-key_of_words-key (word ∷ digits ∷ []) = named-key (bytes_eq word (codes "key")) digits
-key_of_words-key (word ∷ digits ∷ other ∷ more) = tt
-
-one_more : (count : ℕ) → count ≤ last_position → (count == last_position) ≡ false
-    → count + 1 ≤ last_position
-one_more count few other = grind (arith, nat_tests)
-
-taken-IsKept : (inner : Meaning) (kept : ReceiptState) (request : List ℕ) (key : Option (List ℕ))
-    → kept.count + 1 ≤ last_position
-    → MayBeValue key
-    → IsKept (taken inner kept request key).0
-taken-IsKept inner kept request None few keyed =
-    record { few = few; keyed = key_of_words-key (words_of request) }
-taken-IsKept inner kept request (Some key) few keyed = record { few = few; keyed = keyed }
-
-full-IsKept : (inner : Meaning) (kept : ReceiptState) (request : List ℕ) (full : Bool)
-    → (kept.count == last_position) ≡ full → IsKept kept
-    → IsKept (if full then (kept, codes "full") else taken inner kept request kept.key).0
-full-IsKept inner kept request true is good = good
-full-IsKept inner kept request false is good =
-    taken-IsKept inner kept request kept.key (one_more kept.count good.few is) good.keyed
-
 -- what is kept after a request has its form too
 pub outcome_of-IsKept : (inner : Meaning) (kept : ReceiptState) (request : List ℕ) → IsKept kept
     → IsKept (outcome_of inner kept request).0
-outcome_of-IsKept inner kept request good =
-    full-IsKept inner kept request (kept.count == last_position) refl good
+outcome_of-IsKept inner kept request good = grind (arith, nat_tests, value_at-value)
 
 -- a key and a state inside are read back
 kept_by-joined : (count : ℕ) (key : Option (List ℕ)) (inner : List ℕ) → MayBeValue key
@@ -76,27 +44,22 @@ pub kept_of-spelling_of : (kept : ReceiptState) → IsKept kept
 unfolding receipt_state_in
 kept_of-spelling_of kept good =
     let behind = key_bytes kept.key ++ kept.inner in
-    let front = take-front 8 (eight_bytes kept.count) behind (length-eight kept.count) in
-    let back = drop-front 8 (eight_bytes kept.count) behind (length-eight kept.count) in
-    ap (λ (l : List ℕ). as_receipt_state (of_eight_bytes l)
-    (drop 8 (eight_bytes kept.count ++ behind))) front
-    ∙ ap (λ (l : List ℕ). as_receipt_state (of_eight_bytes (eight_bytes kept.count)) l) back
-    ∙ ap (λ n. as_receipt_state n behind)
-    (of_eight_bytes-eight kept.count (omega (arith, good.few)))
-    ∙ kept_by-joined kept.count kept.key kept.inner good.keyed
+    rw (
+      take-front 8 (eight_bytes kept.count) behind (length-eight kept.count),
+      drop-front 8 (eight_bytes kept.count) behind (length-eight kept.count),
+      of_eight_bytes-eight kept.count (omega (arith, good.few)),
+    ) (kept_by-joined kept.count kept.key kept.inner good.keyed)
 
-is_keyed-joined : (key : Option (List ℕ)) (inner : List ℕ) → MayBeValue key
+is_keyed-joined : (key : Option (List ℕ)) (inner : List ℕ)
     → is_keyed (key_bytes key ++ inner) ≡ true
-is_keyed-joined None inner is = refl
-is_keyed-joined (Some key) inner is = refl
+is_keyed-joined None inner = refl
+is_keyed-joined (Some key) inner = refl
 
 length-key_bytes : (key : Option (List ℕ)) → MayBeValue key → length (key_bytes key) ≡ 33
-length-key_bytes None is = refl
-length-key_bytes (Some key) is = omega (arith, is.long)
+length-key_bytes key is = grind arith
 
 bytes-key_bytes : (key : Option (List ℕ)) → MayBeValue key → are_bytes (key_bytes key) ≡ true
-bytes-key_bytes None is = refl
-bytes-key_bytes (Some key) is = is.bytes
+bytes-key_bytes key is = grind arith
 
 is_front-spelling_of : (kept : ReceiptState) → IsKept kept → is_front (spelling_of kept) ≡ true
 is_front-spelling_of kept good =
@@ -109,41 +72,31 @@ is_front-spelling_of kept good =
       length-append (key_bytes kept.key) kept.inner,
       length-key_bytes kept.key good.keyed,
     ) in
-    let long : nat_le 41 (length (eight_bytes kept.count ++ behind)) ≡ true = grind
-    (arith, nat_tests) in
-    let front = take-front 8 (eight_bytes kept.count) behind (length-eight kept.count) in
-    let back = drop-front 8 (eight_bytes kept.count) behind (length-eight kept.count) in
-    let few : nat_le kept.count
-    last_position ≡ true = let most : kept.count ≤ last_position = good.few
-    in grind (arith, nat_tests) in
-    let read : nat_le (of_eight_bytes (take 8 (eight_bytes kept.count ++ behind)))
-    last_position ≡ true =
-    ap (λ (l : List ℕ). nat_le (of_eight_bytes l) last_position) front
-    ∙ ap (λ n. nat_le n last_position) (of_eight_bytes-eight kept.count (omega (arith, good.few)))
-    ∙ few in
-    let keyed : is_keyed (drop 8 (eight_bytes kept.count ++ behind)) ≡ true =
-    ap is_keyed back ∙ is_keyed-joined kept.key kept.inner good.keyed in
-    and-both _ _ long (and-both _ _ read keyed)
-
-pub is-true : (b : Bool) → IsTrue b → b ≡ true
-is-true b is = search (rules, is)
+    let few : kept.count ≤ last_position = good.few in
+    let long : nat_le 41 (length (eight_bytes kept.count ++ behind)) ≡ true =
+    grind (arith, nat_tests) in
+    let room : nat_le kept.count last_position ≡ true = grind (arith, nat_tests) in
+    rw (
+      take-front 8 (eight_bytes kept.count) behind (length-eight kept.count),
+      drop-front 8 (eight_bytes kept.count) behind (length-eight kept.count),
+      of_eight_bytes-eight kept.count (omega (arith, few)),
+      is_keyed-joined kept.key kept.inner,
+    ) (and-both _ _ long (and-both _ _ room refl))
 
 -- what is kept spells a state, where the state inside is spelled
-pub is_state-spelling_of : (inner : Meaning) → IsLawful inner → (kept : ReceiptState) → IsKept kept
+is_state-spelling_of : (inner : Meaning) → IsLawful inner → (kept : ReceiptState) → IsKept kept
     → inner.is_spelled kept.inner ≡ true
     → is_state inner (spelling_of kept) ≡ true
 unfolding is_state
 is_state-spelling_of inner lawful kept good spelled =
-    let bytes : are_bytes kept.inner ≡ true = are_bytes-All kept.inner
+    let bytes = are_bytes-All kept.inner
     (lawful.has_bytes kept.inner (search (rules, spelled))) in
-    let behind : are_bytes (key_bytes kept.key ++ kept.inner) ≡ true =
-    are_bytes-append (key_bytes kept.key) kept.inner (bytes-key_bytes kept.key good.keyed) bytes in
-    let all : are_bytes (spelling_of kept) ≡ true =
-    are_bytes-append (eight_bytes kept.count) (key_bytes kept.key ++ kept.inner)
-    (are_bytes-eight kept.count) behind in
-    let inside : inner.is_spelled (receipt_state_in (spelling_of kept)).inner ≡ true =
-    ap (λ (k : ReceiptState). inner.is_spelled k.inner) (kept_of-spelling_of kept good) ∙ spelled in
-    and-both _ _ all (and-both _ _ (is_front-spelling_of kept good) inside)
+    let behind = are_bytes-append (key_bytes kept.key) kept.inner
+    (bytes-key_bytes kept.key good.keyed) bytes in
+    and-both _ _ (are_bytes-append (eight_bytes kept.count) (key_bytes kept.key ++ kept.inner)
+    (are_bytes-eight kept.count) behind)
+    (and-both _ _ (is_front-spelling_of kept good)
+    (ap (λ (k : ReceiptState). inner.is_spelled k.inner) (kept_of-spelling_of kept good) ∙ spelled))
 
 -- what a spelled state says
 pub record SpellsKept (inner : Meaning) (bytes : List ℕ) : Type 0 where
@@ -152,85 +105,60 @@ pub record SpellsKept (inner : Meaning) (bytes : List ℕ) : Type 0 where
   pub few : of_eight_bytes (take 8 bytes) ≤ last_position
   pub spelled : inner.is_spelled (receipt_state_in bytes).inner ≡ true
 
+spells-kept : (bytes : List ℕ) (all keyed spelled : Bool)
+    → (all && ((nat_le 41 (length bytes)
+    && (nat_le (of_eight_bytes (take 8 bytes)) last_position && keyed)) && spelled)) ≡ true
+    → ((all ≡ true) × (spelled ≡ true)) × (41 ≤ length bytes)
+    × (of_eight_bytes (take 8 bytes) ≤ last_position)
+spells-kept bytes all keyed spelled is = grind (arith, nat_tests)
+
 pub SpellsKept-from : (inner : Meaning) (bytes : List ℕ) → is_state inner bytes ≡ true
     → SpellsKept inner bytes
 unfolding is_state
 SpellsKept-from inner bytes is =
-    let w = and-true (are_bytes bytes)
-    (is_front bytes && inner.is_spelled (receipt_state_in bytes).inner) is in
-    let v = and-true (is_front bytes) (inner.is_spelled (receipt_state_in bytes).inner) w.1 in
-    let u = and-true (nat_le 41 (length bytes))
-    (nat_le (of_eight_bytes (take 8 bytes)) last_position && is_keyed (drop 8 bytes)) v.0 in
-    let t = and-true (nat_le (of_eight_bytes (take 8 bytes)) last_position)
-    (is_keyed (drop 8 bytes)) u.1 in
-    record {
-      all = w.0;
-      long = grind (arith, nat_tests);
-      few = grind (arith, nat_tests);
-      spelled = v.1;
-    }
+    let w = spells-kept bytes (are_bytes bytes) _ _ is in
+    record { all = w.0.0; long = w.1; few = w.2; spelled = w.0.1 }
+
+-- what a spelled state keeps has its form, behind 41 bytes
+record KeepsBehind (count : ℕ) (back : List ℕ) : Type 0 where
+  kept : IsKept (as_receipt_state count back)
+  long : length back ≡ 33 + length (as_receipt_state count back).inner
 
 key_in-key : (named : Bool) (bytes : List ℕ) → IsValue bytes
     → MayBeValue (if named then Some bytes else None)
-key_in-key true bytes is = is
-key_in-key false bytes is = tt
+key_in-key named bytes is = grind arith
 
-kept_by-IsKept : (count : ℕ) (back : List ℕ) → count ≤ last_position → 33 ≤ length back
-    → are_bytes back ≡ true
-    → IsKept (as_receipt_state count back)
-kept_by-IsKept count [] few long all = absurd (omega (arith, long))
-kept_by-IsKept count (form ∷ rest) few long all =
+keeps-behind : (count : ℕ) (back : List ℕ) → count ≤ last_position → 33 ≤ length back
+    → are_bytes back ≡ true → KeepsBehind count back
+keeps-behind count [] few long all = absurd (omega (arith, long))
+keeps-behind count (form ∷ rest) few long all =
     record {
-      few = few;
-      keyed = key_in-key (form == 1) (take 32 rest) (record {
-        long = length-take-le 32 rest (omega (arith, long));
-        bytes = are_bytes-take 32 rest (and-true (is_byte form) (are_bytes rest) all).1;
-      });
+      kept = record {
+        few = few;
+        keyed = key_in-key (form == 1) (take 32 rest) (record {
+          long = length-take-le 32 rest (omega (arith, long));
+          bytes = are_bytes-take 32 rest (and-true (is_byte form) (are_bytes rest) all).1;
+        });
+      };
+      long = omega (arith, length-drop 32 rest, long);
     }
 
--- what a spelled state keeps has its form
+behind-front : (inner : Meaning) (bytes : List ℕ) → SpellsKept inner bytes
+    → KeepsBehind (of_eight_bytes (take 8 bytes)) (drop 8 bytes)
+behind-front inner bytes is =
+    keeps-behind _ (drop 8 bytes) is.few (omega (arith, length-drop 8 bytes, is.long))
+    (are_bytes-drop 8 bytes is.all)
+
 pub kept_of-IsKept : (inner : Meaning) (bytes : List ℕ) → SpellsKept inner bytes
     → IsKept (receipt_state_in bytes)
 unfolding receipt_state_in
-kept_of-IsKept inner bytes is =
-    kept_by-IsKept (of_eight_bytes (take 8 bytes)) (drop 8 bytes) is.few
-    (omega (arith, length-drop 8 bytes, is.long))
-    (are_bytes-drop 8 bytes is.all)
+kept_of-IsKept inner bytes is = (behind-front inner bytes is).kept
 
-kept_by-inner : (count : ℕ) (back : List ℕ) → 33 ≤ length back
-    → length back ≡ 33 + length (as_receipt_state count back).inner
-kept_by-inner count [] long = absurd (omega (arith, long))
-kept_by-inner count (form ∷ rest) long = omega (arith, length-drop 32 rest, long)
-
--- a state has 41 bytes in front of the one inside
-kept_of-length : (bytes : List ℕ) → 41 ≤ length bytes
+kept_of-length : (inner : Meaning) (bytes : List ℕ) → SpellsKept inner bytes
     → length bytes ≡ 41 + length (receipt_state_in bytes).inner
 unfolding receipt_state_in
-kept_of-length bytes long = omega (
-  arith,
-  length-drop 8 bytes,
-  kept_by-inner (of_eight_bytes (take 8 bytes)) (drop 8 bytes)
-      (omega (arith, length-drop 8 bytes, long)),
-  long,
-)
-
--- the state inside after a request is spelled
-taken-spelled : (inner : Meaning) → IsLawful inner
-    → (kept : ReceiptState) (request : List ℕ) (key : Option (List ℕ))
-    → inner.is_spelled kept.inner ≡ true
-    → inner.is_spelled (taken inner kept request key).0.inner ≡ true
-taken-spelled inner lawful kept request None spelled = spelled
-taken-spelled inner lawful kept request (Some key) spelled =
-    is-true _ (lawful.goes_on kept.inner request (search (rules, spelled)))
-
-full-spelled : (inner : Meaning) → IsLawful inner
-    → (kept : ReceiptState) (request : List ℕ) (full : Bool)
-    → inner.is_spelled kept.inner ≡ true
-    → inner.is_spelled (if full then (kept, codes "full")
-    else taken inner kept request kept.key).0.inner ≡ true
-full-spelled inner lawful kept request true spelled = spelled
-full-spelled inner lawful kept request false spelled =
-    taken-spelled inner lawful kept request kept.key spelled
+kept_of-length inner bytes is =
+    omega (arith, length-drop 8 bytes, (behind-front inner bytes is).long, is.long)
 
 pub length-digits_of : (key : List ℕ) (position : ℕ) (request said : List ℕ)
     → length (digits_of key position request said) ≡ 64
@@ -247,107 +175,71 @@ unbroken-digits_of : (key : List ℕ) (position : ℕ) (request said : List ℕ)
 unfolding digits_of
 unbroken-digits_of key position request said = is_unbroken-encoded _
 
--- what is said has at most 400 bytes, with no LF
-receipt-IsText : (key : List ℕ) (position : ℕ) (request said : List ℕ) → length said ≤ 256
-    → All (λ byte. byte ≢ 10) said
-    → IsText 400 (receipt_of key position request said)
-receipt-IsText key position request said short unbroken = record {
-  short =
-      omega (
-        arith,
-        length-append (digits_of key position request said) (32 ∷ said),
-        length-digits_of key position request said,
-        short,
-      );
-  unbroken =
-      list_all-append (λ byte. not (byte == 10)) (digits_of key position request said) (32 ∷ said)
-      ∙ and-both _ _ (unbroken-digits_of key position request said) (is_unbroken-All said unbroken);
-}
-
-keyed-IsText : (key : Option (List ℕ)) → IsText 400 (keyed_text key)
-keyed-IsText None = record { short = omega arith; unbroken = refl }
-keyed-IsText (Some key) = record { short = omega arith; unbroken = refl }
-
-taken-IsText : (inner : Meaning) → IsLawful inner → IsShort inner
-    → (kept : ReceiptState) (request : List ℕ) (key : Option (List ℕ))
-    → inner.is_spelled kept.inner ≡ true → IsText 400 (taken inner kept request key).1
-taken-IsText inner lawful short kept request None spelled =
-    keyed-IsText (key_of_words (words_of request))
-taken-IsText inner lawful short kept request (Some key) spelled =
-    receipt-IsText key (kept.count + 1) request (inner.says kept.inner request)
-    (short.output kept.inner request (search (rules, spelled)))
-    (lawful.says_lines kept.inner request (search (rules, spelled))).unbroken
-
-full-IsText : (inner : Meaning) → IsLawful inner → IsShort inner
-    → (kept : ReceiptState) (request : List ℕ) (full : Bool)
-    → inner.is_spelled kept.inner ≡ true
-    → IsText 400 (if full then (kept, codes "full") else taken inner kept request kept.key).1
-full-IsText inner lawful short kept request true spelled =
-    record { short = omega arith; unbroken = refl }
-full-IsText inner lawful short kept request false spelled =
-    taken-IsText inner lawful short kept request kept.key spelled
-
-first-IsKept : (inner : Meaning) → IsKept (first_kept inner)
-first-IsKept inner = record { few = omega arith; keyed = tt }
-
-limit-least : (wide : Bool) → 65536 ≤ (if wide then 65536 else 1048576)
-limit-least true = omega arith
-limit-least false = omega arith
-
-spelled_at : (inner : Meaning) (state : List ℕ) → is_state inner state ≡ true
-    → SpellsKept inner state
-spelled_at inner state is = SpellsKept-from inner state is
-
-goes-on : (inner : Meaning) → IsLawful inner → (state request : List ℕ)
-    → is_state inner state ≡ true
-    → is_state inner (spelling_of (outcome_of inner (receipt_state_in state) request).0) ≡ true
-goes-on inner lawful state request is =
-    let s = SpellsKept-from inner state is in
-    let k = kept_of-IsKept inner state s in
-    is_state-spelling_of inner lawful (outcome_of inner (receipt_state_in state) request).0
-    (outcome_of-IsKept inner (receipt_state_in state) request k)
-    (full-spelled inner lawful (receipt_state_in state) request
-    ((receipt_state_in state).count == last_position) s.spelled)
-
-text-at : (inner : Meaning) → IsLawful inner → IsShort inner → (state request : List ℕ)
-    → is_state inner state ≡ true
-    → IsText 400 (outcome_of inner (receipt_state_in state) request).1
-text-at inner lawful short state request is =
-    full-IsText inner lawful short (receipt_state_in state) request
-    ((receipt_state_in state).count == last_position)
-    (SpellsKept-from inner state is).spelled
-
-fits-at : (inner : Meaning) → IsShort inner → (state : List ℕ) → is_state inner state ≡ true
-    → length state ≤ 65041
-fits-at inner short state is =
-    let s = SpellsKept-from inner state is in
-    omega (
+-- what is said has at most 400 bytes, with no LF; and the state inside stays spelled
+outcome_of-IsText : (inner : Meaning) (kept : ReceiptState) (request : List ℕ)
+    → length (inner.says kept.inner request) ≤ 256
+    → is_unbroken (inner.says kept.inner request) ≡ true
+    → IsText 400 (outcome_of inner kept request).1
+outcome_of-IsText inner kept request short unbroken =
+    grind (
       arith,
-      kept_of-length state s.long,
-      short.state (receipt_state_in state).inner
-          (search (rules, s.spelled)),
+      nat_tests,
+      length-append,
+      length-digits_of,
+      list_all-append,
+      unbroken-digits_of,
     )
 
+outcome_of-spelled : (inner : Meaning) (kept : ReceiptState) (request : List ℕ)
+    → inner.is_spelled kept.inner ≡ true
+    → inner.is_spelled (inner.next kept.inner request) ≡ true
+    → inner.is_spelled (outcome_of inner kept request).0.inner ≡ true
+outcome_of-spelled inner kept request here next = grind (arith, nat_tests)
+
+abbrev receipted_table : Meaning → Table ReceiptState
+receipted_table inner = record {
+  first = first_kept inner;
+  read = receipt_state_in;
+  spelling = spelling_of;
+  does = outcome_of inner;
+}
+
 -- a module that gives receipts is a module
+receipted_is_table : (inner : Meaning) → IsLawful inner → IsShort inner
+    → IsTable (receipted_table inner) (receipted inner)
+    (λ kept. IsKept kept × (inner.is_spelled kept.inner ≡ true)) 65041 400
+receipted_is_table inner lawful short = record {
+  begins = refl;
+  first = (record { few = omega arith; keyed = tt }, is-true _ lawful.begins);
+  reads = λ bytes is.
+      let s = SpellsKept-from inner bytes is in (kept_of-IsKept inner bytes s, s.spelled);
+  spells = λ kept good. is_state-spelling_of inner lawful kept good.0 good.1;
+  back = λ kept good. kept_of-spelling_of kept good.0;
+  next = λ bytes request. refl;
+  says = λ bytes request. refl;
+  stays = λ kept request good. (
+    outcome_of-IsKept inner kept request good.0,
+    outcome_of-spelled inner kept request good.1
+        (is-true _ (lawful.goes_on kept.inner request (search (rules, good.1)))),
+  );
+  tells = λ kept request good.
+      outcome_of-IsText inner kept request
+      (short.output kept.inner request (search (rules, good.1)))
+      (is_unbroken-All _ (lawful.says_lines kept.inner request (search (rules, good.1))).unbroken);
+  fits = λ bytes is.
+      let s = SpellsKept-from inner bytes is in
+      omega (
+        arith,
+        kept_of-length inner bytes s,
+        short.state (receipt_state_in bytes).inner (search (rules, s.spelled)),
+      );
+  bytes = λ bytes is. (SpellsKept-from inner bytes is).all;
+}
+
+wide_enough : (id : ℕ) → 65041 ≤ limit_of id
+wide_enough id = grind (arith, nat_tests)
+
 pub receipted_is_lawful : (inner : Meaning) → IsLawful inner → IsShort inner
     → IsLawful (receipted inner)
-receipted_is_lawful inner lawful short = record {
-  begins =
-      search (
-        rules,
-        is_state-spelling_of inner lawful (first_kept inner) (first-IsKept inner)
-            (is-true _ lawful.begins),
-      );
-  goes_on = λ state request is. search (rules, goes-on inner lawful state request (is-true _ is));
-  fits =
-      λ state is. omega (
-        arith,
-        fits-at inner short state (is-true _ is),
-        limit-least
-            (nat_lt ((inner.id + 64) % 256) 128),
-      );
-  has_bytes = λ state is. All-are_bytes state (SpellsKept-from inner state (is-true _ is)).all;
-  says_lines =
-      λ state request is. IsLine-text 400 _ (omega arith)
-      (text-at inner lawful short state request (is-true _ is));
-}
+receipted_is_lawful inner lawful short =
+    table_is_lawful (receipted_is_table inner lawful short) (wide_enough _) (omega arith)
