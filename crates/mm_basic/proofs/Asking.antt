@@ -47,10 +47,8 @@ ends_stepped b (Ok (Change ready)) old middle new ended shape g (breaks_off faul
 found_shaped : (meaning : Meaning) → IsLawful meaning → (old middle : Standing) (offer : List ℕ) (b : Batch) (found : Result Found Refusal)
     → Reads meaning old middle offer b found → IsShaped b found
 found_shaped meaning lawful old middle offer b (Err why) r = tt
-found_shaped meaning lawful old middle offer b (Ok (Repeat answer)) r =
-    let f = r.finds refl in shaped meaning lawful f.bytes offer b (Ok (Repeat answer)) f.finds
-found_shaped meaning lawful old middle offer b (Ok (Change ready)) r =
-    let f = r.finds refl in shaped meaning lawful f.bytes offer b (Ok (Change ready)) f.finds
+found_shaped meaning lawful old middle offer b (Ok it) r =
+    let f = r.finds refl in shaped meaning lawful f.bytes offer b (Ok it) f.finds
 
 pub untouched : (meaning : Meaning) (old new : Standing) (offer : List ℕ) (b : Batch) (result : Result BatchAnswer Refusal)
     → Calls basic_call meaning old new offer b result → LeavesUntouched result old new

@@ -6,8 +6,9 @@ use Rattle.mm_basic.proofs.Below.{Snapshot, ReadsParts, variant_of, tag_of, exte
 use Rattle.mm_basic.proofs.Below.{Instance, basic, Commit, Foreign, Digests, made, verdict_by, basic_verdict, digest_of, BatchAnswer}
 use Rattle.mm_basic.proofs.Below.{Refusal, Verdict, OrMemory, all_made, by_digests, AsFound, lacks_in, brought_digests, cell_at, StandsAt}
 use Rattle.mm_basic.proofs.Below.{weighed_only, Found, Repeat, Change, Seen, found_in, found_from, answer_of, committed_cell, basic_call}
-use Rattle.mm_basic.proofs.Below.{Finds}
+use Rattle.mm_basic.proofs.Below.{Finds, if◌then◌else◌, linked, summary_in, verdict_by_digests, zero_bytes}
 use Rattle.std.specs.List.{fold}
+use Rattle.std.specs.Prelude.{◌&&◌}
 use Rattle.mm_module.specs.BatchLaws.{members_of-normal}
 use Rattle.mm_seal.specs.Parts.{parts_of}
 use Rattle.mm_seal.specs.FieldLaws.{reads_parts}
@@ -19,10 +20,6 @@ use Rattle.mm_call.specs.Trails.{IsWrite}
 use Rattle.mm_call.specs.Found as call
 use Rattle.mm_call.specs.FoundWords as call_words
 use Rattle.mm_basic.proofs.Reading.{one_sight, seen_by}
-
--- the digests of an instance of Basic, which opens no segment
-abbrev shut : (digest register : List ℕ) → ℕ → Digests
-shut digest register count = record { digest = digest; flag = false; register = register; count = count }
 
 -- what is found, where this offer is accepted
 abbrev found_as : Instance → Digests → Content → Bool → Batch → Found
@@ -40,7 +37,7 @@ IsFound i d b (Ok it) found = (found ≡ Ok (found_as i d it.offered it.again b)
 by_fresh : (a b : Bool) → verdict_by false a b ≡ Fresh → a ≡ true
 by_fresh true b e = refl
 by_fresh false true e = cc
-by_fresh false false e = cc
+by_fresh _ _ e = cc
 
 by_again : (a b : Bool) → verdict_by false a b ≡ Again → b ≡ true
 by_again true b e = cc
@@ -62,107 +59,51 @@ answer_is meaning key offered s t b again e =
     ap (λ (x : List ℕ). answer_at meaning key offered (InBasic (digest_of x)) b again) e
     ∙ rw (members_of-normal b) refl
 
-or_repeat : (found : Result Found Refusal) (a b : BatchAnswer) → a ≡ b → OrMemory (Ok (Repeat a)) found
-    → (found ≡ Ok (Repeat b)) ⊎ (found ≡ Err refusal.Memory)
-or_repeat found a b e (inl f) = inl (f ∙ ap (λ (x : BatchAnswer). Ok (Repeat x)) e)
-or_repeat found a b e (inr f) = inr f
-
-or_change : (found : Result Found Refusal) (m n : List ℕ) (a b : BatchAnswer) → m ≡ n → a ≡ b
-    → OrMemory (Ok (Change (record { next = m; answer = a }))) found → (found ≡ Ok (Change (record { next = n; answer = b })))
-    ⊎ (found ≡ Err refusal.Memory)
-or_change found m n a b d e (inl f) = inl (f ∙ (λ i. Ok (Change (record { next = d i; answer = e i }))))
-or_change found m n a b d e (inr f) = inr f
-
-abbrev content_with : ℕ → Digest → ℕ → List ℕ → Content
-content_with id o position state = record { id = id; place = InBasic o; position = position; state = state }
+-- the verdict by digests on an offered place of Basic
+verdict_is : (d : Digests) (place : Place) (b : Batch) → variant_of place ≡ Basic
+    → verdict_by_digests zero_bytes d.flag d.digest d.register place b ≡ basic_verdict d.digest (summary_in place) b
+verdict_is d (InBasic s) b v = refl
+verdict_is d (InOpt a x) b v = absurd (cc)
 
 -- by what the offer is examined to
-found_examined : (meaning : Meaning) (key digest register : List ℕ) (count : ℕ) (o : Digest) (id position : ℕ) (state : List ℕ) (b : Batch)
-    (e : Result Bool Refusal) (found : Result Found Refusal)
-    → (e ≡ Ok false → link o.bytes (normal b) ≡ link digest (normal b)) → (e ≡ Ok true → link o.bytes (normal b) ≡ digest)
-    → OrMemory (found_from e
-    (committed_cell (cell_at (basic meaning key) (shut digest register count)) (content_with id o position state) b)
-    (answer_of meaning key (content_with id o position state) b)) found
-    → IsFound (basic meaning key) (shut digest register count) (normal b) (call_words.found_with (content_with id o position state) e) found
-found_examined meaning key digest register count o id position state b (Err why) found f r m = m
-found_examined meaning key digest register count o id position state b (Ok true) found f r m =
-    let offered : Content = content_with id o position state in
-    or_repeat found (answer_at meaning key offered (InBasic (digest_of (link o.bytes (normal b)))) b true)
-    (answer_at meaning key offered (InBasic (digest_of digest)) (normal b) true)
-    (answer_is meaning key offered (link o.bytes (normal b)) digest b true (r refl)) m
-found_examined meaning key digest register count o id position state b (Ok false) found f r m =
-    let offered : Content = content_with id o position state in
-    or_change found (cell_spelling (cell_at (basic meaning key) (shut (link o.bytes (normal b)) register count)))
-    (cell_spelling (cell_at (basic meaning key) (shut (link digest (normal b)) register count)))
-    (answer_at meaning key offered (InBasic (digest_of (link o.bytes (normal b)))) b false)
-    (answer_at meaning key offered (InBasic (digest_of (link digest (normal b)))) (normal b) false)
-    (ap (λ (s : List ℕ). cell_spelling (cell_at (basic meaning key) (shut s register count))) (f refl))
-    (answer_is meaning key offered (link o.bytes (normal b)) (link digest (normal b)) b false (f refl)) m
+found_examined : (meaning : Meaning) (key : List ℕ) (d : Digests) (offered : Content) (b : Batch) (e : Result Bool Refusal)
+    (found : Result Found Refusal) → (e ≡ Ok false → linked offered b ≡ link d.digest (normal b))
+    → (e ≡ Ok true → linked offered b ≡ d.digest)
+    → OrMemory (found_from e (committed_cell (cell_at (basic meaning key) d) offered b) (answer_of meaning key offered b)) found
+    → IsFound (basic meaning key) d (normal b) (call_words.found_with offered e) found
+found_examined meaning key d offered b (Err why) found f r m = m
+found_examined meaning key d offered b (Ok true) found f r m =
+    subst (λ (x : Found). OrMemory (Ok x) found)
+    (ap (λ (x : BatchAnswer). Repeat x) (answer_is meaning key offered (linked offered b) d.digest b true (r refl))) m
+found_examined meaning key d offered b (Ok false) found f r m =
+    let answers = answer_is meaning key offered (linked offered b) (link d.digest (normal b)) b false (f refl) in
+    subst (λ (x : Found). OrMemory (Ok x) found) (λ j. Change (record {
+      next = cell_spelling (record (cell_at (basic meaning key) d) { summary = digest_of (f refl j) });
+      answer = answers j;
+    })) m
 
 -- an offer to Basic
-found_basic : (meaning : Meaning) (key digest register : List ℕ) (count : ℕ) (o : Digest) (id position : ℕ) (state tag : List ℕ) (b : Batch)
-    (found : Result Found Refusal)
-    → OrMemory (found_in meaning
-    (seen_by (cell_at (basic meaning key) (shut digest register count))
-    (Ok (record { content = content_with id o position state; tag = tag }))) b) found
-    → IsFound (basic meaning key) (shut digest register count) (normal b)
-    (call.found_by_verdict (basic meaning key) (by_digests (basic meaning key)) (shut digest register count) (normal b)
-    (Ok (record { content = content_with id o position state; tag = tag }))) found
-found_basic meaning key digest register count o id position state tag b found m =
-    let offered : Content = content_with id o position state in
-    let v : Verdict = basic_verdict digest o.bytes (normal b) in
-    let s : Bool = meaning.is_spelled state in
-    let t : Bool = bytes_eq tag (tag_of key offered) in
-    let fits : Bool = nat_le (position + size_of b) last_position in
-    let fits' : Bool = nat_le (position + size_of (normal b)) last_position in
-    let same : fits ≡ fits' = ap (λ (x : List (List ℕ)). nat_le (position + length x) last_position) (sym (members_of-normal b)) in
-    let examined_to = found_examined meaning key digest register count o id position state b (weighed s t v fits) found
-    (λ (e : weighed s t v fits ≡ Ok false). fresh_summary o.bytes digest (normal b) (weighed_only s t v fits false e).verdict)
-    (λ (e : weighed s t v fits ≡ Ok true). again_summary o.bytes digest (normal b) (weighed_only s t v fits true e).verdict) m in
-    subst (λ (f : Bool). IsFound (basic meaning key) (shut digest register count) (normal b)
-    (call_words.found_with offered (weighed s t v f))
-    found) same examined_to
-
-found_placed : (meaning : Meaning) (key digest register : List ℕ) (count : ℕ) (place : Place) (id position : ℕ) (state tag : List ℕ)
-    (b : Batch) (found : Result Found Refusal)
-    → variant_of place ≡ Basic
-    → OrMemory (found_in meaning
-    (seen_by (cell_at (basic meaning key) (shut digest register count))
-    (Ok (record { content = record { id = id; place = place; position = position; state = state }; tag = tag }))) b) found
-    → IsFound (basic meaning key) (shut digest register count) (normal b)
-    (call.found_by_verdict (basic meaning key) (by_digests (basic meaning key)) (shut digest register count) (normal b)
-    (Ok (record { content = record { id = id; place = place; position = position; state = state }; tag = tag }))) found
-found_placed meaning key digest register count (InBasic o) id position state tag b found v m =
-    found_basic meaning key digest register count o id position state tag b found m
-found_placed meaning key digest register count (InOpt a x) id position state tag b found v m = absurd (cc)
-
-found_taken : (meaning : Meaning) (key digest register : List ℕ) (count : ℕ) (b : Batch) (taken : Result Snapshot PartsFault)
-    (offer : List ℕ) (found : Result Found Refusal)
-    → ReadsParts offer Basic meaning.id taken
-    → OrMemory (found_in meaning (seen_by (cell_at (basic meaning key) (shut digest register count)) taken) b) found
-    → IsFound (basic meaning key) (shut digest register count) (normal b)
-    (call.found_by_verdict (basic meaning key) (by_digests (basic meaning key)) (shut digest register count) (normal b) taken) found
-found_taken meaning key digest register count b (Err Form) offer found r m = m
-found_taken meaning key digest register count b (Err Kind) offer found r m = m
-found_taken meaning key digest register count b (Ok s) offer found r m =
-    found_placed meaning key digest register count s.content.place s.content.id s.content.position s.content.state s.tag b found r.1.0 m
-
--- what is found over a platform whose cell has these digests
-found_shut : (meaning : Meaning) (key digest register : List ℕ) (count : ℕ) (old : Standing) (offer : List ℕ) (b : Batch)
-    (found : Result Found Refusal)
-    → IsCell (cell_at (basic meaning key) (shut digest register count))
-    → old.cell ≡ Some (cell_spelling (cell_at (basic meaning key) (shut digest register count)))
-    → Finds meaning old offer b found
-    → IsFound (basic meaning key) (shut digest register count) (normal b)
-    (call.found_at (basic meaning key) (by_digests (basic meaning key)) (shut digest register count) (normal b) offer) found
-found_shut meaning key digest register count old offer b found spells cell f =
-    let here : Cell = cell_at (basic meaning key) (shut digest register count) in
-    let taken : Result Snapshot PartsFault = parts_of Basic meaning.id offer in
-    let r = reads_parts Basic meaning.id offer in
-    let sight : f.finds.seen ≡ seen_by here taken =
-    one_sight meaning.id f.bytes offer here taken f.finds.seen (spells, f.told (cell_spelling here) cell) (refl, refl) r f.finds.is_seen in
-    found_taken meaning key digest register count b taken offer found r
-    (subst (λ (s : Seen). OrMemory (found_in meaning s b) found) sight f.finds.found_is)
+found_taken : (meaning : Meaning) (key : List ℕ) (d : Digests) (b : Batch) (taken : Result Snapshot PartsFault) (offer : List ℕ)
+    (found : Result Found Refusal) → ReadsParts offer Basic meaning.id taken
+    → OrMemory (found_in meaning (seen_by (cell_at (basic meaning key) d) taken) b) found
+    → IsFound (basic meaning key) d (normal b)
+    (call.found_by_verdict (basic meaning key) (by_digests (basic meaning key)) d (normal b) taken) found
+found_taken meaning key d b (Err Form) offer found r m = m
+found_taken meaning key d b (Err Kind) offer found r m = m
+found_taken meaning key d b (Ok snapshot) offer found r m =
+    let offered : Content = snapshot.content in
+    let v : Verdict = basic_verdict d.digest (summary_in offered.place) (normal b) in
+    let s : Bool = meaning.is_spelled offered.state in
+    let t : Bool = bytes_eq snapshot.tag (tag_of key offered) in
+    let fits : Bool = nat_le (offered.position + size_of b) last_position in
+    let fits' : Bool = nat_le (offered.position + size_of (normal b)) last_position in
+    let same : fits ≡ fits' = ap (λ (x : List (List ℕ)). nat_le (offered.position + length x) last_position) (sym (members_of-normal b)) in
+    let F : Verdict → Bool → Type 0 = λ x f. IsFound (basic meaning key) d (normal b)
+    (call_words.found_with offered (weighed s t x f)) found in
+    let examined_to : F v fits = found_examined meaning key d offered b (weighed s t v fits) found
+    (λ e. fresh_summary (summary_in offered.place) d.digest (normal b) (weighed_only s t v fits false e).verdict)
+    (λ e. again_summary (summary_in offered.place) d.digest (normal b) (weighed_only s t v fits true e).verdict) m in
+    subst (λ x. F x fits') (sym (verdict_is d offered.place (normal b) r.1.0)) (subst (F v) same examined_to)
 
 -- What is found at digests that a platform's cell has, whatever its register holds.
 found_here : (meaning : Meaning) (key : List ℕ) (d : Digests) (register : List ℕ) (old : Standing) (offer : List ℕ) (b : Batch)
@@ -172,15 +113,18 @@ found_here : (meaning : Meaning) (key : List ℕ) (d : Digests) (register : List
     → IsFound (basic meaning key) (record d { register = register }) (normal b)
     (call.found_at (basic meaning key) (by_digests (basic meaning key)) (record d { register = register }) (normal b) offer) found
 found_here meaning key d register old offer b found spells cell f =
-    let flag : d.flag ≡ false = spells.variant.0 in
-    let is : shut d.digest register d.count ≡ record d { register = register } =
-    λ j. record { digest = d.digest; flag = sym flag j; register = register; count = d.count } in
-    let same : cell_at (basic meaning key) d ≡ cell_at (basic meaning key) (shut d.digest register d.count) =
-    λ j. cell_at (basic meaning key) (record { digest = d.digest; flag = flag j; register = register; count = d.count }) in
-    subst (λ (x : Digests). IsFound (basic meaning key) x (normal b)
-    (call.found_at (basic meaning key) (by_digests (basic meaning key)) x (normal b) offer) found) is
-    (found_shut meaning key d.digest register d.count old offer b found
-    (subst (λ (c : Cell). IsCell c) same spells) (cell ∙ ap (λ (c : Cell). Some (cell_spelling c)) same) f)
+    let i : Instance = basic meaning key in
+    let seen : Digests = record d { register = register } in
+    let here : Cell = cell_at i d in
+    let taken : Result Snapshot PartsFault = parts_of Basic meaning.id offer in
+    let r = reads_parts Basic meaning.id offer in
+    let sight : f.finds.seen ≡ seen_by here taken =
+    one_sight meaning.id f.bytes offer here taken f.finds.seen (spells, f.told (cell_spelling here) cell) (refl, refl) r f.finds.is_seen in
+    subst (λ (lost : Bool). IsFound i seen (normal b)
+    (if lost then Err refusal.Lost else call.found_by_verdict i (by_digests i) seen (normal b) taken) found)
+    (ap (λ (flag : Bool). flag && bytes_eq register zero_bytes) (sym spells.variant.0))
+    (found_taken meaning key seen b taken offer found r
+    (subst (λ (s : Seen). OrMemory (found_in meaning s b) found) sight f.finds.found_is))
 
 -- the steps of a call behind its reading step
 abbrev pub writing : Bool → Batch → List Step

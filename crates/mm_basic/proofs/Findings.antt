@@ -3,7 +3,7 @@ use Rattle.mm_basic.proofs.Below.{◌≡◌, ℕ, Bool, true, false, List, Resul
 use Rattle.mm_basic.proofs.Below.{IsLawful, Batch, normal, Blank, Unspelled, Form, Kind, InBasic, Content, Snapshot, IsFit, length-link}
 use Rattle.mm_basic.proofs.Below.{Refusal, Verdict, digest_of, Found, Repeat, Change, Seen, NoCell, OtherCell, NoOffer, Both, examined}
 use Rattle.mm_basic.proofs.Below.{summary_in, verdict_of, linked, answer_of, committed_cell, found_from, found_in, OrMemory, FindsIn}
-use Rattle.mm_basic.proofs.Below.{weighed_only}
+use Rattle.mm_basic.proofs.Below.{weighed_only, Basic, Cell, IsCellOf, PartsFault, ReadsParts, SpellsCell}
 use Rattle.std.proofs.lemmas.Bool.Decides.{nat_tests}
 use Rattle.mm_model.specs.FitLaws.{is_fit}
 
@@ -32,14 +32,12 @@ accepted_fit meaning lawful key offered b verdict again e =
 
 shaped_in : (meaning : Meaning) → IsLawful meaning → (seen : Seen) (b : Batch) → IsShaped b (found_in meaning seen b)
 shaped_in meaning lawful (NoCell Blank) b = tt
-shaped_in meaning lawful (NoCell Unspelled) b = tt
-shaped_in meaning lawful OtherCell b = tt
 shaped_in meaning lawful (NoOffer Form) b = tt
-shaped_in meaning lawful (NoOffer Kind) b = tt
 shaped_in meaning lawful (Both cell offered) b =
     shaped_from meaning cell.key (committed_cell cell offered.content b) offered.content b
     (examined meaning cell.key offered b (verdict_of cell offered b))
     (accepted_fit meaning lawful cell.key offered b (verdict_of cell offered b))
+shaped_in meaning lawful _ b = tt
 
 shaped_or : (b : Batch) (x found : Result Found Refusal) → IsShaped b x → OrMemory x found → IsShaped b found
 shaped_or b (Err why) found h o = subst (λ (r : Result Found Refusal). IsShaped b r) (sym o) tt
@@ -53,3 +51,13 @@ shaped_or b (Ok it) found h o =
 pub shaped : (meaning : Meaning) → IsLawful meaning → (bytes offer : List ℕ) (b : Batch) (found : Result Found Refusal)
     → FindsIn meaning bytes offer b found → IsShaped b found
 shaped meaning lawful bytes offer b found f = shaped_or b (found_in meaning f.seen b) found (shaped_in meaning lawful f.seen b) f.found_is
+
+-- an offer that is none to this module
+pub no_offer : (meaning : Meaning) (bytes offer : List ℕ) (b : Batch) (id : ℕ) (cell : Cell) (fault : PartsFault)
+    (found : Result Found Refusal) → id ≡ meaning.id → SpellsCell bytes cell → IsCellOf id cell → ReadsParts offer Basic id (Err fault)
+    → OrMemory (found_in meaning (NoOffer fault) b) found → FindsIn meaning bytes offer b found
+no_offer meaning bytes offer b id cell fault found e spells is reads o = record {
+  seen = NoOffer fault;
+  is_seen = (cell, spells, subst (λ (n : ℕ). IsCellOf n cell) e is, subst (λ (n : ℕ). ReadsParts offer Basic n (Err fault)) e reads);
+  found_is = o;
+}

@@ -7,9 +7,8 @@ use Rattle.mm_basic.specs.Turns.{Turns, turn_fault, turn_of, last_turn}
 use Rattle.mm_basic.proofs.Asking.{read_blamed}
 
 found_fault : (found : Result Found Refusal) → turn_fault (turn_of found) ≡ fault_in found
-found_fault (Err why) = refl
 found_fault (Ok (Repeat answer)) = refl
-found_fault (Ok (Change ready)) = refl
+found_fault _ = refl
 
 written_fault : (written : Result BatchAnswer StepFault) → turn_fault (last_turn written) ≡ result_err written
 written_fault (Ok answer) = refl

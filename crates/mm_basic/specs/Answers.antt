@@ -1,24 +1,12 @@
 -- What a call answers, and what it writes.
-use Rattle.std.specs.Prelude.{ℕ, Bool, true, false, List, Result, Ok, Err}
-use Rattle.mm_module.specs.Meaning.{Meaning}
-use Rattle.mm_module.specs.Batch.{Batch, normal}
-use Rattle.mm_seal.specs.declared.cell.Cell.{Cell}
-use Rattle.mm_seal.specs.declared.cell.CellFault.TheVariants.{Blank, Cell as Unspelled}
-use Rattle.mm_seal.specs.declared.snapshot.PartsFault.TheVariants.{Form, Kind}
+use Rattle.mm_basic.specs.Below.{ℕ, Bool, true, false, List, Result, Ok, Err, cell_spelling, Content, Cell, Blank, Unspelled, Form, Kind}
+use Rattle.mm_basic.specs.Below.{Batch, normal, Meaning, link, digest_of, BatchAnswer, Refusal, answer_at, examined}
 use Rattle.mm_seal.specs.declared.snapshot.Place.TheVariants.{Basic}
-use Rattle.mm_seal.specs.Cell.{cell_spelling}
-use Rattle.mm_seal.specs.Snapshot.{Content}
-use Rattle.mm_model.specs.Chains.{link}
-use Rattle.mm_model.specs.declared.answer.BatchAnswer.{BatchAnswer}
-use Rattle.mm_model.specs.declared.refusal.Refusal.{Refusal}
 use Rattle.mm_model.specs.declared.refusal.Refusal.TheVariants as refusal
-use Rattle.mm_model.specs.PlacesWords.{digest_of}
 use Rattle.mm_basic.specs.declared.found.Found.{Found}
 use Rattle.mm_basic.specs.declared.found.Found.TheVariants.{Repeat, Change}
 use Rattle.mm_basic.specs.Seen.{Seen, NoCell, OtherCell, NoOffer, Both}
-use Rattle.mm_call.specs.Order.{examined}
 use Rattle.mm_basic.specs.Order.{summary_in, verdict_of}
-use Rattle.mm_call.specs.Answers.{answer_at}
 
 -- the summary after the batch
 abbrev pub linked : Content → Batch → List ℕ

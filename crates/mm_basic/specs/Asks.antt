@@ -1,20 +1,10 @@
 -- What a whole call does to the platform, and what it answers.
-use Rattle.std.specs.Prelude.{◌≡◌, ℕ, Bool, true, false, List, [], ◌∷◌, Option, None, Some, Result, Ok, Err, ◌⊎◌}
-use Rattle.mm_base.specs.Faults.{counted}
-use Rattle.mm_digest.specs.declared.variant.Variant.TheVariants.{Basic}
-use Rattle.mm_platform.specs.declared.fault.StepFault.{StepFault}
-use Rattle.mm_platform.specs.Standing.{Standing}
-use Rattle.mm_platform.specs.Steps.{Act, WriteCell}
-use Rattle.mm_module.specs.Meaning.{Meaning}
-use Rattle.mm_module.specs.Batch.{Batch}
-use Rattle.mm_model.specs.declared.answer.BatchAnswer.{BatchAnswer}
-use Rattle.mm_model.specs.declared.refusal.Refusal.{Refusal}
+use Rattle.mm_basic.specs.Below.{◌≡◌, ℕ, Bool, true, false, List, [], ◌∷◌, Option, None, Some, Result, Ok, Err, ◌⊎◌, counted, Basic}
+use Rattle.mm_basic.specs.Below.{Standing, Act, WriteCell, StepFault, Batch, Meaning, BatchAnswer, Refusal, CallOf, StepsTo, AsksTo}
+use Rattle.mm_basic.specs.Below.{fault_of, Ended}
 use Rattle.mm_basic.specs.declared.found.Found.{Found}
 use Rattle.mm_basic.specs.declared.found.Found.TheVariants.{Repeat, Change}
 use Rattle.mm_basic.specs.declared.found.Ready.{Ready}
-use Rattle.mm_call.specs.declared.ended.Ended.{Ended}
-use Rattle.mm_call.specs.Calls.{CallOf, StepsTo, AsksTo}
-use Rattle.mm_call.specs.Refusals.{fault_of}
 use Rattle.mm_basic.specs.Steps.{Reads}
 
 -- A repeat makes no step that commits; a new batch makes one, which writes the cell.

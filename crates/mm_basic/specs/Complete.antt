@@ -1,21 +1,7 @@
 -- When a call of Basic is answered.
-use Rattle.std.specs.Prelude.{◌≡◌, ℕ, ◌+◌, ◌≤◌, false, List, Result}
-use Rattle.mm_base.specs.Limits.{last_position}
-use Rattle.mm_digest.specs.declared.variant.Variant.TheVariants.{Basic}
-use Rattle.mm_platform.specs.Standing.{Standing}
-use Rattle.mm_module.specs.Meaning.{Meaning}
-use Rattle.mm_module.specs.Batch.{Batch, size_of, normal}
-use Rattle.mm_seal.specs.Snapshot.{Content}
-use Rattle.mm_model.specs.InstanceWords.{basic}
-use Rattle.mm_model.specs.History.{History}
-use Rattle.mm_model.specs.Judge.{judge}
-use Rattle.mm_model.specs.Long.{is_long}
-use Rattle.mm_model.specs.Messages.{IsClearFor}
-use Rattle.mm_model.specs.Places.{Names}
-use Rattle.mm_model.specs.Standing.{StandsFor, IsRight}
-use Rattle.mm_model.specs.declared.answer.BatchAnswer.{BatchAnswer}
-use Rattle.mm_model.specs.declared.refusal.Refusal.{Refusal}
-use Rattle.mm_call.specs.Leaving.{IsAccepted, IsAnswered}
+use Rattle.mm_basic.specs.Below.{◌≡◌, ℕ, ◌+◌, ◌≤◌, false, List, Result, last_position, Basic, Content, Standing, Batch, size_of, normal}
+use Rattle.mm_basic.specs.Below.{Meaning, History, basic, judge, is_long, IsClearFor, Names, StandsFor, IsRight, BatchAnswer, Refusal}
+use Rattle.mm_basic.specs.Below.{IsAccepted, IsAnswered}
 
 -- Completeness: a right offer that names the last position, or the one before the batch that was
 -- committed last and is asked again, is answered, while there are positions left.

@@ -1,12 +1,6 @@
 -- The order in which an offer is refused.
-use Rattle.std.specs.Prelude.{ℕ, List}
-use Rattle.mm_module.specs.Batch.{Batch, normal}
-use Rattle.mm_seal.specs.declared.cell.Cell.{Cell}
-use Rattle.mm_seal.specs.declared.snapshot.Place.{Place}
-use Rattle.mm_seal.specs.declared.snapshot.Place.TheVariants.{Basic, Opt}
-use Rattle.mm_seal.specs.Snapshot.{Snapshot}
-use Rattle.mm_model.specs.Judge.{basic_verdict}
-use Rattle.mm_model.specs.declared.verdict.Verdict.{Verdict}
+use Rattle.mm_basic.specs.Below.{ℕ, List, Snapshot, Cell, Place, Opt, Batch, normal, basic_verdict, Verdict}
+use Rattle.mm_seal.specs.declared.snapshot.Place.TheVariants.{Basic}
 
 -- the summary of an offered place; no offer to Basic has a place of Opt
 abbrev pub summary_in : Place → List ℕ

@@ -1,11 +1,5 @@
 -- What a call finds in the cell's bytes and in the offered bytes.
-use Rattle.std.specs.Prelude.{◌≡◌, ℕ, List, Ok, Err}
-use Rattle.mm_digest.specs.declared.variant.Variant.TheVariants.{Basic}
-use Rattle.mm_seal.specs.declared.cell.Cell.{Cell}
-use Rattle.mm_seal.specs.declared.cell.CellFault.{CellFault}
-use Rattle.mm_seal.specs.Cell.{SpellsCell, ReadsCell}
-use Rattle.mm_seal.specs.declared.snapshot.PartsFault.{PartsFault}
-use Rattle.mm_seal.specs.Snapshot.{Snapshot, ReadsParts}
+use Rattle.mm_basic.specs.Below.{◌≡◌, ℕ, List, Ok, Err, Basic, SpellsCell, ReadsCell, Snapshot, ReadsParts, Cell, CellFault, PartsFault}
 
 -- the cell is one of Basic and of this module
 abbrev pub IsCellOf : ℕ → Cell → Type 0

@@ -1,18 +1,10 @@
 -- The device steps of a call: what each does to the platform, and what it gives.
-use Rattle.std.specs.Prelude.{◌≡◌, ℕ, List, Option, None, Some, Result, IfOk}
-use Rattle.std.specs.Result.{result_err}
-use Rattle.mm_platform.specs.declared.fault.StepFault.{StepFault}
-use Rattle.mm_platform.specs.Standing.{Standing}
-use Rattle.mm_platform.specs.Steps.{Act, ReadCell, WriteCell, Goes}
-use Rattle.mm_module.specs.Meaning.{Meaning}
-use Rattle.mm_module.specs.Batch.{Batch}
-use Rattle.mm_model.specs.declared.answer.BatchAnswer.{BatchAnswer}
-use Rattle.mm_model.specs.declared.refusal.Refusal.{Refusal}
+use Rattle.mm_basic.specs.Below.{◌≡◌, ℕ, List, Option, None, Some, Result, IfOk, result_err, Standing, Act, ReadCell, WriteCell, Goes}
+use Rattle.mm_basic.specs.Below.{StepFault, Batch, Meaning, BatchAnswer, Refusal, fault_in, OrMemory}
 use Rattle.mm_basic.specs.declared.found.Found.{Found}
 use Rattle.mm_basic.specs.declared.found.Ready.{Ready}
 use Rattle.mm_basic.specs.Seen.{Seen, IsSeen}
 use Rattle.mm_basic.specs.Answers.{found_in}
-use Rattle.mm_call.specs.Refusals.{fault_in, OrMemory}
 
 -- the device step that a call makes next: it reads the cell; or it writes the cell that commits the
 -- batch

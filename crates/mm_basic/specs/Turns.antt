@@ -1,18 +1,11 @@
 -- What each turn of a call does and gives.
-use Rattle.std.specs.Prelude.{◌≡◌, ℕ, List, Option, None, Some, Result, Ok, Err}
-use Rattle.mm_platform.specs.Standing.{Standing}
-use Rattle.mm_module.specs.Meaning.{Meaning}
-use Rattle.mm_module.specs.Batch.{Batch}
-use Rattle.mm_model.specs.declared.answer.BatchAnswer.{BatchAnswer}
-use Rattle.mm_platform.specs.declared.fault.StepFault.{StepFault}
-use Rattle.mm_model.specs.declared.refusal.Refusal.{Refusal}
-use Rattle.mm_model.specs.declared.refusal.Refusal.TheVariants.{Device}
+use Rattle.mm_basic.specs.Below.{◌≡◌, ℕ, List, Option, None, Some, Result, Ok, Err, Standing, StepFault, Batch, Meaning, BatchAnswer}
+use Rattle.mm_basic.specs.Below.{Refusal, Device, fault_of}
 use Rattle.mm_basic.specs.declared.found.Found.{Found}
 use Rattle.mm_basic.specs.declared.found.Found.TheVariants.{Repeat, Change}
 use Rattle.mm_basic.specs.declared.found.Ready.{Ready}
 use Rattle.mm_basic.specs.declared.call.Turn.{Turn}
 use Rattle.mm_basic.specs.declared.call.Turn.TheVariants.{Going, Done, Refused}
-use Rattle.mm_call.specs.Refusals.{fault_of}
 use Rattle.mm_basic.specs.Steps.{Reads, Writes}
 
 -- what a turn gives, by what it finds
@@ -28,9 +21,8 @@ last_turn (Ok answer) = Done answer
 
 -- the fault of a device step that a turn hands on
 abbrev pub turn_fault : Turn → Option StepFault
-turn_fault (Going call) = None
-turn_fault (Done answer) = None
 turn_fault (Refused why) = fault_of why
+turn_fault _ = None
 
 -- the first turn of a call
 pub record TurnsFirst (meaning : Meaning) (old new : Standing) (offer : List ℕ) (b : Batch)

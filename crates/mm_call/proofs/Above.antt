@@ -26,8 +26,8 @@ pub use Rattle.mm_call.proofs.OptLeaves.{alike_call, alike_of, answered_clean_as
 pub use Rattle.mm_call.proofs.OptLeaves.{left_call, left_reading, Pushed, seen_closes}
 pub use Rattle.mm_call.proofs.OptMay.{AllMay, ask_may, first_in, may_of}
 pub use Rattle.mm_call.proofs.OptReady.{ready_closing}
-pub use Rattle.mm_call.proofs.OptShapes.{cut, past, reading, reset, shape, Shape, two_reads}
-pub use Rattle.mm_call.proofs.OptShown.{Brought, flag_kept, none_counted, pushed_open, reads_only, shown_back, shown_front, shown_shut}
+pub use Rattle.mm_call.proofs.OptShapes.{Brought, cut, none_counted, past, reading, reads_only, reset, shape, Shape, two_reads}
+pub use Rattle.mm_call.proofs.OptShown.{flag_kept, pushed_open, shown_back, shown_front, shown_shut}
 pub use Rattle.mm_call.proofs.OptShut.{bare, bare_digests, counted_open, counted_shut, foreign_agrees, foreign_digests, found_digests}
 pub use Rattle.mm_call.proofs.OptShut.{holds_open, holds_shut, life_bare, listed_bare, sound_shut, within_items, within_of}
 pub use Rattle.mm_call.proofs.OptWalks.{AreOwn, foreign_all, holds_made, own_asked, own_checked, path_is, Ready, walk_fine}

@@ -7,23 +7,20 @@ use Rattle.mm_call.proofs.Below.{by_digests, all_made, Agrees, Found, found_at, 
 use Rattle.mm_call.proofs.Below.{Walked, walk, called, called_with, IsPlain, IsWithin, right_messages, IsSameCall, BasicCallsAgree}
 use Rattle.mm_call.proofs.Below.{IsBasicMove, agrees-made, plain-made, same_batches, more_batches, Commits, nothing, batch, basic_commits}
 use Rattle.mm_call.proofs.Below.{foreign_first, GoesAlong, walk_along}
-use Rattle.mm_call.proofs.Finding.{Holds, Asking, found_same, placed}
+use Rattle.mm_call.proofs.Finding.{Holds, Asking, found_same, placed, Placed}
 use Rattle.mm_call.proofs.Calling.{summary_then, listed_push, listed_same, called_message}
+use Rattle.mm_call.proofs.OptShut.{foreign_digests}
 use Rattle.mm_call.proofs.Endings.{Points, Ends, again_of, fresh_of, ending_same}
 
 abbrev pub AreBasic : List Move → Type 0
 AreBasic moves = AllByRecursion IsBasicMove moves
-
-pub basic-append : (xs ys : List Move) → AreBasic xs → AreBasic ys → AreBasic (xs ++ ys)
-basic-append [] ys a b = b
-basic-append (x ∷ xs) ys a b = (a.0, basic-append xs ys a.1 b)
 
 pub basic-foreign : (values : List (List ℕ)) → AreBasic (map Foreign values)
 basic-foreign [] = tt
 basic-foreign (v ∷ values) = (tt, basic-foreign values)
 
 basic_along : GoesAlong AreBasic
-basic_along = record { more = basic-append; others = basic-foreign }
+basic_along = record { more = each_append IsBasicMove; others = basic-foreign }
 
 pub walk_basic : (fates : ℕ → Fate) (flag fresh : Bool) (b : Batch) → AreBasic (walk fates 1 (ask_steps Basic flag fresh b)).moves
 walk_basic fates flag false b = walk_along AreBasic basic_along fates 1 (ask_steps Basic flag false b) tt
@@ -33,9 +30,7 @@ walk_basic fates flag true b = walk_along AreBasic basic_along fates 1 (ask_step
 pub plain_outside : (others : List (List ℕ)) (closed : List (List Entry)) (is_open : Bool) (items : List Entry) → closed ≡ []
     → is_open ≡ false → AllByRecursion (Contains others) (values_in (joined closed ++ (if is_open then items else [])))
 plain_outside others closed is_open items none shut =
-    let P : List (List Entry) → Type 0 = λ c. AllByRecursion (Contains others) (values_in (joined c ++ (if is_open then items else []))) in
-    let Q : Bool → Type 0 = λ o. AllByRecursion (Contains others) (values_in (joined {A = Entry} [] ++ (if o then items else []))) in
-    subst P (sym none) (subst Q (sym shut) tt)
+    rw (none, shut) tt
 
 place_any : (i : Instance) (y y' : History) (named : List Batch) (place : Place) → IsPlaceOf Basic i y named place
     → IsPlaceOf Basic i y' named place
@@ -44,9 +39,8 @@ place_any i y y' named (InOpt a e) is = absurd is
 
 -- what is found, where memory isn't wanting
 pub unlacked : (found : Result Found Refusal) (lacks : Bool) (f : Found) → found_unless_wanting found lacks ≡ Ok f → found ≡ Ok f
-unlacked (Err why) lacks f e = cc
 unlacked (Ok found) false f e = e
-unlacked (Ok found) true f e = cc
+unlacked _ lacks f e = cc
 
 -- the summary of an answer is that of the batches at the end
 end_summary : (i : Instance) (id : ℕ) (y : History) (b : Batch) (again : Bool) (digest : List ℕ) (named : List Batch) (walked : Walked)
@@ -59,6 +53,28 @@ end_summary i id y b again digest named walked e fresh repeat (nothing none unle
 end_summary i id y b again digest named walked e fresh repeat (batch one is) whole =
     summary_then id y.batches named b again digest e fresh repeat
     ∙ ap (summary_of id) (ap (λ v. v ++ b ∷ []) (fresh (fresh_of again is)) ∙ sym (more_batches i walked.moves y b one))
+
+-- what is found at a history with the same batches points there
+pub points_of : (all : List (List ℕ)) (i : Instance) (z y : History) (b : Batch) (f : Found) → z.batches ≡ y.batches → Placed all i z b f
+    → Points i y.batches b f
+points_of all i z y b f same p = record {
+  named = p.named;
+  position = p.position;
+  state = p.state;
+  fresh = λ x. p.fresh x ∙ same;
+  repeat = λ x. p.repeat x ∙ same;
+}
+
+-- a history that stays plain, with the same batches
+pub within_same : (meaning : Meaning) (key : List ℕ) (all others : List (List ℕ)) (asked : List Batch) (y end : History)
+    → IsWithin all others asked (basic meaning key) y → IsPlain end → end.batches ≡ y.batches
+    → IsWithin all others asked (basic meaning key) end
+within_same meaning key all others asked y end within plain same = record {
+  sound = plain;
+  outside = plain_outside others end.closed end.is_open end.items plain.closed plain.shut;
+  listed = listed_same meaning key all y end within.listed same;
+  batches = rw same within.batches;
+}
 
 -- what a call starts from, and what it sees and finds
 record Starts (all others : List (List ℕ)) (asked : List Batch) (i : Instance) (y : History) (d seen : Digests) (b : Batch)
@@ -99,14 +115,8 @@ module _ (meaning : Meaning) (key : List ℕ) where
       (found : Result Found Refusal) → Starts all others asked I y d seen b found → AreBasic walked.moves
       → Commits b (is_fresh found) walked → IsWithin all others asked I (all_made (by_lists I) y walked.moves)
   within_after all others asked y d seen b walked found s moves (nothing none unless) =
-      let end = all_made (by_lists I) y walked.moves in
-      let plain : IsPlain end = plain-made meaning key walked.moves y moves s.within.sound in
-      let same = same_batches I walked.moves y none in record {
-        sound = plain;
-        outside = plain_outside others end.closed end.is_open end.items plain.closed plain.shut;
-        listed = listed_same meaning key all y end s.within.listed same;
-        batches = subst (AllByRecursion (Contains asked)) (sym same) s.within.batches;
-      }
+      within_same meaning key all others asked y (all_made (by_lists I) y walked.moves) s.within
+      (plain-made meaning key walked.moves y moves s.within.sound) (same_batches I walked.moves y none)
   within_after all others asked y d seen b walked (Ok f) s moves (batch one fresh) =
       let end = all_made (by_lists I) y walked.moves in
       let plain : IsPlain end = plain-made meaning key walked.moves y moves s.within.sound in
@@ -114,8 +124,7 @@ module _ (meaning : Meaning) (key : List ℕ) where
         sound = plain;
         outside = plain_outside others end.closed end.is_open end.items plain.closed plain.shut;
         listed = listed_push meaning key all y end b s.within.listed (s.message f refl (fresh_of f.again fresh)) more;
-        batches = subst (AllByRecursion (Contains asked)) (sym more)
-            (each_append (Contains asked) y.batches (b ∷ []) s.within.batches (s.is_asked, tt));
+        batches = rw more (each_append (Contains asked) y.batches (b ∷ []) s.within.batches (s.is_asked, tt));
       }
   within_after all others asked y d seen b walked (Err why) s moves (batch one fresh) = cc
 
@@ -151,8 +160,7 @@ module _ (meaning : Meaning) (key : List ℕ) where
 
   -- others' values alone change no summary
   foreign_digest : (values : List (List ℕ)) (d : Digests) → (all_made (by_digests I) d (map Foreign values ++ [])).digest ≡ d.digest
-  foreign_digest [] d = refl
-  foreign_digest (v ∷ values) d = foreign_digest values ((by_digests I).made d (Foreign v))
+  foreign_digest values d = ap (λ (x : Digests). x.digest) (foreign_digests I values [] d)
 
   pub basic_same : (all others : List (List ℕ)) (asked : List Batch) (y : History) (d : Digests) (course : Course) (offer : List ℕ)
       (b : Batch) → Agrees I y d → IsBasicAsked all others asked I y offer b
@@ -162,7 +170,7 @@ module _ (meaning : Meaning) (key : List ℕ) where
       let moves : List Move = map Foreign values ++ [] in
       let sees : History = all_made (by_lists I) y moves in
       let seen : Digests = all_made (by_digests I) d moves in
-      let quiet : AreBasic moves = basic-append (map Foreign values) [] (basic-foreign values) tt in
+      let quiet : AreBasic moves = each_append IsBasicMove (map Foreign values) [] (basic-foreign values) tt in
       let same : sees.batches ≡ y.batches = same_batches I moves y (foreign_first values []) in
       let holds : Holds all I sees seen = record {
         agrees = agrees-made meaning key moves y d quiet agrees;
@@ -183,15 +191,7 @@ module _ (meaning : Meaning) (key : List ℕ) where
         within = a.within;
         is_asked = a.is_asked;
         sees = foreign_digest values d;
-        placed_at = λ f is.
-            let p = placed all I sees offer b asking f (unlacked lists course.lacks f is) in
-            record {
-              named = p.named;
-              position = p.position;
-              state = p.state;
-              fresh = λ x. p.fresh x ∙ same;
-              repeat = λ x. p.repeat x ∙ same;
-            };
+        placed_at = λ f is. points_of all I sees y b f same (placed all I sees offer b asking f (unlacked lists course.lacks f is));
         message = λ f is fresh.
             let was = unlacked lists course.lacks f is in
             let p = placed all I sees offer b asking f was in

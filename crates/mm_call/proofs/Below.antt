@@ -41,10 +41,12 @@ pub use Rattle.mm_model.specs.InstanceWords.{basic, opt}
 pub use Rattle.mm_model.specs.Judge.{is_last, judge, judged, verdict_by_digests}
 pub use Rattle.mm_model.specs.Life.{are_own, has_value, is_empty, is_lost, Life, life_by, life_of, Live, Lost as LostLife, Spoiled}
 pub use Rattle.mm_model.specs.ListLaws.{each_append, each_left, each_right, each_self}
-pub use Rattle.mm_model.specs.Messages.{AreNoGuards, closed_runs, counting, form_messages, history_messages, IsClear, moving_messages}
+pub use Rattle.mm_model.specs.Messages.{AreNoGuards, closed_runs, counting, form_messages, history_messages, IsClear, IsClearFor}
+pub use Rattle.mm_model.specs.Messages.{moving_messages}
 pub use Rattle.mm_model.specs.Messages.{offer_messages, point_messages, register_trail, runs_of, values_in, Within}
 pub use Rattle.mm_model.specs.MessagesWords.{move_messages}
-pub use Rattle.mm_model.specs.Moves.{Brings, committing, Digests, digests_of, IsAllowed, IsOpening, IsOutside, made, MayMove}
+pub use Rattle.mm_model.specs.Moves.{batch_messages, Brings, committing, Digests, digests_of, IsAllowed, IsOpening, IsOutside, made}
+pub use Rattle.mm_model.specs.Moves.{MayMove}
 pub use Rattle.mm_model.specs.Places.{at_anchor, in_closed, in_current, IsPlaceOf, IsPoint, issued, issued_place, Names}
 pub use Rattle.mm_model.specs.PlacesWords.{digest_of}
 pub use Rattle.mm_model.specs.SegmentLaws.{joined-append, not_empty, same_halves, true_not_false}
@@ -55,9 +57,10 @@ pub use Rattle.mm_model.specs.declared.answer.BatchAnswer.{BatchAnswer}
 pub use Rattle.mm_model.specs.declared.refusal.Refusal.{Refusal}
 pub use Rattle.mm_model.specs.declared.refusal.Refusal.TheVariants.{Blank, Cell, Device, Form, Full, Kind, Long, Lost, Memory, Stale, State}
 pub use Rattle.mm_model.specs.declared.refusal.Refusal.TheVariants.{Tag}
-pub use Rattle.mm_model.proofs.Above.{basic_names, guards_grow, items_grow, lost_is_zero, open_current, opt_digests, opt_is_judged}
-pub use Rattle.mm_model.proofs.Above.{opt_names, outside_moved, point_items, run_grows, shut_current, sound_items, sound_moved}
-pub use Rattle.mm_call.specs.AlongLaws.{closes-foreign, closes_first, commit_keeps, GoesAlong, opt_closes, walk_along}
+pub use Rattle.mm_model.proofs.Above.{basic_names, fresh_lists, items_messages, live_parts, LiveParts, lost_is_zero, open_current}
+pub use Rattle.mm_model.proofs.Above.{opt_digests, opt_is_judged, opt_messages, opt_names, outside_moved, point_items, shut_current}
+pub use Rattle.mm_model.proofs.Above.{sound_items, sound_moved}
+pub use Rattle.mm_call.specs.AlongLaws.{closes-foreign, closes_first, commit_keeps, EachMove, GoesAlong, opt_closes, walk_along}
 pub use Rattle.mm_call.specs.Answers.{answer_at, answer_on}
 pub use Rattle.mm_call.specs.Asked.{counted_moves, counted_part, foreign_in, from_reset, IsAsked, IsPlain, IsWithin, moves_messages}
 pub use Rattle.mm_call.specs.Asked.{right_messages}

@@ -1,24 +1,15 @@
 -- What a call answers, by lists and by digests; and, in Basic, the messages of a history that goes on by the batch.
-use Rattle.mm_call.proofs.Below.{ℕ, ◌≡◌, ◌+◌, ◌-◌, Bool, true, false, List, [], ◌∷◌, ◌++◌, length, drop, refl, sym, ap, ◌∙◌, subst, arith}
+use Rattle.mm_call.proofs.Below.{ℕ, ◌≡◌, ◌+◌, ◌-◌, Bool, true, false, List, [], ◌∷◌, ◌++◌, drop, refl, sym, ap, ◌∙◌, subst, arith}
 use Rattle.mm_call.proofs.Below.{if◌then◌else◌, Contains, flat_map-append, append-nil, Basic, start_of, Meaning, state_after, outputs_from}
 use Rattle.mm_call.proofs.Below.{state_from, Batch, members_of, size_of, state_after-append, outputs_from-append, length-outputs_from}
 use Rattle.mm_call.proofs.Below.{Content, sealed_of, Place, InBasic, InOpt, link, link_message, trail, Instance, basic, History}
 use Rattle.mm_call.proofs.Below.{requests_of, total_of, Within, history_messages, offer_messages, IsPlaceOf, issued_place, BatchAnswer}
 use Rattle.mm_call.proofs.Below.{trail_push, summary-push, total-push, answer_at, answer_on}
 use Rattle.mm_model.specs.Chains.{summary_of}
-
-pub requests-append : (bs cs : List Batch) → requests_of (bs ++ cs) ≡ requests_of bs ++ requests_of cs
-requests-append bs cs = flat_map-append members_of bs cs
+use Rattle.std.proofs.lemmas.List.{drop_at}
 
 pub requests-push : (bs : List Batch) (b : Batch) → requests_of (bs ++ b ∷ []) ≡ requests_of bs ++ members_of b
-requests-push bs b = requests-append bs (b ∷ []) ∙ ap (λ v. requests_of bs ++ v) (append-nil (members_of b))
-
-drop-front : (xs ys : List (List ℕ)) → drop (length xs) (xs ++ ys) ≡ ys
-drop-front [] ys = refl
-drop-front (x ∷ xs) ys = drop-front xs ys
-
-pub drop-at : (n : ℕ) (xs ys : List (List ℕ)) → n ≡ length xs → drop n (xs ++ ys) ≡ ys
-drop-at n xs ys e = ap (λ k. drop k (xs ++ ys)) e ∙ drop-front xs ys
+requests-push bs b = flat_map-append members_of bs (b ∷ []) ∙ ap (λ v. requests_of bs ++ v) (append-nil (members_of b))
 
 -- the answer to the batch after these, at this place
 abbrev pub answer_after : Instance → List Batch → Batch → Place → Bool → BatchAnswer
@@ -49,8 +40,8 @@ said_last meaning batches named b e =
     (members_of b) =
     ap (outputs_from meaning meaning.first) requests ∙ outputs_from-append meaning meaning.first (requests_of named) (members_of b) in
     ap (λ n. drop n (outputs_from meaning meaning.first (requests_of batches))) (before_last batches named b e)
-    ∙ ap (drop (total_of named)) outputs ∙ drop-at (total_of named) (outputs_from meaning meaning.first (requests_of named)) _
-    (sym (length-outputs_from meaning meaning.first (requests_of named)))
+    ∙ ap (drop (total_of named)) outputs ∙ drop_at (outputs_from meaning meaning.first (requests_of named)) _ (total_of named)
+    (length-outputs_from meaning meaning.first (requests_of named))
 
 pub answer-lists : (i : Instance) (y : History) (named : List Batch) (b : Batch) (again : Bool) → y.batches ≡ named ++ b ∷ []
     → answer_on i y b again ≡ answer_after i named b (issued_place i.variant y.is_open i y) again

@@ -1,16 +1,16 @@
 -- What one call comes to by lists, in either variant.
 use Rattle.mm_call.proofs.Below.{◌≡◌, ℕ, Bool, true, false, List, [], ◌∷◌, ◌++◌, map, Option, None, Some, Result, Ok, Err, refl, sym, ap}
-use Rattle.mm_call.proofs.Below.{◌∙◌, subst, if◌then◌else◌, AllByRecursion, Contains, StepFault, Meaning, Batch, Content, Instance, basic}
-use Rattle.mm_call.proofs.Below.{opt, History, Move, Commit, Foreign, PlacedMove, Reset, Close, Power, moved, total_of, Within, digests_of}
-use Rattle.mm_call.proofs.Below.{Names, IsSound, issued_bytes, ask_steps, BatchAnswer, Refusal, basic_names, answer_on, by_lists}
+use Rattle.mm_call.proofs.Below.{◌∙◌, subst, if◌then◌else◌, StepFault, Meaning, Batch, Content, Instance, basic}
+use Rattle.mm_call.proofs.Below.{opt, History, Move, Foreign, Reset, moved, total_of, digests_of}
+use Rattle.mm_call.proofs.Below.{Names, issued_bytes, ask_steps, BatchAnswer, Refusal, basic_names, answer_on, by_lists}
 use Rattle.mm_call.proofs.Below.{by_digests, all_made, Found, found_at, found_unless_wanting, is_fresh, Course, Walked, walk, called}
-use Rattle.mm_call.proofs.Below.{seen_at, ended_by, given_for, from_reset, counted_part, counted_moves, moves_messages, foreign_in, IsAsked}
+use Rattle.mm_call.proofs.Below.{seen_at, ended_by, given_for, from_reset, counted_part, counted_moves, moves_messages, IsAsked}
 use Rattle.mm_call.proofs.Below.{AreAsked, Comes, kept, grown, asked_by, same_batches, more_batches, Commits, nothing, batch, call_commits}
-use Rattle.mm_call.proofs.Below.{foreign_first, made-append}
+use Rattle.mm_call.proofs.Below.{foreign_first}
 use Rattle.mm_call.proofs.BasicLaw.{AreBasic, unlacked, walk_basic}
 use Rattle.mm_call.proofs.Endings.{again_of, fresh_of, fresh_found}
 use Rattle.mm_call.proofs.Finding.{Asking, placed, right_at}
-use Rattle.mm_call.proofs.OptLaw.{names_foreign, sound_foreign}
+use Rattle.mm_call.proofs.OptLaw.{seen_asking}
 
 -- an answer is given where an offer was accepted and no step failed
 pub record Answered (i : Instance) (s : History) (b : Batch) (found : Result Found Refusal) (broken : Option StepFault)
@@ -86,16 +86,11 @@ module _ (meaning : Meaning) (key : List ℕ) where
 
   no_reset : (moves : List Move) → AreBasic moves → from_reset moves ≡ []
   no_reset [] a = refl
-  no_reset (Commit b ∷ moves) a = no_reset moves a.1
-  no_reset (Foreign v ∷ moves) a = no_reset moves a.1
-  no_reset (PlacedMove b ∷ moves) a = absurd a.0
   no_reset (Reset ∷ moves) a = absurd a.0
-  no_reset (Close ∷ moves) a = absurd a.0
-  no_reset (Power ∷ moves) a = no_reset moves a.1
+  no_reset (m ∷ moves) a = no_reset moves a.1
 
   none_counted : (is_open : Bool) (moves : List Move) → is_open ≡ false → AreBasic moves → counted_moves is_open moves ≡ []
-  none_counted true moves e a = absurd (cc)
-  none_counted false moves e a = no_reset moves a
+  none_counted is_open moves e a = ap (λ f. counted_moves f moves) e ∙ no_reset moves a
 
   pub basic_asked : (all others : List (List ℕ)) (asked : List Batch) (y : History) (c : Course) (offer : List ℕ) (b : Batch)
       → AreAsked all others asked (basic meaning key) y offer b
@@ -106,8 +101,8 @@ module _ (meaning : Meaning) (key : List ℕ) where
       let moves : List Move = (called i (by_digests i) (digests_of i y) c offer b).moves in
       let none : counted_moves y.is_open moves ≡ [] = none_counted y.is_open moves a.within.sound.shut (walk_basic c.fates false _ b) in
       asked_by i all others asked y moves offer b a
-      (subst (λ (ms : List (List ℕ)). Within ms all) (sym (no_messages (counted_moves y.is_open moves) (counted_part y))) tt)
-      (subst (λ (ms : List Move). AllByRecursion (Contains others) (foreign_in ms)) (sym none) tt)
+      (rw (no_messages (counted_moves y.is_open moves) (counted_part y)) tt)
+      (rw none tt)
 
   -- what a snapshot names is named after moves too
   pub names_made : (moves : List Move) (y : History) (content : Content) → Names (basic meaning key) y content
@@ -130,26 +125,6 @@ module _ (meaning : Meaning) (key : List ℕ) where
       })
 
 module _ (meaning : Meaning) (key barrier : List ℕ) where
-  sees_names : (v w : List (List ℕ)) (y : History) (content : Content) → IsSound y → Names (opt meaning key barrier) y content
-      → Names (opt meaning key barrier) (all_made (by_lists (opt meaning key barrier)) y (map Foreign v ++ (map Foreign w ++ []))) content
-  sees_names v w y content sound n =
-      let i : Instance = opt meaning key barrier in
-      let first : History = all_made (by_lists i) y (map Foreign v) in
-      subst (λ (z : History). Names i z content)
-      (sym (made-append (by_lists i) (map Foreign v) (map Foreign w ++ []) y ∙ made-append (by_lists i) (map Foreign w) [] first))
-      (names_foreign meaning key barrier w first content (sound_foreign meaning key barrier v y sound)
-      (names_foreign meaning key barrier v y content sound n))
-
-  -- what is asked of the offer, at the history that a call sees
-  pub seen_asking : (all others : List (List ℕ)) (asked : List Batch) (y : History) (v w : List (List ℕ)) (offer : List ℕ) (b : Batch)
-      → AreAsked all others asked (opt meaning key barrier) y offer b → Asking all (opt meaning key barrier)
-      (all_made (by_lists (opt meaning key barrier)) y (map Foreign v ++ (map Foreign w ++ []))) offer b
-  seen_asking all others asked y v w offer b a = record {
-    clear = a.clear;
-    listed = a.offered;
-    genuine = λ content right. sees_names v w y content a.within.sound (a.genuine content right);
-  }
-
   pub opt_comes : (all others : List (List ℕ)) (asked : List Batch) (y : History) (c : Course) (offer : List ℕ) (b : Batch)
       → AreAsked all others asked (opt meaning key barrier) y offer b
       → Comes (opt meaning key barrier) y offer b (called (opt meaning key barrier) (by_lists (opt meaning key barrier)) y c offer b).state
@@ -160,7 +135,8 @@ module _ (meaning : Meaning) (key barrier : List ℕ) where
       let w : List (List ℕ) = (c.fates 2).brings in
       comes_seen i all y c offer b
       (same_batches i (map Foreign v ++ (map Foreign w ++ [])) y (foreign_first v (map Foreign w ++ []) ∙ foreign_first w []))
-      (seen_asking all others asked y v w offer b a)
+      (seen_asking meaning key barrier all y v w offer b a.within.sound
+      (record { clear = a.clear; listed = a.offered; genuine = a.genuine }))
 
 -- what an answer says of the history
 pub answered_at : (i : Instance) (y after : History) (offer : List ℕ) (b : Batch) (answer : BatchAnswer)

@@ -1,9 +1,9 @@
 -- The device steps that commit what a call found, one after another: their fates, and what is known of all of them.
 use Rattle.mm_call.proofs.Below.{◌≡◌, ℕ, ◌+◌, suc, Bool, true, false, List, [], ◌∷◌, ◌++◌, length, map, Option, None, Some, Result, Ok, Err}
 use Rattle.mm_call.proofs.Below.{refl, sym, ap, ◌∙◌, subst, arith, append_assoc, option_map, ◌==◌, IsSome, if◌then◌else◌, counted}
-use Rattle.mm_call.proofs.Below.{StepFault, Plan, Standing, plan_after, Act, Goes, will_be_on, Instance, Move, Commit, Foreign, Placed}
-use Rattle.mm_call.proofs.Below.{Reset, Close, Power, Digests, Step, Reads, Changes, Writes, BatchAnswer, Refusal, Ended, Answered, Refused}
-use Rattle.mm_call.proofs.Below.{Broken, CallOf, commits_before, StepTo, goes_on, breaks_off, StepsTo, EndsTo, kept_at, End, Done, Fails}
+use Rattle.mm_call.proofs.Below.{StepFault, Plan, Standing, plan_after, Act, Goes, will_be_on, Instance, Move, Commit, Foreign}
+use Rattle.mm_call.proofs.Below.{Digests, Step, Reads, Changes, Writes, BatchAnswer, Refusal, Ended, Answered, Refused}
+use Rattle.mm_call.proofs.Below.{Broken, CallOf, commits_before, goes_on, breaks_off, StepsTo, EndsTo, kept_at, End, Done, Fails}
 use Rattle.mm_call.proofs.Below.{Fate, Walked, walk, after_step, step_moves, commits, planned, result_of, ended_with, kept_by, is_broken}
 use Rattle.mm_call.proofs.Below.{StaysOn, Blames, blamed, blamed_later, all_made, by_digests, fault_of, fault_in, met, AreMet, IsAt, met_at}
 use Rattle.mm_call.proofs.Below.{then_at, room_at, stepped, trail_on, trail_fails, MakesStep, Stepped, Rest, Trail}
@@ -47,8 +47,8 @@ tale_over : (at : ℕ) (old : Standing) (ended : Ended) → is_broken ended ≡ 
 tale_over at old ended whole = record {
   met_all = λ (plan : Plan) (p : IsAt old plan at). tt;
   stays = λ (plan : Plan) (p : IsAt old plan at). (
-    subst (λ (t : Bool). StaysOn plan.stop t old) (sym whole) (stays_done plan.stop old p.is_on),
-    subst (λ (q : Option Plan). IsSome q) (sym p.planned) refl,
+    rw whole (stays_done plan.stop old p.is_on),
+    rw p.planned refl,
   );
 }
 
@@ -79,22 +79,19 @@ tale_fails act old after new fault position at few g room = record {
       let told = g.told (record plan { at = at }) p.planned in (
         stays_broken plan.stop (counted at) new
             (ap (λ (s : Standing). s.is_on) room ∙ told.power ∙ ap (λ (on : Bool). will_be_on on (record plan { at = at })) p.is_on),
-        subst (λ (q : Option Plan). IsSome q)
-            (sym (ap (λ (s : Standing). s.plan) room ∙ g.plan ∙ ap (λ (q : Option Plan). option_map plan_after q) p.planned)) refl,
+        rw (ap (λ (s : Standing). s.plan) room ∙ g.plan ∙ ap (λ (q : Option Plan). option_map plan_after q) p.planned) refl,
       );
 }
 
 pub steps_tale : (acts : List Act) (answer : BatchAnswer) (old new : Standing) (ended : Ended) (at : ℕ) → at + length acts ≤ 100
     → (s : StepsTo acts answer old new ended) → Tale (steps_fates acts answer old new ended s) at old new ended
 steps_tale [] answer old new ended at few s =
-    subst (λ (n : Standing). Tale [] at old n ended) (sym s.0)
-    (subst (λ (v : Ended). Tale [] at old old v) (sym s.1) (tale_over at old (Answered answer) refl))
+    rw (s.0, s.1) (tale_over at old (Answered answer) refl)
 steps_tale (act ∷ acts) answer old new ended at few (goes_on middle g s) =
     tale_on act old middle middle new (steps_fates acts answer middle new ended s) at ended (omega (arith, few)) g refl
     (steps_tale acts answer middle new ended (at + 1) (omega (arith, few)) s)
 steps_tale (act ∷ acts) answer old new ended at few (breaks_off fault g e) =
-    subst (λ (v : Ended). Tale (fate_of act old new (Some fault) g ∷ []) at old new v) (sym e)
-    (tale_fails act old new new fault (commits_before acts answer) at (omega (arith, few)) g refl)
+    rw e (tale_fails act old new new fault (commits_before acts answer) at (omega (arith, few)) g refl)
 
 -- the last reading step, and the steps that commit what was found
 module _ (act : Act) (old after middle new : Standing) (at : ℕ) (few : at ≤ 50) (room : middle ≡ record after { spare = middle.spare })
@@ -103,12 +100,9 @@ module _ (act : Act) (old after middle new : Standing) (at : ℕ) (few : at ≤ 
         → (new ≡ middle) × (ended ≡ ended_with fault why) → Tale (fate_of act old after fault g ∷ []) at old new ended
     refused_tale None why ended quiet g e =
         tale_on act old after middle new [] at ended (omega (arith, few)) g room
-        (subst (λ (n : Standing). Tale [] (at + 1) middle n ended) (sym e.0)
-        (subst (λ (v : Ended). Tale [] (at + 1) middle middle v) (sym e.1) (tale_over (at + 1) middle (Refused why) refl)))
+        (rw (e.0, e.1) (tale_over (at + 1) middle (Refused why) refl))
     refused_tale (Some fault) why ended loud g e =
-        subst (λ (n : Standing). Tale (fate_of act old after (Some fault) g ∷ []) at old n ended) (sym e.0)
-        (subst (λ (v : Ended). Tale (fate_of act old after (Some fault) g ∷ []) at old middle v) (sym e.1)
-        (tale_fails act old after middle fault None at (omega (arith, few)) g room))
+        rw (e.0, e.1) (tale_fails act old after middle fault None at (omega (arith, few)) g room)
 
     pub reading_tale : {F : Type 0} → (c : CallOf F) (found : Result F Refusal) (ended : Ended) → (g : Goes act old after (fault_in found))
         → ((it : F) → length (c.acts it) ≤ 49) → (e : EndsTo c found middle new ended)
@@ -125,20 +119,18 @@ BlamesFor old new ended = Blames (fault_in (result_of ended)) old.faults new.fau
 
 pub steps_blamed : (acts : List Act) (answer : BatchAnswer) (old new : Standing) (ended : Ended) → StepsTo acts answer old new ended
     → BlamesFor old new ended
-steps_blamed [] answer old new ended s = subst (λ (v : Ended). BlamesFor old new v) (sym s.1) (ap (λ (x : Standing). x.faults) s.0)
+steps_blamed [] answer old new ended s = rw s.1 (ap (λ (x : Standing). x.faults) s.0)
 steps_blamed (act ∷ acts) answer old new ended (goes_on middle g s) =
     blamed_later (fault_in (result_of ended)) old.faults middle.faults new.faults g.ends.faults
     (steps_blamed acts answer middle new ended s)
 steps_blamed (act ∷ acts) answer old new ended (breaks_off fault g e) =
-    subst (λ (v : Ended). BlamesFor old new v) (sym e) (blamed (Some fault) old new g.is_made g.ends)
+    rw e (blamed (Some fault) old new g.is_made g.ends)
 
 pub reading_blamed : {F : Type 0} → (c : CallOf F) (found : Result F Refusal) (act : Act) (old after middle new : Standing) (ended : Ended)
     → Goes act old after (fault_in found) → middle ≡ record after { spare = middle.spare } → EndsTo c found middle new ended
     → BlamesFor old new ended
 reading_blamed c (Err why) act old after middle new ended g room e =
-    subst (λ (r : Result BatchAnswer Refusal). Blames (fault_in r) old.faults new.faults) (sym (ap result_of e.1 ∙ refused_result why))
-    (subst (λ (n : ℕ). Blames (fault_of why) old.faults n)
-    (sym (ap (λ (s : Standing). s.faults) e.0 ∙ ap (λ (s : Standing). s.faults) room)) (blamed (fault_of why) old after g.is_made g.ends))
+    rw (e.0, e.1, refused_result why, room) (blamed (fault_of why) old after g.is_made g.ends)
 reading_blamed c (Ok found) act old after middle new ended g room e =
     blamed_later (fault_in (result_of ended)) old.faults middle.faults new.faults (ap (λ (s : Standing). s.faults) room ∙ g.ends.faults)
     (steps_blamed (c.acts found) (c.answer found) middle new ended e)
@@ -153,9 +145,9 @@ Given answer (Broken fault position) = Unit {0}
 
 pub steps_give : (acts : List Act) (answer : BatchAnswer) (old new : Standing) (ended : Ended) → StepsTo acts answer old new ended
     → Given answer ended
-steps_give [] answer old new ended s = subst (λ (v : Ended). Given answer v) (sym s.1) refl
+steps_give [] answer old new ended s = rw s.1 refl
 steps_give (act ∷ acts) answer old new ended (goes_on middle g s) = steps_give acts answer middle new ended s
-steps_give (act ∷ acts) answer old new ended (breaks_off fault g e) = subst (λ (v : Ended). Given answer v) (sym e) tt
+steps_give (act ∷ acts) answer old new ended (breaks_off fault g e) = rw e tt
 
 -- the step of a walk commits a batch
 abbrev pub is_committing : Step → Bool
@@ -165,19 +157,11 @@ is_committing (Writes m) = commits (m ∷ [])
 
 commits_first : (m : Move) (ms : List Move) → commits (m ∷ []) ≡ false → commits (m ∷ ms) ≡ commits ms
 commits_first (Commit b) ms e = absurd (cc)
-commits_first (Foreign v) ms e = refl
-commits_first (Placed b) ms e = refl
-commits_first Reset ms e = refl
-commits_first Close ms e = refl
-commits_first Power ms e = refl
+commits_first _ ms e = refl
 
 commits_last : (m : Move) (values : List (List ℕ)) → commits (m ∷ map Foreign values) ≡ commits (m ∷ [])
 commits_last (Commit b) values = refl
-commits_last (Foreign v) values = foreign_commits values
-commits_last (Placed b) values = foreign_commits values
-commits_last Reset values = foreign_commits values
-commits_last Close values = foreign_commits values
-commits_last Power values = foreign_commits values
+commits_last _ values = foreign_commits values
 
 -- a step that is done, and one that fails
 plainly : (step : Step) (values : List (List ℕ)) (ms : List Move) → is_committing step ≡ false
@@ -278,8 +262,7 @@ keeps_on (Refused why) fates other n step steps position alike done plain k = k
 keeps_on (Broken fault commits_to) fates other n step steps position alike done plain k =
     let w : Walked = walk other (n + 1) steps in
     let v : List (List ℕ) = (fates n).brings in
-    subst (λ (e : End). BreaksOff fates n (after_step step v e (walk fates (n + 1) steps)) fault position commits_to) (sym done)
-    (subst (λ (x : Walked). BreaksOff fates n (after_step step v Done x) fault position commits_to)
+    rw done (subst (λ (x : Walked). BreaksOff fates n (after_step step v Done x) fault position commits_to)
     (walk_alike other fates (n + 1) steps alike) (record {
       broken = k.broken;
       before = suc k.before;
@@ -347,11 +330,10 @@ is_none (act ∷ acts) = false
 
 abbrev pub MakesAll : Instance → Digests → List Act → List Step → Type 0
 MakesAll i d [] [] = Unit {0}
-MakesAll i d [] (step ∷ steps) = ⊥
-MakesAll i d (act ∷ acts) [] = ⊥
 MakesAll i d (act ∷ acts) (step ∷ steps) =
     MakesStep i d act step × (is_committing step ≡ is_none acts)
     × ((values : List (List ℕ)) → MakesAll i (all_made (by_digests i) d (step_moves step true values)) acts steps)
+MakesAll i d _ _ = ⊥
 
 committed_before : (acts : List Act) (answer : BatchAnswer) (t : Bool) → t ≡ is_none acts
     → (if t then Some answer.position else None) ≡ commits_before acts answer
@@ -367,9 +349,7 @@ pub steps_walk : (acts : List Act) (answer : BatchAnswer) (old new : Standing) (
     (steps : List Step) (plan : Plan) (n : ℕ) → MakesAll i d acts steps → (s : StepsTo acts answer old new ended)
     → Walks i d (met (steps_fates acts answer old new ended s) n plan) n steps old new ended answer.position
 steps_walk [] answer old new ended i d [] plan n m s =
-    subst (λ (x : Standing). Walks i d (met [] n plan) n [] old x ended answer.position) (sym s.0)
-    (subst (λ (v : Ended). Walks i d (met [] n plan) n [] old old v answer.position) (sym s.1)
-    (record { trail = (refl, refl); keeps = tt }))
+    rw (s.0, s.1) (record { trail = (refl, refl); keeps = tt })
 steps_walk [] answer old new ended i d (step ∷ steps) plan n m s = absurd m
 steps_walk (act ∷ acts) answer old new ended i d [] plan n m s = absurd m
 steps_walk (act ∷ acts) answer old new ended i d (step ∷ steps) plan n m (goes_on middle g s) =

@@ -1,17 +1,18 @@
 -- A call that ended so over a platform is the call on a course, by digests and by lists.
 use Rattle.mm_call.proofs.Below.{◌≡◌, ℕ, ◌+◌, suc, Bool, true, false, List, [], ◌∷◌, map, Option, None, Some, Result, Ok, Err, IfOk, refl}
 use Rattle.mm_call.proofs.Below.{sym, ap, ◌∙◌, subst, arith, Variant, StepFault, Plan, Standing, Act, Goes, Meaning, Batch, normal, Content}
-use Rattle.mm_call.proofs.Below.{Instance, History, Move, Foreign, Digests, StandsFor, Step, Reads, ask_steps, BatchAnswer, Refusal, Long}
-use Rattle.mm_call.proofs.Below.{Memory, Ended, Answered, Refused, Broken, IsAsked, Breaks, called, ended_by, given_for, position_of}
-use Rattle.mm_call.proofs.Below.{kept_at, CallOf, StepsTo, EndsTo, AsksTo, Asks, Calls, IsCallSoFar, GoesBy, CallsOn, Course, Fate, Walked}
-use Rattle.mm_call.proofs.Below.{walk, commits, step_moves, result_of, ended_with, refused_as, kept_by, KeepsAs, CallsTo, Found, is_fresh}
-use Rattle.mm_call.proofs.Below.{CallsAgree, IsUntouched, LeavesUntouched, Blames, fault_handed, same_untouched, all_made, by_digests}
-use Rattle.mm_call.proofs.Below.{fault_of, fault_in, handed_on, instance_by, StandsAt, met, told_by, begins_at, MakesStep, Stepped}
+use Rattle.mm_call.proofs.Below.{Instance, History, Move, Foreign, Digests, Step, Reads, ask_steps, BatchAnswer, Refusal, Long}
+use Rattle.mm_call.proofs.Below.{Memory, Ended, Answered, Refused, Broken, Breaks, called, ended_by, given_for, position_of}
+use Rattle.mm_call.proofs.Below.{kept_at, CallOf, StepsTo, EndsTo, AsksTo, Calls, IsCallSoFar, GoesBy, CallsOn, Course, Fate, Walked}
+use Rattle.mm_call.proofs.Below.{walk, commits, result_of, ended_with, refused_as, kept_by, KeepsAs, CallsTo, Found, is_fresh}
+use Rattle.mm_call.proofs.Below.{CallsAgree, IsUntouched, LeavesUntouched, Blames, fault_handed, all_made, by_digests}
+use Rattle.mm_call.proofs.Below.{fault_of, fault_in, instance_by, StandsAt, met, told_by, begins_at, MakesStep}
 use Rattle.std.specs.Result.{result_err}
 use Rattle.mm_platform.specs.Told.{next_plan}
 use Rattle.mm_model.specs.Long.{is_long}
 use Rattle.mm_call.specs.Calls.{Commits}
-use Rattle.mm_call.proofs.Committing.{fate_of, steps_fates, ends_fates, Tale, steps_blamed, Given, steps_give, Walks, walks_on, walks_fail, MakesAll, steps_walk}
+use Rattle.mm_call.proofs.Committing.{fate_of, steps_fates, ends_fates, Tale, steps_blamed, Given, steps_give, Walks, walks_on, walks_fail}
+use Rattle.mm_call.proofs.Committing.{MakesAll, steps_walk}
 use Rattle.mm_call.proofs.Continuing.{continues_by}
 use Rattle.mm_call.proofs.Going.{sees, finds, went}
 use Rattle.mm_call.proofs.Keeping.{refused_result}
@@ -39,13 +40,6 @@ same_position : (i : Instance) (d seen s : Digests) (b : Batch) (x : Result Foun
 same_position i d seen s b (Ok it) = refl
 same_position i d seen s b (Err why) = refl
 
--- a device step that reads, and room made after it
-reads_by : (i : Instance) (d : Digests) (act : Act) (old after middle : Standing) (fault : Option StepFault)
-    → (g : Goes act old after fault) → MakesStep i d act Reads → middle ≡ record after { spare = middle.spare }
-    → Stepped i d (fate_of act old after fault g) Reads old middle fault
-reads_by i d act old after middle fault g makes room =
-    record { act = act; after = after; goes = g; makes = makes; brings = refl; ends = refl; room = room }
-
 -- a reading step that is done, and one that fails
 module _ (i : Instance) (d seen : Digests) (plan : Plan) (n : ℕ) (steps : List Step) (b : Batch) (x : Result Found Refusal)
     (act : Act) (makes : MakesStep i d act Reads) (old after middle new : Standing) (room : middle ≡ record after { spare = middle.spare })
@@ -57,22 +51,20 @@ module _ (i : Instance) (d seen : Digests) (plan : Plan) (n : ℕ) (steps : List
       position = t.position;
       position_is = t.position_is;
       walks = walks_on i d (fate_of act old after None g) rest plan n Reads steps old middle new ended t.position
-          (reads_by i d act old after middle None g makes room) (λ _. refl) t.walks;
+          (record { act = act; after = after; goes = g; makes = makes; brings = refl; ends = refl; room = room }) (λ _. refl) t.walks;
       gives = t.gives;
     }
 
     pub told_fails : (fault : StepFault) → (g : Goes act old after (Some fault)) → new ≡ middle
         → Told i d seen (met (fate_of act old after (Some fault) g ∷ []) n plan) n (Reads ∷ steps) b x old new (Broken fault None)
-    told_fails fault g e = subst
-        (λ (s : Standing). Told i d seen (met (fate_of act old after (Some fault) g ∷ []) n plan) n (Reads ∷ steps) b x old s
-        (Broken fault None)) (sym e)
-        (record {
-          position = position_of (by_digests i) seen d b x;
-          position_is = λ (s : Digests). same_position i d seen s b x;
-          walks = walks_fail i d (fate_of act old after (Some fault) g) plan n Reads steps old middle fault
-              (position_of (by_digests i) seen d b x) (reads_by i d act old after middle (Some fault) g makes room);
-          gives = λ (s : Digests) (moves : List Move). refl;
-        })
+    told_fails fault g e = rw e (record {
+      position = position_of (by_digests i) seen d b x;
+      position_is = λ (s : Digests). same_position i d seen s b x;
+      walks = walks_fail i d (fate_of act old after (Some fault) g) plan n Reads steps old middle fault
+          (position_of (by_digests i) seen d b x)
+          (record { act = act; after = after; goes = g; makes = makes; brings = refl; ends = refl; room = room });
+      gives = λ (s : Digests) (moves : List Move). refl;
+    })
 
 -- a refusal that hands no fault on
 told_refused : (i : Instance) (d seen : Digests) (fates : ℕ → Fate) (n : ℕ) (b : Batch) (why : Refusal) (old : Standing)
@@ -82,7 +74,7 @@ told_refused i d seen fates n b why old quiet = record {
   position_is = λ (s : Digests). refl;
   walks = record { trail = (refl, quiet); keeps = quiet };
   gives = λ (s : Digests) (moves : List Move).
-      sym (ap (λ (f : Option StepFault). given_for (ended_by (by_digests i) seen s b (Err why) moves f)) quiet);
+      rw quiet refl;
 }
 
 -- the steps that commit what was found
@@ -127,17 +119,12 @@ module _ (i : Instance) (d : Digests) (plan : Plan) (n : ℕ) (steps : List Step
         → (g : Goes act old after fault) → (new ≡ middle) × (ended ≡ ended_with fault why)
         → (fault ≡ None → (x ≡ Err why) × (steps ≡ []))
         → Told i d seen (met (fate_of act old after fault g ∷ []) n plan) n (Reads ∷ steps) b x old new ended
-    refused_reading seen (Some fault) why ended loud g e so = subst
-        (λ (v : Ended). Told i d seen (met (fate_of act old after (Some fault) g ∷ []) n plan) n (Reads ∷ steps) b x old new v)
-        (sym e.1) (told_fails i d seen plan n steps b x act makes old after middle new room fault g e.0)
+    refused_reading seen (Some fault) why ended loud g e so =
+        rw e.1 (told_fails i d seen plan n steps b x act makes old after middle new room fault g e.0)
     refused_reading seen None why ended quiet g e so =
-        let fates : ℕ → Fate = met (fate_of act old after None g ∷ []) n plan in
-        subst (λ (y : Result Found Refusal). Told i d seen fates n (Reads ∷ steps) b y old new ended) (sym (so refl).0)
-        (subst (λ (st : List Step). Told i d seen fates n (Reads ∷ st) b (Err why) old new ended) (sym (so refl).1)
-        (subst (λ (s : Standing). Told i d seen fates n (Reads ∷ []) b (Err why) old s ended) (sym e.0)
-        (subst (λ (v : Ended). Told i d seen fates n (Reads ∷ []) b (Err why) old middle v) (sym e.1)
+        rw ((so refl).0, (so refl).1, e.0, e.1)
         (told_on i d seen plan n [] b (Err why) act makes old after middle middle room [] (Refused why) g
-        (told_refused i (seen_by g.others) seen (met [] (n + 1) plan) (n + 1) b why middle quiet)))))
+        (told_refused i (seen_by g.others) seen (met [] (n + 1) plan) (n + 1) b why middle quiet))
 
     pub told_reading : {F : Type 0} → (c : CallOf F) (found : Result F Refusal) (ended : Ended) → (g : Goes act old after (fault_in found))
         → (e : EndsTo c found middle new ended)
@@ -238,10 +225,10 @@ module _ {F : Type 0} (c : CallOf F) (meaning : Meaning) (old new : Standing) (o
       by_length : (t : Bool) → is_long b ≡ t → P new result
       by_length true e =
           let l = calls.long e in
-          subst (λ (s : Standing). P s result) (sym l.0) (subst (λ (r : Result BatchAnswer Refusal). P old r) (sym l.1) long)
+          rw l.0 (rw l.1 long)
       by_length false e =
           let a = calls.asks e in
-          subst (λ (r : Result BatchAnswer Refusal). P new r) (sym a.gives) (asked a.ended a.asks)
+          rw a.gives (asked a.ended a.asks)
 
   -- the reading steps of a call, with the steps that commit what they found, are the whole call
   pub so_far : (found : Result F Refusal)
@@ -272,14 +259,13 @@ given_all P (Broken fault position) answer g p = tt
 pub answered_result : (P : Standing → Result BatchAnswer Refusal → Type 0) (answer : BatchAnswer) (old new : Standing) (ended : Ended)
     → StepsTo [] answer old new ended → P old (Ok answer) → P new (result_of ended)
 answered_result P answer old new ended s p =
-    subst (λ (x : Standing). P x (result_of ended)) (sym s.0) (subst (λ (v : Ended). P old (result_of v)) (sym s.1) p)
+    rw s.0 (rw s.1 p)
 
 module _ {F : Type 0} (c : CallOf F) where
   pub ends_result : (P : Standing → Result BatchAnswer Refusal → Type 0) (why : Refusal) (old new : Standing) (ended : Ended)
       → EndsTo c (Err why) old new ended → P old (Err why) → P new (result_of ended)
   ends_result P why old new ended e p =
-      subst (λ (s : Standing). P s (result_of ended)) (sym e.0)
-      (subst (λ (r : Result BatchAnswer Refusal). P old r) (sym (ap result_of e.1 ∙ refused_result why)) p)
+      rw e.0 (rw (ap result_of e.1 ∙ refused_result why) p)
 
   -- what a call leaves, where its reading steps leave all untouched
   pub ends_untouched : (found : Result F Refusal) (old middle new : Standing) (ended : Ended) → EndsTo c found middle new ended

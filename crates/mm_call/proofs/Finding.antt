@@ -3,13 +3,14 @@
 use Rattle.mm_call.proofs.Below.{ℕ, ◌≡◌, ◌+◌, Bool, true, false, ◌&&◌, List, [], ◌∷◌, ◌++◌, Option, Result, Ok, Err, refl, sym, ap, ◌∙◌}
 use Rattle.mm_call.proofs.Below.{subst, arith, if◌then◌else◌, nat_eq, nat_le, bytes_eq, last_position, zero_bytes, Meaning, state_after}
 use Rattle.mm_call.proofs.Below.{Batch, size_of, parts_of, Content, Snapshot, tag_of, Instance, basic, History, Entry, requests_of}
-use Rattle.mm_call.proofs.Below.{total_of, joined, Life, Live, Spoiled, LostLife, life_of, is_lost, is_last, judged, judge}
-use Rattle.mm_call.proofs.Below.{verdict_by_digests, IsPlaceOf, Names, Within, IsClear, AreNoGuards, history_messages, offer_messages}
+use Rattle.mm_call.proofs.Below.{total_of, joined, Life, Live, life_of, is_lost, is_last, judged, judge}
+use Rattle.mm_call.proofs.Below.{IsPlaceOf, Names, Within, IsClear, AreNoGuards, history_messages, offer_messages}
 use Rattle.mm_call.proofs.Below.{values_in, Digests, IsGenuine, IsRight, Refusal, at_the_end, before_the_last, right_content, Found}
 use Rattle.mm_call.proofs.Below.{found_by_verdict, found_at, found_with, by_lists, by_digests, Agrees, IsPlain, right_messages}
 use Rattle.mm_seal.specs.declared.snapshot.PartsFault.{PartsFault}
 use Rattle.mm_seal.specs.declared.snapshot.PartsFault.TheVariants.{Form, Kind}
 use Rattle.mm_model.specs.declared.verdict.Verdict.{Verdict}
+use Rattle.mm_model.specs.declared.verdict.Verdict.TheVariants.{Fresh}
 use Rattle.mm_model.specs.declared.refusal.Refusal.TheVariants as refusal
 use Rattle.mm_model.specs.BasicLaws.{basic_is_judged}
 use Rattle.mm_call.specs.Order.{admitted, examined}
@@ -28,21 +29,17 @@ pub record Asking (all : List (List ℕ)) (i : Instance) (y : History) (bytes : 
 pub admitted_tells : (here repeat fits again : Bool) → admitted (judged Live here repeat) fits ≡ Ok again
     → (again ≡ false → here ≡ true) × (again ≡ true → repeat ≡ true)
 admitted_tells true repeat true again e = (λ _. refl, λ a. cc)
-admitted_tells true repeat false again e = cc
 admitted_tells false true true again e = (λ a. cc, λ _. refl)
-admitted_tells false true false again e = cc
-admitted_tells false false fits again e = cc
+admitted_tells _ _ fits again e = cc
 
 admitted_lives : (life : Life) (here repeat fits again : Bool) → admitted (judged life here repeat) fits ≡ Ok again → life ≡ Live
 admitted_lives Live here repeat fits again e = refl
-admitted_lives Spoiled here repeat fits again e = cc
-admitted_lives LostLife here repeat fits again e = cc
+admitted_lives _ here repeat fits again e = cc
 
 pub weighed_tells : (spelled tagged : Bool) (v : Verdict) (fits again : Bool) → weighed spelled tagged v fits ≡ Ok again
     → (spelled ≡ true) × (tagged ≡ true) × (admitted v fits ≡ Ok again)
-weighed_tells false tagged v fits again e = cc
-weighed_tells true false v fits again e = cc
 weighed_tells true true v fits again e = (refl, refl, e)
+weighed_tells _ _ v fits again e = cc
 
 pub found_with_tells : (offered : Content) (examination : Result Bool Refusal) (found : Found) → found_with offered examination ≡ Ok found
     → (found.offered ≡ offered) × (examination ≡ Ok found.again)
@@ -98,7 +95,7 @@ module _ (i : Instance) (y : History) (bytes : List ℕ) (b : Batch) where
   pub right_at : (found : Found) → found_at i (by_lists i) y b bytes ≡ Ok found → IsRight i bytes found.offered
   right_at found is =
       let a = accepted found is in
-      subst (λ (c : Content). IsRight i bytes c) (sym a.read.2) (is_right i bytes a.read.0 a.read.1 a.spelled a.tagged)
+      rw a.read.2 (is_right i bytes a.read.0 a.read.1 a.spelled a.tagged)
 
 -- What is found is at the end of the history, or before its last batch, which is then the one that is asked.
 pub record Placed (all : List (List ℕ)) (i : Instance) (y : History) (b : Batch) (found : Found) : Type 0 where
@@ -108,6 +105,8 @@ pub record Placed (all : List (List ℕ)) (i : Instance) (y : History) (b : Batc
   pub place : IsPlaceOf i.variant i y named found.offered.place
   pub listed : Within (offer_messages i found.offered.place b) all
   pub live : life_of i.variant y ≡ Live
+  pub names : Names i y found.offered
+  pub is_fresh : found.again ≡ false → judge i.variant y found.offered.position b ≡ Fresh
   pub fresh : found.again ≡ false → named ≡ y.batches
   pub repeat : found.again ≡ true → named ++ b ∷ [] ≡ y.batches
 
@@ -124,14 +123,18 @@ module _ (all : List (List ℕ)) (i : Instance) (y : History) (bytes : List ℕ)
   placed asking found is =
       let a = accepted i y bytes b found is in
       let right = right_named a.read.0 asking a.read.1 a.spelled a.tagged in
-      let names : Names i y found.offered = subst (Names i y) (sym a.read.2) right.0 in
+      let names : Names i y found.offered = rw a.read.2 right.0 in
       record {
         named = names.named;
         position = names.position;
         state = names.state;
         place = names.place;
-        listed = subst (λ (c : Content). Within (offer_messages i c.place b) all) (sym a.read.2) right.1;
+        listed = rw a.read.2 right.1;
         live = a.live;
+        names = names;
+        is_fresh = λ x. let repeat = nat_eq (found.offered.position + size_of b) (total_of y.batches) && is_last y.batches b in
+            ap (λ l. judged l (nat_eq found.offered.position (total_of y.batches)) repeat) a.live
+            ∙ ap (λ h. judged Live h repeat) (a.here x);
         fresh = λ x. (at_the_end y.batches names.named names.rest names.first).0
             (ap (λ p. nat_eq p (total_of y.batches)) (sym names.position) ∙ a.here x);
         repeat = λ x. (before_the_last y.batches names.named names.rest b names.first).0
@@ -170,9 +173,7 @@ pub record Holds (all : List (List ℕ)) (i : Instance) (y : History) (d : Diges
 no_counting : (barrier : List ℕ) (closed : List (List Entry)) (is_open : Bool) (items : List Entry) (batches : List Batch) → closed ≡ []
     → is_open ≡ false → AreNoGuards barrier (values_in (joined closed ++ (if is_open then items else []))) batches
 no_counting barrier closed is_open items batches none shut =
-    let P : List (List Entry) → Type 0 = λ c. AreNoGuards barrier (values_in (joined c ++ (if is_open then items else []))) batches in
-    let Q : Bool → Type 0 = λ o. AreNoGuards barrier (values_in (joined {A = Entry} [] ++ (if o then items else []))) batches in
-    subst P (sym none) (subst Q (sym shut) (λ d b c e _. absurd (omega (arith, c.1))))
+    rw (none, shut) (λ d b c e _. absurd (omega (arith, c.1)))
 
 pub found_same : (meaning : Meaning) (key : List ℕ) (all : List (List ℕ)) (y : History) (d : Digests) (bytes : List ℕ) (b : Batch)
     → Holds all (basic meaning key) y d → Asking all (basic meaning key) y bytes b
@@ -180,12 +181,10 @@ pub found_same : (meaning : Meaning) (key : List ℕ) (all : List (List ℕ)) (y
     ≡ found_at (basic meaning key) (by_lists (basic meaning key)) y b bytes
 found_same meaning key all y d bytes b h asking =
     found_by all (basic meaning key) y bytes b d asking
-    (λ offered called names. ap (λ f. verdict_by_digests zero_bytes f d.digest d.register offered.place b) h.agrees.flag
-    ∙ ap (λ x. verdict_by_digests zero_bytes false x d.register offered.place b) h.agrees.digest
-    ∙ basic_is_judged meaning key d.register y offered b all
+    (λ offered called names. rw (h.agrees.flag, h.agrees.digest) (basic_is_judged meaning key d.register y offered b all
     (record {
       clear = asking.clear;
       history = h.listed;
       call = called;
       foreign = no_counting zero_bytes y.closed y.is_open y.items (b ∷ y.batches) h.plain.closed h.plain.shut;
-    }) names) (ap (λ f. f && bytes_eq d.register zero_bytes) h.agrees.flag)
+    }) names)) (ap (λ f. f && bytes_eq d.register zero_bytes) h.agrees.flag)

@@ -1,8 +1,9 @@
 -- What a call comes to by digests, from the trail of its steps.
-use Rattle.mm_call.proofs.Below.{◌≡◌, ℕ, List, [], ◌∷◌, map, Result, Option, refl, sym, ap, ◌∙◌, subst, fold, extended_of, StepFault}
+use Rattle.mm_call.proofs.Below.{◌≡◌, ℕ, List, map, Result, Option, sym, ap, ◌∙◌, fold, extended_of, StepFault}
 use Rattle.mm_call.proofs.Below.{Standing, Batch, Instance, Move, Foreign, Digests, ask_steps, BatchAnswer, Refusal, all_made, by_digests}
 use Rattle.mm_call.proofs.Below.{Found, found_at, found_unless_wanting, is_fresh, Course, Walked, walk, ended_by, called_by, called}
-use Rattle.mm_call.proofs.Below.{seen_at, given_for, called_with, StandsAt, GoesBy, Trail, Leads, leads}
+use Rattle.mm_call.proofs.Below.{seen_at, given_for, StandsAt, GoesBy, Trail, Leads, leads}
+use Rattle.mm_call.specs.TrailLaws as trails
 
 -- what the call sees at its last reading step
 abbrev pub sees : Instance → Digests → Course → Digests
@@ -34,12 +35,10 @@ pub went : (i : Instance) (d : Digests) (c : Course) (offer : List ℕ) (b : Bat
     → GoesBy i d (called i (by_digests i) d c offer b) old new result
 went i d c offer b old new result found fault e s t gives =
     let w : Walked = walk c.fates 1 (ask_steps i.variant d.flag (is_fresh found) b) in
-    subst (λ (f : Result Found Refusal). GoesBy i d (called_with i (by_digests i) d (sees i d c) c b f) old new result) (sym e)
-    (led_by i d c b old new result found fault w
+    rw e (led_by i d c b old new result found fault w
     (leads i d c.fates 1 (ask_steps i.variant d.flag (is_fresh found) b) old new fault s t) (gives w.moves))
 
 -- the digests once others extended the register by these values
 pub brought_digests : (i : Instance) (d : Digests) (values : List (List ℕ))
     → all_made (by_digests i) d (map Foreign values) ≡ record d { register = fold extended_of d.register values }
-brought_digests i d [] = refl
-brought_digests i d (v ∷ values) = brought_digests i (record d { register = extended_of d.register v }) values
+brought_digests i d values = trails.foreign_made i d values

@@ -1,47 +1,27 @@
 -- Opt: a call with no segment open whose batch isn't taken for new. It neither reads what the register holds nor empties
 -- it: so nothing of its moves counts, and nothing is asked of the register.
 use Rattle.mm_call.proofs.Below.{◌≡◌, ℕ, Bool, true, false, List, [], ◌++◌, map, Some, Result, Ok, Err, refl, sym, ap, ◌∙◌, subst, ◌⊎◌, inl}
-use Rattle.mm_call.proofs.Below.{inr, AllByRecursion, Contains, option_map, append-nil, map-append, Opt, Item, Standing, Meaning, Batch}
-use Rattle.mm_call.proofs.Below.{Instance, opt, Value, History, Move, Foreign, Within, Digests, digests_of, ask_steps, Refusal}
-use Rattle.mm_call.proofs.Below.{counted_part, counted_moves, from_reset, moves_messages, foreign_in, IsAsked, called, seen_at, End, Done}
-use Rattle.mm_call.proofs.Below.{Fails, Fate, Course, walk, Found, found_at, found_unless_wanting, is_fresh, by_lists, by_digests, AreAsked}
-use Rattle.mm_call.proofs.Below.{AreShown, IsIdle, shown, standing_items, asked_by, asked_of, finished, from_reset-foreign}
+use Rattle.mm_call.proofs.Below.{inr, option_map, Opt, Item, Standing, Meaning, Batch}
+use Rattle.mm_call.proofs.Below.{Instance, opt, Value, History, Move, Digests, digests_of, ask_steps, Refusal}
+use Rattle.mm_call.proofs.Below.{counted_moves, IsAsked, called, seen_at}
+use Rattle.mm_call.proofs.Below.{Fate, Course, walk, Found, found_at, found_unless_wanting, is_fresh, by_lists, by_digests, AreAsked}
+use Rattle.mm_call.proofs.Below.{AreShown, IsIdle, shown, standing_items, asked_by, asked_of}
 use Rattle.mm_call.proofs.OptHolding.{is_agrees}
 use Rattle.mm_call.proofs.OptLaw.{sight_is}
 use Rattle.mm_call.proofs.OptAgree.{opt_calls_agree_by_lists}
-use Rattle.mm_call.proofs.OptShapes.{two_reads}
+use Rattle.mm_call.proofs.OptShapes.{Brought, none_counted, reads_only}
 use Rattle.mm_call.proofs.OptShut.{bare, found_lists}
 use Rattle.mm_call.proofs.Tied.{opt_tied}
-
-foreign_only : (values : List (List ℕ)) → from_reset (map Foreign values) ≡ []
-foreign_only values = ap from_reset (sym (append-nil (map Foreign values))) ∙ from_reset-foreign values []
-
--- the moves are values of others
-pub record OnlyForeign (moves : List Move) : Type 0 where
-  pub values : List (List ℕ)
-  pub are : moves ≡ map Foreign values
-
-reads_only : (v w : List (List ℕ)) (e f : End) → OnlyForeign (two_reads v e w f finished).moves
-reads_only v w Done Done =
-    record {
-      values = v ++ w;
-      are = ap (λ (ms : List Move). map Foreign v ++ ms) (append-nil (map Foreign w)) ∙ sym (map-append Foreign v w);
-    }
-reads_only v w Done (Fails fault made) = record { values = v ++ w; are = sym (map-append Foreign v w) }
-reads_only v w (Fails fault made) f = record { values = v; are = refl }
 
 -- the walk of such a call
 abbrev Walk : (ℕ → Fate) → Bool → Bool → Batch → List Move
 Walk fates flag fresh b = (walk fates 1 (ask_steps Opt flag fresh b)).moves
 
-walked_only : (fates : ℕ → Fate) (flag fresh : Bool) (b : Batch) → flag ≡ false → fresh ≡ false → OnlyForeign (Walk fates flag fresh b)
+walked_only : (fates : ℕ → Fate) (flag fresh : Bool) (b : Batch) → flag ≡ false → fresh ≡ false → Brought (Walk fates flag fresh b)
 walked_only fates flag fresh b e f =
     let is : Walk fates flag fresh b ≡ Walk fates false false b = ap (λ (x : Bool). Walk fates x fresh b) e
     ∙ ap (λ (x : Bool). Walk fates false x b) f in
-    subst OnlyForeign (sym is) (reads_only (fates 1).brings (fates 2).brings (fates 1).ends (fates 2).ends)
-
-none_count : (flag : Bool) (moves : List Move) → flag ≡ false → OnlyForeign moves → counted_moves flag moves ≡ []
-none_count flag moves e o = ap (λ (x : Bool). counted_moves x moves) e ∙ ap from_reset o.are ∙ foreign_only o.values
+    subst Brought (sym is) (reads_only (fates 1).brings (fates 2).brings (fates 1).ends (fates 2).ends)
 
 never_fresh : (at : Result Found Refusal) (lacks : Bool) → is_fresh at ≡ false → is_fresh (found_unless_wanting at lacks) ≡ false
 never_fresh (Err why) lacks f = refl
@@ -71,7 +51,7 @@ module _ (meaning : Meaning) (key barrier : List ℕ) where
       ∙ sym (found_lists meaning key barrier y y.items b offer e)
 
   pub idle_moves : (y : History) (c : Course) (offer : List ℕ) (b : Batch) → IsIdle I y offer b
-      → OnlyForeign (called I (by_lists I) y c offer b).moves
+      → Brought (called I (by_lists I) y c offer b).moves
   idle_moves y c offer b idle =
       let at : Result Found Refusal = found_at I (by_lists I) (seen_at I (by_lists I) y c) b offer in
       let not_new : is_fresh at ≡ false = ap is_fresh (found_seen y c offer b idle.shut) ∙ idle.not_new in
@@ -83,12 +63,13 @@ module _ (meaning : Meaning) (key barrier : List ℕ) where
   asked_idle all others asked y c offer b a idle =
       let d : Digests = digests_of I y in
       let moves : List Move = (called I (by_lists I) y c offer b).moves in
-      let none : counted_moves y.is_open moves ≡ [] = none_count y.is_open moves idle.shut (idle_moves y c offer b idle) in
+      let only = idle_moves y c offer b idle in
+      let none : counted_moves y.is_open moves ≡ [] = none_counted y only.values moves idle.shut only.are in
       let is_asked : IsAsked all others asked I y moves offer b = asked_by I all others asked y moves offer b a
-      (subst (λ (ms : List Move). Within (moves_messages I (counted_part y) ms) all) (sym none) tt)
-      (subst (λ (ms : List Move). AllByRecursion (Contains others) (foreign_in ms)) (sym none) tt) in
+      (rw none tt)
+      (rw none tt) in
       let same = opt_calls_agree_by_lists meaning key barrier all others asked y d c offer b (is_agrees I y d refl) is_asked in
-      subst (λ (ms : List Move). IsAsked all others asked I y ms offer b) (sym same.moves) is_asked
+      rw same.moves is_asked
 
   -- an idle call leaves a history on which it is idle again
   pub idle_again : (y after : History) (offer : List ℕ) (b : Batch) → bare after ≡ bare y → IsIdle I y offer b → IsIdle I after offer b

@@ -1,25 +1,15 @@
 -- What a call that ended so gives, and what its moves committed.
-use Rattle.mm_call.proofs.Below.{◌≡◌, ℕ, Bool, true, false, List, [], ◌∷◌, ◌++◌, map, Option, None, Some, Result, Ok, Err, refl, sym, ap}
-use Rattle.mm_call.proofs.Below.{◌∙◌, subst, IsSome, option_map, counted, StepFault, Plan, Standing, plan_after, Act, Goes, is_on_at}
-use Rattle.mm_call.proofs.Below.{will_be_on, Move, Foreign, Refusal, Memory, Long, Device, Blank, Cell, Lost, Form, Kind, State, Tag, Stale}
-use Rattle.mm_call.proofs.Below.{Full, fault_of, Fails, commits, kept_at, result_of, ended_with, refused_as, kept_by, StaysOn, IsAt}
+use Rattle.mm_call.proofs.Below.{◌≡◌, ℕ, Bool, true, false, List, [], ◌∷◌, ◌++◌, map, Option, None, Some, Err, refl, sym, ap}
+use Rattle.mm_call.proofs.Below.{◌∙◌, IsSome, option_map, counted, StepFault, Plan, Standing, plan_after, Act, Goes, is_on_at}
+use Rattle.mm_call.proofs.Below.{will_be_on, Move, Foreign, Refusal, Device}
+use Rattle.mm_call.proofs.Below.{fault_of, commits, result_of, ended_with, refused_as, StaysOn, IsAt}
 use Rattle.mm_platform.specs.declared.plan.Stop.{Stop}
-use Rattle.mm_platform.specs.declared.plan.Stop.TheVariants.{Quiet, Cut, Drop, Fail}
+use Rattle.mm_platform.specs.declared.plan.Stop.TheVariants.{Cut}
 
 -- the fault of a refusal is that of a device
 pub device_only : (why : Refusal) (fault : StepFault) → fault_of why ≡ Some fault → why ≡ Device fault
 device_only (Device other) fault e = let same : other ≡ fault = cc in ap (λ (f : StepFault). Device f) same
-device_only Memory fault e = absurd (cc)
-device_only Long fault e = absurd (cc)
-device_only Blank fault e = absurd (cc)
-device_only Cell fault e = absurd (cc)
-device_only Lost fault e = absurd (cc)
-device_only Form fault e = absurd (cc)
-device_only Kind fault e = absurd (cc)
-device_only State fault e = absurd (cc)
-device_only Tag fault e = absurd (cc)
-device_only Stale fault e = absurd (cc)
-device_only Full fault e = absurd (cc)
+device_only _ fault e = absurd (cc)
 
 ended_result : (fault : Option StepFault) (why : Refusal) → fault_of why ≡ fault → result_of (ended_with fault why) ≡ Err why
 ended_result None why e = refl
@@ -38,34 +28,21 @@ pub commits_then : (values : List (List ℕ)) (moves : List Move) → commits (m
 commits_then [] moves = refl
 commits_then (v ∷ values) moves = commits_then values moves
 
--- the position that a failed step has committed
-pub kept_none : (fault : StepFault) (made : Bool) → None ≡ kept_by (Fails fault made) None
-kept_none fault true = refl
-kept_none fault false = refl
-
-pub kept_some : (fault : StepFault) (made : Bool) (position : ℕ) → kept_at made position ≡ kept_by (Fails fault made) (Some position)
-kept_some fault true position = refl
-kept_some fault false position = refl
-
 -- power after a call under a plan
 
 pub stays_done : (stop : Stop) (new : Standing) → new.is_on ≡ true → StaysOn stop false new
-stays_done Quiet new e = e
 stays_done (Cut step) new e = e
-stays_done (Drop step) new e = e
-stays_done (Fail step done) new e = e
+stays_done _ new e = e
 
 pub stays_broken : (stop : Stop) (n : ℕ) (new : Standing) → new.is_on ≡ is_on_at stop n → StaysOn stop true new
-stays_broken Quiet n new e = e
 stays_broken (Cut step) n new e = tt
-stays_broken (Drop step) n new e = e
-stays_broken (Fail step done) n new e = e
+stays_broken _ n new e = e
 
 -- the plan goes on to be told
 plan_kept : (act : Act) (old new : Standing) (fault : Option StepFault) (plan : Plan) (at : ℕ) → IsAt old plan at → Goes act old new fault
     → IsSome new.plan
 plan_kept act old new fault plan at p g =
-    subst (λ (q : Option Plan). IsSome q) (sym (g.plan ∙ ap (λ (q : Option Plan). option_map plan_after q) p.planned)) refl
+    rw (g.plan ∙ ap (λ (q : Option Plan). option_map plan_after q) p.planned) refl
 
 -- after the last step of a call, by whether it failed
 pub planned_done : (act : Act) (old new : Standing) (plan : Plan) (at : ℕ) → IsAt old plan at → Goes act old new None

@@ -3,7 +3,6 @@ mod Below
 mod Members
 mod Finding
 mod Calling
-mod OptMessages
 mod OptHolding
 mod OptFinding
 mod OptWalks

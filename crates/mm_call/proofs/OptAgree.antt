@@ -4,7 +4,7 @@ use Rattle.mm_call.proofs.Below.{AllByRecursion, Contains, fold, Opt, extended_o
 use Rattle.mm_call.proofs.Below.{Foreign, Reset, Step, Reads, ask_steps, Within, move_messages, Digests, Refusal, each_right, by_lists}
 use Rattle.mm_call.proofs.Below.{by_digests, all_made, Agrees, Found, found_at, found_unless_wanting, is_fresh, Fate, Course, Walked, walk}
 use Rattle.mm_call.proofs.Below.{Called, called, called_by, from_reset, moves_messages, foreign_in, IsWithin, IsAsked, IsSameCall}
-use Rattle.mm_call.proofs.Below.{OptCallsAgree, opt_commits, changing, asks, taking_is, foreign_made, from_reset-foreign, IsGenuine}
+use Rattle.mm_call.proofs.Below.{OptCallsAgree, opt_commits, changing, asks, foreign_made, from_reset-foreign, IsGenuine}
 use Rattle.mm_call.proofs.Below.{IsSound, opt_names}
 use Rattle.mm_call.proofs.Finding.{Asking, Placed, placed}
 use Rattle.mm_call.proofs.OptFinding.{IsLive, found_same}
@@ -12,9 +12,12 @@ use Rattle.mm_call.proofs.OptWalks.{AllFine, holds_made, walk_fine, AreOwn}
 use Rattle.mm_call.proofs.OptReady.{IsDue, ready_opening}
 use Rattle.mm_call.proofs.Endings.{ending_same}
 use Rattle.mm_call.proofs.OptShapes.{opening, Shape, still, reset, shape}
-use Rattle.mm_call.proofs.OptShut.{bare, bare_digests, found_lists, found_digests, foreign_digests, foreign_reset, foreign_agrees, holds_shut, within_of, within_items, reset_may}
+use Rattle.mm_call.proofs.OptShut.{bare, bare_digests, found_lists, found_digests, foreign_digests, foreign_reset, holds_shut, within_of}
+use Rattle.mm_call.proofs.OptShut.{reset_may}
 use Rattle.mm_call.proofs.BasicLaw.{unlacked}
-use Rattle.mm_call.proofs.OptLaw.{Counts, Lists, ByDigests, AreSame, shut_counts, due_of, apart_of, inside, ends_of, steps_walk, sight_is, sight_agrees, before}
+use Rattle.mm_call.proofs.OptLaw.{Counts, foreign_stands, StandsAfter, Lists, ByDigests, AreSame, shut_counts, due_of, apart_of, inside}
+use Rattle.mm_call.proofs.OptLaw.{same_on}
+use Rattle.mm_call.proofs.OptLaw.{ends_of, steps_walk, sight_is, sight_agrees, before}
 
 -- a bare history is named by the same snapshots
 genuine_bare : (meaning : Meaning) (key barrier : List ℕ) (y : History) (offer : List ℕ) → y.is_open ≡ false → IsSound y
@@ -33,16 +36,11 @@ module _ (meaning : Meaning) (key barrier : List ℕ) (all others : List (List �
 
   -- what stands after the moves of a call
   shut_after : (y : History) (d : Digests) (fates : ℕ → Fate) (b : Batch) (fresh : Bool) (moves : List Move) → y.is_open ≡ false
-      → Agrees I y d → IsWithin all others asked I y → (fresh ≡ true → IsDue all asked barrier (bare y) b × IsLive (bare y))
+      → Agrees I y d → IsWithin all others asked I y → (fresh ≡ true → IsDue all asked I (bare y) b × IsLive (bare y))
       → Shape fates fresh b moves → Counts meaning key barrier all others asked false (bare y) moves
-      → Agrees I (all_made (by_lists I) y moves)
-      (all_made (by_digests I) d moves) × IsWithin all others asked I (all_made (by_lists I) y moves)
+      → StandsAfter meaning key barrier all others asked y d moves
   shut_after y d fates b fresh moves e agrees within due (still values is) counts =
-      let W : History → Type 0 = IsWithin all others asked I in
-      let kept : W (all_made (by_lists I) y (map Foreign values)) =
-      subst W (sym (taking_is I values y)) (within_items meaning key barrier all others asked y (y.items ++ map Value values) e within) in
-      subst (λ m. Agrees I (all_made (by_lists I) y m) (all_made (by_digests I) d m) × W (all_made (by_lists I) y m)) (sym is)
-      (foreign_agrees meaning key barrier values y d agrees, kept)
+      rw is (foreign_stands meaning key barrier all others asked y d values e agrees within)
   shut_after y d fates b fresh moves e agrees within due (reset values rest is k) counts =
       let O : List Move → Type 0 = λ m. AllByRecursion (Contains others) (foreign_in m) in
       let begins : from_reset moves ≡ Reset ∷ rest = ap from_reset is ∙ from_reset-foreign values (Reset ∷ rest) in
@@ -63,13 +61,11 @@ module _ (meaning : Meaning) (key barrier : List ℕ) (all others : List (List �
       let lists : all_made (by_lists I) y moves ≡ all_made (by_lists I) (bare y) rest =
       ap (all_made (by_lists I) y) is ∙ foreign_made I values (Reset ∷ rest) y in
       let digests : all_made (by_digests I) d moves ≡ all_made (by_digests I) (bare_digests d) rest =
-      ap (all_made (by_digests I) d) is ∙ foreign_reset I values rest d in (
-        subst (λ x. Agrees I x (all_made (by_digests I) d moves)) (sym lists)
-            (subst (λ x. Agrees I (all_made (by_lists I) (bare y) rest) x) (sym digests) end.agrees),
-        subst (IsWithin all others asked I) (sym lists)
-            (within_of meaning key barrier all others asked (all_made (by_lists I) (bare y) rest)
-            (all_made (by_digests I) (bare_digests d) rest) end),
-      )
+      ap (all_made (by_digests I) d) is ∙ foreign_reset I values rest d in record {
+        agrees = rw lists (rw digests end.agrees);
+        within = rw lists (within_of meaning key barrier all others asked (all_made (by_lists I) (bare y) rest)
+            (all_made (by_digests I) (bare_digests d) rest) end);
+      }
 
   shut : (y : History) (d : Digests) (c : Course) (offer : List ℕ) (b : Batch) → y.is_open ≡ false → Agrees I y d
       → AreSame meaning key barrier all others asked false y d c offer b
@@ -104,20 +100,14 @@ module _ (meaning : Meaning) (key barrier : List ℕ) (all others : List (List �
       subst (λ z. Counts meaning key barrier all others asked false (bare y) (steps_walk c false z b).moves) (k agree)
       (shut_counts meaning key barrier all others asked y (steps_walk c false x b).moves offer b e a) in
       let after = shut_after y d c.fates b (is_fresh found) walked.moves e agrees a.within
-      (due_of meaning key barrier all others asked (bare y) b found h.sound a.is_asked placed_at)
+      (due_of meaning key barrier all others asked (bare y) (bare_digests d) b found
+      (apart_of meaning key barrier all others asked y _ offer b a) h a.is_asked placed_at)
       (shape c.fates (is_fresh found) b) counts in
       let ends = ends_of meaning key barrier all y (bare y) seen c b false found e refl placed_at
       (λ f is x. cc) (sight_agrees meaning key barrier y d c agrees) in
-      let same : IsSameCall all others asked I (called_by (by_lists I) y sees b found walked)
-      (called_by (by_digests I) d seen b found walked) = record {
-        ending = ending_same I y sees seen (all_made (by_digests I) d walked.moves) b walked walked.broken found refl ends
-            (opt_commits c.fates false (is_fresh found) b);
-        moves = refl;
-        steps = refl;
-        writes = refl;
-        agrees = after.0;
-        within = after.1;
-      } in
+      let same = same_on meaning key barrier all others asked y sees d seen b found found walked
+      (ending_same I y sees seen (all_made (by_digests I) d walked.moves) b walked walked.broken found refl ends
+      (opt_commits c.fates false (is_fresh found) b)) after in
       let P : Result Found Refusal → Type 0 = λ x. IsSameCall all others asked I
       (called_by (by_lists I) y sees b found walked) (called_by (by_digests I) d seen b x (steps_walk c false x b)) in
       subst P (sym agree) same
@@ -127,47 +117,36 @@ module _ (meaning : Meaning) (key barrier : List ℕ) (all others : List (List �
   by_flag true y d c offer b e agrees x k a = inside meaning key barrier all others asked y d c offer b e agrees x k a
   by_flag false y d c offer b e agrees x k a = shut y d c offer b e agrees x k a
 
--- the law, by the moves of the steps that follow from what is found by digests or by lists
-agree_by : (meaning : Meaning) (key barrier : List ℕ) (all others : List (List ℕ)) (asked : List Batch) (y : History) (d : Digests)
-    (c : Course) (offer : List ℕ) (b : Batch) → Agrees (opt meaning key barrier) y d → (x : Result Found Refusal) (flag : Bool)
-    → flag ≡ y.is_open
-    →
-    (found_unless_wanting (ByDigests meaning key barrier all others asked d c offer b) c.lacks ≡ found_unless_wanting (Lists meaning key
-    barrier all others asked y c offer b) c.lacks → x ≡ found_unless_wanting (Lists meaning key barrier all others asked y c offer b)
-    c.lacks) → IsAsked all others asked (opt meaning key barrier) y (walk c.fates 1
-    (ask_steps Opt flag (is_fresh x) b)).moves offer b → IsSameCall all others asked (opt meaning key barrier) (called
-    (opt meaning key barrier) (by_lists (opt meaning key barrier)) y c offer b) (called (opt meaning key barrier)
-    (by_digests (opt meaning key barrier)) d c offer b)
-agree_by meaning key barrier all others asked y d c offer b agrees x flag same_flag k a =
-    let i = opt meaning key barrier in
-    let sees : History = all_made (by_lists i) y (before c) in
-    let seen : Digests = all_made (by_digests i) d (before c) in
-    let found : Result Found Refusal = found_unless_wanting (found_at i (by_lists i) sees b offer) c.lacks in
-    let other : Result Found Refusal = found_unless_wanting (found_at i (by_digests i) seen b offer) c.lacks in
-    let Listed : List Step → Called History = λ steps. called_by (by_lists i) y sees b found (walk c.fates 1 steps) in
-    let Digested : List Step → Called Digests = λ steps. called_by (by_digests i) d seen b other (walk c.fates 1 steps) in
-    let to : (f : Bool) (z : Result Found Refusal) → f ≡ y.is_open → ask_steps Opt f (is_fresh z) b ≡ Reads ∷ Reads
-    ∷ changing y.is_open (is_fresh z) b = λ f z e. asks f (is_fresh z) b ∙ ap (λ g. Reads ∷ Reads ∷ changing g (is_fresh z) b) e in
-    let same = by_flag meaning key barrier all others asked y.is_open y d c offer b refl agrees x k
-    (subst (λ s. IsAsked all others asked i y (walk c.fates 1 s).moves offer b) (to flag x same_flag) a) in
-    subst (λ s. IsSameCall all others asked i (Listed s) (Digested (ask_steps Opt d.flag (is_fresh other) b)))
-    (sym (to y.is_open found refl))
-    (subst (λ s. IsSameCall all others asked i (Listed (Reads ∷ Reads ∷ changing y.is_open (is_fresh found) b)) (Digested s))
-    (sym (to d.flag other agrees.flag)) same)
+  -- the law, by the moves of the steps that follow from what is found by digests or by lists
+  agree_by : (y : History) (d : Digests) (c : Course) (offer : List ℕ) (b : Batch) → Agrees I y d → (x : Result Found Refusal) (flag : Bool)
+      → flag ≡ y.is_open → (found_unless_wanting (ByDigests meaning key barrier all others asked d c offer b) c.lacks
+      ≡ found_unless_wanting (Lists meaning key barrier all others asked y c offer b) c.lacks
+      → x ≡ found_unless_wanting (Lists meaning key barrier all others asked y c offer b) c.lacks)
+      → IsAsked all others asked I y (walk c.fates 1 (ask_steps Opt flag (is_fresh x) b)).moves offer b
+      → IsSameCall all others asked I (called I (by_lists I) y c offer b) (called I (by_digests I) d c offer b)
+  agree_by y d c offer b agrees x flag same_flag k a =
+      let sees : History = all_made (by_lists I) y (before c) in
+      let seen : Digests = all_made (by_digests I) d (before c) in
+      let found : Result Found Refusal = found_unless_wanting (found_at I (by_lists I) sees b offer) c.lacks in
+      let other : Result Found Refusal = found_unless_wanting (found_at I (by_digests I) seen b offer) c.lacks in
+      let Listed : List Step → Called History = λ steps. called_by (by_lists I) y sees b found (walk c.fates 1 steps) in
+      let Digested : List Step → Called Digests = λ steps. called_by (by_digests I) d seen b other (walk c.fates 1 steps) in
+      let to : (f : Bool) (z : Result Found Refusal) → f ≡ y.is_open → ask_steps Opt f (is_fresh z) b ≡ Reads ∷ Reads
+      ∷ changing y.is_open (is_fresh z) b = λ f z e. asks f (is_fresh z) b ∙ ap (λ g. Reads ∷ Reads ∷ changing g (is_fresh z) b) e in
+      let same = by_flag y.is_open y d c offer b refl agrees x k
+      (subst (λ s. IsAsked all others asked I y (walk c.fates 1 s).moves offer b) (to flag x same_flag) a) in
+      rw (to y.is_open found refl)
+      (rw (to d.flag other agrees.flag) same)
+
+  -- the same, by the moves of the call by lists
+  pub opt_calls_agree_by_lists : (y : History) (d : Digests) (c : Course) (offer : List ℕ) (b : Batch) → Agrees I y d
+      → IsAsked all others asked I y (called I (by_lists I) y c offer b).moves offer b
+      → IsSameCall all others asked I (called I (by_lists I) y c offer b) (called I (by_digests I) d c offer b)
+  opt_calls_agree_by_lists y d c offer b agrees a =
+      agree_by y d c offer b agrees (found_unless_wanting (Lists meaning key barrier all others asked y c offer b) c.lacks) y.is_open refl
+      (λ e. refl) a
 
 pub opt_calls_agree : OptCallsAgree
 opt_calls_agree meaning key barrier all others asked y d c offer b agrees a =
     agree_by meaning key barrier all others asked y d c offer b agrees
     (found_unless_wanting (ByDigests meaning key barrier all others asked d c offer b) c.lacks) d.flag agrees.flag (λ e. e) a
-
--- the same, by the moves of the call by lists
-pub opt_calls_agree_by_lists : (meaning : Meaning) (key barrier : List ℕ) (all others : List (List ℕ)) (asked : List Batch) (y : History)
-    (d : Digests) (c : Course) (offer : List ℕ) (b : Batch) → Agrees (opt meaning key barrier) y d
-    → IsAsked all others asked (opt meaning key barrier) y
-    (called (opt meaning key barrier) (by_lists (opt meaning key barrier)) y c offer b).moves offer b
-    → IsSameCall all others asked (opt meaning key barrier)
-    (called (opt meaning key barrier) (by_lists (opt meaning key barrier)) y c offer b)
-    (called (opt meaning key barrier) (by_digests (opt meaning key barrier)) d c offer b)
-opt_calls_agree_by_lists meaning key barrier all others asked y d c offer b agrees a =
-    agree_by meaning key barrier all others asked y d c offer b agrees
-    (found_unless_wanting (Lists meaning key barrier all others asked y c offer b) c.lacks) y.is_open refl (λ e. refl) a

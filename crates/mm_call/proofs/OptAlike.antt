@@ -1,7 +1,7 @@
 -- Opt: histories that differ in the register's items alone, and what a call does to all but these.
 use Rattle.mm_call.proofs.Below.{◌≡◌, ℕ, Bool, true, false, List, [], ◌∷◌, ◌++◌, map, refl, sym, ap, ◌∙◌, subst, inl, inr, Opt, Meaning}
 use Rattle.mm_call.proofs.Below.{Batch, Place, InBasic, InOpt, Content, guard, Instance, opt, Entry, Value, History, Move, Commit, Foreign}
-use Rattle.mm_call.proofs.Below.{Placed, Reset, Close, Power, moved, committed, joined, is_empty, has_value, IsSound, Digests, MayMove}
+use Rattle.mm_call.proofs.Below.{Placed, Reset, Close, moved, committed, joined, is_empty, has_value, IsSound, Digests, MayMove}
 use Rattle.mm_call.proofs.Below.{IsAllowed, IsOpening, made, IsPlaceOf, Names, issued, issued_place, sound_moved, opt_names, point_items}
 use Rattle.mm_call.proofs.Below.{by_lists, by_digests, all_made, closes, committed_in, closes-foreign, commit_keeps, committed-foreign}
 use Rattle.mm_call.proofs.OptHolding.{foreign_may}
@@ -38,11 +38,8 @@ module _ (meaning : Meaning) (key barrier : List ℕ) where
       → bare (all_made (by_lists I) y moves) ≡ bare y
   alike_still [] y c e = refl
   alike_still (Commit b ∷ moves) y c e = absurd (cc)
-  alike_still (Foreign v ∷ moves) y c e = alike_still moves (moved I y (Foreign v)) c e
-  alike_still (Placed b ∷ moves) y c e = alike_still moves (moved I y (Placed b)) c e
-  alike_still (Reset ∷ moves) y c e = alike_still moves (moved I y Reset) c e
   alike_still (Close ∷ moves) y c e = absurd (cc)
-  alike_still (Power ∷ moves) y c e = alike_still moves (moved I y Power) c e
+  alike_still (m ∷ moves) y c e = alike_still moves (moved I y m) c e
 
   pub alike_foreign : (values : List (List ℕ)) (y : History) → bare (all_made (by_lists I) y (map Foreign values)) ≡ bare y
   alike_foreign values y = alike_still (map Foreign values) y (committed-foreign values) (closes-foreign values)
@@ -55,22 +52,16 @@ module _ (meaning : Meaning) (key barrier : List ℕ) where
       let none : committed_in moves ≡ [] = cc in
       let same : a ≡ b = cc in
       alike_still moves (moved I y (Commit a)) none e ∙ ap (λ (x : Batch). bare (moved I y (Commit x))) same
-  alike_one (Foreign v ∷ moves) y b c e = alike_one moves (moved I y (Foreign v)) b c e ∙ alike_commit (moved I y (Foreign v)) y b refl
-  alike_one (Placed a ∷ moves) y b c e = alike_one moves (moved I y (Placed a)) b c e ∙ alike_commit (moved I y (Placed a)) y b refl
-  alike_one (Reset ∷ moves) y b c e = alike_one moves (moved I y Reset) b c e ∙ alike_commit (moved I y Reset) y b refl
   alike_one (Close ∷ moves) y b c e = absurd (cc)
-  alike_one (Power ∷ moves) y b c e = alike_one moves (moved I y Power) b c e ∙ alike_commit (moved I y Power) y b refl
+  alike_one (m ∷ moves) y b c e = alike_one moves (moved I y m) b c e ∙ alike_commit (moved I y m) y b refl
 
   -- the same by digests: what stays but for the register
   pub digests_still : (moves : List Move) (d : Digests) → committed_in moves ≡ [] → closes moves ≡ false
       → bare_digests (all_made (by_digests I) d moves) ≡ bare_digests d
   digests_still [] d c e = refl
   digests_still (Commit b ∷ moves) d c e = absurd (cc)
-  digests_still (Foreign v ∷ moves) d c e = digests_still moves (made I d (Foreign v)) c e
-  digests_still (Placed b ∷ moves) d c e = digests_still moves (made I d (Placed b)) c e
-  digests_still (Reset ∷ moves) d c e = digests_still moves (made I d Reset) c e
   digests_still (Close ∷ moves) d c e = absurd (cc)
-  digests_still (Power ∷ moves) d c e = digests_still moves (made I d Power) c e
+  digests_still (m ∷ moves) d c e = digests_still moves (made I d m) c e
 
   -- A call left all but the items as they were, or committed the batch.
   pub data Alike (y : History) (b : Batch) (after : History) : Type 0 where
@@ -115,13 +106,10 @@ module _ (meaning : Meaning) (key barrier : List ℕ) where
       let v : List ℕ = guard barrier b in
       let z : History = moved I y (Foreign v) in
       let may : MayMove I y (Foreign v) = foreign_may I y y.is_open v in
-      let then_may : MayMove I z (Commit b) = subst (λ (f : Bool). IsAllowed Opt f I z (Commit b)) (sym e) (not_bare y.items v) in
+      let then_may : MayMove I z (Commit b) = rw e (not_bare y.items v) in
       names_alike (moved I z (Commit b)) (moved I y (Commit b)) content (alike_commit z y b refl)
       (opt_names meaning key barrier z (Commit b) content (sound_moved meaning key barrier y (Foreign v) sound may) then_may
       (opt_names meaning key barrier y (Foreign v) content sound may n))
-
-  placed_may : (y : History) (b : Batch) → y.is_open ≡ false → MayMove I y (Placed b)
-  placed_may y b e = subst (λ (f : Bool). IsAllowed Opt f I y (Placed b)) (sym e) tt
 
   named_opening : (y : History) (b : Batch) (content : Content) → IsSound y → y.is_open ≡ false → has_value (joined y.closed) ≡ false
       → Names I y content → Names I (moved I y (Commit b)) content
@@ -129,7 +117,7 @@ module _ (meaning : Meaning) (key barrier : List ℕ) where
       let empty : History = moved I y Reset in
       let z : History = moved I empty (Placed b) in
       let may : MayMove I y Reset = reset_may meaning key barrier y e in
-      let placing : MayMove I empty (Placed b) = placed_may empty b e in
+      let placing : MayMove I empty (Placed b) = rw e tt in
       let sound_then : IsSound empty = sound_moved meaning key barrier y Reset sound may in
       let opening : IsOpening I z b = record { clean = clean; front = []; items = refl; others = refl } in
       let then_may : MayMove I z (Commit b) = subst (λ (f : Bool). IsAllowed Opt f I z (Commit b)) (sym e) opening in

@@ -1,14 +1,14 @@
 -- Opt: what one call leaves by lists, and what it hands on to the next.
 use Rattle.mm_call.proofs.Below.{◌≡◌, ℕ, Bool, true, false, List, [], ◌∷◌, ◌++◌, map, Option, None, Some, Result, Ok, refl, sym, ap, ◌∙◌}
-use Rattle.mm_call.proofs.Below.{subst, append_assoc, AllByRecursion, Contains, option_map, Opt, StepFault, extended_message, Item}
+use Rattle.mm_call.proofs.Below.{subst, append_assoc, option_map, Opt, StepFault, extended_message, Item}
 use Rattle.mm_call.proofs.Below.{Standing, item_values, Meaning, Batch, One, Instance, opt, Entry, History, Move, Foreign, joined}
-use Rattle.mm_call.proofs.Below.{register_value_of, has_value, Within, Digests, digests_of, StandsFor, Step, Reads, ask_steps, BatchAnswer}
+use Rattle.mm_call.proofs.Below.{register_value_of, has_value, Digests, digests_of, StandsFor, Reads, ask_steps, BatchAnswer}
 use Rattle.mm_call.proofs.Below.{Refusal, Level, by_lists, by_digests, all_made, Found, found_at, found_unless_wanting, is_fresh, Course}
 use Rattle.mm_call.proofs.Below.{Walked, walk, closes, called, seen_at, ended_by, given_for, CallsOn, StandsAt, shown, counted_part}
-use Rattle.mm_call.proofs.Below.{counted_moves, moves_messages, foreign_in, IsWithin, IsAsked, AreAsked, AreShown, IsIdle, standing_items}
+use Rattle.mm_call.proofs.Below.{counted_moves, IsWithin, IsAsked, AreAsked, AreShown, IsIdle, standing_items}
 use Rattle.mm_call.proofs.Below.{committed_in, asked_by, same_rest, Counts, counts_open, Commits, nothing, batch, changing, asks}
 use Rattle.mm_call.proofs.Below.{opt_commits, taking, foreign_first, committed-foreign, opt_closes, closes_first, closes-foreign, Comes}
-use Rattle.mm_call.proofs.Below.{kept}
+use Rattle.mm_call.proofs.Below.{kept, GoesBy}
 use Rattle.mm_model.specs.Chains as chains
 use Rattle.mm_call.proofs.Idle.{asked_for}
 use Rattle.mm_call.proofs.BasicLaw.{unlacked}
@@ -16,13 +16,15 @@ use Rattle.mm_call.proofs.Continuing.{stands_at}
 use Rattle.mm_call.proofs.OptFinding.{lives}
 use Rattle.mm_call.proofs.OptHolding.{is_agrees}
 use Rattle.mm_call.proofs.OptAgree.{opt_calls_agree}
-use Rattle.mm_call.proofs.OptShapes.{Shape, shape}
+use Rattle.mm_call.proofs.OptShapes.{none_counted, Shape, shape}
 use Rattle.mm_call.proofs.OptShut.{bare, within_items}
 use Rattle.mm_call.proofs.Tied.{opt_tied}
 use Rattle.mm_call.proofs.Finding.{placed}
-use Rattle.mm_call.proofs.Coming.{answered_only, seen_asking, opt_comes as comes}
+use Rattle.mm_call.proofs.Coming.{answered_only, opt_comes as comes}
+use Rattle.mm_call.proofs.OptLaw.{seen_asking}
 use Rattle.mm_call.proofs.OptAlike.{alike_still, alike_one, digests_still, Alike, still, grown_by, same_closed}
-use Rattle.mm_call.proofs.OptShown.{Way, only_reads, breaks_off, commits_it, way, pushed_open, counts_opening, none_counted, flag_kept, flag_set, shown_front, shown_back, shown_shut, register_then, stands_with}
+use Rattle.mm_call.proofs.OptShown.{Way, only_reads, breaks_off, commits_it, way, pushed_open, counts_opening, flag_kept, flag_set}
+use Rattle.mm_call.proofs.OptShown.{shown_front, shown_back, shown_shut, register_then, stands_with}
 
 -- what one call leaves: the history after it, and what is asked of that
 pub record OptAfter (all others : List (List ℕ)) (asked : List Batch) (meaning : Meaning) (key barrier : List ℕ) (y : History)
@@ -52,8 +54,7 @@ pub alike_call : (meaning : Meaning) (key barrier : List ℕ) (y : History) (c :
 alike_call meaning key barrier y c offer b =
     let i : Instance = opt meaning key barrier in
     let fresh : Bool = is_fresh (found_unless_wanting (found_at i (by_lists i) (seen_at i (by_lists i) y c) b offer) c.lacks) in
-    subst (λ (st : List Step). Alike meaning key barrier y b (all_made (by_lists i) y (walk c.fates 1 st).moves))
-    (sym (asks y.is_open fresh b)) (alike_of meaning key barrier y b fresh (walk c.fates 1 (Reads ∷ Reads ∷ changing y.is_open fresh b))
+    rw (asks y.is_open fresh b) (alike_of meaning key barrier y b fresh (walk c.fates 1 (Reads ∷ Reads ∷ changing y.is_open fresh b))
     (opt_commits c.fates y.is_open fresh b) (opt_closes c.fates y.is_open fresh b))
 
 clean_by : (meaning : Meaning) (key barrier : List ℕ) (y sees after : History) (b : Batch) → sees.closed ≡ y.closed
@@ -100,7 +101,8 @@ module _ (meaning : Meaning) (key barrier : List ℕ) (all others : List (List �
       let it = answered_only walked.broken I sees end (One request) found walked.moves answer gives in
       let was = unlacked (found_at I (by_lists I) sees (One request) offer) c.lacks it.it it.found_is in
       let p = placed all I sees offer (One request)
-      (seen_asking meaning key barrier all others asked y v w offer (One request) a) it.it was in
+      (seen_asking meaning key barrier all y v w offer (One request) a.within.sound
+      (record { clear = a.clear; listed = a.offered; genuine = a.genuine })) it.it was in
       let foreign : bare sees ≡ bare y = alike_still meaning key barrier before y
       (foreign_first v (map Foreign w ++ []) ∙ foreign_first w []) (seen_closes v w) in
       clean_by meaning key barrier y sees end (One request) (ap (λ (x : History). x.closed) foreign) (lives sees p.live).clean alike
@@ -129,8 +131,7 @@ module _ (meaning : Meaning) (key barrier : List ℕ) (all others : List (List �
           after = o.state;
           stands = k.stands;
           within = k.within;
-          comes = subst (λ (r : Result BatchAnswer Refusal). Comes I y offer b o.state r) (sym k.gives)
-              (comes meaning key barrier all others asked y c.course offer b a);
+          comes = rw k.gives (comes meaning key barrier all others asked y c.course offer b a);
           alike = alike;
           clean = λ answer is. answered_clean_as y old new offer request result c a answer is k.gives alike;
         };
@@ -180,71 +181,6 @@ module _ (meaning : Meaning) (key barrier : List ℕ) (all others : List (List �
     pub shown_are : AreShown all others I left.after more
     pub pushed : left.after.is_open ≡ true → Pushed y left.after whole more
 
-  -- what is asked of a call, by what is asked of the items
-  asked_counts : (y : History) (moves : List Move) (offer request : List ℕ) → AreAsked all others asked I y offer (One request)
-      → (k : Counts I y (digests_of I y) moves) → AreShown all others I y k.more → IsAsked all others asked I y moves offer (One request)
-  asked_counts y moves offer request a k s =
-      asked_by I all others asked y moves offer (One request) a
-      (subst (λ (ms : List (List ℕ)). Within ms all) (sym k.tied.messages) s.messages)
-      (subst (λ (vs : List (List ℕ)). AllByRecursion (Contains others) vs) (sym k.tied.values) s.values)
-
-  -- a call after which a segment is open
-  hands_open : (y : History) (old middle new : Standing) (offer request : List ℕ) (result : Result BatchAnswer Refusal)
-      (items more : List Item) (c : CallsOn Opt meaning old middle offer (One request) result) → GoesOn middle new → StandsFor I old y
-      → old.items ≡ Some items → new.items ≡ Some (standing_items y.is_open items ++ more)
-      → AreAsked all others asked I y offer (One request) → AreShown all others I y more
-      → Counts I y (digests_of I y) (DigestMoves old middle offer request result c y)
-      → (all_made (by_digests I) (digests_of I y) (DigestMoves old middle offer request result c y)).flag ≡ true
-      → Hands y middle new offer request result more
-  hands_open y old middle new offer request result items more c goes_on s known ends a shown_so k f =
-      let d : Digests = digests_of I y in
-      let moves : List Move = DigestMoves old middle offer request result c y in
-      let g = c.goes key barrier d (stands_at I old y s) in
-      let front : List Item = standing_items y.is_open items in
-      let xs : List Item = shown I d moves items in
-      let known_then : middle.items ≡ Some xs = g.items ∙ ap (option_map (shown I d moves)) known in
-      let rest = goes_on (all_made (by_digests I) d moves) g.stands f xs known_then in
-      let both : Some (xs ++ rest.0) ≡ Some (front ++ more) = sym rest.1 ∙ ends in
-      let reach : xs ++ rest.0 ≡ front ++ more = cc in
-      let same : k.more ++ rest.0 ≡ more = same_rest front (k.more ++ rest.0) more (sym (append_assoc front k.more rest.0)
-      ∙ ap (λ (v : List Item). v ++ rest.0) (sym (k.are items)) ∙ reach) in
-      let whole : AreShown all others I y (k.more ++ rest.0) = subst (λ (v : List Item). AreShown all others I y v) (sym same) shown_so in
-      let law = by_law y old middle offer request result c s a
-      (asked_counts y moves offer request a k (shown_front all others I y k.more rest.0 whole)) in
-      let is_open : law.left.after.is_open ≡ true = sym law.flag ∙ f in
-      let register = register_then meaning key barrier y law.left.after old middle items k.more s known law.left.stands
-      (known_then ∙ ap (λ (v : List Item). Some v) (k.are items)) is_open in
-      record {
-        left = law.left;
-        items = xs;
-        known = known_then;
-        more = rest.0;
-        ends = rest.1 ∙ ap (λ (flag : Bool). Some (standing_items flag xs ++ rest.0)) (sym is_open);
-        shown_are = shown_back all others I y law.left.after k.more rest.0 register whole;
-        pushed = λ _. record { front = k.more; whole = same; register = register };
-      }
-
-  -- a call before which no segment was open, and none is after it
-  hands_shut : (y : History) (old middle new : Standing) (offer request : List ℕ) (result : Result BatchAnswer Refusal)
-      (items more : List Item) (c : CallsOn Opt meaning old middle offer (One request) result) → StandsFor I old y → old.items ≡ Some items
-      → new.items ≡ Some (standing_items y.is_open items ++ more) → AreShown all others I y more → y.is_open ≡ false
-      → (left : Left y middle offer request result) → left.after.is_open ≡ false → Hands y middle new offer request result more
-  hands_shut y old middle new offer request result items more c s known ends shown_so e left f =
-      let d : Digests = digests_of I y in
-      let moves : List Move = DigestMoves old middle offer request result c y in
-      let g = c.goes key barrier d (stands_at I old y s) in
-      let xs : List Item = shown I d moves items in
-      record {
-        left = left;
-        items = xs;
-        known = g.items ∙ ap (option_map (shown I d moves)) known;
-        more = more;
-        ends = ends ∙ ap (λ (flag : Bool). Some (standing_items flag items ++ more)) e
-            ∙ ap (λ (flag : Bool). Some (standing_items flag xs ++ more)) (sym f);
-        shown_are = shown_shut all others I y left.after more e f shown_so;
-        pushed = λ is. let clash : true ≡ false = sym is ∙ f in absurd (cc);
-      }
-
   -- with no segment open: the reading steps alone
   pub left_reading : (y : History) (old middle : Standing) (offer request : List ℕ) (result : Result BatchAnswer Refusal)
       (c : CallsOn Opt meaning old middle offer (One request) result) (values : List (List ℕ)) → StandsFor I old y
@@ -256,87 +192,119 @@ module _ (meaning : Meaning) (key barrier : List ℕ) (all others : List (List �
       let moves : List Move = DigestMoves old middle offer request result c y in
       let empty : counted_moves y.is_open moves ≡ [] = none_counted y values moves e is in
       let law = by_law y old middle offer request result c s a (asked_by I all others asked y moves offer (One request) a
-      (subst (λ (ms : List Move). Within (moves_messages I (counted_part y) ms) all) (sym empty) tt)
-      (subst (λ (ms : List Move). AllByRecursion (Contains others) (foreign_in ms)) (sym empty) tt)) in
+      (rw empty tt)
+      (rw empty tt)) in
       let same : (all_made (by_digests I) d moves).flag ≡ d.flag = ap (λ (x : Digests). x.flag)
       (digests_still meaning key barrier moves d (ap committed_in is ∙ committed-foreign values) (ap closes is ∙ closes-foreign values)) in
       (law.left, sym law.flag ∙ same ∙ e)
 
-  -- with no segment open: broken off before the commit. The history is as before, but for the register's items.
-  left_broken : (y : History) (old middle : Standing) (offer request : List ℕ) (result : Result BatchAnswer Refusal) (items : List Item)
-      (c : CallsOn Opt meaning old middle offer (One request) result) → StandsFor I old y → old.items ≡ Some items
-      → AreAsked all others asked I y offer (One request) → y.is_open ≡ false
-      → committed_in (DigestMoves old middle offer request result c y) ≡ []
-      → closes (DigestMoves old middle offer request result c y) ≡ false → ((answer : BatchAnswer) → result ≡ Ok answer → ⊥)
-      → (left : Left y middle offer request result) × (left.after.is_open ≡ false)
-  left_broken y old middle offer request result items c s known a e none quiet unless =
-      let d : Digests = digests_of I y in
-      let moves : List Move = DigestMoves old middle offer request result c y in
-      let g = c.goes key barrier d (stands_at I old y s) in
-      let xs : List Item = shown I d moves items in
-      let after : History = taking (bare y) (item_values xs) in (
+  -- A call, with what its platform shows before and after it and at the very end.
+  module _ (y : History) (old middle new : Standing) (offer request : List ℕ) (result : Result BatchAnswer Refusal) (items more : List Item)
+      (c : CallsOn Opt meaning old middle offer (One request) result) (goes_on : GoesOn middle new) (s : StandsFor I old y)
+      (known : old.items ≡ Some items) (ends : new.items ≡ Some (standing_items y.is_open items ++ more))
+      (a : AreAsked all others asked I y offer (One request)) (shown_so : AreShown all others I y more) where
+    abbrev d : Digests
+    d = digests_of I y
+
+    abbrev moves : List Move
+    moves = DigestMoves old middle offer request result c y
+
+    abbrev items_then : List Item
+    items_then = shown I d moves items
+
+    goes : GoesBy I d (called I (by_digests I) d c.course offer (One request)) old middle result
+    goes = c.goes key barrier d (stands_at I old y s)
+
+    known_then : middle.items ≡ Some items_then
+    known_then = goes.items ∙ ap (option_map (shown I d moves)) known
+
+    -- a call after which a segment is open
+    hands_open : Counts I y d moves → (all_made (by_digests I) d moves).flag ≡ true → Hands y middle new offer request result more
+    hands_open k f =
+        let front : List Item = standing_items y.is_open items in
+        let rest = goes_on (all_made (by_digests I) d moves) goes.stands f items_then known_then in
+        let both : Some (items_then ++ rest.0) ≡ Some (front ++ more) = sym rest.1 ∙ ends in
+        let reach : items_then ++ rest.0 ≡ front ++ more = cc in
+        let same : k.more ++ rest.0 ≡ more = same_rest front (k.more ++ rest.0) more (sym (append_assoc front k.more rest.0)
+        ∙ ap (λ (v : List Item). v ++ rest.0) (sym (k.are items)) ∙ reach) in
+        let whole : AreShown all others I y (k.more ++ rest.0) = rw same shown_so in
+        let there = shown_front all others I y k.more rest.0 whole in
+        let law = by_law y old middle offer request result c s a (asked_by I all others asked y moves offer (One request) a
+        (rw k.tied.messages there.messages)
+        (rw k.tied.values there.values)) in
+        let is_open : law.left.after.is_open ≡ true = sym law.flag ∙ f in
+        let register = register_then meaning key barrier y law.left.after old middle items k.more s known law.left.stands
+        (known_then ∙ ap (λ (v : List Item). Some v) (k.are items)) is_open in
         record {
+          left = law.left;
+          items = items_then;
+          known = known_then;
+          more = rest.0;
+          ends = rest.1 ∙ ap (λ (flag : Bool). Some (standing_items flag items_then ++ rest.0)) (sym is_open);
+          shown_are = shown_back all others I y law.left.after k.more rest.0 register whole;
+          pushed = λ _. record { front = k.more; whole = same; register = register };
+        }
+
+    -- a call before which no segment was open, and none is after it
+    hands_shut : y.is_open ≡ false → (left : Left y middle offer request result) → left.after.is_open ≡ false
+        → Hands y middle new offer request result more
+    hands_shut e left f = record {
+      left = left;
+      items = items_then;
+      known = known_then;
+      more = more;
+      ends = ends ∙ ap (λ (flag : Bool). Some (standing_items flag items ++ more)) e
+          ∙ ap (λ (flag : Bool). Some (standing_items flag items_then ++ more)) (sym f);
+      shown_are = shown_shut all others I y left.after more e f shown_so;
+      pushed = λ is. let clash : true ≡ false = sym is ∙ f in absurd (cc);
+    }
+
+    -- with no segment open: broken off before the commit. The history is as before, but for the register's items.
+    hands_broken : y.is_open ≡ false → committed_in moves ≡ [] → closes moves ≡ false → ((answer : BatchAnswer) → result ≡ Ok answer → ⊥)
+        → Hands y middle new offer request result more
+    hands_broken e none quiet unless =
+        let after : History = taking (bare y) (item_values items_then) in
+        hands_shut e (record {
           after = after;
-          stands = stands_with meaning key barrier y (all_made (by_digests I) d moves) middle xs g.stands
-              (digests_still meaning key barrier moves d none quiet) (g.items ∙ ap (option_map (shown I d moves)) known);
+          stands = stands_with meaning key barrier y (all_made (by_digests I) d moves) middle items_then goes.stands
+              (digests_still meaning key barrier moves d none quiet) known_then;
           within = within_items meaning key barrier all others asked y after.items e a.within;
           comes = kept refl (λ answer gives. absurd (unless answer gives));
           alike = still refl;
           clean = λ answer gives. absurd (unless answer gives);
-        },
-        e,
-      )
+        }) e
 
-  hands_by : (flag fresh : Bool) (y : History) (old middle new : Standing) (offer request : List ℕ) (result : Result BatchAnswer Refusal)
-      (items more : List Item) (c : CallsOn Opt meaning old middle offer (One request) result) → GoesOn middle new → StandsFor I old y
-      → old.items ≡ Some items → new.items ≡ Some (standing_items y.is_open items ++ more)
-      → AreAsked all others asked I y offer (One request) → AreShown all others I y more → y.is_open ≡ flag → (w : Walked)
-      → w ≡ walk c.course.fates 1 (Reads ∷ Reads ∷ changing flag fresh (One request))
-      → w.moves ≡ DigestMoves old middle offer request result c y → ((answer : BatchAnswer) → result ≡ Ok answer → w.broken ≡ None)
-      → Hands y middle new offer request result more
-  hands_by true fresh y old middle new offer request result items more c goes_on s known ends a shown_so e w is moves answered =
-      let d : Digests = digests_of I y in
-      let made : List Move = DigestMoves old middle offer request result c y in
-      let quiet : closes made ≡ false = ap closes (sym moves) ∙ ap (λ (v : Walked). closes v.moves) is
-      ∙ opt_closes c.course.fates true fresh (One request) in
-      hands_open y old middle new offer request result items more c goes_on s known ends a shown_so
-      (counts_open I y d made e (opt_tied meaning key barrier y d c.course offer (One request) refl))
-      (flag_kept meaning key barrier made d e quiet)
-  hands_by false fresh y old middle new offer request result items more c goes_on s known ends a shown_so e w is moves answered =
-      let d : Digests = digests_of I y in
-      let b : Batch = One request in
-      let made : List Move = DigestMoves old middle offer request result c y in
-      let quiet : closes made ≡ false = ap closes (sym moves) ∙ ap (λ (v : Walked). closes v.moves) is
-      ∙ opt_closes c.course.fates false fresh b in
-      elim (subst (λ (v : Walked). Way b v) (sym is) (way c.course.fates false fresh b)) [
-        | only_reads values are ↦
-            let l = left_reading y old middle offer request result c values s a e (sym moves ∙ are) in
-            hands_shut y old middle new offer request result items more c s known ends shown_so e l.0 l.1
-        | breaks_off none unless ↦
-            let l = left_broken y old middle offer request result items c s known a e (ap committed_in (sym moves) ∙ none) quiet
-            (λ answer gives. unless (answered answer gives)) in
-            hands_shut y old middle new offer request result items more c s known ends shown_so e l.0 l.1
-        | commits_it one ↦
-            let one_made : committed_in made ≡ b ∷ [] = ap committed_in (sym moves) ∙ one in
-            hands_open y old middle new offer request result items more c goes_on s known ends a shown_so
-            (counts_opening I y d c.course.fates fresh b made e
-            (subst (λ (ms : List Move). Shape c.course.fates fresh b ms) (ap (λ (v : Walked). v.moves) (sym is) ∙ moves)
-            (shape c.course.fates fresh b)) one_made (opt_tied meaning key barrier y d c.course offer b refl))
-            (flag_set meaning key barrier made d b one_made quiet)
-      ]
+    hands_by : (flag fresh : Bool) → y.is_open ≡ flag → (w : Walked)
+        → w ≡ walk c.course.fates 1 (Reads ∷ Reads ∷ changing flag fresh (One request)) → w.moves ≡ moves
+        → ((answer : BatchAnswer) → result ≡ Ok answer → w.broken ≡ None) → Hands y middle new offer request result more
+    hands_by true fresh e w is are answered =
+        let quiet : closes moves ≡ false = ap closes (sym are) ∙ ap (λ (v : Walked). closes v.moves) is
+        ∙ opt_closes c.course.fates true fresh (One request) in
+        hands_open (counts_open I y d moves e (opt_tied meaning key barrier y d c.course offer (One request) refl))
+        (flag_kept meaning key barrier moves d e quiet)
+    hands_by false fresh e w is are answered =
+        let b : Batch = One request in
+        let quiet : closes moves ≡ false = ap closes (sym are) ∙ ap (λ (v : Walked). closes v.moves) is
+        ∙ opt_closes c.course.fates false fresh b in
+        elim (subst (λ (v : Walked). Way b v) (sym is) (way c.course.fates false fresh b)) [
+          | only_reads values only ↦
+              let l = left_reading y old middle offer request result c values s a e (sym are ∙ only) in hands_shut e l.0 l.1
+          | breaks_off none unless ↦
+              hands_broken e (ap committed_in (sym are) ∙ none) quiet (λ answer gives. unless (answered answer gives))
+          | commits_it one ↦
+              let one_made : committed_in moves ≡ b ∷ [] = ap committed_in (sym are) ∙ one in
+              hands_open (counts_opening I y d c.course.fates fresh b moves e
+              (subst (λ (ms : List Move). Shape c.course.fates fresh b ms) (ap (λ (v : Walked). v.moves) (sym is) ∙ are)
+              (shape c.course.fates fresh b)) one_made (opt_tied meaning key barrier y d c.course offer b refl))
+              (flag_set meaning key barrier moves d b one_made quiet)
+        ]
 
-  pub hands : (y : History) (old middle new : Standing) (offer request : List ℕ) (result : Result BatchAnswer Refusal)
-      (items more : List Item) (c : CallsOn Opt meaning old middle offer (One request) result) → GoesOn middle new → StandsFor I old y
-      → old.items ≡ Some items → new.items ≡ Some (standing_items y.is_open items ++ more)
-      → AreAsked all others asked I y offer (One request) → AreShown all others I y more → Hands y middle new offer request result more
-  hands y old middle new offer request result items more c goes_on s known ends a shown_so =
-      let d : Digests = digests_of I y in
-      let b : Batch = One request in
-      let seen : Digests = seen_at I (by_digests I) d c.course in
-      let found : Result Found Refusal = found_unless_wanting (found_at I (by_digests I) seen b offer) c.course.lacks in
-      let w : Walked = walk c.course.fates 1 (ask_steps Opt y.is_open (is_fresh found) b) in
-      let g = c.goes key barrier d (stands_at I old y s) in
-      hands_by y.is_open (is_fresh found) y old middle new offer request result items more c goes_on s known ends a shown_so refl w
-      (ap (walk c.course.fates 1) (asks y.is_open (is_fresh found) b)) refl
-      (λ answer gives. whole_walk w.broken (by_digests I) seen (all_made (by_digests I) d w.moves) b found w.moves answer
-      (sym g.gives ∙ gives))
+    pub hands : Hands y middle new offer request result more
+    hands =
+        let b : Batch = One request in
+        let seen : Digests = seen_at I (by_digests I) d c.course in
+        let found : Result Found Refusal = found_unless_wanting (found_at I (by_digests I) seen b offer) c.course.lacks in
+        let w : Walked = walk c.course.fates 1 (ask_steps Opt y.is_open (is_fresh found) b) in
+        hands_by y.is_open (is_fresh found) refl w (ap (walk c.course.fates 1) (asks y.is_open (is_fresh found) b)) refl
+        (λ answer gives. whole_walk w.broken (by_digests I) seen (all_made (by_digests I) d w.moves) b found w.moves answer
+        (sym goes.gives ∙ gives))

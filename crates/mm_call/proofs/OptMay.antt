@@ -8,12 +8,11 @@ use Rattle.mm_call.proofs.Endings.{fresh_found}
 use Rattle.mm_call.proofs.OptFinding.{IsLive, live_found}
 use Rattle.mm_call.proofs.OptLaw.{before, sight, sight_is}
 use Rattle.mm_call.proofs.OptReady.{ready_third}
-use Rattle.mm_call.proofs.OptWalks.{AllFine, Ready, own_asked, walk_fine}
+use Rattle.mm_call.proofs.OptWalks.{AllFine, Each, Ready, own_asked, walk_fine}
 
 -- moves that may be made one after another
 abbrev pub AllMay : Instance → History → List Move → Type 0
-AllMay i y [] = Unit {0}
-AllMay i y (m ∷ moves) = MayMove i y m × AllMay i (moved i y m) moves
+AllMay i = Each (MayMove i) i
 
 pub may_of : (all others : List (List ℕ)) (asked : List Batch) (i : Instance) (moves : List Move) (y : History)
     → AllFine all others asked i y moves → AllMay i y moves
@@ -44,7 +43,7 @@ ask_may meaning key barrier y c bytes b =
     let third = ready_third meaning key barrier all others (b ∷ []) c.fates taken b y.is_open (is_fresh found) refl
     (λ fresh. let f = fresh_found found fresh in (
       record {
-        commits = record { guards = first_in (guard_message barrier b) (run ∷ []); run = second_in (guard_message barrier b) run [] };
+        commits = (first_in (guard_message barrier b) (run ∷ []), (second_in (guard_message barrier b) run [], tt));
         asked_for = first_in b [];
       },
       subst IsLive (sight_is i y c)

@@ -2,6 +2,7 @@
 -- lets others extend the register, and then may reset it and go on.
 use Rattle.mm_call.proofs.Below.{ℕ, ◌≡◌, Bool, true, false, List, [], ◌∷◌, ◌++◌, map, Some, refl, sym, ap, ◌∙◌, append_assoc, ◌⊎◌, inl, inr}
 use Rattle.mm_call.proofs.Below.{append-nil, map-append, StepFault, Batch, Move, Commit, Foreign, Placed, Reset, Step, Reads, Changes}
+use Rattle.mm_call.proofs.Below.{History, counted_moves, from_reset, from_reset-foreign}
 use Rattle.mm_call.proofs.Below.{Writes, End, Done, Fails, Fate, Walked, after_step, walk, finished, changing}
 
 -- two reading steps, and the rest
@@ -60,3 +61,22 @@ pub shape : (fates : ℕ → Fate) (fresh : Bool) (b : Batch)
 shape fates fresh b =
     shape_reads fates fresh b (fates 1).brings (fates 1).ends (walk fates 2 (Reads ∷ changing false fresh b))
     (shape_reads fates fresh b (fates 2).brings (fates 2).ends (walk fates 3 (changing false fresh b)) (shape_changing fates fresh b))
+
+-- the reading steps of a call bring others' values alone
+pub record Brought (moves : List Move) : Type 0 where
+  pub values : List (List ℕ)
+  pub are : moves ≡ map Foreign values
+
+pub reads_only : (values later : List (List ℕ)) (ends last : End) → Brought (two_reads values ends later last finished).moves
+reads_only values later Done Done = record {
+  values = values ++ later;
+  are = ap (λ (ms : List Move). map Foreign values ++ ms) (append-nil (map Foreign later)) ∙ sym (map-append Foreign values later);
+}
+reads_only values later Done (Fails fault made) = record { values = values ++ later; are = sym (map-append Foreign values later) }
+reads_only values later (Fails fault made) last = record { values = values; are = refl }
+
+-- nothing counts of them with no segment open
+pub none_counted : (y : History) (values : List (List ℕ)) (moves : List Move) → y.is_open ≡ false → moves ≡ map Foreign values
+    → counted_moves y.is_open moves ≡ []
+none_counted y values moves e is =
+    ap (λ (f : Bool). counted_moves f moves) e ∙ ap from_reset (is ∙ sym (append-nil (map Foreign values))) ∙ from_reset-foreign values []

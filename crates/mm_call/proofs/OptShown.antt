@@ -2,17 +2,17 @@
 use Rattle.mm_call.proofs.Below.{◌≡◌, ℕ, Bool, true, false, List, [], ◌∷◌, ◌++◌, map, Option, None, Some, refl, sym, ap, ◌∙◌, subst}
 use Rattle.mm_call.proofs.Below.{if◌then◌else◌, AllByRecursion, Contains, option_map, append-nil, map-append, Opt, zero_bytes}
 use Rattle.mm_call.proofs.Below.{extended_message, Item, Standing, item_values, Meaning, Batch, after, trail, Instance, opt, Value, History}
-use Rattle.mm_call.proofs.Below.{Move, Commit, Foreign, Placed, Reset, Close, Power, first_history, register_value_of, entry_values, Within}
+use Rattle.mm_call.proofs.Below.{Move, Commit, Foreign, Reset, Close, first_history, register_value_of, entry_values, Within}
 use Rattle.mm_call.proofs.Below.{Digests, made, committing, digests_of, StandsFor, after-append, trail-append, register_folds, reads_zero}
-use Rattle.mm_call.proofs.Below.{each_left, each_right, by_digests, all_made, End, Done, Fails, Fate, Course, Walked, after_step, walk}
+use Rattle.mm_call.proofs.Below.{each_left, each_right, by_digests, all_made, Fate, Course, Walked, walk}
 use Rattle.mm_call.proofs.Below.{closes, called, cell_at, StandsAt, shown, from_reset, counted_part, counted_moves, AreShown, foreign_items}
-use Rattle.mm_call.proofs.Below.{standing_items, Tied, shows, committed_in, Counts, none, batch, finished, changing, opt_commits, taking}
+use Rattle.mm_call.proofs.Below.{standing_items, Tied, shows, committed_in, Counts, none, batch, changing, opt_commits, taking}
 use Rattle.mm_call.proofs.Below.{committed-foreign, from_reset-foreign, Reads}
 use Rattle.mm_platform.specs.Standing as platform
 use Rattle.mm_model.specs.Chains.{register_of}
 use Rattle.mm_seal.specs.Cell.{IsCell, cell_spelling}
 use Rattle.mm_call.specs.Tied.{nothing}
-use Rattle.mm_call.proofs.OptShapes.{Shape, still, reset}
+use Rattle.mm_call.proofs.OptShapes.{reads_only, Shape, still, reset}
 use Rattle.mm_call.proofs.OptShut.{bare, bare_digests, counted_open, counted_shut}
 use Rattle.mm_call.proofs.Tied.{opt_tied, foreign_of-append}
 
@@ -22,23 +22,8 @@ pub data Way (b : Batch) (w : Walked) : Type 0 where
   breaks_off : committed_in w.moves ≡ [] → (w.broken ≡ None → ⊥) → Way b w
   commits_it : committed_in w.moves ≡ b ∷ [] → Way b w
 
--- the reading steps of a call bring others' values alone
-pub record Brought (moves : List Move) : Type 0 where
-  pub values : List (List ℕ)
-  pub are : moves ≡ map Foreign values
-
-pub reads_only : (values later : List (List ℕ)) (ends last : End)
-    → Brought (after_step Reads values ends (after_step Reads later last finished)).moves
-reads_only values later Done Done = record {
-  values = values ++ later;
-  are = ap (λ (ms : List Move). map Foreign values ++ ms) (append-nil (map Foreign later)) ∙ sym (map-append Foreign values later);
-}
-reads_only values later Done (Fails fault made) = record { values = values ++ later; are = sym (map-append Foreign values later) }
-reads_only values later (Fails fault made) last = record { values = values; are = refl }
-
 pub way : (fates : ℕ → Fate) (flag fresh : Bool) (b : Batch) → Way b (walk fates 1 (Reads ∷ Reads ∷ changing flag fresh b))
-way fates true false b = let r = reads_only (fates 1).brings (fates 2).brings (fates 1).ends (fates 2).ends in only_reads r.values r.are
-way fates false false b = let r = reads_only (fates 1).brings (fates 2).brings (fates 1).ends (fates 2).ends in only_reads r.values r.are
+way fates _ false b = let r = reads_only (fates 1).brings (fates 2).brings (fates 1).ends (fates 2).ends in only_reads r.values r.are
 way fates flag true b =
     elim (opt_commits fates flag true b) [
       | none e unless ↦ breaks_off e (λ whole. let clash : true ≡ false = unless whole in absurd (cc))
@@ -75,13 +60,6 @@ counts_opening i y d fates fresh b moves e s c (shows more tied are) = record { 
 counts_opening i y d fates fresh b moves e s c (nothing is) =
     absurd (resets fates fresh b moves s c (ap (λ (f : Bool). counted_moves f moves) (sym e) ∙ is))
 
--- nothing counts of reading steps with no segment open
-pub none_counted : (y : History) (values : List (List ℕ)) (moves : List Move) → y.is_open ≡ false → moves ≡ map Foreign values
-    → counted_moves y.is_open moves ≡ []
-none_counted y values moves e is =
-    ap (λ (f : Bool). counted_moves f moves) e ∙ ap from_reset is ∙ ap from_reset (sym (append-nil (map Foreign values)))
-    ∙ from_reset-foreign values []
-
 -- What is asked of items, for those in front and those behind.
 
 trail_split : (s : List ℕ) (m k : List Item) → trail extended_message s (item_values (m ++ k))
@@ -109,8 +87,7 @@ shown_back all others i y z m k e a =
     let s : List ℕ = register_value_of i (counted_part y) in
     let t : List ℕ = after extended_message s (item_values m) in
     record {
-      messages = subst (λ (r : List ℕ). Within (trail extended_message r (item_values k)) all) (sym e)
-          (each_right (Contains all) (trail extended_message s (item_values m)) (trail extended_message t (item_values k))
+      messages = rw e (each_right (Contains all) (trail extended_message s (item_values m)) (trail extended_message t (item_values k))
           (subst (λ (ms : List (List ℕ)). Within ms all) (trail_split s m k) a.messages));
       values = each_right (Contains others) (foreign_items m) (foreign_items k)
           (subst (AllByRecursion (Contains others)) (foreign_of-append m k) a.values);
@@ -165,21 +142,15 @@ module _ (meaning : Meaning) (key barrier : List ℕ) where
   pub flag_kept : (moves : List Move) (d : Digests) → d.flag ≡ true → closes moves ≡ false → (all_made (by_digests I) d moves).flag ≡ true
   flag_kept [] d f e = f
   flag_kept (Commit b ∷ moves) d f e = flag_kept moves (made I d (Commit b)) (committing_flag d.flag d b refl) e
-  flag_kept (Foreign v ∷ moves) d f e = flag_kept moves (made I d (Foreign v)) f e
-  flag_kept (Placed b ∷ moves) d f e = flag_kept moves (made I d (Placed b)) f e
-  flag_kept (Reset ∷ moves) d f e = flag_kept moves (made I d Reset) f e
   flag_kept (Close ∷ moves) d f e = absurd (cc)
-  flag_kept (Power ∷ moves) d f e = flag_kept moves (made I d Power) f e
+  flag_kept (m ∷ moves) d f e = flag_kept moves (made I d m) f e
 
   pub flag_set : (moves : List Move) (d : Digests) (b : Batch) → committed_in moves ≡ b ∷ [] → closes moves ≡ false
       → (all_made (by_digests I) d moves).flag ≡ true
   flag_set [] d b c e = absurd (cc)
   flag_set (Commit a ∷ moves) d b c e = flag_kept moves (made I d (Commit a)) (committing_flag d.flag d a refl) e
-  flag_set (Foreign v ∷ moves) d b c e = flag_set moves (made I d (Foreign v)) b c e
-  flag_set (Placed a ∷ moves) d b c e = flag_set moves (made I d (Placed a)) b c e
-  flag_set (Reset ∷ moves) d b c e = flag_set moves (made I d Reset) b c e
   flag_set (Close ∷ moves) d b c e = absurd (cc)
-  flag_set (Power ∷ moves) d b c e = flag_set moves (made I d Power) b c e
+  flag_set (m ∷ moves) d b c e = flag_set moves (made I d m) b c e
 
   pub pushed_open : (d : Digests) (c : Course) (offer : List ℕ) (b : Batch) → d.flag ≡ true
       → Pushes I d (called I (by_digests I) d c offer b).moves

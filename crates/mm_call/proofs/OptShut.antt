@@ -3,11 +3,11 @@ use Rattle.mm_call.proofs.Below.{ℕ, ◌≡◌, ◌+◌, Bool, true, false, ◌
 use Rattle.mm_call.proofs.Below.{if◌then◌else◌, nat_eq, AllByRecursion, Contains, fold, Opt, zero_bytes, extended_of, Meaning, Batch}
 use Rattle.mm_call.proofs.Below.{size_of, Instance, opt, Entry, History, Move, Foreign, Reset, moved, joined, total_of, Life, life_by}
 use Rattle.mm_call.proofs.Below.{life_of, is_empty, are_own, has_value, is_lost, judged, is_last, IsSound, Within, history_messages}
-use Rattle.mm_call.proofs.Below.{values_in, Digests, made, MayMove, IsAllowed, Brings, IsOutside, Refusal, parts_of, sound_items}
+use Rattle.mm_call.proofs.Below.{values_in, Digests, made, MayMove, IsOutside, Refusal, parts_of, sound_items}
 use Rattle.mm_call.proofs.Below.{sound_moved, outside_moved, Level, by_lists, by_digests, all_made, Agrees, Found, found_by_verdict}
 use Rattle.mm_call.proofs.Below.{found_at, counted_part, IsWithin}
 use Rattle.mm_model.specs.declared.refusal.Refusal.TheVariants as refusal
-use Rattle.mm_call.proofs.OptMessages.{listing_of, listed_of}
+use Rattle.mm_call.proofs.Below.{items_messages}
 use Rattle.mm_call.proofs.OptHolding.{Holds, opt_agrees_moved, foreign_may}
 
 -- the history whose register is empty, and its digests
@@ -30,10 +30,7 @@ life_shut a b c d true = refl
 
 pub life_bare : (y : History) (items : List Entry) → y.is_open ≡ false → life_of Opt (record y { items = items }) ≡ life_of Opt (bare y)
 life_bare y items e =
-    let marred = has_value (joined y.closed) in
-    ap (λ f. life_by f (is_empty items) (are_own items y.current) marred) e
-    ∙ life_shut (is_empty items) (are_own items y.current) true (are_own [] y.current) marred
-    ∙ ap (λ f. life_by f true (are_own [] y.current) marred) (sym e)
+    rw e (life_shut (is_empty items) (are_own items y.current) true (are_own [] y.current) (has_value (joined y.closed)))
 
 -- what is found by lists at this life
 abbrev found_alive : Instance → History → Life → Batch → List ℕ → Result Found Refusal
@@ -81,19 +78,12 @@ foreign_agrees meaning key barrier (v ∷ values) y d a =
 -- a reset, while no segment is open
 pub reset_may : (meaning : Meaning) (key barrier : List ℕ) (y : History) → y.is_open ≡ false → MayMove (opt meaning key barrier) y Reset
 reset_may meaning key barrier y e =
-    let P : Bool → Type 0 = λ f. IsAllowed Opt f (opt meaning key barrier) y Reset in subst P (sym e) tt
-
-pub reset_brings : (others : List (List ℕ)) (y : History) (flag : Bool) → Brings Opt flag others y Reset
-reset_brings others y true = tt
-reset_brings others y false = tt
+    rw e tt
 
 -- the messages of a history with other items
 pub listed_bare : (meaning : Meaning) (key barrier : List ℕ) (all : List (List ℕ)) (y : History)
     → Within (history_messages (opt meaning key barrier) y) all → Within (history_messages (opt meaning key barrier) (bare y)) all
-listed_bare meaning key barrier all y h =
-    let l = listing_of meaning key barrier all y h in
-    listed_of meaning key barrier all (bare y)
-    (record { starts = l.starts; guards = l.guards; runs = l.runs; closed = l.closed; items = tt; closings = l.closings })
+listed_bare meaning key barrier all y h = items_messages (opt meaning key barrier) y [] all h tt
 
 listed_counted : (meaning : Meaning) (key barrier : List ℕ) (all : List (List ℕ)) (y : History) (flag : Bool)
     → Within (history_messages (opt meaning key barrier) y) all
@@ -123,7 +113,7 @@ module _ (meaning : Meaning) (key barrier : List ℕ) (all others : List (List �
       let may = reset_may meaning key barrier y e in record {
         agrees = opt_agrees_moved meaning key barrier y d Reset may a;
         sound = sound_moved meaning key barrier y Reset w.sound may;
-        outside = outside_moved meaning key barrier others y Reset w.outside may (reset_brings others y y.is_open);
+        outside = outside_moved meaning key barrier others y Reset w.outside may tt;
         listed = subst P (counted_shut y e) w.listed;
         batches = w.batches;
       }
@@ -143,7 +133,7 @@ outside_items : (others : List (List ℕ)) (y : History) (items : List Entry) �
 outside_items others y items e h =
     let P : Bool → List Entry → Type 0 = λ f xs. AllByRecursion (Contains others) (values_in (joined y.closed ++ (if f then xs else []))) in
     let shut : P false y.items = subst (λ f. P f y.items) e h in
-    subst (λ f. P f items) (sym e) shut
+    rw e shut
 
 pub sound_shut : (y : History) (items : List Entry) → y.is_open ≡ false → IsSound y → IsSound (record y { items = items })
 sound_shut y items e sound = sound_items y items sound (λ is_open. let clash = sym e ∙ is_open in absurd (cc))
@@ -157,6 +147,6 @@ within_items meaning key barrier all others asked y items e w =
     let shut : P false y.items = subst (λ f. P f y.items) e w.listed in record {
       sound = sound_shut y items e w.sound;
       outside = outside_items others y items e w.outside;
-      listed = subst (λ f. P f items) (sym e) shut;
+      listed = rw e shut;
       batches = w.batches;
     }

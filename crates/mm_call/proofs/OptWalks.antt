@@ -1,73 +1,153 @@
 -- Opt: the moves of a walk may be made, where its steps are ready; and the history at its end.
-use Rattle.mm_call.proofs.Below.{ℕ, ◌≡◌, ◌+◌, Bool, true, false, List, [], ◌∷◌, ◌++◌, map, None, refl, sym, ap, ◌∙◌, subst, append_assoc}
+use Rattle.mm_call.proofs.Below.{ℕ, ◌≡◌, ◌+◌, Bool, true, false, List, [], ◌∷◌, ◌++◌, map, None, refl, ap, ◌∙◌, subst}
 use Rattle.mm_call.proofs.Below.{AllByRecursion, Contains, Opt, Meaning, Batch, Instance, opt, History, Move, Foreign, moved, Within}
 use Rattle.mm_call.proofs.Below.{move_messages, Digests, made, Step, Reads, Changes, Writes, ask_steps, checkpoint_steps, each_left}
 use Rattle.mm_call.proofs.Below.{each_right, by_lists, by_digests, all_made, End, Done, Fails, Fate, Walked, after_step, walk}
 use Rattle.mm_call.proofs.Below.{moves_messages, foreign_in, taking, taking_is, foreign_made, foreign_in-first, foreign_in-append}
 use Rattle.mm_call.proofs.Below.{foreign_in-foreign}
+use Rattle.mm_call.proofs.Below.{append-nil, made-append, step_moves, EachMove}
 use Rattle.mm_call.proofs.OptHolding.{Holds, IsFine, holds_moved, foreign_fine}
+
+-- what holds of each of the moves, at the history from which it is made
+abbrev pub Each : (History → Move → Type 0) → Instance → History → List Move → Type 0
+Each P i y [] = Unit {0}
+Each P i y (m ∷ moves) = P y m × Each P i (moved i y m) moves
+
+pub each-made : (P : History → Move → Type 0) (i : Instance) (xs ys : List Move) (y : History) → Each P i y xs
+    → Each P i (all_made (by_lists i) y xs) ys → Each P i y (xs ++ ys)
+each-made P i [] ys y a b = b
+each-made P i (x ∷ xs) ys y a b = (a.0, each-made P i xs ys (moved i y x) a.1 b)
 
 -- each of the moves may be made, one after another
 abbrev pub AllFine : List (List ℕ) → List (List ℕ) → List Batch → Instance → History → List Move → Type 0
-AllFine all others asked i y [] = Unit {0}
-AllFine all others asked i y (m ∷ moves) = IsFine all others asked i y m × AllFine all others asked i (moved i y m) moves
+AllFine all others asked i = Each (IsFine all others asked i) i
 
-pub fine-append : (i : Instance) (all others : List (List ℕ)) (asked : List Batch) (xs ys : List Move) (y : History)
-    → AllFine all others asked i y xs → AllFine all others asked i (all_made (by_lists i) y xs) ys → AllFine all others asked i y (xs ++ ys)
-fine-append i all others asked [] ys y a b = b
-fine-append i all others asked (x ∷ xs) ys y a b = (a.0, fine-append i all others asked xs ys (moved i y x) a.1 b)
+-- the history after a step that is done
+abbrev pub stood : Instance → Step → List (List ℕ) → History → History
+stood i Reads values y = taking y values
+stood i (Changes m) values y = moved i (taking y values) m
+stood i (Writes m) values y = taking (moved i y m) values
 
--- The steps of a walk are ready from a history: as far as the walk comes each move may be made, where what others put
--- in before it is among `others`.
+stood_is : (i : Instance) (step : Step) (values : List (List ℕ)) (y : History)
+    → all_made (by_lists i) y (step_moves step true values) ≡ stood i step values y
+stood_is i Reads values y = taking_is i values y
+stood_is i (Changes m) values y = foreign_made i values (m ∷ []) y
+stood_is i (Writes m) values y = taking_is i values (moved i y m)
+
+-- it holds of the move of a step, with these values of others beside it
+abbrev IsStepReady : (History → Move → Type 0) → Step → List (List ℕ) → History → Type 0
+IsStepReady P Reads values y = Unit {0}
+IsStepReady P (Changes m) values y = P (taking y values) m
+IsStepReady P (Writes m) values y = P y m
+
+-- As far as a walk comes it holds of each move, where what others put in beside it is among `others`.
+abbrev pub ReadyFor : (History → Move → Type 0) → List (List ℕ) → Instance → (ℕ → Fate) → ℕ → List Step → History → Type 0
+ReadyFor P others i fates n [] y = Unit {0}
+ReadyFor P others i fates n (Reads ∷ steps) y =
+    AllByRecursion (Contains others) (fates n).brings → ReadyFor P others i fates (n + 1) steps (taking y (fates n).brings)
+ReadyFor P others i fates n (step ∷ steps) y =
+    AllByRecursion (Contains others) (fates n).brings → IsStepReady P step (fates n).brings y
+    × ReadyFor P others i fates (n + 1) steps (stood i step (fates n).brings y)
+
+-- The steps of a walk are ready from a history: as far as the walk comes each move may be made.
 abbrev pub Ready : List (List ℕ) → List (List ℕ) → List Batch → Instance → (ℕ → Fate) → ℕ → List Step → History → Type 0
-Ready all others asked i fates n [] y = Unit {0}
-Ready all others asked i fates n (Reads ∷ steps) y =
-    AllByRecursion (Contains others) (fates n).brings → Ready all others asked i fates (n + 1) steps (taking y (fates n).brings)
-Ready all others asked i fates n (Changes m ∷ steps) y =
-    AllByRecursion (Contains others) (fates n).brings → IsFine all others asked i (taking y (fates n).brings) m
-    × Ready all others asked i fates (n + 1) steps (moved i (taking y (fates n).brings) m)
-Ready all others asked i fates n (Writes m ∷ steps) y =
-    IsFine all others asked i y m × (AllByRecursion (Contains others) (fates n).brings
-    → Ready all others asked i fates (n + 1) steps (taking (moved i y m) (fates n).brings))
+Ready all others asked i = ReadyFor (IsFine all others asked i) others i
 
 -- the history at the end of a call that isn't broken off
 abbrev pub path_end : Instance → (ℕ → Fate) → ℕ → List Step → History → History
 path_end i fates n [] y = y
-path_end i fates n (Reads ∷ steps) y = path_end i fates (n + 1) steps (taking y (fates n).brings)
-path_end i fates n (Changes m ∷ steps) y = path_end i fates (n + 1) steps (moved i (taking y (fates n).brings) m)
-path_end i fates n (Writes m ∷ steps) y = path_end i fates (n + 1) steps (taking (moved i y m) (fates n).brings)
+path_end i fates n (step ∷ steps) y = path_end i fates (n + 1) steps (stood i step (fates n).brings y)
 
-reads_path : (i : Instance) (values : List (List ℕ)) (ends : End) (rest : Walked) (y end : History)
-    → (rest.broken ≡ None → all_made (by_lists i) (taking y values) rest.moves ≡ end)
-    → (let w : Walked = after_step Reads values ends rest in w.broken ≡ None → all_made (by_lists i) y w.moves ≡ end)
-reads_path i values Done rest y end h e = foreign_made i values rest.moves y ∙ h e
-reads_path i values (Fails fault made) rest y end h e = cc
-
-changes_path : (i : Instance) (values : List (List ℕ)) (ends : End) (m : Move) (rest : Walked) (y end : History)
-    → (rest.broken ≡ None → all_made (by_lists i) (moved i (taking y values) m) rest.moves ≡ end)
-    → (let w : Walked = after_step (Changes m) values ends rest in w.broken ≡ None → all_made (by_lists i) y w.moves ≡ end)
-changes_path i values Done m rest y end h e =
-    ap (all_made (by_lists i) y) (append_assoc (map Foreign values) (m ∷ []) rest.moves) ∙ foreign_made i values (m ∷ rest.moves) y ∙ h e
-changes_path i values (Fails fault made) m rest y end h e = cc
-
-writes_path : (i : Instance) (values : List (List ℕ)) (ends : End) (m : Move) (rest : Walked) (y end : History)
-    → (rest.broken ≡ None → all_made (by_lists i) (taking (moved i y m) values) rest.moves ≡ end)
-    → (let w : Walked = after_step (Writes m) values ends rest in w.broken ≡ None → all_made (by_lists i) y w.moves ≡ end)
-writes_path i values Done m rest y end h e = foreign_made i values rest.moves (moved i y m) ∙ h e
-writes_path i values (Fails fault made) m rest y end h e = cc
+path_step : (i : Instance) (step : Step) (values : List (List ℕ)) (ends : End) (rest : Walked) (y end : History)
+    → (rest.broken ≡ None → all_made (by_lists i) (stood i step values y) rest.moves ≡ end)
+    → (let w : Walked = after_step step values ends rest in w.broken ≡ None → all_made (by_lists i) y w.moves ≡ end)
+path_step i step values Done rest y end h e =
+    made-append (by_lists i) (step_moves step true values) rest.moves y
+    ∙ ap (λ z. all_made (by_lists i) z rest.moves) (stood_is i step values y) ∙ h e
+path_step i step values (Fails fault made) rest y end h e = cc
 
 pub path_is : (i : Instance) (fates : ℕ → Fate) (steps : List Step) (n : ℕ) (y : History) → (walk fates n steps).broken ≡ None
     → all_made (by_lists i) y (walk fates n steps).moves ≡ path_end i fates n steps y
 path_is i fates [] n y e = refl
-path_is i fates (Reads ∷ steps) n y e =
-    reads_path i (fates n).brings (fates n).ends (walk fates (n + 1) steps) y _
-    (path_is i fates steps (n + 1) (taking y (fates n).brings)) e
-path_is i fates (Changes m ∷ steps) n y e =
-    changes_path i (fates n).brings (fates n).ends m (walk fates (n + 1) steps) y _
-    (path_is i fates steps (n + 1) (moved i (taking y (fates n).brings) m)) e
-path_is i fates (Writes m ∷ steps) n y e =
-    writes_path i (fates n).brings (fates n).ends m (walk fates (n + 1) steps) y _
-    (path_is i fates steps (n + 1) (taking (moved i y m) (fates n).brings)) e
+path_is i fates (step ∷ steps) n y e =
+    path_step i step (fates n).brings (fates n).ends (walk fates (n + 1) steps) y _
+    (path_is i fates steps (n + 1) (stood i step (fates n).brings y)) e
+
+-- a step's own move is none of others'
+abbrev pub AreOwn : List Step → Type 0
+AreOwn steps = EachMove (λ moves. foreign_in moves ≡ []) steps
+
+foreign_of : (step : Step) (made : Bool) (values : List (List ℕ)) → AreOwn (step ∷ []) → foreign_in (step_moves step made values) ≡ values
+foreign_of Reads made values own = foreign_in-foreign values
+foreign_of (Changes m) true values own = foreign_in-first values (m ∷ []) ∙ ap (λ w. values ++ w) own.0 ∙ append-nil values
+foreign_of (Changes m) false values own = foreign_in-first values [] ∙ append-nil values
+foreign_of (Writes m) true values own =
+    foreign_in-append (m ∷ []) (map Foreign values) ∙ ap (λ w. w ++ foreign_in (map Foreign values)) own.0 ∙ foreign_in-foreign values
+foreign_of (Writes m) false values own = foreign_in-foreign values
+
+-- what others put in among moves is theirs
+module _ (others : List (List ℕ)) where
+  abbrev pub Outside : List Move → Type 0
+  Outside moves = AllByRecursion (Contains others) (foreign_in moves)
+
+  -- among first moves, and among those behind
+  outside_parts : (xs ys : List Move) → Outside (xs ++ ys) → Outside xs × Outside ys
+  outside_parts xs ys h =
+      let w = subst (AllByRecursion (Contains others)) (foreign_in-append xs ys) h in
+      (each_left (Contains others) (foreign_in xs) (foreign_in ys) w, each_right (Contains others) (foreign_in xs) (foreign_in ys) w)
+
+  pub front_outside : (values : List (List ℕ)) (moves : List Move) → Outside (map Foreign values ++ moves)
+      → AllByRecursion (Contains others) values × Outside moves
+  front_outside values moves h =
+      let o = outside_parts (map Foreign values) moves h in
+      (subst (AllByRecursion (Contains others)) (foreign_in-foreign values) o.0, o.1)
+
+-- what holds of each move of a walk
+module _ (P : History → Move → Type 0) (others : List (List ℕ)) (i : Instance)
+    (foreign : (y : History) (v : List ℕ) → Contains others v → P y (Foreign v)) where
+  each_foreign : (values : List (List ℕ)) (y : History) → AllByRecursion (Contains others) values → Each P i y (map Foreign values)
+  each_foreign [] y h = tt
+  each_foreign (v ∷ values) y h = (foreign y v h.0, each_foreign values (moved i y (Foreign v)) h.1)
+
+  each_then : (values : List (List ℕ)) (moves : List Move) (y : History) → AllByRecursion (Contains others) values
+      → Each P i (taking y values) moves → Each P i y (map Foreign values ++ moves)
+  each_then values moves y outside each =
+      each-made P i (map Foreign values) moves y (each_foreign values y outside)
+      (rw (taking_is i values y) each)
+
+  step_each : (step : Step) (made : Bool) (values : List (List ℕ)) (y : History) → AllByRecursion (Contains others) values
+      → IsStepReady P step values y → Each P i y (step_moves step made values)
+  step_each Reads made values y o f = each_foreign values y o
+  step_each (Changes m) true values y o f = each_then values (m ∷ []) y o (f, tt)
+  step_each (Changes m) false values y o f = each_then values [] y o tt
+  step_each (Writes m) true values y o f = (f, each_foreign values (moved i y m) o)
+  step_each (Writes m) false values y o f = each_foreign values y o
+
+  after_each : (step : Step) (values : List (List ℕ)) (ends : End) (rest : Walked) (y : History) → AreOwn (step ∷ [])
+      → Outside others (after_step step values ends rest).moves → (AllByRecursion (Contains others) values
+      → IsStepReady P step values y × (Outside others rest.moves → Each P i (stood i step values y) rest.moves))
+      → Each P i y (after_step step values ends rest).moves
+  after_each step values Done rest y own outside h =
+      let o = outside_parts others (step_moves step true values) rest.moves outside in
+      let v = subst (AllByRecursion (Contains others)) (foreign_of step true values own) o.0 in
+      each-made P i (step_moves step true values) rest.moves y (step_each step true values y v (h v).0)
+      (rw (stood_is i step values y) ((h v).1 o.1))
+  after_each step values (Fails fault made) rest y own outside h =
+      let v = subst (AllByRecursion (Contains others)) (foreign_of step made values own) outside in
+      step_each step made values y v (h v).0
+
+  pub walk_each : (fates : ℕ → Fate) (steps : List Step) (n : ℕ) (y : History) → AreOwn steps
+      → Outside others (walk fates n steps).moves → ReadyFor P others i fates n steps y → Each P i y (walk fates n steps).moves
+  walk_each fates [] n y own outside ready = tt
+  walk_each fates (Reads ∷ steps) n y own outside ready =
+      after_each Reads (fates n).brings (fates n).ends (walk fates (n + 1) steps) y tt outside
+      (λ o. (tt, λ later. walk_each fates steps (n + 1) (taking y (fates n).brings) own later (ready o)))
+  walk_each fates (Changes m ∷ steps) n y own outside ready =
+      after_each (Changes m) (fates n).brings (fates n).ends (walk fates (n + 1) steps) y (own.0, tt) outside
+      (λ o. ((ready o).0, λ later. walk_each fates steps (n + 1) _ own.1 later (ready o).1))
+  walk_each fates (Writes m ∷ steps) n y own outside ready =
+      after_each (Writes m) (fates n).brings (fates n).ends (walk fates (n + 1) steps) y (own.0, tt) outside
+      (λ o. ((ready o).0, λ later. walk_each fates steps (n + 1) _ own.1 later (ready o).1))
 
 module _ (meaning : Meaning) (key barrier : List ℕ) (all others : List (List ℕ)) (asked : List Batch) where
   abbrev I : Instance
@@ -84,106 +164,26 @@ module _ (meaning : Meaning) (key barrier : List ℕ) (all others : List (List �
 
   pub foreign_all : (values : List (List ℕ)) (y : History) → AllByRecursion (Contains others) values
       → AllFine all others asked I y (map Foreign values)
-  foreign_all [] y h = tt
-  foreign_all (v ∷ values) y h = (
-    foreign_fine meaning key barrier all others asked y v h.0,
-    foreign_all values (moved I y (Foreign v)) h.1,
-  )
+  foreign_all = each_foreign (IsFine all others asked I) others I (foreign_fine meaning key barrier all others asked)
 
   -- moves behind foreign values
   pub foreign_then : (values : List (List ℕ)) (moves : List Move) (y : History) → AllByRecursion (Contains others) values
       → AllFine all others asked I (taking y values) moves → AllFine all others asked I y (map Foreign values ++ moves)
-  foreign_then values moves y outside fine =
-      let P : History → Type 0 = λ x. AllFine all others asked I x moves in
-      fine-append I all others asked (map Foreign values) moves y (foreign_all values y outside) (subst P (sym (taking_is I values y)) fine)
-
-  -- what others put in among the moves of a step and of the rest
-  abbrev pub Outside : List Move → Type 0
-  Outside moves = AllByRecursion (Contains others) (foreign_in moves)
-
-  pub front_outside : (values : List (List ℕ)) (moves : List Move) → Outside (map Foreign values ++ moves)
-      → AllByRecursion (Contains others) values × Outside moves
-  front_outside values moves h =
-      let O : List (List ℕ) → Type 0 = AllByRecursion (Contains others) in
-      let w = subst O (foreign_in-first values moves) h in
-      (each_left (Contains others) values (foreign_in moves) w, each_right (Contains others) values (foreign_in moves) w)
-
-  reads_fine : (values : List (List ℕ)) (ends : End) (rest : Walked) (y : History) → Outside (after_step Reads values ends rest).moves
-      → (AllByRecursion (Contains others) values → Outside rest.moves → AllFine all others asked I (taking y values) rest.moves)
-      → AllFine all others asked I y (after_step Reads values ends rest).moves
-  reads_fine values Done rest y outside later =
-      let o = front_outside values rest.moves outside in
-      foreign_then values rest.moves y o.0 (later o.0 o.1)
-  reads_fine values (Fails fault made) rest y outside later =
-      foreign_all values y (subst (AllByRecursion (Contains others)) (foreign_in-foreign values) outside)
-
-  changes_fine : (values : List (List ℕ)) (ends : End) (m : Move) (rest : Walked) (y : History) → foreign_in (m ∷ []) ≡ []
-      → Outside (after_step (Changes m) values ends rest).moves →
-      (AllByRecursion (Contains others) values → IsFine all others asked I (taking y values) m × (Outside rest.moves → AllFine all others
-      asked I (moved I (taking y values) m) rest.moves)) → AllFine all others asked I y (after_step (Changes m) values ends rest).moves
-  changes_fine values Done m rest y own outside h =
-      let P : List Move → Type 0 = λ v. AllFine all others asked I y v in
-      let o = front_outside values (m ∷ rest.moves) (subst Outside (append_assoc (map Foreign values) (m ∷ []) rest.moves) outside) in
-      let later = subst (AllByRecursion (Contains others)) (foreign_in-append (m ∷ []) rest.moves
-      ∙ ap (λ w. w ++ foreign_in rest.moves) own) o.1 in
-      subst P (sym (append_assoc (map Foreign values) (m ∷ []) rest.moves))
-      (foreign_then values (m ∷ rest.moves) y o.0 ((h o.0).0, (h o.0).1 later))
-  changes_fine values (Fails fault true) m rest y own outside h =
-      let o = front_outside values (m ∷ []) outside in foreign_then values (m ∷ []) y o.0 ((h o.0).0, tt)
-  changes_fine values (Fails fault false) m rest y own outside h =
-      let o = front_outside values [] outside in foreign_then values [] y o.0 tt
-
-  writes_fine : (values : List (List ℕ)) (ends : End) (m : Move) (rest : Walked) (y : History) → foreign_in (m ∷ []) ≡ []
-      → Outside (after_step (Writes m) values ends rest).moves → IsFine all others asked I y m
-      →
-      (AllByRecursion (Contains others) values → Outside rest.moves → AllFine all others asked I (taking (moved I y m) values) rest.moves)
-      → AllFine all others asked I y (after_step (Writes m) values ends rest).moves
-  writes_fine values Done m rest y own outside fine later =
-      let w = subst (AllByRecursion (Contains others)) (foreign_in-append (m ∷ []) (map Foreign values ++ rest.moves)
-      ∙ ap (λ w. w ++ foreign_in (map Foreign values ++ rest.moves)) own) outside in
-      let o = front_outside values rest.moves w in
-      (fine, foreign_then values rest.moves (moved I y m) o.0 (later o.0 o.1))
-  writes_fine values (Fails fault true) m rest y own outside fine later =
-      let w = subst (AllByRecursion (Contains others)) (foreign_in-append (m ∷ []) (map Foreign values)
-      ∙ ap (λ w. w ++ foreign_in (map Foreign values)) own ∙ foreign_in-foreign values) outside in
-      (fine, foreign_all values (moved I y m) w)
-  writes_fine values (Fails fault false) m rest y own outside fine later =
-      foreign_all values y (subst (AllByRecursion (Contains others)) (foreign_in-foreign values) outside)
-
--- a step's own move is none of others'
-abbrev pub AreOwn : List Step → Type 0
-AreOwn [] = Unit {0}
-AreOwn (Reads ∷ steps) = AreOwn steps
-AreOwn (Changes m ∷ steps) = (foreign_in (m ∷ []) ≡ []) × AreOwn steps
-AreOwn (Writes m ∷ steps) = (foreign_in (m ∷ []) ≡ []) × AreOwn steps
+  foreign_then = each_then (IsFine all others asked I) others I (foreign_fine meaning key barrier all others asked)
 
 pub own_asked : (flag fresh : Bool) (b : Batch) → AreOwn (ask_steps Opt flag fresh b)
 own_asked true true b = (refl, tt)
-own_asked true false b = tt
 own_asked false true b = (refl, (refl, (refl, tt)))
-own_asked false false b = tt
+own_asked _ false b = tt
 
 pub own_checked : (flag lost : Bool) → AreOwn (checkpoint_steps Opt flag lost)
-own_checked true true = tt
 own_checked true false = (refl, tt)
-own_checked false lost = tt
+own_checked _ _ = tt
 
 pub walk_fine : (meaning : Meaning) (key barrier : List ℕ) (all others : List (List ℕ)) (asked : List Batch) (fates : ℕ → Fate)
     (steps : List Step) (n : ℕ) (y : History) → AreOwn steps → AllByRecursion (Contains others) (foreign_in (walk fates n steps).moves)
     → Ready all others asked (opt meaning key barrier) fates n steps y
     → AllFine all others asked (opt meaning key barrier) y (walk fates n steps).moves
-walk_fine meaning key barrier all others asked fates [] n y own outside ready = tt
-walk_fine meaning key barrier all others asked fates (Reads ∷ steps) n y own outside ready =
-    reads_fine meaning key barrier all others asked (fates n).brings (fates n).ends (walk fates (n + 1) steps) y outside
-    (λ o later. walk_fine meaning key barrier all others asked fates steps (n + 1) (taking y (fates n).brings) own later (ready o))
-walk_fine meaning key barrier all others asked fates (Changes m ∷ steps) n y own outside ready =
-    changes_fine meaning key barrier all others asked (fates n).brings (fates n).ends m (walk fates (n + 1) steps) y own.0 outside
-    (λ o. (
-      (ready o).0,
-      λ later. walk_fine meaning key barrier all others asked fates steps (n + 1)
-          (moved (opt meaning key barrier) (taking y (fates n).brings) m) own.1 later (ready o).1,
-    ))
-walk_fine meaning key barrier all others asked fates (Writes m ∷ steps) n y own outside ready =
-    writes_fine meaning key barrier all others asked (fates n).brings (fates n).ends m (walk fates (n + 1) steps) y own.0 outside ready.0
-    (λ o later. walk_fine meaning key barrier all others asked fates steps (n + 1)
-    (taking (moved (opt meaning key barrier) y m) (fates n).brings) own.1 later (ready.1 o))
+walk_fine meaning key barrier all others asked fates steps n y own outside ready =
+    walk_each (IsFine all others asked (opt meaning key barrier)) others (opt meaning key barrier)
+    (foreign_fine meaning key barrier all others asked) fates steps n y own outside ready

@@ -1,18 +1,21 @@
 -- Opt: what counts of the moves of a call is what the register shows of them.
-use Rattle.mm_call.proofs.Below.{ℕ, ◌≡◌, Bool, true, false, List, [], ◌∷◌, ◌++◌, map, refl, sym, ap, ◌∙◌, subst, append_assoc, inl, inr}
+use Rattle.mm_call.proofs.Below.{ℕ, ◌≡◌, Bool, true, false, List, [], ◌∷◌, ◌++◌, map, refl, sym, ap, ◌∙◌, append_assoc, inl, inr}
 use Rattle.mm_call.proofs.Below.{if◌then◌else◌, append-nil, map-append, Opt, zero_bytes, extended_message, Item, own_item, foreign_item}
 use Rattle.mm_call.proofs.Below.{item_values, Meaning, Batch, after, trail, guard, Instance, opt, Entry, Own, Value, History, Move, Commit}
 use Rattle.mm_call.proofs.Below.{Foreign, Placed, Reset, moved, committed, register_value_of, entry_values, moving_messages, move_messages}
-use Rattle.mm_call.proofs.Below.{Digests, made, committing, Reads, Changes, Writes, after-append, trail-append, values_of-append}
-use Rattle.mm_call.proofs.Below.{values_renamed, by_lists, by_digests, all_made, found_at, found_unless_wanting, is_fresh, End, Done, Fails}
-use Rattle.mm_call.proofs.Below.{Fate, Walked, after_step, walk, seen_at, shown, shown_by, counted_moves, from_reset, moves_messages}
-use Rattle.mm_call.proofs.Below.{foreign_in, foreign_items, standing_items, Tied, shows, OptTied, all_made-append, shown-append}
-use Rattle.mm_call.proofs.Below.{made-append, foreign_in-append, from_reset-foreign, messages-made, changing, asks, finished}
+use Rattle.mm_call.proofs.Below.{Digests, made, committing, Reads, after-append, trail-append, values_of-append}
+use Rattle.mm_call.proofs.Below.{values_renamed, by_lists, by_digests, all_made, found_at, found_unless_wanting, is_fresh}
+use Rattle.mm_call.proofs.Below.{Fate, walk, seen_at, shown, shown_by, counted_moves, from_reset, moves_messages}
+use Rattle.mm_call.proofs.Below.{foreign_in, foreign_items, Tied, shows, OptTied, all_made-append, shown-append}
+use Rattle.mm_call.proofs.Below.{made-append, foreign_in-append, from_reset-foreign, messages-made, changing, asks}
 use Rattle.mm_model.specs.Chains.{register_of}
 use Rattle.mm_call.specs.Tied.{nothing}
-use Rattle.mm_call.proofs.OptShapes.{Shape, still, reset, shape, opening}
+use Rattle.mm_call.proofs.OptShapes.{none_counted, Shape, still, reset, shape, opening}
 use Rattle.mm_call.proofs.OptShut.{bare, bare_digests}
-use Rattle.mm_call.proofs.OptLaw.{reset_messages}
+use Rattle.mm_call.proofs.OptLaw.{own_inside}
+use Rattle.mm_call.proofs.OptWalks.{AreOwn, Each, ReadyFor, walk_each}
+use Rattle.mm_call.proofs.Below.{each_self, renamed, Step, taking}
+use Rattle.mm_call.proofs.Going.{brought_digests}
 
 pub foreign_of-append : (xs ys : List Item) → foreign_items (xs ++ ys) ≡ foreign_items xs ++ foreign_items ys
 foreign_of-append [] ys = refl
@@ -70,238 +73,149 @@ module _ (meaning : Meaning) (key barrier : List ℕ) where
 
   pub foreign_messages : (y : History) (flag : Bool) (v : List ℕ) → moving_messages Opt flag I y (Foreign v)
       ≡ extended_message (register_value_of I y) v ∷ []
-  foreign_messages y true v = refl
-  foreign_messages y false v = refl
-
-  placed_messages : (y : History) (flag : Bool) (b : Batch) → moving_messages Opt flag I y (Placed b)
-      ≡ extended_message (register_value_of I y) (guard barrier b) ∷ []
-  placed_messages y true b = refl
-  placed_messages y false b = refl
+  foreign_messages y flag v = refl
 
   pushes_value : (y : History) (d : Digests) (v : List ℕ) → d.flag ≡ y.is_open → Pushes I y d (Foreign v ∷ []) (foreign_item v ∷ [])
   pushes_value y d v e = record {
-    messages = append-nil (move_messages I y (Foreign v)) ∙ foreign_messages y y.is_open v;
+    messages = append-nil (move_messages I y (Foreign v));
     values = refl;
     shown_are = λ items. refl;
     register = register_then barrier y.items (Value v) v refl;
     flag = e;
   }
 
-  pushes_values : (values : List (List ℕ)) (y : History) (d : Digests) → d.flag ≡ y.is_open
-      → Pushes I y d (map Foreign values) (map foreign_item values)
-  pushes_values [] y d e = pushes_none I y d e
-  pushes_values (v ∷ values) y d e =
-      pushes_then I y d (Foreign v ∷ []) (map Foreign values) (foreign_item v ∷ []) (map foreign_item values) (pushes_value y d v e)
-      (pushes_values values (moved I y (Foreign v)) (made I d (Foreign v)) e)
-
   -- a commit inside a segment
   pushes_commit : (y : History) (d : Digests) (b : Batch) → d.flag ≡ true → y.is_open ≡ true
       → Pushes I y d (Commit b ∷ []) (own_item (guard barrier b) ∷ [])
   pushes_commit y d b f e =
-      let lists : moved I y (Commit b) ≡ committed Opt true y b = ap (λ g. committed Opt g y b) e in
-      let digests : made I d (Commit b) ≡ committing Opt true I d b = ap (λ g. committing Opt g I d b) f in record {
-        messages = append-nil (move_messages I y (Commit b)) ∙ ap (λ g. moving_messages Opt g I y (Commit b)) e;
+      record {
+        messages = append-nil (move_messages I y (Commit b)) ∙ rw e refl;
         values = refl;
-        shown_are = λ items. ap (λ g. shown_by Opt g I (Commit b) items) f;
-        register = ap (register_value_of I) lists ∙ register_then barrier y.items (Own b) (guard barrier b) refl;
-        flag = ap (λ (x : Digests). x.flag) digests ∙ f ∙ sym e ∙ ap (λ (x : History). x.is_open) (sym lists);
+        shown_are = λ items. rw f refl;
+        register = rw e (register_then barrier y.items (Own b) (guard barrier b) refl);
+        flag = rw (f, e) refl;
       }
 
   -- the extension before a segment is opened
   pushes_placed : (y : History) (d : Digests) (b : Batch) → d.flag ≡ y.is_open
       → Pushes I y d (Placed b ∷ []) (own_item (guard barrier b) ∷ [])
   pushes_placed y d b e = record {
-    messages = append-nil (move_messages I y (Placed b)) ∙ placed_messages y y.is_open b;
+    messages = append-nil (move_messages I y (Placed b));
     values = refl;
     shown_are = λ items. refl;
     register = register_then barrier y.items (Value (guard barrier b)) (guard barrier b) refl;
     flag = e;
   }
 
-  -- that extension, and the commit that opens the segment
-  pushes_opening : (y : History) (d : Digests) (b : Batch) → d.flag ≡ false → y.is_open ≡ false
-      → Pushes I y d (Placed b ∷ Commit b ∷ []) (own_item (guard barrier b) ∷ [])
-  pushes_opening y d b f e =
-      let z : History = moved I y (Placed b) in
-      let lists : moved I z (Commit b) ≡ committed Opt false z b = ap (λ g. committed Opt g z b) e in
-      let placed = pushes_placed y d b (f ∙ sym e) in
-      let quiet : move_messages I z (Commit b) ≡ [] = ap (λ g. moving_messages Opt g I z (Commit b)) e in record {
-        messages = ap (λ w. move_messages I y (Placed b) ++ (w ++ [])) quiet ∙ placed.messages;
+  -- the commit that opens the segment, behind that extension
+  pushes_opening : (y : History) (d : Digests) (front : List Entry) (b : Batch) → d.flag ≡ false → y.is_open ≡ false
+      → y.items ≡ front ++ Value (guard barrier b) ∷ [] → Pushes I y d (Commit b ∷ []) []
+  pushes_opening y d front b f e is =
+      let lists : moved I y (Commit b) ≡ committed Opt false y b = ap (λ g. committed Opt g y b) e in record {
+        messages = append-nil (move_messages I y (Commit b)) ∙ ap (λ g. moving_messages Opt g I y (Commit b)) e;
         values = refl;
-        shown_are = λ items. ap (λ g. shown_by Opt g I (Commit b) (items ++ own_item (guard barrier b) ∷ [])) f;
-        register = ap (register_value_of I) lists ∙ ap register_of (values_renamed barrier y.items b) ∙ placed.register;
-        flag = ap (λ g. (committing Opt g I (made I d (Placed b)) b).flag) f ∙ ap (λ (x : History). x.is_open) (sym lists);
+        shown_are = λ items. ap (λ g. shown_by Opt g I (Commit b) items) f ∙ sym (append-nil items);
+        register = ap (register_value_of I) lists ∙ ap (λ v. register_of (entry_values barrier (renamed v b))) is
+            ∙ ap register_of (values_renamed barrier front b) ∙ ap (λ v. register_of (entry_values barrier v)) (sym is);
+        flag = ap (λ g. (committing Opt g I d b).flag) f ∙ ap (λ (x : History). x.is_open) (sym lists);
       }
+
+  -- The moves that push something, or rename it: a commit is one inside a segment, or behind its own extension.
+  abbrev IsPushing : Bool → History → Move → Type 0
+  IsPushing flag y (Foreign v) = Unit {0}
+  IsPushing flag y (Placed b) = Unit {0}
+  IsPushing true y (Commit b) = Unit {0}
+  IsPushing false y (Commit b) = (front : List Entry) × (y.items ≡ front ++ Value (guard barrier b) ∷ [])
+  IsPushing _ y _ = ⊥
+
+  abbrev MayPush : History → Move → Type 0
+  MayPush y m = IsPushing y.is_open y m
 
   -- what some moves push
   record Pushed (y : History) (d : Digests) (moves : List Move) : Type 0 where
     more : List Item
     pushes : Pushes I y d moves more
 
-  values_pushed : (values : List (List ℕ)) (y : History) (d : Digests) → d.flag ≡ y.is_open → Pushed y d (map Foreign values)
-  values_pushed values y d e = record { more = map foreign_item values; pushes = pushes_values values y d e }
+  pushed_one : (flag : Bool) (y : History) (d : Digests) (m : Move) → y.is_open ≡ flag → d.flag ≡ flag → IsPushing flag y m
+      → Pushed y d (m ∷ [])
+  pushed_one flag y d (Foreign v) e f p = record { more = foreign_item v ∷ []; pushes = pushes_value y d v (f ∙ sym e) }
+  pushed_one flag y d (Placed b) e f p = record { more = own_item (guard barrier b) ∷ []; pushes = pushes_placed y d b (f ∙ sym e) }
+  pushed_one true y d (Commit b) e f p = record { more = own_item (guard barrier b) ∷ []; pushes = pushes_commit y d b f e }
+  pushed_one false y d (Commit b) e f p = record { more = []; pushes = pushes_opening y d p.0 b f e p.1 }
+  pushed_one _ y d _ e f p = absurd p
 
-  pushed_then : (y : History) (d : Digests) (xs ys : List Move) → (p : Pushed y d xs)
-      → Pushed (all_made (by_lists I) y xs) (all_made (by_digests I) d xs) ys → Pushed y d (xs ++ ys)
-  pushed_then y d xs ys p q = record { more = p.more ++ q.more; pushes = pushes_then I y d xs ys p.more q.more p.pushes q.pushes }
+  pushed_each : (moves : List Move) (y : History) (d : Digests) → d.flag ≡ y.is_open → Each MayPush I y moves → Pushed y d moves
+  pushed_each [] y d e each = record { more = []; pushes = pushes_none I y d e }
+  pushed_each (m ∷ moves) y d e each =
+      let p = pushed_one y.is_open y d m refl e each.0 in
+      let q = pushed_each moves (moved I y m) (made I d m) p.pushes.flag each.1 in
+      record { more = p.more ++ q.more; pushes = pushes_then I y d (m ∷ []) moves p.more q.more p.pushes q.pushes }
 
-  still_open : (values : List (List ℕ)) (y : History) → (all_made (by_lists I) y (map Foreign values)).is_open ≡ y.is_open
-  still_open [] y = refl
-  still_open (v ∷ values) y = still_open values (moved I y (Foreign v))
+  -- a walk whose steps push
+  walk_pushed : (fates : ℕ → Fate) (n : ℕ) (steps : List Step) (y : History) (d : Digests) → d.flag ≡ y.is_open → AreOwn steps
+      → ReadyFor MayPush (foreign_in (walk fates n steps).moves) I fates n steps y → Pushed y d (walk fates n steps).moves
+  walk_pushed fates n steps y d e own ready =
+      let moves : List Move = (walk fates n steps).moves in
+      pushed_each moves y d e
+      (walk_each MayPush (foreign_in moves) I (λ x v c. tt) fates steps n y own (each_self [] (foreign_in moves)) ready)
 
-  still_flag : (values : List (List ℕ)) (d : Digests) → (all_made (by_digests I) d (map Foreign values)).flag ≡ d.flag
-  still_flag [] d = refl
-  still_flag (v ∷ values) d = still_flag values (made I d (Foreign v))
+  -- behind two reading steps inside a segment, and behind a reset with none open
+  inside_ready : (others : List (List ℕ)) (fates : ℕ → Fate) (fresh : Bool) (b : Batch) (y : History) → y.is_open ≡ true
+      → ReadyFor MayPush others I fates 3 (changing true fresh b) y
+  inside_ready others fates true b y e = λ o. (rw e tt, tt)
+  inside_ready others fates false b y e = tt
 
-  -- a reading step, and what follows
-  reads_pushed : (values : List (List ℕ)) (ends : End) (rest : Walked) (y : History) (d : Digests) → d.flag ≡ y.is_open
-      → Pushed (all_made (by_lists I) y (map Foreign values)) (all_made (by_digests I) d (map Foreign values)) rest.moves
-      → Pushed y d (after_step Reads values ends rest).moves
-  reads_pushed values Done rest y d e p = pushed_then y d (map Foreign values) rest.moves (values_pushed values y d e) p
-  reads_pushed values (Fails fault made) rest y d e p = values_pushed values y d e
+  opening_ready : (others : List (List ℕ)) (fates : ℕ → Fate) (b : Batch) (y : History) → y.is_open ≡ false
+      → ReadyFor MayPush others I fates 4 (opening b) y
+  opening_ready others fates b y e =
+      λ o. (tt, λ p. (rw e ((taking y (fates 4).brings).items, refl), tt))
 
-  -- the step that commits inside a segment
-  commit_made : (values : List (List ℕ)) (b : Batch) (y : History) (d : Digests) → d.flag ≡ true → y.is_open ≡ true
-      → Pushed y d (map Foreign values ++ Commit b ∷ [])
-  commit_made values b y d f e =
-      pushed_then y d (map Foreign values) (Commit b ∷ []) (values_pushed values y d (f ∙ sym e))
-      (record {
-        more = own_item (guard barrier b) ∷ [];
-        pushes = pushes_commit (all_made (by_lists I) y (map Foreign values)) (all_made (by_digests I) d (map Foreign values)) b
-            (still_flag values d ∙ f) (still_open values y ∙ e);
-      })
-
-  commit_pushed : (values : List (List ℕ)) (ends : End) (b : Batch) (y : History) (d : Digests) → d.flag ≡ true → y.is_open ≡ true
-      → Pushed y d (after_step (Changes (Commit b)) values ends finished).moves
-  commit_pushed values Done b y d f e =
-      subst (Pushed y d) (sym (append-nil (map Foreign values ++ Commit b ∷ []))) (commit_made values b y d f e)
-  commit_pushed values (Fails fault true) b y d f e = commit_made values b y d f e
-  commit_pushed values (Fails fault false) b y d f e =
-      subst (Pushed y d) (sym (append-nil (map Foreign values))) (values_pushed values y d (f ∙ sym e))
-
-  third_pushed : (fates : ℕ → Fate) (fresh : Bool) (b : Batch) (y : History) (d : Digests) → d.flag ≡ true → y.is_open ≡ true
-      → Pushed y d (walk fates 3 (changing true fresh b)).moves
-  third_pushed fates false b y d f e = record { more = []; pushes = pushes_none I y d (f ∙ sym e) }
-  third_pushed fates true b y d f e = commit_pushed (fates 3).brings (fates 3).ends b y d f e
-
-  -- a call inside a segment
-  inside_pushed : (fates : ℕ → Fate) (fresh : Bool) (b : Batch) (y : History) (d : Digests) → d.flag ≡ true → y.is_open ≡ true
-      → Pushed y d (walk fates 1 (Reads ∷ Reads ∷ changing true fresh b)).moves
-  inside_pushed fates fresh b y d f e =
-      let v = (fates 1).brings in
-      let w = (fates 2).brings in
-      let y1 : History = all_made (by_lists I) y (map Foreign v) in
-      let d1 : Digests = all_made (by_digests I) d (map Foreign v) in
-      let f1 = still_flag v d ∙ f in
-      let e1 = still_open v y ∙ e in
-      reads_pushed v (fates 1).ends (walk fates 2 (Reads ∷ changing true fresh b)) y d (f ∙ sym e)
-      (reads_pushed w (fates 2).ends (walk fates 3 (changing true fresh b)) y1 d1 (f1 ∙ sym e1)
-      (third_pushed fates fresh b (all_made (by_lists I) y1 (map Foreign w)) (all_made (by_digests I) d1 (map Foreign w))
-      (still_flag w d1 ∙ f1) (still_open w y1 ∙ e1)))
-
-  -- the placing step and the write that opens a segment, by how they end
-  write_made : (values : List (List ℕ)) (b : Batch) (y : History) (d : Digests) → d.flag ≡ false → y.is_open ≡ false
-      → Pushed y d (Placed b ∷ Commit b ∷ map Foreign values)
-  write_made values b y d f e =
-      let p = pushes_opening y d b f e in
-      pushed_then y d (Placed b ∷ Commit b ∷ []) (map Foreign values) (record { more = own_item (guard barrier b) ∷ []; pushes = p })
-      (values_pushed values (all_made (by_lists I) y (Placed b ∷ Commit b ∷ [])) (all_made (by_digests I) d (Placed b ∷ Commit b ∷ []))
-      p.flag)
-
-  write_pushed : (values : List (List ℕ)) (ends : End) (b : Batch) (y : History) (d : Digests) → d.flag ≡ false → y.is_open ≡ false
-      → Pushed y d (Placed b ∷ (after_step (Writes (Commit b)) values ends finished).moves)
-  write_pushed values Done b y d f e =
-      subst (λ m. Pushed y d (Placed b ∷ m)) (sym (append-nil (Commit b ∷ map Foreign values))) (write_made values b y d f e)
-  write_pushed values (Fails fault true) b y d f e = write_made values b y d f e
-  write_pushed values (Fails fault false) b y d f e =
-      let p = pushes_placed y d b (f ∙ sym e) in
-      pushed_then y d (Placed b ∷ []) (map Foreign values) (record { more = own_item (guard barrier b) ∷ []; pushes = p })
-      (values_pushed values (moved I y (Placed b)) (made I d (Placed b)) p.flag)
-
-  placing_pushed : (values : List (List ℕ)) (ends : End) (later : List (List ℕ)) (last : End) (b : Batch) (y : History) (d : Digests)
-      → d.flag ≡ false → y.is_open ≡ false
-      → Pushed y d (after_step (Changes (Placed b)) values ends (after_step (Writes (Commit b)) later last finished)).moves
-  placing_pushed values Done later last b y d f e =
-      let rest : List Move = (after_step (Writes (Commit b)) later last finished).moves in
-      subst (Pushed y d) (sym (append_assoc (map Foreign values) (Placed b ∷ []) rest))
-      (pushed_then y d (map Foreign values) (Placed b ∷ rest) (values_pushed values y d (f ∙ sym e))
-      (write_pushed later last b (all_made (by_lists I) y (map Foreign values)) (all_made (by_digests I) d (map Foreign values))
-      (still_flag values d ∙ f) (still_open values y ∙ e)))
-  placing_pushed values (Fails fault true) later last b y d f e =
-      let y1 : History = all_made (by_lists I) y (map Foreign values) in
-      let d1 : Digests = all_made (by_digests I) d (map Foreign values) in
-      pushed_then y d (map Foreign values) (Placed b ∷ []) (values_pushed values y d (f ∙ sym e))
-      (record {
-        more = own_item (guard barrier b) ∷ [];
-        pushes = pushes_placed y1 d1 b (still_flag values d ∙ f ∙ sym (still_open values y ∙ e));
-      })
-  placing_pushed values (Fails fault false) later last b y d f e =
-      subst (Pushed y d) (sym (append-nil (map Foreign values))) (values_pushed values y d (f ∙ sym e))
-
-  -- behind a reset
-  rest_pushed : (fates : ℕ → Fate) (b : Batch) (y : History) (d : Digests) (rest : List Move) → d.flag ≡ false → y.is_open ≡ false
-      → (rest ≡ (walk fates 4 (opening b)).moves) → Pushed y d rest
-  rest_pushed fates b y d rest f e is =
-      subst (Pushed y d) (sym is) (placing_pushed (fates 4).brings (fates 4).ends (fates 5).brings (fates 5).ends b y d f e)
+  -- what counts of a history
+  abbrev part : Bool → History → History
+  part g y = record y { items = if g then y.items else [] }
 
   inside_tied : (y : History) (d : Digests) (moves : List Move) → y.is_open ≡ true → Pushed y d moves → Tied I y d moves
   inside_tied y d moves e p =
-      let M : Bool → List (List ℕ) = λ g. moves_messages I (record y { items = if g then y.items else [] }) (counted_moves g moves) in
-      let T : Bool → List (List ℕ) = λ g. trail extended_message (register_value_of I (record y { items = if g then y.items else [] }))
-      (item_values p.more) in
-      shows p.more
-      (record {
-        messages = ap M e ∙ p.pushes.messages ∙ ap T (sym e);
-        values = ap (λ g. foreign_in (counted_moves g moves)) e ∙ p.pushes.values;
-      }) (λ items. p.pushes.shown_are items ∙ ap (λ g. standing_items g items ++ p.more) (sym e))
-
-  still_bare : (values : List (List ℕ)) (d : Digests) → bare_digests (all_made (by_digests I) d (map Foreign values)) ≡ bare_digests d
-  still_bare [] d = refl
-  still_bare (v ∷ values) d = still_bare values (made I d (Foreign v))
+      shows p.more (record {
+        messages = ap (λ g. moves_messages I (part g y) (counted_moves g moves)) e ∙ p.pushes.messages
+            ∙ ap (λ g. trail extended_message (register_value_of I (part g y)) (item_values p.more)) (sym e);
+        values = rw e p.pushes.values;
+      }) (λ items. rw e (p.pushes.shown_are items))
 
   reset_tied : (y : History) (d : Digests) (values : List (List ℕ)) (rest : List Move) → y.is_open ≡ false
       → Pushed (bare y) (bare_digests d) rest → Tied I y d (map Foreign values ++ Reset ∷ rest)
   reset_tied y d values rest e p =
       let moves : List Move = map Foreign values ++ Reset ∷ rest in
       let begins : from_reset moves ≡ Reset ∷ rest = from_reset-foreign values (Reset ∷ rest) in
-      let M : Bool → List (List ℕ) = λ g. moves_messages I (record y { items = if g then y.items else [] }) (counted_moves g moves) in
-      let T : Bool → List (List ℕ) = λ g. trail extended_message (register_value_of I (record y { items = if g then y.items else [] }))
-      (item_values p.more) in
-      let quiet : move_messages I (bare y) Reset ≡ [] = reset_messages meaning key barrier (bare y) y.is_open in
       shows p.more
       (record {
-        messages = ap M e ∙ ap (moves_messages I (bare y)) begins ∙ ap (λ w. w ++ moves_messages I (bare y) rest) quiet ∙ p.pushes.messages
-            ∙ ap T (sym e);
-        values = ap (λ g. foreign_in (counted_moves g moves)) e ∙ ap foreign_in begins ∙ p.pushes.values;
-      }) (λ items. shown-append I d (map Foreign values) (Reset ∷ rest) items
-      ∙ ap (λ (x : Digests). shown I (bare_digests x) rest []) (still_bare values d)
-      ∙ p.pushes.shown_are [] ∙ ap (λ g. standing_items g items ++ p.more) (sym e))
-
-  none_tied : (y : History) (d : Digests) (values : List (List ℕ)) → y.is_open ≡ false → Tied I y d (map Foreign values)
-  none_tied y d values e =
-      let none : from_reset (map Foreign values) ≡ [] = ap from_reset (sym (append-nil (map Foreign values)))
-      ∙ from_reset-foreign values [] in
-      nothing (ap (λ g. counted_moves g (map Foreign values)) e ∙ none)
+        messages = ap (λ g. moves_messages I (part g y) (counted_moves g moves)) e ∙ ap (moves_messages I (bare y)) begins
+            ∙ p.pushes.messages ∙ ap (λ g. trail extended_message (register_value_of I (part g y)) (item_values p.more)) (sym e);
+        values = rw e (ap foreign_in begins ∙ p.pushes.values);
+      }) (λ items. rw e (shown-append I d (map Foreign values) (Reset ∷ rest) items
+      ∙ ap (λ (x : Digests). shown I (bare_digests x) rest []) (ap bare_digests (brought_digests I d values)) ∙ p.pushes.shown_are []))
 
   shut_tied : (y : History) (d : Digests) (fates : ℕ → Fate) (fresh : Bool) (b : Batch) (moves : List Move) → d.flag ≡ false
       → y.is_open ≡ false → Shape fates fresh b moves → Tied I y d moves
-  shut_tied y d fates fresh b moves f e (still values is) = subst (Tied I y d) (sym is) (none_tied y d values e)
+  shut_tied y d fates fresh b moves f e (still values is) = nothing (none_counted y values moves e is)
   shut_tied y d fates fresh b moves f e (reset values rest is k) =
       let p : Pushed (bare y) (bare_digests d) rest = elim k [
-        | inl none ↦ subst (Pushed (bare y) (bare_digests d)) (sym none)
-            (record { more = []; pushes = pushes_none I (bare y) (bare_digests d) (f ∙ sym e) })
-        | inr more ↦ rest_pushed fates b (bare y) (bare_digests d) rest f e more.1
+        | inl none ↦ rw none (record { more = []; pushes = pushes_none I (bare y) (bare_digests d) (f ∙ sym e) })
+        | inr more ↦ rw more.1 (walk_pushed fates 4 (opening b) (bare y) (bare_digests d)
+            (f ∙ sym e) (refl, (refl, tt)) (opening_ready _ fates b (bare y) e))
       ] in
-      subst (Tied I y d) (sym is) (reset_tied y d values rest e p)
+      rw is (reset_tied y d values rest e p)
 
   tied_by : (flag : Bool) (y : History) (d : Digests) (fates : ℕ → Fate) (fresh : Bool) (b : Batch) → y.is_open ≡ flag → d.flag ≡ flag
       → Tied I y d (walk fates 1 (Reads ∷ Reads ∷ changing flag fresh b)).moves
-  tied_by true y d fates fresh b e f = inside_tied y d _ e (inside_pushed fates fresh b y d f e)
+  tied_by true y d fates fresh b e f =
+      inside_tied y d _ e (walk_pushed fates 1 (Reads ∷ Reads ∷ changing true fresh b) y d (f ∙ sym e) (own_inside fresh b)
+      (λ o p. inside_ready _ fates fresh b (taking (taking y (fates 1).brings) (fates 2).brings) e))
   tied_by false y d fates fresh b e f = shut_tied y d fates fresh b _ f e (shape fates fresh b)
 
 pub opt_tied : OptTied
 opt_tied meaning key barrier y d c offer b f =
     let i = opt meaning key barrier in
     let fresh : Bool = is_fresh (found_unless_wanting (found_at i (by_digests i) (seen_at i (by_digests i) d c) b offer) c.lacks) in
-    subst (λ s. Tied i y d (walk c.fates 1 s).moves) (sym (asks d.flag fresh b ∙ ap (λ g. Reads ∷ Reads ∷ changing g fresh b) f))
+    rw (asks d.flag fresh b ∙ ap (λ g. Reads ∷ Reads ∷ changing g fresh b) f)
     (tied_by meaning key barrier y.is_open y d c.fates fresh b refl f)

@@ -1,11 +1,7 @@
 -- What holds of each move of a walk holds of all of them: so a call closes no segment, and a checkpoint commits nothing.
-use Rattle.std.proofs.Common.{ℕ, ◌≡◌, ◌+◌, Bool, true, false, List, [], ◌∷◌, ◌++◌, map, refl, ap, ◌∙◌}
-use Rattle.mm_digest.specs.declared.variant.Variant.{Variant}
-use Rattle.mm_digest.specs.declared.variant.Variant.TheVariants.{Basic, Opt}
-use Rattle.mm_module.specs.Batch.{Batch}
-use Rattle.mm_model.specs.Instance.{Instance}
-use Rattle.mm_model.specs.History.{History, Move, Commit, Foreign, Placed, Reset, Close, Power, moved, committed}
-use Rattle.mm_model.specs.Steps.{Step, Reads, Changes, Writes, checkpoint_steps}
+use Rattle.mm_call.specs.Below.{◌+◌, map, refl, ap, ◌∙◌, Variant, Basic, Opt, Batch, History, Move, Commit, Foreign, Close, moved}
+use Rattle.mm_call.specs.Below.{committed, Instance, Step, Reads, Changes, Writes, checkpoint_steps}
+use Rattle.std.proofs.Common.{ℕ, ◌≡◌, Bool, true, false, List, [], ◌∷◌, ◌++◌}
 use Rattle.mm_call.specs.Levels.{by_lists, all_made}
 use Rattle.mm_call.specs.Called.{reading_steps}
 use Rattle.mm_call.specs.Courses.{End, Done, Fails, Fate, Walked, step_moves, after_step, walk, closes}
@@ -65,10 +61,9 @@ reading_none Basic fates = walk_along CommitsNone none_along fates 1 (reading_st
 reading_none Opt fates = walk_along CommitsNone none_along fates 1 (reading_steps Opt) tt
 
 checkpoint_each : (variant : Variant) (is_open lost : Bool) → EachMove CommitsNone (checkpoint_steps variant is_open lost)
-checkpoint_each Basic is_open lost = tt
-checkpoint_each Opt false lost = tt
-checkpoint_each Opt true true = tt
 checkpoint_each Opt true false = (refl, tt)
+checkpoint_each Opt _ _ = tt
+checkpoint_each Basic is_open lost = tt
 
 pub checkpoint_none : (variant : Variant) (is_open lost : Bool) (fates : ℕ → Fate)
     → committed_in (walk fates 1 (checkpoint_steps variant is_open lost)).moves ≡ []
@@ -79,12 +74,8 @@ checkpoint_none variant is_open lost fates =
 
 pub closes-append : (xs ys : List Move) → closes xs ≡ false → closes (xs ++ ys) ≡ closes ys
 closes-append [] ys e = refl
-closes-append (Commit b ∷ xs) ys e = closes-append xs ys e
-closes-append (Foreign v ∷ xs) ys e = closes-append xs ys e
-closes-append (Placed b ∷ xs) ys e = closes-append xs ys e
-closes-append (Reset ∷ xs) ys e = closes-append xs ys e
 closes-append (Close ∷ xs) ys e = cc
-closes-append (Power ∷ xs) ys e = closes-append xs ys e
+closes-append (_ ∷ xs) ys e = closes-append xs ys e
 
 pub closes-foreign : (values : List (List ℕ)) → closes (map Foreign values) ≡ false
 closes-foreign [] = refl
@@ -102,8 +93,7 @@ shut_along = record { more = λ xs ys e f. closes-append xs ys e ∙ f; others =
 changing_each : (flag fresh : Bool) (b : Batch) → EachMove ClosesNone (changing flag fresh b)
 changing_each true true b = (refl, tt)
 changing_each false true b = (refl, (refl, (refl, tt)))
-changing_each true false b = tt
-changing_each false false b = tt
+changing_each _ false b = tt
 
 -- a call closes no segment
 pub opt_closes : (fates : ℕ → Fate) (flag fresh : Bool) (b : Batch) → closes (walk fates 1 (Reads ∷ Reads ∷ changing flag fresh b)).moves
@@ -112,17 +102,13 @@ opt_closes fates flag fresh b =
     walk_along ClosesNone shut_along fates 1 (Reads ∷ Reads ∷ changing flag fresh b) (changing_each flag fresh b)
 
 pub commit_keeps : (variant : Variant) (flag : Bool) (y : History) (b : Batch) → (committed variant flag y b).closed ≡ y.closed
-commit_keeps Basic flag y b = refl
 commit_keeps Opt true y b = refl
-commit_keeps Opt false y b = refl
+commit_keeps _ _ y b = refl
 
 -- where no segment is closed the closed ones are as before
 pub closed_kept : (i : Instance) (moves : List Move) (y : History) → closes moves ≡ false
     → (all_made (by_lists i) y moves).closed ≡ y.closed
 closed_kept i [] y e = refl
 closed_kept i (Commit b ∷ moves) y e = closed_kept i moves (moved i y (Commit b)) e ∙ commit_keeps i.variant y.is_open y b
-closed_kept i (Foreign v ∷ moves) y e = closed_kept i moves (moved i y (Foreign v)) e
-closed_kept i (Placed b ∷ moves) y e = closed_kept i moves (moved i y (Placed b)) e
-closed_kept i (Reset ∷ moves) y e = closed_kept i moves (moved i y Reset) e
 closed_kept i (Close ∷ moves) y e = cc
-closed_kept i (Power ∷ moves) y e = closed_kept i moves (moved i y Power) e
+closed_kept i (m ∷ moves) y e = closed_kept i moves (moved i y m) e

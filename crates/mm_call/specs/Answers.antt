@@ -1,14 +1,7 @@
 -- What a call answers: by what was offered, and by what stands at the end.
-use Rattle.std.specs.Prelude.{ℕ, ◌+◌, ◌-◌, Bool, List, drop}
-use Rattle.mm_module.specs.Meaning.{Meaning, outputs_from}
-use Rattle.mm_module.specs.MeaningWords.{state_from}
-use Rattle.mm_module.specs.Batch.{Batch, members_of, size_of}
-use Rattle.mm_seal.specs.declared.snapshot.Place.{Place}
-use Rattle.mm_seal.specs.Snapshot.{Content, sealed_of}
-use Rattle.mm_model.specs.Instance.{Instance}
-use Rattle.mm_model.specs.History.{History, requests_of, total_of}
-use Rattle.mm_model.specs.Places.{issued}
-use Rattle.mm_model.specs.declared.answer.BatchAnswer.{BatchAnswer}
+use Rattle.mm_call.specs.Below.{ℕ, ◌-◌, Bool, List, drop, Content, sealed_of, Place, Batch, members_of, size_of, Meaning, outputs_from}
+use Rattle.mm_call.specs.Below.{state_from, History, requests_of, total_of, Instance, issued, BatchAnswer}
+use Rattle.std.specs.Prelude.{◌+◌}
 
 -- what the new snapshot says, at this place: the batch was run from the offered state
 abbrev pub content_at : Meaning → Content → Place → Batch → Content

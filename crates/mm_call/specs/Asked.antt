@@ -1,18 +1,8 @@
 -- What is asked of a history and of the moves of a call, that the call be by digests what it is by
 -- lists.
-use Rattle.std.specs.Prelude.{◌≡◌, ℕ, Bool, true, false, List, [], ◌∷◌, ◌++◌, Option, None, Some, if◌then◌else◌}
-use Rattle.std.specs.Option.{option_map_or}
-use Rattle.std.specs.List.{AllByRecursion, Contains}
-use Rattle.mm_digest.specs.declared.variant.Variant.{Variant}
-use Rattle.mm_digest.specs.declared.variant.Variant.TheVariants.{Basic, Opt}
-use Rattle.mm_module.specs.Batch.{Batch}
-use Rattle.mm_seal.specs.Snapshot.{Content}
-use Rattle.mm_model.specs.Instance.{Instance}
-use Rattle.mm_model.specs.History.{History, Move, Commit, Foreign, Placed, Reset, Close, Power, moved}
-use Rattle.mm_model.specs.Sound.{IsSound}
-use Rattle.mm_model.specs.Moves.{IsOutside}
-use Rattle.mm_model.specs.Messages.{Within, IsClear, AreNoGuards, history_messages, moving_messages, offer_messages}
-use Rattle.mm_model.specs.Standing.{IsGenuine}
+use Rattle.mm_call.specs.Below.{AllByRecursion, Contains, option_map_or, ◌≡◌, ℕ, Bool, true, false, List, [], ◌∷◌, ◌++◌, Option}
+use Rattle.mm_call.specs.Below.{if◌then◌else◌, Variant, Basic, Opt, Content, Batch, History, Move, Foreign, Reset, moved, Instance, Within}
+use Rattle.mm_call.specs.Below.{IsClear, AreNoGuards, history_messages, moving_messages, offer_messages, IsOutside, IsSound, IsGenuine}
 use Rattle.mm_call.specs.Found.{right_content}
 
 -- a history of Basic, which has no segments
@@ -34,11 +24,7 @@ counted_part y = record y { items = if y.is_open then y.items else [] }
 abbrev pub from_reset : List Move → List Move
 from_reset [] = []
 from_reset (Reset ∷ moves) = Reset ∷ moves
-from_reset (Commit b ∷ moves) = from_reset moves
-from_reset (Foreign v ∷ moves) = from_reset moves
-from_reset (Placed b ∷ moves) = from_reset moves
-from_reset (Close ∷ moves) = from_reset moves
-from_reset (Power ∷ moves) = from_reset moves
+from_reset (_ ∷ moves) = from_reset moves
 
 -- what counts of the moves of a call: by whether a segment is open when it begins
 abbrev pub counted_moves : Bool → List Move → List Move
@@ -55,11 +41,7 @@ moves_messages i y (m ∷ moves) =
 abbrev pub foreign_in : List Move → List (List ℕ)
 foreign_in [] = []
 foreign_in (Foreign v ∷ moves) = v ∷ foreign_in moves
-foreign_in (Commit b ∷ moves) = foreign_in moves
-foreign_in (Placed b ∷ moves) = foreign_in moves
-foreign_in (Reset ∷ moves) = foreign_in moves
-foreign_in (Close ∷ moves) = foreign_in moves
-foreign_in (Power ∷ moves) = foreign_in moves
+foreign_in (_ ∷ moves) = foreign_in moves
 
 -- the messages of what is asked of a right offer
 abbrev pub right_messages : Instance → Batch → Option Content → List (List ℕ)

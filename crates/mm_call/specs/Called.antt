@@ -1,17 +1,7 @@
 -- What a call comes to on a course, by either level.
-use Rattle.std.specs.Prelude.{ℕ, true, false, List, [], ◌∷◌, Option, None, Some, Result, Ok, Err, fold, if◌then◌else◌}
-use Rattle.std.specs.Option.{option_map_or}
-use Rattle.std.specs.Result.{result_ok, result_and}
-use Rattle.mm_digest.specs.declared.variant.Variant.{Variant}
-use Rattle.mm_digest.specs.declared.variant.Variant.TheVariants.{Basic, Opt}
-use Rattle.mm_platform.specs.declared.fault.StepFault.{StepFault}
-use Rattle.mm_module.specs.Batch.{Batch}
-use Rattle.mm_model.specs.Instance.{Instance}
-use Rattle.mm_model.specs.History.{Move}
-use Rattle.mm_model.specs.Steps.{Step, Reads, ask_steps}
-use Rattle.mm_model.specs.declared.answer.BatchAnswer.{BatchAnswer}
-use Rattle.mm_model.specs.declared.refusal.Refusal.{Refusal}
-use Rattle.mm_model.specs.declared.refusal.Refusal.TheVariants.{Device, Memory}
+use Rattle.mm_call.specs.Below.{option_map_or, ℕ, true, false, List, [], ◌∷◌, Option, None, Some, Result, Ok, Err, fold, if◌then◌else◌}
+use Rattle.mm_call.specs.Below.{result_ok, result_and, Variant, Basic, Opt, StepFault, Batch, Move, Instance, Step, Reads, ask_steps}
+use Rattle.mm_call.specs.Below.{BatchAnswer, Refusal, Device, Memory}
 use Rattle.mm_call.specs.Levels.{Level}
 use Rattle.mm_call.specs.Found.{Found, found_at}
 use Rattle.mm_call.specs.Courses.{Course, Walked, walk, seen_in, commits}

@@ -1,9 +1,5 @@
 -- Words of the laws and proofs, each of which says a thing of Called in short.
-use Rattle.std.specs.Prelude.{ℕ, Bool, Option, None, Some, Result, if◌then◌else◌}
-use Rattle.mm_module.specs.Batch.{Batch}
-use Rattle.mm_model.specs.Instance.{Instance}
-use Rattle.mm_model.specs.Steps.{ask_steps}
-use Rattle.mm_model.specs.declared.refusal.Refusal.{Refusal}
+use Rattle.mm_call.specs.Below.{ℕ, Bool, Option, None, Some, Result, if◌then◌else◌, Batch, Instance, ask_steps, Refusal}
 use Rattle.mm_call.specs.Levels.{Level}
 use Rattle.mm_call.specs.Found.{Found}
 use Rattle.mm_call.specs.FoundWords.{is_fresh}

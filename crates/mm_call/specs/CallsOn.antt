@@ -1,16 +1,6 @@
 -- What a call over a platform is: the walk of its steps on some course, by digests and by lists.
-use Rattle.std.specs.Prelude.{◌≡◌, ℕ, List, Result}
-use Rattle.std.specs.Option.{option_map}
-use Rattle.mm_digest.specs.declared.variant.Variant.{Variant}
-use Rattle.mm_platform.specs.Standing.{Standing}
-use Rattle.mm_module.specs.Meaning.{Meaning}
-use Rattle.mm_module.specs.Batch.{Batch, normal}
-use Rattle.mm_model.specs.Instance.{Instance}
-use Rattle.mm_model.specs.History.{History}
-use Rattle.mm_model.specs.Moves.{Digests, digests_of}
-use Rattle.mm_model.specs.Standing.{StandsFor}
-use Rattle.mm_model.specs.declared.answer.BatchAnswer.{BatchAnswer}
-use Rattle.mm_model.specs.declared.refusal.Refusal.{Refusal}
+use Rattle.mm_call.specs.Below.{option_map, ◌≡◌, ℕ, List, Result, Variant, Standing, Batch, normal, Meaning, History, Instance, Digests}
+use Rattle.mm_call.specs.Below.{digests_of, StandsFor, BatchAnswer, Refusal}
 use Rattle.mm_call.specs.Levels.{by_lists, by_digests}
 use Rattle.mm_call.specs.Courses.{Course, AreTold}
 use Rattle.mm_call.specs.Called.{Called, called, given_for}

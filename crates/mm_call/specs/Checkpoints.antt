@@ -1,18 +1,6 @@
 -- What a checkpoint comes to on a course, by either level; and its laws.
-use Rattle.std.specs.Prelude.{◌≡◌, ℕ, Bool, true, false, List, fold}
-use Rattle.std.specs.Option.{option_map_or}
-use Rattle.std.specs.List.{AllByRecursion, Contains}
-use Rattle.mm_digest.specs.declared.variant.Variant.{Variant}
-use Rattle.mm_digest.specs.declared.variant.Variant.TheVariants.{Basic, Opt}
-use Rattle.mm_platform.specs.declared.fault.StepFault.{StepFault}
-use Rattle.mm_module.specs.Meaning.{Meaning}
-use Rattle.mm_module.specs.Batch.{Batch}
-use Rattle.mm_model.specs.Instance.{Instance}
-use Rattle.mm_model.specs.InstanceWords.{basic, opt}
-use Rattle.mm_model.specs.History.{History, Move}
-use Rattle.mm_model.specs.Messages.{Within, IsClear}
-use Rattle.mm_model.specs.Moves.{Digests}
-use Rattle.mm_model.specs.Steps.{checkpoint_steps}
+use Rattle.mm_call.specs.Below.{AllByRecursion, Contains, option_map_or, ◌≡◌, ℕ, Bool, true, false, List, fold, Variant, Basic, Opt}
+use Rattle.mm_call.specs.Below.{StepFault, Batch, Meaning, History, Move, Instance, basic, opt, Within, IsClear, Digests, checkpoint_steps}
 use Rattle.mm_call.specs.Levels.{Level, by_lists, by_digests, Agrees}
 use Rattle.mm_call.specs.Courses.{Course, Walked, walk, closes}
 use Rattle.mm_call.specs.Called.{seen_at}

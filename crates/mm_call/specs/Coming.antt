@@ -1,12 +1,6 @@
 -- What one call comes to by lists.
-use Rattle.std.specs.Prelude.{◌≡◌, ℕ, true, false, List, [], ◌∷◌, ◌++◌, Result, Ok}
-use Rattle.mm_module.specs.Batch.{Batch}
-use Rattle.mm_seal.specs.Snapshot.{Content}
-use Rattle.mm_model.specs.Instance.{Instance}
-use Rattle.mm_model.specs.History.{History, total_of}
-use Rattle.mm_model.specs.Standing.{IsRight}
-use Rattle.mm_model.specs.declared.answer.BatchAnswer.{BatchAnswer}
-use Rattle.mm_model.specs.declared.refusal.Refusal.{Refusal}
+use Rattle.mm_call.specs.Below.{◌≡◌, ℕ, true, false, List, [], ◌∷◌, ◌++◌, Result, Ok, Content, Batch, History, total_of, Instance, IsRight}
+use Rattle.mm_call.specs.Below.{BatchAnswer, Refusal}
 use Rattle.mm_call.specs.Answers.{answer_on}
 
 -- the batches end with this one

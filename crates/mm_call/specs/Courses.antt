@@ -1,12 +1,9 @@
 -- The course of a call: what others put into the register before each step, and how the step ends;
 -- and the walk of
-use Rattle.std.specs.Prelude.{◌≡◌, ℕ, ◌+◌, suc, Bool, true, false, List, [], ◌∷◌, ◌++◌, Option, None, Some, map, filter, ◌==◌, if◌then◌else◌}
-use Rattle.std.specs.Option.{option_map_or}
-use Rattle.mm_platform.specs.declared.fault.StepFault.{StepFault}
-use Rattle.mm_platform.specs.Standing.{Plan, Standing}
-use Rattle.mm_platform.specs.Steps.{fault_at, is_made_at}
-use Rattle.mm_model.specs.History.{Move, Commit, Foreign, Placed, Reset, Close, Power}
-use Rattle.mm_model.specs.Steps.{Step, Reads, Changes, Writes}
+use Rattle.mm_call.specs.Below.{option_map_or, ◌≡◌, ℕ, suc, Bool, true, false, List, [], ◌∷◌, ◌++◌, Option, None, Some, filter, ◌==◌}
+use Rattle.mm_call.specs.Below.{if◌then◌else◌, Plan, Standing, fault_at, is_made_at, StepFault, Move, Commit, Foreign, Close, Step, Reads}
+use Rattle.mm_call.specs.Below.{Changes, Writes}
+use Rattle.std.specs.Prelude.{◌+◌, map}
 
 -- steps on a course. Nothing here knows a state: a walk gives the moves that are made.
 
@@ -35,9 +32,8 @@ step_moves (Writes m) made values = (if made then m ∷ [] else []) ++ map Forei
 
 -- a step that writes the cell, before so many others
 abbrev pub writes_then : Step → ℕ → ℕ
-writes_then Reads later = later
-writes_then (Changes m) later = later
 writes_then (Writes m) later = suc later
+writes_then _ later = later
 
 -- the moves made; the steps called, and those of them that write the cell; and the fault by which
 -- the call was broken off, if it was
@@ -77,20 +73,12 @@ seen_in fates (step ∷ steps) n = map Foreign (fates n).brings ++ seen_in fates
 abbrev pub commits : List Move → Bool
 commits [] = false
 commits (Commit b ∷ moves) = true
-commits (Foreign d ∷ moves) = commits moves
-commits (Placed b ∷ moves) = commits moves
-commits (Reset ∷ moves) = commits moves
-commits (Close ∷ moves) = commits moves
-commits (Power ∷ moves) = commits moves
+commits (_ ∷ moves) = commits moves
 
 abbrev pub closes : List Move → Bool
 closes [] = false
 closes (Close ∷ moves) = true
-closes (Commit b ∷ moves) = closes moves
-closes (Foreign d ∷ moves) = closes moves
-closes (Placed b ∷ moves) = closes moves
-closes (Reset ∷ moves) = closes moves
-closes (Power ∷ moves) = closes moves
+closes (_ ∷ moves) = closes moves
 
 -- the fate of each step by a plan of which no step is over: the values of the meddles with this
 -- step extend the register just before it, in order

@@ -1,21 +1,11 @@
 -- How a call ended over a platform, with the position that the step that failed would commit.
-use Rattle.std.specs.Prelude.{◌≡◌, ℕ, Bool, true, false, List, Option, None, Some, Result, Ok, Err, IsSome}
-use Rattle.mm_digest.specs.declared.variant.Variant.{Variant}
-use Rattle.mm_platform.specs.declared.fault.StepFault.{StepFault}
-use Rattle.mm_platform.specs.declared.plan.Stop.{Stop}
-use Rattle.mm_platform.specs.declared.plan.Stop.TheVariants.{Quiet, Cut, Drop, Fail}
-use Rattle.mm_platform.specs.Standing.{Plan, Standing}
-use Rattle.mm_module.specs.Meaning.{Meaning}
-use Rattle.mm_module.specs.Batch.{Batch, normal}
-use Rattle.mm_model.specs.Moves.{Digests}
-use Rattle.mm_model.specs.declared.answer.BatchAnswer.{BatchAnswer}
-use Rattle.mm_model.specs.declared.refusal.Refusal.{Refusal}
-use Rattle.mm_model.specs.declared.refusal.Refusal.TheVariants.{Device}
+use Rattle.mm_call.specs.Below.{◌≡◌, ℕ, Bool, true, false, List, Option, None, Some, Result, Ok, Err, IsSome, Variant, Plan, Standing}
+use Rattle.mm_call.specs.Below.{StepFault, Stop, Cut, Batch, normal, Meaning, Digests, BatchAnswer, Refusal, Device}
 use Rattle.mm_call.specs.declared.ended.Ended.{Ended}
 use Rattle.mm_call.specs.declared.ended.Ended.TheVariants.{Answered, Refused, Broken}
 use Rattle.mm_call.specs.Refusals.{fault_of}
 use Rattle.mm_call.specs.Levels.{by_digests}
-use Rattle.mm_call.specs.Courses.{End, Done, Fails, Fate}
+use Rattle.mm_call.specs.Courses.{End, Fails, Fate}
 use Rattle.mm_call.specs.Called.{Breaks, Called, called}
 use Rattle.mm_call.specs.Standing.{instance_by, StandsAt}
 use Rattle.mm_call.specs.CallsOn.{CallsOn}
@@ -42,9 +32,8 @@ committed_as commits (Err fault) = Broken fault commits
 -- The position that a step which ends so has committed: the one that it would, where its effect was
 -- made.
 abbrev pub kept_by : End → Option ℕ → Option ℕ
-kept_by Done commits = None
 kept_by (Fails fault true) commits = commits
-kept_by (Fails fault false) commits = None
+kept_by _ commits = None
 
 -- A refusal hands no fault on. A call that was broken off ended with the position that its last
 -- step would commit, where that was made on these fates.
@@ -56,17 +45,13 @@ KeepsAs fates o (Broken fault commits) =
 
 -- a device's fault broke it off
 abbrev pub is_broken : Ended → Bool
-is_broken (Answered answer) = false
-is_broken (Refused why) = false
 is_broken (Broken fault commits) = true
+is_broken _ = false
 
 -- The platform is on after a call under a plan, unless the call was cut.
 abbrev pub StaysOn : Stop → Bool → Standing → Type 0
 StaysOn (Cut step) true new = Unit {0}
-StaysOn (Cut step) false new = new.is_on ≡ true
-StaysOn Quiet broken new = new.is_on ≡ true
-StaysOn (Drop step) broken new = new.is_on ≡ true
-StaysOn (Fail step done) broken new = new.is_on ≡ true
+StaysOn _ _ new = new.is_on ≡ true
 
 -- Where the platform is on and tells a plan of which no step is over, it stays on so, and goes on
 -- to tell one.

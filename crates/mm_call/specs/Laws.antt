@@ -1,11 +1,5 @@
 -- The laws of calls: by digests a call is what it is by lists, on every course.
-use Rattle.std.specs.Prelude.{◌≡◌, ℕ, List}
-use Rattle.mm_module.specs.Meaning.{Meaning}
-use Rattle.mm_module.specs.Batch.{Batch}
-use Rattle.mm_model.specs.Instance.{Instance}
-use Rattle.mm_model.specs.InstanceWords.{basic, opt}
-use Rattle.mm_model.specs.History.{History}
-use Rattle.mm_model.specs.Moves.{Digests}
+use Rattle.mm_call.specs.Below.{◌≡◌, ℕ, List, Batch, Meaning, History, Instance, basic, opt, Digests}
 use Rattle.mm_call.specs.Levels.{by_lists, by_digests, Agrees}
 use Rattle.mm_call.specs.Courses.{Course}
 use Rattle.mm_call.specs.Called.{Called, called}

@@ -1,15 +1,6 @@
 -- What a whole call leaves and counts, in either core.
-use Rattle.std.specs.Prelude.{◌≡◌, ◌∷◌, ℕ, ◌≤◌, List, [], Option, None, Some, IsSome, Result, Ok, Err, IsOk, ◌⊎◌}
-use Rattle.mm_base.specs.Faults.{Rose}
-use Rattle.mm_platform.specs.declared.fault.StepFault.{StepFault}
-use Rattle.mm_platform.specs.Standing.{Standing}
-use Rattle.mm_platform.specs.Steps.{beside}
-use Rattle.mm_model.specs.declared.answer.Answer.{Answer}
-use Rattle.mm_model.specs.declared.answer.BatchAnswer.{BatchAnswer}
-use Rattle.mm_model.specs.declared.refusal.Refusal.{Refusal}
-use Rattle.mm_model.specs.declared.refusal.Refusal.TheVariants.{Memory}
-use Rattle.mm_model.specs.declared.verdict.Verdict.{Verdict}
-use Rattle.mm_model.specs.declared.verdict.Verdict.TheVariants.{Fresh, Again, Lost, Stale}
+use Rattle.mm_call.specs.Below.{◌≡◌, ◌∷◌, ℕ, ◌≤◌, List, [], Option, None, Some, IsSome, Result, Ok, Err, IsOk, ◌⊎◌, Rose, Standing, beside}
+use Rattle.mm_call.specs.Below.{StepFault, Answer, BatchAnswer, Refusal, Memory, Verdict, Fresh, Again}
 use Rattle.mm_call.specs.Refusals.{fault_of, fault_in}
 
 -- The platform is as before, but for the count of steps, the values of others in the register, and
@@ -51,8 +42,7 @@ whole_in (Err why) = Err why
 abbrev pub IsAccepted : Verdict → Type 0
 IsAccepted Fresh = Unit {0}
 IsAccepted Again = Unit {0}
-IsAccepted Lost = ⊥
-IsAccepted Stale = ⊥
+IsAccepted _ = ⊥
 
 -- answered, or refused for want of memory, or for a device's fault that it hands on and that was
 -- counted

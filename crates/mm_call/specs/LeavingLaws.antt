@@ -1,13 +1,7 @@
 -- What a whole call leaves and counts.
-use Rattle.std.proofs.Common.{◌≡◌, ℕ, Bool, [], ◌∷◌, Option, None, Some, Result, Ok, Err, refl, sym, ◌∙◌, subst, arith}
-use Rattle.std.specs.Result.{result_err}
-use Rattle.mm_platform.specs.declared.fault.StepFault.{StepFault}
-use Rattle.mm_platform.specs.declared.fault.StepFault.TheVariants.{Failed, Off}
-use Rattle.mm_platform.specs.Standing.{Standing}
-use Rattle.mm_platform.specs.Steps.{ReadCell, EndsBy, Goes}
-use Rattle.mm_platform.specs.CallLaws.{beside-none}
-use Rattle.mm_model.specs.declared.answer.Answer.{Answer}
-use Rattle.mm_model.specs.declared.answer.BatchAnswer.{BatchAnswer}
+use Rattle.mm_call.specs.Below.{refl, sym, ◌∙◌, subst, arith, result_err, beside-none, Standing, ReadCell, EndsBy, Goes, StepFault, Failed}
+use Rattle.mm_call.specs.Below.{Answer, BatchAnswer}
+use Rattle.std.proofs.Common.{◌≡◌, ℕ, Bool, [], ◌∷◌, Option, None, Some, Result, Ok, Err}
 use Rattle.mm_call.specs.Refusals.{fault_in, handed_on}
 use Rattle.mm_call.specs.Leaving.{IsUntouched, Blames, whole}
 
@@ -34,9 +28,8 @@ read_untouched old new g = record {
 }
 
 pub blamed : (fault : Option StepFault) (old new : Standing) (made : Bool) → EndsBy fault old new made → Blames fault old.faults new.faults
-blamed None old new made e = e.faults
 blamed (Some Failed) old new made e = e.faults
-blamed (Some Off) old new made e = e.faults
+blamed _ old new made e = e.faults
 
 pub blamed_later : (fault : Option StepFault) (first before now : ℕ) → before ≡ first → Blames fault before now → Blames fault first now
 blamed_later fault first before now e b = subst (λ (n : ℕ). Blames fault n now) e b

@@ -1,25 +1,9 @@
 -- Two ways to follow a call: by lists, which know no digest, and by digests, which know no list.
-use Rattle.std.specs.Prelude.{◌≡◌, ℕ, Bool, true, false, ◌&&◌, List, if◌then◌else◌}
+use Rattle.mm_call.specs.Below.{◌≡◌, ℕ, Bool, true, false, ◌&&◌, List, if◌then◌else◌, bytes_eq, zero_bytes, extended_of, Variant, Basic}
+use Rattle.mm_call.specs.Below.{Opt, Content, Place, InBasic, InOpt, Batch, link, guard, History, Move, moved, total_of, register_value_of}
+use Rattle.mm_call.specs.Below.{cell_digest_of, Instance, judge, verdict_by_digests, life_of, is_lost, Digests, made, digest_of, flag_of}
+use Rattle.mm_call.specs.Below.{BatchAnswer, Verdict}
 use Rattle.std.specs.List.{fold}
-use Rattle.std.specs.Str.{bytes_eq}
-use Rattle.mm_digest.specs.declared.variant.Variant.{Variant}
-use Rattle.mm_digest.specs.declared.variant.Variant.TheVariants.{Basic, Opt}
-use Rattle.mm_digest.specs.Messages.{zero_bytes, extended_of}
-use Rattle.mm_module.specs.Batch.{Batch}
-use Rattle.mm_seal.specs.declared.snapshot.Place.{Place}
-use Rattle.mm_seal.specs.declared.snapshot.Place.TheVariants.{Basic as InBasic, Opt as InOpt}
-use Rattle.mm_seal.specs.Snapshot.{Content}
-use Rattle.mm_model.specs.Chains.{link, guard}
-use Rattle.mm_model.specs.Instance.{Instance}
-use Rattle.mm_model.specs.History.{History, Move, moved, total_of, register_value_of}
-use Rattle.mm_model.specs.HistoryWords.{cell_digest_of}
-use Rattle.mm_model.specs.Life.{life_of, is_lost}
-use Rattle.mm_model.specs.Moves.{Digests, made}
-use Rattle.mm_model.specs.PlacesWords.{digest_of}
-use Rattle.mm_model.specs.Judge.{judge, verdict_by_digests}
-use Rattle.mm_model.specs.Standing.{flag_of}
-use Rattle.mm_model.specs.declared.answer.BatchAnswer.{BatchAnswer}
-use Rattle.mm_model.specs.declared.verdict.Verdict.{Verdict}
 use Rattle.mm_call.specs.Answers.{answer_at, answer_on}
 
 -- A way to follow a call: what a move does to a state; whether a segment is open, and whether power

@@ -1,26 +1,11 @@
 -- What a right offer says, and the snapshot of the last position.
-use Rattle.std.proofs.Common.{◌≡◌, ℕ, ◌≤◌, ◌&&◌, Bool, true, false, List, ◌++◌, Option, None, Some, Result, Ok, Err, refl, sym, ap, ◌∙◌, subst}
-use Rattle.std.specs.Prelude.{if◌then◌else◌}
-use Rattle.std.specs.Str.{bytes_eq}
-use Rattle.std.proofs.lemmas.Slice.Eq.{bytes_eq-Decides}
-use Rattle.mm_base.specs.Limits.{last_position}
-use Rattle.mm_digest.specs.declared.variant.Variant.TheVariants.{Opt}
-use Rattle.mm_digest.specs.LengthLaws.{length-zero_bytes}
-use Rattle.mm_module.specs.Meaning.{Meaning, IsLawful, state_after}
-use Rattle.mm_module.specs.Batch.{Batch}
-use Rattle.mm_module.specs.RunLaws.{state_after-is_spelled}
-use Rattle.mm_seal.specs.declared.snapshot.PartsFault.{PartsFault}
-use Rattle.mm_seal.specs.Snapshot.{Content, Snapshot, IsContent, IsPlace, snapshot_front, sealed_of, tag_of}
-use Rattle.mm_seal.specs.Parts.{parts_of}
-use Rattle.mm_seal.specs.ReadingLaws.{spells_read}
-use Rattle.mm_seal.specs.SealLaws.{sealed_once}
-use Rattle.mm_model.specs.Instance.{Instance}
-use Rattle.mm_model.specs.InstanceWords.{basic, opt}
-use Rattle.mm_model.specs.History.{History, requests_of, total_of}
-use Rattle.mm_model.specs.Messages.{Within}
-use Rattle.mm_model.specs.Places.{issued, issued_place}
-use Rattle.mm_model.specs.Standing.{IsRight, issued_bytes}
-use Rattle.mm_model.specs.ChainLaws.{length-anchor_of, length-register_of, length-summary_of}
+use Rattle.mm_call.specs.Below.{refl, sym, ap, ◌∙◌, subst, bytes_eq-Decides, if◌then◌else◌, bytes_eq, last_position, length-zero_bytes, Opt}
+use Rattle.mm_call.specs.Below.{parts_of, spells_read, sealed_once, Content, Snapshot, IsContent, IsPlace, snapshot_front, tag_of}
+use Rattle.mm_call.specs.Below.{PartsFault, Batch, Meaning, IsLawful, state_after, state_after-is_spelled, length-anchor_of}
+use Rattle.mm_call.specs.Below.{length-register_of, length-summary_of, History, requests_of, total_of, Instance, basic, opt, Within, issued}
+use Rattle.mm_call.specs.Below.{issued_place, IsRight, issued_bytes}
+use Rattle.std.proofs.Common.{◌≡◌, ℕ, ◌≤◌, ◌&&◌, Bool, true, false, List, ◌++◌, Option, None, Some, Result, Ok, Err}
+use Rattle.mm_seal.specs.Snapshot.{sealed_of}
 use Rattle.mm_call.specs.Asked.{right_messages}
 use Rattle.mm_call.specs.FoundWords.{content_if_right}
 
@@ -52,9 +37,8 @@ record IsSaid (s t : Bool) (x content : Content) : Type 0 where
   same : x ≡ content
 
 said_if : (s t : Bool) (x content : Content) → (if s && t then Some x else None) ≡ Some content → IsSaid s t x content
-said_if false t x content e = absurd (cc)
-said_if true false x content e = absurd (cc)
 said_if true true x content e = record { spelled = refl; tagged = refl; same = cc }
+said_if _ _ x content e = absurd (cc)
 
 -- an offer that is looked at as a right one is right
 pub right_of : (i : Instance) (offer : List ℕ) (parts : Result Snapshot PartsFault) → parts_of i.variant i.meaning.id offer ≡ parts

@@ -1,23 +1,16 @@
 -- The order in which an offer is refused.
-use Rattle.std.specs.Prelude.{ℕ, ◌+◌, Bool, true, false, List, Result, Ok, Err, nat_le, if◌then◌else◌}
-use Rattle.std.specs.Str.{bytes_eq}
-use Rattle.mm_base.specs.Limits.{last_position}
-use Rattle.mm_module.specs.Meaning.{Meaning}
-use Rattle.mm_module.specs.Batch.{Batch, size_of}
-use Rattle.mm_seal.specs.Snapshot.{Snapshot, tag_of}
-use Rattle.mm_model.specs.declared.refusal.Refusal.{Refusal}
+use Rattle.mm_call.specs.Below.{ℕ, Bool, true, false, List, Result, Ok, Err, nat_le, if◌then◌else◌, bytes_eq, last_position, Snapshot}
+use Rattle.mm_call.specs.Below.{tag_of, Batch, size_of, Meaning, Refusal, Verdict, Fresh, Again, Lost, Stale}
+use Rattle.std.specs.Prelude.{◌+◌}
 use Rattle.mm_model.specs.declared.refusal.Refusal.TheVariants as refusal
-use Rattle.mm_model.specs.declared.verdict.Verdict.{Verdict}
-use Rattle.mm_model.specs.declared.verdict.Verdict.TheVariants.{Fresh, Again, Lost, Stale}
 
 -- by the verdict, and by whether there are positions left for the batch: whether it is a repeat
 abbrev pub admitted : Verdict → Bool → Result Bool Refusal
 admitted Fresh true = Ok false
 admitted Again true = Ok true
-admitted Fresh false = Err refusal.Full
-admitted Again false = Err refusal.Full
 admitted Lost fits = Err refusal.Lost
 admitted Stale fits = Err refusal.Stale
+admitted _ _ = Err refusal.Full
 
 -- an offer under the cell's key, by the verdict on it: before that, the offered state is one of the
 -- module's, and the tag is right

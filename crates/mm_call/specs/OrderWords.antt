@@ -1,8 +1,6 @@
 -- Words of the laws and proofs, each of which says a thing of Order in short.
-use Rattle.std.specs.Prelude.{Bool, Result, Err, if◌then◌else◌}
-use Rattle.mm_model.specs.declared.refusal.Refusal.{Refusal}
+use Rattle.mm_call.specs.Below.{Bool, Result, Err, if◌then◌else◌, Refusal, Verdict}
 use Rattle.mm_model.specs.declared.refusal.Refusal.TheVariants as refusal
-use Rattle.mm_model.specs.declared.verdict.Verdict.{Verdict}
 use Rattle.mm_call.specs.Order.{admitted}
 
 abbrev pub weighed : Bool → Bool → Verdict → Bool → Result Bool Refusal

@@ -1,7 +1,5 @@
 -- A batch that runs member by member.
-use Rattle.std.specs.Prelude.{◌≡◌, ℕ, List, ◌++◌, drop, IsTrue}
-use Rattle.mm_module.specs.Meaning.{Meaning, outputs_from}
-use Rattle.mm_module.specs.MeaningWords.{state_from}
+use Rattle.mm_call.specs.Below.{◌≡◌, ℕ, List, ◌++◌, drop, IsTrue, Meaning, outputs_from, state_from}
 
 -- These are the state and the outputs once the first members were run, from a state: what is left
 -- leads to the end.

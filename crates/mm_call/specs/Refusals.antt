@@ -1,24 +1,10 @@
 -- What a refusal hands on, and what may come in its place.
-use Rattle.std.specs.Prelude.{◌≡◌, Option, None, Some, Result, Ok, Err, ◌⊎◌}
-use Rattle.mm_platform.specs.declared.fault.StepFault.{StepFault}
-use Rattle.mm_model.specs.declared.answer.BatchAnswer.{BatchAnswer}
-use Rattle.mm_model.specs.declared.refusal.Refusal.{Refusal}
-use Rattle.mm_model.specs.declared.refusal.Refusal.TheVariants.{Memory, Long, Device, Blank, Cell, Lost, Form, Kind, State, Tag, Stale, Full}
+use Rattle.mm_call.specs.Below.{◌≡◌, Option, None, Some, Result, Ok, Err, ◌⊎◌, StepFault, BatchAnswer, Refusal, Memory, Device}
 
 -- the fault of a device step that a refusal hands on
 abbrev pub fault_of : Refusal → Option StepFault
 fault_of (Device fault) = Some fault
-fault_of Memory = None
-fault_of Long = None
-fault_of Blank = None
-fault_of Cell = None
-fault_of Lost = None
-fault_of Form = None
-fault_of Kind = None
-fault_of State = None
-fault_of Tag = None
-fault_of Stale = None
-fault_of Full = None
+fault_of _ = None
 
 abbrev pub fault_in : {A : Type 0} → Result A Refusal → Option StepFault
 fault_in (Ok answer) = None

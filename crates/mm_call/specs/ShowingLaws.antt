@@ -1,18 +1,8 @@
 -- Opt: what counts of the moves of a call is what the register shows, and so is asked of that.
-use Rattle.std.proofs.Common.{◌≡◌, ℕ, Bool, true, List, [], ◌∷◌, ◌++◌, Option, None, Some, sym, ap, ◌∙◌, subst}
-use Rattle.std.specs.List.{AllByRecursion, Contains}
-use Rattle.std.specs.Option.{option_map}
-use Rattle.std.proofs.lemmas.List.{append-nil}
-use Rattle.mm_digest.specs.Messages.{extended_message}
-use Rattle.mm_platform.specs.Standing.{Item, Standing, item_values}
-use Rattle.mm_module.specs.Meaning.{Meaning}
-use Rattle.mm_module.specs.Batch.{Batch}
-use Rattle.mm_model.specs.Chains.{trail}
-use Rattle.mm_model.specs.Instance.{Instance}
-use Rattle.mm_model.specs.InstanceWords.{opt}
-use Rattle.mm_model.specs.History.{History, Move, register_value_of}
-use Rattle.mm_model.specs.Messages.{Within}
-use Rattle.mm_model.specs.Moves.{Digests, digests_of}
+use Rattle.mm_call.specs.Below.{sym, ap, ◌∙◌, subst, append-nil, AllByRecursion, Contains, option_map, extended_message, Item, Standing}
+use Rattle.mm_call.specs.Below.{item_values, Batch, Meaning, trail, History, Move, register_value_of, Instance, opt, Within, Digests}
+use Rattle.mm_call.specs.Below.{digests_of}
+use Rattle.std.proofs.Common.{◌≡◌, ℕ, Bool, true, List, [], ◌∷◌, ◌++◌, Option, None, Some}
 use Rattle.mm_call.specs.Asked.{counted_part, counted_moves, moves_messages, foreign_in, IsAsked}
 use Rattle.mm_call.specs.Premises.{AreAsked, AreShown}
 use Rattle.mm_call.specs.Standing.{shown}

@@ -1,19 +1,7 @@
 -- Where a platform stands by digests, and what its register shows of the moves of a call.
-use Rattle.std.specs.Prelude.{◌≡◌, ℕ, zero, suc, Bool, true, false, List, [], ◌∷◌, ◌++◌, Option, Some}
-use Rattle.mm_base.specs.Faults.{counted}
-use Rattle.mm_digest.specs.declared.variant.Variant.{Variant}
-use Rattle.mm_digest.specs.declared.variant.Variant.TheVariants.{Basic, Opt}
-use Rattle.mm_digest.specs.Messages.{zero_bytes}
-use Rattle.mm_seal.specs.declared.cell.Cell.{Cell}
-use Rattle.mm_seal.specs.Cell.{IsCell, cell_spelling}
-use Rattle.mm_platform.specs.Standing.{Item, own_item, foreign_item, Standing}
-use Rattle.mm_module.specs.Meaning.{Meaning}
-use Rattle.mm_model.specs.Chains.{guard}
-use Rattle.mm_model.specs.Instance.{Instance}
-use Rattle.mm_model.specs.History.{Move, Commit, Foreign, Placed, Reset, Close, Power}
-use Rattle.mm_model.specs.Moves.{Digests, made}
-use Rattle.mm_model.specs.PlacesWords.{digest_of}
-use Rattle.mm_model.specs.Standing.{register_reads}
+use Rattle.mm_call.specs.Below.{◌≡◌, ℕ, zero, suc, Bool, true, List, [], ◌∷◌, ◌++◌, Option, Some, counted, zero_bytes, Variant, Basic, Opt}
+use Rattle.mm_call.specs.Below.{IsCell, cell_spelling, Cell, Item, own_item, foreign_item, Standing, Meaning, guard, Move, Commit, Foreign}
+use Rattle.mm_call.specs.Below.{Placed, Reset, Power, Instance, Digests, made, digest_of, register_reads}
 
 -- the instance of a variant; Basic has no barrier, and ignores it
 abbrev pub instance_by : Variant → Meaning → (key barrier : List ℕ) → Instance
@@ -47,14 +35,12 @@ pub record StandsAt (i : Instance) (standing : Standing) (d : Digests) : Type 0 
 -- What the register shows of a move, by its variant and whether a segment is open: others' values
 -- and the core's own extensions behind what it had shown; nothing once it was emptied.
 abbrev pub shown_by : Variant → Bool → Instance → Move → List Item → List Item
-shown_by Basic flag i (Commit b) items = items
-shown_by Opt true i (Commit b) items = items ++ own_item (guard i.barrier b) ∷ []
-shown_by Opt false i (Commit b) items = items
 shown_by variant flag i (Foreign v) items = items ++ foreign_item v ∷ []
 shown_by variant flag i (Placed b) items = items ++ own_item (guard i.barrier b) ∷ []
 shown_by variant flag i Reset items = []
-shown_by variant flag i Close items = items
 shown_by variant flag i Power items = []
+shown_by Opt true i (Commit b) items = items ++ own_item (guard i.barrier b) ∷ []
+shown_by _ _ i _ items = items
 
 -- what it shows of moves made one after another, from these digests and items on
 abbrev pub shown : Instance → Digests → List Move → List Item → List Item

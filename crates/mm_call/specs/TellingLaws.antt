@@ -1,19 +1,9 @@
 -- How a trail is put together from its steps, and the course that a call took: the fates of the steps that were made are
 -- read off them, and the others are the plan's.
-use Rattle.std.proofs.Common.{◌≡◌, ℕ, ◌+◌, Bool, true, false, List, [], ◌∷◌, Option, None, Some, refl, sym, ap, ◌∙◌, arith}
-use Rattle.std.specs.Prelude.{◌==◌, if◌then◌else◌}
-use Rattle.std.specs.Option.{option_map}
-use Rattle.std.proofs.lemmas.Bool.Decides.{nat_tests}
-use Rattle.mm_base.specs.Faults.{counted}
-use Rattle.mm_platform.specs.declared.fault.StepFault.{StepFault}
-use Rattle.mm_platform.specs.Standing.{Plan, Standing, plan_after}
-use Rattle.mm_platform.specs.StandingWords.{due}
-use Rattle.mm_platform.specs.Steps.{Act, Goes, will_answer, will_be_made, will_bring, fault_at, is_made_at}
-use Rattle.mm_platform.specs.Told.{next_plan}
-use Rattle.mm_platform.specs.StepLaws.{known_plan}
-use Rattle.mm_model.specs.Instance.{Instance}
-use Rattle.mm_model.specs.Moves.{Digests}
-use Rattle.mm_model.specs.Steps.{Step}
+use Rattle.mm_call.specs.Below.{◌+◌, refl, sym, ap, ◌∙◌, arith, nat_tests, option_map, ◌==◌, if◌then◌else◌, counted, Plan, Standing}
+use Rattle.mm_call.specs.Below.{plan_after, due, known_plan, Act, Goes, will_answer, will_be_made, will_bring, fault_at, is_made_at}
+use Rattle.mm_call.specs.Below.{next_plan, StepFault, Instance, Digests, Step}
+use Rattle.std.proofs.Common.{◌≡◌, ℕ, Bool, true, false, List, [], ◌∷◌, Option, None, Some}
 use Rattle.mm_call.specs.Levels.{all_made, by_digests}
 use Rattle.mm_call.specs.Courses.{Fate, step_moves, planned, AreTold}
 use Rattle.mm_call.specs.CoursesWords.{end_of}

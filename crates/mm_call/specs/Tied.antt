@@ -1,14 +1,6 @@
 -- What counts of the moves of a call of Opt is what the register shows of them.
-use Rattle.std.specs.Prelude.{◌≡◌, ℕ, Bool, true, false, List, [], ◌∷◌, ◌++◌, if◌then◌else◌}
-use Rattle.mm_digest.specs.Messages.{extended_message}
-use Rattle.mm_platform.specs.Standing.{Item, item_values}
-use Rattle.mm_module.specs.Meaning.{Meaning}
-use Rattle.mm_module.specs.Batch.{Batch}
-use Rattle.mm_model.specs.Chains.{trail}
-use Rattle.mm_model.specs.Instance.{Instance}
-use Rattle.mm_model.specs.InstanceWords.{opt}
-use Rattle.mm_model.specs.History.{History, Move, register_value_of}
-use Rattle.mm_model.specs.Moves.{Digests}
+use Rattle.mm_call.specs.Below.{◌≡◌, ℕ, Bool, true, false, List, [], ◌∷◌, ◌++◌, if◌then◌else◌, extended_message, Item, item_values, Batch}
+use Rattle.mm_call.specs.Below.{Meaning, trail, History, Move, register_value_of, Instance, opt, Digests}
 use Rattle.mm_call.specs.Levels.{by_digests}
 use Rattle.mm_call.specs.Courses.{Course}
 use Rattle.mm_call.specs.Called.{called}

@@ -1,22 +1,11 @@
 -- A trail of device steps leads where its walk leads.
-use Rattle.std.proofs.Common.{◌≡◌, ℕ, ◌+◌, Bool, true, false, List, [], ◌∷◌, ◌++◌, map, Option, None, Some, refl, sym, ap, ◌∙◌, subst, append_assoc}
+use Rattle.mm_call.specs.Below.{◌+◌, map, refl, sym, ap, ◌∙◌, subst, append_assoc, option_map_id, append-nil, map-append, fold-append}
+use Rattle.mm_call.specs.Below.{option_map, counted, zero_bytes, extended_of, Variant, Basic, Opt, IsCell, cell_spelling, Cell, Item}
+use Rattle.mm_call.specs.Below.{Standing, own_item, foreign_item, item_values, register_after, Act, ReadCell, WriteCell, ReadRegister}
+use Rattle.mm_call.specs.Below.{ResetRegister, ExtendRegister, beside, cell_after, items_after, writes_after, StepFault, Move, Foreign}
+use Rattle.mm_call.specs.Below.{Instance, Digests, made, Step, Reads, Changes, Writes}
+use Rattle.std.proofs.Common.{◌≡◌, ℕ, Bool, true, false, List, [], ◌∷◌, ◌++◌, Option, None, Some}
 use Rattle.std.specs.List.{fold}
-use Rattle.std.specs.Option.{option_map}
-use Rattle.std.proofs.lemmas.List.{append-nil, map-append}
-use Rattle.std.proofs.lemmas.List.Sums.{fold-append}
-use Rattle.mm_base.specs.Faults.{counted}
-use Rattle.mm_digest.specs.Messages.{zero_bytes, extended_of}
-use Rattle.mm_digest.specs.declared.variant.Variant.{Variant}
-use Rattle.mm_digest.specs.declared.variant.Variant.TheVariants.{Basic, Opt}
-use Rattle.mm_platform.specs.declared.fault.StepFault.{StepFault}
-use Rattle.mm_platform.specs.Standing.{Item, Standing, own_item, foreign_item, item_values, register_after}
-use Rattle.mm_platform.specs.Steps.{Act, ReadCell, WriteCell, ReadRegister, ResetRegister, ExtendRegister, beside, cell_after, items_after, writes_after}
-use Rattle.mm_seal.specs.declared.cell.Cell.{Cell}
-use Rattle.mm_seal.specs.Cell.{IsCell, cell_spelling}
-use Rattle.mm_model.specs.Instance.{Instance}
-use Rattle.mm_model.specs.History.{Move, Foreign}
-use Rattle.mm_model.specs.Moves.{Digests, made}
-use Rattle.mm_model.specs.Steps.{Step, Reads, Changes, Writes}
 use Rattle.mm_call.specs.Levels.{all_made, by_digests}
 use Rattle.mm_call.specs.Courses.{End, Done, Fails, Fate, Walked, walk, after_step, step_moves, writes_then}
 use Rattle.mm_call.specs.Standing.{cell_at, RegisterAt, StandsAt, shown_by, shown, counted_by}
@@ -59,21 +48,12 @@ reads_after (ExtendRegister value) None r e = cc
 reads_after (ExtendRegister value) (Some xs) r e =
     let f : register_after (item_values xs) ≡ r = cc in
     ap (λ (x : List ℕ). Some x) (read_more xs (own_item value ∷ []) ∙ ap (λ (s : List ℕ). extended_of s value) f)
-reads_after ReadCell items r e = e
-reads_after (WriteCell bytes) items r e = e
-reads_after ReadRegister items r e = e
+reads_after _ items r e = e
 
 items_of : (act : Act) (items : Option (List Item)) → items_after act true items ≡ option_map (items_by act) items
-items_of ResetRegister None = refl
-items_of ResetRegister (Some xs) = refl
-items_of (ExtendRegister value) None = refl
-items_of (ExtendRegister value) (Some xs) = refl
-items_of ReadCell None = refl
-items_of ReadCell (Some xs) = refl
-items_of (WriteCell bytes) None = refl
-items_of (WriteCell bytes) (Some xs) = refl
-items_of ReadRegister None = refl
-items_of ReadRegister (Some xs) = refl
+items_of ResetRegister items = refl
+items_of (ExtendRegister value) items = refl
+items_of _ items = sym (option_map_id items)
 
 -- values of others
 
@@ -95,8 +75,7 @@ foreign_shown i d (v ∷ values) items =
 
 pub all_made-append : (i : Instance) (d : Digests) (xs ys : List Move)
     → all_made (by_digests i) d (xs ++ ys) ≡ all_made (by_digests i) (all_made (by_digests i) d xs) ys
-all_made-append i d [] ys = refl
-all_made-append i d (m ∷ xs) ys = all_made-append i (made i d m) xs ys
+all_made-append i d xs ys = fold-append (made i) d xs ys
 
 pub shown-append : (i : Instance) (d : Digests) (xs ys : List Move) (items : List Item)
     → shown i d (xs ++ ys) items ≡ shown i (all_made (by_digests i) d xs) ys (shown i d xs items)
@@ -124,8 +103,7 @@ leads_to i d e moves old new is spells cell reads items = record {
 
 items_brought : (i : Instance) (d : Digests) (values : List (List ℕ)) (items : Option (List Item))
     → beside values items ≡ option_map (shown i d (map Foreign values)) items
-items_brought i d values None = refl
-items_brought i d values (Some xs) = ap Some (sym (foreign_shown i d values xs))
+items_brought i d values items = λ j. option_map (λ xs. sym (foreign_shown i d values xs) j) items
 
 -- others' values alone
 brought : (i : Instance) (d : Digests) (values : List (List ℕ)) (old new : Standing) → StandsAt i old d → new.cell ≡ old.cell
@@ -135,13 +113,19 @@ brought i d values old new s cell items =
     s.spells (cell ∙ s.cell) (reads_then i.variant (reads_of old.items) (reads_of new.items) d.register (fold extended_of d.register values)
     (λ e. ap reads_of items ∙ reads_beside old.items values d.register e) s.reads) (items ∙ items_brought i d values old.items)
 
+map_twice : (f g : List Item → List Item) (items : Option (List Item))
+    → option_map g (option_map f items) ≡ option_map (λ (xs : List Item). g (f xs)) items
+map_twice f g None = refl
+map_twice f g (Some xs) = refl
+
 change_shown : (i : Instance) (d : Digests) (act : Act) (m : Move) (values : List (List ℕ)) (items : Option (List Item))
     → IsChange i d act m → items_after act true (beside values items) ≡ option_map (shown i d (map Foreign values ++ m ∷ [])) items
-change_shown i d act m values None c = items_of act None
-change_shown i d act m values (Some xs) c =
-    items_of act (Some (xs ++ map foreign_item values)) ∙ ap Some (sym (shown-append i d (map Foreign values) (m ∷ []) xs
+change_shown i d act m values items c =
+    items_of act (beside values items) ∙ map_twice (λ xs. xs ++ map foreign_item values) (items_by act) items
+    ∙ (λ j. option_map (λ xs. sym (shown-append i d (map Foreign values) (m ∷ []) xs
     ∙ ap (λ (e : Digests). shown i e (m ∷ []) (shown i d (map Foreign values) xs)) (foreign_made i d values)
-    ∙ ap (λ (ys : List Item). shown_by i.variant d.flag i m ys) (foreign_shown i d values xs) ∙ c.shows (xs ++ map foreign_item values)))
+    ∙ ap (λ (ys : List Item). shown_by i.variant d.flag i m ys) (foreign_shown i d values xs)
+    ∙ c.shows (xs ++ map foreign_item values)) j) items)
 
 -- a change of the register
 changed : (i : Instance) (d : Digests) (act : Act) (m : Move) (values : List (List ℕ)) (old new : Standing) → StandsAt i old d
@@ -160,14 +144,9 @@ changed i d act m values old new s c cell items =
 
 write_shown : (i : Instance) (d : Digests) (bytes : List ℕ) (m : Move) (values : List (List ℕ)) (items : Option (List Item))
     → IsWrite i d bytes m → beside values items ≡ option_map (shown i d (m ∷ map Foreign values)) items
-write_shown i d bytes m values None w = refl
-write_shown i d bytes m values (Some xs) w =
-    ap Some (sym (foreign_shown i (made i d m) values (shown_by i.variant d.flag i m xs)
-    ∙ ap (λ (ys : List Item). ys ++ map foreign_item values) (w.shows xs)))
-
-some_written : (bytes next : List ℕ) (cell : Option (List ℕ)) → cell ≡ Some next → option_map (λ _. bytes) cell ≡ Some bytes
-some_written bytes next None e = cc
-some_written bytes next (Some x) e = refl
+write_shown i d bytes m values items w =
+    λ j. option_map (λ xs. sym (foreign_shown i (made i d m) values (shown_by i.variant d.flag i m xs)
+    ∙ ap (λ (ys : List Item). ys ++ map foreign_item values) (w.shows xs)) j) items
 
 -- a write of the cell
 written : (i : Instance) (d : Digests) (bytes : List ℕ) (m : Move) (values : List (List ℕ)) (old new : Standing) → StandsAt i old d
@@ -176,7 +155,7 @@ written : (i : Instance) (d : Digests) (bytes : List ℕ) (m : Move) (values : L
 written i d bytes m values old new s w cell items =
     let e : Digests = made i d m in
     leads_to i d (with_register e (fold extended_of e.register values)) (m ∷ map Foreign values) old new (foreign_made i e values) w.spells
-    (cell ∙ some_written bytes (cell_spelling (cell_at i d)) old.cell s.cell ∙ ap (λ (x : List ℕ). Some x) w.cell)
+    (cell ∙ ap (option_map (λ _. bytes)) s.cell ∙ ap (λ (x : List ℕ). Some x) w.cell)
     (reads_then i.variant (reads_of old.items) (reads_of new.items) d.register (fold extended_of e.register values)
     (λ h. ap reads_of items ∙ reads_beside old.items values d.register h
     ∙ ap (λ (x : List ℕ). Some (fold extended_of x values)) (sym w.register)) s.reads) (items ∙ write_shown i d bytes m values old.items w)
@@ -196,16 +175,7 @@ step_leads (ExtendRegister value) (Changes m) false i d values old new s c cell 
     subst (λ (ms : List Move). StepLeads i d ms old new) (sym (append-nil (map Foreign values))) (brought i d values old new s cell items)
 step_leads (WriteCell bytes) (Writes m) true i d values old new s w cell items = written i d bytes m values old new s w cell items
 step_leads (WriteCell bytes) (Writes m) false i d values old new s w cell items = brought i d values old new s cell items
-step_leads ReadCell (Changes m) is_made i d values old new s x cell items = absurd x
-step_leads ReadCell (Writes m) is_made i d values old new s x cell items = absurd x
-step_leads ReadRegister (Changes m) is_made i d values old new s x cell items = absurd x
-step_leads ReadRegister (Writes m) is_made i d values old new s x cell items = absurd x
-step_leads ResetRegister Reads is_made i d values old new s x cell items = absurd x
-step_leads ResetRegister (Writes m) is_made i d values old new s x cell items = absurd x
-step_leads (ExtendRegister value) Reads is_made i d values old new s x cell items = absurd x
-step_leads (ExtendRegister value) (Writes m) is_made i d values old new s x cell items = absurd x
-step_leads (WriteCell bytes) Reads is_made i d values old new s x cell items = absurd x
-step_leads (WriteCell bytes) (Changes m) is_made i d values old new s x cell items = absurd x
+step_leads _ _ is_made i d values old new s x cell items = absurd x
 
 -- the count of writes
 act_writes : (act : Act) (step : Step) (i : Instance) (d : Digests) (count rest : ℕ) → MakesStep i d act step
@@ -215,16 +185,7 @@ act_writes ReadRegister Reads i d count rest m = refl
 act_writes ResetRegister (Changes m) i d count rest c = refl
 act_writes (ExtendRegister value) (Changes m) i d count rest c = refl
 act_writes (WriteCell bytes) (Writes m) i d count rest w = refl
-act_writes ReadCell (Changes m) i d count rest x = absurd x
-act_writes ReadCell (Writes m) i d count rest x = absurd x
-act_writes ReadRegister (Changes m) i d count rest x = absurd x
-act_writes ReadRegister (Writes m) i d count rest x = absurd x
-act_writes ResetRegister Reads i d count rest x = absurd x
-act_writes ResetRegister (Writes m) i d count rest x = absurd x
-act_writes (ExtendRegister value) Reads i d count rest x = absurd x
-act_writes (ExtendRegister value) (Writes m) i d count rest x = absurd x
-act_writes (WriteCell bytes) Reads i d count rest x = absurd x
-act_writes (WriteCell bytes) (Changes m) i d count rest x = absurd x
+act_writes _ _ i d count rest x = absurd x
 
 -- a step that was made, with the room behind it
 record StepEnds (i : Instance) (d : Digests) (step : Step) (moves : List Move) (old new : Standing) : Type 0 where
@@ -232,35 +193,16 @@ record StepEnds (i : Instance) (d : Digests) (step : Step) (moves : List Move) (
   steps : new.steps ≡ counted old.steps
   writes : (rest : ℕ) → counted_by rest new.writes ≡ counted_by (writes_then step rest) old.writes
 
--- room changes nothing else
-roomier : (i : Instance) (d : Digests) (step : Step) (moves : List Move) (old after new : Standing)
-    → new ≡ record after { spare = new.spare } → StepEnds i d step moves old after → StepEnds i d step moves old new
-roomier i d step moves old after new e s =
-    let cell : new.cell ≡ after.cell = ap (λ (x : Standing). x.cell) e in
-    let items : new.items ≡ after.items = ap (λ (x : Standing). x.items) e in
-    record {
-      leads = record {
-        stands = record {
-          spells = s.leads.stands.spells;
-          cell = cell ∙ s.leads.stands.cell;
-          reads = reads_then i.variant (reads_of after.items) (reads_of new.items) _ _ (λ h. ap reads_of items ∙ h) s.leads.stands.reads;
-        };
-        items = items ∙ s.leads.items;
-      };
-      steps = ap (λ (x : Standing). x.steps) e ∙ s.steps;
-      writes = λ (rest : ℕ). ap (λ (x : Standing). counted_by rest x.writes) e ∙ s.writes rest;
-    }
-
 step_ends : (i : Instance) (d : Digests) (fate : Fate) (step : Step) (old new : Standing) (fault : Option StepFault) → StandsAt i old d
     → (t : Stepped i d fate step old new fault) → StepEnds i d step (step_moves step t.goes.is_made fate.brings) old new
-step_ends i d fate step old new fault s t =
-    let items : t.after.items ≡ items_after t.act t.goes.is_made (beside fate.brings old.items) =
-    t.goes.items ∙ ap (λ (vs : List (List ℕ)). items_after t.act t.goes.is_made (beside vs old.items)) (sym t.brings) in
-    roomier i d step (step_moves step t.goes.is_made fate.brings) old t.after new t.room (record {
-      leads = step_leads t.act step t.goes.is_made i d fate.brings old t.after s t.makes t.goes.cell items;
-      steps = t.goes.steps;
-      writes = λ (rest : ℕ). ap (λ (n : ℕ). counted_by rest n) t.goes.writes ∙ act_writes t.act step i d old.writes rest t.makes;
-    })
+step_ends i d fate step old new fault s t = record {
+  leads = step_leads t.act step t.goes.is_made i d fate.brings old new s t.makes (ap (λ (x : Standing). x.cell) t.room ∙ t.goes.cell)
+      (ap (λ (x : Standing). x.items) t.room ∙ t.goes.items
+      ∙ ap (λ (vs : List (List ℕ)). items_after t.act t.goes.is_made (beside vs old.items)) (sym t.brings));
+  steps = ap (λ (x : Standing). x.steps) t.room ∙ t.goes.steps;
+  writes = λ (rest : ℕ). ap (λ (x : Standing). counted_by rest x.writes) t.room ∙ ap (λ (n : ℕ). counted_by rest n) t.goes.writes
+      ∙ act_writes t.act step i d old.writes rest t.makes;
+}
 
 -- the step that failed is the last
 failed : (i : Instance) (d : Digests) (step : Step) (values : List (List ℕ)) (is_made : Bool) (fault : StepFault) (rest : Walked)
@@ -273,16 +215,6 @@ failed i d step values is_made fault rest old new s = record {
   writes = s.writes 0;
   items = s.leads.items;
 }
-
-map_twice : (f g : List Item → List Item) (items : Option (List Item))
-    → option_map g (option_map f items) ≡ option_map (λ (xs : List Item). g (f xs)) items
-map_twice f g None = refl
-map_twice f g (Some xs) = refl
-
-map_alike : (f g : List Item → List Item) (items : Option (List Item)) → ((xs : List Item) → f xs ≡ g xs)
-    → option_map f items ≡ option_map g items
-map_alike f g None h = refl
-map_alike f g (Some xs) h = ap Some (h xs)
 
 -- a step that was done, and the rest
 done : (i : Instance) (d : Digests) (step : Step) (values : List (List ℕ)) (rest : Walked) (old middle new : Standing)
@@ -299,8 +231,7 @@ done i d step values rest old middle new fault s l =
       writes = l.writes ∙ s.writes rest.writes;
       items = l.items ∙ ap (λ (x : Option (List Item)). option_map (shown i e rest.moves) x) s.leads.items
           ∙ map_twice (shown i d moves) (shown i e rest.moves) old.items
-          ∙ map_alike (λ (xs : List Item). shown i e rest.moves (shown i d moves xs)) (shown i d (moves ++ rest.moves)) old.items
-          (λ (xs : List Item). sym (shown-append i d moves rest.moves xs));
+          ∙ (λ j. option_map (λ (xs : List Item). sym (shown-append i d moves rest.moves xs) j) old.items);
     }
 
 -- the end of a step by its answer
@@ -324,14 +255,10 @@ ended (Some f) i d fate step rest old middle new fault going s t h r =
     (subst (λ (x : Option StepFault). Leads i d (after_step step fate.brings (Fails f t.goes.is_made) rest) old middle x) (sym r.1)
     (failed i d step fate.brings t.goes.is_made f rest old middle ends)))
 
-same_items : (items : Option (List Item)) → option_map (λ (xs : List Item). xs) items ≡ items
-same_items None = refl
-same_items (Some xs) = refl
-
 -- no step
 none_leads : (i : Instance) (d : Digests) (old : Standing) → StandsAt i old d
     → Leads i d (record { moves = []; steps = 0; writes = 0; broken = None }) old old None
-none_leads i d old s = record { stands = s; broken = refl; steps = refl; writes = refl; items = sym (same_items old.items) }
+none_leads i d old s = record { stands = s; broken = refl; steps = refl; writes = refl; items = sym (option_map_id old.items) }
 
 pub leads : TrailsLead
 leads i d fates n [] old new fault s t =

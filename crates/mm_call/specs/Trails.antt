@@ -1,15 +1,8 @@
 -- How the device steps of a call make the steps of a walk.
-use Rattle.std.specs.Prelude.{◌≡◌, ℕ, ◌+◌, true, List, [], ◌∷◌, ◌++◌, Option, None, Some}
-use Rattle.std.specs.Option.{option_map}
-use Rattle.mm_digest.specs.Messages.{zero_bytes, extended_of}
-use Rattle.mm_platform.specs.declared.fault.StepFault.{StepFault}
-use Rattle.mm_platform.specs.Standing.{Item, own_item, Standing}
-use Rattle.mm_platform.specs.Steps.{Act, ReadCell, WriteCell, ReadRegister, ResetRegister, ExtendRegister, Goes}
-use Rattle.mm_seal.specs.Cell.{IsCell, cell_spelling}
-use Rattle.mm_model.specs.Instance.{Instance}
-use Rattle.mm_model.specs.History.{Move}
-use Rattle.mm_model.specs.Moves.{Digests, made}
-use Rattle.mm_model.specs.Steps.{Step, Reads, Changes, Writes}
+use Rattle.mm_call.specs.Below.{option_map, ◌≡◌, ℕ, true, List, [], ◌∷◌, ◌++◌, Option, None, Some, zero_bytes, extended_of, IsCell}
+use Rattle.mm_call.specs.Below.{cell_spelling, Item, own_item, Standing, Act, ReadCell, WriteCell, ReadRegister, ResetRegister}
+use Rattle.mm_call.specs.Below.{ExtendRegister, Goes, StepFault, Move, Instance, Digests, made, Step, Reads, Changes, Writes}
+use Rattle.std.specs.Prelude.{◌+◌}
 use Rattle.mm_call.specs.Levels.{all_made, by_digests}
 use Rattle.mm_call.specs.Courses.{Fate, Walked, walk, step_moves}
 use Rattle.mm_call.specs.CoursesWords.{end_of}
@@ -19,16 +12,12 @@ use Rattle.mm_call.specs.Standing.{cell_at, StandsAt, shown_by, shown, counted_b
 abbrev pub register_by : Act → List ℕ → List ℕ
 register_by ResetRegister register = zero_bytes
 register_by (ExtendRegister value) register = extended_of register value
-register_by ReadCell register = register
-register_by (WriteCell bytes) register = register
-register_by ReadRegister register = register
+register_by _ register = register
 
 abbrev pub items_by : Act → List Item → List Item
 items_by ResetRegister items = []
 items_by (ExtendRegister value) items = items ++ own_item value ∷ []
-items_by ReadCell items = items
-items_by (WriteCell bytes) items = items
-items_by ReadRegister items = items
+items_by _ items = items
 
 -- A changing step makes this move, whatever others put into the register before it: the cell is
 -- that of the digests after the move as it is that before, and the register and its items are as
@@ -55,16 +44,7 @@ MakesStep i d ReadRegister Reads = Unit {0}
 MakesStep i d ResetRegister (Changes m) = IsChange i d ResetRegister m
 MakesStep i d (ExtendRegister value) (Changes m) = IsChange i d (ExtendRegister value) m
 MakesStep i d (WriteCell bytes) (Writes m) = IsWrite i d bytes m
-MakesStep i d ReadCell (Changes m) = ⊥
-MakesStep i d ReadCell (Writes m) = ⊥
-MakesStep i d ReadRegister (Changes m) = ⊥
-MakesStep i d ReadRegister (Writes m) = ⊥
-MakesStep i d ResetRegister Reads = ⊥
-MakesStep i d ResetRegister (Writes m) = ⊥
-MakesStep i d (ExtendRegister value) Reads = ⊥
-MakesStep i d (ExtendRegister value) (Writes m) = ⊥
-MakesStep i d (WriteCell bytes) Reads = ⊥
-MakesStep i d (WriteCell bytes) (Changes m) = ⊥
+MakesStep i d _ _ = ⊥
 
 -- A device step was made that makes this step of a walk. Its fate is read off it, and room may have
 -- been made after it.

@@ -1,13 +1,8 @@
 -- What a walk over the steps of a call gives: what it commits, and which of its moves others made.
-use Rattle.std.proofs.Common.{ℕ, ◌≡◌, ◌+◌, Bool, true, false, List, [], ◌∷◌, ◌++◌, map, None, refl, sym, ap, ◌∙◌, subst, append_assoc}
-use Rattle.std.proofs.lemmas.List.{append-nil}
-use Rattle.mm_module.specs.Batch.{Batch}
-use Rattle.mm_digest.specs.declared.variant.Variant.{Variant}
-use Rattle.mm_digest.specs.declared.variant.Variant.TheVariants.{Basic, Opt}
-use Rattle.mm_model.specs.Instance.{Instance}
-use Rattle.mm_model.specs.History.{Value, History, Move, Commit, Foreign, Placed, Reset, Close, Power, moved}
-use Rattle.mm_model.specs.Steps.{Step, Reads, Changes, Writes, ask_steps}
-use Rattle.mm_model.specs.MessagesWords.{move_messages}
+use Rattle.mm_call.specs.Below.{◌+◌, map, refl, sym, ap, ◌∙◌, subst, append_assoc, append-nil, fold-append, Variant, Basic, Opt, Batch}
+use Rattle.mm_call.specs.Below.{Value, History, Move, Commit, Foreign, Placed, Reset, moved, Instance, move_messages, Step, Reads, Changes}
+use Rattle.mm_call.specs.Below.{Writes, ask_steps}
+use Rattle.std.proofs.Common.{ℕ, ◌≡◌, Bool, true, false, List, [], ◌∷◌, ◌++◌, None}
 use Rattle.mm_call.specs.Levels.{Level, by_lists, all_made}
 use Rattle.mm_call.specs.Courses.{End, Done, Fails, Fate, Walked, step_moves, after_step, walk, seen_in, commits}
 use Rattle.mm_call.specs.Asked.{moves_messages, foreign_in, from_reset}
@@ -16,11 +11,7 @@ use Rattle.mm_call.specs.MoveLaws.{committed_in}
 pub committed-append : (xs ys : List Move) → committed_in (xs ++ ys) ≡ committed_in xs ++ committed_in ys
 committed-append [] ys = refl
 committed-append (Commit b ∷ xs) ys = ap (λ v. b ∷ v) (committed-append xs ys)
-committed-append (Foreign v ∷ xs) ys = committed-append xs ys
-committed-append (Placed b ∷ xs) ys = committed-append xs ys
-committed-append (Reset ∷ xs) ys = committed-append xs ys
-committed-append (Close ∷ xs) ys = committed-append xs ys
-committed-append (Power ∷ xs) ys = committed-append xs ys
+committed-append (_ ∷ xs) ys = committed-append xs ys
 
 pub committed-foreign : (values : List (List ℕ)) → committed_in (map Foreign values) ≡ []
 committed-foreign [] = refl
@@ -32,20 +23,12 @@ foreign_first values rest = committed-append (map Foreign values) rest ∙ ap (�
 pub commits-none : (moves : List Move) → committed_in moves ≡ [] → commits moves ≡ false
 commits-none [] e = refl
 commits-none (Commit b ∷ moves) e = cc
-commits-none (Foreign v ∷ moves) e = commits-none moves e
-commits-none (Placed b ∷ moves) e = commits-none moves e
-commits-none (Reset ∷ moves) e = commits-none moves e
-commits-none (Close ∷ moves) e = commits-none moves e
-commits-none (Power ∷ moves) e = commits-none moves e
+commits-none (_ ∷ moves) e = commits-none moves e
 
 pub commits_batch : (moves : List Move) (b : Batch) → committed_in moves ≡ b ∷ [] → commits moves ≡ true
 commits_batch [] b e = cc
 commits_batch (Commit c ∷ moves) b e = refl
-commits_batch (Foreign v ∷ moves) b e = commits_batch moves b e
-commits_batch (Placed c ∷ moves) b e = commits_batch moves b e
-commits_batch (Reset ∷ moves) b e = commits_batch moves b e
-commits_batch (Close ∷ moves) b e = commits_batch moves b e
-commits_batch (Power ∷ moves) b e = commits_batch moves b e
+commits_batch (_ ∷ moves) b e = commits_batch moves b e
 
 -- what is seen at the last reading step is others' values alone
 pub seen_none : (fates : ℕ → Fate) (steps : List Step) (n : ℕ) → committed_in (seen_in fates steps n) ≡ []
@@ -117,13 +100,11 @@ changing false true b = Changes Reset ∷ Changes (Placed b) ∷ Writes (Commit 
 
 pub asks : (flag fresh : Bool) (b : Batch) → ask_steps Opt flag fresh b ≡ Reads ∷ Reads ∷ changing flag fresh b
 asks true true b = refl
-asks true false b = refl
 asks false true b = refl
-asks false false b = refl
+asks _ false b = refl
 
 pub changing_commits : (fates : ℕ → Fate) (flag fresh : Bool) (b : Batch) → Commits b fresh (walk fates 3 (changing flag fresh b))
-changing_commits fates true false b = none_left b
-changing_commits fates false false b = none_left b
+changing_commits fates _ false b = none_left b
 changing_commits fates true true b =
     last_step (Changes (Commit b)) (fates 3).brings (fates 3).ends b
     (foreign_first (fates 3).brings (Commit b ∷ [])) (foreign_first (fates 3).brings [])
@@ -152,8 +133,7 @@ call_commits Opt fates flag fresh b =
 
 pub made-append : {S : Type 0} (level : Level S) (xs ys : List Move) (s : S)
     → all_made level s (xs ++ ys) ≡ all_made level (all_made level s xs) ys
-made-append level [] ys s = refl
-made-append level (x ∷ xs) ys s = made-append level xs ys (level.made s x)
+made-append level xs ys s = fold-append level.made s xs ys
 
 -- the history after others extended the register
 abbrev pub taking : History → List (List ℕ) → History
@@ -173,11 +153,7 @@ foreign_made i values moves y =
 pub foreign_in-append : (xs ys : List Move) → foreign_in (xs ++ ys) ≡ foreign_in xs ++ foreign_in ys
 foreign_in-append [] ys = refl
 foreign_in-append (Foreign v ∷ xs) ys = ap (λ w. v ∷ w) (foreign_in-append xs ys)
-foreign_in-append (Commit b ∷ xs) ys = foreign_in-append xs ys
-foreign_in-append (Placed b ∷ xs) ys = foreign_in-append xs ys
-foreign_in-append (Reset ∷ xs) ys = foreign_in-append xs ys
-foreign_in-append (Close ∷ xs) ys = foreign_in-append xs ys
-foreign_in-append (Power ∷ xs) ys = foreign_in-append xs ys
+foreign_in-append (_ ∷ xs) ys = foreign_in-append xs ys
 
 pub foreign_in-foreign : (values : List (List ℕ)) → foreign_in (map Foreign values) ≡ values
 foreign_in-foreign [] = refl

@@ -1,18 +1,14 @@
 -- The order in which an offer is refused: when it is accepted.
-use Rattle.std.proofs.Common.{◌≡◌, Bool, true, false, List, ℕ, Result, Ok, refl, sym, ap, subst}
-use Rattle.mm_seal.specs.Snapshot.{Content, Snapshot, tag_of}
-use Rattle.mm_model.specs.declared.refusal.Refusal.{Refusal}
-use Rattle.mm_model.specs.declared.verdict.Verdict.{Verdict}
-use Rattle.mm_model.specs.declared.verdict.Verdict.TheVariants.{Fresh, Again, Lost, Stale}
+use Rattle.mm_call.specs.Below.{refl, sym, ap, subst, Content, Snapshot, tag_of, Refusal, Verdict, Fresh, Again}
+use Rattle.std.proofs.Common.{◌≡◌, Bool, true, false, List, ℕ, Result, Ok}
 use Rattle.mm_call.specs.Order.{admitted}
 use Rattle.mm_call.specs.OrderWords.{weighed}
 use Rattle.mm_call.specs.Leaving.{IsAccepted}
 
 -- the verdict counts only for a rightly sealed offer of a spelled state
 pub weighed_alike : (s t : Bool) (v w : Verdict) (fits : Bool) → (s ≡ true → t ≡ true → v ≡ w) → weighed s t v fits ≡ weighed s t w fits
-weighed_alike false t v w fits h = refl
-weighed_alike true false v w fits h = refl
 weighed_alike true true v w fits h = ap (λ (x : Verdict). admitted x fits) (h refl refl)
+weighed_alike _ _ v w fits h = refl
 
 -- the verdict that accepts
 abbrev pub accepting : Bool → Verdict
@@ -26,19 +22,13 @@ pub record IsAdmitted (s t : Bool) (v : Verdict) (fits again : Bool) : Type 0 wh
   pub fitting : fits ≡ true
 
 admitted_only : (v : Verdict) (fits again : Bool) → admitted v fits ≡ Ok again → IsAdmitted true true v fits again
-admitted_only Fresh true true e = cc
 admitted_only Fresh true false e = record { spelled = refl; tagged = refl; verdict = refl; fitting = refl }
-admitted_only Fresh false again e = cc
 admitted_only Again true true e = record { spelled = refl; tagged = refl; verdict = refl; fitting = refl }
-admitted_only Again true false e = cc
-admitted_only Again false again e = cc
-admitted_only Lost fits again e = cc
-admitted_only Stale fits again e = cc
+admitted_only _ _ again e = cc
 
 pub weighed_only : (s t : Bool) (v : Verdict) (fits again : Bool) → weighed s t v fits ≡ Ok again → IsAdmitted s t v fits again
-weighed_only false t v fits again e = cc
-weighed_only true false v fits again e = cc
 weighed_only true true v fits again e = admitted_only v fits again e
+weighed_only _ _ v fits again e = cc
 
 -- the offer, taken apart
 abbrev pub offered_of : List ℕ → Content → Snapshot
@@ -52,8 +42,7 @@ pub record IsGiven (e : Result Bool Refusal) : Type 0 where
 admits : (v : Verdict) → IsAccepted v → IsGiven (admitted v true)
 admits Fresh a = record { again = false; is = refl }
 admits Again a = record { again = true; is = refl }
-admits Lost a = absurd a
-admits Stale a = absurd a
+admits _ a = absurd a
 
 pub weighs : (s t fits : Bool) (v : Verdict) → s ≡ true → t ≡ true → fits ≡ true → IsAccepted v → IsGiven (weighed s t v fits)
 weighs s t fits v p q r a =

@@ -3,12 +3,13 @@ use Rattle.mm_model.proofs.Below.{ℕ, ◌≡◌, ◌+◌, Bool, true, false, �
 use Rattle.mm_model.proofs.Below.{nat_eq, if◌then◌else◌, bytes_eq, Contains, Opt, zero_bytes, extended_message, anchored_message}
 use Rattle.mm_model.proofs.Below.{anchored_of, Batch, size_of, Meaning, Place, InBasic, InOpt, Content, guard_message, guard, register_of}
 use Rattle.mm_model.proofs.Below.{anchor_of, own_values, Instance, opt, History, Commit, joined, total_of, values_of, is_empty, has_value}
-use Rattle.mm_model.proofs.Below.{are_own, Life, Live, Spoiled, Lost, life_of, is_last, judge, judged, IsPoint, IsPlaceOf, Names, IsSound}
+use Rattle.mm_model.proofs.Below.{are_own, Life, Live, life_of, is_last, judge, judged, IsPoint, IsPlaceOf, Names, IsSound}
 use Rattle.mm_model.proofs.Below.{Within, IsClear, IsClearFor, messages_of, form_messages, point_messages, batch_messages, each_left}
 use Rattle.mm_model.proofs.Below.{at_the_end, taken_in, fresh_from, reads_zero, values_of-own}
 use Rattle.mm_model.specs.declared.verdict.Verdict.TheVariants.{Fresh as IsFresh}
 use Rattle.mm_model.proofs.Opt.{FreshSomehow, second_listed}
-use Rattle.mm_model.proofs.OptJudge.{Standpoint, stood_of, path_messages, held_at, live_values_at, live_clean, counted_values, shut_current}
+use Rattle.mm_model.proofs.OptJudge.{Standpoint, stood_of, path_messages, held_at, live_values_at, counted_values}
+use Rattle.mm_model.proofs.Paths.{live_clean, shut_current}
 use Rattle.mm_model.proofs.HistoryParts.{LiveParts, live_parts}
 
 judged_fresh : (l : Life) (x r : Bool) → judged l x r ≡ IsFresh → (l ≡ Live) × (x ≡ true)

@@ -1,7 +1,7 @@
 -- The messages of a history of Opt, by kind, and what its life tells of its four tests.
 use Rattle.mm_model.proofs.Below.{ℕ, ◌≡◌, Bool, true, false, ◌&&◌, List, [], ◌∷◌, ◌++◌, map, refl, sym, ◌⊎◌, inl, inr, AllByRecursion}
 use Rattle.mm_model.proofs.Below.{Contains, flat_map, Opt, start_message, start_of, trail, guard_message, closing_message, own_values}
-use Rattle.mm_model.proofs.Below.{Instance, History, values_of, Live, Spoiled, Lost, life_by, is_lost_life, Within, register_trail}
+use Rattle.mm_model.proofs.Below.{Instance, History, values_of, Live, Spoiled, life_by, is_lost_life, Within, register_trail}
 use Rattle.mm_model.proofs.Below.{messages_of, runs_of, each_left, each_right, true_not_false, Listed}
 use Rattle.mm_model.proofs.Paths.{RunsListed}
 
@@ -9,10 +9,6 @@ each_flat : {A B : Type 0} (P : B → Type 0) (f : A → List B) (xs : List A) �
     → AllByRecursion (λ x. AllByRecursion P (f x)) xs
 each_flat P f [] h = tt
 each_flat P f (x ∷ xs) h = (each_left P (f x) (flat_map f xs) h, each_flat P f xs (each_right P (f x) (flat_map f xs) h))
-
-each_map : {A B : Type 0} (P : B → Type 0) (f : A → B) (xs : List A) → AllByRecursion (λ x. P (f x)) xs → AllByRecursion P (map f xs)
-each_map P f [] h = tt
-each_map P f (x ∷ xs) h = (h.0, each_map P f xs h.1)
 
 pub each_unmap : {A B : Type 0} (P : B → Type 0) (Q : A → Type 0) (f : A → B) → ((x : A) → Q x → P (f x)) → (xs : List A)
     → AllByRecursion Q xs → AllByRecursion P (map f xs)
@@ -41,7 +37,8 @@ history_listed i y all h =
       guards = each_left C guards runs two;
       runs = each_flat C (λ run. register_trail (own_values i.barrier run)) (runs_of y) (each_right C guards runs two);
       listed = record {
-        inner = each_map (λ vs. Within (register_trail vs) all) (values_of i.barrier) y.closed
+        inner = each_unmap (λ vs. Within (register_trail vs) all) (λ s. Within (register_trail (values_of i.barrier s)) all)
+            (values_of i.barrier) (λ s h. h) y.closed
             (each_flat C (λ segment. register_trail (values_of i.barrier segment)) y.closed (each_right C (guards ++ runs) closed three));
         outer = each_right C (guards ++ runs ++ closed ++ items) closings h.1;
         last = each_right C (guards ++ runs ++ closed) items four;
@@ -54,31 +51,17 @@ pub record LiveParts (is_open is_bare is_own is_marred : Bool) : Type 0 where
   pub own : is_open ≡ true → is_own ≡ true
   pub held : is_open ≡ true → is_bare ≡ false
 
-life_clash : Spoiled ≡ Live → ⊥
-life_clash e = cc
-
-lost_live : Lost ≡ Live → ⊥
-lost_live e = cc
-
-lost_spoiled : Lost ≡ Spoiled → ⊥
-lost_spoiled e = cc
-
-live_spoiled : Live ≡ Spoiled → ⊥
-live_spoiled e = cc
-
 pub live_parts : (f p o m : Bool) → life_by f p o m ≡ Live → LiveParts f p o m
-live_parts true true o m e = absurd (lost_live e)
 live_parts true false true false e = record { clean = refl; own = λ _. refl; held = λ _. refl }
 live_parts false p o false e =
     record { clean = refl; own = λ t. absurd (true_not_false (sym t)); held = λ t. absurd (true_not_false (sym t)) }
-live_parts _ _ _ _ e = absurd (life_clash e)
+live_parts _ _ _ _ e = absurd (cc)
 
 pub spoiled_parts : (f p o m : Bool) → life_by f p o m ≡ Spoiled → (m ≡ true) ⊎ ((f ≡ true) × (p ≡ false) × (o ≡ false))
-spoiled_parts true true o m e = absurd (lost_spoiled e)
 spoiled_parts true false true true e = inl refl
 spoiled_parts true false false m e = inr (refl, refl, refl)
 spoiled_parts false p o true e = inl refl
-spoiled_parts _ _ _ false e = absurd (live_spoiled e)
+spoiled_parts _ _ _ _ e = absurd (cc)
 
 pub lost_test : (f p o m : Bool) → (f && p) ≡ is_lost_life (life_by f p o m)
 lost_test true false true false = refl

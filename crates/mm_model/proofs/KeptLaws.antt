@@ -1,7 +1,7 @@
 -- Loops over owned batches and entries.
-use Rattle.mm_model.proofs.Below.{ℕ, zero, suc, ◌≡◌, ◌+◌, ◌<◌, ◌≤◌, Bool, true, false, ◌&&◌, ◌||◌, List, [], ◌∷◌, ◌++◌, length, take, drop}
-use Rattle.mm_model.proofs.Below.{get_or, refl, sym, ap, ◌∙◌, arith, Vec, map-append, take_more, drop_more, drop_all, length-map, Batch}
-use Rattle.mm_model.proofs.Below.{kept_batch, kept_batches, kept_entry, kept_entries, kept_segments, stands_for, Entry, joined, and_parts}
+use Rattle.mm_model.proofs.Below.{ℕ, zero, suc, ◌≡◌, ◌+◌, ◌<◌, Bool, true, false, ◌||◌, List, [], ◌∷◌, ◌++◌, length, drop}
+use Rattle.mm_model.proofs.Below.{get_or, refl, sym, ap, ◌∙◌, arith, Vec, drop_more, length-map, Batch}
+use Rattle.mm_model.proofs.Below.{kept_batch, kept_batches, kept_entry, kept_entries, kept_segments, Entry, joined, and_parts}
 use Rattle.mm_model.proofs.Below.{same_batch, has_value, are_own, is_last, true_not_false, has_value-append}
 use Rattle.mm_model.specs.declared.kept.KeptBatch.{KeptBatch}
 use Rattle.mm_model.specs.declared.kept.KeptEntry.{KeptEntry}

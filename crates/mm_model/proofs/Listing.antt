@@ -9,8 +9,7 @@ use Rattle.mm_model.proofs.Below.{moving_messages, IsAllowed, MayMove, batch_mes
 use Rattle.mm_model.proofs.Below.{nothing_left, listed_value, own_values-append, values_of-append, length-batches_in, values_renamed}
 use Rattle.mm_model.specs.Chains.{register_of, anchor_of}
 use Rattle.mm_model.specs.MessagesWords.{move_messages}
-use Rattle.mm_model.proofs.Paths.{RunsListed, current_clean}
-use Rattle.mm_model.proofs.OptJudge.{shut_current}
+use Rattle.mm_model.proofs.Paths.{RunsListed, current_clean, shut_current}
 use Rattle.mm_model.proofs.HistoryParts.{HistoryListed, history_listed}
 use Rattle.mm_model.proofs.Moves.{moving, moving_is, open_current}
 
@@ -63,6 +62,10 @@ module _ (i : Instance) where
     runs = h.runs;
     listed = record { inner = h.listed.inner; outer = h.listed.outer; last = w };
   }
+
+  pub items_messages : (y : History) (items : List Entry) (all : List (List ℕ)) → Within (messages_of Opt i y) all
+      → Within (register_trail (values_of i.barrier items)) all → Within (messages_of Opt i (record y { items = items })) all
+  items_messages y items all h w = listed_history (record y { items = items }) all (items_listed y items all (history_listed i y all h) w)
 
 -- the batches before the open segment stay, where both grow by one
 front_stays : (batches current : List Batch) (b : Batch)

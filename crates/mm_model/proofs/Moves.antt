@@ -2,14 +2,13 @@
 use Rattle.mm_model.proofs.Below.{ℕ, ◌≡◌, Bool, true, false, ◌||◌, List, [], ◌∷◌, ◌++◌, refl, sym, ap, ◌∙◌, subst, inl, inr, append_assoc}
 use Rattle.mm_model.proofs.Below.{map, append-nil, map-append, and_from, and_parts, Opt, Basic, Batch, Meaning, guard, register_of}
 use Rattle.mm_model.proofs.Below.{anchor_of, Instance, opt, basic, Entry, Own, Value, History, Move, Commit, Foreign, Placed, Reset, Close}
-use Rattle.mm_model.proofs.Below.{Power, joined, renamed, moved, committed, register_value_of, is_empty, has_value, are_own, same_batch}
+use Rattle.mm_model.proofs.Below.{Power, joined, renamed, moved, committed, is_empty, has_value, are_own, same_batch}
 use Rattle.mm_model.proofs.Below.{IsSound, AreItems, batches_in, IsOpening, IsAllowed, MayMove, Digests, digests_of, made, committing}
 use Rattle.mm_model.proofs.Below.{IsOutside, Brings, each_append, each_left, same_batch-Decides, total-push, true_not_false, joined-push}
 use Rattle.mm_model.proofs.Below.{has_value-append, batches_in-append, register_more, values_renamed, renamed-push, if◌then◌else◌}
-use Rattle.mm_model.proofs.Below.{AllByRecursion, Contains, zero_bytes, extended_of, anchored_of, values_of, cell_digest_of, values_in}
+use Rattle.mm_model.proofs.Below.{AllByRecursion, Contains, zero_bytes, anchored_of, values_of, values_in}
 use Rattle.mm_model.proofs.Below.{summary-push, anchor-push, reads_zero}
-use Rattle.mm_model.proofs.Paths.{current_clean, empty_cases, marred_has}
-use Rattle.mm_model.proofs.OptJudge.{shut_current}
+use Rattle.mm_model.proofs.Paths.{current_clean, empty_cases, marred_has, shut_current}
 use Rattle.mm_model.specs.Symbolic.{commit_moves, moved_by, with_batch}
 
 has_value-push : (es : List Entry) (d : List ℕ) → has_value (es ++ Value d ∷ []) ≡ true

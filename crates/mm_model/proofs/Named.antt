@@ -2,11 +2,11 @@
 use Rattle.mm_model.proofs.Below.{ℕ, ◌≡◌, ◌≤◌, Bool, true, false, List, [], ◌∷◌, ◌++◌, length, refl, sym, ap, ◌∙◌, subst, ◌⊎◌, inl, inr}
 use Rattle.mm_model.proofs.Below.{arith, append_assoc, length-append, append-nil, append_cancel_right, Basic, Opt, Batch, Meaning, Place}
 use Rattle.mm_model.proofs.Below.{InBasic, InOpt, Content, guard, Instance, basic, opt, Entry, Own, Value, History, Move, Commit, Foreign}
-use Rattle.mm_model.proofs.Below.{Placed, Reset, Close, Power, joined, moved, renamed, has_value, IsSound, IsClean, batches_in, AtAnchor}
+use Rattle.mm_model.proofs.Below.{Placed, Close, joined, moved, renamed, has_value, IsSound, IsClean, batches_in, AtAnchor}
 use Rattle.mm_model.proofs.Below.{InClosed, IsPoint, at_anchor, in_closed, in_current, IsPlaceOf, Names, issued, issued_place, IsAllowed}
-use Rattle.mm_model.proofs.Below.{MayMove, true_not_false, joined-append, length-batches_in}
-use Rattle.mm_model.proofs.Paths.{current_clean, marred_has}
-use Rattle.mm_model.proofs.OptJudge.{shut_current}
+use Rattle.mm_model.proofs.Below.{MayMove, joined-append, length-batches_in}
+use Rattle.mm_model.proofs.Below.{anchor_after}
+use Rattle.mm_model.proofs.Paths.{current_clean, live_clean, shut_current}
 use Rattle.mm_model.proofs.Moves.{moving, moving_is, open_current, opening_clean}
 
 -- a place at an anchor or in a closed segment, in a history with these closed segments and perhaps more
@@ -40,25 +40,35 @@ module _ (i : Instance) (key : List ℕ) (y z : History) (more : List (List Entr
     extension_is = p.extension_is;
   })
 
+-- a place in a history with the same closed segments, whose open one has perhaps more batches
+point_more : (i : Instance) (key : List ℕ) (y z : History) (more : List Batch) → z.closed ≡ y.closed → z.current ≡ y.current ++ more
+    → z.batches ≡ y.batches ++ more → (named : List Batch) (a e : List ℕ)
+    → ((p : InClosed i y named a e) → (length p.taken ≤ length p.segment) ⊎ ((p.later ≡ []) × (z.current ≡ []))) → IsPoint i y named a e
+    → IsPoint (record i { key = key }) z named a e
+point_more i key y z more closed current batches named a e within (at_anchor p) =
+    anchor_kept i key y z [] (closed ∙ sym (append-nil y.closed)) named a e p
+point_more i key y z more closed current batches named a e within (in_closed p) =
+    closed_kept i key y z [] (closed ∙ sym (append-nil y.closed)) named a e p
+    (elim (within p) [ inl inside ↦ inl inside | inr last ↦ inr (append-nil p.later ∙ last.0, last.1) ])
+point_more i key y z more closed current batches named a e within (in_current p) = in_current (record {
+  done = p.done;
+  taken = p.taken;
+  more = p.more ++ more;
+  split = current ∙ ap (λ (v : List Batch). v ++ more) p.split ∙ append_assoc p.taken p.more more;
+  start = batches ∙ ap (λ (v : List Batch). v ++ more) p.start ∙ append_assoc p.done y.current more
+      ∙ ap (λ (v : List Batch). p.done ++ v) (sym current);
+  named_is = p.named_is;
+  begun = p.begun;
+  anchor_is = p.anchor_is ∙ ap (anchor_after i) (sym closed);
+  extension_is = p.extension_is;
+})
+
 -- neither the key nor the register's items are part of a place
 pub point_kept : (i : Instance) (key : List ℕ) (y : History) (items : List Entry) (named : List Batch) (a e : List ℕ)
     → IsPoint i y named a e → IsPoint (record i { key = key }) (record y { items = items }) named a e
-point_kept i key y items named a e (at_anchor p) =
-    anchor_kept i key y (record y { items = items }) [] (sym (append-nil y.closed)) named a e p
-point_kept i key y items named a e (in_closed p) =
-    closed_kept i key y (record y { items = items }) [] (sym (append-nil y.closed)) named a e p
-    (elim p.within [ inl inside ↦ inl inside | inr last ↦ inr (append-nil p.later ∙ last.0, last.1) ])
-point_kept i key y items named a e (in_current p) = in_current (record {
-  done = p.done;
-  taken = p.taken;
-  more = p.more;
-  split = p.split;
-  start = p.start;
-  named_is = p.named_is;
-  begun = p.begun;
-  anchor_is = p.anchor_is;
-  extension_is = p.extension_is;
-})
+point_kept i key y items named a e p =
+    point_more i key y (record y { items = items }) [] refl (sym (append-nil y.current)) (sym (append-nil y.batches)) named a e
+    (λ q. q.within) p
 
 pub point_items : (i : Instance) (y : History) (items : List Entry) (named : List Batch) (a e : List ℕ) → IsPoint i y named a e
     → IsPoint i (record y { items = items }) named a e
@@ -88,25 +98,9 @@ ends_within i y named rest a e clean first p = elim p.within [
 point_commit : (i : Instance) (y : History) (current : List Batch) (is_open : Bool) (items : List Entry) (b : Batch)
     (named rest : List Batch) (a e : List ℕ) → IsClean y → y.batches ≡ named ++ rest → current ≡ y.current ++ b ∷ [] → IsPoint i y named a e
     → IsPoint i (record y { batches = y.batches ++ b ∷ []; current = current; is_open = is_open; items = items }) named a e
-point_commit i y current is_open items b named rest a e clean first grown (at_anchor p) =
+point_commit i y current is_open items b named rest a e clean first grown p =
     let z : History = record y { batches = y.batches ++ b ∷ []; current = current; is_open = is_open; items = items } in
-    anchor_kept i i.key y z [] (sym (append-nil y.closed)) named a e p
-point_commit i y current is_open items b named rest a e clean first grown (in_closed p) =
-    let z : History = record y { batches = y.batches ++ b ∷ []; current = current; is_open = is_open; items = items } in
-    closed_kept i i.key y z [] (sym (append-nil y.closed)) named a e p (inl (ends_within i y named rest a e clean first p))
-point_commit i y current is_open items b named rest a e clean first grown (in_current p) = in_current (record {
-  done = p.done;
-  taken = p.taken;
-  more = p.more ++ b ∷ [];
-  split = grown ∙ ap (λ (v : List Batch). v ++ b ∷ []) p.split ∙ append_assoc p.taken p.more (b ∷ []);
-  start =
-      ap (λ (v : List Batch). v ++ b ∷ []) p.start ∙ append_assoc p.done y.current (b ∷ [])
-      ∙ ap (λ (v : List Batch). p.done ++ v) (sym grown);
-  named_is = p.named_is;
-  begun = p.begun;
-  anchor_is = p.anchor_is;
-  extension_is = p.extension_is;
-})
+    point_more i i.key y z (b ∷ []) refl grown refl named a e (λ q. inl (ends_within i y named rest a e clean first q)) p
 
 -- the open segment becomes the last closed one
 point_close : (i : Instance) (y : History) (named rest : List Batch) (a e : List ℕ) → IsClean y → y.batches ≡ named ++ rest
@@ -133,16 +127,13 @@ point_close i y named rest a e clean first (in_current p) = in_closed (record {
   extension_is = p.extension_is;
 })
 
-clean_here : (y : History) → IsSound y → has_value (joined y.closed) ≡ false → IsClean y
-clean_here y sound clean = elim sound.history [ inl h ↦ h | inr h ↦ absurd (true_not_false (sym (marred_has y h) ∙ clean)) ]
-
 point_at : (i : Instance) (y : History) (flag : Bool) (m : Move) (named rest : List Batch) (a e : List ℕ) → IsSound y → y.is_open ≡ flag
     → IsAllowed Opt flag i y m → y.batches ≡ named ++ rest → IsPoint i y named a e → IsPoint i (moving flag i y m) named a e
 point_at i y true (Commit b) named rest a e sound f may first p =
     point_commit i y (y.current ++ b ∷ []) y.is_open (y.items ++ Own b ∷ []) b named rest a e
     (current_clean y sound (open_current y sound f)) first refl p
 point_at i y false (Commit b) named rest a e sound f may first p =
-    point_commit i y (b ∷ []) true (renamed y.items b) b named rest a e (clean_here y sound may.clean) first
+    point_commit i y (b ∷ []) true (renamed y.items b) b named rest a e (live_clean y sound may.clean) first
     (ap (λ (v : List Batch). v ++ b ∷ []) (sym (shut_current y sound f))) p
 point_at i y flag (Foreign d) named rest a e sound f may first p = point_items i y (y.items ++ Value d ∷ []) named a e p
 point_at i y flag (Placed b) named rest a e sound f may first p = point_items i y (y.items ++ Value (guard i.barrier b) ∷ []) named a e p
@@ -165,7 +156,7 @@ batches_at i y flag _ = sym (append-nil y.batches)
 issued_point : (i : Instance) (y : History) (flag : Bool) → IsSound y → has_value (joined y.closed) ≡ false → y.is_open ≡ flag
     → IsPlaceOf Opt i y y.batches (issued_place Opt flag i y)
 issued_point i y true sound clean f =
-    let c = clean_here y sound clean in
+    let c = live_clean y sound clean in
     in_current (record {
       done = batches_in (joined y.closed);
       taken = y.current;
@@ -178,7 +169,7 @@ issued_point i y true sound clean f =
       extension_is = refl;
     })
 issued_point i y false sound clean f =
-    let c = clean_here y sound clean in
+    let c = live_clean y sound clean in
     at_anchor (record {
       before = y.closed;
       later = [];

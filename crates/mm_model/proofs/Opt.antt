@@ -1,34 +1,26 @@
 -- Opt: the verdict by digests is the verdict on the history.
-use Rattle.mm_model.proofs.Below.{ℕ, ◌≡◌, Bool, true, false, ◌||◌, List, [], ◌∷◌, ◌++◌, refl, sym, ap, ◌∙◌, subst, ◌⊎◌, inl, inr}
+use Rattle.mm_model.proofs.Below.{ℕ, ◌≡◌, Bool, true, false, ◌||◌, List, [], ◌∷◌, ◌++◌, refl, sym, ap, ◌∙◌, subst, ◌⊎◌}
 use Rattle.mm_model.proofs.Below.{if◌then◌else◌, Decides, bytes_eq, Contains, list_any, zero_bytes, anchored_message, anchored_of}
 use Rattle.mm_model.proofs.Below.{register_of, anchor_of, is_empty, Point, forms_of, fits_fresh, fits_again, Within, IsClear}
 use Rattle.mm_model.proofs.Below.{register_trail, form_messages, point_messages, each_left, each_right, anchor-push, same_tests, Fresh}
 use Rattle.mm_model.proofs.Below.{Again, true_not_false, Listed, Clears, point_of, fresh_tells, again_tells, zero_register, listed_segment}
 use Rattle.mm_model.proofs.Below.{reads_zero}
+use Rattle.std.proofs.lemmas.Bool.Decides.{Decides-or}
 
-either : {A B : Type 0} (x y : Bool) → Decides x A → Decides y B → Decides (x || (y || false)) (A ⊎ B)
-either true y a b = (λ _. inl (a.0 refl), λ _. refl)
-either false true a b = (λ _. inr (b.0 refl), λ _. refl)
-either false false a b = (
-  λ e. absurd (true_not_false (sym e)),
-  λ h. elim h [
-    | inl p ↦ absurd (true_not_false (sym (a.1 p)))
-    | inr q ↦
-        absurd (true_not_false (sym (b.1 q)))
-  ],
-)
+or_nothing : (x : Bool) → x ≡ (x || false)
+or_nothing true = refl
+or_nothing false = refl
 
-alone : {A B : Type 0} (x : Bool) → Decides x A → (B → ⊥) → Decides (x || false) (A ⊎ B)
-alone true a b = (λ _. inl (a.0 refl), λ _. refl)
-alone false a b = (
-  λ e. absurd (true_not_false (sym e)),
-  λ h. elim h [
-    | inl p ↦ absurd (true_not_false (sym (a.1 p)))
-    | inr q ↦ absurd (b q)
-  ],
-)
+-- a test on the second form of a place, which there is where its extension isn't zero
+on_second : (B : Type 0) (test : Point → Bool) (second : Point) (rest : List (List ℕ)) (is_zero : Bool) → is_zero ≡ is_empty rest
+    → (is_empty rest ≡ false → Decides (test second) B)
+    → Decides (list_any test (if is_zero then [] else second ∷ [])) ((is_empty rest ≡ false) × B)
+on_second B test second rest true r db = (λ t. absurd (true_not_false (sym t)), λ q. absurd (true_not_false (r ∙ q.0)))
+on_second B test second rest false r db =
+    subst (λ x. Decides x ((is_empty rest ≡ false) × B)) (or_nothing (test second))
+    (λ t. (sym r, (db (sym r)).0 t), λ q. (db (sym r)).1 q.1)
 
--- a test on some form of a place: on the first, or where its extension isn't zero on the second
+-- a test on some form of a place
 on_forms : (A B : Type 0) (test : Point → Bool) (a e : List ℕ) (rest : List (List ℕ)) (is_zero : Bool) → is_zero ≡ is_empty rest
     → Decides (test (record { anchor = a; extension = e })) A → (is_empty rest ≡ false
     → Decides (test (record { anchor = anchored_of a e; extension = zero_bytes })) B)
@@ -36,12 +28,10 @@ on_forms : (A B : Type 0) (test : Point → Bool) (a e : List ℕ) (rest : List 
       anchor = anchored_of a e;
       extension = zero_bytes;
     } ∷ []))) (A ⊎ (is_empty rest ≡ false) × B)
-on_forms A B test a e rest true r da db = alone (test (record { anchor = a; extension = e })) da (λ q. true_not_false (r ∙ q.0))
-on_forms A B test a e rest false r da db =
-    let there = db (sym r) in
-    let second : Decides (test (record { anchor = anchored_of a e; extension = zero_bytes })) ((is_empty rest ≡ false) × B) =
-    (λ t. (sym r, there.0 t), λ q. there.1 q.1) in
-    either (test (record { anchor = a; extension = e })) (test (record { anchor = anchored_of a e; extension = zero_bytes })) da second
+on_forms A B test a e rest is_zero r da db =
+    let second : Point = record { anchor = anchored_of a e; extension = zero_bytes } in
+    Decides-or (test (record { anchor = a; extension = e })) (list_any test (if is_zero then [] else second ∷ [])) da
+    (on_second B test second rest is_zero r db)
 
 pub zero_tells : (all : List (List ℕ)) → IsClear all → (rest : List (List ℕ)) → Within (register_trail rest) all
     → bytes_eq (register_of rest) zero_bytes ≡ is_empty rest

@@ -12,7 +12,7 @@ use Rattle.mm_model.proofs.Below.{same_own_values, same_tests, at_the_end, befor
 use Rattle.mm_model.proofs.Below.{fresh_joins, again_joins, Reaches, IsHeld, fresh_from, again_from, Listed, Clears, own_values-append}
 use Rattle.mm_model.proofs.Below.{values_of-append, joined-values, has_value-append, values_of-clean, values_of-own, meets}
 use Rattle.std.proofs.lemmas.List.Elements.{Contains-append_left, Contains-append_right, Contains-push, Contains-push_cases}
-use Rattle.mm_model.proofs.Paths.{path_of, empty_cases, marred_has}
+use Rattle.mm_model.proofs.Paths.{live_clean, path_of, shut_current}
 use Rattle.mm_model.proofs.Opt.{zero_tells, FreshSomehow, AgainSomehow, second_listed, fresh_somehow, again_somehow}
 use Rattle.mm_model.proofs.HistoryParts.{each_unmap, history_listed, LiveParts, live_parts, spoiled_parts, lost_test}
 
@@ -26,10 +26,6 @@ counted_values barrier true closed items =
 counted_values barrier false closed items =
     append-nil (joined (map (values_of barrier) closed)) ∙ joined-values barrier closed
     ∙ ap (values_of barrier) (sym (append-nil (joined closed)))
-
-pub shut_current : (y : History) → IsSound y → y.is_open ≡ false → y.current ≡ []
-shut_current y sound shut =
-    elim (empty_cases y.current) [ inl none ↦ none | inr some ↦ absurd (true_not_false (sym (sound.open_is some) ∙ shut)) ]
 
 pub live_values_at : (barrier : List ℕ) (y : History) (flag : Bool) → IsSound y → y.is_open ≡ flag → IsClean y
     → LiveParts flag (is_empty y.items) (are_own y.items y.current) (has_value (joined y.closed))
@@ -59,9 +55,6 @@ or_first true b e = refl
 or_first false b e = absurd (true_not_false (sym e))
 
 module _ (y : History) where
-  pub live_clean : IsSound y → has_value (joined y.closed) ≡ false → IsClean y
-  live_clean sound clean = elim sound.history [ inl h ↦ h | inr h ↦ absurd (true_not_false (sym (marred_has y h) ∙ clean)) ]
-
   pub spoiled_has_at : (flag : Bool) → IsSound y → y.is_open ≡ flag → life_by flag (is_empty y.items) (are_own y.items y.current)
       (has_value (joined y.closed)) ≡ Spoiled → has_value (joined y.closed ++ (if flag then y.items else [])) ≡ true
   spoiled_has_at flag sound f e = elim (spoiled_parts flag (is_empty y.items) (are_own y.items y.current) (has_value (joined y.closed)) e) [

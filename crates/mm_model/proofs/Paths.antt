@@ -19,39 +19,41 @@ pub empty_cases : {A : Type 0} (xs : List A) → (xs ≡ []) ⊎ (is_empty xs �
 empty_cases [] = inl refl
 empty_cases (x ∷ xs) = inr refl
 
+pub shut_current : (y : History) → IsSound y → y.is_open ≡ false → y.current ≡ []
+shut_current y sound shut =
+    elim (empty_cases y.current) [ inl none ↦ none | inr some ↦ absurd (true_not_false (sym (sound.open_is some) ∙ shut)) ]
+
 module _ (y : History) where
-  pub begins_clean : (before later : List (List Entry)) → IsClean y → y.closed ≡ before ++ later → Begins y before
-  begins_clean before later h split =
-      let whole : joined y.closed ≡ joined before ++ joined later = ap joined split ∙ joined-append before later in
-      let tests = or_parts (has_value (joined before)) (has_value (joined later))
-      (sym (has_value-append (joined before) (joined later)) ∙ ap has_value (sym whole) ∙ h.clean) in
+  begins_by : (before between whole : List (List Entry)) (rest : List Batch) → whole ≡ before ++ between → has_value (joined whole) ≡ false
+      → y.batches ≡ batches_in (joined whole) ++ rest → Begins y before
+  begins_by before between whole rest split clean batches =
+      let all : joined whole ≡ joined before ++ joined between = ap joined split ∙ joined-append before between in
+      let tests = or_parts (has_value (joined before)) (has_value (joined between))
+      (sym (has_value-append (joined before) (joined between)) ∙ ap has_value (sym all) ∙ clean) in
       record {
         clean = tests.0;
-        tail = batches_in (joined later) ++ y.current;
-        is = h.batches ∙ ap (λ (v : List Entry). batches_in v ++ y.current) whole
-            ∙ ap (λ (v : List Batch). v ++ y.current) (batches_in-append (joined before) (joined later))
-            ∙ append_assoc (batches_in (joined before)) (batches_in (joined later)) y.current;
+        tail = batches_in (joined between) ++ rest;
+        is = batches ∙ ap (λ (v : List Entry). batches_in v ++ rest) all
+            ∙ ap (λ (v : List Batch). v ++ rest) (batches_in-append (joined before) (joined between))
+            ∙ append_assoc (batches_in (joined before)) (batches_in (joined between)) rest;
       }
+
+  pub begins_clean : (before later : List (List Entry)) → IsClean y → y.closed ≡ before ++ later → Begins y before
+  begins_clean before later h split = begins_by before later y.closed y.current split h.clean h.batches
 
   begins_marred : (before later : List (List Entry)) → IsMarred y → y.closed ≡ before ++ later → is_empty later ≡ false → Begins y before
   begins_marred before later h split some =
       let s = sooner before later h.before h.last (sym split ∙ h.split) some in
-      let whole : joined h.before ≡ joined before ++ joined s.between = ap joined s.is ∙ joined-append before s.between in
-      let tests = or_parts (has_value (joined before)) (has_value (joined s.between))
-      (sym (has_value-append (joined before) (joined s.between)) ∙ ap has_value (sym whole) ∙ h.clean) in
-      record {
-        clean = tests.0;
-        tail = batches_in (joined s.between) ++ h.rest;
-        is = h.batches ∙ ap (λ (v : List Entry). batches_in v ++ h.rest) whole
-            ∙ ap (λ (v : List Batch). v ++ h.rest) (batches_in-append (joined before) (joined s.between))
-            ∙ append_assoc (batches_in (joined before)) (batches_in (joined s.between)) h.rest;
-      }
+      begins_by before s.between h.before h.rest s.is h.clean h.batches
 
   -- a marred history's closed segments hold a value that stands for no batch
   pub marred_has : IsMarred y → has_value (joined y.closed) ≡ true
   marred_has h =
       ap (λ (v : List (List Entry)). has_value (joined v)) h.split ∙ ap has_value (joined-push h.before h.last)
       ∙ has_value-append (joined h.before) h.last ∙ ap (λ (b : Bool). b || has_value h.last) h.clean ∙ h.marred
+
+  pub live_clean : IsSound y → has_value (joined y.closed) ≡ false → IsClean y
+  live_clean sound clean = elim sound.history [ inl h ↦ h | inr h ↦ absurd (true_not_false (sym (marred_has h) ∙ clean)) ]
 
   begins : (before later : List (List Entry)) → IsSound y → y.closed ≡ before ++ later → (has_value (joined before) ≡ false)
       ⊎ (is_empty later ≡ false) → Begins y before
@@ -207,15 +209,11 @@ module _ (y : History) where
       let nothing : length y.current ≡ 0 = ap length none in
       omega (arith, whole, parts, nothing)
 
-  marred_current : IsSound y → IsMarred y → y.current ≡ []
-  marred_current sound h =
-      elim (empty_cases y.current) [ inl none ↦ none | inr some ↦ absurd (true_not_false (sym (sound.open_is some) ∙ h.shut)) ]
-
 -- a path into a closed segment ends before the open one
 ends_before_current : (i : Instance) (y : History) (named rest : List Batch) (a e : List ℕ) → IsSound y → y.batches ≡ named ++ rest
     → (p : InClosed i y named a e) → length named ≤ length y.batches - length y.current
 ends_before_current i y named rest a e sound first p = elim sound.history [
-  | inr h ↦ none_longer y named rest first (marred_current y sound h)
+  | inr h ↦ none_longer y named rest first (shut_current y sound h.shut)
   | inl h ↦ elim p.within [
     | inr last ↦ none_longer y named rest first last.1
     | inl within ↦

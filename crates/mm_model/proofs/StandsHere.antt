@@ -10,7 +10,9 @@ use Rattle.mm_model.proofs.Below.{history_messages, messages_of, values_in, coun
 use Rattle.mm_model.proofs.Below.{basic_here}
 use Rattle.mm_model.specs.StandingHere.{is_new, place_messages}
 use Rattle.mm_model.proofs.Opt.{zero_tells, FreshSomehow, fresh_somehow}
-use Rattle.mm_model.proofs.OptJudge.{Standpoint, stood_of, held_at, live_values_at, live_clean, live_fresh, fresh_counts, never, never_guards, among_all, spoiled_has_at, zero_items}
+use Rattle.mm_model.proofs.Paths.{live_clean}
+use Rattle.mm_model.proofs.OptJudge.{Standpoint, stood_of, held_at, live_values_at, live_fresh, fresh_counts, never, never_guards}
+use Rattle.mm_model.proofs.OptJudge.{among_all, spoiled_has_at, zero_items}
 use Rattle.mm_model.proofs.HistoryParts.{live_parts, lost_test}
 
 new_by : (fresh again : Bool) → is_new (verdict_by false fresh again) ≡ fresh

@@ -1,22 +1,13 @@
 -- Basic: the verdict by digests is the verdict on the history.
-use Rattle.std.proofs.Common.{ℕ, ◌≡◌, ◌+◌, Bool, true, false, ◌&&◌, List, [], ◌∷◌, ◌++◌, refl, sym, ap, ◌∙◌, subst}
-use Rattle.std.specs.Prelude.{nat_eq}
-use Rattle.std.specs.Str.{bytes_eq}
-use Rattle.std.specs.List.{Contains}
-use Rattle.std.proofs.lemmas.Slice.Eq.{bytes_eq-Decides}
-use Rattle.mm_digest.specs.declared.variant.Variant.TheVariants.{Basic}
-use Rattle.mm_digest.specs.Messages.{zero_bytes, start_message, start_of}
-use Rattle.mm_module.specs.Batch.{Batch, size_of}
-use Rattle.mm_module.specs.Meaning.{Meaning}
+use Rattle.mm_model.specs.Below.{◌≡◌, ◌+◌, ◌&&◌, ◌++◌, refl, sym, ap, ◌∙◌, subst, bytes_eq-Decides, Contains, nat_eq, bytes_eq, zero_bytes}
+use Rattle.mm_model.specs.Below.{start_message, start_of, Basic, Content, Place, InBasic, InOpt, Batch, size_of, Meaning}
+use Rattle.std.proofs.Common.{ℕ, Bool, true, false, List, [], ◌∷◌}
 use Rattle.mm_model.specs.Chains.{trail, link_message, link, summary_of}
 use Rattle.mm_model.specs.InstanceWords.{basic}
 use Rattle.mm_model.specs.History.{History, total_of}
 use Rattle.mm_model.specs.HistoryWords.{cell_digest_of}
 use Rattle.mm_model.specs.Life.{Live}
 use Rattle.mm_model.specs.Judge.{is_last, judged, judge, verdict_by, basic_verdict, verdict_by_digests}
-use Rattle.mm_seal.specs.declared.snapshot.Place.{Place}
-use Rattle.mm_seal.specs.declared.snapshot.Place.TheVariants.{Basic as InBasic, Opt as InOpt}
-use Rattle.mm_seal.specs.Snapshot.{Content}
 use Rattle.mm_model.specs.Places.{IsPlaceOf, Names}
 use Rattle.mm_model.specs.Messages.{Within, IsClear, IsClearFor}
 use Rattle.mm_model.specs.ChainLaws.{trail_front, trail_push}

@@ -1,12 +1,7 @@
 -- Chains of digests: one more item, and equal ends of equal lists.
-use Rattle.std.proofs.Common.{ℕ, ◌≡◌, ◌≢◌, List, [], ◌∷◌, ◌++◌, length, refl, sym, ap, ◌∙◌, subst, inl, inr}
-use Rattle.std.specs.List.{AllByRecursion, Contains}
-use Rattle.sha2.specs.Sha256.{sha256}
-use Rattle.sha2.proofs.Facts256.{length-sha256}
-use Rattle.mm_module.specs.Batch.{Batch}
-use Rattle.mm_digest.specs.declared.variant.Variant.TheVariants.{Basic, Opt}
-use Rattle.mm_digest.specs.Messages.{zero_bytes, start_of, extended_message}
-use Rattle.mm_digest.specs.LengthLaws.{length-zero_bytes, length-start_of}
+use Rattle.mm_model.specs.Below.{◌≡◌, ◌≢◌, ◌++◌, length, refl, sym, ap, ◌∙◌, subst, inl, inr, AllByRecursion, Contains, length-sha256}
+use Rattle.mm_model.specs.Below.{sha256, length-zero_bytes, length-start_of, zero_bytes, start_of, extended_message, Basic, Opt, Batch}
+use Rattle.std.proofs.Common.{ℕ, List, [], ◌∷◌}
 use Rattle.mm_model.specs.Chains.{after, trail, link, link_message, closing_message, summary_of, anchor_of, register_of}
 use Rattle.mm_model.specs.Messages.{Within, IsClear}
 use Rattle.mm_model.specs.ListLaws.{ends, by_last, each_left, each_right, each_append}

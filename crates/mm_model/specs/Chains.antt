@@ -1,10 +1,8 @@
 -- What the digests stand for: the summary of a list of batches, the value of a register and the
 -- anchor
-use Rattle.std.specs.Prelude.{ℕ, List, [], ◌∷◌, ◌++◌}
-use Rattle.sha2.specs.Sha256.{sha256}
-use Rattle.mm_digest.specs.declared.variant.Variant.TheVariants.{Basic, Opt}
-use Rattle.mm_digest.specs.Messages.{zero_bytes, start_of, extended_message, anchored_message}
-use Rattle.mm_module.specs.Batch.{Batch, One, Many}
+use Rattle.mm_model.specs.Below.{ℕ, List, [], ◌∷◌, sha256, zero_bytes, start_of, extended_message, anchored_message, Basic, Opt, Batch, One}
+use Rattle.mm_model.specs.Below.{Many}
+use Rattle.std.specs.Prelude.{◌++◌}
 
 -- of a list of segments. Each is one chain: every item is hashed with the digest before it.
 

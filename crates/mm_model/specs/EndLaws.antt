@@ -1,13 +1,7 @@
 -- Corollaries of the verdicts.
-use Rattle.std.proofs.Common.{ℕ, ◌≡◌, ◌+◌, ◌&&◌, List, ◌∷◌, ◌++◌, refl, sym, ap, inl, inr}
-use Rattle.std.specs.Prelude.{nat_eq}
-use Rattle.std.specs.List.{Contains}
-use Rattle.std.proofs.lemmas.List.Elements.{recursion_from_All, All-contains_itself}
-use Rattle.mm_digest.specs.declared.variant.Variant.TheVariants.{Basic, Opt}
-use Rattle.mm_digest.specs.Messages.{start_of}
-use Rattle.mm_module.specs.Batch.{Batch, size_of}
-use Rattle.mm_module.specs.Meaning.{Meaning}
-use Rattle.mm_seal.specs.declared.snapshot.Place.{Place}
+use Rattle.mm_model.specs.Below.{◌≡◌, ◌+◌, ◌&&◌, ◌++◌, refl, sym, ap, inl, inr, recursion_from_All, All-contains_itself, Contains, nat_eq}
+use Rattle.mm_model.specs.Below.{start_of, Basic, Opt, Place, Batch, size_of, Meaning}
+use Rattle.std.proofs.Common.{ℕ, List, ◌∷◌}
 use Rattle.mm_model.specs.Chains.{link_message, summary_of}
 use Rattle.mm_model.specs.Instance.{Instance}
 use Rattle.mm_model.specs.InstanceWords.{basic}

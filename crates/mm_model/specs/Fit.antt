@@ -1,8 +1,6 @@
 -- The sizes of an answer.
-use Rattle.std.specs.Prelude.{◌≡◌, ◌≤◌, length, All}
-use Rattle.mm_base.specs.Limits.{last_position}
-use Rattle.mm_module.specs.Meaning.{IsLine}
-use Rattle.mm_module.specs.Batch.{Batch, size_of}
+use Rattle.mm_model.specs.Below.{All, last_position, Batch, size_of, IsLine}
+use Rattle.std.specs.Prelude.{◌≡◌, ◌≤◌, length}
 use Rattle.mm_model.specs.declared.answer.BatchAnswer.{BatchAnswer}
 
 -- The answer to the batch has a position from 1 to 2^48, a line for each request, and a snapshot

@@ -1,20 +1,10 @@
 -- An answer that was run from a spelled state, with positions left for it, is fit.
-use Rattle.std.proofs.Common.{◌≡◌, ℕ, ◌+◌, ◌≤◌, ◌<◌, Bool, true, false, List, [], ◌∷◌, length, IsTrue, arith, length-append}
-use Rattle.std.specs.Prelude.{All, nat_lt, if◌then◌else◌}
-use Rattle.std.proofs.lemmas.List.Elements.{All-nil, All-cons}
-use Rattle.mm_base.specs.Limits.{last_position, limit_of}
-use Rattle.mm_digest.specs.declared.variant.Variant.{Variant}
-use Rattle.mm_digest.specs.declared.variant.Variant.TheVariants.{Basic, Opt}
-use Rattle.mm_digest.specs.LengthLaws.{length-hmac_of}
-use Rattle.mm_module.specs.Meaning.{Meaning, IsLine, IsLawful, outputs_from}
-use Rattle.mm_module.specs.MeaningWords.{state_from}
-use Rattle.mm_module.specs.Batch.{Batch, members_of, size_of}
-use Rattle.mm_module.specs.BatchLaws.{size_of-pos}
-use Rattle.mm_module.specs.RunLaws.{length-outputs_from, state_from-is_spelled}
-use Rattle.mm_seal.specs.Body.{place_length}
-use Rattle.mm_seal.specs.declared.snapshot.Place.{Place}
-use Rattle.mm_seal.specs.Snapshot.{Content, IsPlace, IsContent, variant_of, snapshot_front, sealed_of}
-use Rattle.mm_seal.specs.SnapshotLaws.{length-snapshot_front}
+use Rattle.mm_model.specs.Below.{◌≡◌, ◌+◌, ◌≤◌, ◌<◌, length, IsTrue, arith, length-append, All-nil, All-cons, All, nat_lt, if◌then◌else◌}
+use Rattle.mm_model.specs.Below.{last_position, limit_of, length-hmac_of, Variant, Basic, Opt, place_length, Content, IsPlace, IsContent}
+use Rattle.mm_model.specs.Below.{variant_of, snapshot_front, length-snapshot_front, Place, Batch, members_of, size_of, size_of-pos, Meaning}
+use Rattle.mm_model.specs.Below.{IsLine, IsLawful, outputs_from, state_from, length-outputs_from, state_from-is_spelled}
+use Rattle.std.proofs.Common.{ℕ, Bool, true, false, List, [], ◌∷◌}
+use Rattle.mm_seal.specs.Snapshot.{sealed_of}
 use Rattle.mm_model.specs.Fit.{IsFit}
 
 lines_from : (meaning : Meaning) → IsLawful meaning → (state : List ℕ) (requests : List (List ℕ)) → IsTrue (meaning.is_spelled state)

@@ -1,9 +1,6 @@
 -- The history of one instance as lists, with no digest in it, and the moves that change it.
-use Rattle.std.specs.Prelude.{ℕ, Bool, true, false, List, [], ◌∷◌, ◌++◌, length, map}
-use Rattle.std.specs.List.{flat_map}
-use Rattle.mm_digest.specs.declared.variant.Variant.{Variant}
-use Rattle.mm_digest.specs.declared.variant.Variant.TheVariants.{Basic, Opt}
-use Rattle.mm_module.specs.Batch.{Batch, members_of}
+use Rattle.mm_model.specs.Below.{flat_map, ℕ, Bool, true, false, List, [], ◌∷◌, map, Variant, Basic, Opt, Batch, members_of}
+use Rattle.std.specs.Prelude.{◌++◌, length}
 use Rattle.mm_model.specs.Chains.{guard, register_of}
 use Rattle.mm_model.specs.Instance.{Instance}
 

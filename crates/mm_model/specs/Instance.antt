@@ -1,7 +1,5 @@
 -- What one protected module is set up with.
-use Rattle.std.specs.Prelude.{ℕ, List}
-use Rattle.mm_digest.specs.declared.variant.Variant.{Variant}
-use Rattle.mm_module.specs.Meaning.{Meaning}
+use Rattle.mm_model.specs.Below.{ℕ, List, Variant, Meaning}
 
 -- the variant, the module, and the key and the barrier of 32 bytes each
 pub record Instance : Type 0 where

@@ -1,8 +1,5 @@
 -- Words of the laws and proofs, each of which says a thing of Instance in short.
-use Rattle.std.specs.Prelude.{ℕ, List}
-use Rattle.mm_digest.specs.declared.variant.Variant.TheVariants.{Basic, Opt}
-use Rattle.mm_digest.specs.Messages.{zero_bytes}
-use Rattle.mm_module.specs.Meaning.{Meaning}
+use Rattle.mm_model.specs.Below.{ℕ, List, zero_bytes, Basic, Opt, Meaning}
 use Rattle.mm_model.specs.Instance.{Instance}
 
 -- an instance of Basic, which has no barrier

@@ -1,16 +1,11 @@
 -- The verdict on an offered position: from a history, which knows no digest, and from digests
 -- alone.
-use Rattle.std.specs.Prelude.{ℕ, ◌+◌, Bool, true, false, ◌&&◌, List, [], ◌∷◌, if◌then◌else◌, nat_eq}
-use Rattle.std.specs.List.{list_any}
-use Rattle.std.specs.Str.{bytes_eq}
-use Rattle.mm_digest.specs.declared.variant.Variant.{Variant}
-use Rattle.mm_digest.specs.Messages.{zero_bytes, anchored_of, extended_of}
-use Rattle.mm_module.specs.Batch.{Batch, size_of}
+use Rattle.mm_model.specs.Below.{list_any, ℕ, Bool, true, false, List, [], ◌∷◌, if◌then◌else◌, nat_eq, bytes_eq, zero_bytes, anchored_of}
+use Rattle.mm_model.specs.Below.{extended_of, Variant, Place, InBasic, InOpt, Batch, size_of}
+use Rattle.std.specs.Prelude.{◌+◌, ◌&&◌}
 use Rattle.mm_model.specs.Chains.{link, guard}
-use Rattle.mm_seal.specs.declared.snapshot.Place.{Place}
-use Rattle.mm_seal.specs.declared.snapshot.Place.TheVariants.{Basic as InBasic, Opt as InOpt}
 use Rattle.mm_model.specs.History.{History, total_of}
-use Rattle.mm_model.specs.Life.{Life, Live, Spoiled, Lost as LostLife, life_of, same_batch}
+use Rattle.mm_model.specs.Life.{Life, Live, Lost as LostLife, life_of, same_batch}
 use Rattle.mm_model.specs.declared.verdict.Verdict.{Verdict}
 use Rattle.mm_model.specs.declared.verdict.Verdict.TheVariants.{Fresh, Again, Lost, Stale}
 
@@ -24,10 +19,9 @@ is_last (c ∷ d ∷ batches) b = is_last (d ∷ batches) b
 -- and whether it is the one before the last batch, which is the one asked
 abbrev pub judged : Life → Bool → Bool → Verdict
 judged LostLife is_here is_repeat = Lost
-judged Spoiled is_here is_repeat = Stale
 judged Live true is_repeat = Fresh
 judged Live false true = Again
-judged Live false false = Stale
+judged _ _ _ = Stale
 
 -- the verdict on position p and batch b
 abbrev pub judge : Variant → History → ℕ → Batch → Verdict

@@ -1,16 +1,12 @@
 -- Whether a history goes on.
-use Rattle.std.specs.Prelude.{Bool, true, false, ◌&&◌, List, [], ◌∷◌}
-use Rattle.std.specs.Str.{bytes_eq}
-use Rattle.mm_digest.specs.declared.variant.Variant.{Variant}
-use Rattle.mm_digest.specs.declared.variant.Variant.TheVariants.{Basic, Opt}
-use Rattle.mm_module.specs.Batch.{Batch, One, Many}
+use Rattle.mm_model.specs.Below.{Bool, true, false, List, [], ◌∷◌, bytes_eq, Variant, Basic, Opt, Batch, One, Many}
+use Rattle.std.specs.Prelude.{◌&&◌}
 use Rattle.mm_model.specs.History.{Entry, Own, Value, History, joined}
 
 abbrev pub same_batch : Batch → Batch → Bool
 same_batch (One r) (One s) = bytes_eq r s
-same_batch (One r) (Many t) = false
-same_batch (Many t) (One r) = false
 same_batch (Many t) (Many u) = bytes_eq t u
+same_batch _ _ = false
 
 abbrev pub is_empty : {A : Type 0} → List A → Bool
 is_empty [] = true
@@ -25,10 +21,8 @@ has_value (Value d ∷ entries) = true
 -- the entries are those of the batches, one by one
 abbrev pub are_own : List Entry → List Batch → Bool
 are_own [] [] = true
-are_own [] (b ∷ batches) = false
-are_own (Own b ∷ entries) [] = false
 are_own (Own b ∷ entries) (c ∷ batches) = same_batch b c && are_own entries batches
-are_own (Value d ∷ entries) batches = false
+are_own _ _ = false
 
 -- Live goes on. Spoiled accepts no offer any more, as a value that no batch put there counts. Lost:
 -- power was lost inside an open segment
@@ -42,10 +36,8 @@ pub data Life : Type 0 where
 abbrev pub life_by : Bool → Bool → Bool → Bool → Life
 life_by true true is_own is_marred = Lost
 life_by true false true false = Live
-life_by true false true true = Spoiled
-life_by true false false is_marred = Spoiled
 life_by false is_bare is_own false = Live
-life_by false is_bare is_own true = Spoiled
+life_by _ _ _ _ = Spoiled
 
 -- Basic always goes on
 abbrev pub life_of : Variant → History → Life
@@ -55,6 +47,5 @@ life_of Opt y =
 
 -- power was lost inside an open segment
 abbrev pub is_lost : Life → Bool
-is_lost Live = false
-is_lost Spoiled = false
 is_lost Lost = true
+is_lost _ = false

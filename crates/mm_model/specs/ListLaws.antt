@@ -1,8 +1,7 @@
 -- Lists that grow at the end, and what holds of each item.
-use Rattle.std.proofs.Common.{◌≡◌, List, [], ◌∷◌, ◌++◌, refl, sym, ap, subst, ◌⊎◌, inl, inr, append_assoc, arith}
-use Rattle.std.proofs.lemmas.List.{append-nil}
-use Rattle.std.proofs.lemmas.List.Elements.{Contains-append_right}
-use Rattle.std.specs.List.{AllByRecursion, Contains}
+use Rattle.mm_model.specs.Below.{◌≡◌, ◌++◌, refl, sym, ap, subst, ◌⊎◌, inl, inr, append_assoc, arith, append-nil, Contains-append_right}
+use Rattle.mm_model.specs.Below.{AllByRecursion, Contains}
+use Rattle.std.proofs.Common.{List, [], ◌∷◌}
 
 pub record HasLast {A : Type 0} (xs : List A) : Type 0 where
   pub front : List A

@@ -1,37 +1,20 @@
 -- A batch that isn't too long has at most 64 requests, each of them a line.
-use Rattle.std.proofs.Common.{ℕ, ◌≡◌, ◌≢◌, ◌≤◌, Bool, true, false, ◌||◌, List, [], ◌∷◌, ◌++◌, length, length-append, refl, sym, ap, ◌∙◌, subst, arith, Some, zero, suc}
-use Rattle.std.specs.Prelude.{nat_lt}
-use Rattle.std.specs.List.{list_any, slice_get, join_with_byte, AllByRecursion}
-use Rattle.std.proofs.lemmas.List.Elements.{All-from_recursion}
-use Rattle.std.proofs.lemmas.List.Folds.{list_any-append}
-use Rattle.std.proofs.lemmas.Bool.Decides.{nat_tests}
-use Rattle.mm_base.specs.Limits.{longest_request, most_members}
-use Rattle.mm_module.specs.Meaning.{IsLine}
-use Rattle.mm_module.specs.Batch.{Batch, members_of, batch_text, size_of}
-use Rattle.mm_module.specs.BatchLaws.{text_of-members_of}
+use Rattle.mm_model.specs.Below.{◌≡◌, ◌≢◌, ◌≤◌, ◌||◌, ◌++◌, length, length-append, sym, ap, ◌∙◌, subst, arith, Some, or_parts, nat_tests}
+use Rattle.mm_model.specs.Below.{All-from_recursion, list_any-append, list_any, slice_get, join_with_byte, AllByRecursion, nat_lt}
+use Rattle.mm_model.specs.Below.{longest_request, most_members, Batch, members_of, batch_text, size_of, text_of-members_of, IsLine}
+use Rattle.std.proofs.Common.{ℕ, false, List, [], ◌∷◌, zero, suc}
 use Rattle.mm_model.specs.Long.{is_long}
 use Rattle.mm_model.specs.LongWords.{is_lf}
-
-neither_left : (a b : Bool) → (a || b) ≡ false → a ≡ false
-neither_left true b e = e
-neither_left false b e = refl
-
-neither_right : (a b : Bool) → (a || b) ≡ false → b ≡ false
-neither_right true b e = cc
-neither_right false b e = e
 
 not_lf : (byte : ℕ) → is_lf byte ≡ false → byte ≢ 10
 not_lf byte e = grind (arith, nat_tests)
 
 unbroken : (text : List ℕ) → list_any is_lf text ≡ false → AllByRecursion (λ byte. byte ≢ 10) text
 unbroken [] e = tt
-unbroken (x ∷ xs) e = (not_lf x (neither_left (is_lf x) (list_any is_lf xs) e), unbroken xs (neither_right (is_lf x) (list_any is_lf xs) e))
+unbroken (x ∷ xs) e = let parts = or_parts (is_lf x) (list_any is_lf xs) e in (not_lf x parts.0, unbroken xs parts.1)
 
 short : (n : ℕ) → nat_lt longest_request n ≡ false → n ≤ longest_request
 short n e = grind (arith, nat_tests)
-
-few : (n : ℕ) → nat_lt most_members n ≡ false → n ≤ most_members
-few n e = grind (arith, nat_tests)
 
 -- a piece of a text is no longer, and has no LF where the text has none
 record IsPiece (m text : List ℕ) : Type 0 where
@@ -41,15 +24,15 @@ record IsPiece (m text : List ℕ) : Type 0 where
 first_piece : (x m rest : List ℕ) → x ≡ m → IsPiece m (x ++ rest)
 first_piece x m rest e = record {
   size = omega (arith, length-append x rest, ap length e);
-  clean = λ (h : list_any is_lf (x ++ rest) ≡ false). subst (λ (v : List ℕ). list_any is_lf v ≡ false) e (neither_left (list_any is_lf x)
-      (list_any is_lf rest) (sym (list_any-append is_lf x rest) ∙ h));
+  clean = λ (h : list_any is_lf (x ++ rest) ≡ false). subst (λ (v : List ℕ). list_any is_lf v ≡ false) e
+      (or_parts (list_any is_lf x) (list_any is_lf rest) (sym (list_any-append is_lf x rest) ∙ h)).0;
 }
 
 later_piece : (x m rest : List ℕ) → IsPiece m rest → IsPiece m (x ++ (9 ∷ rest))
 later_piece x m rest p = record {
   size = omega (arith, length-append x (9 ∷ rest), p.size);
   clean = λ (h : list_any is_lf (x ++ (9 ∷ rest)) ≡ false).
-      p.clean (neither_right (list_any is_lf x) (list_any is_lf (9 ∷ rest)) (sym (list_any-append is_lf x (9 ∷ rest)) ∙ h));
+      p.clean (or_parts (list_any is_lf x) (list_any is_lf (9 ∷ rest)) (sym (list_any-append is_lf x (9 ∷ rest)) ∙ h)).1;
 }
 
 only_piece : (x m : List ℕ) → x ≡ m → IsPiece m x
@@ -67,12 +50,11 @@ piece _ _ m e = cc
 pub members_are_lines : (b : Batch) → is_long b ≡ false → (i : ℕ) (m : List ℕ) → slice_get (members_of b) i ≡ Some m → IsLine m
 members_are_lines b e i m at =
     let p : IsPiece m (batch_text b) = subst (λ (v : List ℕ). IsPiece m v) (text_of-members_of b) (piece (members_of b) i m at) in
-    let f = neither_left (nat_lt longest_request (length (batch_text b)) || list_any is_lf (batch_text b)) (nat_lt most_members (size_of b))
-    e in
-    let s : length (batch_text b) ≤ longest_request =
-    short (length (batch_text b)) (neither_left (nat_lt longest_request (length (batch_text b))) (list_any is_lf (batch_text b)) f) in
+    let front = or_parts (nat_lt longest_request (length (batch_text b)) || list_any is_lf (batch_text b))
+    (nat_lt most_members (size_of b)) e in
+    let parts = or_parts (nat_lt longest_request (length (batch_text b))) (list_any is_lf (batch_text b)) front.0 in
+    let s : length (batch_text b) ≤ longest_request = short (length (batch_text b)) parts.0 in
     record {
       short = omega (arith, p.size, s);
-      unbroken = All-from_recursion (λ byte. byte ≢ 10) m
-          (unbroken m (p.clean (neither_right (nat_lt longest_request (length (batch_text b))) (list_any is_lf (batch_text b)) f)));
+      unbroken = All-from_recursion (λ byte. byte ≢ 10) m (unbroken m (p.clean parts.1));
     }

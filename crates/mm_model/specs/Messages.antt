@@ -1,21 +1,15 @@
 -- The messages that are hashed, as far as a proof looks at them, and what is asked of their
 -- digests.
-use Rattle.std.specs.Prelude.{ℕ, ◌-◌, ◌≡◌, ◌≢◌, Bool, true, false, List, [], ◌∷◌, ◌++◌, length, map, take, drop, if◌then◌else◌}
-use Rattle.std.specs.List.{flat_map, AllByRecursion, Contains}
-use Rattle.std.specs.Str.{bytes_eq}
-use Rattle.sha2.specs.Sha256.{sha256}
-use Rattle.mm_digest.specs.declared.variant.Variant.{Variant}
-use Rattle.mm_digest.specs.declared.variant.Variant.TheVariants.{Basic, Opt}
-use Rattle.mm_digest.specs.Messages.{zero_bytes, start_message, start_of, extended_message, extended_of, anchored_message, anchored_of}
-use Rattle.mm_module.specs.Batch.{Batch}
+use Rattle.mm_model.specs.Below.{flat_map, AllByRecursion, Contains, ℕ, ◌-◌, Bool, true, List, [], ◌∷◌, map, take, drop, if◌then◌else◌}
+use Rattle.mm_model.specs.Below.{bytes_eq, sha256, zero_bytes, start_message, start_of, extended_message, extended_of, anchored_message}
+use Rattle.mm_model.specs.Below.{anchored_of, Variant, Basic, Opt, Place, InBasic, InOpt, Batch}
+use Rattle.std.specs.Prelude.{◌≡◌, ◌≢◌, ◌++◌, length}
 use Rattle.mm_model.specs.Chains.{trail, link_message, guard_message, closing_message, guard}
 use Rattle.mm_model.specs.ChainsWords.{own_values}
 use Rattle.mm_model.specs.Instance.{Instance}
-use Rattle.mm_model.specs.History.{Entry, Own, Value, History, Move, Commit, Foreign, Placed, Reset, Close, Power, register_value_of, joined}
+use Rattle.mm_model.specs.History.{Entry, Own, Value, History, Move, Commit, Foreign, Placed, Close, register_value_of, joined}
 use Rattle.mm_model.specs.HistoryWords.{values_of}
 use Rattle.mm_model.specs.Places.{anchor_after}
-use Rattle.mm_seal.specs.declared.snapshot.Place.{Place}
-use Rattle.mm_seal.specs.declared.snapshot.Place.TheVariants.{Basic as InBasic, Opt as InOpt}
 
 -- the batches of each closed segment: a segment runs to the next start, the last one to the end of
 -- these
@@ -74,16 +68,14 @@ offer_messages i (InOpt a e) b =
 -- register takes in, and what closes a segment
 abbrev pub moving_messages : Variant → Bool → Instance → History → Move → List (List ℕ)
 moving_messages Basic is_open i y m = []
-moving_messages Opt true i y (Commit b) =
-    extended_message (register_value_of i y) (guard i.barrier b) ∷ []
-moving_messages Opt false i y (Commit b) = []
 moving_messages Opt is_open i y (Foreign d) = extended_message (register_value_of i y) d ∷ []
 moving_messages Opt is_open i y (Placed b) =
     extended_message (register_value_of i y) (guard i.barrier b) ∷ []
-moving_messages Opt is_open i y Reset = []
+moving_messages Opt true i y (Commit b) =
+    extended_message (register_value_of i y) (guard i.barrier b) ∷ []
 moving_messages Opt is_open i y Close =
     anchored_message (anchor_after i y.closed) (register_value_of i y) ∷ []
-moving_messages Opt is_open i y Power = []
+moving_messages Opt _ i y _ = []
 
 -- each of the messages is in the list
 abbrev pub Within : List (List ℕ) → List (List ℕ) → Type 0

@@ -1,10 +1,7 @@
 -- When a move is made, and what it does to the digests.
-use Rattle.std.specs.Prelude.{◌≡◌, ◌+◌, ℕ, Bool, true, false, List, [], ◌∷◌, ◌++◌}
-use Rattle.std.specs.List.{AllByRecursion, Contains}
-use Rattle.mm_digest.specs.declared.variant.Variant.{Variant}
-use Rattle.mm_digest.specs.declared.variant.Variant.TheVariants.{Basic, Opt}
-use Rattle.mm_digest.specs.Messages.{zero_bytes, extended_message, extended_of, anchored_of}
-use Rattle.mm_module.specs.Batch.{Batch, size_of}
+use Rattle.mm_model.specs.Below.{AllByRecursion, Contains, ℕ, Bool, true, false, List, [], ◌∷◌, zero_bytes, extended_message, extended_of}
+use Rattle.mm_model.specs.Below.{anchored_of, Variant, Basic, Opt, Batch, size_of}
+use Rattle.std.specs.Prelude.{◌≡◌, ◌+◌, ◌++◌}
 use Rattle.mm_model.specs.Chains.{link, guard, guard_message, register_of}
 use Rattle.mm_model.specs.ChainsWords.{own_values}
 use Rattle.mm_model.specs.Instance.{Instance}
@@ -25,20 +22,15 @@ pub record IsOpening (i : Instance) (y : History) (b : Batch) : Type 0 where
 
 -- when calls, others and losses of power make a move: by the variant and whether a segment is open
 abbrev pub IsAllowed : Variant → Bool → Instance → History → Move → Type 0
-IsAllowed Basic is_open i y (Commit b) = Unit {0}
-IsAllowed Basic is_open i y (Placed b) = ⊥
-IsAllowed Basic is_open i y Reset = ⊥
-IsAllowed Basic is_open i y Close = ⊥
-IsAllowed Opt true i y (Commit b) = is_empty y.items ≡ false
-IsAllowed Opt false i y (Commit b) = IsOpening i y b
-IsAllowed Opt true i y (Placed b) = ⊥
-IsAllowed Opt false i y (Placed b) = Unit {0}
-IsAllowed Opt true i y Reset = ⊥
-IsAllowed Opt false i y Reset = Unit {0}
-IsAllowed Opt true i y Close = is_empty y.items ≡ false
-IsAllowed Opt false i y Close = ⊥
 IsAllowed variant is_open i y (Foreign d) = Unit {0}
 IsAllowed variant is_open i y Power = Unit {0}
+IsAllowed Basic is_open i y (Commit b) = Unit {0}
+IsAllowed Opt true i y (Commit b) = is_empty y.items ≡ false
+IsAllowed Opt false i y (Commit b) = IsOpening i y b
+IsAllowed Opt false i y (Placed b) = Unit {0}
+IsAllowed Opt false i y Reset = Unit {0}
+IsAllowed Opt true i y Close = is_empty y.items ≡ false
+IsAllowed _ _ i y _ = ⊥
 
 abbrev pub MayMove : Instance → History → Move → Type 0
 MayMove i y m = IsAllowed i.variant y.is_open i y m
@@ -83,15 +75,10 @@ IsOutside others y = AllByRecursion (Contains others) (values_in (counting y))
 -- what a move takes in from others is among these values: a foreign value, and what the register
 -- took in before a batch that opens a segment
 abbrev pub Brings : Variant → Bool → List (List ℕ) → History → Move → Type 0
+Brings variant is_open others y (Foreign d) = Contains others d
 Brings Opt false others y (Commit b) =
     AllByRecursion (Contains others) (values_in (renamed y.items b))
-Brings Opt true others y (Commit b) = Unit {0}
-Brings Basic is_open others y (Commit b) = Unit {0}
-Brings variant is_open others y (Foreign d) = Contains others d
-Brings variant is_open others y (Placed b) = Unit {0}
-Brings variant is_open others y Reset = Unit {0}
-Brings variant is_open others y Close = Unit {0}
-Brings variant is_open others y Power = Unit {0}
+Brings _ _ others y _ = Unit {0}
 
 -- what the messages of a history gain by a batch, besides those of the move: its guard, and its
 -- extension after the batches of its segment
@@ -99,8 +86,4 @@ abbrev pub batch_messages : Instance → History → Move → List (List ℕ)
 batch_messages i y (Commit b) =
     guard_message i.barrier b ∷ extended_message (register_of (own_values i.barrier y.current))
     (guard i.barrier b) ∷ []
-batch_messages i y (Foreign d) = []
-batch_messages i y (Placed b) = []
-batch_messages i y Reset = []
-batch_messages i y Close = []
-batch_messages i y Power = []
+batch_messages i y _ = []

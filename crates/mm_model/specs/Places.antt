@@ -1,17 +1,11 @@
 -- Which places the positions of a history have, and what a snapshot names.
-use Rattle.std.specs.Prelude.{ℕ, ◌≤◌, ◌≡◌, Bool, true, false, List, [], ◌∷◌, ◌++◌, length, map, ◌⊎◌}
-use Rattle.mm_digest.specs.declared.variant.Variant.{Variant}
-use Rattle.mm_digest.specs.declared.variant.Variant.TheVariants.{Basic, Opt}
-use Rattle.mm_digest.specs.Messages.{zero_bytes}
-use Rattle.mm_module.specs.Batch.{Batch}
-use Rattle.mm_module.specs.Meaning.{state_after}
+use Rattle.mm_model.specs.Below.{ℕ, Bool, true, false, List, [], ◌∷◌, map, zero_bytes, Variant, Basic, Opt, Content, Place, InBasic, InOpt}
+use Rattle.mm_model.specs.Below.{Batch, state_after}
+use Rattle.std.specs.Prelude.{◌≤◌, ◌≡◌, ◌++◌, length, ◌⊎◌}
 use Rattle.mm_model.specs.Chains.{guard, summary_of, register_of, anchor_of}
 use Rattle.mm_model.specs.Instance.{Instance}
 use Rattle.mm_model.specs.History.{Entry, History, requests_of, total_of, value_of, joined}
 use Rattle.mm_model.specs.Life.{is_empty, has_value}
-use Rattle.mm_seal.specs.declared.snapshot.Place.{Place}
-use Rattle.mm_seal.specs.declared.snapshot.Place.TheVariants.{Basic as InBasic, Opt as InOpt}
-use Rattle.mm_seal.specs.Snapshot.{Content}
 
 -- the anchor after these segments
 abbrev pub anchor_after : Instance → List (List Entry) → List ℕ
@@ -70,9 +64,8 @@ pub data IsPoint (i : Instance) (y : History) (named : List Batch)
 -- a place of the position after the first batches `named`. A position inside a batch has none.
 abbrev pub IsPlaceOf : Variant → Instance → History → List Batch → Place → Type 0
 IsPlaceOf Basic i y named (InBasic s) = s.bytes ≡ summary_of i.meaning.id named
-IsPlaceOf Basic i y named (InOpt a e) = ⊥
-IsPlaceOf Opt i y named (InBasic s) = ⊥
 IsPlaceOf Opt i y named (InOpt a e) = IsPoint i y named a.bytes e.bytes
+IsPlaceOf _ i y named _ = ⊥
 
 -- a snapshot names a position of the history: the position, the state there, and one of its places
 pub record Names (i : Instance) (y : History) (offered : Content) : Type 0 where

@@ -1,7 +1,7 @@
 -- Lists of segments, one after another: when two ways to cut one list are the same.
-use Rattle.std.proofs.Common.{ℕ, ◌≡◌, ◌+◌, ◌≤◌, Bool, true, false, List, [], ◌∷◌, ◌++◌, length, refl, sym, ap, ◌∙◌, subst, ◌⊎◌, inl, inr, arith, append_assoc, length-append}
-use Rattle.std.proofs.lemmas.List.{append-nil, append_cancel_left}
-use Rattle.std.specs.List.{AllByRecursion}
+use Rattle.mm_model.specs.Below.{◌≡◌, ◌+◌, ◌≤◌, ◌++◌, length, refl, sym, ap, ◌∙◌, subst, ◌⊎◌, inl, inr, arith, append_assoc, length-append}
+use Rattle.mm_model.specs.Below.{leb_tells, append-nil, append_cancel_left, AllByRecursion}
+use Rattle.std.proofs.Common.{ℕ, Bool, true, false, List, [], ◌∷◌}
 use Rattle.mm_model.specs.History.{joined}
 use Rattle.mm_model.specs.Life.{is_empty}
 
@@ -81,17 +81,6 @@ only_one : {A : Type 0} (segment : List A) (later : List (List A)) (n : ℕ) →
 only_one segment later n filled reach e =
     elim reach [ inl within ↦ no_segments later filled (omega (arith, within, e)) | inr last ↦ last.0 ]
 
--- a path ends within the next segment where a segment is open, or another one follows
-at_most : {A : Type 0} (flag : Bool) (segment : List A) (later : List (List A)) (n : ℕ)
-    → (n ≤ length segment) ⊎ ((later ≡ []) × (flag ≡ false)) → (is_empty later ≡ false) ⊎ (flag ≡ true) → n ≤ length segment
-at_most flag segment later n reach goes = elim reach [
-  | inl within ↦ within
-  | inr last ↦ elim goes [
-    | inl some ↦ absurd (true_not_false (ap is_empty (sym last.0) ∙ some))
-    | inr is_open ↦ absurd (true_not_false (sym is_open ∙ last.1))
-  ]
-]
-
 -- Where the values up to the end of the path are all that counts, it is fresh, or it is once its segment is closed.
 -- By the segments after the path.
 fresh_after : {A : Type 0} (flag : Bool) (before : List (List A)) (items rest : List A) (later : List (List A))
@@ -118,57 +107,52 @@ fresh_after false before items rest (segment ∷ later) filled held reach e =
       ),
     )
 
+-- a path that is fresh with one more value
+again_by : {A : Type 0} (flag : Bool) (closed : List (List A)) (items : List A) (v : A) (before : List (List A)) (rest : List A)
+    → IsHeld flag items → Fresh flag closed items before (rest ++ v ∷ []) ⊎ (is_empty (rest ++ v ∷ []) ≡ false)
+    × Fresh flag closed items (before ++ (rest ++ v ∷ []) ∷ []) [] → Again flag closed items v before rest
+again_by true closed items v before rest held (inl f) = f
+again_by true closed items v before rest held (inr g) = absurd (true_not_false (ap is_empty g.1.1 ∙ held))
+again_by false closed items v before rest held (inl f) =
+    absurd (let l = ap length f.1 in let m = length-append rest (v ∷ []) in omega (arith, l, m))
+again_by false closed items v before rest held (inr g) = g.1.0
+
+reaches_one : {A : Type 0} (flag : Bool) (later : List (List A)) → AllByRecursion (λ x. is_empty x ≡ false) later → Reaches flag later 1
+reaches_one flag [] filled = tt
+reaches_one flag (next ∷ later) filled = inl (not_empty next filled.0)
+
+again_within : {A : Type 0} (flag : Bool) (before : List (List A)) (items : List A) (v : A) (rest : List A) (later : List (List A))
+    → AllByRecursion (λ x. is_empty x ≡ false) later → IsHeld flag items → Reaches flag later (length (rest ++ v ∷ []))
+    → rest ++ v ∷ [] ≡ joined later ++ taken_in flag items → Again flag (before ++ later) items v before rest
+again_within flag before items v rest later filled held reach e =
+    again_by flag (before ++ later) items v before rest held (fresh_after flag before items (rest ++ v ∷ []) later filled held reach e)
+
 -- Where one more value makes the values up to the end of the path all that counts, it leads there from the path, or
 -- from the path once its segment is closed.
 again_after : {A : Type 0} (flag : Bool) (before : List (List A)) (items : List A) (v : A) (rest : List A) (later : List (List A))
     → AllByRecursion (λ x. is_empty x ≡ false) later → IsHeld flag items → Reaches flag later (length rest)
     → rest ++ v ∷ [] ≡ joined later ++ taken_in flag items → Again flag (before ++ later) items v before rest ⊎ (is_empty rest ≡ false)
     × Again flag (before ++ later) items v (before ++ rest ∷ []) []
-again_after true before items v rest [] filled held reach e = inl (sym (append-nil before), e)
-again_after false before items v rest [] filled held reach e =
-    absurd (let l = ap length e in let m = length-append rest (v ∷ []) in omega (arith, l, m))
-again_after true before items v rest (segment ∷ []) filled held reach e =
-    let all : rest ++ v ∷ [] ≡ segment ++ items = e ∙ ap (λ w. w ++ items) (append-nil segment) in
-    let l = ap length all in
-    let m = length-append rest (v ∷ []) in
-    let k = length-append segment items in
-    let h = not_empty items held in
-    let within = at_most true segment [] (length rest) reach (inr refl) in
-    let size : length rest ≡ length segment = omega (arith, l, m, k, h, within) in
-    let parts = same_halves rest segment (v ∷ []) items size all in
-    inr (ap is_empty parts.0 ∙ filled.0, (ap (λ (w : List _). before ++ w ∷ []) parts.0, parts.1))
-again_after true before items v rest (segment ∷ next ∷ later) filled held reach e = absurd (
-    let l = ap length e in
-    let m = length-append rest (v ∷ []) in
-    let k = length-append (segment ++ (next ++ joined later)) items in
-    let j = length-append segment (next ++ joined later) in
-    let i = length-append next (joined later) in
-    let h = not_empty items held in
-    let g = not_empty next filled.1.0 in
-    let within = at_most true segment (next ∷ later) (length rest) reach (inr refl) in
-    omega (arith, l, m, k, j, i, h, g, within))
-again_after false before items v rest (segment ∷ []) filled held reach e =
-    let all : rest ++ v ∷ [] ≡ segment = e ∙ append-nil (segment ++ []) ∙ append-nil segment in
-    inl (ap (λ (w : List _). before ++ w ∷ []) all)
-again_after false before items v rest (segment ∷ next ∷ later) filled held reach e =
-    let all : rest ++ v ∷ [] ≡ segment ++ (next ++ joined later) = e ∙ append-nil (segment ++ (next ++ joined later)) in
-    let l = ap length all in
-    let m = length-append rest (v ∷ []) in
-    let j = length-append segment (next ++ joined later) in
-    let i = length-append next (joined later) in
-    let g = not_empty next filled.1.0 in
-    let within = at_most false segment (next ∷ later) (length rest) reach (inl refl) in
-    let size : length rest ≡ length segment = omega (arith, l, m, j, i, g, within) in
-    let parts = same_halves rest segment (v ∷ []) (next ++ joined later) size all in
-    let ends : length (joined later) ≡ 0 = omega (arith, l, m, j, i, g, within, size) in
-    let none = no_segments later filled.1.1 ends in
-    let last : v ∷ [] ≡ next = parts.1 ∙ ap (λ w. next ++ joined w) none ∙ append-nil next in
-    inr (
-      ap is_empty parts.0 ∙ filled.0,
-      append_assoc before (rest ∷ []) ((v ∷ []) ∷ []) ∙ ap (λ (w : List _). before ++ w ∷ (v ∷ []) ∷ [])
-          parts.0 ∙ ap (λ (w : List _). before ++ segment ∷ w ∷ []) last
-          ∙ ap (λ (w : List (List _)). before ++ segment ∷ next ∷ w) (sym none),
-    )
+again_after flag before items v rest [] filled held reach e = inl (again_within flag before items v rest [] filled held tt e)
+again_after flag before items v rest (segment ∷ later) filled held (inr last) e =
+    inl (again_within flag before items v rest (segment ∷ later) filled held (inr last) e)
+again_after {A} flag before items v rest (segment ∷ later) filled held (inl within) e =
+    let more : length (rest ++ v ∷ []) ≡ length rest + 1 = length-append rest (v ∷ []) in
+    elim (leb_tells (length (rest ++ v ∷ [])) (length segment)) [
+      | inl fits ↦ inl (again_within flag before items v rest (segment ∷ later) filled held (inl fits.1) e)
+      | inr over ↦
+          let size : length rest ≡ length segment = omega (arith, more, within, over.1) in
+          let parts = same_halves rest segment (v ∷ []) (joined later ++ taken_in flag items) size
+          (e ∙ append_assoc segment (joined later) (taken_in flag items)) in
+          let reach = reaches_one flag later filled.1 in
+          let then_on = again_within flag (before ++ segment ∷ []) items v [] later filled.1 held reach parts.1 in
+          inr (
+            ap is_empty parts.0 ∙ filled.0,
+            subst (λ (s : List A). Again flag (before ++ segment ∷ later) items v (before ++ s ∷ []) [])
+                (sym parts.0) (subst (λ (c : List (List A)). Again flag c items v (before ++ segment ∷ []) [])
+                (append_assoc before (segment ∷ []) later) then_on),
+          )
+    ]
 
 pub fresh_from : {A : Type 0} (flag : Bool) (closed before later : List (List A)) (items rest : List A) → closed ≡ before ++ later
     → AllByRecursion (λ x. is_empty x ≡ false) later → IsHeld flag items → Reaches flag later (length rest)

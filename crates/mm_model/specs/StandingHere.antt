@@ -1,18 +1,13 @@
 -- Where an offer stands, told by the verdict alone.
-use Rattle.std.specs.Prelude.{ℕ, Bool, true, false, List, [], ◌∷◌, if◌then◌else◌}
-use Rattle.std.specs.Str.{bytes_eq}
-use Rattle.mm_digest.specs.Messages.{zero_bytes, anchored_message}
-use Rattle.mm_seal.specs.declared.snapshot.Place.{Place}
-use Rattle.mm_seal.specs.declared.snapshot.Place.TheVariants.{Basic as InBasic, Opt as InOpt}
+use Rattle.mm_model.specs.Below.{ℕ, Bool, true, false, List, [], ◌∷◌, if◌then◌else◌, bytes_eq, zero_bytes, anchored_message, Place, InBasic}
+use Rattle.mm_model.specs.Below.{InOpt}
 use Rattle.mm_model.specs.declared.verdict.Verdict.{Verdict}
-use Rattle.mm_model.specs.declared.verdict.Verdict.TheVariants.{Fresh, Again, Lost, Stale}
+use Rattle.mm_model.specs.declared.verdict.Verdict.TheVariants.{Fresh}
 
 -- the offer stands where the module stands: a batch would be a new one
 abbrev pub is_new : Verdict → Bool
 is_new Fresh = true
-is_new Again = false
-is_new Lost = false
-is_new Stale = false
+is_new _ = false
 
 -- the messages of an offered place without a batch: of its second form, the closing of its segment
 abbrev pub place_messages : Place → List (List ℕ)

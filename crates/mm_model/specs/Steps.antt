@@ -1,8 +1,5 @@
 -- The device steps of a call, each with the move that it makes.
-use Rattle.std.specs.Prelude.{Bool, true, false, List, [], ◌∷◌}
-use Rattle.mm_digest.specs.declared.variant.Variant.{Variant}
-use Rattle.mm_digest.specs.declared.variant.Variant.TheVariants.{Basic, Opt}
-use Rattle.mm_module.specs.Batch.{Batch}
+use Rattle.mm_model.specs.Below.{Bool, true, false, List, [], ◌∷◌, Variant, Basic, Opt, Batch}
 use Rattle.mm_model.specs.History.{Move, Commit, Placed, Reset, Close}
 
 -- a step reads; or changes the register, after what others put there before it; or writes the cell,

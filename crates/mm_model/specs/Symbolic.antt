@@ -1,16 +1,13 @@
 -- What a commit does as a whole.
-use Rattle.std.specs.Prelude.{Bool, true, false, List, [], ◌∷◌, ◌++◌}
-use Rattle.mm_digest.specs.declared.variant.Variant.{Variant}
-use Rattle.mm_digest.specs.declared.variant.Variant.TheVariants.{Basic, Opt}
-use Rattle.mm_module.specs.Batch.{Batch}
+use Rattle.mm_model.specs.Below.{Bool, true, false, List, [], ◌∷◌, Variant, Basic, Opt, Batch}
+use Rattle.std.specs.Prelude.{◌++◌}
 use Rattle.mm_model.specs.Instance.{Instance}
 use Rattle.mm_model.specs.History.{Own, History, Move, Commit, Placed, moved}
 
 -- the moves of a commit: where it opens a segment, its guard goes into the register first
 abbrev pub commit_moves : Variant → Bool → Batch → List Move
-commit_moves Basic is_open b = Commit b ∷ []
-commit_moves Opt true b = Commit b ∷ []
 commit_moves Opt false b = Placed b ∷ Commit b ∷ []
+commit_moves _ _ b = Commit b ∷ []
 
 -- the history after these moves
 abbrev pub moved_by : Instance → History → List Move → History

@@ -1,5 +1,6 @@
 use Rattle.mm_basic.proofs.Below.{ℕ, refl, subst, rules, IsTrue, Err, Ok, Basic, ReadsParts, Blank, Unspelled, Form, Kind, IsCellOf, NoCell}
 use Rattle.mm_basic.proofs.Below.{NoOffer, Both}
+use Rattle.mm_basic.proofs.Findings.{no_offer}
 use Rattle.mm_basic.proofs.find.find.Goals as goal
 
 pub returns-in-Err-Blank-clause-finds : goal.returns-in-Err-Blank-clause-finds
@@ -19,32 +20,14 @@ returns-in-Err-Cell-clause-finds g c = record {
 pub returns-in-Err-Form-clause-finds : goal.returns-in-Err-Form-clause-finds
 returns-in-Err-Form-clause-finds g c =
     let is : IsTrue c.is_of.result = search rules in
-    record {
-      seen = NoOffer Form;
-      is_seen = (
-        c.in-Ok.cell,
-        c.in-Ok.ensures,
-        subst (λ (id : ℕ). IsCellOf id c.in-Ok.cell) c.id-id.ensures (c.is_of.ensures.0 is),
-        subst (λ (id : ℕ). ReadsParts c.args.offer.now Basic id (Err Form)) c.id-id.ensures
-            (rw c.in-Err-Form.field-0-is at c.in-Err-Form.ensures.reads),
-      );
-      found_is = refl;
-    }
+    no_offer _ _ _ _ _ c.in-Ok.cell Form _ c.id-id.ensures c.in-Ok.ensures (c.is_of.ensures.0 is)
+    (rw c.in-Err-Form.field-0-is at c.in-Err-Form.ensures.reads) refl
 
 pub returns-in-Err-Kind-clause-finds : goal.returns-in-Err-Kind-clause-finds
 returns-in-Err-Kind-clause-finds g c =
     let is : IsTrue c.is_of.result = search rules in
-    record {
-      seen = NoOffer Kind;
-      is_seen = (
-        c.in-Ok.cell,
-        c.in-Ok.ensures,
-        subst (λ (id : ℕ). IsCellOf id c.in-Ok.cell) c.id-id.ensures (c.is_of.ensures.0 is),
-        subst (λ (id : ℕ). ReadsParts c.args.offer.now Basic id (Err Kind)) c.id-id.ensures
-            (rw c.in-Err-Kind.field-0-is at c.in-Err-Kind.ensures.reads),
-      );
-      found_is = refl;
-    }
+    no_offer _ _ _ _ _ c.in-Ok.cell Kind _ c.id-id.ensures c.in-Ok.ensures (c.is_of.ensures.0 is)
+    (rw c.in-Err-Kind.field-0-is at c.in-Err-Kind.ensures.reads) refl
 
 pub returns-in-Ok-parts-clause-finds : goal.returns-in-Ok-parts-clause-finds
 returns-in-Ok-parts-clause-finds g c =
