@@ -21,152 +21,111 @@ AsFound i seen b x (Ok (Opens opening)) =
     (seen.flag ≡ false) × (opening.value.bytes ≡ guard i.barrier b) × (opening.next ≡ opened_cell (cell_at i seen))
     × Accepts i seen b x false opening.answer
 
--- the verdict on a place of Opt
-verdict_alike : (place : Place) (meaning : Meaning) (key barrier : List ℕ) (seen : Digests) (b : Batch) → variant_of place ≡ Opt
-    → verdict_at (cell_at (opt meaning key barrier) seen) seen.register place b ≡ verdict_by_digests barrier seen.flag seen.digest
-    seen.register place (normal b)
-verdict_alike (InOpt anchor extension) meaning key barrier seen b is = refl
-verdict_alike (InBasic summary) meaning key barrier seen b is = absurd (cc)
+module _ (i : Instance) (seen : Digests) (b : Batch) where
+  as_unless : (lost : Bool) (x : Result Accepted Refusal) (found : Result Found Refusal)
+      → AsFound i seen b x found → AsFound i seen b (if lost then Err refusal.Lost else x) (found_unless lost found)
+  as_unless true x found so = refl
+  as_unless false x found so = so
 
-size_alike : (b : Batch) → size_of (normal b) ≡ size_of b
-size_alike b = ap (λ (m : List (List ℕ)). length m) (members_of-normal b)
+  given_with : {x : Result Accepted Refusal} {again : Bool} {answer : BatchAnswer} → Accepts i seen b x again answer
+      → Accepts i seen b (accepted_in x false) again answer
+  given_with a = record { offered = a.offered; found_is = simp a.found_is; answer_is = a.answer_is }
 
-examined_alike : (meaning : Meaning) (key : List ℕ) (offered : Snapshot) (b : Batch) (v w : Verdict) → v ≡ w
-    → examined meaning key offered (normal b) w ≡ examined meaning key offered b v
-examined_alike meaning key offered b v w e =
-    ap (λ (x : Verdict). examined meaning key offered (normal b) x) (sym e)
-    ∙ ap (λ (n : ℕ). weighed (meaning.is_spelled offered.content.state) (bytes_eq offered.tag (tag_of key offered.content)) v
-    (nat_le (offered.content.position + n) last_position)) (size_alike b)
+  lacked_with : {x : Result Accepted Refusal} {again : Bool} {answer : BatchAnswer} → Accepts i seen b x again answer
+      → accepted_in x true ≡ Err refusal.Memory
+  lacked_with a = simp a.found_is
 
--- the place of the answer
-place_by : (flag again : Bool) (meaning : Meaning) (key barrier : List ℕ) (seen : Digests) (b : Batch) → flag ≡ seen.flag
-    → place_after (cell_at (opt meaning key barrier) seen) seen.register (guard barrier b) again ≡ place_then Opt seen.flag again
-    (opt meaning key barrier) seen b
-place_by true true meaning key barrier seen b e =
-    subst (λ (f : Bool). place_after (cell_at (opt meaning key barrier) (record seen { flag = f })) seen.register (guard barrier b)
-    true ≡ place_then Opt f true (opt meaning key barrier) seen b) e refl
-place_by true false meaning key barrier seen b e =
-    subst (λ (f : Bool). place_after (cell_at (opt meaning key barrier) (record seen { flag = f })) seen.register (guard barrier b)
-    false ≡ place_then Opt f false (opt meaning key barrier) seen b) e refl
-place_by false true meaning key barrier seen b e =
-    subst (λ (f : Bool). place_after (cell_at (opt meaning key barrier) (record seen { flag = f })) seen.register (guard barrier b)
-    true ≡ place_then Opt f true (opt meaning key barrier) seen b) e refl
-place_by false false meaning key barrier seen b e =
-    subst (λ (f : Bool). place_after (cell_at (opt meaning key barrier) (record seen { flag = f })) seen.register (guard barrier b)
-    false ≡ place_then Opt f false (opt meaning key barrier) seen b) e refl
+  as_given : (it : Found) (x : Result Accepted Refusal) → AsFound i seen b x (Ok it) → AsFound i seen b (accepted_in x false) (Ok it)
+  as_given (Repeat answer) x so = given_with so
+  as_given (Inside ready) x so = (so.0, so.1, given_with so.2)
+  as_given (Opens opening) x so = (so.0, so.1, so.2, given_with so.3)
 
-answer_by_members : (meaning : Meaning) (key : List ℕ) (offered : Content) (place : Place) (b : Batch) (again : Bool)
-    → answer_at meaning key offered place b again ≡ answer_at meaning key offered place (normal b) again
-answer_by_members meaning key offered place b again = simp (members_of-normal b)
+  as_lacked : (it : Found) (x : Result Accepted Refusal) → AsFound i seen b x (Ok it) → accepted_in x true ≡ Err refusal.Memory
+  as_lacked (Repeat answer) x so = lacked_with so
+  as_lacked (Inside ready) x so = lacked_with so.2
+  as_lacked (Opens opening) x so = lacked_with so.3
 
-answer_alike : (meaning : Meaning) (key barrier : List ℕ) (seen : Digests) (offered : Content) (b : Batch) (again : Bool)
-    → answer_of meaning (cell_at (opt meaning key barrier) seen) seen.register offered b again ≡ answer_at meaning key offered
-    (place_then Opt seen.flag again (opt meaning key barrier) seen (normal b)) (normal b) again
-answer_alike meaning key barrier seen offered b again =
-    ap (λ (p : Place). answer_at meaning key offered p b again) (place_by seen.flag again meaning key barrier seen (normal b) refl)
-    ∙ answer_by_members meaning key offered (place_then Opt seen.flag again (opt meaning key barrier) seen (normal b)) b again
+  as_or : (y : Result Found Refusal) (x : Result Accepted Refusal) (found : Result Found Refusal) → AsFound i seen b x y → OrMemory y found
+      → AsFound i seen b (accepted_in x (lacks_in found)) found
+  as_or (Err why) x found so o = subst (λ (r : Result Found Refusal). AsFound i seen b (accepted_in x (lacks_in r)) r) (sym o)
+      (ap (λ (y : Result Accepted Refusal). accepted_in y (is_memory why)) so)
+  as_or (Ok it) x found so (inl e) =
+      subst (λ (r : Result Found Refusal). AsFound i seen b (accepted_in x (lacks_in r)) r) (sym e) (as_given it x so)
+  as_or (Ok it) x found so (inr e) =
+      subst (λ (r : Result Found Refusal). AsFound i seen b (accepted_in x (lacks_in r)) r) (sym e) (as_lacked it x so)
 
--- an accepted offer
-as_change : (flag : Bool) (meaning : Meaning) (key barrier : List ℕ) (seen : Digests) (b : Batch) (x : Result Accepted Refusal)
-    (answer : BatchAnswer) → flag ≡ seen.flag → Accepts (opt meaning key barrier) seen (normal b) x false answer
-    → AsFound (opt meaning key barrier) seen (normal b) x
-    (Ok (change_by flag (guard barrier (normal b)) (opened_cell (cell_at (opt meaning key barrier) seen)) answer))
-as_change true meaning key barrier seen b x answer e a = (sym e, refl, a)
-as_change false meaning key barrier seen b x answer e a = (sym e, refl, refl, a)
+module _ (meaning : Meaning) (key barrier : List ℕ) (seen : Digests) (b : Batch) where
+  abbrev here : Instance
+  here = opt meaning key barrier
 
-as_from : (e : Result Bool Refusal) (meaning : Meaning) (key barrier : List ℕ) (seen : Digests) (offered : Content) (b : Batch)
-    → AsFound (opt meaning key barrier) seen (normal b) (found_with offered e)
-    (found_from e (cell_at (opt meaning key barrier) seen) (guard barrier (normal b))
-    (answer_of meaning (cell_at (opt meaning key barrier) seen) seen.register offered b))
-as_from (Err why) meaning key barrier seen offered b = refl
-as_from (Ok true) meaning key barrier seen offered b = record {
-  offered = offered;
-  found_is = refl;
-  answer_is = answer_alike meaning key barrier seen offered b true;
-}
-as_from (Ok false) meaning key barrier seen offered b =
-    as_change seen.flag meaning key barrier seen b (found_with offered (Ok false))
-    (answer_of meaning (cell_at (opt meaning key barrier) seen) seen.register offered b false) refl
-    (record { offered = offered; found_is = refl; answer_is = answer_alike meaning key barrier seen offered b false })
+  -- the verdict on a place of Opt
+  verdict_alike : (place : Place) → variant_of place ≡ Opt → verdict_at (cell_at here seen) seen.register place b
+      ≡ verdict_by_digests barrier seen.flag seen.digest seen.register place (normal b)
+  verdict_alike (InOpt anchor extension) is = refl
+  verdict_alike (InBasic summary) is = absurd (cc)
 
-as_read : (taken : Result Snapshot PartsFault) (meaning : Meaning) (key barrier : List ℕ) (seen : Digests) (offer : List ℕ) (b : Batch)
-    → ReadsParts offer Opt meaning.id taken
-    → AsFound (opt meaning key barrier) seen (normal b)
-    (accepted_from (opt meaning key barrier) (by_digests (opt meaning key barrier)) seen (normal b) taken)
-    (found_in_offer meaning (cell_at (opt meaning key barrier) seen) seen.register taken b)
-as_read (Err Form) meaning key barrier seen offer b reads = refl
-as_read (Err Kind) meaning key barrier seen offer b reads = refl
-as_read (Ok offered) meaning key barrier seen offer b reads =
-    let i : Instance = opt meaning key barrier in
-    let v : Verdict = verdict_of (cell_at i seen) seen.register offered b in
-    let w : Verdict = verdict_by_digests barrier seen.flag seen.digest seen.register offered.content.place (normal b) in
-    let same : examined meaning key offered (normal b) w ≡ examined meaning key offered b v =
-    examined_alike meaning key offered b v w (verdict_alike offered.content.place meaning key barrier seen b reads.1.0) in
-    subst (λ (e : Result Bool Refusal). AsFound i seen (normal b) (found_with offered.content e)
-    (found_in_offer meaning (cell_at i seen) seen.register (Ok offered) b)) (sym same)
-    (as_from (examined meaning key offered b v) meaning key barrier seen offered.content b)
+  examined_alike : (offered : Snapshot) (v w : Verdict) → v ≡ w
+      → examined meaning key offered (normal b) w ≡ examined meaning key offered b v
+  examined_alike offered v w e =
+      ap (examined meaning key offered (normal b)) (sym e)
+      ∙ ap (λ (n : ℕ). weighed (meaning.is_spelled offered.content.state) (bytes_eq offered.tag (tag_of key offered.content)) v
+      (nat_le (offered.content.position + n) last_position)) (ap (λ (m : List (List ℕ)). length m) (members_of-normal b))
 
-as_unless : (lost : Bool) (i : Instance) (seen : Digests) (b : Batch) (x : Result Accepted Refusal) (found : Result Found Refusal)
-    → AsFound i seen b x found → AsFound i seen b (if lost then Err refusal.Lost else x) (found_unless lost found)
-as_unless true i seen b x found so = refl
-as_unless false i seen b x found so = so
+  -- the place of the answer
+  place_by : (flag again : Bool) → flag ≡ seen.flag → place_after (cell_at here seen) seen.register (guard barrier (normal b)) again
+      ≡ place_then Opt seen.flag again here seen (normal b)
+  place_by flag again e =
+      subst (λ (f : Bool). place_after (cell_at here (record seen { flag = f })) seen.register (guard barrier (normal b))
+      again ≡ place_then Opt f again here seen (normal b)) e (places flag again)
+    where
+      places : (flag again : Bool) → place_after (cell_at here (record seen { flag = flag })) seen.register (guard barrier (normal b)) again
+          ≡ place_then Opt flag again here seen (normal b)
+      places true true = refl
+      places false true = refl
+      places _ _ = refl
 
-as_in : (meaning : Meaning) (key barrier : List ℕ) (seen : Digests) (offer : List ℕ) (b : Batch) (taken : Result Snapshot PartsFault)
-    → ReadsParts offer Opt meaning.id taken
-    → AsFound (opt meaning key barrier) seen (normal b)
-    (accepted_at (opt meaning key barrier) (by_digests (opt meaning key barrier)) seen (normal b) offer)
-    (found_in meaning (cell_at (opt meaning key barrier) seen) seen.register taken b)
-as_in meaning key barrier seen offer b taken reads =
-    let i : Instance = opt meaning key barrier in
-    subst (λ (p : Result Snapshot PartsFault). AsFound i seen (normal b)
-    (if (by_digests i).is_lost seen then Err refusal.Lost else accepted_from i (by_digests i) seen (normal b) p)
-    (found_in meaning (cell_at i seen) seen.register taken b))
-    (parts_are Opt meaning.id offer taken reads)
-    (as_unless (has_lost_power (cell_at i seen) seen.register) i seen (normal b) (accepted_from i (by_digests i) seen (normal b) taken)
-    (found_in_offer meaning (cell_at i seen) seen.register taken b) (as_read taken meaning key barrier seen offer b reads))
+  answer_alike : (offered : Content) (again : Bool) → answer_of meaning (cell_at here seen) seen.register offered b again
+      ≡ answer_at meaning key offered (place_then Opt seen.flag again here seen (normal b)) (normal b) again
+  answer_alike offered again =
+      ap (λ (p : Place). answer_at meaning key offered p b again) (place_by seen.flag again refl) ∙ simp (members_of-normal b)
 
-given_with : (i : Instance) (seen : Digests) (b : Batch) (x : Result Accepted Refusal) (again : Bool) (answer : BatchAnswer)
-    → Accepts i seen b x again answer → Accepts i seen b (accepted_in x false) again answer
-given_with i seen b x again answer a = record {
-  offered = a.offered;
-  found_is = ap (λ (y : Result Accepted Refusal). accepted_in y false) a.found_is;
-  answer_is = a.answer_is;
-}
+  -- an accepted offer
+  as_change : (flag : Bool) (x : Result Accepted Refusal) (answer : BatchAnswer) → flag ≡ seen.flag
+      → Accepts here seen (normal b) x false answer
+      → AsFound here seen (normal b) x (Ok (change_by flag (guard barrier (normal b)) (opened_cell (cell_at here seen)) answer))
+  as_change true x answer e a = (sym e, refl, a)
+  as_change false x answer e a = (sym e, refl, refl, a)
 
-lacked_with : (i : Instance) (seen : Digests) (b : Batch) (x : Result Accepted Refusal) (again : Bool) (answer : BatchAnswer)
-    → Accepts i seen b x again answer → accepted_in x true ≡ Err refusal.Memory
-lacked_with i seen b x again answer a = ap (λ (y : Result Accepted Refusal). accepted_in y true) a.found_is
+  as_from : (e : Result Bool Refusal) (offered : Content) → AsFound here seen (normal b) (found_with offered e)
+      (found_from e (cell_at here seen) (guard barrier (normal b)) (answer_of meaning (cell_at here seen) seen.register offered b))
+  as_from (Err why) offered = refl
+  as_from (Ok true) offered = record { offered = offered; found_is = refl; answer_is = answer_alike offered true }
+  as_from (Ok false) offered =
+      as_change seen.flag (found_with offered (Ok false)) (answer_of meaning (cell_at here seen) seen.register offered b false) refl
+      (record { offered = offered; found_is = refl; answer_is = answer_alike offered false })
 
-as_given : (it : Found) (i : Instance) (seen : Digests) (b : Batch) (x : Result Accepted Refusal) → AsFound i seen b x (Ok it)
-    → AsFound i seen b (accepted_in x false) (Ok it)
-as_given (Repeat answer) i seen b x so = given_with i seen b x true answer so
-as_given (Inside ready) i seen b x so = (so.0, so.1, given_with i seen b x false ready.answer so.2)
-as_given (Opens opening) i seen b x so = (so.0, so.1, so.2, given_with i seen b x false opening.answer so.3)
+  as_read : (taken : Result Snapshot PartsFault) (offer : List ℕ) → ReadsParts offer Opt meaning.id taken
+      → AsFound here seen (normal b) (accepted_from here (by_digests here) seen (normal b) taken)
+      (found_in_offer meaning (cell_at here seen) seen.register taken b)
+  as_read (Err Form) offer reads = refl
+  as_read (Err Kind) offer reads = refl
+  as_read (Ok offered) offer reads =
+      let v : Verdict = verdict_of (cell_at here seen) seen.register offered b in
+      let w : Verdict = verdict_by_digests barrier seen.flag seen.digest seen.register offered.content.place (normal b) in
+      subst (λ (e : Result Bool Refusal). AsFound here seen (normal b) (found_with offered.content e)
+      (found_in_offer meaning (cell_at here seen) seen.register (Ok offered) b))
+      (sym (examined_alike offered v w (verdict_alike offered.content.place reads.1.0)))
+      (as_from (examined meaning key offered b v) offered.content)
 
-as_lacked : (it : Found) (i : Instance) (seen : Digests) (b : Batch) (x : Result Accepted Refusal) → AsFound i seen b x (Ok it)
-    → accepted_in x true ≡ Err refusal.Memory
-as_lacked (Repeat answer) i seen b x so = lacked_with i seen b x true answer so
-as_lacked (Inside ready) i seen b x so = lacked_with i seen b x false ready.answer so.2
-as_lacked (Opens opening) i seen b x so = lacked_with i seen b x false opening.answer so.3
-
-as_or : (y : Result Found Refusal) (i : Instance) (seen : Digests) (b : Batch) (x : Result Accepted Refusal) (found : Result Found Refusal)
-    → AsFound i seen b x y → OrMemory y found → AsFound i seen b (accepted_in x (lacks_in found)) found
-as_or (Err why) i seen b x found so o =
-    subst (λ (r : Result Found Refusal). AsFound i seen b (accepted_in x (lacks_in r)) r) (sym o)
-    (ap (λ (y : Result Accepted Refusal). accepted_in y (is_memory why)) so)
-as_or (Ok it) i seen b x found so o =
-    elim o [
-      | inl e ↦ subst (λ (r : Result Found Refusal). AsFound i seen b (accepted_in x (lacks_in r)) r) (sym e) (as_given it i seen b x so)
-      | inr e ↦ subst (λ (r : Result Found Refusal). AsFound i seen b (accepted_in x (lacks_in r)) r) (sym e) (as_lacked it i seen b x so)
-    ]
-
--- what is found in the cell and the register of these digests
-pub as_found : (meaning : Meaning) (key barrier : List ℕ) (seen : Digests) (offer : List ℕ) (b : Batch) (found : Result Found Refusal)
-    → FindsIn meaning (cell_at (opt meaning key barrier) seen) seen.register offer b found
-    → AsFound (opt meaning key barrier) seen (normal b)
-    (accepted_in (accepted_at (opt meaning key barrier) (by_digests (opt meaning key barrier)) seen (normal b) offer) (lacks_in found))
-    found
-as_found meaning key barrier seen offer b found f =
-    as_or (found_in meaning (cell_at (opt meaning key barrier) seen) seen.register f.taken b) (opt meaning key barrier) seen (normal b)
-    (accepted_at (opt meaning key barrier) (by_digests (opt meaning key barrier)) seen (normal b) offer) found
-    (as_in meaning key barrier seen offer b f.taken f.reads) f.found_is
+  -- what is found in the cell and the register of these digests
+  pub as_found : (offer : List ℕ) (found : Result Found Refusal) → FindsIn meaning (cell_at here seen) seen.register offer b found
+      → AsFound here seen (normal b) (accepted_in (accepted_at here (by_digests here) seen (normal b) offer) (lacks_in found)) found
+  as_found offer found f =
+      as_or here seen (normal b) (found_in meaning (cell_at here seen) seen.register f.taken b)
+      (accepted_at here (by_digests here) seen (normal b) offer) found
+      (subst (λ (p : Result Snapshot PartsFault). AsFound here seen (normal b)
+      (if (by_digests here).is_lost seen then Err refusal.Lost else accepted_from here (by_digests here) seen (normal b) p)
+      (found_in meaning (cell_at here seen) seen.register f.taken b)) (parts_are Opt meaning.id offer f.taken f.reads)
+      (as_unless here seen (normal b) (has_lost_power (cell_at here seen) seen.register)
+      (accepted_from here (by_digests here) seen (normal b) f.taken) (found_in_offer meaning (cell_at here seen) seen.register f.taken b)
+      (as_read f.taken offer f.reads))) f.found_is

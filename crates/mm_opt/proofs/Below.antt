@@ -22,7 +22,7 @@ pub use Rattle.mm_seal.specs.declared.snapshot.PartsFault.{PartsFault}
 pub use Rattle.mm_seal.specs.declared.snapshot.PartsFault.TheVariants.{Form, Kind}
 pub use Rattle.mm_seal.specs.declared.snapshot.Place.TheVariants.{Basic as InBasic, Opt as InOpt}
 pub use Rattle.mm_platform.specs.Standing.{Item, item_values, own_item, Plan, register_after, Standing}
-pub use Rattle.mm_platform.specs.Steps.{Act, beside, EndsBy, ExtendRegister, Goes, ReadCell, ReadRegister, ResetRegister, WriteCell}
+pub use Rattle.mm_platform.specs.Steps.{Act, beside, ExtendRegister, Goes, ReadCell, ReadRegister, ResetRegister, WriteCell}
 pub use Rattle.mm_platform.specs.Told.{next_plan}
 pub use Rattle.mm_platform.specs.declared.fault.StepFault.{StepFault}
 pub use Rattle.mm_module.specs.Batch.{Batch, normal, One, size_of}
@@ -35,20 +35,20 @@ pub use Rattle.mm_model.specs.Instance.{Instance}
 pub use Rattle.mm_model.specs.InstanceWords.{basic, opt}
 pub use Rattle.mm_model.specs.Judge.{is_last, judge, judged, verdict_by_digests}
 pub use Rattle.mm_model.specs.Long.{is_long}
-pub use Rattle.mm_model.specs.Moves.{committing, Digests, digests_of, made}
+pub use Rattle.mm_model.specs.Moves.{Digests, digests_of, made}
 pub use Rattle.mm_model.specs.Standing.{cell_of, IsRight, issued_bytes, StandsFor}
 pub use Rattle.mm_model.specs.Steps.{ask_steps, Changes, checkpoint_steps, Reads as Reading, Step, Writes}
 pub use Rattle.mm_model.specs.declared.answer.BatchAnswer.{BatchAnswer}
 pub use Rattle.mm_model.specs.declared.refusal.Refusal.{Refusal}
-pub use Rattle.mm_model.specs.declared.refusal.Refusal.TheVariants.{Long, Memory}
+pub use Rattle.mm_model.specs.declared.refusal.Refusal.TheVariants.{Long}
 pub use Rattle.mm_model.specs.declared.verdict.Verdict.{Verdict}
 pub use Rattle.mm_model.specs.declared.verdict.Verdict.TheVariants.{Again, Fresh, Lost, Stale}
-pub use Rattle.mm_call.specs.Called.{called, called_by, ended_by, given_for, reading_steps}
+pub use Rattle.mm_call.specs.Called.{called, ended_by, given_for}
 pub use Rattle.mm_call.specs.Calls.{AsksTo, breaks_off, Calls, EndsTo, goes_on, IsCallSoFar, StepsTo}
-pub use Rattle.mm_call.specs.CallsOn.{CallsOn, GoesBy}
+pub use Rattle.mm_call.specs.CallsOn.{CallsOn}
 pub use Rattle.mm_call.specs.Checkpoints.{checkpointed, checkpointed_by, CheckpointsAgree, Closing, closing_of, IsClosedWithin}
 pub use Rattle.mm_call.specs.CheckpointsWords.{checkpointed_with, closed_by}
-pub use Rattle.mm_call.specs.Courses.{closes, Course, Done, End, Fate, seen_in, step_moves, walk, Walked}
+pub use Rattle.mm_call.specs.Courses.{closes, Course, Done, End, Fate, step_moves, walk, Walked}
 pub use Rattle.mm_call.specs.Ended.{CallsTo, committed_as, refused_as, result_of, StaysOn}
 pub use Rattle.mm_call.specs.Found.{Found as Accepted, found_at, found_at as accepted_at, found_by_verdict}
 pub use Rattle.mm_call.specs.Found.{found_by_verdict as accepted_from}
@@ -59,15 +59,15 @@ pub use Rattle.mm_call.specs.Levels.{all_made, by_digests, by_lists, place_then}
 pub use Rattle.mm_call.specs.MoveLaws.{anchor-nil, same_batches}
 pub use Rattle.mm_call.specs.Order.{admitted, examined}
 pub use Rattle.mm_call.specs.OrderWords.{weighed}
-pub use Rattle.mm_call.specs.Refusals.{fault_in, fault_of, handed_on, OrMemory}
+pub use Rattle.mm_call.specs.Refusals.{fault_in, fault_of, OrMemory}
 pub use Rattle.mm_call.specs.Standing.{cell_at, instance_by, shown, shown_by, StandsAt}
 pub use Rattle.mm_call.specs.TellingLaws.{AreMet, begins_at, IsAt, met, met_at, stepped, then_at, told_by, trail_fails, trail_last}
 pub use Rattle.mm_call.specs.TellingLaws.{trail_on}
 pub use Rattle.mm_call.specs.TrailLaws.{all_made-append, foreign_made, leads, reads_beside, reads_of, with_register}
-pub use Rattle.mm_call.specs.Trails.{IsChange, IsWrite, MakesStep, Stepped, Trail}
+pub use Rattle.mm_call.specs.Trails.{IsChange, IsWrite, Trail}
 pub use Rattle.mm_call.specs.WalkLaws.{asks, changing, foreign_first, foreign_in-first}
 pub use Rattle.mm_call.specs.declared.ended.Ended.{Ended}
-pub use Rattle.mm_call.specs.declared.ended.Ended.TheVariants.{Answered, Broken, Refused}
+pub use Rattle.mm_call.specs.declared.ended.Ended.TheVariants.{Answered, Refused}
 pub use Rattle.mm_call.proofs.Above.{Accepts, agrees_is, answered_result, AsFound as AsMade, asked_for, basic_checkpoints_agree, before}
 pub use Rattle.mm_call.proofs.Above.{BlamesFor, calls_from, course_by, cut, each_call, ends_fates, ends_result, ends_untouched, fate_of}
 pub use Rattle.mm_call.proofs.Above.{finds, given_all, GoesTo, is_agrees, is_memory, lacks_in, life_bare, MakesAll, opt_calls_agree}
@@ -87,8 +87,7 @@ pub use Rattle.mm_opt.specs.ChecksOn.{ChecksBy, ChecksFor, ChecksOn, closing_tol
 pub use Rattle.mm_opt.specs.Finishes.{acts_left, answer_left, ChangesTo, Finishes}
 pub use Rattle.mm_opt.specs.Order.{batch_value, has_lost_power, verdict_at, verdict_of}
 pub use Rattle.mm_opt.specs.Seen.{cell_in, is_cell_of, is_opt, own_cell}
-pub use Rattle.mm_opt.specs.Steps.{FindsCell, FindsIn, IsReady, Makes, MakesRoom, MayGoOn, ReadsOwnCell, ReadsOwnCell as ReadsStep}
-pub use Rattle.mm_opt.specs.Steps.{ReadsRegister}
+pub use Rattle.mm_opt.specs.Steps.{FindsCell, FindsIn, Makes, MakesRoom, MayGoOn, ReadsOwnCell, ReadsOwnCell as ReadsStep, ReadsRegister}
 pub use Rattle.mm_opt.specs.declared.found.Found.{Found}
 pub use Rattle.mm_opt.specs.declared.found.Found.TheVariants.{Inside, Opens, Repeat}
 pub use Rattle.mm_opt.specs.declared.found.Opening.{Opening}

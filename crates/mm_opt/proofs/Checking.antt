@@ -1,223 +1,308 @@
 -- A checkpoint over a platform goes by digests: the course that it took, and the trail of its steps.
-use Rattle.mm_opt.proofs.Below.{◌≡◌, ℕ, Bool, true, false, List, [], ◌∷◌, map, Option, None, Some, Result, Ok, Err, refl, sym, ap, ◌∙◌}
-use Rattle.mm_opt.proofs.Below.{subst, ◌&&◌, is_some, IsSome, bytes_eq, fold, result_err, Variant, Basic, Opt, zero_bytes, extended_of}
-use Rattle.mm_opt.proofs.Below.{StepFault, Plan, Standing, Act, ReadCell, WriteCell, ReadRegister, Goes, next_plan, Meaning, Cell, IsCell}
-use Rattle.mm_opt.proofs.Below.{Instance, basic, opt, Batch, History, Foreign, Close, Digests, digests_of, StandsFor, Writes}
-use Rattle.mm_opt.proofs.Below.{checkpoint_steps, all_made, by_lists, by_digests, Course, Fate, closes, walk, seen_in, reading_steps}
-use Rattle.mm_opt.proofs.Below.{closing_of, checkpointed, IsClosedWithin, CheckpointsAgree, closed_by, checkpointed_with, instance_by}
-use Rattle.mm_opt.proofs.Below.{cell_at, StandsAt, Stepped, reads_of, reads_beside, with_register, agrees_is, is_agrees, stands_at}
-use Rattle.mm_opt.proofs.Below.{stands_for, basic_checkpoints_agree, opt_checkpoints_agree, StaysOn, planned_done, planned_broken, stepped}
-use Rattle.mm_opt.proofs.Below.{trail_last, met, AreMet, told_by, IsAt, begins_at, met_at, then_at, Checkpointed, CheckpointRefusal}
-use Rattle.mm_opt.proofs.Below.{Segment, Open, Shut, closing_fault_of, closing_fault_in, Looks, closed_cell, closing_by, Weighs}
-use Rattle.mm_opt.proofs.Below.{closing_handed_on, EndsClosing, EndsLooking, ClosesSegment, closing_told, ChecksBy, ChecksFor, ChecksOn}
-use Rattle.mm_opt.proofs.Below.{fate_of}
+use Rattle.mm_opt.proofs.Below.{Act, AreMet, Basic, Batch, Bool, Cell, CellFault, CheckpointRefusal, Checkpointed, CheckpointsAgree}
+use Rattle.mm_opt.proofs.Below.{ChecksBy, ChecksFor, ChecksOn, Close, ClosesSegment, Closing, Course, Digests, Err, Fate, FindsSegment}
+use Rattle.mm_opt.proofs.Below.{Foreign, Goes, History, Instance, IsAt, IsCell, IsClosedWithin, IsSome, IsWrite, Item, List, Meaning}
+use Rattle.mm_opt.proofs.Below.{None, Ok, Open, Opt, Option, Plan, ReadCell, ReadRegister, Result, Segment, Shut, Some, Standing}
+use Rattle.mm_opt.proofs.Below.{StandsAt, StandsFor, StaysOn, Step, StepFault, Trail, Variant, Walked, WriteCell, Writes, [], agrees_is}
+use Rattle.mm_opt.proofs.Below.{all_made, ap, arith, basic, basic_checkpoints_agree, begins_at, by_digests, by_lists, bytes_eq, cell_at}
+use Rattle.mm_opt.proofs.Below.{cell_spelling, checkpoint_steps, checkpointed, checkpointed_by, checkpointed_with, closed_by, closed_cell}
+use Rattle.mm_opt.proofs.Below.{closes, closing_by, closing_fault_in, closing_of, closing_told, counted, digests_of, extended_of, false}
+use Rattle.mm_opt.proofs.Below.{fate_of, fold, instance_by, is_agrees, is_some, leads, length-anchored_of, map, met, met_at, next_plan}
+use Rattle.mm_opt.proofs.Below.{opt, opt_checkpoints_agree, planned_broken, planned_done, reads_beside, reads_cell-same, reads_of, refl}
+use Rattle.mm_opt.proofs.Below.{segment_by, segment_in, shown_by, stands_at, stands_for, stepped, subst, sym, then_at, told_by}
+use Rattle.mm_opt.proofs.Below.{trail_fails, trail_last, trail_on, true, walk, with_register, zero_bytes, ℕ, ◌&&◌, ◌+◌, ◌∙◌, ◌∷◌, ◌≡◌}
+use Rattle.mm_opt.proofs.Below.{◌≤◌}
 use Rattle.mm_model.specs.Steps.{Reads}
+use Rattle.mm_opt.specs.declared.segment.Checkpointed.TheVariants.{Done, NoSegment}
 use Rattle.mm_opt.specs.declared.segment.CheckpointRefusal.TheVariants as refusal
-use Rattle.mm_opt.proofs.Stepping.{quietly, loudly, read_value, two_brought, seen_is}
-use Rattle.mm_opt.proofs.CheckpointSteps.{on_course, handing, seen_segment, checks_first, checks_one, checks_second, checks_two, write_closed, same_refusal, opt_refused, opt_shut, opt_open, closing_steps, open_steps, open_said, closing_refused, closing_next, closed_told, handed, kept}
+use Rattle.mm_call.specs.Courses.{planned}
+use Rattle.mm_call.specs.Called.{seen_at}
+use Rattle.mm_opt.proofs.Stepping.{read_value, two_brought, seen_is}
+use Rattle.mm_opt.proofs.EachClosing.{refused, Opened, Weighed, Each, each_closing}
 
--- The course
+abbrev on_course : (ℕ → Fate) → Course
+on_course fates = record { fates = fates; lacks = false }
 
-abbrev pub closing_fates : (found : Result (List ℕ) CheckpointRefusal) (old new : Standing) (result : Result Checkpointed CheckpointRefusal)
-    → EndsClosing found old new result → List Fate
-closing_fates (Err why) old new result e = []
-closing_fates (Ok next) old new result e = fate_of (WriteCell next) old new (result_err e.written) e.closes.goes ∷ []
+-- The plan
 
-abbrev pub looked_fates : (found : Result Segment CheckpointRefusal) (old new : Standing) (result : Result Checkpointed CheckpointRefusal)
-    → EndsLooking found old new result → List Fate
-looked_fates (Err why) old new result e = []
-looked_fates (Ok Shut) old new result e = []
-looked_fates (Ok (Open cell)) old new result e =
-    fate_of ReadRegister old e.middle (closing_fault_in e.found) e.weighs.goes ∷ closing_fates e.found e.middle new result e.ends
+-- Device steps that were made once so many steps of the plan were over: they met it, and power is on as it says.
+record Met (at : ℕ) (old : Standing) (new : Standing) (fault : Option StepFault) (fates : List Fate) : Type 0 where
+  met_all : (plan : Plan) → IsAt old plan at → AreMet fates (at + 1) plan
+  stays : (plan : Plan) → IsAt old plan at → StaysOn plan.stop (is_some fault) new × IsSome new.plan
 
-abbrev pub checked_fates : (found : Result Segment CheckpointRefusal) (old middle new : Standing)
-    (result : Result Checkpointed CheckpointRefusal) → Looks old middle found → EndsLooking found middle new result → List Fate
-checked_fates found old middle new result l e =
-    fate_of ReadCell old middle (closing_fault_in found) l.goes ∷ looked_fates found middle new result e
+counted_small : (n : ℕ) → n ≤ 9 → counted n ≡ n + 1
+counted_small n few = omega (arith, few)
 
--- it is the plan's, where one is told
-tells_closing : (found : Result (List ℕ) CheckpointRefusal) (cell : Cell) (old middle new : Standing)
-    (result : Result Checkpointed CheckpointRefusal) (plan : Plan) → IsAt old plan 1 → (w : Weighs cell old middle found)
-    → (e : EndsClosing found middle new result)
-    → AreMet (fate_of ReadRegister old middle (closing_fault_in found) w.goes ∷ closing_fates found middle new result e) 2 plan
-tells_closing (Err why) cell old middle new result plan at w e =
-    (met_at ReadRegister old middle (closing_fault_of why) plan 1 at w.goes, tt)
-tells_closing (Ok next) cell old middle new result plan at w e = (
-  met_at ReadRegister old middle None plan 1 at w.goes,
-  (met_at (WriteCell next) middle new (result_err e.written) plan 2 (then_at ReadRegister old middle plan 1 at w.goes) e.closes.goes, tt),
-)
+planned_by : (fault : Option StepFault) (act : Act) (old new : Standing) (plan : Plan) (at : ℕ) → IsAt old plan at → Goes act old new fault
+    → StaysOn plan.stop (is_some fault) new × IsSome new.plan
+planned_by None act old new plan at p g = planned_done act old new plan at p g
+planned_by (Some fault) act old new plan at p g = planned_broken act old new fault plan at p g
 
-tells_looked : (found : Result Segment CheckpointRefusal) (old middle new : Standing) (result : Result Checkpointed CheckpointRefusal)
-    (plan : Plan) → IsAt old plan 0 → (l : Looks old middle found) → (e : EndsLooking found middle new result)
-    → AreMet (checked_fates found old middle new result l e) 1 plan
-tells_looked (Err why) old middle new result plan at l e = (met_at ReadCell old middle (closing_fault_of why) plan 0 at l.goes, tt)
-tells_looked (Ok Shut) old middle new result plan at l e = (met_at ReadCell old middle None plan 0 at l.goes, tt)
-tells_looked (Ok (Open cell)) old middle new result plan at l e = (
-  met_at ReadCell old middle None plan 0 at l.goes,
-  tells_closing e.found cell middle e.middle new result plan (then_at ReadCell old middle plan 0 at l.goes) e.weighs e.ends,
-)
+met_last : (at : ℕ) → at ≤ 9 → (act : Act) (old new : Standing) (fault : Option StepFault) (g : Goes act old new fault)
+    → Met at old new fault (fate_of act old new fault g ∷ [])
+met_last at few act old new fault g = record {
+  met_all = λ plan p. (met_at act old new fault plan at p g ∙ ap (planned plan) (counted_small at few), tt);
+  stays = λ plan p. planned_by fault act old new plan at p g;
+}
 
--- Basic has no segments
-checks_basic : (found : Result Segment CheckpointRefusal) (meaning : Meaning) (key : List ℕ) (d : Digests) (lost : Bool)
-    (old middle new : Standing) (result : Result Checkpointed CheckpointRefusal) → StandsAt (basic meaning key) old d
-    → (l : Looks old middle found) → (e : EndsLooking found middle new result)
-    → ChecksBy (basic meaning key) d
-    (checkpointed_with (basic meaning key) (by_digests (basic meaning key)) d
-    (on_course (met (checked_fates found old middle new result l e) 1 (next_plan old))) lost) old new result
-checks_basic (Err why) meaning key d lost old middle new result s l e =
-    let i : Instance = basic meaning key in
-    let fates : ℕ → Fate = met (fate_of ReadCell old middle (closing_fault_of why) l.goes ∷ []) 1 (next_plan old) in
-    subst (λ (n : Standing). ChecksBy i d (checkpointed_with i (by_digests i) d (on_course fates) lost) old n result) (sym e.0)
-    (elim (handing why) [
-      | handed fault is ↦ checks_first i d fates lost old middle fault result s
-          (loudly (closing_fault_of why) fault i d ReadCell Reads old middle middle l.goes (ap closing_fault_of is) tt refl)
-          (e.1 ∙ ap (λ (w : CheckpointRefusal). Err w) is)
-      | kept quiet ↦ checks_one i d fates lost old middle result s
-          (quietly (closing_fault_of why) i d ReadCell Reads old middle middle l.goes quiet tt refl) refl
-          (e.1 ∙ same_refusal why refusal.Kind (Err why) refl (seen_segment i d old (Err why) (l.finds quiet) s))
-    ])
-checks_basic (Ok Shut) meaning key d lost old middle new result s l e =
-    let i : Instance = basic meaning key in
-    let is : Ok Shut ≡ Err refusal.Kind = seen_segment i d old (Ok Shut) (l.finds refl) s in absurd (cc)
-checks_basic (Ok (Open cell)) meaning key d lost old middle new result s l e =
-    let i : Instance = basic meaning key in
-    let is : Ok (Open cell) ≡ Err refusal.Kind = seen_segment i d old (Ok (Open cell)) (l.finds refl) s in absurd (cc)
+met_on : (at : ℕ) → at ≤ 9 → (act : Act) (old middle new : Standing) (fault : Option StepFault) (fates : List Fate)
+    (g : Goes act old middle None) → Met (at + 1) middle new fault fates → Met at old new fault (fate_of act old middle None g ∷ fates)
+met_on at few act old middle new fault fates g m =
+    let next = λ (plan : Plan) (p : IsAt old plan at).
+    subst (λ (n : ℕ). IsAt middle plan n) (counted_small at few) (then_at act old middle plan at p g) in
+    record {
+      met_all = λ plan p. (
+        met_at act old middle None plan at p g ∙ ap (planned plan) (counted_small at few),
+        m.met_all plan (next plan p),
+      );
+      stays = λ plan p. m.stays plan (next plan p);
+    }
 
--- the digests after both reading steps
-abbrev after_both : Instance → Digests → List (List ℕ) → List (List ℕ) → Digests
-after_both i d v w = all_made (by_digests i) (all_made (by_digests i) d (map Foreign v)) (map Foreign w)
+-- By digests
 
--- what was read in the register: whether power was lost, what is found by it, and that it is what these digests have
-read_closing : (meaning : Meaning) (key barrier : List ℕ) (d : Digests) (cell : Cell) (old first second : Standing)
-    (found : Result (List ℕ) CheckpointRefusal) (g : Goes ReadCell old first None) → StandsAt (opt meaning key barrier) old d
-    → cell ≡ cell_at (opt meaning key barrier) d → (w : Weighs cell first second found) → closing_fault_in found ≡ None
-    → (register : List ℕ)
-    × (d.flag ≡ true → ((after_both (opt meaning key barrier) d g.others w.goes.others).flag
-    && bytes_eq (after_both (opt meaning key barrier) d g.others w.goes.others).register zero_bytes) ≡ bytes_eq register zero_bytes)
-    × (found ≡ closing_by (bytes_eq register zero_bytes) cell register)
-    × (register ≡ (after_both (opt meaning key barrier) d g.others w.goes.others).register)
-read_closing meaning key barrier d cell old first second found g s mine w quiet =
-    let i : Instance = opt meaning key barrier in
-    let both : Digests = after_both i d g.others w.goes.others in
-    let value : List ℕ = fold extended_of (fold extended_of d.register g.others) w.goes.others in
-    let brought : both ≡ with_register d value = two_brought i d g.others w.goes.others in
-    let f = w.finds quiet in
-    let reads : reads_of second.items ≡ Some value =
-    ap reads_of w.goes.items ∙ reads_beside first.items w.goes.others (fold extended_of d.register g.others)
-    (ap reads_of g.items ∙ reads_beside old.items g.others d.register s.reads) in
-    let read : f.register ≡ both.register =
-    read_value second.items value f.register reads f.told ∙ sym (ap (λ (y : Digests). y.register) brought) in (
-      f.register,
-      λ (is_open : d.flag ≡ true).
-          ap (λ (t : Bool). t && bytes_eq both.register zero_bytes) (ap (λ (y : Digests). y.flag) brought ∙ is_open)
-          ∙ ap (λ (r : List ℕ). bytes_eq r zero_bytes) (sym read),
-      f.found_is,
-      read,
-    )
+-- A checkpoint whose steps made this trail
+concluded : (i : Instance) (d : Digests) (fates : ℕ → Fate) (lost : Bool) (steps : List Step) (said : Closing) (old new : Standing)
+    (fault : Option StepFault) (result : Result Checkpointed CheckpointRefusal) → StandsAt i old d
+    → checkpoint_steps i.variant d.flag lost ≡ steps → closing_of i.variant d.flag lost ≡ said → Trail i d fates 1 steps old new fault
+    → result ≡ closing_told (closed_by fault (closes (walk fates 1 steps).moves) said)
+    → ChecksBy i d (checkpointed_with i (by_digests i) d (on_course fates) lost) old new result
+concluded i d fates lost steps said old new fault result s e saying t is =
+    let l = leads i d fates 1 steps old new fault s t in
+    let w : Walked = walk fates 1 steps in
+    subst (λ (st : List Step). ChecksBy i d (checkpointed_by (by_digests i) d (closing_of i.variant d.flag lost) (walk fates 1 st)) old new
+    result) (sym e)
+    (subst (λ (sd : Closing). ChecksBy i d (checkpointed_by (by_digests i) d sd (walk fates 1 steps)) old new result) (sym saying)
+    (record {
+      gives = is ∙ ap (λ (f : Option StepFault). closing_told (closed_by f (closes w.moves) said)) (sym l.broken);
+      stands = l.stands;
+      items = l.items;
+      steps = l.steps;
+      writes = l.writes;
+    }))
 
--- the second step, where a segment is open
-checks_open : (found : Result (List ℕ) CheckpointRefusal) (meaning : Meaning) (key barrier : List ℕ) (d : Digests) (lost : Bool)
-    (plan : Plan) (cell : Cell) (old first second new : Standing) (result : Result Checkpointed CheckpointRefusal)
-    (g : Goes ReadCell old first None) → StandsAt (opt meaning key barrier) old d → d.flag ≡ true
-    → cell ≡ cell_at (opt meaning key barrier) d
-    → (w : Weighs cell first second found) → (e : EndsClosing found second new result)
-    → lost ≡ ((after_both (opt meaning key barrier) d g.others w.goes.others).flag
-    && bytes_eq (after_both (opt meaning key barrier) d g.others w.goes.others).register zero_bytes)
-    → ChecksBy (opt meaning key barrier) d
-    (checkpointed_with (opt meaning key barrier) (by_digests (opt meaning key barrier)) d
-    (on_course (met (fate_of ReadCell old first None g ∷ fate_of ReadRegister first second (closing_fault_in found) w.goes
-    ∷ closing_fates found second new result e) 1 plan)) lost) old new result
-checks_open (Err why) meaning key barrier d lost plan cell old first second new result g s is_open mine w e lost_is =
-    let i : Instance = opt meaning key barrier in
-    let fates : ℕ → Fate = met (fate_of ReadCell old first None g ∷ fate_of ReadRegister first second (closing_fault_of why) w.goes ∷ []) 1
-    plan in
-    let t : Stepped i d (fates 1) Reads old first None = stepped i d ReadCell Reads old first None g tt in
-    subst (λ (n : Standing). ChecksBy i d (checkpointed_with i (by_digests i) d (on_course fates) lost) old n result) (sym e.0)
-    (elim (handing why) [
-      | handed fault is ↦ checks_second i d fates lost (closing_steps lost) old first second fault result s (open_steps d.flag lost is_open)
-          t
-          (loudly (closing_fault_of why) fault i (all_made (by_digests i) d (map Foreign g.others)) ReadRegister Reads first second second
-          w.goes (ap closing_fault_of is) tt refl)
-          (e.1 ∙ ap (λ (v : CheckpointRefusal). Err v) is)
-      | kept quiet ↦
-          let c = read_closing meaning key barrier d cell old first second (Err why) g s mine w quiet in
-          let r = closing_refused (bytes_eq c.0 zero_bytes) cell c.0 why c.2 in
-          let is_lost : lost ≡ true = lost_is ∙ c.1 is_open ∙ r.0 in
-          checks_two i d fates lost [] old first second second None result s
-          (open_steps d.flag lost is_open ∙ ap (λ (l : Bool). Reads ∷ Reads ∷ closing_steps l) is_lost) t
-          (quietly (closing_fault_of why) i (all_made (by_digests i) d (map Foreign g.others)) ReadRegister Reads first second second w.goes
-          quiet tt refl)
-          (refl, refl)
-          (e.1 ∙ r.1 ∙ sym (ap closing_told (open_said d.flag lost is_open ∙ ap (λ (l : Bool). closing_of Opt true l) is_lost)))
-    ])
-checks_open (Ok next) meaning key barrier d lost plan cell old first second new result g s is_open mine w e lost_is =
-    let i : Instance = opt meaning key barrier in
-    let fates : ℕ → Fate = met
-    (fate_of ReadCell old first None g ∷ fate_of ReadRegister first second None w.goes
-    ∷ fate_of (WriteCell next) second new (result_err e.written) e.closes.goes ∷ []) 1 plan in
-    let both : Digests = after_both i d g.others w.goes.others in
-    let value : List ℕ = fold extended_of (fold extended_of d.register g.others) w.goes.others in
-    let brought : both ≡ with_register d value = two_brought i d g.others w.goes.others in
-    let c = read_closing meaning key barrier d cell old first second (Ok next) g s mine w refl in
-    let r = closing_next (bytes_eq c.0 zero_bytes) cell c.0 next c.2 in
-    let not_lost : lost ≡ false = lost_is ∙ c.1 is_open ∙ r.0 in
-    let same : cell ≡ cell_at i both = mine ∙ ap (λ (y : Digests). cell_at i y) (sym brought) in
-    checks_two i d fates lost (Writes Close ∷ []) old first second new (result_err e.written) result s
-    (open_steps d.flag lost is_open ∙ ap (λ (l : Bool). Reads ∷ Reads ∷ closing_steps l) not_lost)
-    (stepped i d ReadCell Reads old first None g tt)
-    (stepped i (all_made (by_digests i) d (map Foreign g.others)) ReadRegister Reads first second None w.goes tt)
-    (trail_last i both fates 3 (Writes Close) second new (result_err e.written)
-    (stepped i both (WriteCell next) (Writes Close) second new (result_err e.written) e.closes.goes
-    (write_closed meaning key barrier both next (subst (λ (y : Digests). IsCell (cell_at i y)) (sym brought) s.spells)
-    (r.1 ∙ ap (λ (x : Cell). closed_cell x c.0) same ∙ ap (λ (v : List ℕ). closed_cell (cell_at i both) v) c.3))))
-    (e.gives ∙ closed_told e.written d.flag (walk fates 1 (Reads ∷ Reads ∷ Writes Close ∷ [])).moves is_open e.closes.gives
-    ∙ ap (λ (l : Bool). closing_told
-    (closed_by (result_err e.written) (closes (walk fates 1 (Reads ∷ Reads ∷ Writes Close ∷ [])).moves) (closing_of Opt d.flag l)))
-    (sym not_lost))
+-- the steps of a checkpoint begin with a read
+abbrev later_steps : Variant → Bool → Bool → List Step
+later_steps Basic flag lost = []
+later_steps Opt false lost = []
+later_steps Opt true true = Reads ∷ []
+later_steps Opt true false = Reads ∷ Writes Close ∷ []
 
-checks_opt : (found : Result Segment CheckpointRefusal) (meaning : Meaning) (key barrier : List ℕ) (d : Digests) (old middle new : Standing)
-    (result : Result Checkpointed CheckpointRefusal) → StandsAt (opt meaning key barrier) old d → (l : Looks old middle found)
-    → (e : EndsLooking found middle new result)
-    → ChecksBy (opt meaning key barrier) d
-    (checkpointed (opt meaning key barrier) (by_digests (opt meaning key barrier)) d
-    (on_course (met (checked_fates found old middle new result l e) 1 (next_plan old)))) old new result
-checks_opt (Err why) meaning key barrier d old middle new result s l e =
-    let i : Instance = opt meaning key barrier in
-    let fates : ℕ → Fate = met (fate_of ReadCell old middle (closing_fault_of why) l.goes ∷ []) 1 (next_plan old) in
-    subst (λ (n : Standing). ChecksBy i d (checkpointed i (by_digests i) d (on_course fates)) old n result) (sym e.0)
-    (elim (handing why) [
-      | handed fault is ↦ checks_first i d fates _ old middle fault result s
-          (loudly (closing_fault_of why) fault i d ReadCell Reads old middle middle l.goes (ap closing_fault_of is) tt refl)
-          (e.1 ∙ ap (λ (w : CheckpointRefusal). Err w) is)
-      | kept quiet ↦ absurd (opt_refused d.flag (cell_at i d) why (seen_segment i d old (Err why) (l.finds quiet) s))
-    ])
-checks_opt (Ok Shut) meaning key barrier d old middle new result s l e =
-    let i : Instance = opt meaning key barrier in
-    let fates : ℕ → Fate = met (fate_of ReadCell old middle None l.goes ∷ []) 1 (next_plan old) in
-    let shut : d.flag ≡ false = opt_shut d.flag (cell_at i d) (seen_segment i d old (Ok Shut) (l.finds refl) s) in
-    let seen : Digests = all_made (by_digests i) d (seen_in fates (reading_steps Opt) 1) in
-    let lost : Bool = seen.flag && bytes_eq seen.register zero_bytes in
-    subst (λ (n : Standing). ChecksBy i d (checkpointed i (by_digests i) d (on_course fates)) old n result) (sym e.0)
-    (checks_one i d fates lost old middle result s (stepped i d ReadCell Reads old middle None l.goes tt)
-    (ap (λ (f : Bool). checkpoint_steps Opt f lost) shut) (e.1 ∙ ap (λ (f : Bool). closing_told (closing_of Opt f lost)) (sym shut)))
-checks_opt (Ok (Open cell)) meaning key barrier d old middle new result s l e =
-    let i : Instance = opt meaning key barrier in
-    let o = opt_open d.flag (cell_at i d) cell (seen_segment i d old (Ok (Open cell)) (l.finds refl) s) in
-    checks_open e.found meaning key barrier d _ (next_plan old) cell old middle e.middle new result l.goes s o.0 o.1 e.weighs e.ends
-    (ap (λ (y : Digests). y.flag && bytes_eq y.register zero_bytes) (seen_is meaning key barrier d l.goes.others e.weighs.goes.others))
+first_reads : (variant : Variant) (flag lost : Bool) → checkpoint_steps variant flag lost ≡ Reads ∷ later_steps variant flag lost
+first_reads Opt true true = refl
+first_reads _ flag lost = refl
 
-goes_by : (variant : Variant) (found : Result Segment CheckpointRefusal) (meaning : Meaning) (key barrier : List ℕ) (d : Digests)
-    (old middle new : Standing) (result : Result Checkpointed CheckpointRefusal) → StandsAt (instance_by variant meaning key barrier) old d
-    → (l : Looks old middle found) → (e : EndsLooking found middle new result)
+-- the segment that is found
+seen_segment : (i : Instance) (d : Digests) (old : Standing) (found : Result Segment CheckpointRefusal) → FindsSegment old found
+    → StandsAt i old d → found ≡ segment_by i.variant d.flag (cell_at i d)
+seen_segment i d old found f s =
+    let same : f.sees.read ≡ Ok (cell_at i d) =
+    reads_cell-same f.bytes f.sees.read (Ok (cell_at i d)) f.sees.reads (s.spells, f.told (cell_spelling (cell_at i d)) s.cell) in
+    f.sees.found_is ∙ ap (λ (r : Result Cell CellFault). segment_in r) same
+
+shows_closed : (flag : Bool) (i : Instance) (items : List Item) → shown_by Opt flag i Close items ≡ items
+shows_closed true i items = refl
+shows_closed false i items = refl
+
+-- the write that closes a segment
+write_closed : (meaning : Meaning) (key barrier : List ℕ) (d : Digests) (next : List ℕ) → IsCell (cell_at (opt meaning key barrier) d)
+    → next ≡ closed_cell (cell_at (opt meaning key barrier) d) d.register → IsWrite (opt meaning key barrier) d next Close
+write_closed meaning key barrier d next spells next_is = record {
+  spells = record { summary = length-anchored_of d.digest d.register; key = spells.key; barrier = spells.barrier; variant = tt };
+  cell = next_is;
+  register = refl;
+  shows = λ (items : List Item). shows_closed d.flag (opt meaning key barrier) items;
+}
+
+-- Opt
+opt_refused : (flag : Bool) (cell : Cell) (why : CheckpointRefusal) → Err why ≡ segment_by Opt flag cell → ⊥
+opt_refused true cell why e = cc
+opt_refused false cell why e = cc
+
+opt_shut : (flag : Bool) (cell : Cell) → Ok Shut ≡ segment_by Opt flag cell → flag ≡ false
+opt_shut true cell e = cc
+opt_shut false cell e = refl
+
+opt_open : (flag : Bool) (cell seen : Cell) → Ok (Open seen) ≡ segment_by Opt flag cell → (flag ≡ true) × (seen ≡ cell)
+opt_open true cell seen e = (refl, cc)
+opt_open false cell seen e = (cc, cc)
+
+abbrev closing_steps : Bool → List Step
+closing_steps true = []
+closing_steps false = Writes Close ∷ []
+
+open_steps : (flag lost : Bool) → flag ≡ true → checkpoint_steps Opt flag lost ≡ Reads ∷ Reads ∷ closing_steps lost
+open_steps true true e = refl
+open_steps true false e = refl
+open_steps false lost e = cc
+
+-- what is found in the register
+closing_refused : (zero : Bool) (cell : Cell) (register : List ℕ) (why : CheckpointRefusal) → Err why ≡ closing_by zero cell register
+    → (zero ≡ true) × (refused why ≡ refused refusal.Lost)
+closing_refused true cell register why e = (refl, let same : why ≡ refusal.Lost = cc in ap refused same)
+closing_refused false cell register why e = (cc, cc)
+
+closing_next : (zero : Bool) (cell : Cell) (register next : List ℕ) → Ok next ≡ closing_by zero cell register
+    → (zero ≡ false) × (next ≡ closed_cell cell register)
+closing_next true cell register next e = (cc, cc)
+closing_next false cell register next e = (refl, cc)
+
+-- where the first step fails, or is the last
+module _ (i : Instance) (d : Digests) (plan : Plan) (old one : Standing) (s : StandsAt i old d) where
+  first_goes : (fault : StepFault) (g : Goes ReadCell old one (Some fault))
+      → ChecksBy i d (checkpointed i (by_digests i) d (on_course (met (fate_of ReadCell old one (Some fault) g ∷ []) 1 plan))) old one
+      (Err (refusal.Device fault))
+  first_goes fault g =
+      let fates : ℕ → Fate = met (fate_of ReadCell old one (Some fault) g ∷ []) 1 plan in
+      let lost : Bool = (by_digests i).is_lost (seen_at i (by_digests i) d (on_course fates)) in
+      concluded i d fates lost (Reads ∷ later_steps i.variant d.flag lost) (closing_of i.variant d.flag lost) old one (Some fault)
+      (Err (refusal.Device fault)) s (first_reads i.variant d.flag lost) refl
+      (trail_fails i d fates 1 Reads (later_steps i.variant d.flag lost) old one fault
+      (stepped i d ReadCell Reads old one (Some fault) g tt)) refl
+
+  once_goes : (result : Result Checkpointed CheckpointRefusal) (g : Goes ReadCell old one None)
+      → ((lost : Bool) → checkpoint_steps i.variant d.flag lost ≡ Reads ∷ [])
+      → ((lost : Bool) → result ≡ closing_told (closing_of i.variant d.flag lost))
+      → ChecksBy i d (checkpointed i (by_digests i) d (on_course (met (fate_of ReadCell old one None g ∷ []) 1 plan))) old one result
+  once_goes result g steps is =
+      let fates : ℕ → Fate = met (fate_of ReadCell old one None g ∷ []) 1 plan in
+      let lost : Bool = (by_digests i).is_lost (seen_at i (by_digests i) d (on_course fates)) in
+      concluded i d fates lost (Reads ∷ []) (closing_of i.variant d.flag lost) old one None result s (steps lost) refl
+      (trail_last i d fates 1 Reads old one None (stepped i d ReadCell Reads old one None g tt)) (is lost)
+
+-- The fates of the reading steps
+abbrev opened_fates : (old one : Standing) (cell : Cell) → Opened old one cell → List Fate → List Fate
+opened_fates old one cell o fates = fate_of ReadCell old one None o.goes ∷ fates
+
+abbrev weighed_fates : (old one two : Standing) (cell : Cell) (found : Result (List ℕ) CheckpointRefusal) → Weighed old one two cell found
+    → List Fate → List Fate
+weighed_fates old one two cell found w fates =
+    opened_fates old one cell w.opened (fate_of ReadRegister one two None w.goes ∷ fates)
+
+-- where a segment is open
+module _ (meaning : Meaning) (key barrier : List ℕ) (d : Digests) (plan : Plan) (old one two : Standing) (cell : Cell)
+    (s : StandsAt (opt meaning key barrier) old d) (is_open : d.flag ≡ true) where
+  abbrev I : Instance
+  I = opt meaning key barrier
+
+  abbrev IsLost : (ℕ → Fate) → Bool
+  IsLost fates = (by_digests I).is_lost (seen_at I (by_digests I) d (on_course fates))
+
+  second_goes : (fault : StepFault) (o : Opened old one cell) (g : Goes ReadRegister one two (Some fault))
+      → ChecksBy I d (checkpointed I (by_digests I) d
+      (on_course (met (opened_fates old one cell o (fate_of ReadRegister one two (Some fault) g ∷ [])) 1 plan))) old two
+      (Err (refusal.Device fault))
+  second_goes fault o g =
+      let fates : ℕ → Fate = met (opened_fates old one cell o (fate_of ReadRegister one two (Some fault) g ∷ [])) 1 plan in
+      let lost : Bool = IsLost fates in
+      let then : Digests = all_made (by_digests I) d (map Foreign o.goes.others) in
+      concluded I d fates lost (Reads ∷ Reads ∷ closing_steps lost) (closing_of Opt d.flag lost) old two (Some fault)
+      (Err (refusal.Device fault)) s (open_steps d.flag lost is_open) refl
+      (trail_on I d fates 1 Reads (Reads ∷ closing_steps lost) old one two (Some fault) (stepped I d ReadCell Reads old one None o.goes tt)
+      (trail_fails I then fates 2 Reads (closing_steps lost) one two fault
+      (stepped I then ReadRegister Reads one two (Some fault) g tt))) refl
+
+  -- what was read in the register, and whether power was lost
+  module _ (found : Result (List ℕ) CheckpointRefusal) (w : Weighed old one two cell found) where
+    abbrev value : List ℕ
+    value = fold extended_of (fold extended_of d.register w.opened.goes.others) w.goes.others
+
+    read : w.finds.register ≡ value
+    read = read_value two.items value w.finds.register
+        (ap reads_of w.goes.items ∙ reads_beside one.items w.goes.others (fold extended_of d.register w.opened.goes.others)
+        (ap reads_of w.opened.goes.items ∙ reads_beside old.items w.opened.goes.others d.register s.reads)) w.finds.told
+
+    lost_is : (fates : List Fate) → IsLost (met (weighed_fates old one two cell found w fates) 1 plan)
+        ≡ bytes_eq w.finds.register zero_bytes
+    lost_is fates =
+        ap (λ (y : Digests). y.flag && bytes_eq y.register zero_bytes)
+        (seen_is meaning key barrier d w.opened.goes.others w.goes.others ∙ two_brought I d w.opened.goes.others w.goes.others)
+        ∙ ap (λ (f : Bool). f && bytes_eq value zero_bytes) is_open ∙ ap (λ (r : List ℕ). bytes_eq r zero_bytes) (sym read)
+
+  refused_goes : (why : CheckpointRefusal) (w : Weighed old one two cell (Err why))
+      → ChecksBy I d (checkpointed I (by_digests I) d (on_course (met (weighed_fates old one two cell (Err why) w []) 1 plan))) old two
+      (Err why)
+  refused_goes why w =
+      let fates : ℕ → Fate = met (weighed_fates old one two cell (Err why) w []) 1 plan in
+      let lost : Bool = IsLost fates in
+      let then : Digests = all_made (by_digests I) d (map Foreign w.opened.goes.others) in
+      let r = closing_refused (bytes_eq w.finds.register zero_bytes) cell w.finds.register why w.finds.found_is in
+      let is_lost : lost ≡ true = lost_is (Err why) w [] ∙ r.0 in
+      concluded I d fates lost (Reads ∷ Reads ∷ []) (closing_of Opt d.flag lost) old two None (Err why) s
+      (λ j. checkpoint_steps Opt (is_open j) (is_lost j)) refl
+      (trail_on I d fates 1 Reads (Reads ∷ []) old one two None (stepped I d ReadCell Reads old one None w.opened.goes tt)
+      (trail_last I then fates 2 Reads one two None (stepped I then ReadRegister Reads one two None w.goes tt)))
+      (r.1 ∙ sym (λ j. closing_told (closing_of Opt (is_open j) (is_lost j))))
+
+  closed_goes : (next : List ℕ) (w : Weighed old one two cell (Ok next)) → cell ≡ cell_at I d → (new : Standing) (fault : Option StepFault)
+      (result : Result Checkpointed CheckpointRefusal) (g : Goes (WriteCell next) two new fault)
+      → ((closed : Bool) → result ≡ closing_told (closed_by fault closed (closing_of Opt true false)))
+      → ChecksBy I d (checkpointed I (by_digests I) d
+      (on_course (met (weighed_fates old one two cell (Ok next) w (fate_of (WriteCell next) two new fault g ∷ [])) 1 plan))) old new result
+  closed_goes next w mine new fault result g is =
+      let fates : ℕ → Fate = met (weighed_fates old one two cell (Ok next) w (fate_of (WriteCell next) two new fault g ∷ [])) 1 plan in
+      let lost : Bool = IsLost fates in
+      let then : Digests = all_made (by_digests I) d (map Foreign w.opened.goes.others) in
+      let both : Digests = all_made (by_digests I) then (map Foreign w.goes.others) in
+      let brought : both ≡ with_register d (value (Ok next) w) = two_brought I d w.opened.goes.others w.goes.others in
+      let r = closing_next (bytes_eq w.finds.register zero_bytes) cell w.finds.register next w.finds.found_is in
+      let not_lost : lost ≡ false = lost_is (Ok next) w (fate_of (WriteCell next) two new fault g ∷ []) ∙ r.0 in
+      let same : cell ≡ cell_at I both = mine ∙ ap (λ (y : Digests). cell_at I y) (sym brought) in
+      concluded I d fates lost (Reads ∷ Reads ∷ Writes Close ∷ []) (closing_of Opt d.flag lost) old new fault result s
+      (λ j. checkpoint_steps Opt (is_open j) (not_lost j)) refl
+      (trail_on I d fates 1 Reads (Reads ∷ Writes Close ∷ []) old one new fault
+      (stepped I d ReadCell Reads old one None w.opened.goes tt)
+      (trail_on I then fates 2 Reads (Writes Close ∷ []) one two new fault (stepped I then ReadRegister Reads one two None w.goes tt)
+      (trail_last I both fates 3 (Writes Close) two new fault (stepped I both (WriteCell next) (Writes Close) two new fault g
+      (write_closed meaning key barrier both next (subst (λ (y : Digests). IsCell (cell_at I y)) (sym brought) s.spells)
+      (r.1 ∙ ap (λ (x : Cell). closed_cell x w.finds.register) same ∙ ap (closed_cell (cell_at I both))
+      (read (Ok next) w ∙ sym (ap (λ (y : Digests). y.register) brought))))))))
+      (is (closes (walk fates 1 (Reads ∷ Reads ∷ Writes Close ∷ [])).moves)
+      ∙ sym (λ j. closing_told
+      (closed_by fault (closes (walk fates 1 (Reads ∷ Reads ∷ Writes Close ∷ [])).moves) (closing_of Opt (is_open j) (not_lost j)))))
+
+-- In either variant
+
+abbrev GoesOn : Standing → Standing → Result Checkpointed CheckpointRefusal → List Fate → Type 0
+GoesOn old new result fates =
+    (variant : Variant) (meaning : Meaning) (key barrier : List ℕ) (d : Digests) → StandsAt (instance_by variant meaning key barrier) old d
     → ChecksBy (instance_by variant meaning key barrier) d
     (checkpointed (instance_by variant meaning key barrier) (by_digests (instance_by variant meaning key barrier)) d
-    (on_course (met (checked_fates found old middle new result l e) 1 (next_plan old)))) old new result
-goes_by Basic found meaning key barrier d old middle new result s l e =
-    let i : Instance = basic meaning key in
-    let seen : Digests = all_made (by_digests i) d
-    (seen_in (met (checked_fates found old middle new result l e) 1 (next_plan old)) (reading_steps Basic) 1) in
-    checks_basic found meaning key d (seen.flag && bytes_eq seen.register zero_bytes) old middle new result s l e
-goes_by Opt found meaning key barrier d old middle new result s l e = checks_opt found meaning key barrier d old middle new result s l e
+    (on_course (met fates 1 (next_plan old)))) old new result
+
+refused_first : (why : CheckpointRefusal) (old one : Standing) (g : Goes ReadCell old one None) → FindsSegment old (Err why)
+    → GoesOn old one (Err why) (fate_of ReadCell old one None g ∷ [])
+refused_first why old one g f Basic meaning key barrier d s =
+    let is : Err why ≡ Err refusal.Kind = seen_segment (basic meaning key) d old (Err why) f s in
+    let same : why ≡ refusal.Kind = cc in
+    once_goes (basic meaning key) d (next_plan old) old one s (Err why) g (λ lost. refl) (λ lost. ap refused same)
+refused_first why old one g f Opt meaning key barrier d s =
+    absurd (opt_refused d.flag (cell_at (opt meaning key barrier) d) why (seen_segment (opt meaning key barrier) d old (Err why) f s))
+
+found_shut : (old one : Standing) (g : Goes ReadCell old one None) → FindsSegment old (Ok Shut)
+    → GoesOn old one (Ok NoSegment) (fate_of ReadCell old one None g ∷ [])
+found_shut old one g f Basic meaning key barrier d s =
+    let is : Ok Shut ≡ Err refusal.Kind = seen_segment (basic meaning key) d old (Ok Shut) f s in absurd (cc)
+found_shut old one g f Opt meaning key barrier d s =
+    let i : Instance = opt meaning key barrier in
+    let shut : d.flag ≡ false = opt_shut d.flag (cell_at i d) (seen_segment i d old (Ok Shut) f s) in
+    once_goes i d (next_plan old) old one s (Ok NoSegment) g (λ lost. ap (λ (f : Bool). checkpoint_steps Opt f lost) shut)
+    (λ lost. ap (λ (f : Bool). closing_told (closing_of Opt f lost)) (sym shut))
+
+-- only Opt has open segments
+found_open : (old one new : Standing) (cell : Cell) (result : Result Checkpointed CheckpointRefusal) (fates : List Fate)
+    → Opened old one cell
+    → ((meaning : Meaning) (key barrier : List ℕ) (d : Digests) → StandsAt (opt meaning key barrier) old d → d.flag ≡ true
+    → cell ≡ cell_at (opt meaning key barrier) d
+    → ChecksBy (opt meaning key barrier) d (checkpointed (opt meaning key barrier) (by_digests (opt meaning key barrier)) d
+    (on_course (met fates 1 (next_plan old)))) old new result) → GoesOn old new result fates
+found_open old one new cell result fates o goes Basic meaning key barrier d s =
+    let is : Ok (Open cell) ≡ Err refusal.Kind = seen_segment (basic meaning key) d old (Ok (Open cell)) o.finds s in absurd (cc)
+found_open old one new cell result fates o goes Opt meaning key barrier d s =
+    let i : Instance = opt meaning key barrier in
+    let e = opt_open d.flag (cell_at i d) cell (seen_segment i d old (Ok (Open cell)) o.finds s) in
+    goes meaning key barrier d s e.0 e.1
+
+-- By lists
 
 continued : (i : Instance) → CheckpointsAgree i → (old new : Standing) (c : Course) (result : Result Checkpointed CheckpointRefusal)
     → ((d : Digests) → StandsAt i old d → ChecksBy i d (checkpointed i (by_digests i) d c) old new result)
@@ -240,65 +325,68 @@ agree : (variant : Variant) (meaning : Meaning) (key barrier : List ℕ) → Che
 agree Basic meaning key barrier = basic_checkpoints_agree meaning key
 agree Opt meaning key barrier = opt_checkpoints_agree meaning key barrier
 
--- power after a checkpoint under a plan
-planned_by : (fault : Option StepFault) (act : Act) (old new : Standing) (plan : Plan) (at : ℕ) → IsAt old plan at → Goes act old new fault
-    → StaysOn plan.stop (is_some fault) new × IsSome new.plan
-planned_by None act old new plan at p g = planned_done act old new plan at p g
-planned_by (Some fault) act old new plan at p g = planned_broken act old new fault plan at p g
+checks_by : (old new : Standing) (result : Result Checkpointed CheckpointRefusal) (fates : List Fate)
+    → Met 0 old new (closing_fault_in result) fates → GoesOn old new result fates → ChecksOn old new result
+checks_by old new result fates m goes =
+    let course : Course = on_course (met fates 1 (next_plan old)) in
+    record {
+      course = course;
+      tells = told_by old fates (λ plan is_on known at. m.met_all plan (begins_at old plan is_on known at));
+      goes = goes;
+      continues = λ variant meaning key barrier y all others asked s a.
+          continued (instance_by variant meaning key barrier) (agree variant meaning key barrier) old new course result
+          (goes variant meaning key barrier) y all others asked s a;
+      plans = λ plan is_on known at. m.stays plan (begins_at old plan is_on known at);
+    }
 
-abbrev StaysBy : Plan → Standing → Result Checkpointed CheckpointRefusal → Type 0
-StaysBy plan new result = StaysOn plan.stop (is_some (closing_fault_in result)) new × IsSome new.plan
+met_opened : (old one new : Standing) (cell : Cell) (o : Opened old one cell) (fault : Option StepFault)
+    (g : Goes ReadRegister one new fault) → Met 0 old new fault (opened_fates old one cell o (fate_of ReadRegister one new fault g ∷ []))
+met_opened old one new cell o fault g =
+    met_on 0 (omega arith) ReadCell old one new fault (fate_of ReadRegister one new fault g ∷ []) o.goes
+    (met_last 1 (omega arith) ReadRegister one new fault g)
 
-closed_planned : (written : Result Checkpointed StepFault) (next : List ℕ) (old new : Standing) (plan : Plan) (at : ℕ) → IsAt old plan at
-    → Goes (WriteCell next) old new (result_err written) → StaysBy plan new (closing_handed_on written)
-closed_planned (Ok it) next old new plan at p g = planned_done (WriteCell next) old new plan at p g
-closed_planned (Err fault) next old new plan at p g = planned_broken (WriteCell next) old new fault plan at p g
+met_weighed : (old one two new : Standing) (cell : Cell) (next : List ℕ) (w : Weighed old one two cell (Ok next)) (fault : Option StepFault)
+    (g : Goes (WriteCell next) two new fault)
+    → Met 0 old new fault (weighed_fates old one two cell (Ok next) w (fate_of (WriteCell next) two new fault g ∷ []))
+met_weighed old one two new cell next w fault g =
+    let last : List Fate = fate_of (WriteCell next) two new fault g ∷ [] in
+    met_on 0 (omega arith) ReadCell old one new fault (fate_of ReadRegister one two None w.goes ∷ last) w.opened.goes
+    (met_on 1 (omega arith) ReadRegister one two new fault last w.goes (met_last 2 (omega arith) (WriteCell next) two new fault g))
 
-weighed_planned : (found : Result (List ℕ) CheckpointRefusal) (cell : Cell) (old middle new : Standing)
-    (result : Result Checkpointed CheckpointRefusal) (plan : Plan) → IsAt old plan 1 → Weighs cell old middle found
-    → EndsClosing found middle new result → StaysBy plan new result
-weighed_planned (Err why) cell old middle new result plan p w e =
-    subst (λ (n : Standing). StaysBy plan n result) (sym e.0)
-    (subst (λ (r : Result Checkpointed CheckpointRefusal). StaysBy plan middle r) (sym e.1)
-    (planned_by (closing_fault_of why) ReadRegister old middle plan 1 p w.goes))
-weighed_planned (Ok next) cell old middle new result plan p w e =
-    subst (λ (r : Result Checkpointed CheckpointRefusal). StaysBy plan new r) (sym e.gives)
-    (closed_planned e.written next middle new plan 2 (then_at ReadRegister old middle plan 1 p w.goes) e.closes.goes)
-
-looked_planned : (found : Result Segment CheckpointRefusal) (old middle new : Standing) (result : Result Checkpointed CheckpointRefusal)
-    (plan : Plan) → IsAt old plan 0 → Looks old middle found → EndsLooking found middle new result → StaysBy plan new result
-looked_planned (Err why) old middle new result plan p l e =
-    subst (λ (n : Standing). StaysBy plan n result) (sym e.0)
-    (subst (λ (r : Result Checkpointed CheckpointRefusal). StaysBy plan middle r) (sym e.1)
-    (planned_by (closing_fault_of why) ReadCell old middle plan 0 p l.goes))
-looked_planned (Ok Shut) old middle new result plan p l e =
-    subst (λ (n : Standing). StaysBy plan n result) (sym e.0)
-    (subst (λ (r : Result Checkpointed CheckpointRefusal). StaysBy plan middle r) (sym e.1)
-    (planned_done ReadCell old middle plan 0 p l.goes))
-looked_planned (Ok (Open cell)) old middle new result plan p l e =
-    weighed_planned e.found cell middle e.middle new result plan (then_at ReadCell old middle plan 0 p l.goes) e.weighs e.ends
+each_checks : (old : Standing) → Each old (ChecksOn old)
+each_checks old = record {
+  first_fails = λ fault one g. checks_by old one (Err (refusal.Device fault)) (fate_of ReadCell old one (Some fault) g ∷ [])
+      (met_last 0 (omega arith) ReadCell old one (Some fault) g)
+      (λ variant meaning key barrier d s. first_goes (instance_by variant meaning key barrier) d (next_plan old) old one s fault g);
+  first_refuses = λ why one quiet g f. checks_by old one (Err why) (fate_of ReadCell old one None g ∷ [])
+      (subst (λ (x : Option StepFault). Met 0 old one x (fate_of ReadCell old one None g ∷ [])) (sym quiet)
+      (met_last 0 (omega arith) ReadCell old one None g)) (refused_first why old one g f);
+  shut = λ one g f. checks_by old one (Ok NoSegment) (fate_of ReadCell old one None g ∷ [])
+      (met_last 0 (omega arith) ReadCell old one None g) (found_shut old one g f);
+  second_fails = λ cell fault one two o g.
+      let fates : List Fate = opened_fates old one cell o (fate_of ReadRegister one two (Some fault) g ∷ []) in
+      checks_by old two (Err (refusal.Device fault)) fates (met_opened old one two cell o (Some fault) g)
+      (found_open old one two cell (Err (refusal.Device fault)) fates o
+      (λ meaning key barrier d s e mine. second_goes meaning key barrier d (next_plan old) old one two cell s e fault o g));
+  second_refuses = λ cell why one two quiet w.
+      let fates : List Fate = weighed_fates old one two cell (Err why) w [] in
+      checks_by old two (Err why) fates
+      (subst (λ (x : Option StepFault). Met 0 old two x fates) (sym quiet) (met_opened old one two cell w.opened None w.goes))
+      (found_open old one two cell (Err why) fates w.opened
+      (λ meaning key barrier d s e mine. refused_goes meaning key barrier d (next_plan old) old one two cell s e why w));
+  closes = λ cell next one two new w g.
+      let fates : List Fate = weighed_fates old one two cell (Ok next) w (fate_of (WriteCell next) two new None g ∷ []) in
+      checks_by old new (Ok Done) fates (met_weighed old one two new cell next w None g)
+      (found_open old one new cell (Ok Done) fates w.opened (λ meaning key barrier d s e mine.
+      closed_goes meaning key barrier d (next_plan old) old one two cell s e next w mine new None (Ok Done) g (λ closed. refl)));
+  last_fails = λ cell next fault one two new w g.
+      let fates : List Fate = weighed_fates old one two cell (Ok next) w (fate_of (WriteCell next) two new (Some fault) g ∷ []) in
+      checks_by old new (Err (refusal.Device fault)) fates (met_weighed old one two new cell next w (Some fault) g)
+      (found_open old one new cell (Err (refusal.Device fault)) fates w.opened (λ meaning key barrier d s e mine.
+      closed_goes meaning key barrier d (next_plan old) old one two cell s e next w mine new (Some fault) (Err (refusal.Device fault)) g
+      (λ closed. refl)));
+}
 
 pub checks_on : (old new : Standing) (result : Result Checkpointed CheckpointRefusal) → ClosesSegment old new result
     → ChecksOn old new result
-checks_on old new result c =
-    let course : Course = on_course (met (checked_fates c.found old c.middle new result c.looks c.ends) 1 (next_plan old)) in
-    let by = λ (variant : Variant) (meaning : Meaning) (key barrier : List ℕ) (d : Digests)
-    (s : StandsAt (instance_by variant meaning key barrier) old d).
-    goes_by variant c.found meaning key barrier d old c.middle new result s c.looks c.ends in
-    record {
-      course = course;
-      tells = told_by old (checked_fates c.found old c.middle new result c.looks c.ends)
-          (λ (plan : Plan) (is_on : old.is_on ≡ true) (known : old.plan ≡ Some plan) (at : plan.at ≡ 0).
-          tells_looked c.found old c.middle new result plan (begins_at old plan is_on known at) c.looks c.ends);
-      goes = by;
-      continues =
-          λ (variant : Variant) (meaning : Meaning) (key barrier : List ℕ) (y : History) (all others : List (List ℕ)) (asked : List Batch)
-          (s : StandsFor (instance_by variant meaning key barrier) old y)
-          (a : IsClosedWithin all others asked (instance_by variant meaning key barrier) y
-          (checkpointed (instance_by variant meaning key barrier) (by_digests (instance_by variant meaning key barrier))
-          (digests_of (instance_by variant meaning key barrier) y) course).moves).
-          continued (instance_by variant meaning key barrier) (agree variant meaning key barrier) old new course result
-          (by variant meaning key barrier) y all others asked s a;
-      plans = λ (plan : Plan) (is_on : old.is_on ≡ true) (known : old.plan ≡ Some plan) (at : plan.at ≡ 0).
-          looked_planned c.found old c.middle new result plan (begins_at old plan is_on known at) c.looks c.ends;
-    }
+checks_on old = each_closing old (ChecksOn old) (each_checks old)

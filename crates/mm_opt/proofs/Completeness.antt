@@ -1,10 +1,10 @@
 -- A right offer that the verdict on the history accepts is answered, where a call's steps bring nothing into a segment.
 use Rattle.mm_opt.proofs.Below.{◌≡◌, ℕ, ◌+◌, ◌≤◌, ◌^◌, Bool, true, false, List, [], ◌∷◌, ◌++◌, length, map, Option, None, Some, Result, Ok}
-use Rattle.mm_opt.proofs.Below.{Err, refl, sym, ap, ◌∙◌, subst, inl, inr, le-leb, if◌then◌else◌, is_some, nat_eq, nat_le, bytes_eq, Opt}
-use Rattle.mm_opt.proofs.Below.{StepFault, Item, Standing, Meaning, Batch, size_of, normal, members_of-normal, Content, tag_of, offered_of}
+use Rattle.mm_opt.proofs.Below.{Err, refl, sym, ap, ◌∙◌, subst, inl, inr, le-leb, if◌then◌else◌, nat_eq, nat_le, bytes_eq, Opt}
+use Rattle.mm_opt.proofs.Below.{StepFault, Standing, Meaning, Batch, size_of, normal, members_of-normal, Content, tag_of, offered_of}
 use Rattle.mm_opt.proofs.Below.{Instance, opt, History, Move, Foreign, Value, total_of, judge, judged, is_last, Digests, digests_of}
-use Rattle.mm_opt.proofs.Below.{StandsFor, IsRight, ask_steps, BatchAnswer, Refusal, Verdict, Fresh, Again, Lost, Stale, called, ended_by}
-use Rattle.mm_opt.proofs.Below.{given_for, CallsOn, End, Done, Course, Walked, walk, found_by_verdict, found_at, found_with}
+use Rattle.mm_opt.proofs.Below.{IsRight, ask_steps, BatchAnswer, Refusal, Verdict, Fresh, Again, Lost, Stale, called, ended_by}
+use Rattle.mm_opt.proofs.Below.{given_for, End, Done, Course, Walked, walk, found_by_verdict, found_at, found_with}
 use Rattle.mm_opt.proofs.Below.{found_unless_wanting, is_fresh, Blames, IsAccepted, IsAnswered, admitted, weighed, by_lists, by_digests}
 use Rattle.mm_opt.proofs.Below.{all_made, fault_in, shown, stands_at, asked_for, same_batches, is_agrees, before, sight_is, opt_calls_agree}
 use Rattle.mm_opt.proofs.Below.{two_reads, reading, past, cut, life_bare, opt_tied, changing, asks, foreign_first, foreign_in-first, Calls}
@@ -17,7 +17,6 @@ use Rattle.mm_model.specs.Life.{Life, Live, Spoiled, Lost as LostLife, life_of, 
 use Rattle.mm_model.specs.declared.refusal.Refusal.TheVariants as refusal
 use Rattle.mm_call.specs.Asked.{counted_moves, foreign_in, IsAsked}
 use Rattle.mm_call.specs.Found.{Found}
-use Rattle.mm_call.specs.Premises.{AreAsked, AreShown}
 use Rattle.mm_call.specs.Tied.{standing_items, foreign_items}
 use Rattle.mm_call.specs.ShowingLaws.{shown_same, counts_open}
 use Rattle.mm_opt.specs.Complete.{AnswersAccepted}
@@ -28,8 +27,7 @@ use Rattle.mm_opt.proofs.Going.{calls_on}
 -- a history on which an offer is accepted is live
 live_if : (l : Life) (here repeat : Bool) → IsAccepted (judged l here repeat) → l ≡ Live
 live_if Live here repeat a = refl
-live_if Spoiled here repeat a = absurd a
-live_if LostLife here repeat a = absurd a
+live_if _ here repeat a = absurd a
 
 -- the verdict by this life and these batches
 abbrev IsAcceptedBy : Life → List Batch → ℕ → Batch → Type 0
@@ -40,9 +38,7 @@ IsAcceptedBy l batches p b =
 accepted_then : (y sees : History) (p : ℕ) (b : Batch) → sees.batches ≡ y.batches → life_of Opt sees ≡ Live
     → life_of Opt y ≡ Live → IsAccepted (judge Opt y p b) → IsAccepted (judge Opt sees p b)
 accepted_then y sees p b same there live a =
-    subst (λ (l : Life). IsAcceptedBy l sees.batches p b) (sym there)
-    (subst (λ (bs : List Batch). IsAcceptedBy Live bs p b) (sym same)
-    (subst (λ (l : Life). IsAcceptedBy l y.batches p b) live a))
+    subst IsAccepted (sym (simp (same, there, live))) a
 
 -- it was found
 record IsFound (x : Result Found Refusal) : Type 0 where
@@ -52,14 +48,10 @@ record IsFound (x : Result Found Refusal) : Type 0 where
 admitted_found : (content : Content) (v : Verdict) → IsAccepted v → IsFound (found_with content (admitted v true))
 admitted_found content Fresh a = record { found = record { offered = content; again = false }; is = refl }
 admitted_found content Again a = record { found = record { offered = content; again = true }; is = refl }
-admitted_found content Lost a = absurd a
-admitted_found content Stale a = absurd a
-
-weighed_whole : (s t fits : Bool) (v : Verdict) → s ≡ true → t ≡ true → fits ≡ true → weighed s t v fits ≡ admitted v true
-weighed_whole s t fits v p q r = rw (p, q, r) refl
+admitted_found content _ a = absurd a
 
 -- what is found at a live history of a right offer, while there are positions left
-found_right : (i : Instance) (y : History) (offer : List ℕ) (b : Batch) (content : Content) → life_of i.variant y ≡ Live
+pub found_right : (i : Instance) (y : History) (offer : List ℕ) (b : Batch) (content : Content) → life_of i.variant y ≡ Live
     → IsRight i offer content → content.position + size_of b ≤ 2 ^ 48
     → found_at i (by_lists i) y b offer ≡ found_with content (admitted (judge i.variant y content.position b) true)
 found_right i y offer b content live right fits =
@@ -68,9 +60,9 @@ found_right i y offer b content live right fits =
     ∙ sealed_parts i.key content i.variant i.meaning.id right.formed right.variant right.id in
     let spelled : i.meaning.is_spelled content.state ≡ true = right.state in
     let tag : List ℕ = tag_of i.key content in
-    let e = weighed_whole (i.meaning.is_spelled content.state) (bytes_eq tag tag) (nat_le (content.position + size_of b) (2 ^ 48))
-    (judge i.variant y content.position b) spelled ((bytes_eq-Decides tag tag).1 refl)
-    (le-leb (content.position + size_of b) (2 ^ 48) fits) in
+    let v : Verdict = judge i.variant y content.position b in
+    let e : weighed (i.meaning.is_spelled content.state) (bytes_eq tag tag) v (nat_le (content.position + size_of b) (2 ^ 48))
+    ≡ admitted v true = rw (spelled, (bytes_eq-Decides tag tag).1 refl, le-leb (content.position + size_of b) (2 ^ 48) fits) refl in
     ap (λ (l : Life). if is_lost l then Err refusal.Lost else found_by_verdict i (by_lists i) y b (parts_of i.variant i.meaning.id offer))
     live
     ∙ ap (found_by_verdict i (by_lists i) y b) parts
@@ -133,45 +125,31 @@ sees_live true meaning key barrier y c live e none =
     ap (life_of Opt) (sees_open (opt meaning key barrier) y c (none refl).0 (none refl).1) ∙ live
 sees_live false meaning key barrier y c live e none = sees_shut meaning key barrier y c e ∙ live
 
--- a call that wasn't broken off, and found an offer that is accepted, or lacked memory
-whole_answers : (lacks : Bool) (i : Instance) (sees end : History) (b : Batch) (found : Found) (moves : List Move)
-    (result : Result BatchAnswer Refusal) (old new : Standing)
-    → result ≡ given_for (ended_by (by_lists i) sees end b (found_unless_wanting (Ok found) lacks) moves None) → IsAnswered result old new
-whole_answers false i sees end b found moves result old new e =
-    subst (λ (r : Result BatchAnswer Refusal). IsAnswered r old new) (sym e) (inl refl)
-whole_answers true i sees end b found moves result old new e =
-    subst (λ (r : Result BatchAnswer Refusal). IsAnswered r old new) (sym e) (inr (inl refl))
+-- a call that found an offer that is accepted, or lacked memory, or was broken off
+answered_by : (broken : Option StepFault) (lacks : Bool) (i : Instance) (sees end : History) (b : Batch) (moves : List Move)
+    (old new : Standing) (x : Result Found Refusal) → (broken ≡ None → IsFound x)
+    → Blames (fault_in (given_for (ended_by (by_lists i) sees end b (found_unless_wanting x lacks) moves broken))) old.faults new.faults
+    → IsAnswered (given_for (ended_by (by_lists i) sees end b (found_unless_wanting x lacks) moves broken)) old new
+answered_by (Some fault) lacks i sees end b moves old new x finds blames = inr (inr (refl, blames))
+answered_by None lacks i sees end b moves old new x finds blames =
+    subst (λ (r : Result Found Refusal). IsAnswered (given_for (ended_by (by_lists i) sees end b (found_unless_wanting r lacks) moves None))
+    old new) (sym (finds refl).is) (or_lacks lacks)
+  where
+    or_lacks : (lacks : Bool)
+        → IsAnswered (given_for (ended_by (by_lists i) sees end b (found_unless_wanting (Ok (finds refl).found) lacks) moves None)) old new
+    or_lacks false = inl refl
+    or_lacks true = inr (inl refl)
 
-answered_by : (broken : Option StepFault) (i : Instance) (sees end : History) (b : Batch) (lacks : Bool) (moves : List Move)
-    (result : Result BatchAnswer Refusal) (old new : Standing) → Blames (fault_in result) old.faults new.faults
-    → (x : Result Found Refusal) → (broken ≡ None → IsFound x)
-    → result ≡ given_for (ended_by (by_lists i) sees end b (found_unless_wanting x lacks) moves broken) → IsAnswered result old new
-answered_by (Some fault) i sees end b lacks moves result old new blames x finds e =
-    inr (inr (
-      ap (λ (r : Result BatchAnswer Refusal). is_some (fault_in r)) e,
-      subst
-          (λ (r : Result BatchAnswer Refusal). Blames (fault_in r) old.faults new.faults) e blames,
-    ))
-answered_by None i sees end b lacks moves result old new blames x finds e =
-    let f = finds refl in
-    whole_answers lacks i sees end b f.found moves result old new
-    (e ∙ ap (λ (r : Result Found Refusal). given_for (ended_by (by_lists i) sees end b (found_unless_wanting r lacks) moves None)) f.is)
-
-accepted_answers : (meaning : Meaning) (key barrier : List ℕ) (all others : List (List ℕ)) (asked : List Batch) (y : History)
-    (old new : Standing) (offer : List ℕ) (batch : Batch) (result : Result BatchAnswer Refusal) (items more : List Item)
-    (content : Content) → Blames (fault_in result) old.faults new.faults → CallsOn Opt meaning old new offer batch result
-    → StandsFor (opt meaning key barrier) old y → old.items ≡ Some items
-    → new.items ≡ Some (standing_items y.is_open items ++ more) → (y.is_open ≡ true → foreign_items more ≡ [])
-    → AreAsked all others asked (opt meaning key barrier) y offer (normal batch)
-    → (((y.is_open ≡ false) × (judge Opt y content.position (normal batch) ≡ Again) → ⊥)
-    → AreShown all others (opt meaning key barrier) y more)
-    → IsRight (opt meaning key barrier) offer content
-    → IsAccepted (judge Opt y content.position (normal batch)) → content.position + size_of (normal batch) ≤ 2 ^ 48
-    → IsAnswered result old new
-accepted_answers meaning key barrier all others asked y old new offer batch result items more content blames c s known ends alone a shown_so
-    right accepted fits =
+pub complete : (meaning : Meaning) (old new : Standing) (offer : List ℕ) (batch : Batch) (result : Result BatchAnswer Refusal)
+    → Calls opt_call meaning old new offer batch result → Blames (fault_in result) old.faults new.faults
+    → AnswersAccepted meaning old new offer batch result
+complete meaning old new offer batch result calls blames short key barrier y all others asked items more content s known ends alone a
+    shown_so right accepted few =
     let i : Instance = opt meaning key barrier in
     let b : Batch = normal batch in
+    let c = calls_on meaning old new offer batch result calls short in
+    let fits : content.position + size_of b ≤ 2 ^ 48 =
+    subst (λ (members : List (List ℕ)). content.position + length members ≤ 2 ^ 48) (sym (members_of-normal batch)) few in
     let d : Digests = digests_of i y in
     let moves : List Move = (called i (by_digests i) d c.course offer b).moves in
     let g = c.goes key barrier d (stands_at i old y s) in
@@ -210,14 +188,6 @@ accepted_answers meaning key barrier all others asked y old new offer batch resu
     let finds : walked.broken ≡ None → IsFound at = λ whole.
     let there = sees_live y.is_open meaning key barrier y c.course live refl (brought whole) in
     accepted_found i sees offer b content there right (accepted_then y sees content.position b batches there live accepted) fits in
-    answered_by walked.broken i sees (all_made (by_lists i) y walked.moves) b c.course.lacks walked.moves result old new blames at finds
-    k.gives
-
-pub complete : (meaning : Meaning) (old new : Standing) (offer : List ℕ) (b : Batch) (result : Result BatchAnswer Refusal)
-    → Calls opt_call meaning old new offer b result → Blames (fault_in result) old.faults new.faults
-    → AnswersAccepted meaning old new offer b result
-complete meaning old new offer b result calls blames short key barrier y all others asked items more content s known ends alone a shown_so
-    right accepted fits =
-    accepted_answers meaning key barrier all others asked y old new offer b result items more content blames
-    (calls_on meaning old new offer b result calls short) s known ends alone a shown_so right accepted
-    (subst (λ (members : List (List ℕ)). content.position + length members ≤ 2 ^ 48) (sym (members_of-normal b)) fits)
+    subst (λ (r : Result BatchAnswer Refusal). IsAnswered r old new) (sym k.gives)
+    (answered_by walked.broken c.course.lacks i sees (all_made (by_lists i) y walked.moves) b walked.moves old new at finds
+    (subst (λ (r : Result BatchAnswer Refusal). Blames (fault_in r) old.faults new.faults) k.gives blames))

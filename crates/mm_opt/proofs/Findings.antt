@@ -1,23 +1,26 @@
 -- What is found, and the room that is made after it.
 use Rattle.mm_opt.proofs.Below.{◌≡◌, ℕ, Bool, true, false, List, length, Option, None, Some, Result, Ok, Err, refl, sym, ap, ◌∙◌, subst}
-use Rattle.mm_opt.proofs.Below.{inl, inr, StepFault, Item, Standing, item_values, register_after, ReadRegister, Goes, nat_le, bytes_eq}
-use Rattle.mm_opt.proofs.Below.{last_position, Meaning, Batch, size_of, Cell, CellFault, Blank, Unspelled, PartsFault, Form, Kind, Content}
-use Rattle.mm_opt.proofs.Below.{Snapshot, tag_of, BatchAnswer, Refusal, Memory, Verdict, Fresh, Again, Lost, Stale, admitted, examined}
-use Rattle.mm_opt.proofs.Below.{weighed, fault_of, fault_in, OrMemory, Found, Repeat, Inside, Opens, is_cell_of, own_cell, cell_in}
-use Rattle.mm_opt.proofs.Below.{batch_value, has_lost_power, verdict_of, answer_of, change_by, found_from, found_in_offer, found_unless}
-use Rattle.mm_opt.proofs.Below.{found_in, opened_cell, ReadsOwnCell, FindsIn, MakesRoom, ReadsRegister}
+use Rattle.mm_opt.proofs.Below.{inl, inr, arith, IsTrue, nat_tests, StepFault, Item, Standing, item_values, register_after, ReadRegister}
+use Rattle.mm_opt.proofs.Below.{Goes, nat_le, bytes_eq, last_position, IsLawful, Meaning, Batch, size_of, Cell, CellFault, Blank, IsCell}
+use Rattle.mm_opt.proofs.Below.{Unspelled, PartsFault, Form, Kind, Snapshot, tag_of, BatchAnswer, Refusal, Verdict, Fresh, Again}
+use Rattle.mm_opt.proofs.Below.{Lost, Stale, admitted, examined, weighed, fault_of, fault_in, OrMemory, Found, Repeat, Inside, Opens}
+use Rattle.mm_opt.proofs.Below.{is_cell_of, own_cell, cell_in, batch_value, has_lost_power, verdict_of, answer_of, answer_in, change_by}
+use Rattle.mm_opt.proofs.Below.{found_from, found_in_offer, found_unless, found_in, opened_cell, ReadsOwnCell, FindsIn, MakesRoom}
+use Rattle.mm_opt.proofs.Below.{ReadsRegister, ReadsOn, OneStep, TwoSteps, one_step, two_steps, StepsRefused, extension_at, extension_after}
+use Rattle.mm_opt.proofs.Below.{place_after, length-zero_bytes, length-extended_of}
 use Rattle.std.specs.Prelude.{◌+◌}
+use Rattle.mm_model.specs.Fit.{IsFit}
+use Rattle.mm_model.specs.FitLaws.{is_fit}
 use Rattle.mm_model.specs.declared.refusal.Refusal.TheVariants as refusal
+use Rattle.mm_call.specs.WeighingLaws.{weighed_only}
 
 -- want of memory, twice
 or_then : (x : Result Found Refusal) (found : Found) (result : Result Found Refusal) → OrMemory x (Ok found) → OrMemory (Ok found) result
     → OrMemory x result
 or_then (Err why) found result o p = cc
-or_then (Ok it) found result o p =
-    elim o [
-      | inl e ↦ elim p [ inl f ↦ inl (f ∙ e) | inr f ↦ inr f ]
-      | inr e ↦ cc
-    ]
+or_then (Ok it) found result (inl e) (inl f) = inl (f ∙ e)
+or_then (Ok it) found result (inl e) (inr f) = inr f
+or_then (Ok it) found result (inr e) p = cc
 
 no_fault_or : (found : Found) (result : Result Found Refusal) → OrMemory (Ok found) result → fault_in result ≡ None
 no_fault_or found result o =
@@ -46,34 +49,12 @@ reads_register meaning cell old middle new offer b register found result goes to
   room = room;
 }
 
--- what the first step refuses, and what the second does
+-- what the first step refuses, and what the second does: by the steps that are counted of it
 abbrev pub IsFirst : Refusal → Type 0
-IsFirst refusal.Memory = ⊥
-IsFirst refusal.Long = ⊥
-IsFirst (refusal.Device fault) = Unit {0}
-IsFirst refusal.Blank = Unit {0}
-IsFirst refusal.Cell = Unit {0}
-IsFirst refusal.Lost = ⊥
-IsFirst refusal.Form = ⊥
-IsFirst refusal.Kind = ⊥
-IsFirst refusal.State = ⊥
-IsFirst refusal.Tag = ⊥
-IsFirst refusal.Stale = ⊥
-IsFirst refusal.Full = ⊥
+IsFirst why = (old new : Standing) → OneStep old new → StepsRefused why old new
 
 abbrev pub IsSecond : Refusal → Type 0
-IsSecond refusal.Memory = Unit {0}
-IsSecond refusal.Long = ⊥
-IsSecond (refusal.Device fault) = Unit {0}
-IsSecond refusal.Blank = ⊥
-IsSecond refusal.Cell = ⊥
-IsSecond refusal.Lost = Unit {0}
-IsSecond refusal.Form = Unit {0}
-IsSecond refusal.Kind = Unit {0}
-IsSecond refusal.State = Unit {0}
-IsSecond refusal.Tag = Unit {0}
-IsSecond refusal.Stale = Unit {0}
-IsSecond refusal.Full = Unit {0}
+IsSecond why = (old new : Standing) → TwoSteps old new → StepsRefused why old new
 
 abbrev IsFirstIn : Result Cell Refusal → Type 0
 IsFirstIn (Ok cell) = Unit {0}
@@ -81,54 +62,46 @@ IsFirstIn (Err why) = IsFirst why
 
 first_own : (t : Bool) (cell : Cell) → IsFirstIn (own_cell t cell)
 first_own true cell = tt
-first_own false cell = tt
+first_own false cell = λ old new one. one
 
 first_cell_in : (id : ℕ) (read : Result Cell CellFault) → IsFirstIn (cell_in id read)
-first_cell_in id (Err Blank) = tt
-first_cell_in id (Err Unspelled) = tt
+first_cell_in id (Err Blank) = λ old new one. one
+first_cell_in id (Err Unspelled) = λ old new one. one
 first_cell_in id (Ok cell) = first_own (is_cell_of id cell) cell
 
 first_unless : (why : Refusal) → (fault_of why ≡ None → IsFirst why) → IsFirst why
-first_unless refusal.Memory h = h refl
-first_unless refusal.Long h = h refl
-first_unless (refusal.Device fault) h = tt
-first_unless refusal.Blank h = tt
-first_unless refusal.Cell h = tt
-first_unless refusal.Lost h = h refl
-first_unless refusal.Form h = h refl
-first_unless refusal.Kind h = h refl
-first_unless refusal.State h = h refl
-first_unless refusal.Tag h = h refl
-first_unless refusal.Stale h = h refl
-first_unless refusal.Full h = h refl
+first_unless (refusal.Device fault) h = λ old new one. one_step one
+first_unless _ h = h refl
 
 second_unless : (why : Refusal) → (fault_of why ≡ None → IsSecond why) → IsSecond why
-second_unless refusal.Memory h = tt
-second_unless refusal.Long h = h refl
-second_unless (refusal.Device fault) h = tt
-second_unless refusal.Blank h = h refl
-second_unless refusal.Cell h = h refl
-second_unless refusal.Lost h = tt
-second_unless refusal.Form h = tt
-second_unless refusal.Kind h = tt
-second_unless refusal.State h = tt
-second_unless refusal.Tag h = tt
-second_unless refusal.Stale h = tt
-second_unless refusal.Full h = tt
+second_unless (refusal.Device fault) h = λ old new two. two_steps two
+second_unless _ h = h refl
 
 -- what the first step refuses
 pub first_refused : (id : ℕ) (old new : Standing) (why : Refusal) → ReadsOwnCell id old new (Err why) → IsFirst why
 first_refused id old new why r =
     first_unless why (λ (h : fault_of why ≡ None).
     let f = r.finds h in
-    subst (λ (c : Result Cell Refusal). IsFirstIn c) (sym f.sees.found_is) (first_cell_in id f.sees.read))
+    subst IsFirstIn (sym f.sees.found_is) (first_cell_in id f.sees.read))
 
 -- an answer found says whether it is a repeat's
 abbrev pub IsShaped : Result Found Refusal → Type 0
-IsShaped (Err why) = IsSecond why
+IsShaped (Err why) = Unit {0}
 IsShaped (Ok (Repeat answer)) = answer.again ≡ true
 IsShaped (Ok (Inside ready)) = ready.answer.again ≡ false
 IsShaped (Ok (Opens opening)) = opening.answer.again ≡ false
+
+-- what is found goes by the flag of the cell
+abbrev pub IsByFlag : Bool → Found → Type 0
+IsByFlag flag (Repeat answer) = Unit {0}
+IsByFlag flag (Inside ready) = flag ≡ true
+IsByFlag flag (Opens opening) = flag ≡ false
+
+-- What is known of what was found by this cell: its shape, by the flag; and its answer is fit.
+pub record Made (meaning : Meaning) (cell : Cell) (b : Batch) (found : Found) : Type 0 where
+  pub shape : IsShaped (Ok found)
+  pub by_flag : IsByFlag cell.flag found
+  pub fit : IsLawful meaning → IsCell cell → IsFit b (answer_in found)
 
 abbrev IsSecondIn : Result Bool Refusal → Type 0
 IsSecondIn (Ok again) = Unit {0}
@@ -136,71 +109,86 @@ IsSecondIn (Err why) = IsSecond why
 
 second_admitted : (v : Verdict) (fits : Bool) → IsSecondIn (admitted v fits)
 second_admitted Fresh true = tt
-second_admitted Fresh false = tt
 second_admitted Again true = tt
-second_admitted Again false = tt
-second_admitted Lost fits = tt
-second_admitted Stale fits = tt
+second_admitted _ fits = λ old new two. two
 
 second_weighed : (s t : Bool) (v : Verdict) (fits : Bool) → IsSecondIn (weighed s t v fits)
-second_weighed false t v fits = tt
-second_weighed true false v fits = tt
 second_weighed true true v fits = second_admitted v fits
+second_weighed _ t v fits = λ old new two. two
 
-second_examined : (meaning : Meaning) (key : List ℕ) (offered : Snapshot) (b : Batch) (v : Verdict)
-    → IsSecondIn (examined meaning key offered b v)
-second_examined meaning key offered b v =
-    second_weighed (meaning.is_spelled offered.content.state) (bytes_eq offered.tag (tag_of key offered.content)) v
-    (nat_le (offered.content.position + size_of b) last_position)
+-- the extension of an answer's place
+extension_size : (flag : Bool) (register : List ℕ) → length register ≡ 32 → length (extension_at flag register) ≡ 32
+extension_size true register size = size
+extension_size false register size = length-zero_bytes
 
-shaped_change : (flag : Bool) (value next : List ℕ) (answer : BatchAnswer) → answer.again ≡ false
-    → IsShaped (Ok (change_by flag value next answer))
-shaped_change true value next answer is = is
-shaped_change false value next answer is = is
+after_size : (again : Bool) (extension value : List ℕ) → length extension ≡ 32 → length (extension_after again extension value) ≡ 32
+after_size true extension value size = size
+after_size false extension value size = length-extended_of extension value
 
-shaped_from : (e : Result Bool Refusal) (meaning : Meaning) (cell : Cell) (register : List ℕ) (offered : Content) (b : Batch) → IsSecondIn e
-    → IsShaped (found_from e cell (batch_value cell b) (answer_of meaning cell register offered b))
-shaped_from (Err why) meaning cell register offered b is = is
-shaped_from (Ok true) meaning cell register offered b is = refl
-shaped_from (Ok false) meaning cell register offered b is =
-    shaped_change cell.flag (batch_value cell b) (opened_cell cell) (answer_of meaning cell register offered b false) refl
+module _ (meaning : Meaning) (cell : Cell) (b : Batch) where
+  abbrev IsMade : Result Found Refusal → Type 0
+  IsMade (Err why) = IsSecond why
+  IsMade (Ok found) = Made meaning cell b found
 
-shaped_at : (meaning : Meaning) (cell : Cell) (register : List ℕ) (taken : Result Snapshot PartsFault) (b : Batch)
-    → IsShaped (found_in_offer meaning cell register taken b)
-shaped_at meaning cell register (Err Form) b = tt
-shaped_at meaning cell register (Err Kind) b = tt
-shaped_at meaning cell register (Ok offered) b =
-    shaped_from (examined meaning cell.key offered b (verdict_of cell register offered b)) meaning cell register offered.content b
-    (second_examined meaning cell.key offered b (verdict_of cell register offered b))
+  change_made : (flag : Bool) (value next : List ℕ) (answer : BatchAnswer) → cell.flag ≡ flag → answer.again ≡ false
+      → (IsLawful meaning → IsCell cell → IsFit b answer) → IsMade (Ok (change_by flag value next answer))
+  change_made true value next answer e new fit = record { shape = new; by_flag = e; fit = fit }
+  change_made false value next answer e new fit = record { shape = new; by_flag = e; fit = fit }
 
-shaped_found_unless : (t : Bool) (found : Result Found Refusal) → IsShaped found → IsShaped (found_unless t found)
-shaped_found_unless true found is = tt
-shaped_found_unless false found is = is
+  from_made : (r : Result Bool Refusal) (value : List ℕ) (answer : Bool → BatchAnswer) → IsSecondIn r
+      → ((again : Bool) → (answer again).again ≡ again)
+      → ((again : Bool) → r ≡ Ok again → IsLawful meaning → IsCell cell → IsFit b (answer again)) → IsMade (found_from r cell value answer)
+  from_made (Err why) value answer second says fit = second
+  from_made (Ok true) value answer second says fit = record { shape = says true; by_flag = tt; fit = fit true refl }
+  from_made (Ok false) value answer second says fit =
+      change_made cell.flag value (opened_cell cell) (answer false) refl (says false) (fit false refl)
 
-shaped_or : (x found : Result Found Refusal) → IsShaped x → OrMemory x found → IsShaped found
-shaped_or (Err why) found h o = subst (λ (r : Result Found Refusal). IsShaped r) (sym o) h
-shaped_or (Ok it) found h o =
-    elim o [
-      | inl e ↦ subst (λ (r : Result Found Refusal). IsShaped r) (sym e) h
-      | inr e ↦ subst (λ (r : Result Found Refusal). IsShaped r)
-          (sym e) tt
-    ]
+  -- an offer that is accepted leads to a fit answer
+  at_made : (register : List ℕ) → length register ≡ 32 → (taken : Result Snapshot PartsFault)
+      → IsMade (found_in_offer meaning cell register taken b)
+  at_made register size (Err Form) = λ old new two. two
+  at_made register size (Err Kind) = λ old new two. two
+  at_made register size (Ok offered) =
+      let v : Verdict = verdict_of cell register offered b in
+      from_made (examined meaning cell.key offered b v) (batch_value cell b) (answer_of meaning cell register offered.content b)
+      (second_weighed (meaning.is_spelled offered.content.state) (bytes_eq offered.tag (tag_of cell.key offered.content)) v
+      (nat_le (offered.content.position + size_of b) last_position)) (λ again. refl)
+      (λ (again : Bool) (e : examined meaning cell.key offered b v ≡ Ok again) (lawful : IsLawful meaning) (is : IsCell cell).
+      let a = weighed_only _ _ _ _ again e in
+      is_fit meaning lawful cell.key offered.content.state offered.content.position (place_after cell register (batch_value cell b) again) b
+      again
+      (is.summary, after_size again (extension_at cell.flag register) (batch_value cell b) (extension_size cell.flag register size))
+      (subst IsTrue (sym a.spelled) refl) (grind (arith, nat_tests, a.fitting)))
 
-shaped_in : (meaning : Meaning) (cell : Cell) (register offer : List ℕ) (b : Batch) (found : Result Found Refusal)
-    → FindsIn meaning cell register offer b found → IsShaped found
-shaped_in meaning cell register offer b found f =
-    shaped_or (found_in meaning cell register f.taken b) found
-    (shaped_found_unless (has_lost_power cell register) (found_in_offer meaning cell register f.taken b)
-    (shaped_at meaning cell register f.taken b))
-    f.found_is
+  unless_made : (lost : Bool) (found : Result Found Refusal) → IsMade found → IsMade (found_unless lost found)
+  unless_made true found is = λ old new two. two
+  unless_made false found is = is
 
-shaped_unless : (found : Result Found Refusal) → (fault_in found ≡ None → IsShaped found) → IsShaped found
-shaped_unless (Err why) h = second_unless why h
-shaped_unless (Ok found) h = h refl
+  or_made : (x found : Result Found Refusal) → IsMade x → OrMemory x found → IsMade found
+  or_made (Err why) found h o = subst IsMade (sym o) h
+  or_made (Ok it) found h (inl e) = subst IsMade (sym e) h
+  or_made (Ok it) found h (inr e) = subst IsMade (sym e) (λ old new two. two)
 
--- what the second step finds
-pub shaped : (meaning : Meaning) (cell : Cell) (old new : Standing) (offer : List ℕ) (b : Batch) (found : Result Found Refusal)
-    → ReadsRegister meaning cell old new offer b found → IsShaped found
-shaped meaning cell old new offer b found r =
-    shaped_unless found (λ (h : fault_in found ≡ None).
-    let f = r.finds h in shaped_in meaning cell f.register offer b found f.finds)
+  made_unless : (found : Result Found Refusal) → (fault_in found ≡ None → IsMade found) → IsMade found
+  made_unless (Err why) h = second_unless why h
+  made_unless (Ok found) h = h refl
+
+  -- what the second step finds
+  pub made : (old new : Standing) (offer : List ℕ) (found : Result Found Refusal) → ReadsRegister meaning cell old new offer b found
+      → IsMade found
+  made old new offer found r =
+      made_unless found (λ (h : fault_in found ≡ None).
+      let f = r.finds h in
+      or_made (found_in meaning cell f.register f.finds.taken b) found
+      (unless_made (has_lost_power cell f.register) (found_in_offer meaning cell f.register f.finds.taken b)
+      (at_made f.register f.size f.finds.taken)) f.finds.found_is)
+
+-- what was found, once the cell and the register were read
+pub reads_made : (seen : Result Cell Refusal) (meaning : Meaning) (old new : Standing) (offer : List ℕ) (b : Batch) (found : Found)
+    → ReadsOn meaning seen old new offer b (Ok found) → (cell : Cell) × (seen ≡ Ok cell) × Made meaning cell b found
+reads_made (Err why) meaning old new offer b found on = let e : Ok found ≡ Err why = on.1 in absurd (cc)
+reads_made (Ok cell) meaning old new offer b found on = (cell, refl, made meaning cell b old new offer (Ok found) on)
+
+pub reads_shaped : (seen : Result Cell Refusal) (meaning : Meaning) (old new : Standing) (offer : List ℕ) (b : Batch) (found : Found)
+    → ReadsOn meaning seen old new offer b (Ok found) → IsShaped (Ok found)
+reads_shaped seen meaning old new offer b found on = (reads_made seen meaning old new offer b found on).2.shape

@@ -1,5 +1,5 @@
 -- A call that was moved to its end.
-use Rattle.mm_opt.proofs.Below.{◌≡◌, ℕ, false, List, [], ◌∷◌, Some, Result, Ok, Err, refl, ap, ◌∙◌, Opt, Standing, StepFault, Act, ReadCell}
+use Rattle.mm_opt.proofs.Below.{◌≡◌, ℕ, false, List, [], ◌∷◌, Some, Result, Ok, Err, refl, ap, ◌∙◌, subst, Opt, Standing, StepFault, Act, ReadCell}
 use Rattle.mm_opt.proofs.Below.{ReadRegister, Meaning, Batch, Cell, is_long, BatchAnswer, Refusal, Ended, Answered, Refused, goes_on}
 use Rattle.mm_opt.proofs.Below.{breaks_off, StepsTo, EndsTo, Calls, result_of, committed_as, CallsTo, Blames, blamed_later, fault_in}
 use Rattle.mm_opt.proofs.Below.{BlamesFor, steps_blamed, steps_give, reading_blamed, calls_from, Found, Stage, ReadsOwnCell, ReadsRegister}
@@ -12,16 +12,14 @@ use Rattle.mm_opt.proofs.Going.{calls_to, refused_first}
 pub calls_finished : (call : Stage) (meaning : Meaning) (old new : Standing) (offer : List ℕ) (b : Batch) (ended : Ended)
     (result : Result BatchAnswer Refusal) → call ≡ stage.Begun → is_long b ≡ false → Finishes meaning call old new offer b ended
     → result ≡ result_of ended → Calls opt_call meaning old new offer b result
-calls_finished stage.Begun meaning old new offer b ended result e short f is =
-    calls_from opt_call meaning old new offer b ended result short f is
-calls_finished (stage.Seen cell) meaning old new offer b ended result e short f is = absurd (cc)
-calls_finished (stage.Changing it) meaning old new offer b ended result e short f is = absurd (cc)
+calls_finished call meaning old new offer b ended result e short f is =
+    calls_from opt_call meaning old new offer b ended result short
+    (subst (λ (x : Stage). Finishes meaning x old new offer b ended) e f) is
 
 pub finished_to : (call : Stage) (meaning : Meaning) (old new : Standing) (offer : List ℕ) (b : Batch) (ended : Ended)
     → Finishes meaning call old new offer b ended → call ≡ stage.Begun → CallsTo Opt meaning old new offer b ended
-finished_to stage.Begun meaning old new offer b ended f e = calls_to meaning old new offer b ended f
-finished_to (stage.Seen cell) meaning old new offer b ended f e = absurd (cc)
-finished_to (stage.Changing it) meaning old new offer b ended f e = absurd (cc)
+finished_to call meaning old new offer b ended f e =
+    calls_to meaning old new offer b ended (subst (λ (x : Stage). Finishes meaning x old new offer b ended) e f)
 
 -- who is to blame
 second_blamed : (found : Result Found Refusal) (cell : Cell) (meaning : Meaning) (old middle new : Standing) (offer : List ℕ) (b : Batch)

@@ -4,8 +4,8 @@ use Rattle.mm_opt.proofs.Below.{sealed_of, anchor_of, opt, first_history, cell_o
 use Rattle.mm_digest.specs.declared.digest.Digest.{Digest}
 use Rattle.mm_model.specs.PlacesWords.{digest_of}
 
-first_digest : (id said : ℕ) (anchor : Digest) → said ≡ id → anchor.bytes ≡ start_of Opt said → anchor ≡ digest_of (anchor_of id [])
-first_digest id said anchor id_is start_is = ap digest_of (start_is ∙ ap (start_of Opt) id_is ∙ anchor-nil id)
+first_anchor : (id said : ℕ) (anchor : Digest) → said ≡ id → anchor.bytes ≡ start_of Opt said → anchor.bytes ≡ anchor_of id []
+first_anchor id said anchor id_is start_is = start_is ∙ ap (start_of Opt) id_is ∙ anchor-nil id
 
 abbrev pub made_cell : ℕ → Digest → List ℕ → List ℕ → Cell
 made_cell id anchor key barrier = record { variant = Opt; «module» = id; flag = false; summary = anchor; key = key; barrier = barrier }
@@ -17,16 +17,12 @@ pub first_cell : (meaning : Meaning) (said : ℕ) (anchor : Digest) (key barrier
     → anchor.bytes ≡ start_of Opt said
     → cell_spelling (made_cell said anchor key barrier) ≡ cell_spelling (cell_of (opt meaning key barrier) first_history)
 first_cell meaning said anchor key barrier id_is start_is =
-    let d : anchor ≡ digest_of (anchor_of meaning.id []) = first_digest meaning.id said anchor id_is start_is in
-    ap (λ (id : ℕ). cell_spelling (made_cell id anchor key barrier)) id_is
-    ∙ ap (λ (a : Digest). cell_spelling (made_cell meaning.id a key barrier)) d
+    let a = first_anchor meaning.id said anchor id_is start_is in
+    λ j. cell_spelling (made_cell (id_is j) (digest_of (a j)) key barrier)
 
 pub first_snapshot : (meaning : Meaning) (said : ℕ) (anchor extension : Digest) (key barrier state : List ℕ) → said ≡ meaning.id
     → anchor.bytes ≡ start_of Opt said → extension.bytes ≡ zero_bytes → state ≡ meaning.first
     → sealed_of key (made_content said anchor extension state) ≡ issued_bytes (opt meaning key barrier) first_history
 first_snapshot meaning said anchor extension key barrier state id_is start_is extension_is state_is =
-    let d : anchor ≡ digest_of (anchor_of meaning.id []) = first_digest meaning.id said anchor id_is start_is in
-    ap (λ (id : ℕ). sealed_of key (made_content id anchor extension state)) id_is
-    ∙ ap (λ (a : Digest). sealed_of key (made_content meaning.id a extension state)) d
-    ∙ ap (λ (e : List ℕ). sealed_of key (made_content meaning.id (digest_of (anchor_of meaning.id [])) (digest_of e) state)) extension_is
-    ∙ ap (λ (v : List ℕ). sealed_of key (made_content meaning.id (digest_of (anchor_of meaning.id [])) (digest_of zero_bytes) v)) state_is
+    let a = first_anchor meaning.id said anchor id_is start_is in
+    λ j. sealed_of key (made_content (id_is j) (digest_of (a j)) (digest_of (extension_is j)) (state_is j))

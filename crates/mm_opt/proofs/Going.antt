@@ -3,7 +3,7 @@ use Rattle.mm_opt.proofs.Below.{◌≡◌, ℕ, Bool, true, false, List, [], ◌
 use Rattle.mm_opt.proofs.Below.{subst, arith, fold, Opt, zero_bytes, extended_of, Standing, ReadCell, ReadRegister, next_plan, Meaning}
 use Rattle.mm_opt.proofs.Below.{Batch, normal, Cell, IsCell, guard, Instance, opt, Commit, Foreign, Placed, Reset, Digests, Step, Reading}
 use Rattle.mm_opt.proofs.Below.{Changes, Writes, ask_steps, is_long, BatchAnswer, Refusal, Ended, EndsTo, AsksTo, Calls, IsCallSoFar}
-use Rattle.mm_opt.proofs.Below.{CallsOn, Course, Fate, step_moves, refused_as, result_of, CallsTo, Accepted, accepted_at, accepted_in}
+use Rattle.mm_opt.proofs.Below.{CallsOn, Course, Fate, step_moves, refused_as, CallsTo, Accepted, accepted_at, accepted_in}
 use Rattle.mm_opt.proofs.Below.{is_fresh, all_made, by_digests, fault_of, fault_in, cell_at, StandsAt, reads_of, reads_beside}
 use Rattle.mm_opt.proofs.Below.{with_register, IsWrite, changing, asks, fate_of, ends_fates, Tale, tale_on, reading_tale, MakesAll, AsMade}
 use Rattle.mm_opt.proofs.Below.{Told, GoesTo, course_by, lacks_in, told_on, refused_reading, told_reading, sees, finds, opt_calls_agree}
@@ -13,22 +13,13 @@ use Rattle.std.specs.Prelude.{◌≤◌}
 use Rattle.mm_call.proofs.Above as completing
 use Rattle.mm_opt.proofs.Acting.{room_only}
 use Rattle.mm_opt.proofs.Accepting.{AsFound, as_found}
-use Rattle.mm_opt.proofs.Stepping.{two_brought, seen_is, change_inside, change_emptied, change_placed, write_opened, reset_kept, placed_kept, seen_cell, read_value, same_cell}
+use Rattle.mm_opt.proofs.Stepping.{two_brought, seen_is, change_inside, change_emptied, change_placed, write_opened, reset_kept, placed_kept, seen_cell, read_value}
 
 -- The steps that commit what was found
 
 changing_none : (flag : Bool) (b : Batch) → changing flag false b ≡ []
 changing_none true b = refl
 changing_none false b = refl
-
-changing_inside : (flag : Bool) (b : Batch) → flag ≡ true → changing flag true b ≡ Changes (Commit b) ∷ []
-changing_inside true b e = refl
-changing_inside false b e = absurd (cc)
-
-changing_opens : (flag : Bool) (b : Batch) → flag ≡ false → changing flag true b ≡ Changes Reset ∷ Changes (Placed b)
-    ∷ Writes (Commit b) ∷ []
-changing_opens true b e = absurd (cc)
-changing_opens false b e = refl
 
 module _ (meaning : Meaning) (key barrier : List ℕ) (seen : Digests) (b : Batch) where
   abbrev here : Instance
@@ -61,26 +52,21 @@ module _ (meaning : Meaning) (key barrier : List ℕ) (seen : Digests) (b : Batc
       → AsMade opt_call here seen b x found (changing seen.flag (is_fresh x) b)
   as_made (Err why) x is so =
       (so, ap (λ (y : Result Accepted Refusal). changing seen.flag (is_fresh y) b) so ∙ changing_none seen.flag b)
-  as_made (Ok (Repeat answer)) x is so = (
-    true,
-    so,
-    subst (λ (st : List Step). MakesAll here seen [] st)
-        (sym (ap (λ (y : Result Accepted Refusal). changing seen.flag (is_fresh y) b) so.found_is ∙ changing_none seen.flag b)) tt,
-  )
+  as_made (Ok (Repeat answer)) x is so =
+      let same : changing seen.flag (is_fresh x) b ≡ [] = simp (so.found_is, changing_none seen.flag b) in
+      (true, so, subst (MakesAll here seen []) (sym same) tt)
   as_made (Ok (Inside ready)) x is so = (
     false,
     so.2,
-    subst (λ (st : List Step). MakesAll here seen (acts_for (Inside ready)) st)
-        (sym (ap (λ (y : Result Accepted Refusal). changing seen.flag (is_fresh y) b) so.2.found_is
-        ∙ changing_inside seen.flag b so.0))
+    let same : changing seen.flag (is_fresh x) b ≡ changing true true b = simp (so.2.found_is, so.0) in
+        subst (MakesAll here seen (acts_for (Inside ready))) (sym same)
         (change_inside meaning key barrier seen b ready.value.bytes so.0 so.1, refl, λ (_ : List (List ℕ)). tt),
   )
   as_made (Ok (Opens opening)) x is so = (
     false,
     so.3,
-    subst (λ (st : List Step). MakesAll here seen (acts_for (Opens opening)) st)
-        (sym (ap (λ (y : Result Accepted Refusal). changing seen.flag (is_fresh y) b) so.3.found_is
-        ∙ changing_opens seen.flag b so.0))
+    let same : changing seen.flag (is_fresh x) b ≡ changing false true b = simp (so.3.found_is, so.0) in
+        subst (MakesAll here seen (acts_for (Opens opening))) (sym same)
         (opening_made opening so.0 so.1 so.2 is),
   )
 
@@ -106,14 +92,14 @@ second_found meaning key barrier d cell old first second offer b found s r on qu
     let brought : seen ≡ with_register d value = two_brought i d v w in
     let f = on.finds quiet in
     let mine : Ok cell ≡ Ok (cell_at i d) = seen_cell meaning key barrier d old (Ok cell) (r.finds refl) s in
-    let same : cell ≡ cell_at i seen = same_cell cell (cell_at i d) (Ok cell) (Ok (cell_at i d)) refl refl mine
-    ∙ ap (λ (y : Digests). cell_at i y) (sym brought) in
+    let own : cell ≡ cell_at i d = cc in
+    let same : cell ≡ cell_at i seen = own ∙ ap (λ (y : Digests). cell_at i y) (sym brought) in
     let reads : reads_of on.middle.items ≡ Some value =
     ap reads_of on.goes.items ∙ reads_beside first.items w (fold extended_of d.register v)
     (ap reads_of r.goes.items ∙ reads_beside old.items v d.register s.reads) in
     let read : f.register ≡ seen.register =
     read_value on.middle.items value f.register reads f.told ∙ sym (ap (λ (y : Digests). y.register) brought) in
-    as_found meaning key barrier seen offer b found
+    as_found meaning key barrier seen b offer found
     (subst (λ (c : Cell). FindsIn meaning c seen.register offer b found) same
     (subst (λ (v : List ℕ). FindsIn meaning cell v offer b found) read f.finds))
 
@@ -125,8 +111,7 @@ unseen why meaning key barrier d old s f =
 
 few_acts : (it : Found) → length (acts_for it) ≤ 49
 few_acts (Repeat answer) = omega arith
-few_acts (Inside ready) = omega arith
-few_acts (Opens opening) = omega arith
+few_acts _ = omega arith
 
 -- where the first step refuses, that ends the call
 pub refused_first : (why : Refusal) (found : Result Found Refusal) (meaning : Meaning) (first second new : Standing) (offer : List ℕ)

@@ -6,12 +6,12 @@ mod Findings
 mod Asking
 mod Writing
 mod Fits
+mod EachClosing
 mod Checkpointing
 mod Acting
 mod Accepting
 mod Stepping
 mod Going
-mod CheckpointSteps
 mod Checking
 mod Finishing
 mod Completeness

@@ -1,25 +1,12 @@
 -- What a call answers, and what it writes.
-use Rattle.std.specs.Prelude.{ℕ, Bool, true, false, List, Result, Ok, Err}
+use Rattle.mm_opt.specs.Below.{ℕ, Bool, true, false, List, Result, Ok, Err, zero_bytes, extended_of, cell_spelling, Content, Snapshot, Cell}
+use Rattle.mm_opt.specs.Below.{PartsFault, Form, Kind, Place, Batch, Meaning, digest_of, BatchAnswer, Refusal, answer_at, examined}
 use Rattle.mm_digest.specs.declared.variant.Variant.TheVariants as variants
-use Rattle.mm_digest.specs.Messages.{zero_bytes, extended_of}
-use Rattle.mm_module.specs.Meaning.{Meaning}
-use Rattle.mm_module.specs.Batch.{Batch}
-use Rattle.mm_seal.specs.declared.cell.Cell.{Cell}
-use Rattle.mm_seal.specs.declared.snapshot.PartsFault.{PartsFault}
-use Rattle.mm_seal.specs.declared.snapshot.PartsFault.TheVariants.{Form, Kind}
-use Rattle.mm_seal.specs.declared.snapshot.Place.{Place}
 use Rattle.mm_seal.specs.declared.snapshot.Place.TheVariants.{Opt}
-use Rattle.mm_seal.specs.Cell.{cell_spelling}
-use Rattle.mm_seal.specs.Snapshot.{Content, Snapshot}
-use Rattle.mm_model.specs.declared.answer.BatchAnswer.{BatchAnswer}
-use Rattle.mm_model.specs.declared.refusal.Refusal.{Refusal}
 use Rattle.mm_model.specs.declared.refusal.Refusal.TheVariants as refusal
-use Rattle.mm_model.specs.PlacesWords.{digest_of}
-use Rattle.mm_call.specs.Order.{examined}
 use Rattle.mm_opt.specs.declared.found.Found.{Found}
 use Rattle.mm_opt.specs.declared.found.Found.TheVariants.{Repeat, Inside, Opens}
 use Rattle.mm_opt.specs.Order.{batch_value, has_lost_power, verdict_of}
-use Rattle.mm_call.specs.Answers.{answer_at}
 
 -- the extension at which the open segment stands: the register's value, or zero where none is open
 abbrev pub extension_at : Bool → List ℕ → List ℕ

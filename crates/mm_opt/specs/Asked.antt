@@ -1,17 +1,6 @@
 -- What a whole call of Opt promises.
-use Rattle.std.specs.Prelude.{◌≡◌, ℕ, false, List, Result, IfOk}
-use Rattle.mm_digest.specs.declared.variant.Variant.TheVariants.{Opt}
-use Rattle.mm_platform.specs.Standing.{Standing}
-use Rattle.mm_module.specs.Meaning.{Meaning}
-use Rattle.mm_module.specs.Batch.{Batch}
-use Rattle.mm_model.specs.Fit.{IsFit}
-use Rattle.mm_model.specs.Long.{is_long}
-use Rattle.mm_model.specs.declared.answer.BatchAnswer.{BatchAnswer}
-use Rattle.mm_model.specs.declared.refusal.Refusal.{Refusal}
-use Rattle.mm_call.specs.Calls.{Calls}
-use Rattle.mm_call.specs.CallsOn.{CallsOn}
-use Rattle.mm_call.specs.Leaving.{LeavesUntouched, Blames}
-use Rattle.mm_call.specs.Refusals.{fault_in}
+use Rattle.mm_opt.specs.Below.{◌≡◌, ℕ, false, List, Result, IfOk, Opt, Standing, Batch, Meaning, IsFit, is_long, BatchAnswer, Refusal}
+use Rattle.mm_opt.specs.Below.{Calls, CallsOn, LeavesUntouched, Blames, fault_in}
 use Rattle.mm_opt.specs.Asks.{opt_call, StepsBy, WritesBy}
 use Rattle.mm_opt.specs.Complete.{AnswersAccepted}
 

@@ -1,17 +1,7 @@
 -- What a whole call does to the platform, and what it answers.
-use Rattle.std.specs.Prelude.{◌≡◌, ℕ, Bool, true, false, List, [], ◌∷◌, Some, Result, Ok, Err, ◌⊎◌}
-use Rattle.mm_base.specs.Faults.{counted}
-use Rattle.mm_digest.specs.declared.variant.Variant.TheVariants.{Opt}
-use Rattle.mm_platform.specs.Standing.{Standing}
-use Rattle.mm_platform.specs.Steps.{Act, WriteCell, ResetRegister, ExtendRegister}
-use Rattle.mm_module.specs.Meaning.{Meaning}
-use Rattle.mm_module.specs.Batch.{Batch}
-use Rattle.mm_seal.specs.declared.cell.Cell.{Cell}
-use Rattle.mm_seal.specs.Cell.{IsCell, cell_spelling}
-use Rattle.mm_model.specs.declared.answer.BatchAnswer.{BatchAnswer}
-use Rattle.mm_model.specs.declared.refusal.Refusal.{Refusal}
-use Rattle.mm_model.specs.declared.refusal.Refusal.TheVariants.{Memory, Long, Device, Blank, Cell as OtherCell, Lost, Form, Kind, State, Tag, Stale, Full}
-use Rattle.mm_call.specs.Calls.{CallOf}
+use Rattle.mm_opt.specs.Below.{◌≡◌, ℕ, Bool, true, false, List, [], ◌∷◌, Some, Result, Ok, Err, ◌⊎◌, counted, Opt, IsCell, cell_spelling}
+use Rattle.mm_opt.specs.Below.{Cell, Standing, Act, WriteCell, ResetRegister, ExtendRegister, Batch, Meaning, BatchAnswer, Refusal, Long}
+use Rattle.mm_opt.specs.Below.{Device, Blank, OtherCell, CallOf}
 use Rattle.mm_opt.specs.declared.found.Found.{Found}
 use Rattle.mm_opt.specs.declared.found.Found.TheVariants.{Repeat, Inside, Opens}
 use Rattle.mm_opt.specs.Steps.{IsReady, ReadsOwnCell, ReadsRegister}
@@ -90,18 +80,11 @@ StepsAnswered false old new = ThreeSteps old new ⊎ FiveSteps old new
 
 -- a refusal makes the step that it rests on, and those before it
 abbrev pub StepsRefused : Refusal → Standing → Standing → Type 0
-StepsRefused Memory old new = TwoSteps old new
 StepsRefused Long old new = ⊥
 StepsRefused (Device fault) old new = StepsMade old new
 StepsRefused Blank old new = OneStep old new
 StepsRefused OtherCell old new = OneStep old new
-StepsRefused Lost old new = TwoSteps old new
-StepsRefused Form old new = TwoSteps old new
-StepsRefused Kind old new = TwoSteps old new
-StepsRefused State old new = TwoSteps old new
-StepsRefused Tag old new = TwoSteps old new
-StepsRefused Stale old new = TwoSteps old new
-StepsRefused Full old new = TwoSteps old new
+StepsRefused _ old new = TwoSteps old new
 
 -- The steps that a call makes: only the last one of an opening writes the cell.
 abbrev pub StepsBy : Result BatchAnswer Refusal → Standing → Standing → Type 0

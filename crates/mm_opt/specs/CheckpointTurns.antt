@@ -1,8 +1,5 @@
 -- What each turn of a checkpoint does and gives.
-use Rattle.std.specs.Prelude.{◌≡◌, ℕ, List, Option, None, Result, Ok, Err}
-use Rattle.mm_platform.specs.declared.fault.StepFault.{StepFault}
-use Rattle.mm_platform.specs.Standing.{Standing}
-use Rattle.mm_platform.specs.Steps.{Goes}
+use Rattle.mm_opt.specs.Below.{◌≡◌, ℕ, List, Option, None, Result, Ok, Err, Standing, Goes, StepFault}
 use Rattle.mm_opt.specs.declared.segment.Checkpointed.{Checkpointed}
 use Rattle.mm_opt.specs.declared.segment.Checkpointed.TheVariants as checkpointed
 use Rattle.mm_opt.specs.declared.segment.CheckpointRefusal.{CheckpointRefusal}
@@ -47,9 +44,8 @@ ClosingTurns (stage.Closing next) old new turn =
 
 -- the fault that a turn hands on
 abbrev pub closing_fault_turned : CheckpointTurn → Option StepFault
-closing_fault_turned (Going stage) = None
-closing_fault_turned (Done it) = None
 closing_fault_turned (Refused why) = closing_fault_of why
+closing_fault_turned _ = None
 
 -- One turn makes exactly the device step that comes next, and hands its fault on.
 abbrev pub ClosingActsAt : CheckpointStage → Standing → Standing → CheckpointTurn → Type 0

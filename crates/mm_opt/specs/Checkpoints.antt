@@ -1,18 +1,8 @@
 -- The device steps of a checkpoint: what each does to the platform, and what it gives.
-use Rattle.std.specs.Prelude.{◌≡◌, ℕ, Bool, true, false, List, Option, None, Some, Result, Ok, Err}
-use Rattle.std.specs.Str.{bytes_eq}
-use Rattle.mm_digest.specs.declared.variant.Variant.{Variant}
-use Rattle.mm_digest.specs.declared.variant.Variant.TheVariants.{Basic, Opt}
-use Rattle.mm_digest.specs.Messages.{zero_bytes, anchored_of}
-use Rattle.mm_platform.specs.declared.fault.StepFault.{StepFault}
-use Rattle.mm_platform.specs.Standing.{Item, Standing, item_values, register_after}
-use Rattle.mm_platform.specs.Steps.{Act, ReadCell, WriteCell, ReadRegister, Goes}
-use Rattle.mm_seal.specs.declared.cell.Cell.{Cell}
-use Rattle.mm_seal.specs.declared.cell.CellFault.{CellFault}
+use Rattle.mm_opt.specs.Below.{◌≡◌, ℕ, Bool, true, false, List, Option, None, Some, Result, Ok, Err, bytes_eq, counted, zero_bytes}
+use Rattle.mm_opt.specs.Below.{anchored_of, Variant, Basic, Opt, ReadsCell, cell_spelling, Cell, CellFault, Item, Standing, item_values}
+use Rattle.mm_opt.specs.Below.{register_after, Act, ReadCell, WriteCell, ReadRegister, Goes, StepFault, digest_of, IsUntouched}
 use Rattle.mm_seal.specs.declared.cell.CellFault.TheVariants as fault
-use Rattle.mm_seal.specs.Cell.{ReadsCell, cell_spelling}
-use Rattle.mm_model.specs.PlacesWords.{digest_of}
-use Rattle.mm_call.specs.Leaving.{IsUntouched}
 use Rattle.mm_opt.specs.declared.segment.Checkpointed.{Checkpointed}
 use Rattle.mm_opt.specs.declared.segment.Checkpointed.TheVariants.{Done, NoSegment}
 use Rattle.mm_opt.specs.declared.segment.CheckpointRefusal.{CheckpointRefusal}
@@ -21,7 +11,6 @@ use Rattle.mm_opt.specs.declared.segment.Segment.{Segment}
 use Rattle.mm_opt.specs.declared.segment.Segment.TheVariants.{Open, Shut}
 use Rattle.mm_opt.specs.declared.stage.CheckpointStage.{CheckpointStage}
 use Rattle.mm_opt.specs.declared.stage.CheckpointStage.TheVariants as stage
-use Rattle.mm_base.specs.Faults.{counted}
 use Rattle.mm_opt.specs.Steps.{Makes}
 use Rattle.mm_opt.specs.Asks.{OneStep, TwoSteps}
 
@@ -39,10 +28,7 @@ closing_number_of (stage.Closing next) = 3
 -- the fault of a device step that a refusal hands on
 abbrev pub closing_fault_of : CheckpointRefusal → Option StepFault
 closing_fault_of (refusal.Device fault) = Some fault
-closing_fault_of refusal.Blank = None
-closing_fault_of refusal.Cell = None
-closing_fault_of refusal.Kind = None
-closing_fault_of refusal.Lost = None
+closing_fault_of _ = None
 
 abbrev pub closing_fault_in : {A : Type 0} → Result A CheckpointRefusal → Option StepFault
 closing_fault_in (Ok it) = None
@@ -177,10 +163,8 @@ pub data ClosingStepsMade (old new : Standing) : Type 0 where
 
 abbrev pub ClosingStepsRefused : CheckpointRefusal → Standing → Standing → Type 0
 ClosingStepsRefused (refusal.Device fault) old new = ClosingStepsMade old new
-ClosingStepsRefused refusal.Blank old new = OneStep old new
-ClosingStepsRefused refusal.Cell old new = OneStep old new
-ClosingStepsRefused refusal.Kind old new = OneStep old new
 ClosingStepsRefused refusal.Lost old new = TwoSteps old new
+ClosingStepsRefused _ old new = OneStep old new
 
 -- The steps that a checkpoint makes: one where no segment is open, and three where one is closed.
 abbrev pub ClosingStepsBy : Result Checkpointed CheckpointRefusal → Standing → Standing → Type 0

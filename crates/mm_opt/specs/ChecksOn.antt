@@ -1,20 +1,8 @@
 -- That a checkpoint over a platform is the checkpoint on some course, by digests and by lists.
-use Rattle.std.specs.Prelude.{◌≡◌, ℕ, List, Result, Ok, Err, is_some}
-use Rattle.std.specs.Option.{option_map}
-use Rattle.mm_digest.specs.declared.variant.Variant.{Variant}
-use Rattle.mm_platform.specs.Standing.{Standing}
-use Rattle.mm_module.specs.Meaning.{Meaning}
-use Rattle.mm_module.specs.Batch.{Batch}
-use Rattle.mm_model.specs.Instance.{Instance}
-use Rattle.mm_model.specs.History.{History}
-use Rattle.mm_model.specs.Moves.{Digests, digests_of}
-use Rattle.mm_model.specs.Standing.{StandsFor}
-use Rattle.mm_call.specs.Levels.{by_lists, by_digests}
-use Rattle.mm_call.specs.Courses.{Course, AreTold}
-use Rattle.mm_call.specs.Checkpoints.{Closing, Closes, HasNone, NoSegment, LostPower, Stops, Checkpointed, checkpointed, IsClosedWithin}
-use Rattle.mm_call.specs.Asked.{IsWithin}
-use Rattle.mm_call.specs.Standing.{instance_by, StandsAt, shown, counted_by}
-use Rattle.mm_call.specs.Ended.{StaysPlanned}
+use Rattle.mm_opt.specs.Below.{option_map, ◌≡◌, ℕ, List, Result, Ok, Err, is_some, Variant, Standing, Batch, Meaning, History, Instance}
+use Rattle.mm_opt.specs.Below.{Digests, digests_of, StandsFor, IsWithin, Closing, Closes, HasNone, NoSegment, LostPower, Stops}
+use Rattle.mm_opt.specs.Below.{Checkpointed, checkpointed, IsClosedWithin, Course, AreTold, StaysPlanned, by_lists, by_digests, instance_by}
+use Rattle.mm_opt.specs.Below.{StandsAt, shown, counted_by}
 use Rattle.mm_opt.specs.declared.segment.Checkpointed.{Checkpointed as Said}
 use Rattle.mm_opt.specs.declared.segment.Checkpointed.TheVariants as said
 use Rattle.mm_opt.specs.declared.segment.CheckpointRefusal.{CheckpointRefusal}

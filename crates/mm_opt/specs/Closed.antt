@@ -1,7 +1,5 @@
 -- What a whole checkpoint promises.
-use Rattle.std.specs.Prelude.{Result}
-use Rattle.mm_platform.specs.Standing.{Standing}
-use Rattle.mm_call.specs.Leaving.{Blames}
+use Rattle.mm_opt.specs.Below.{Result, Standing, Blames}
 use Rattle.mm_opt.specs.declared.segment.Checkpointed.{Checkpointed}
 use Rattle.mm_opt.specs.declared.segment.CheckpointRefusal.{CheckpointRefusal}
 use Rattle.mm_opt.specs.Checkpoints.{closing_fault_in, ClosesSegment, LeavesStill, ClosingStepsBy}

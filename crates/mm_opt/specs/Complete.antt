@@ -1,21 +1,7 @@
 -- When a call of Opt is answered.
-use Rattle.std.specs.Prelude.{◌≡◌, ℕ, ◌+◌, ◌≤◌, ◌^◌, true, false, List, [], ◌++◌, Some, Result}
-use Rattle.mm_digest.specs.declared.variant.Variant.TheVariants.{Opt}
-use Rattle.mm_platform.specs.Standing.{Item, Standing}
-use Rattle.mm_module.specs.Meaning.{Meaning}
-use Rattle.mm_module.specs.Batch.{Batch, size_of, normal}
-use Rattle.mm_seal.specs.Snapshot.{Content}
-use Rattle.mm_model.specs.InstanceWords.{opt}
-use Rattle.mm_model.specs.History.{History}
-use Rattle.mm_model.specs.Judge.{judge}
-use Rattle.mm_model.specs.Long.{is_long}
-use Rattle.mm_model.specs.Standing.{StandsFor, IsRight}
-use Rattle.mm_model.specs.declared.answer.BatchAnswer.{BatchAnswer}
-use Rattle.mm_model.specs.declared.refusal.Refusal.{Refusal}
-use Rattle.mm_model.specs.declared.verdict.Verdict.TheVariants.{Again}
-use Rattle.mm_call.specs.Leaving.{IsAccepted, IsAnswered}
-use Rattle.mm_call.specs.Premises.{AreAsked, AreShown}
-use Rattle.mm_call.specs.Tied.{standing_items, foreign_items}
+use Rattle.mm_opt.specs.Below.{◌≡◌, ℕ, ◌+◌, ◌≤◌, ◌^◌, true, false, List, [], ◌++◌, Some, Result, Opt, Content, Item, Standing, Batch}
+use Rattle.mm_opt.specs.Below.{size_of, normal, Meaning, History, opt, judge, is_long, StandsFor, IsRight, BatchAnswer, Refusal, Again}
+use Rattle.mm_opt.specs.Below.{IsAccepted, IsAnswered, AreAsked, AreShown, standing_items, foreign_items}
 
 -- Completeness: a right offer of the last position of a live history, or of the one before the
 -- batch that was committed last and is asked again, is answered, while there are positions left;

@@ -1,14 +1,6 @@
 -- What is left of a call, by where it stands, and how the call ended.
-use Rattle.std.specs.Prelude.{ℕ, List, [], ◌∷◌, Result}
-use Rattle.mm_platform.specs.Standing.{Standing}
-use Rattle.mm_platform.specs.Steps.{Act, WriteCell, ResetRegister, ExtendRegister}
-use Rattle.mm_module.specs.Meaning.{Meaning}
-use Rattle.mm_module.specs.Batch.{Batch}
-use Rattle.mm_seal.specs.declared.cell.Cell.{Cell}
-use Rattle.mm_model.specs.declared.answer.BatchAnswer.{BatchAnswer}
-use Rattle.mm_model.specs.declared.refusal.Refusal.{Refusal}
-use Rattle.mm_call.specs.declared.ended.Ended.{Ended}
-use Rattle.mm_call.specs.Calls.{StepsTo, EndsTo, AsksTo}
+use Rattle.mm_opt.specs.Below.{ℕ, List, [], ◌∷◌, Result, Cell, Standing, Act, WriteCell, ResetRegister, ExtendRegister, Batch, Meaning}
+use Rattle.mm_opt.specs.Below.{BatchAnswer, Refusal, StepsTo, EndsTo, AsksTo, Ended}
 use Rattle.mm_opt.specs.declared.found.Found.{Found}
 use Rattle.mm_opt.specs.declared.stage.Stage.{Stage}
 use Rattle.mm_opt.specs.declared.stage.Stage.TheVariants as stage

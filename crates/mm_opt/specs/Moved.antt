@@ -1,13 +1,5 @@
 -- What a call of Opt promises that is moved by one step, or to its end.
-use Rattle.std.specs.Prelude.{◌≡◌, ℕ, List}
-use Rattle.mm_digest.specs.declared.variant.Variant.TheVariants.{Opt}
-use Rattle.mm_platform.specs.Standing.{Standing}
-use Rattle.mm_module.specs.Meaning.{Meaning}
-use Rattle.mm_module.specs.Batch.{Batch}
-use Rattle.mm_call.specs.declared.ended.Ended.{Ended}
-use Rattle.mm_call.specs.Ended.{CallsTo, result_of}
-use Rattle.mm_call.specs.Leaving.{Blames}
-use Rattle.mm_call.specs.Refusals.{fault_in}
+use Rattle.mm_opt.specs.Below.{◌≡◌, ℕ, List, Opt, Standing, Batch, Meaning, CallsTo, result_of, Blames, fault_in, Ended}
 use Rattle.mm_opt.specs.declared.call.Turn.{Turn}
 use Rattle.mm_opt.specs.declared.stage.Stage.{Stage}
 use Rattle.mm_opt.specs.declared.stage.Stage.TheVariants.{Begun}

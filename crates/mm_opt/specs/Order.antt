@@ -1,15 +1,7 @@
 -- What an offered place is compared with, and the verdict by digests on it.
-use Rattle.std.specs.Prelude.{ℕ, Bool, ◌&&◌, List}
-use Rattle.std.specs.Str.{bytes_eq}
-use Rattle.mm_digest.specs.Messages.{zero_bytes}
-use Rattle.mm_module.specs.Batch.{Batch, normal}
-use Rattle.mm_seal.specs.declared.cell.Cell.{Cell}
-use Rattle.mm_seal.specs.declared.snapshot.Place.{Place}
+use Rattle.mm_opt.specs.Below.{ℕ, Bool, ◌&&◌, List, bytes_eq, zero_bytes, Snapshot, Cell, Place, Batch, normal, guard, Point, forms_of}
+use Rattle.mm_opt.specs.Below.{opt_verdict, Verdict}
 use Rattle.mm_seal.specs.declared.snapshot.Place.TheVariants.{Basic, Opt}
-use Rattle.mm_seal.specs.Snapshot.{Snapshot}
-use Rattle.mm_model.specs.Chains.{guard}
-use Rattle.mm_model.specs.Judge.{Point, forms_of, opt_verdict}
-use Rattle.mm_model.specs.declared.verdict.Verdict.{Verdict}
 
 -- the anchor and the extension of an offered place; no offer to Opt has a place of Basic
 abbrev pub anchor_in : Place → List ℕ

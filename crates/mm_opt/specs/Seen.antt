@@ -1,12 +1,7 @@
 -- What a call finds in the cell's bytes.
-use Rattle.std.specs.Prelude.{◌≡◌, ℕ, Bool, true, false, ◌&&◌, List, Result, Ok, Err, nat_eq}
-use Rattle.mm_digest.specs.declared.variant.Variant.{Variant}
-use Rattle.mm_digest.specs.declared.variant.Variant.TheVariants.{Basic, Opt}
-use Rattle.mm_seal.specs.declared.cell.Cell.{Cell}
-use Rattle.mm_seal.specs.declared.cell.CellFault.{CellFault}
-use Rattle.mm_seal.specs.declared.cell.CellFault.TheVariants.{Blank, Cell as Unspelled}
-use Rattle.mm_seal.specs.Cell.{ReadsCell}
-use Rattle.mm_model.specs.declared.refusal.Refusal.{Refusal}
+use Rattle.mm_opt.specs.Below.{◌≡◌, ℕ, Bool, true, false, ◌&&◌, List, Result, Ok, Err, nat_eq, Variant, Basic, Opt, ReadsCell, Cell}
+use Rattle.mm_opt.specs.Below.{CellFault, Unspelled, Refusal}
+use Rattle.mm_seal.specs.declared.cell.CellFault.TheVariants.{Blank}
 use Rattle.mm_model.specs.declared.refusal.Refusal.TheVariants as refusal
 
 abbrev pub is_opt : Variant → Bool

@@ -1,22 +1,12 @@
 -- The device steps of a call: what each does to the platform, and what it gives.
-use Rattle.std.specs.Prelude.{◌≡◌, ℕ, ◌≤◌, List, length, None, Some, Result, Ok, Err, IfOk}
-use Rattle.std.specs.Result.{result_err}
-use Rattle.mm_digest.specs.declared.variant.Variant.TheVariants.{Opt}
-use Rattle.mm_platform.specs.declared.fault.StepFault.{StepFault}
-use Rattle.mm_platform.specs.Standing.{Item, Standing, item_values, register_after}
-use Rattle.mm_platform.specs.Steps.{Act, ReadCell, WriteCell, ReadRegister, ResetRegister, ExtendRegister, Goes, Readies}
-use Rattle.mm_module.specs.Meaning.{Meaning}
-use Rattle.mm_module.specs.Batch.{Batch}
-use Rattle.mm_seal.specs.declared.cell.Cell.{Cell}
-use Rattle.mm_seal.specs.declared.snapshot.PartsFault.{PartsFault}
-use Rattle.mm_seal.specs.Snapshot.{Snapshot, ReadsParts}
-use Rattle.mm_model.specs.declared.answer.BatchAnswer.{BatchAnswer}
-use Rattle.mm_model.specs.declared.refusal.Refusal.{Refusal}
-use Rattle.mm_call.specs.Refusals.{fault_in, OrMemory}
+use Rattle.mm_opt.specs.Below.{◌≡◌, ℕ, ◌≤◌, List, length, None, Some, Result, Ok, IfOk, result_err, Opt, Snapshot, ReadsParts, Cell}
+use Rattle.mm_opt.specs.Below.{PartsFault, Item, Standing, item_values, register_after, Act, ReadCell, WriteCell, ReadRegister}
+use Rattle.mm_opt.specs.Below.{ResetRegister, ExtendRegister, Goes, Readies, StepFault, Batch, Meaning, BatchAnswer, Refusal, fault_in}
+use Rattle.mm_opt.specs.Below.{OrMemory}
 use Rattle.mm_opt.specs.declared.found.Ready.{Ready}
 use Rattle.mm_opt.specs.declared.found.Opening.{Opening}
 use Rattle.mm_opt.specs.declared.found.Found.{Found}
-use Rattle.mm_opt.specs.declared.found.Found.TheVariants.{Repeat, Inside, Opens}
+use Rattle.mm_opt.specs.declared.found.Found.TheVariants.{Inside, Opens}
 use Rattle.mm_opt.specs.declared.stage.Stage.{Stage}
 use Rattle.mm_opt.specs.declared.stage.Stage.TheVariants as stage
 use Rattle.mm_opt.specs.declared.stage.Change.{Change}
@@ -97,10 +87,9 @@ pub record Finds (meaning : Meaning) (cell : Cell) (middle : Standing) (offer : 
 -- The room that is made after what was found: for one own extension, where the batch is to be
 -- committed.
 abbrev pub MakesRoom : Result Found Refusal → Standing → Standing → Type 0
-MakesRoom (Err why) old new = new ≡ old
-MakesRoom (Ok (Repeat answer)) old new = new ≡ old
 MakesRoom (Ok (Inside ready)) old new = Readies old new
 MakesRoom (Ok (Opens opening)) old new = Readies old new
+MakesRoom _ old new = new ≡ old
 
 -- The second step, and what is found where it doesn't fail; then room is made. Nothing after it
 -- takes memory.

@@ -1,15 +1,6 @@
 -- What each turn of a call does and gives.
-use Rattle.std.specs.Prelude.{◌≡◌, ℕ, List, Option, None, Some, Result, Ok, Err}
-use Rattle.mm_platform.specs.declared.fault.StepFault.{StepFault}
-use Rattle.mm_platform.specs.Standing.{Standing}
-use Rattle.mm_platform.specs.Steps.{Goes}
-use Rattle.mm_call.specs.Refusals.{fault_of}
-use Rattle.mm_module.specs.Meaning.{Meaning}
-use Rattle.mm_module.specs.Batch.{Batch}
-use Rattle.mm_seal.specs.declared.cell.Cell.{Cell}
-use Rattle.mm_model.specs.declared.answer.BatchAnswer.{BatchAnswer}
-use Rattle.mm_model.specs.declared.refusal.Refusal.{Refusal}
-use Rattle.mm_model.specs.declared.refusal.Refusal.TheVariants.{Device}
+use Rattle.mm_opt.specs.Below.{◌≡◌, ℕ, List, Option, None, Some, Result, Ok, Err, Cell, Standing, Goes, StepFault, Batch, Meaning}
+use Rattle.mm_opt.specs.Below.{BatchAnswer, Refusal, Device, fault_of}
 use Rattle.mm_opt.specs.declared.found.Opening.{Opening}
 use Rattle.mm_opt.specs.declared.found.Found.{Found}
 use Rattle.mm_opt.specs.declared.found.Found.TheVariants.{Repeat, Inside, Opens}
@@ -96,14 +87,12 @@ Turns meaning (stage.Changing it) old new offer b turn = Changes it old new turn
 -- the room that the rest of a call takes, if it goes on
 abbrev pub TurnMayGoOn : Turn → Standing → Type 0
 TurnMayGoOn (Going stage) standing = MayGoOn stage standing
-TurnMayGoOn (Done answer) standing = Unit {0}
-TurnMayGoOn (Refused why) standing = Unit {0}
+TurnMayGoOn _ standing = Unit {0}
 
 -- the fault that a turn hands on
 abbrev pub fault_turned : Turn → Option StepFault
-fault_turned (Going stage) = None
-fault_turned (Done answer) = None
 fault_turned (Refused why) = fault_of why
+fault_turned _ = None
 
 -- One turn makes exactly the device step that comes next, and hands its fault on. Besides it may
 -- make room.
