@@ -1,203 +1,231 @@
--- The same of a call of either core; and what its code says.
-use Rattle.mm_flight.proofs.Below.{◌≡◌, ℕ, ◌≤◌, true, List, Option, None, Some, refl, sym, ap, ◌∙◌, subst, arith, option_map, counted}
-use Rattle.mm_flight.proofs.Below.{StepFault, Meddle, Quiet, Plan, Standing, stopping, Act, Goes, Meaning, Batch, BatchAnswer, Refusal}
-use Rattle.mm_flight.proofs.Below.{Ended, Answered, Broken, CallsTo, refused_as, is_broken, fault_of, Ready, Stage, plan_by, under}
+-- A call of either core, a turn at a time: under another plan, what is left behind a turn, and its end; and what its code says.
+use Rattle.mm_flight.proofs.Below.{◌≡◌, ℕ, ◌≤◌, true, List, [], ◌∷◌, Option, None, Some, Result, Ok, Err, refl, sym, ap, ◌∙◌, subst, arith}
+use Rattle.mm_flight.proofs.Below.{result_err, option_map, counted, StepFault, Meddle, Quiet, Plan, Standing, stopping, Act, ReadCell}
+use Rattle.mm_flight.proofs.Below.{WriteCell, ReadRegister, ResetRegister, ExtendRegister, Goes, Meaning, Batch, Cell, BatchAnswer, Refusal}
+use Rattle.mm_flight.proofs.Below.{Device, Ended, Answered, Broken, CallsTo, refused_as, is_broken, fault_of, fault_in, Ready, StepsTo}
+use Rattle.mm_flight.proofs.Below.{EndsTo, goes_on, breaks_off, plan_by, under, Found, Inside, Opens}
+use Rattle.mm_flight.proofs.Below.{Makes, MakesRoom, ReadsOn, opt_call, Turn}
+use Rattle.mm_call.specs.Calls.{CallOf}
+use Rattle.mm_call.specs.Ended.{result_of}
+use Rattle.mm_call.specs.Leaving.{Blames}
 use Rattle.mm_digest.specs.declared.variant.Variant.{Variant}
 use Rattle.mm_digest.specs.declared.variant.Variant.TheVariants as variant
 use Rattle.mm_platform.specs.declared.plan.Stop.{Stop}
 use Rattle.mm_basic.specs.declared.call.Turn as basic_turn
 use Rattle.mm_basic.specs.declared.call.Turn.TheVariants as in_basic
-use Rattle.mm_basic.specs.Steps as basic_steps
-use Rattle.mm_basic.specs.Turns as basic_turns
-use Rattle.mm_basic.specs.Moved.{AdvancedInBasic, FinishedInBasic}
+use Rattle.mm_basic.specs.Asks.{basic_call}
+use Rattle.mm_basic.specs.Moved.{AdvancedInBasic}
 use Rattle.mm_basic.proofs.Above as basic_going
-use Rattle.mm_opt.specs.declared.call.Turn as opt_turn
 use Rattle.mm_opt.specs.declared.call.Turn.TheVariants as in_opt
+use Rattle.mm_opt.specs.declared.stage.Stage.{Stage}
 use Rattle.mm_opt.specs.declared.stage.Stage.TheVariants as stage
 use Rattle.mm_opt.specs.declared.stage.Change.TheVariants as change
-use Rattle.mm_opt.specs.Steps as opt_steps
-use Rattle.mm_opt.specs.Turns as opt_turns
-use Rattle.mm_opt.specs.Moved.{AdvancedInOpt, FinishedInOpt}
+use Rattle.mm_opt.specs.Moved.{AdvancedInOpt}
+use Rattle.mm_basic.specs.Turns as basic_turns
+use Rattle.mm_opt.specs.Turns.{Turns, TurnsBy, TurnMayGoOn}
 use Rattle.mm_opt.proofs.Above as opt_finishing
 use Rattle.mm_flight.specs.declared.ask.AskCall.{AskCall}
 use Rattle.mm_flight.specs.declared.ask.AskCall.TheVariants.{Basic, Opt}
 use Rattle.mm_flight.specs.declared.ask.AskTurn.{AskTurn}
 use Rattle.mm_flight.specs.declared.ask.AskTurn.TheVariants.{Going, Done, Refused}
-use Rattle.mm_flight.specs.Asks.{begun, ask_number, of_basic, of_opt, AskTurns, MayAsk, ask_fault, AdvancedAsk, AskFinishes, FinishedAsk}
-use Rattle.mm_flight.proofs.Replanning.{Replans, Moves, AlwaysFails}
-use Rattle.mm_flight.proofs.BasicTurning.{basic_replanned, basic_moves, basic_then, basic_answers, basic_refuses, basic_fails, basic_faultless, basic_breaks}
-use Rattle.mm_flight.proofs.OptTurning.{opt_replanned, opt_moves, opt_then}
-use Rattle.mm_flight.proofs.OptEnding.{opt_answers, opt_refuses, opt_fails, opt_faultless, opt_breaks}
-
--- the device step that comes next
-abbrev pub ask_act : AskCall → Act
-ask_act (Basic ready) = basic_steps.act_of ready
-ask_act (Opt stage) = opt_steps.act_of stage
+use Rattle.mm_flight.specs.Asks.{begun, ask_number, of_basic, of_opt, AskTurns, MayAsk, TurnMayAsk, ask_fault, AdvancedAsk, AskFinishes, FinishedAsk}
+use Rattle.mm_flight.proofs.Replanning.{Replans, replanned, Moves, quiet_step, AlwaysFails, broken_by}
+use Rattle.mm_flight.proofs.AskTurning.{ask_act, basic_fault, opt_fault, acts, came}
 
 -- under another plan that says the same of the step
+
+room_under : (found : Result Found Refusal) (middle new : Standing) (p : Plan) (at : ℕ) → MakesRoom found middle new
+    → MakesRoom found (under p at middle) (under p at new)
+room_under (Ok (Inside ready)) middle new p at r = record { room = r.room; same = ap (under p at) r.same }
+room_under (Ok (Opens opening)) middle new p at r = record { room = r.room; same = ap (under p at) r.same }
+room_under _ middle new p at r = ap (under p at) r
+
+changes_under : {A : Type 0} {act : Act} {it : A} {given : Result A StepFault → Turn} {old new : Standing} {turn : Turn} (p q : Plan)
+    (made : ℕ) → Replans p q made old → TurnsBy (Makes act it old new) given turn
+    → TurnsBy (Makes act it (under p made old) (under p (counted made) new)) given turn
+changes_under {act = act} {old = old} {new = new} p q made r t = record {
+  outcome = t.outcome;
+  step = record { goes = replanned act p q made old new (result_err t.outcome) r t.step.goes; gives = t.step.gives };
+  gives = t.gives;
+}
+
+basic_under : (ready : Option Ready) (meaning : Meaning) (old new : Standing) (offer : List ℕ) (b : Batch) (core : basic_turn.Turn)
+    (p q : Plan) (made : ℕ) → Replans p q made old → basic_turns.Turns meaning ready old new offer b core
+    → basic_turns.Turns meaning ready (under p made old) (under p (counted made) new) offer b core
+basic_under None meaning old new offer b core p q made r t = record {
+  found = t.found;
+  reads = record {
+    goes = replanned ReadCell p q made old new (fault_in t.found) r t.reads.goes;
+    finds = λ none. let f = t.reads.finds none in record { bytes = f.bytes; told = f.told; finds = f.finds };
+  };
+  gives = t.gives;
+}
+basic_under (Some ready) meaning old new offer b core p q made r t = record {
+  written = t.written;
+  writes = record {
+    goes = replanned (WriteCell ready.next) p q made old new (result_err t.written) r t.writes.goes;
+    gives = t.writes.gives;
+  };
+  gives = t.gives;
+}
+
+opt_under : (stage : Stage) (meaning : Meaning) (old new : Standing) (offer : List ℕ) (b : Batch) (core : Turn) (p q : Plan) (made : ℕ)
+    → Replans p q made old → Turns meaning stage old new offer b core
+    → Turns meaning stage (under p made old) (under p (counted made) new) offer b core
+opt_under stage.Begun meaning old new offer b core p q made r t = record {
+  outcome = t.outcome;
+  step = record {
+    goes = replanned ReadCell p q made old new (fault_in t.outcome) r t.step.goes;
+    finds = λ none. let f = t.step.finds none in record { bytes = f.bytes; told = f.told; sees = f.sees };
+  };
+  gives = t.gives;
+}
+opt_under (stage.Seen cell) meaning old new offer b core p q made r t = record {
+  outcome = t.outcome;
+  step = record {
+    middle = under p (counted made) t.step.middle;
+    goes = replanned ReadRegister p q made old t.step.middle (fault_in t.outcome) r t.step.goes;
+    finds = λ none. let f = t.step.finds none in record { register = f.register; told = f.told; size = f.size; finds = f.finds };
+    room = room_under t.outcome t.step.middle new p (counted made) t.step.room;
+  };
+  gives = t.gives;
+}
+opt_under (stage.Changing (change.Inside ready)) meaning old new offer b core p q made r t = changes_under p q made r t
+opt_under (stage.Changing _) meaning old new offer b core p q made r t = changes_under p q made r t
+
 pub ask_replanned : (call : AskCall) (meaning : Meaning) (old new : Standing) (offer : List ℕ) (b : Batch) (turn : AskTurn) (p q : Plan)
     (made : ℕ) → Replans p q made old
     → AskTurns meaning call old new offer b turn → AskTurns meaning call (under p made old) (under p (counted made) new) offer b turn
 ask_replanned (Basic ready) meaning old new offer b turn p q made r t = record {
   core = t.core;
-  turns = basic_replanned ready meaning old new offer b t.core p q made r t.turns;
+  turns = basic_under ready meaning old new offer b t.core p q made r t.turns;
   gives = t.gives;
 }
 ask_replanned (Opt stage) meaning old new offer b turn p q made r t = record {
   core = t.core;
-  turns = opt_replanned stage meaning old new offer b t.core p q made r t.turns;
+  turns = opt_under stage meaning old new offer b t.core p q made r t.turns;
   gives = t.gives;
 }
 
--- the core's turn, by what the turn of either is
-
-record BasicGoes (meaning : Meaning) (ready : Option Ready) (old new : Standing) (offer : List ℕ) (b : Batch) (next : AskCall) : Type 0
-  where
-    pub on : Option Ready
-    pub is : next ≡ Basic on
-    pub turns : basic_turns.Turns meaning ready old new offer b (in_basic.Going on)
-
-basic_goes : (core : basic_turn.Turn) (meaning : Meaning) (ready : Option Ready) (old new : Standing) (offer : List ℕ) (b : Batch)
-    (next : AskCall) → basic_turns.Turns meaning ready old new offer b core → Going next ≡ of_basic core
-    → BasicGoes meaning ready old new offer b next
-basic_goes (in_basic.Going on) meaning ready old new offer b next t e = record { on = on; is = cc; turns = t }
-basic_goes (in_basic.Done answer) meaning ready old new offer b next t e = absurd (cc)
-basic_goes (in_basic.Refused why) meaning ready old new offer b next t e = absurd (cc)
-
-record OptGoes (meaning : Meaning) (call : Stage) (old new : Standing) (offer : List ℕ) (b : Batch) (next : AskCall) : Type 0 where
-  pub on : Stage
-  pub is : next ≡ Opt on
-  pub turns : opt_turns.Turns meaning call old new offer b (in_opt.Going on)
-
-opt_goes : (core : opt_turn.Turn) (meaning : Meaning) (call : Stage) (old new : Standing) (offer : List ℕ) (b : Batch) (next : AskCall)
-    → opt_turns.Turns meaning call old new offer b core → Going next ≡ of_opt core
-    → OptGoes meaning call old new offer b next
-opt_goes (in_opt.Going on) meaning call old new offer b next t e = record { on = on; is = cc; turns = t }
-opt_goes (in_opt.Done answer) meaning call old new offer b next t e = absurd (cc)
-opt_goes (in_opt.Refused why) meaning call old new offer b next t e = absurd (cc)
-
--- a turn that goes on makes a step that writes no cell
+-- a turn that goes on makes a step that writes no cell; and what is left behind it
 pub ask_moves : (call : AskCall) (meaning : Meaning) (old new : Standing) (offer : List ℕ) (b : Batch) (next : AskCall)
     → AskTurns meaning call old new offer b (Going next) → Moves old new (ask_number call) (ask_number next)
-ask_moves (Basic ready) meaning old new offer b next t =
-    let g = basic_goes t.core meaning ready old new offer b next t.turns t.gives in
-    subst (λ (x : AskCall). Moves old new (basic_steps.step_number ready) (ask_number x)) (sym g.is)
-    (basic_moves ready meaning old new offer b g.on g.turns)
-ask_moves (Opt stage) meaning old new offer b next t =
-    let g = opt_goes t.core meaning stage old new offer b next t.turns t.gives in
-    subst (λ (x : AskCall). Moves old new (opt_steps.step_number stage) (ask_number x)) (sym g.is)
-    (opt_moves stage meaning old new offer b g.on g.turns)
+ask_moves call meaning old new offer b next t =
+    let a = acts meaning offer b call old new (Going next) t in
+    let c = came meaning offer b call old new (Going next) t in
+    record {
+      act = ask_act call;
+      middle = a.middle;
+      goes = a.goes;
+      room = a.room;
+      keeps = a.goes.cell ∙ c.keeps a.goes.is_made old.cell;
+      counts = c.counts;
+    }
 
--- and what is left behind it
 pub ask_then : (call : AskCall) (meaning : Meaning) (old mid new : Standing) (offer : List ℕ) (b : Batch) (next : AskCall)
     (ended : Ended) → AskTurns meaning call old mid offer b (Going next)
     → AskFinishes meaning next mid new offer b ended → AskFinishes meaning call old new offer b ended
-ask_then (Basic ready) meaning old mid new offer b next ended t f =
-    let g = basic_goes t.core meaning ready old mid offer b next t.turns t.gives in
-    basic_then ready meaning old mid new offer b g.on ended g.turns
-    (subst (λ (x : AskCall). AskFinishes meaning x mid new offer b ended) g.is f)
-ask_then (Opt stage) meaning old mid new offer b next ended t f =
-    let g = opt_goes t.core meaning stage old mid offer b next t.turns t.gives in
-    opt_then stage meaning old mid new offer b g.on ended g.turns
-    (subst (λ (x : AskCall). AskFinishes meaning x mid new offer b ended) g.is f)
+ask_then call meaning old mid new offer b next ended t = (came meaning offer b call old mid (Going next) t).joins new ended
 
 -- the call's end
-
-basic_answered : (core : basic_turn.Turn) (meaning : Meaning) (ready : Option Ready) (old new : Standing) (offer : List ℕ) (b : Batch)
-    (answer : BatchAnswer) → basic_turns.Turns meaning ready old new offer b core → Done answer ≡ of_basic core
-    → basic_turns.Turns meaning ready old new offer b (in_basic.Done answer)
-basic_answered (in_basic.Going on) meaning ready old new offer b answer t e = absurd (cc)
-basic_answered (in_basic.Done it) meaning ready old new offer b answer t e =
-    let same : it ≡ answer = cc in subst (λ (x : BatchAnswer). basic_turns.Turns meaning ready old new offer b (in_basic.Done x)) same t
-basic_answered (in_basic.Refused why) meaning ready old new offer b answer t e = absurd (cc)
-
-opt_answered : (core : opt_turn.Turn) (meaning : Meaning) (call : Stage) (old new : Standing) (offer : List ℕ) (b : Batch)
-    (answer : BatchAnswer) → opt_turns.Turns meaning call old new offer b core → Done answer ≡ of_opt core
-    → opt_turns.Turns meaning call old new offer b (in_opt.Done answer)
-opt_answered (in_opt.Going on) meaning call old new offer b answer t e = absurd (cc)
-opt_answered (in_opt.Done it) meaning call old new offer b answer t e =
-    let same : it ≡ answer = cc in subst (λ (x : BatchAnswer). opt_turns.Turns meaning call old new offer b (in_opt.Done x)) same t
-opt_answered (in_opt.Refused why) meaning call old new offer b answer t e = absurd (cc)
-
 pub ask_answers : (call : AskCall) (meaning : Meaning) (old new : Standing) (offer : List ℕ) (b : Batch) (answer : BatchAnswer)
-    → AskTurns meaning call old new offer b (Done answer)
-    → AskFinishes meaning call old new offer b (Answered answer)
-ask_answers (Basic ready) meaning old new offer b answer t = basic_answers ready meaning old new offer b answer
-    (basic_answered t.core meaning ready old new offer b answer t.turns t.gives)
-ask_answers (Opt stage) meaning old new offer b answer t = opt_answers stage meaning old new offer b answer
-    (opt_answered t.core meaning stage old new offer b answer t.turns t.gives)
-
-basic_refused : (core : basic_turn.Turn) (meaning : Meaning) (ready : Option Ready) (old new : Standing) (offer : List ℕ) (b : Batch)
-    (why : Refusal) → basic_turns.Turns meaning ready old new offer b core → Refused why ≡ of_basic core
-    → basic_turns.Turns meaning ready old new offer b (in_basic.Refused why)
-basic_refused (in_basic.Going on) meaning ready old new offer b why t e = absurd (cc)
-basic_refused (in_basic.Done answer) meaning ready old new offer b why t e = absurd (cc)
-basic_refused (in_basic.Refused it) meaning ready old new offer b why t e =
-    let same : it ≡ why = cc in subst (λ (x : Refusal). basic_turns.Turns meaning ready old new offer b (in_basic.Refused x)) same t
-
-opt_refused : (core : opt_turn.Turn) (meaning : Meaning) (call : Stage) (old new : Standing) (offer : List ℕ) (b : Batch) (why : Refusal)
-    → opt_turns.Turns meaning call old new offer b core → Refused why ≡ of_opt core
-    → opt_turns.Turns meaning call old new offer b (in_opt.Refused why)
-opt_refused (in_opt.Going on) meaning call old new offer b why t e = absurd (cc)
-opt_refused (in_opt.Done answer) meaning call old new offer b why t e = absurd (cc)
-opt_refused (in_opt.Refused it) meaning call old new offer b why t e =
-    let same : it ≡ why = cc in subst (λ (x : Refusal). opt_turns.Turns meaning call old new offer b (in_opt.Refused x)) same t
+    → AskTurns meaning call old new offer b (Done answer) → AskFinishes meaning call old new offer b (Answered answer)
+ask_answers call meaning old new offer b answer t = came meaning offer b call old new (Done answer) t
 
 pub ask_refuses : (call : AskCall) (meaning : Meaning) (old new : Standing) (offer : List ℕ) (b : Batch) (why : Refusal)
-    → AskTurns meaning call old new offer b (Refused why) → fault_of why ≡ None
-    → AskFinishes meaning call old new offer b (refused_as why)
-ask_refuses (Basic ready) meaning old new offer b why t none = basic_refuses ready meaning old new offer b why
-    (basic_refused t.core meaning ready old new offer b why t.turns t.gives) none
-ask_refuses (Opt stage) meaning old new offer b why t none = opt_refuses stage meaning old new offer b why
-    (opt_refused t.core meaning stage old new offer b why t.turns t.gives) none
+    → AskTurns meaning call old new offer b (Refused why) → fault_of why ≡ None → AskFinishes meaning call old new offer b (refused_as why)
+ask_refuses call meaning old new offer b why t = came meaning offer b call old new (Refused why) t
 
 -- the step that comes next, and fails
 pub ask_fails : (call : AskCall) (meaning : Meaning) (old new : Standing) (offer : List ℕ) (b : Batch) (fault : StepFault)
-    → Goes (ask_act call) old new (Some fault)
-    → (commits : Option ℕ) × AskFinishes meaning call old new offer b (Broken fault commits)
-ask_fails (Basic ready) meaning old new offer b fault g = basic_fails ready meaning old new offer b fault g
-ask_fails (Opt stage) meaning old new offer b fault g = opt_fails stage meaning old new offer b fault g
+    → Goes (ask_act call) old new (Some fault) → (commits : Option ℕ) × AskFinishes meaning call old new offer b (Broken fault commits)
+ask_fails (Basic None) meaning old new offer b fault g = (
+  None,
+  record {
+    middle = new;
+    found = Err (Device fault);
+    reads = record { goes = g; finds = λ (none : Some fault ≡ None). absurd (cc) };
+    ends = (refl, refl);
+  },
+)
+ask_fails (Basic (Some ready)) meaning old new offer b fault g = (Some ready.answer.position, breaks_off fault g refl)
+ask_fails (Opt stage.Begun) meaning old new offer b fault g = (
+  None,
+  record {
+    middle = new;
+    found = Err (Device fault);
+    reads = record {
+      middle = new;
+      cell = Err (Device fault);
+      reads = record { goes = g; finds = λ (none : Some fault ≡ None). absurd (cc) };
+      on = (refl, refl);
+    };
+    ends = (refl, refl);
+  },
+)
+ask_fails (Opt (stage.Seen cell)) meaning old new offer b fault g = (
+  None,
+  record {
+    middle = new;
+    found = Err (Device fault);
+    reads = record { middle = new; goes = g; finds = λ (none : Some fault ≡ None). absurd (cc); room = refl };
+    ends = (refl, refl);
+  },
+)
+ask_fails (Opt (stage.Changing (change.Inside ready))) meaning old new offer b fault g =
+    (Some ready.answer.position, breaks_off fault g refl)
+ask_fails (Opt (stage.Changing (change.Writing opening))) meaning old new offer b fault g =
+    (Some opening.answer.position, breaks_off fault g refl)
+ask_fails (Opt (stage.Changing _)) meaning old new offer b fault g = (None, breaks_off fault g refl)
 
 -- no fault comes where none is planned
-
-basic_fault : (core : basic_turn.Turn) → ask_fault (of_basic core) ≡ basic_turns.turn_fault core
-basic_fault (in_basic.Going on) = refl
-basic_fault (in_basic.Done answer) = refl
-basic_fault (in_basic.Refused why) = refl
-
-opt_fault : (core : opt_turn.Turn) → ask_fault (of_opt core) ≡ opt_turns.fault_turned core
-opt_fault (in_opt.Going on) = refl
-opt_fault (in_opt.Done answer) = refl
-opt_fault (in_opt.Refused why) = refl
-
 pub ask_faultless : (call : AskCall) (meaning : Meaning) (old new : Standing) (offer : List ℕ) (b : Batch) (turn : AskTurn)
     (meddles : List Meddle) (made : ℕ) → old.is_on ≡ true → old.plan ≡ Some (record (plan_by Quiet meddles) { at = made })
     → AskTurns meaning call old new offer b turn → ask_fault turn ≡ None
-ask_faultless (Basic ready) meaning old new offer b turn meddles made on planned t =
-    ap ask_fault t.gives ∙ basic_fault t.core ∙ basic_faultless ready meaning old new offer b t.core meddles made on planned t.turns
-ask_faultless (Opt stage) meaning old new offer b turn meddles made on planned t =
-    ap ask_fault t.gives ∙ opt_fault t.core ∙ opt_faultless stage meaning old new offer b t.core meddles made on planned t.turns
+ask_faultless call meaning old new offer b turn meddles made on planned t =
+    let a = acts meaning offer b call old new turn t in
+    quiet_step (ask_act call) old a.middle (ask_fault turn) meddles made on planned a.goes
 
 -- a call whose next step fails is broken off
+
+reads_break : {F : Type 0} (c : CallOf F) (act : Act) (found : Result F Refusal) (old mid next new : Standing) (ended : Ended)
+    → AlwaysFails old → Goes act old mid (fault_in found) → EndsTo c found next new ended → is_broken ended ≡ true
+reads_break c act (Err why) old mid next new ended fails g e = broken_by (fault_of why) why ended (fails act mid (fault_of why) g) e.1
+reads_break c act (Ok found) old mid next new ended fails g e = absurd (fails act mid None g refl)
+
+sees_break : (cell : Result Cell Refusal) (found : Result Found Refusal) (meaning : Meaning) (old mid next new : Standing)
+    (offer : List ℕ) (b : Batch) (ended : Ended) → AlwaysFails old → Goes ReadCell old mid (fault_in cell)
+    → ReadsOn meaning cell mid next offer b found → EndsTo opt_call found next new ended → is_broken ended ≡ true
+sees_break (Err why) found meaning old mid next new offer b ended fails g on e =
+    reads_break opt_call ReadCell (Err why) old mid next new ended fails g
+    (subst (λ (x : Result Found Refusal). EndsTo opt_call x next new ended) on.1 e)
+sees_break (Ok cell) found meaning old mid next new offer b ended fails g on e = absurd (fails ReadCell mid None g refl)
+
+changes_break : (act : Act) (acts : List Act) (answer : BatchAnswer) (old new : Standing) (ended : Ended) → AlwaysFails old
+    → StepsTo (act ∷ acts) answer old new ended → is_broken ended ≡ true
+changes_break act acts answer old new ended fails (goes_on mid g s) = absurd (fails act mid None g refl)
+changes_break act acts answer old new ended fails (breaks_off fault g e) = ap is_broken e
+
 pub ask_breaks : (call : AskCall) (meaning : Meaning) (old new : Standing) (offer : List ℕ) (b : Batch) (ended : Ended)
     → AlwaysFails old → AskFinishes meaning call old new offer b ended → is_broken ended ≡ true
-ask_breaks (Basic ready) meaning old new offer b ended fails f = basic_breaks ready meaning old new offer b ended fails f
-ask_breaks (Opt stage) meaning old new offer b ended fails f = opt_breaks stage meaning old new offer b ended fails f
+ask_breaks (Basic None) meaning old new offer b ended fails f =
+    reads_break basic_call ReadCell f.found old f.middle f.middle new ended fails f.reads.goes f.ends
+ask_breaks (Basic (Some ready)) meaning old new offer b ended fails f =
+    changes_break (WriteCell ready.next) [] ready.answer old new ended fails f
+ask_breaks (Opt stage.Begun) meaning old new offer b ended fails f =
+    sees_break f.reads.cell f.found meaning old f.reads.middle f.middle new offer b ended fails f.reads.reads.goes f.reads.on f.ends
+ask_breaks (Opt (stage.Seen cell)) meaning old new offer b ended fails f =
+    reads_break opt_call ReadRegister f.found old f.reads.middle f.middle new ended fails f.reads.goes f.ends
+ask_breaks (Opt (stage.Changing (change.Inside ready))) meaning old new offer b ended fails f =
+    changes_break (ExtendRegister ready.value.bytes) [] ready.answer old new ended fails f
+ask_breaks (Opt (stage.Changing (change.Emptying opening))) meaning old new offer b ended fails f =
+    changes_break ResetRegister (ExtendRegister opening.value.bytes ∷ WriteCell opening.next ∷ []) opening.answer old new ended fails f
+ask_breaks (Opt (stage.Changing (change.Placing opening))) meaning old new offer b ended fails f =
+    changes_break (ExtendRegister opening.value.bytes) (WriteCell opening.next ∷ []) opening.answer old new ended fails f
+ask_breaks (Opt (stage.Changing (change.Writing opening))) meaning old new offer b ended fails f =
+    changes_break (WriteCell opening.next) [] opening.answer old new ended fails f
 
 -- from its beginning
-
-basic_begun : (kind : Variant) (ready : Option Ready) (meaning : Meaning) (old new : Standing) (offer : List ℕ) (b : Batch)
-    (ended : Ended) → (ready ≡ None → CallsTo variant.Basic meaning old new offer b ended) → Basic ready ≡ begun kind
-    → CallsTo kind meaning old new offer b ended
-basic_begun variant.Basic ready meaning old new offer b ended ends e = let none : ready ≡ None = cc in ends none
-basic_begun variant.Opt ready meaning old new offer b ended ends e = absurd (cc)
-
-opt_begun : (kind : Variant) (call : Stage) (meaning : Meaning) (old new : Standing) (offer : List ℕ) (b : Batch) (ended : Ended)
-    → (call ≡ stage.Begun → CallsTo variant.Opt meaning old new offer b ended) → Opt call ≡ begun kind
-    → CallsTo kind meaning old new offer b ended
-opt_begun variant.Basic call meaning old new offer b ended ends e = absurd (cc)
-opt_begun variant.Opt call meaning old new offer b ended ends e = let first : call ≡ stage.Begun = cc in ends first
-
 pub ask_begun : (variant : Variant) (meaning : Meaning) (old new : Standing) (offer : List ℕ) (b : Batch) (ended : Ended)
     → AskFinishes meaning (begun variant) old new offer b ended → CallsTo variant meaning old new offer b ended
 ask_begun variant.Basic meaning old new offer b ended f = basic_going.finished_to meaning None old new offer b ended f refl
@@ -205,98 +233,62 @@ ask_begun variant.Opt meaning old new offer b ended f = opt_finishing.finished_t
 
 -- in the words of the code
 
-basic_turned : (core : basic_turn.Turn) (meaning : Meaning) (ready : Option Ready) (old new : Standing) (offer : List ℕ) (b : Batch)
-    → AdvancedInBasic meaning ready old new offer b core → AdvancedAsk meaning (Basic ready) old new offer b (of_basic core)
-basic_turned (in_basic.Going on) meaning ready old new offer b a = record
-    { turns = record { core = in_basic.Going on; turns = a.turns; gives = refl }; room = tt; faults = a.faults }
-basic_turned (in_basic.Done answer) meaning ready old new offer b a = record
-    { turns = record { core = in_basic.Done answer; turns = a.turns; gives = refl }; room = tt; faults = a.faults }
-basic_turned (in_basic.Refused why) meaning ready old new offer b a = record
-    { turns = record { core = in_basic.Refused why; turns = a.turns; gives = refl }; room = tt; faults = a.faults }
+basic_room : (core : basic_turn.Turn) (new : Standing) → TurnMayAsk (of_basic core) new
+basic_room (in_basic.Going ready) new = tt
+basic_room _ new = tt
+
+opt_room : (core : Turn) (new : Standing) → TurnMayGoOn core new → TurnMayAsk (of_opt core) new
+opt_room (in_opt.Going stage) new room = room
+opt_room _ new room = tt
 
 pub basic_advanced : (meaning : Meaning) (ready : Option Ready) (call : AskCall) (old new : Standing) (offer : List ℕ) (b : Batch)
     (core : basic_turn.Turn) (turn : AskTurn) → call ≡ Basic ready
     → AdvancedInBasic meaning ready old new offer b core → turn ≡ of_basic core → AdvancedAsk meaning call old new offer b turn
 basic_advanced meaning ready call old new offer b core turn is a gives =
     subst (λ (x : AskCall). AdvancedAsk meaning x old new offer b turn) (sym is)
-    (subst (λ (x : AskTurn). AdvancedAsk meaning (Basic ready) old new offer b x) (sym gives)
-    (basic_turned core meaning ready old new offer b a))
-
-opt_turned : (core : opt_turn.Turn) (meaning : Meaning) (call : Stage) (old new : Standing) (offer : List ℕ) (b : Batch)
-    → AdvancedInOpt meaning call old new offer b core → AdvancedAsk meaning (Opt call) old new offer b (of_opt core)
-opt_turned (in_opt.Going on) meaning call old new offer b a = record
-    { turns = record { core = in_opt.Going on; turns = a.turns; gives = refl }; room = a.room; faults = a.faults }
-opt_turned (in_opt.Done answer) meaning call old new offer b a = record
-    { turns = record { core = in_opt.Done answer; turns = a.turns; gives = refl }; room = tt; faults = a.faults }
-opt_turned (in_opt.Refused why) meaning call old new offer b a = record
-    { turns = record { core = in_opt.Refused why; turns = a.turns; gives = refl }; room = tt; faults = a.faults }
+    (subst (AdvancedAsk meaning (Basic ready) old new offer b) (sym gives) (record {
+      turns = record { core = core; turns = a.turns; gives = refl };
+      room = basic_room core new;
+      faults = subst (λ (f : Option StepFault). Blames f old.faults new.faults) (basic_fault core) a.faults;
+    }))
 
 pub opt_advanced : (meaning : Meaning) (stage : Stage) (call : AskCall) (old new : Standing) (offer : List ℕ) (b : Batch)
-    (core : opt_turn.Turn) (turn : AskTurn) → call ≡ Opt stage
+    (core : Turn) (turn : AskTurn) → call ≡ Opt stage
     → AdvancedInOpt meaning stage old new offer b core → turn ≡ of_opt core → AdvancedAsk meaning call old new offer b turn
 opt_advanced meaning stage call old new offer b core turn is a gives =
     subst (λ (x : AskCall). AdvancedAsk meaning x old new offer b turn) (sym is)
-    (subst (λ (x : AskTurn). AdvancedAsk meaning (Opt stage) old new offer b x) (sym gives)
-    (opt_turned core meaning stage old new offer b a))
+    (subst (AdvancedAsk meaning (Opt stage) old new offer b) (sym gives) (record {
+      turns = record { core = core; turns = a.turns; gives = refl };
+      room = opt_room core new a.room;
+      faults = subst (λ (f : Option StepFault). Blames f old.faults new.faults) (opt_fault core) a.faults;
+    }))
 
-pub basic_finished : (meaning : Meaning) (ready : Option Ready) (call : AskCall) (old new : Standing) (offer : List ℕ) (b : Batch)
-    (ended : Ended) → call ≡ Basic ready
-    → FinishedInBasic meaning ready old new offer b ended → FinishedAsk meaning call old new offer b ended
-basic_finished meaning ready call old new offer b ended is f = record {
-  finishes = subst (λ (x : AskCall). AskFinishes meaning x old new offer b ended) (sym is) f.finishes;
-  ends = λ variant first. basic_begun variant ready meaning old new offer b ended f.ends (sym is ∙ first);
-  faults = f.faults;
-}
-
-pub opt_finished : (meaning : Meaning) (stage : Stage) (call : AskCall) (old new : Standing) (offer : List ℕ) (b : Batch) (ended : Ended)
-    → call ≡ Opt stage
-    → FinishedInOpt meaning stage old new offer b ended → FinishedAsk meaning call old new offer b ended
-opt_finished meaning stage call old new offer b ended is f = record {
-  finishes = subst (λ (x : AskCall). AskFinishes meaning x old new offer b ended) (sym is) f.finishes;
-  ends = λ variant first. opt_begun variant stage meaning old new offer b ended f.ends (sym is ∙ first);
-  faults = f.faults;
-}
-
-basic_few : (ready : Option Ready) → basic_steps.step_number ready ≤ 5
-basic_few None = omega arith
-basic_few (Some ready) = omega arith
-
-opt_few : (call : Stage) → opt_steps.step_number call ≤ 5
-opt_few stage.Begun = omega arith
-opt_few (stage.Seen cell) = omega arith
-opt_few (stage.Changing (change.Inside it)) = omega arith
-opt_few (stage.Changing (change.Emptying it)) = omega arith
-opt_few (stage.Changing (change.Placing it)) = omega arith
-opt_few (stage.Changing (change.Writing it)) = omega arith
+pub finished : (meaning : Meaning) (x call : AskCall) (old new : Standing) (offer : List ℕ) (b : Batch) (ended : Ended) → call ≡ x
+    → AskFinishes meaning x old new offer b ended → Blames (fault_in (result_of ended)) old.faults new.faults
+    → FinishedAsk meaning call old new offer b ended
+finished meaning x call old new offer b ended is f faults =
+    subst (λ (c : AskCall). FinishedAsk meaning c old new offer b ended) (sym is) (record {
+      finishes = f;
+      ends = λ variant first. ask_begun variant meaning old new offer b ended
+          (subst (λ (c : AskCall). AskFinishes meaning c old new offer b ended) first f);
+      faults = faults;
+    })
 
 pub few_steps : (call : AskCall) → ask_number call ≤ 5
-few_steps (Basic ready) = basic_few ready
-few_steps (Opt stage) = opt_few stage
+few_steps (Basic None) = omega arith
+few_steps (Opt (stage.Changing (change.Inside ready))) = omega arith
+few_steps _ = omega arith
 
 -- a call that was just begun takes no room
-begun_room : (variant : Variant) (standing : Standing) → MayAsk (begun variant) standing
-begun_room variant.Basic standing = tt
-begun_room variant.Opt standing = tt
-
 pub begun_may_ask : (variant : Variant) (call : AskCall) (standing : Standing) → call ≡ begun variant → MayAsk call standing
-begun_may_ask variant call standing e = subst (λ (x : AskCall). MayAsk x standing) (sym e) (begun_room variant standing)
+begun_may_ask variant.Basic call standing e = subst (λ (x : AskCall). MayAsk x standing) (sym e) tt
+begun_may_ask variant.Opt call standing e = subst (λ (x : AskCall). MayAsk x standing) (sym e) tt
 
 -- the room of a call doesn't hang on the plan
-
-opt_planned : (call : Stage) (now : Standing) (plan : Option Plan) → opt_steps.MayGoOn call now
-    → opt_steps.MayGoOn call (record now { plan = plan })
-opt_planned stage.Begun now plan m = tt
-opt_planned (stage.Seen cell) now plan m = tt
-opt_planned (stage.Changing (change.Inside it)) now plan m = m
-opt_planned (stage.Changing (change.Emptying it)) now plan m = m
-opt_planned (stage.Changing (change.Placing it)) now plan m = m
-opt_planned (stage.Changing (change.Writing it)) now plan m = tt
-
 pub may_ask_planned : (call : AskCall) (now : Standing) (plan : Option Plan) → MayAsk call now → MayAsk call (record now { plan = plan })
-may_ask_planned (Basic ready) now plan m = tt
-may_ask_planned (Opt stage) now plan m = opt_planned stage now plan m
+may_ask_planned (Opt (stage.Changing (change.Inside ready))) now plan m = m
+may_ask_planned _ now plan m = m
 
 pub may_ask_stopped : (call : AskCall) (old stopped : Standing) (stop : Stop)
     → stopped ≡ record old { plan = option_map (stopping stop) old.plan } → MayAsk call old → MayAsk call stopped
-may_ask_stopped call old stopped stop e m = subst (λ (s : Standing). MayAsk call s) (sym e)
-    (may_ask_planned call old (option_map (stopping stop) old.plan) m)
+may_ask_stopped call old stopped stop e m = subst (MayAsk call) (sym e) (may_ask_planned call old (option_map (stopping stop) old.plan) m)

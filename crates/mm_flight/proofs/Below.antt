@@ -17,21 +17,16 @@ pub use Rattle.mm_module.specs.Meaning.{Meaning}
 pub use Rattle.mm_model.specs.declared.answer.BatchAnswer.{BatchAnswer}
 pub use Rattle.mm_model.specs.declared.refusal.Refusal.{Refusal}
 pub use Rattle.mm_model.specs.declared.refusal.Refusal.TheVariants.{Device}
-pub use Rattle.mm_call.specs.Calls.{AsksTo, breaks_off, EndsTo, goes_on, StepsTo}
+pub use Rattle.mm_call.specs.Calls.{breaks_off, EndsTo, goes_on, StepsTo}
 pub use Rattle.mm_call.specs.Ended.{CallsTo, ended_with, is_broken, refused_as}
 pub use Rattle.mm_call.specs.Refusals.{fault_in, fault_of}
 pub use Rattle.mm_call.specs.declared.ended.Ended.{Ended}
 pub use Rattle.mm_call.specs.declared.ended.Ended.TheVariants.{Answered, Broken}
 pub use Rattle.mm_basic.specs.declared.found.Ready.{Ready}
 pub use Rattle.mm_opt.specs.Asks.{opt_call, ReadsOn}
-pub use Rattle.mm_opt.specs.Finishes.{ChangesTo, Finishes, SeesTo}
-pub use Rattle.mm_opt.specs.Steps.{act_of, Empties, Finds, FindsCell, Makes, MakesRoom, Places, ReadsOwnCell, step_number}
-pub use Rattle.mm_opt.specs.Turns.{emptied_turn, fault_turned, found_turn, last_turn, placed_turn, seen_turn, Turns}
+pub use Rattle.mm_opt.specs.Steps.{Makes, MakesRoom}
 pub use Rattle.mm_opt.specs.declared.call.Turn.{Turn}
-pub use Rattle.mm_opt.specs.declared.call.Turn.TheVariants.{Done, Going, Refused}
 pub use Rattle.mm_opt.specs.declared.found.Found.{Found}
 pub use Rattle.mm_opt.specs.declared.found.Found.TheVariants.{Inside, Opens, Repeat}
-pub use Rattle.mm_opt.specs.declared.found.Opening.{Opening}
-pub use Rattle.mm_opt.specs.declared.stage.Stage.{Stage}
 pub use Rattle.mm_opt.proofs.Above.{acts_at, closing_acts_at}
 pub use Rattle.mm_flight.specs.InFlight.{GoesOnAs, InFlight, plan_by, SaySame, under}

@@ -1,5 +1,5 @@
 -- How a call in flight begins, takes in others' values and goes on, and how it ends.
-use Rattle.mm_flight.proofs.Below.{◌≡◌, ℕ, ◌+◌, ◌<◌, ◌≤◌, Bool, true, false, List, [], ◌∷◌, ◌++◌, map, Option, Some, refl, sym, ap, ◌∙◌}
+use Rattle.mm_flight.proofs.Below.{◌≡◌, ℕ, ◌+◌, ◌<◌, Bool, true, false, List, [], ◌∷◌, ◌++◌, Option, Some, refl, sym, ap, ◌∙◌}
 use Rattle.mm_flight.proofs.Below.{subst, arith, option_map, counted, Meddle, Quiet, Plan, Standing, meddling, plan_by, under, SaySame}
 use Rattle.mm_flight.proofs.Below.{GoesOnAs, InFlight}
 use Rattle.std.specs.Prelude.{◌==◌, filter}
@@ -29,25 +29,17 @@ begins calls rest old on planned whole = record {
 abbrev pub meddled : List Meddle → ℕ → Digest → List Meddle
 meddled meddles step value = meddles ++ record { step = step; value = value } ∷ []
 
-filter_none : (p : Meddle → Bool) (m : Meddle) → p m ≡ false → filter p (m ∷ []) ≡ []
-filter_none p m e = rw e refl
-
 due_more : (n step : ℕ) (meddles : List Meddle) (value : Digest) → (step == n) ≡ false → due n (meddled meddles step value) ≡ due n meddles
 due_more n step meddles value other =
     let p : Meddle → Bool = λ m. m.step == n in
     let m : Meddle = record { step = step; value = value } in
-    ap (λ (ms : List Meddle). map (λ x. x.value.bytes) ms)
-    (filter-append p meddles (m ∷ []) ∙ ap (λ (ms : List Meddle). filter p meddles ++ ms) (filter_none p m other) ∙ append-nil
-    (filter p meddles))
-
-other_step : (n made : ℕ) → n ≤ made → made + 1 ≡ n → ⊥
-other_step n made few e = omega arith
+    simp (filter-append p meddles (m ∷ []), other, append-nil (filter p meddles))
 
 goes_before : (plan : Plan) (meddles : List Meddle) (made : ℕ) (value : Digest) → GoesOnAs plan (meddled meddles (made + 1) value) made
     → GoesOnAs plan meddles made
 goes_before plan meddles made value goes = λ n few.
     let same : SaySame plan (plan_by Quiet (meddled meddles (made + 1) value)) n = goes n few in record {
-      brings = same.brings ∙ due_more n (made + 1) meddles value (ne_eqb (made + 1) n (other_step n made few));
+      brings = same.brings ∙ due_more n (made + 1) meddles value (ne_eqb (made + 1) n (λ e. omega (arith, few, e)));
       answers = same.answers;
       makes = same.makes;
       stays = same.stays;
@@ -68,9 +60,6 @@ takes_in calls rest old now new meddles made value f e = record {
 }
 
 -- it goes on with its next step
-
-goes_less : (plan : Plan) (meddles : List Meddle) (made : ℕ) → GoesOnAs plan meddles (made + 1) → GoesOnAs plan meddles made
-goes_less plan meddles made goes = λ n few. goes n (omega arith)
 
 pub replans : (plan : Plan) (now : Standing) (meddles : List Meddle) (made : ℕ) → now.is_on ≡ true
     → now.plan ≡ Some (record (plan_by Quiet meddles) { at = made }) → made < 255
@@ -97,7 +86,7 @@ goes_on calls rest later old now new meddles made number next f m few leads =
       cell = ap (λ (s : Standing). s.cell) m.room ∙ m.keeps ∙ f.cell;
       few = few;
       joins = λ plan goes end ended r.
-          f.joins plan (goes_less plan meddles made goes) end ended
+          f.joins plan (λ n less. goes n (omega (arith, less))) end ended
           (leads plan (replans plan now meddles made f.is_on f.planned f.few (goes (made + 1) (omega arith))) end ended
           (subst (λ (k : ℕ). later (under plan k new) end ended) (sym more) r));
     }

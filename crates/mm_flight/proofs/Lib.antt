@@ -1,9 +1,7 @@
 pub mod Above
 mod Below
 mod Replanning
-mod BasicTurning
-mod OptTurning
-mod OptEnding
 mod ClosingTurning
+mod AskTurning
 mod Asking
 mod Flying

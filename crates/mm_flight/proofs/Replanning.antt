@@ -1,7 +1,7 @@
 -- A device step that goes as its plan says goes so under each plan that says the same of it.
-use Rattle.mm_flight.proofs.Below.{◌≡◌, ℕ, ◌+◌, ◌<◌, true, Bool, List, Option, None, Some, refl, sym, ap, ◌∙◌, subst, arith, counted}
-use Rattle.mm_flight.proofs.Below.{StepFault, Meddle, Quiet, Plan, Standing, Act, Goes, EndsBy, GoesByPlan, will_answer, will_be_made}
-use Rattle.mm_flight.proofs.Below.{will_be_on, will_bring, Ended, ended_with, is_broken, Refusal, plan_by, under, SaySame}
+use Rattle.mm_flight.proofs.Below.{◌≡◌, ℕ, ◌+◌, ◌<◌, true, Bool, List, Option, None, Some, refl, ap, ◌∙◌, subst, arith, counted}
+use Rattle.mm_flight.proofs.Below.{StepFault, Meddle, Quiet, Plan, Standing, Act, Goes, EndsBy, GoesByPlan, will_answer}
+use Rattle.mm_flight.proofs.Below.{Ended, ended_with, is_broken, Refusal, plan_by, under, SaySame}
 use Rattle.mm_platform.specs.declared.fault.StepFault.TheVariants.{Failed, Off}
 
 pub counted_few : (made : ℕ) → made < 255 → counted made ≡ made + 1
@@ -24,17 +24,11 @@ told_under : (p q : Plan) (made : ℕ) (now new : Standing) (is_made : Bool) (ot
     → GoesByPlan (record q { at = made }) now new is_made others fault
     → GoesByPlan (record p { at = made }) (under p made now) (under p (counted made) new) is_made others fault
 told_under p q made now new is_made others fault r told =
-    let at_p : Plan = record p { at = made } in
-    let at_q : Plan = record q { at = made } in
     record {
-      answers = told.answers ∙ ap (λ (on : Bool). will_answer on at_q) r.is_on ∙ sym r.same.answers ∙ sym
-          (ap (λ (on : Bool). will_answer on at_p) r.is_on);
-      makes = told.makes ∙ ap (λ (on : Bool). will_be_made on at_q) r.is_on ∙ sym r.same.makes ∙ sym
-          (ap (λ (on : Bool). will_be_made on at_p) r.is_on);
-      power = told.power ∙ ap (λ (on : Bool). will_be_on on at_q) r.is_on ∙ sym r.same.stays ∙ sym
-          (ap (λ (on : Bool). will_be_on on at_p) r.is_on);
-      brings = told.brings ∙ ap (λ (on : Bool). will_bring on at_q) r.is_on ∙ sym r.same.brings ∙ sym
-          (ap (λ (on : Bool). will_bring on at_p) r.is_on);
+      answers = simp (told.answers, r.is_on, r.same.answers);
+      makes = simp (told.makes, r.is_on, r.same.makes);
+      power = simp (told.power, r.is_on, r.same.stays);
+      brings = simp (told.brings, r.is_on, r.same.brings);
       counts = told.counts;
     }
 
