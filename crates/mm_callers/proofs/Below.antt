@@ -1,16 +1,16 @@
 -- The words and laws that the proofs of this crate take from specs/ and from the crates below.
 pub use Rattle.std.specs.List.{AllByRecursion, Contains, fold}
 pub use Rattle.std.specs.Option.{option_map}
-pub use Rattle.std.specs.Prelude.{if◌then◌else◌, nat_eq, nat_le}
-pub use Rattle.std.proofs.Common.{◌&&◌, ◌++◌, ◌+◌, ◌∙◌, ◌∷◌, ◌≡◌, ◌≤◌, ◌⊎◌, [], ap, append_assoc, arith, Bool, Err, false, inl, inr, le-leb}
-pub use Rattle.std.proofs.Common.{List, map, None, Ok, Option, refl, Result, Some, subst, sym, true, ℕ}
+pub use Rattle.std.specs.Prelude.{if◌then◌else◌, nat_eq}
+pub use Rattle.std.proofs.Common.{◌&&◌, ◌++◌, ◌+◌, ◌∙◌, ◌∷◌, ◌≡◌, ◌≤◌, ◌⊎◌, [], ap, append_assoc, arith, Bool, Err, false, inl, inr, List}
+pub use Rattle.std.proofs.Common.{map, None, Ok, Option, refl, Result, Some, subst, sym, true, ℕ}
 pub use Rattle.std.proofs.lemmas.List.{append-nil, map-append}
 pub use Rattle.mm_base.specs.Limits.{last_position}
 pub use Rattle.mm_digest.specs.Messages.{anchored_message, extended_message, extended_of}
 pub use Rattle.mm_digest.specs.declared.variant.Variant.{Variant}
 pub use Rattle.mm_digest.specs.declared.variant.Variant.TheVariants.{Basic, Opt}
 pub use Rattle.mm_seal.specs.Parts.{parts_of}
-pub use Rattle.mm_seal.specs.Snapshot.{Content, IsContent, offered_of, sealed_of, tag_of}
+pub use Rattle.mm_seal.specs.Snapshot.{Content, IsContent, sealed_of}
 pub use Rattle.mm_platform.specs.Standing.{foreign_item, Item, item_values, Standing}
 pub use Rattle.mm_platform.specs.Told.{quiet_plan}
 pub use Rattle.mm_platform.specs.declared.fault.StepFault.{StepFault}
@@ -20,8 +20,7 @@ pub use Rattle.mm_model.specs.BatchLaws.{at_the_end, before_the_last, total-push
 pub use Rattle.mm_model.specs.ChainLaws.{after-append, trail-append}
 pub use Rattle.mm_model.specs.Chains.{after, guard, link_message, summary_of, trail}
 pub use Rattle.mm_model.specs.Fit.{IsFit}
-pub use Rattle.mm_model.specs.History.{Close, Commit, Entry, Foreign, History, Move, moved, Placed, register_value_of, Reset, total_of}
-pub use Rattle.mm_model.specs.History.{Value}
+pub use Rattle.mm_model.specs.History.{Close, Commit, Entry, Foreign, History, Move, moved, register_value_of, total_of, Value}
 pub use Rattle.mm_model.specs.HistoryWords.{cell_digest_of, values_of as entry_values}
 pub use Rattle.mm_model.specs.Instance.{Instance}
 pub use Rattle.mm_model.specs.InstanceWords.{basic, opt}
@@ -35,8 +34,7 @@ pub use Rattle.mm_model.specs.Steps.{ask_steps, checkpoint_steps, Reads, Step, W
 pub use Rattle.mm_model.specs.declared.answer.Answer.{Answer}
 pub use Rattle.mm_model.specs.declared.answer.BatchAnswer.{BatchAnswer}
 pub use Rattle.mm_model.specs.declared.refusal.Refusal.{Refusal}
-pub use Rattle.mm_model.specs.declared.refusal.Refusal.TheVariants.{Blank, Cell as OtherCell, Device, Form, Full, Kind, Long, Lost, Memory}
-pub use Rattle.mm_model.specs.declared.refusal.Refusal.TheVariants.{Stale, State, Tag}
+pub use Rattle.mm_model.specs.declared.refusal.Refusal.TheVariants.{Device, Long, Memory}
 pub use Rattle.mm_model.specs.declared.verdict.Verdict.{Verdict}
 pub use Rattle.mm_model.proofs.Above.{basic_issued, opt_issued, opt_names}
 pub use Rattle.mm_call.specs.AlongLaws.{closes-foreign, opt_closes}
@@ -47,10 +45,10 @@ pub use Rattle.mm_call.specs.CallsOn.{CallContinues, CallsOn}
 pub use Rattle.mm_call.specs.Checkpoints.{checkpointed, closing_of, IsClosedWithin}
 pub use Rattle.mm_call.specs.Coming.{Comes, EndsWith, grown, kept}
 pub use Rattle.mm_call.specs.Courses.{after_step, closes, Course, Done, End, Fails, Fails as FailsAs, Fate, seen_in, walk, Walked}
-pub use Rattle.mm_call.specs.Found.{Found, found_at, found_by_verdict, right_content}
+pub use Rattle.mm_call.specs.Found.{Found, found_at, right_content}
 pub use Rattle.mm_call.specs.FoundWords.{found_unless_wanting, found_with, is_fresh}
 pub use Rattle.mm_call.specs.Leaving.{Blames, IsAccepted, whole, whole_in}
-pub use Rattle.mm_call.specs.Levels.{all_made, by_digests, by_lists, Level}
+pub use Rattle.mm_call.specs.Levels.{all_made, by_digests, by_lists}
 pub use Rattle.mm_call.specs.MoveLaws.{committed_in, more_batches, same_batches}
 pub use Rattle.mm_call.specs.OfferLaws.{basic_content, issued_once, listed_by, one_content, opt_content, right_of}
 pub use Rattle.mm_call.specs.Premises.{AreAsked, AreShown, IsIdle}
@@ -58,24 +56,23 @@ pub use Rattle.mm_call.specs.Refusals.{fault_in, fault_of}
 pub use Rattle.mm_call.specs.ShowingLaws.{asked_by, same_rest}
 pub use Rattle.mm_call.specs.Standing.{shown, StandsAt}
 pub use Rattle.mm_call.specs.Tied.{foreign_items, standing_items}
-pub use Rattle.mm_call.specs.WalkLaws.{asks, basic_commits, batch, Commits, committed-foreign, finished, foreign_first, foreign_in-first}
-pub use Rattle.mm_call.specs.WalkLaws.{foreign_in-foreign, foreign_made, made-append, messages-made, nothing, opt_commits}
+pub use Rattle.mm_call.specs.WalkLaws.{asks, batch, Commits, committed-foreign, finished, foreign_first, foreign_in-first}
+pub use Rattle.mm_call.specs.WalkLaws.{foreign_in-foreign, foreign_made, made-append, messages-made, nothing}
 pub use Rattle.mm_call.proofs.Above.{again_of, Alike, alike_call, alike_foreign, alike_still, answered_at, answered_clean_as, asked_for}
-pub use Rattle.mm_call.proofs.Above.{asked_idle, Asking, bare, bare_digests, basic_asked, basic_comes, Brought, call_goes_on, counted_open}
-pub use Rattle.mm_call.proofs.Above.{counted_shut, DigestMoves, flag_kept, foreign_digests, foreign_messages, found_digests, found_same}
-pub use Rattle.mm_call.proofs.Above.{fresh_found, fresh_of, GoesOn, grown_by, hands, holds_shut, idle_again, idle_moves, is_agrees}
-pub use Rattle.mm_call.proofs.Above.{issued_alike, Left, left_call, left_reading, names_after, names_alike, names_foreign, names_made}
-pub use Rattle.mm_call.proofs.Above.{none_counted, opt_comes, placed, Pushed, read_moves, reads_only, reset_messages, right_at, same_closed}
-pub use Rattle.mm_call.proofs.Above.{seen_closes, shown_front, sound_foreign, stands_at, unlacked, unless_idle}
+pub use Rattle.mm_call.proofs.Above.{asked_idle, Asking, bare, bare_digests, basic_asked, basic_comes, Brought, call_goes_on, DigestMoves}
+pub use Rattle.mm_call.proofs.Above.{flag_kept, foreign_digests, foreign_messages, found_digests, found_same, fresh_found, fresh_of, GoesOn}
+pub use Rattle.mm_call.proofs.Above.{grown_by, hands, holds_shut, idle_again, idle_moves, is_agrees, issued_alike, Left, left_reading}
+pub use Rattle.mm_call.proofs.Above.{names_after, names_alike, names_foreign, names_made, none_counted, opt_comes, placed, Pushed}
+pub use Rattle.mm_call.proofs.Above.{read_moves, reads_only, right_at, same_closed, seen_closes, shown_front, sound_foreign, stands_at}
+pub use Rattle.mm_call.proofs.Above.{unlacked, unless_idle}
 pub use Rattle.mm_call.proofs.OptAlike.{still}
 pub use Rattle.mm_opt.specs.ChecksOn.{ChecksOn, closing_told}
 pub use Rattle.mm_opt.specs.declared.segment.CheckpointRefusal.{CheckpointRefusal}
 pub use Rattle.mm_opt.specs.declared.segment.Checkpointed.{Checkpointed as Said}
-pub use Rattle.mm_callers.specs.Basic.{AnswersNext, AnswersOnce, AreAskedNext, AsksAgain, AsksTwice, finds, in_first, in_second, IsLeft}
-pub use Rattle.mm_callers.specs.Basic.{IsOfRun, IsOnce, RefusesNext, SaysFound, SaysUnlessFault, Stays}
+pub use Rattle.mm_callers.specs.Basic.{AnswersOnce, AreAskedNext, AsksAgain, AsksTwice, finds, in_first, in_second, IsLeft, IsOfRun, IsOnce}
+pub use Rattle.mm_callers.specs.Basic.{SaysFound, SaysUnlessFault}
 pub use Rattle.mm_callers.specs.Closing.{AreShownUnlessIdle, ClosesBetween, closing_messages, EndsBehind, in_closing, MayClose}
 pub use Rattle.mm_callers.specs.Closing.{RepeatsBehind, RepeatsReply, SaysClosing}
-pub use Rattle.mm_callers.specs.Complete.{BasicCallsAreComplete, batches_then, IsAnswer, IsOfferedAt, IsSmooth, IsWelcome}
-pub use Rattle.mm_callers.specs.Complete.{OptCallsAreComplete}
+pub use Rattle.mm_callers.specs.Complete.{batches_then, IsAnswer, IsOfferedAt, IsWelcome}
 pub use Rattle.mm_callers.specs.Counts.{again, alone, at_once, both, CountsAgain, CountsCall, replied, StepsFor, StepsOf}
 pub use Rattle.mm_callers.specs.Opt.{AnswersOrLacks, AsksByQuietPlan, AsksInMemory, AsksOnce, AsksWelcome}

@@ -4,8 +4,6 @@ mod BasicCalls
 mod Completing
 mod Counting
 mod OptCalls
-mod OptClosing
 mod OptChecking
 mod OptComplete
-mod OptRepeats
 mod OptRepeating

@@ -1,13 +1,14 @@
 -- Opt: a call that nothing disturbs answers a welcome offer, or lacks memory.
-use Rattle.mm_callers.proofs.Below.{◌≡◌, ℕ, Bool, true, false, List, [], ◌∷◌, ◌++◌, Some, Result, Err, refl, sym, ap, ◌∙◌, subst}
+use Rattle.mm_callers.proofs.Below.{◌≡◌, ℕ, Bool, true, false, List, [], Some, Result, Err, refl, sym, ap, ◌∙◌, subst}
 use Rattle.mm_callers.proofs.Below.{AllByRecursion, Contains, Opt, extended_message, StepFault, Standing, quiet_plan, Meaning, Batch, One}
-use Rattle.mm_callers.proofs.Below.{guard, Instance, opt, History, Move, Commit, Placed, Reset, moved, register_value_of, is_long, Within}
-use Rattle.mm_callers.proofs.Below.{moving_messages, Digests, digests_of, StandsFor, ask_steps, Answer, BatchAnswer, Refusal, Memory}
+use Rattle.mm_callers.proofs.Below.{guard, Instance, opt, History, Move, register_value_of, Within}
+use Rattle.mm_callers.proofs.Below.{Digests, digests_of, StandsFor, ask_steps, BatchAnswer, Refusal, Memory}
 use Rattle.mm_callers.proofs.Below.{Device, by_lists, by_digests, Found, found_at, found_unless_wanting, is_fresh, Done, Fate, Course, walk}
-use Rattle.mm_callers.proofs.Below.{Called, Refuses, called, called_by, given_for, called_with, CallsOn, CallContinues, whole_in}
-use Rattle.mm_callers.proofs.Below.{counted_part, counted_moves, moves_messages, foreign_in, IsAsked, AreAsked, reset_messages}
-use Rattle.mm_callers.proofs.Below.{counted_shut, asked_by, IsWelcome, AnswersOrLacks, AsksByQuietPlan, AsksInMemory}
-use Rattle.mm_callers.proofs.Completing.{opt_complete, welcome_found}
+use Rattle.mm_callers.proofs.Below.{Called, Refuses, called, called_by, given_for, called_with, CallContinues}
+use Rattle.mm_callers.proofs.Below.{counted_part, counted_moves, moves_messages, foreign_in, IsAsked, AreAsked}
+use Rattle.mm_callers.proofs.Below.{asked_by, IsWelcome, AnswersOrLacks, AsksByQuietPlan, AsksInMemory}
+use Rattle.mm_callers.proofs.Completing.{complete, welcome_found}
+use Rattle.mm_callers.proofs.Leaving.{Call}
 
 -- the course of a call that nothing disturbs
 abbrev still_fates : ℕ → Fate
@@ -20,37 +21,18 @@ module _ (meaning : Meaning) (key barrier : List ℕ) where
   abbrev I : Instance
   I = opt meaning key barrier
 
-  placed_messages : (y : History) (flag : Bool) (b : Batch) → moving_messages Opt flag I y (Placed b)
-      ≡ extended_message (register_value_of I y) (guard barrier b) ∷ []
-  placed_messages y true b = refl
-  placed_messages y false b = refl
-
   -- what counts of its moves: the extension by the batch alone
   abbrev CountsAlone : List (List ℕ) → History → Batch → Bool → Bool → Type 0
   CountsAlone all y b flag fresh =
       let moves = counted_moves flag (walk still_fates 1 (ask_steps Opt flag fresh b)).moves in
       Within (moves_messages I (counted_part y) moves) all × (foreign_in moves ≡ [])
 
-  counts_alone : (all : List (List ℕ)) (y : History) (b : Batch) (flag fresh : Bool) → y.is_open ≡ flag
-      → Contains all (extended_message (register_value_of I (counted_part y)) (guard barrier b)) → CountsAlone all y b flag fresh
-  counts_alone all y b true true e c =
-      (subst (λ (f : Bool). Within (moving_messages Opt f I (counted_part y) (Commit b) ++ []) all) (sym e) (c, tt), refl)
-  counts_alone all y b true false e c = (tt, refl)
-  counts_alone all y b false false e c = (tt, refl)
-  counts_alone all y b false true e c =
-      let cp : History = counted_part y in
-      let empty : History = moved I cp Reset in
-      let placed : History = moved I empty (Placed b) in
-      let M : Bool → History → Move → List (List ℕ) = λ f z m. moving_messages Opt f I z m in
-      let same : extended_message (register_value_of I empty) (guard barrier b)
-      ∷ [] ≡ extended_message (register_value_of I cp) (guard barrier b) ∷ [] =
-      ap (λ (z : History). extended_message (register_value_of I z) (guard barrier b) ∷ []) (sym (counted_shut y e)) in
-      let messages : M y.is_open cp Reset ++ (M y.is_open empty (Placed b) ++ (M y.is_open placed (Commit b) ++ [])) ≡ extended_message
-      (register_value_of I cp) (guard barrier b) ∷ [] =
-      ap (λ (ms : List (List ℕ)). ms ++ (M y.is_open empty (Placed b) ++ (M y.is_open placed (Commit b) ++ [])))
-      (reset_messages meaning key barrier cp y.is_open) ∙ ap (λ (f : Bool). M y.is_open empty (Placed b) ++ (M f placed (Commit b) ++ [])) e
-      ∙ ap (λ (ms : List (List ℕ)). ms ++ []) (placed_messages empty y.is_open b) ∙ same in
-      (subst (λ (ms : List (List ℕ)). Within ms all) (sym messages) (c, tt), refl)
+  counts_alone : (all : List (List ℕ)) (y : History) (b : Batch) (flag fresh : Bool)
+      → Contains all (extended_message (register_value_of I (counted_part (record y { is_open = flag }))) (guard barrier b))
+      → CountsAlone all (record y { is_open = flag }) b flag fresh
+  counts_alone all y b true true c = ((c, tt), refl)
+  counts_alone all y b false true c = ((c, tt), refl)
+  counts_alone all y b _ _ c = (tt, refl)
 
   asked_alone : (all others : List (List ℕ)) (asked : List Batch) (y : History) (offer : List ℕ) (b : Batch) (lacks : Bool)
       → AreAsked all others asked I y offer b → Contains all (extended_message (register_value_of I (counted_part y)) (guard barrier b))
@@ -59,7 +41,7 @@ module _ (meaning : Meaning) (key barrier : List ℕ) where
       let d : Digests = digests_of I y in
       let fresh : Bool = is_fresh (found_unless_wanting (found_at I (by_digests I) d b offer) lacks) in
       let moves : List Move = (walk still_fates 1 (ask_steps Opt y.is_open fresh b)).moves in
-      let k = counts_alone all y b y.is_open fresh refl c in
+      let k = counts_alone all y b y.is_open fresh c in
       asked_by I all others asked y moves offer b a k.0 (subst (λ (vs : List (List ℕ)). AllByRecursion (Contains others) vs) (sym k.1) tt)
 
   -- a call that lacks memory has made its reading steps alone
@@ -79,14 +61,12 @@ module _ (meaning : Meaning) (key barrier : List ℕ) where
       → AnswersOrLacks I y new b again result
   answers_or_lacks false all others asked y new offer b again result w k =
       let o : Called History = called I (by_lists I) y (still_course false) offer b in
-      let a = opt_complete meaning key barrier y (still_course false) offer b again (record { done = λ n. refl; lacks = refl }) w in
+      let a = complete I y (still_course false) offer b again (record { done = λ n. refl; lacks = refl }) w in
       subst (AnswersOrLacks I y new b again) (sym (k.gives ∙ ap given_for a.ending))
       (record { after = o.state; stands = k.stands; batches_are = a.batches; answer_is = refl })
   answers_or_lacks true all others asked y new offer b again result w k =
-      let found : found_unless_wanting (found_at I (by_lists I) y b offer) true ≡ Err Memory = ap
-      (λ (x : Result Found Refusal). found_unless_wanting x true) (welcome_found I y offer b again w) in
       let same : called I (by_lists I) y (still_course true) offer b ≡ called_with I (by_lists I) y y (still_course true) b (Err Memory) =
-      ap (called_with I (by_lists I) y y (still_course true) b) found in
+      simp (welcome_found I y offer b again w) in
       let l = lacking y b y.is_open in
       subst (AnswersOrLacks I y new b again) (sym (k.gives ∙ ap (λ (o : Called History). given_for o.ending) same ∙ ap given_for l.1))
       (refl, subst (λ (z : History). StandsFor I new z) (ap (λ (o : Called History). o.state) same ∙ l.0) k.stands)
@@ -95,44 +75,34 @@ module _ (meaning : Meaning) (key barrier : List ℕ) where
 course_is : (c : Course) → ((n : ℕ) → c.fates n ≡ still_fates n) → c ≡ still_course c.lacks
 course_is c told_so = λ j. record { fates = λ n. told_so n j; lacks = c.lacks }
 
-undisturbed : (meaning : Meaning) (old new : Standing) (offer request : List ℕ) (result : Result BatchAnswer Refusal) → old.is_on ≡ true
-    → old.plan ≡ Some quiet_plan → CallsOn Opt meaning old new offer (One request) result
-    → (key barrier : List ℕ) (y : History) (all others : List (List ℕ)) (asked : List Batch) (again : Bool)
-    → StandsFor (opt meaning key barrier) old y → AreAsked all others asked (opt meaning key barrier) y offer (One request)
-    → Contains all (extended_message (register_value_of (opt meaning key barrier) (counted_part y)) (guard barrier (One request)))
-    → IsWelcome (opt meaning key barrier) y offer (One request) again
-    → AnswersOrLacks (opt meaning key barrier) y new (One request) again result
-undisturbed meaning old new offer request result on plan c key barrier y all others asked again s a m w =
+pub asked_quietly : {meaning : Meaning} {old new : Standing} {offer request : List ℕ} {result : Result BatchAnswer Refusal}
+    → Call Opt meaning old new offer request result → AsksByQuietPlan meaning old new offer request result
+asked_quietly {meaning = meaning} {new = new} {offer = offer} {request = request} {result = result} call on plan key barrier y all others
+    asked again short s a m w =
     let i : Instance = opt meaning key barrier in
     let b : Batch = One request in
+    let c = call.goes short in
     let is : c.course ≡ still_course c.course.lacks = course_is c.course (c.tells quiet_plan on plan refl) in
-    let go = c.continues key barrier y all others asked s in
     let goes = subst (λ (q : Course). IsAsked all others asked i y (called i (by_digests i) (digests_of i y) q offer b).moves offer b
-    → CallContinues all others asked i (called i (by_lists i) y q offer b) new result) is go in
+    → CallContinues all others asked i (called i (by_lists i) y q offer b) new result) is (c.continues key barrier y all others asked s) in
     answers_or_lacks meaning key barrier c.course.lacks all others asked y new offer b again result w
     (goes (asked_alone meaning key barrier all others asked y offer b c.course.lacks a m))
 
-pub asked_quietly : (meaning : Meaning) (old new : Standing) (offer request : List ℕ) (result : Result Answer Refusal)
-    → (is_long (One request) ≡ false → CallsOn Opt meaning old new offer (One request) (whole_in result))
-    → AsksByQuietPlan meaning old new offer request result
-asked_quietly meaning old new offer request result goes on plan key barrier y all others asked again short s a m w =
-    undisturbed meaning old new offer request (whole_in result) on plan (goes short) key barrier y all others asked again s a m w
-
-pub asked_in_memory : (meaning : Meaning) (old middle new : Standing) (offer request : List ℕ) (result : Result Answer Refusal)
-    → middle ≡ record old { plan = Some quiet_plan } → AsksByQuietPlan meaning middle new offer request result
+pub asked_in_memory : (meaning : Meaning) {old middle : Standing} (new : Standing) (offer request : List ℕ)
+    (result : Result BatchAnswer Refusal) → middle ≡ record old { plan = Some quiet_plan }
+    → AsksByQuietPlan meaning middle new offer request result
     → AsksInMemory meaning old new offer request result
-asked_in_memory meaning old middle new offer request result e complete on key barrier y all others asked again short s a m w =
-    let i : Instance = opt meaning key barrier in
+asked_in_memory meaning {old = old} new offer request result e complete on key barrier y all others asked again short s a m w =
     let ended : Standing = record old { plan = Some quiet_plan } in
-    let s_then : StandsFor i ended y = record { spells = s.spells; cell = s.cell; register = s.register } in
     complete (ap (λ (x : Standing). x.is_on) e ∙ on) (ap (λ (x : Standing). x.plan) e) key barrier y all others asked again short
-    (subst (λ (x : Standing). StandsFor i x y) (sym e) s_then) a m w
+    (subst (λ (x : Standing). StandsFor (opt meaning key barrier) x y) (sym e)
+    (record { spells = s.spells; cell = s.cell; register = s.register })) a m w
 
 -- a first call by a quiet plan doesn't end by a device's fault
-pub asked_faultless : (meaning : Meaning) (old middle new : Standing) (offer request : List ℕ) (why : Refusal) (fault : StepFault)
-    → why ≡ Device fault → (result : Result Answer Refusal) → AsksByQuietPlan meaning old middle offer request (Err why)
+pub asked_faultless : {meaning : Meaning} {old middle : Standing} {offer request : List ℕ} {why : Refusal} {fault : StepFault}
+    (new : Standing) (result : Result BatchAnswer Refusal) → why ≡ Device fault → Call Opt meaning old middle offer request (Err why)
     → AsksByQuietPlan meaning old new offer request result
-asked_faultless meaning old middle new offer request why fault is result first on plan key barrier y all others asked again short s a m w =
-    let t = first on plan key barrier y all others asked again short s a m w in
+asked_faultless {fault = fault} new result is first on plan key barrier y all others asked again short s a m w =
+    let t = asked_quietly first on plan key barrier y all others asked again short s a m w in
     let clash : Device fault ≡ Memory = sym is ∙ t.0 in
     absurd (cc)

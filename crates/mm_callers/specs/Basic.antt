@@ -1,28 +1,8 @@
 -- What callers of Basic get, by lists alone.
-use Rattle.std.specs.Prelude.{◌≡◌, ◌≤◌, ℕ, Bool, false, List, [], ◌∷◌, ◌++◌, Option, None, Some, Result, Ok, Err, ◌⊎◌, if◌then◌else◌}
-use Rattle.std.specs.List.{Contains}
-use Rattle.mm_base.specs.Faults.{counted}
-use Rattle.mm_platform.specs.declared.fault.StepFault.{StepFault}
-use Rattle.mm_platform.specs.Standing.{Standing}
-use Rattle.mm_module.specs.Meaning.{Meaning}
-use Rattle.mm_module.specs.Batch.{Batch, One}
-use Rattle.mm_model.specs.Chains.{link_message, summary_of}
-use Rattle.mm_model.specs.Instance.{Instance}
-use Rattle.mm_model.specs.InstanceWords.{basic}
-use Rattle.mm_model.specs.History.{History}
-use Rattle.mm_model.specs.Long.{is_long}
-use Rattle.mm_model.specs.Standing.{StandsFor, issued_bytes}
-use Rattle.mm_model.specs.declared.answer.Answer.{Answer}
-use Rattle.mm_model.specs.declared.answer.BatchAnswer.{BatchAnswer}
-use Rattle.mm_model.specs.declared.refusal.Refusal.{Refusal}
-use Rattle.mm_model.specs.declared.refusal.Refusal.TheVariants.{Memory, Long}
-use Rattle.mm_call.specs.Answers.{answer_on}
-use Rattle.mm_call.specs.Coming.{EndsWith}
-use Rattle.mm_call.specs.Found.{Found, found_at}
-use Rattle.mm_call.specs.Leaving.{whole}
-use Rattle.mm_call.specs.Levels.{by_lists}
-use Rattle.mm_call.specs.Premises.{AreAsked}
-use Rattle.mm_call.specs.Refusals.{fault_of}
+use Rattle.mm_callers.specs.Below.{Contains, ◌≡◌, ◌≤◌, ℕ, Bool, false, List, [], ◌∷◌, ◌++◌, Option, None, Some, Result, Ok, Err, ◌⊎◌}
+use Rattle.mm_callers.specs.Below.{if◌then◌else◌, counted, Standing, StepFault, Batch, One, Meaning, link_message, summary_of, History}
+use Rattle.mm_callers.specs.Below.{Instance, basic, is_long, StandsFor, issued_bytes, BatchAnswer, Refusal, Memory, Long, answer_on}
+use Rattle.mm_callers.specs.Below.{EndsWith, Found, found_at, by_lists, AreAsked, fault_of}
 
 -- The batch was committed once: it follows the history's batches, or it was their last one before.
 abbrev pub IsOnce : List Batch → Batch → List Batch → Type 0
@@ -81,19 +61,20 @@ pub record Refuses (all others : List (List ℕ)) (asked : List Batch) (i : Inst
   pub left : IsLeft y.batches b stays.after.batches old new
   pub says : SaysUnlessFault (fault_of why) (finds i stays.after offer b) why
 
--- a call that is made once more after a device's fault
-abbrev pub AsksAgain : Meaning → Standing → Standing → List ℕ → List ℕ → Result Answer Refusal
-    → Type 0
-AsksAgain meaning old new offer request (Err why) =
+-- How a call ended, which may have been made once more after a device's fault.
+abbrev pub EndsOnce : List (List ℕ) → List (List ℕ) → List Batch → Instance → History → Standing
+    → Standing → List ℕ → Batch → Result BatchAnswer Refusal → Type 0
+EndsOnce all others asked i y old new offer b (Err why) =
+    Refuses all others asked i y old new offer b why
+EndsOnce all others asked i y old new offer b (Ok answer) = AnswersOnce i y new b answer
+
+abbrev pub AsksAgain : Meaning → Standing → Standing → List ℕ → List ℕ
+    → Result BatchAnswer Refusal → Type 0
+AsksAgain meaning old new offer request result =
     (key : List ℕ) (y : History) (all others : List (List ℕ)) (asked : List Batch) →
     StandsFor (basic meaning key) old y
     → AreAsked all others asked (basic meaning key) y offer (One request) →
-    Refuses all others asked (basic meaning key) y old new offer (One request) why
-AsksAgain meaning old new offer request (Ok answer) =
-    (key : List ℕ) (y : History) (all others : List (List ℕ)) (asked : List Batch) →
-    StandsFor (basic meaning key) old y
-    → AreAsked all others asked (basic meaning key) y offer (One request) →
-    AnswersOnce (basic meaning key) y new (One request) (whole answer)
+    EndsOnce all others asked (basic meaning key) y old new offer (One request) result
 
 -- What is asked besides for a second batch, on the snapshot of the first answer: the messages by
 -- which it may follow.
@@ -125,18 +106,19 @@ pub data RefusesNext (all others : List (List ℕ)) (asked : List Batch) (i : In
       → SaysUnlessFault (fault_of why) (finds i stays.after (issued_bytes i stays.after) second) why
       → RefusesNext all others asked i y old new offer first second why
 
--- two calls, the second on the snapshot of the first answer
+-- How two calls ended, the second on the snapshot of the first answer.
+abbrev pub EndsNext : List (List ℕ) → List (List ℕ) → List Batch → Instance → History → Standing
+    → Standing → List ℕ → Batch → Batch → Result BatchAnswer Refusal → Type 0
+EndsNext all others asked i y old new offer first second (Err why) =
+    RefusesNext all others asked i y old new offer first second why
+EndsNext all others asked i y old new offer first second (Ok answer) =
+    AnswersNext i y new first second answer
+
 abbrev pub AsksTwice : Meaning → Standing → Standing → List ℕ → List ℕ → List ℕ
-    → Result Answer Refusal → Type 0
-AsksTwice meaning old new offer first second (Err why) =
+    → Result BatchAnswer Refusal → Type 0
+AsksTwice meaning old new offer first second result =
     (key : List ℕ) (y : History) (all others : List (List ℕ)) (asked : List Batch) →
     StandsFor (basic meaning key) old y
     → AreAsked all others asked (basic meaning key) y offer (One first) →
     AreAskedNext all asked (basic meaning key) y (One first) (One second) →
-    RefusesNext all others asked (basic meaning key) y old new offer (One first) (One second) why
-AsksTwice meaning old new offer first second (Ok answer) =
-    (key : List ℕ) (y : History) (all others : List (List ℕ)) (asked : List Batch) →
-    StandsFor (basic meaning key) old y
-    → AreAsked all others asked (basic meaning key) y offer (One first) →
-    AreAskedNext all asked (basic meaning key) y (One first) (One second) →
-    AnswersNext (basic meaning key) y new (One first) (One second) (whole answer)
+    EndsNext all others asked (basic meaning key) y old new offer (One first) (One second) result

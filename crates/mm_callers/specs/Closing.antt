@@ -1,33 +1,11 @@
 -- What a caller of Opt gets that closes the segment between a request and the same request once
 -- more, by lists.
-use Rattle.std.specs.Prelude.{◌≡◌, ℕ, true, List, [], ◌∷◌, ◌++◌, Option, None, Some, Result, Ok, Err}
-use Rattle.mm_digest.specs.declared.variant.Variant.TheVariants.{Opt}
-use Rattle.mm_digest.specs.Messages.{extended_of, anchored_message}
-use Rattle.mm_platform.specs.declared.fault.StepFault.{StepFault}
-use Rattle.mm_platform.specs.Standing.{Item, Standing, item_values}
-use Rattle.mm_module.specs.Meaning.{Meaning}
-use Rattle.mm_module.specs.Batch.{Batch, One}
-use Rattle.mm_model.specs.Instance.{Instance}
-use Rattle.mm_model.specs.InstanceWords.{opt}
-use Rattle.mm_model.specs.History.{History, register_value_of}
-use Rattle.mm_model.specs.HistoryWords.{cell_digest_of}
-use Rattle.mm_model.specs.Life.{life_of, is_lost}
-use Rattle.mm_model.specs.Messages.{Within}
-use Rattle.mm_model.specs.Standing.{StandsFor}
-use Rattle.mm_model.specs.declared.answer.Answer.{Answer}
-use Rattle.mm_model.specs.declared.answer.BatchAnswer.{BatchAnswer}
-use Rattle.mm_model.specs.declared.refusal.Refusal.{Refusal}
-use Rattle.mm_call.specs.Asked.{counted_part}
-use Rattle.mm_call.specs.CallsOn.{CallsOn}
-use Rattle.mm_call.specs.Leaving.{whole}
-use Rattle.mm_call.specs.Premises.{AreAsked, AreShown, IsIdle}
-use Rattle.mm_call.specs.Refusals.{fault_of}
-use Rattle.mm_call.specs.Tied.{standing_items}
-use Rattle.mm_opt.specs.declared.segment.Checkpointed.{Checkpointed}
-use Rattle.mm_opt.specs.declared.segment.CheckpointRefusal.{CheckpointRefusal}
-use Rattle.mm_opt.specs.declared.segment.CheckpointRefusal.TheVariants.{Device, Blank, Cell, Kind, Lost}
-use Rattle.mm_opt.specs.ChecksOn.{ChecksOn}
+use Rattle.mm_callers.specs.Below.{◌≡◌, ℕ, true, List, [], ◌∷◌, Option, None, Some, Result, Ok, Err, extended_of, anchored_message, Opt}
+use Rattle.mm_callers.specs.Below.{Item, Standing, item_values, StepFault, Batch, One, Meaning, History, register_value_of, cell_digest_of}
+use Rattle.mm_callers.specs.Below.{Instance, life_of, is_lost, Within, Answer, BatchAnswer, Refusal, counted_part, CallsOn, whole, AreShown}
+use Rattle.mm_callers.specs.Below.{IsIdle, fault_of, ChecksOn, CheckpointRefusal, Device, Blank, Cell, Kind, Lost, Checkpointed}
 use Rattle.mm_callers.specs.Basic.{IsOnce, AnswersOnce, finds, SaysFound, Stays, Refuses}
+use Rattle.mm_callers.specs.Opt.{OnEach}
 use Rattle.mm_callers.specs.declared.closing.Replies.{Replies}
 use Rattle.mm_callers.specs.declared.closing.Halted.{Halted}
 use Rattle.mm_callers.specs.declared.closing.Halted.TheVariants.{Asking, Closing}
@@ -111,23 +89,14 @@ pub data RefusesRepeat (all others : List (List ℕ)) (asked : List Batch) (i : 
 abbrev pub RepeatsBehind : Meaning → Standing → Standing → List ℕ → List ℕ → Result Replies Halted
     → Type 0
 RepeatsBehind meaning old new offer request (Err why) =
-    (key barrier : List ℕ) (y : History) (all others : List (List ℕ)) (asked : List Batch)
-    (items more : List Item) →
-    StandsFor (opt meaning key barrier) old y → old.items ≡ Some items
-    → new.items ≡ Some (standing_items y.is_open items ++ more) →
-    AreAsked all others asked (opt meaning key barrier) y offer (One request) →
-    AreShownUnlessIdle all others (opt meaning key barrier) y offer (One request) more →
-    RefusesRepeat all others asked (opt meaning key barrier) y old new offer (One request) why
+    OnEach meaning old new offer (One request) (λ all others asked i y more.
+    AreShownUnlessIdle all others i y offer (One request) more →
+    RefusesRepeat all others asked i y old new offer (One request) why)
 RepeatsBehind meaning old new offer request (Ok replies) =
     replies.second.again ≡ true →
-    (key barrier : List ℕ) (y : History) (all others : List (List ℕ)) (asked : List Batch)
-    (items more : List Item) →
-    StandsFor (opt meaning key barrier) old y → old.items ≡ Some items
-    → new.items ≡ Some (standing_items y.is_open items ++ more) →
-    AreAsked all others asked (opt meaning key barrier) y offer (One request) →
-    AreShownUnlessIdle all others (opt meaning key barrier) y offer (One request) more →
-    RepeatsReply (opt meaning key barrier) y new (One request) (whole replies.first)
-    (whole replies.second)
+    OnEach meaning old new offer (One request) (λ all others asked i y more.
+    AreShownUnlessIdle all others i y offer (One request) more →
+    RepeatsReply i y new (One request) (whole replies.first) (whole replies.second))
 
 -- It is told as a repeat. A request that is taken as new empties the register, so what was in it
 -- when the segment was closed isn't seen at exit: it is seen on the platform when the checkpoint
@@ -141,13 +110,9 @@ pub record ClosesBetween (meaning : Meaning) (old new : Standing) (offer request
   pub said : Checkpointed
   pub checks : ChecksOn answered closed (Ok said)
   pub asks_again : CallsOn Opt meaning closed new offer (One request) (Ok (whole second))
-  pub repeats : (key barrier : List ℕ) (y : History) (all others : List (List ℕ))
-      (asked : List Batch) (items more : List Item) →
-      StandsFor (opt meaning key barrier) old y → old.items ≡ Some items
-      → closed.items ≡ Some (standing_items y.is_open items ++ more) →
-      AreAsked all others asked (opt meaning key barrier) y offer (One request) →
-      AreShownUnlessIdle all others (opt meaning key barrier) y offer (One request) more →
-      RepeatsReply (opt meaning key barrier) y new (One request) (whole first) (whole second)
+  pub repeats : OnEach meaning old closed offer (One request) (λ all others asked i y more.
+      AreShownUnlessIdle all others i y offer (One request) more →
+      RepeatsReply i y new (One request) (whole first) (whole second))
 
 abbrev pub NeverTwice : Meaning → Standing → Standing → List ℕ → List ℕ → Result Replies Halted
     → Type 0

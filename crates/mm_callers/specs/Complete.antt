@@ -1,19 +1,7 @@
 -- When a call is answered: by lists, on every course.
-use Rattle.std.specs.Prelude.{◌≡◌, ℕ, ◌+◌, ◌≤◌, Bool, true, false, List, [], ◌∷◌, ◌++◌}
-use Rattle.mm_base.specs.Limits.{last_position}
-use Rattle.mm_module.specs.Meaning.{Meaning}
-use Rattle.mm_module.specs.Batch.{Batch, size_of}
-use Rattle.mm_seal.specs.Snapshot.{Content}
-use Rattle.mm_model.specs.Instance.{Instance}
-use Rattle.mm_model.specs.InstanceWords.{basic, opt}
-use Rattle.mm_model.specs.History.{History, total_of}
-use Rattle.mm_model.specs.Life.{Live, life_of}
-use Rattle.mm_model.specs.Standing.{IsRight}
-use Rattle.mm_call.specs.Answers.{answer_on}
-use Rattle.mm_call.specs.Levels.{by_lists}
-use Rattle.mm_call.specs.Courses.{Done, Course}
-use Rattle.mm_call.specs.Called.{Answers, Called, called, seen_at}
-use Rattle.mm_call.specs.Coming.{EndsWith}
+use Rattle.mm_callers.specs.Below.{◌≡◌, ℕ, ◌+◌, ◌≤◌, Bool, true, false, List, [], ◌∷◌, ◌++◌, last_position, Content, Batch, size_of}
+use Rattle.mm_callers.specs.Below.{Meaning, History, total_of, Instance, basic, opt, Live, life_of, IsRight, answer_on, Answers, Called}
+use Rattle.mm_callers.specs.Below.{called, seen_at, EndsWith, Done, Course, by_lists}
 
 -- no step fails, and memory isn't wanting
 pub record IsSmooth (course : Course) : Type 0 where

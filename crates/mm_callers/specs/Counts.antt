@@ -1,22 +1,8 @@
 -- What callers count: their calls' steps, and the faults of devices, told and recovered.
-use Rattle.std.specs.Prelude.{◌≡◌, Bool, true, false, None, Result, Ok, Err}
-use Rattle.mm_digest.specs.declared.variant.Variant.{Variant}
-use Rattle.mm_digest.specs.declared.variant.Variant.TheVariants.{Basic, Opt}
-use Rattle.mm_platform.specs.declared.fault.StepFault.{StepFault}
-use Rattle.mm_platform.specs.Standing.{Standing}
-use Rattle.mm_module.specs.Batch.{Batch}
-use Rattle.mm_model.specs.Long.{is_long}
-use Rattle.mm_model.specs.declared.answer.Answer.{Answer}
-use Rattle.mm_model.specs.declared.answer.BatchAnswer.{BatchAnswer}
-use Rattle.mm_model.specs.declared.refusal.Refusal.{Refusal}
-use Rattle.mm_model.specs.declared.refusal.Refusal.TheVariants.{Device, Long}
-use Rattle.mm_call.specs.Leaving.{Blames, whole}
-use Rattle.mm_call.specs.Refusals.{fault_in}
-use Rattle.mm_basic.specs.Asks.{StepsBy as BasicSteps}
-use Rattle.mm_opt.specs.Asks.{StepsBy as OptSteps}
-use Rattle.mm_opt.specs.Checkpoints.{ClosingStepsBy, closing_fault_in}
-use Rattle.mm_opt.specs.declared.segment.Checkpointed.{Checkpointed}
-use Rattle.mm_opt.specs.declared.segment.CheckpointRefusal.{CheckpointRefusal}
+use Rattle.mm_callers.specs.Below.{◌≡◌, Bool, true, false, None, Result, Ok, Err, Variant, Basic, Opt, Standing, StepFault, Batch, is_long}
+use Rattle.mm_callers.specs.Below.{Answer, BatchAnswer, Refusal, Long, Blames, whole, fault_in, BasicSteps, OptSteps, ClosingStepsBy}
+use Rattle.mm_callers.specs.Below.{closing_fault_in, CheckpointRefusal, Checkpointed}
+use Rattle.mm_model.specs.declared.refusal.Refusal.TheVariants.{Device}
 use Rattle.mm_callers.specs.declared.closing.Replies.{Replies}
 use Rattle.mm_callers.specs.declared.closing.Halted.{Halted}
 use Rattle.mm_callers.specs.declared.closing.Halted.TheVariants.{Asking, Closing}

@@ -1,54 +1,34 @@
 -- What callers of Opt get, by lists alone. What is asked of what others do is asked of the
 -- register's items at exit.
-use Rattle.std.specs.Prelude.{◌≡◌, ℕ, Bool, true, false, List, [], ◌++◌, Some, Result, Ok, Err}
-use Rattle.std.specs.List.{Contains}
-use Rattle.mm_digest.specs.Messages.{extended_message}
-use Rattle.mm_platform.specs.Standing.{Item, Standing}
-use Rattle.mm_platform.specs.Told.{quiet_plan}
-use Rattle.mm_module.specs.Meaning.{Meaning}
-use Rattle.mm_module.specs.Batch.{Batch, One}
-use Rattle.mm_model.specs.Chains.{guard}
-use Rattle.mm_model.specs.Instance.{Instance}
-use Rattle.mm_model.specs.InstanceWords.{opt}
-use Rattle.mm_model.specs.History.{History, Commit, moved, register_value_of}
-use Rattle.mm_model.specs.Long.{is_long}
-use Rattle.mm_model.specs.Messages.{Within, offer_messages}
-use Rattle.mm_model.specs.Places.{issued}
-use Rattle.mm_model.specs.Standing.{StandsFor}
-use Rattle.mm_model.specs.declared.answer.Answer.{Answer}
-use Rattle.mm_model.specs.declared.answer.BatchAnswer.{BatchAnswer}
-use Rattle.mm_model.specs.declared.refusal.Refusal.{Refusal}
-use Rattle.mm_model.specs.declared.refusal.Refusal.TheVariants.{Memory}
-use Rattle.mm_call.specs.Asked.{counted_part}
-use Rattle.mm_call.specs.Leaving.{whole, whole_in, IsAnswered}
-use Rattle.mm_call.specs.Premises.{AreAsked, AreShown, IsIdle}
-use Rattle.mm_call.specs.Tied.{standing_items, foreign_items}
-use Rattle.mm_callers.specs.Basic.{AnswersOnce, AnswersNext, IsOfRun, Refuses, RefusesNext}
+use Rattle.mm_callers.specs.Below.{Contains, ◌≡◌, ℕ, Bool, true, false, List, [], ◌++◌, Some, Result, Ok, Err, extended_message, Item}
+use Rattle.mm_callers.specs.Below.{Standing, quiet_plan, Batch, One, Meaning, guard, History, Commit, moved, register_value_of, Instance}
+use Rattle.mm_callers.specs.Below.{opt, is_long, Within, offer_messages, issued, StandsFor, BatchAnswer, Refusal, Memory, counted_part}
+use Rattle.mm_callers.specs.Below.{IsAnswered, AreAsked, AreShown, IsIdle, standing_items, foreign_items}
+use Rattle.mm_callers.specs.Basic.{EndsOnce, EndsNext, IsOfRun}
 use Rattle.mm_callers.specs.Complete.{IsWelcome, batches_then}
+
+-- So it is of each history that the platform stands for, of which what a call needs is asked, and
+-- where the register's items are known at entry and at exit: these are behind those that counted.
+abbrev pub OnEach : Meaning → Standing → Standing → List ℕ → Batch
+    → (List (List ℕ) → List (List ℕ) → List Batch → Instance → History → List Item → Type 0)
+    → Type 0
+OnEach meaning old new offer b holds =
+    (key barrier : List ℕ) (y : History) (all others : List (List ℕ)) (asked : List Batch)
+    (items more : List Item) →
+    StandsFor (opt meaning key barrier) old y → old.items ≡ Some items
+    → new.items ≡ Some (standing_items y.is_open items ++ more) →
+    AreAsked all others asked (opt meaning key barrier) y offer b
+    → holds all others asked (opt meaning key barrier) y more
 
 -- One call, or one that is made again after a device's fault; inside a segment or across an
 -- opening. Where it is idle, as a repeat with no segment open, nothing is asked of the register's
 -- items.
-abbrev pub AsksOnce : Meaning → Standing → Standing → List ℕ → List ℕ → Result Answer Refusal
+abbrev pub AsksOnce : Meaning → Standing → Standing → List ℕ → List ℕ → Result BatchAnswer Refusal
     → Type 0
-AsksOnce meaning old new offer request (Err why) =
-    (key barrier : List ℕ) (y : History) (all others : List (List ℕ)) (asked : List Batch)
-    (items more : List Item) →
-    StandsFor (opt meaning key barrier) old y → old.items ≡ Some items
-    → new.items ≡ Some (standing_items y.is_open items ++ more) →
-    AreAsked all others asked (opt meaning key barrier) y offer (One request) →
-    ((IsIdle (opt meaning key barrier) y offer (One request) → ⊥)
-    → AreShown all others (opt meaning key barrier) y more) →
-    Refuses all others asked (opt meaning key barrier) y old new offer (One request) why
-AsksOnce meaning old new offer request (Ok answer) =
-    (key barrier : List ℕ) (y : History) (all others : List (List ℕ)) (asked : List Batch)
-    (items more : List Item) →
-    StandsFor (opt meaning key barrier) old y → old.items ≡ Some items
-    → new.items ≡ Some (standing_items y.is_open items ++ more) →
-    AreAsked all others asked (opt meaning key barrier) y offer (One request) →
-    ((IsIdle (opt meaning key barrier) y offer (One request) → ⊥)
-    → AreShown all others (opt meaning key barrier) y more) →
-    AnswersOnce (opt meaning key barrier) y new (One request) (whole answer)
+AsksOnce meaning old new offer request result =
+    OnEach meaning old new offer (One request) (λ all others asked i y more.
+    ((IsIdle i y offer (One request) → ⊥) → AreShown all others i y more) →
+    EndsOnce all others asked i y old new offer (One request) result)
 
 -- What is asked besides for a second batch, on the snapshot of the first answer: the messages at
 -- the place that this snapshot says, where the first batch is a repeat and where it is new.
@@ -60,26 +40,11 @@ pub record AreAskedNext (all : List (List ℕ)) (asked : List Batch) (i : Instan
 
 -- two calls, the second on the snapshot of the first answer; inside a segment or across an opening
 abbrev pub AsksTwice : Meaning → Standing → Standing → List ℕ → List ℕ → List ℕ
-    → Result Answer Refusal → Type 0
-AsksTwice meaning old new offer first second (Err why) =
-    (key barrier : List ℕ) (y : History) (all others : List (List ℕ)) (asked : List Batch)
-    (items more : List Item) →
-    StandsFor (opt meaning key barrier) old y → old.items ≡ Some items
-    → new.items ≡ Some (standing_items y.is_open items ++ more) →
-    AreAsked all others asked (opt meaning key barrier) y offer (One first) →
-    AreAskedNext all asked (opt meaning key barrier) y (One first) (One second)
-    → AreShown all others (opt meaning key barrier) y more →
-    RefusesNext all others asked (opt meaning key barrier) y old new offer (One first) (One second)
-    why
-AsksTwice meaning old new offer first second (Ok answer) =
-    (key barrier : List ℕ) (y : History) (all others : List (List ℕ)) (asked : List Batch)
-    (items more : List Item) →
-    StandsFor (opt meaning key barrier) old y → old.items ≡ Some items
-    → new.items ≡ Some (standing_items y.is_open items ++ more) →
-    AreAsked all others asked (opt meaning key barrier) y offer (One first) →
-    AreAskedNext all asked (opt meaning key barrier) y (One first) (One second)
-    → AreShown all others (opt meaning key barrier) y more →
-    AnswersNext (opt meaning key barrier) y new (One first) (One second) (whole answer)
+    → Result BatchAnswer Refusal → Type 0
+AsksTwice meaning old new offer first second result =
+    OnEach meaning old new offer (One first) (λ all others asked i y more.
+    AreAskedNext all asked i y (One first) (One second) → AreShown all others i y more →
+    EndsNext all others asked i y old new offer (One first) (One second) result)
 
 -- The answer is this one, by whether it is a repeat; or memory was wanting, and the platform stands
 -- for the history as before.
@@ -92,7 +57,7 @@ AnswersOrLacks i y new b again (Err why) = (why ≡ Memory) × StandsFor i new y
 -- A call whose steps nothing disturbs: an offer that is welcome is answered. Nothing is asked of
 -- others, as there are none; of the register only the message by which the request extends it.
 abbrev pub AnswersUndisturbed : Meaning → Standing → Standing → List ℕ → List ℕ
-    → Result Answer Refusal → Type 0
+    → Result BatchAnswer Refusal → Type 0
 AnswersUndisturbed meaning old new offer request result =
     (key barrier : List ℕ) (y : History) (all others : List (List ℕ)) (asked : List Batch)
     (again : Bool) →
@@ -101,35 +66,29 @@ AnswersUndisturbed meaning old new offer request result =
     Contains all (extended_message (register_value_of (opt meaning key barrier) (counted_part y))
     (guard barrier (One request))) →
     IsWelcome (opt meaning key barrier) y offer (One request) again →
-    AnswersOrLacks (opt meaning key barrier) y new (One request) again (whole_in result)
+    AnswersOrLacks (opt meaning key barrier) y new (One request) again result
 
 -- So it is over a platform that is on and tells a plan by which nothing fails and nobody else
 -- extends the register.
-abbrev pub AsksByQuietPlan : Meaning → Standing → Standing → List ℕ → List ℕ → Result Answer Refusal
-    → Type 0
+abbrev pub AsksByQuietPlan : Meaning → Standing → Standing → List ℕ → List ℕ
+    → Result BatchAnswer Refusal → Type 0
 AsksByQuietPlan meaning old new offer request result =
     old.is_on ≡ true → old.plan ≡ Some quiet_plan
     → AnswersUndisturbed meaning old new offer request result
 
 -- So it is over a platform in memory that is on.
-abbrev pub AsksInMemory : Meaning → Standing → Standing → List ℕ → List ℕ → Result Answer Refusal
-    → Type 0
+abbrev pub AsksInMemory : Meaning → Standing → Standing → List ℕ → List ℕ
+    → Result BatchAnswer Refusal → Type 0
 AsksInMemory meaning old new offer request result =
     old.is_on ≡ true → AnswersUndisturbed meaning old new offer request result
 
 -- Over any platform: a call on a welcome offer is answered, unless memory was wanting, or a
 -- device's step failed, which was counted; where nobody else extended the register inside a
 -- segment. Of a repeat with no segment open nothing is asked of the register's items.
-abbrev pub AsksWelcome : Meaning → Standing → Standing → List ℕ → List ℕ → Result Answer Refusal
-    → Type 0
+abbrev pub AsksWelcome : Meaning → Standing → Standing → List ℕ → List ℕ
+    → Result BatchAnswer Refusal → Type 0
 AsksWelcome meaning old new offer request result =
-    (key barrier : List ℕ) (y : History) (all others : List (List ℕ)) (asked : List Batch)
-    (items more : List Item) (again : Bool) →
-    is_long (One request) ≡ false → StandsFor (opt meaning key barrier) old y →
-    old.items ≡ Some items → new.items ≡ Some (standing_items y.is_open items ++ more)
-    → (y.is_open ≡ true → foreign_items more ≡ []) →
-    AreAsked all others asked (opt meaning key barrier) y offer (One request) →
-    (((y.is_open ≡ false) × (again ≡ true) → ⊥)
-    → AreShown all others (opt meaning key barrier) y more) →
-    IsWelcome (opt meaning key barrier) y offer (One request) again
-    → IsAnswered (whole_in result) old new
+    OnEach meaning old new offer (One request) (λ all others asked i y more. (again : Bool) →
+    is_long (One request) ≡ false → (y.is_open ≡ true → foreign_items more ≡ [])
+    → (((y.is_open ≡ false) × (again ≡ true) → ⊥) → AreShown all others i y more)
+    → IsWelcome i y offer (One request) again → IsAnswered result old new)

@@ -23,7 +23,7 @@ pub fn ask_again<M: Module, P: Platform>(
     request: &[u8],
 ) -> Result<Answer, Refusal>
     ensures again { AsksAgain (M.meaning «module».now) (P.standing platform.old)
-        (P.standing platform.new) offer.now request.now result }
+        (P.standing platform.new) offer.now request.now (whole_in result) }
     ensures counts { CountsAgain Basic (One request.now) (P.standing platform.old)
         (P.standing platform.new) (whole_in result) }
 {
@@ -44,7 +44,7 @@ pub fn ask_twice<M: Module, P: Platform>(
     second: &[u8],
 ) -> Result<Answer, Refusal>
     ensures twice { AsksTwice (M.meaning «module».now) (P.standing platform.old)
-        (P.standing platform.new) offer.now first.now second.now result }
+        (P.standing platform.new) offer.now first.now second.now (whole_in result) }
     ensures counts { CountsNext Basic (One first.now) (One second.now) (P.standing platform.old)
         (P.standing platform.new) (whole_in result) }
 {

@@ -21,11 +21,11 @@ pub fn ask_once<M: Module, P: Platform>(
     request: &[u8],
 ) -> Result<Answer, Refusal>
     ensures once { AsksOnce (M.meaning «module».now) (P.standing platform.old)
-        (P.standing platform.new) offer.now request.now result }
+        (P.standing platform.new) offer.now request.now (whole_in result) }
     ensures welcome { AsksWelcome (M.meaning «module».now) (P.standing platform.old)
-        (P.standing platform.new) offer.now request.now result }
+        (P.standing platform.new) offer.now request.now (whole_in result) }
     ensures complete { AsksByQuietPlan (M.meaning «module».now) (P.standing platform.old)
-        (P.standing platform.new) offer.now request.now result }
+        (P.standing platform.new) offer.now request.now (whole_in result) }
     ensures counts { CountsCall Opt (One request.now) (P.standing platform.old)
         (P.standing platform.new) (whole_in result) }
 {
@@ -42,7 +42,7 @@ pub fn ask_in_memory<M: Module>(
     request: &[u8],
 ) -> Result<Answer, Refusal>
     ensures complete { AsksInMemory (M.meaning «module».now) platform.old platform.new offer.now
-        request.now result }
+        request.now (whole_in result) }
     ensures counts { CountsCall Opt (One request.now) platform.old platform.new (whole_in result) }
 {
     platform.end_plan();
@@ -60,9 +60,9 @@ pub fn ask_after_fault<M: Module, P: Platform>(
     request: &[u8],
 ) -> Result<Answer, Refusal>
     ensures once { AsksOnce (M.meaning «module».now) (P.standing platform.old)
-        (P.standing platform.new) offer.now request.now result }
+        (P.standing platform.new) offer.now request.now (whole_in result) }
     ensures complete { AsksByQuietPlan (M.meaning «module».now) (P.standing platform.old)
-        (P.standing platform.new) offer.now request.now result }
+        (P.standing platform.new) offer.now request.now (whole_in result) }
     ensures counts { CountsAgain Opt (One request.now) (P.standing platform.old)
         (P.standing platform.new) (whole_in result) }
 {
@@ -83,7 +83,7 @@ pub fn ask_twice<M: Module, P: Platform>(
     second: &[u8],
 ) -> Result<Answer, Refusal>
     ensures twice { AsksTwice (M.meaning «module».now) (P.standing platform.old)
-        (P.standing platform.new) offer.now first.now second.now result }
+        (P.standing platform.new) offer.now first.now second.now (whole_in result) }
     ensures counts { CountsNext Opt (One first.now) (One second.now) (P.standing platform.old)
         (P.standing platform.new) (whole_in result) }
 {

@@ -1,8 +1,9 @@
-use Rattle.mm_callers.proofs.Completing.{basic_complete, opt_complete}
+use Rattle.mm_callers.proofs.Below.{basic, opt}
+use Rattle.mm_callers.proofs.Completing.{complete}
 use Rattle.mm_callers.proofs.laws.calls_are_complete.Goals as goal
 
 pub returns-clause-basic : goal.returns-clause-basic
-returns-clause-basic c = basic_complete
+returns-clause-basic c meaning key = complete (basic meaning key)
 
 pub returns-clause-opt : goal.returns-clause-opt
-returns-clause-opt c = opt_complete
+returns-clause-opt c meaning key barrier = complete (opt meaning key barrier)
