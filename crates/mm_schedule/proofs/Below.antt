@@ -26,15 +26,15 @@ pub use Rattle.mm_modules.specs.Modules.{any_is_found, any_is_listed, meaning_of
 pub use Rattle.mm_modules.proofs.Above.{name_spelled}
 pub use Rattle.mm_schedule.specs.Events.{Ask, Checkpoint, Event, Extend, meddles_of, Power}
 pub use Rattle.mm_schedule.specs.Grammar.{meddle_at, meddles_at}
-pub use Rattle.mm_schedule.specs.Machine.{AsksNone, Runs, Steps, StepsOn}
+pub use Rattle.mm_schedule.specs.Machine.{AsksNone, IsTold, Runs, Steps, StepsOn}
 pub use Rattle.mm_schedule.specs.Replies.{lines_of_reply, told_lines}
 pub use Rattle.mm_schedule.specs.RepliesWords.{told_line}
 pub use Rattle.mm_schedule.specs.Spelling.{asks, SpellsBytes, SpellsEvent, SpellsMeddles, SpellsNumber, SpellsOffer, SpellsPrefix}
 pub use Rattle.mm_schedule.specs.Spelling.{SpellsStep, SpellsStop, SpellsValue}
-pub use Rattle.mm_schedule.specs.Tellings.{tellings_from, tellings_in, tellings_of, TellsWhatWasSaid}
+pub use Rattle.mm_schedule.specs.Tellings.{tellings_in, tellings_of, tellings_to, TellsWhatWasSaid}
 pub use Rattle.mm_schedule.specs.Texts.{behind}
 pub use Rattle.mm_schedule.specs.Words.{◌>>=◌, after_prefix, bytes_at, word_at}
 pub use Rattle.mm_schedule.specs.declared.event.Offer.{Offer}
 pub use Rattle.mm_schedule.specs.declared.event.Offer.TheVariants.{Flip, Last, Number, Raw}
 pub use Rattle.mm_schedule.specs.declared.reply.Reply.{Reply}
-pub use Rattle.mm_schedule.specs.declared.reply.Reply.TheVariants.{Checkpointed, Closed, Extended, Kept, No, Nothing, Told}
+pub use Rattle.mm_schedule.specs.declared.reply.Reply.TheVariants.{Kept, Told}

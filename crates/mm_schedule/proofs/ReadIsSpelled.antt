@@ -146,21 +146,20 @@ module _ (line : List ℕ) (read : Stop × List ℕ) where
       let at = stop_step-spelled line a.0 a.1 in let word = word-front a.0.1 b.0.0 b.0.1 b.1 in
       let Goal : Stop × List ℕ → Type 0 = λ (r : Stop × List ℕ). (text : List ℕ) × SpellsStop r.0 (codes "fail " ++ text)
       × (line ≡ text ++ r.1) in
+      let parts : (said : List ℕ) → b.0.0 ≡ said → line ≡ (at.step ++ 32 ∷ (said ++ 32 ∷ [])) ++ b.0.1 = λ said same.
+      at.parts ∙ ap (λ (back : List ℕ). at.step ++ 32 ∷ back) (word ∙ ap (λ (first : List ℕ). first ++ 32 ∷ b.0.1) same)
+      ∙ simp append_assoc in
       elim (chosen (bytes_eq b.0.0 (codes "done")) (Some (Fail a.0.0 true, b.0.1)) _ read b.2) [
         | inl w ↦ subst Goal (some-same _ read w.1) (
           at.step ++ codes " done ",
           (at.step, at.stepped, simp append_assoc),
-          at.parts
-              ∙ ap (λ (back : List ℕ). at.step ++ 32 ∷ back) (word ∙ ap (λ (first : List ℕ). first ++ 32 ∷ b.0.1) (text_is _ _ w.0))
-              ∙ simp append_assoc,
+          parts (codes "done") (text_is _ _ w.0),
         )
         | inr w ↦ elim (chosen (bytes_eq b.0.0 (codes "undone")) (Some (Fail a.0.0 false, b.0.1)) None read w.1) [
           | inl v ↦ subst Goal (some-same _ read v.1) (
             at.step ++ codes " undone ",
             (at.step, at.stepped, simp append_assoc),
-            at.parts
-                ∙ ap (λ (back : List ℕ). at.step ++ 32 ∷ back) (word ∙ ap (λ (first : List ℕ). first ++ 32 ∷ b.0.1) (text_is _ _ v.0))
-                ∙ simp append_assoc,
+            parts (codes "undone") (text_is _ _ v.0),
           )
           | inr v ↦ cc
         ]

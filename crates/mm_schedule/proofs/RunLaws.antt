@@ -1,32 +1,30 @@
 -- The machine's runs: what they fix, and how they go on.
-use Rattle.mm_schedule.proofs.Below.{◌≡◌, ℕ, true, false, List, [], ◌∷◌, ◌++◌, sym, ◌∙◌, subst, Batch, Meaning, Reply, Told, No, Kept}
-use Rattle.mm_schedule.proofs.Below.{Nothing, Closed, Checkpointed, Extended, Runs, Steps, StepsOn, AsksNone}
-use Rattle.mm_schedule.specs.declared.reply.Reply.TheVariants.{Power}
+use Rattle.mm_schedule.proofs.Below.{◌≡◌, ℕ, true, false, List, [], ◌∷◌, ◌++◌, sym, ◌∙◌, subst, Meaning, Reply, Told, Kept}
+use Rattle.mm_schedule.proofs.Below.{Runs, Steps, append-nil, members_of}
 use Rattle.mm_schedule.specs.Events as events
 
-asked-fixed : (meaning : Meaning) (requests : List (List ℕ)) (batch : Batch) (reply : Reply) (a b : List (List ℕ))
-    → StepsOn meaning requests batch reply a → StepsOn meaning requests batch reply b → a ≡ b
-asked-fixed meaning requests batch (Told false before outputs) a b one two = one.grown ∙ sym two.grown
-asked-fixed meaning requests batch (Told true before outputs) a b one two = one.2 ∙ sym two.2
-asked-fixed meaning requests batch (Kept way position) a b one two = one.0 ∙ sym two.0
-asked-fixed meaning requests batch _ a b one two = one ∙ sym two
+-- what a step adds to the requests
+abbrev pub added : events.Event → Reply → List (List ℕ)
+added (events.Ask meddles stop offer batch) (Told false position outputs) = members_of batch
+added (events.Ask meddles stop offer batch) (Kept way position) = members_of batch
+added _ _ = []
 
-stays-fixed : (requests : List (List ℕ)) (reply : Reply) (a b : List (List ℕ)) → AsksNone requests reply a → AsksNone requests reply b
-    → a ≡ b
-stays-fixed requests (Told again before outputs) a b one two = absurd one
-stays-fixed requests (Kept way position) a b one two = absurd one
-stays-fixed requests _ a b one two = one ∙ sym two
-
-pub step-fixed : (meaning : Meaning) (requests : List (List ℕ)) (event : events.Event) (reply : Reply) (a b : List (List ℕ))
-    → Steps meaning requests event reply a → Steps meaning requests event reply b → a ≡ b
-step-fixed meaning requests (events.Ask meddles stop offer batch) reply a b one two = asked-fixed meaning requests batch reply a b one two
-step-fixed meaning requests _ reply a b one two = stays-fixed requests reply a b one two
+pub step-grows : (meaning : Meaning) (requests : List (List ℕ)) (event : events.Event) (reply : Reply) (after : List (List ℕ))
+    → Steps meaning requests event reply after → after ≡ requests ++ added event reply
+step-grows meaning requests (events.Ask meddles stop offer batch) (Told false position outputs) after s = s.grown
+step-grows meaning requests (events.Ask meddles stop offer batch) (Told true position outputs) after s = s.2 ∙ sym (append-nil requests)
+step-grows meaning requests (events.Ask meddles stop offer batch) (Kept way position) after s = s.0
+step-grows meaning requests _ (Told again position outputs) after s = absurd s
+step-grows meaning requests _ (Kept way position) after s = absurd s
+step-grows meaning requests (events.Ask meddles stop offer batch) _ after s = s ∙ sym (append-nil requests)
+step-grows meaning requests _ _ after s = s ∙ sym (append-nil requests)
 
 pub run-fixed : (meaning : Meaning) (requests a b : List (List ℕ)) (es : List events.Event) (replies : List Reply)
     → Runs meaning requests es replies a → Runs meaning requests es replies b → a ≡ b
 run-fixed meaning requests a b [] [] one two = one ∙ sym two
 run-fixed meaning requests a b (event ∷ es) (reply ∷ replies) one two =
-    let same : one.0 ≡ two.0 = step-fixed meaning requests event reply one.0 two.0 one.1 two.1 in
+    let same : one.0 ≡ two.0 = step-grows meaning requests event reply one.0 one.1
+    ∙ sym (step-grows meaning requests event reply two.0 two.1) in
     run-fixed meaning two.0 a b es replies (subst (λ (between : List (List ℕ)). Runs meaning between es replies a) same one.2) two.2
 run-fixed meaning requests a b _ _ one two = absurd one
 

@@ -70,11 +70,8 @@ letters (c ∷ word) all =
     let rest : list_all (λ (b : ℕ). not (b == 32)) word ≡ true = grind (arith, nat_tests) in
     (λ space. let clash : false ≡ true = rw space at first in cc, letters word rest)
 
-dash-word : NoSpace (codes "-")
-dash-word = letters (codes "-") refl
-
 bytes-spaceless : (bytes word : List ℕ) → SpellsBytes bytes word → NoSpace word
-bytes-spaceless bytes word (inl none) = subst NoSpace (sym none.1) dash-word
+bytes-spaceless bytes word (inl none) = subst NoSpace (sym none.1) (letters (codes "-") refl)
 bytes-spaceless bytes word (inr some) = hex-spaceless word (decode_of-ok word bytes some.1).1
 
 step-again : (step : ℕ) (word : List ℕ) → SpellsStep step word → step_at word ≡ Some step
@@ -117,21 +114,6 @@ after-again-meddle : (rest : List ℕ) → after_prefix (codes "meddle ") (codes
 unfolding after_prefix
 after-again-meddle rest = refl
 
-done-word : NoSpace (codes "done")
-done-word = letters (codes "done") refl
-
-undone-word : NoSpace (codes "undone")
-undone-word = letters (codes "undone") refl
-
-last-word : NoSpace (codes "last")
-last-word = letters (codes "last") refl
-
-flip-word : NoSpace (codes "flip")
-flip-word = letters (codes "flip") refl
-
-raw-word : NoSpace (codes "raw")
-raw-word = letters (codes "raw") refl
-
 meddle-again : (least : ℕ) (meddle : Meddle) (step value rest : List ℕ) → least ≤ meddle.step → SpellsStep meddle.step step
     → SpellsValue meddle.value.bytes value → meddle_at least (step ++ 32 ∷ (value ++ 32 ∷ rest)) ≡ Some (meddle, rest)
 unfolding meddle_at
@@ -170,38 +152,33 @@ record IsNoStop (call : List ℕ) : Type 0 where
   dropped : after_prefix (codes "drop ") call ≡ None
   failed : after_prefix (codes "fail ") call ≡ None
 
-module _ (at : ℕ) (step : List ℕ) where
-  stop_step-again : (rest : List ℕ) → SpellsStep at step → stop_step_at (step ++ 32 ∷ rest) ≡ Some (at, rest)
-  unfolding stop_step_at
-  stop_step-again rest stepped = rw (word-again step rest (step-spaceless at step stepped), step-again at step stepped) refl
-
-  done-again : (rest : List ℕ) → SpellsStep at step → failing_at (step ++ 32 ∷ (codes "done" ++ 32 ∷ rest)) ≡ Some (Fail at true, rest)
-  unfolding failing_at
-  done-again rest stepped = rw (stop_step-again (codes "done" ++ 32 ∷ rest) stepped, word-again (codes "done") rest done-word) refl
-
-  undone-again : (rest : List ℕ) → SpellsStep at step → failing_at (step ++ 32 ∷ (codes "undone" ++ 32 ∷ rest)) ≡ Some (Fail at false, rest)
-  unfolding failing_at
-  undone-again rest stepped = rw (stop_step-again (codes "undone" ++ 32 ∷ rest) stepped, word-again (codes "undone") rest undone-word) refl
+stop_step-again : (at : ℕ) (step rest : List ℕ) → SpellsStep at step → stop_step_at (step ++ 32 ∷ rest) ≡ Some (at, rest)
+unfolding stop_step_at
+stop_step-again at step rest stepped = rw (word-again step rest (step-spaceless at step stepped), step-again at step stepped) refl
 
 stop-again : (stop : Stop) (text call : List ℕ) → SpellsStop stop text → IsNoStop call → stop_at (text ++ call) ≡ Some (stop, call)
-unfolding stop_at after_prefix
+unfolding stop_at after_prefix failing_at
 stop-again Quiet text call spelled over = rw (spelled, over.cut, over.dropped, over.failed) refl
 stop-again (Cut at) text call spelled over =
-    let words : text ++ call ≡ codes "cut " ++ (spelled.0 ++ 32 ∷ call) = ap (λ (front : List ℕ). front ++ call) spelled.2
-    ∙ simp append_assoc in
-    rw (words, stop_step-again at spelled.0 call spelled.1) refl
+    rw (spelled.2, append_assoc spelled.0 (32 ∷ []) call, stop_step-again at spelled.0 call spelled.1) refl
 stop-again (Drop at) text call spelled over =
-    let words : text ++ call ≡ codes "drop " ++ (spelled.0 ++ 32 ∷ call) = ap (λ (front : List ℕ). front ++ call) spelled.2
-    ∙ simp append_assoc in
-    rw (words, stop_step-again at spelled.0 call spelled.1) refl
+    rw (spelled.2, append_assoc spelled.0 (32 ∷ []) call, stop_step-again at spelled.0 call spelled.1) refl
 stop-again (Fail at true) text call spelled over =
-    let words : text ++ call ≡ codes "fail " ++ (spelled.0 ++ 32 ∷ (codes "done" ++ 32 ∷ call)) =
-    ap (λ (front : List ℕ). front ++ call) spelled.2 ∙ simp append_assoc in
-    rw (words, done-again at spelled.0 call spelled.1) refl
+    let done = codes "done" in let rest = done ++ 32 ∷ call in
+    rw (
+      spelled.2,
+      append_assoc spelled.0 (codes " done ") call,
+      stop_step-again at spelled.0 rest spelled.1,
+      word-again done call (letters done refl),
+    ) refl
 stop-again (Fail at false) text call spelled over =
-    let words : text ++ call ≡ codes "fail " ++ (spelled.0 ++ 32 ∷ (codes "undone" ++ 32 ∷ call)) =
-    ap (λ (front : List ℕ). front ++ call) spelled.2 ∙ simp append_assoc in
-    rw (words, undone-again at spelled.0 call spelled.1) refl
+    let undone = codes "undone" in let rest = undone ++ 32 ∷ call in
+    rw (
+      spelled.2,
+      append_assoc spelled.0 (codes " undone ") call,
+      stop_step-again at spelled.0 rest spelled.1,
+      word-again undone call (letters undone refl),
+    ) refl
 
 -- a number is none of the words that begin other offers
 not_word : (word other : List ℕ) (number : ℕ) (same : Bool) → bytes_eq word other ≡ same → number_at word ≡ Some number
@@ -209,17 +186,9 @@ not_word : (word other : List ℕ) (number : ℕ) (same : Bool) → bytes_eq wor
 not_word word other number true same is none = let clash : Some number ≡ None = sym is ∙ ap number_at (text_is word other same) ∙ none in cc
 not_word word other number false same is none = refl
 
-no-number-last : number_at (codes "last") ≡ None
+no-numbers : (number_at (codes "last") ≡ None) × (number_at (codes "flip") ≡ None) × (number_at (codes "raw") ≡ None)
 unfolding number_at decimal_number
-no-number-last = refl
-
-no-number-flip : number_at (codes "flip") ≡ None
-unfolding number_at decimal_number
-no-number-flip = refl
-
-no-number-raw : number_at (codes "raw") ≡ None
-unfolding number_at decimal_number
-no-number-raw = refl
+no-numbers = (refl, refl, refl)
 
 flip-again : (number byte : ℕ) (first second rest : List ℕ) → SpellsNumber number first → SpellsNumber byte second
     → flip_at (first ++ 32 ∷ (second ++ 32 ∷ rest)) ≡ Some (Flip number byte, rest)
@@ -244,32 +213,24 @@ offer-again (Number number) text rest spelled =
     rw (
       word-again text rest (number-spaceless number text spelled),
       not_word text (codes "last") number (bytes_eq text (codes "last"))
-          refl read no-number-last,
-      not_word text (codes "flip") number (bytes_eq text (codes "flip")) refl read no-number-flip,
+          refl read no-numbers.0,
+      not_word text (codes "flip") number (bytes_eq text (codes "flip")) refl read no-numbers.1,
       not_word text
-          (codes "raw") number (bytes_eq text (codes "raw")) refl read no-number-raw,
+          (codes "raw") number (bytes_eq text (codes "raw")) refl read no-numbers.2,
       read,
     ) refl
-offer-again Last text rest spelled = rw (spelled, word-again (codes "last") rest last-word) refl
+offer-again Last text rest spelled = rw (spelled, word-again (codes "last") rest (letters (codes "last") refl)) refl
 offer-again (Flip number byte) text rest spelled =
-    let words : text ++ 32 ∷ rest ≡ codes "flip" ++ 32 ∷ (spelled.0 ++ 32 ∷ (spelled.1 ++ 32 ∷ rest)) =
-    ap (λ (front : List ℕ). front ++ 32 ∷ rest) spelled.4 ∙ simp append_assoc in
     rw (
-      words,
-      word-again (codes "flip") (spelled.0 ++ 32 ∷ (spelled.1 ++ 32 ∷ rest)) flip-word,
+      spelled.4,
+      append_assoc spelled.0 (32 ∷ spelled.1) (32 ∷ rest),
+      word-again (codes "flip") (spelled.0 ++ 32 ∷ (spelled.1 ++ 32 ∷ rest)) (letters (codes "flip") refl),
       flip-again number byte spelled.0 spelled.1
           rest spelled.2 spelled.3,
     ) refl
 offer-again (Raw bytes) text rest spelled =
-    let words : text ++ 32 ∷ rest ≡ codes "raw" ++ 32 ∷ (spelled.0 ++ 32 ∷ rest) =
-    ap (λ (front : List ℕ). front ++ 32 ∷ rest) spelled.2 ∙ simp append_assoc in
-    rw (words, word-again (codes "raw") (spelled.0 ++ 32 ∷ rest) raw-word, raw-again bytes spelled.0 rest spelled.1) refl
-
-asked-again : (meddles : List Meddle) (stop : Stop) (offer : Offer) (from : List ℕ) (batch : Batch) → SpellsOffer offer from
-    → call_at meddles stop (asks batch from) ≡ Some (Ask meddles stop offer batch)
-unfolding call_at after_prefix
-asked-again meddles stop offer from (One request) spelled = rw (offer-again offer from request spelled) refl
-asked-again meddles stop offer from (Many text) spelled = rw (offer-again offer from text spelled) refl
+    rw (spelled.2, word-again (codes "raw") (spelled.0 ++ 32 ∷ rest) (letters (codes "raw") refl), raw-again bytes spelled.0 rest spelled.1)
+    refl
 
 -- a line that may begin `power` or `extend`
 abbrev opens : List ℕ → Bool
@@ -327,19 +288,13 @@ module _ (meddles : List Meddle) where
 
   ask-call : (stop : Stop) (offer : Offer) (from : List ℕ) (batch : Batch) → SpellsOffer offer from
       → IsCall stop (asks batch from) (Ask meddles stop offer batch)
-  unfolding after_prefix
-  ask-call stop offer from (One request) spelled = record {
-    shut = refl;
-    none = refl;
-    last = record { cut = refl; dropped = refl; failed = refl };
-    read = asked-again meddles stop offer from (One request) spelled;
-  }
-  ask-call stop offer from (Many text) spelled = record {
-    shut = refl;
-    none = refl;
-    last = record { cut = refl; dropped = refl; failed = refl };
-    read = asked-again meddles stop offer from (Many text) spelled;
-  }
+  unfolding after_prefix call_at
+  ask-call stop offer from (One request) spelled =
+      let read = offer-again offer from request spelled in
+      record { shut = refl; none = refl; last = record { cut = refl; dropped = refl; failed = refl }; read = rw read refl }
+  ask-call stop offer from (Many text) spelled =
+      let read = offer-again offer from text spelled in
+      record { shut = refl; none = refl; last = record { cut = refl; dropped = refl; failed = refl }; read = rw read refl }
 
   checkpoint-call : (stop : Stop) → IsCall stop (codes "checkpoint") (Checkpoint meddles stop)
   unfolding after_prefix call_at

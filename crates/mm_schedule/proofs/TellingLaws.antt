@@ -1,13 +1,14 @@
 -- Replies tell what was said: a run only grows its requests, and a batch's outputs stand behind those before it.
+use Rattle.mm_schedule.proofs.Below.{◌-◌, arith, subst, length-append, Some, IsTold}
 use Rattle.mm_schedule.proofs.Below.{◌≡◌, ℕ, ◌+◌, true, false, List, [], ◌∷◌, ◌++◌, length, drop, refl, sym, ◌∙◌, ap, append_assoc}
 use Rattle.mm_schedule.proofs.Below.{append-nil, slice_get, AllByRecursion, Batch, members_of, Meaning, state_after, outputs_from, Reply}
-use Rattle.mm_schedule.proofs.Below.{Told, No, Kept, Nothing, Closed, Checkpointed, Extended, Runs, Steps, StepsOn, AsksNone, tellings_from}
+use Rattle.mm_schedule.proofs.Below.{Told, Runs, Steps, tellings_to}
 use Rattle.mm_schedule.proofs.Below.{tellings_of, tellings_in, TellsWhatWasSaid}
 use Rattle.mm_module.specs.RunLaws.{outputs_from-append, length-outputs_from}
 use Rattle.mm_listing.specs.Tellings.{Telling, WasSaid}
 use Rattle.mm_listing.specs.TellingLaws.{drop-next, slice_get-drop}
-use Rattle.mm_schedule.specs.declared.reply.Reply.TheVariants.{Power}
 use Rattle.mm_schedule.specs.Events as events
+use Rattle.mm_schedule.proofs.RunLaws.{added, step-grows}
 
 drop-length : (front rest : List (List ℕ)) → drop (length front) (front ++ rest) ≡ rest
 drop-length [] rest = refl
@@ -18,25 +19,18 @@ all-append P [] ys one two = two
 all-append P (x ∷ xs) ys one two = (one.0, all-append P xs ys one.1 two)
 
 -- outputs that stand behind so many of all outputs are told as they were said
-tellings-inside : (all outputs rest : List (List ℕ)) (before : ℕ) → drop before all ≡ outputs ++ rest
-    → AllByRecursion (WasSaid all) (tellings_from before outputs)
-tellings-inside all [] rest before is = tt
-tellings-inside all (output ∷ outputs) rest before is = (
-  slice_get-drop all before ∙ ap (λ (l : List (List ℕ)). slice_get l 0) is,
-  tellings-inside all outputs rest (before + 1) (drop-next all before ∙ ap (λ (l : List (List ℕ)). drop 1 l) is),
-)
+tellings-inside : (all outputs rest : List (List ℕ)) (before position : ℕ) → position ≡ before + length outputs
+    → drop before all ≡ outputs ++ rest → AllByRecursion (WasSaid all) (tellings_to position outputs)
+tellings-inside all [] rest before position ends is = tt
+tellings-inside all (output ∷ outputs) rest before position ends is =
+    let here : position - length (output ∷ outputs) ≡ before = omega arith in (
+      subst (λ n. slice_get all n ≡ Some output) (sym here) (slice_get-drop all before ∙ ap (λ (l : List (List ℕ)). slice_get l 0) is),
+      tellings-inside all outputs rest (before + 1) position (omega arith) (drop-next all before ∙ ap (λ (l : List (List ℕ)). drop 1 l) is),
+    )
 
 -- how a list grew
 abbrev Grows : List (List ℕ) → List (List ℕ) → Type 0
 Grows requests after = (more : List (List ℕ)) × (after ≡ requests ++ more)
-
-same-grows : (requests after : List (List ℕ)) → after ≡ requests → Grows requests after
-same-grows requests after is = ([], is ∙ sym (append-nil requests))
-
-stays-grows : (requests : List (List ℕ)) (reply : Reply) (after : List (List ℕ)) → AsksNone requests reply after → Grows requests after
-stays-grows requests (Told again before outputs) after s = absurd s
-stays-grows requests (Kept way position) after s = absurd s
-stays-grows requests _ after s = same-grows requests after s
 
 module _ (meaning : Meaning) where
   -- the outputs of all requests, from those of the first ones, a batch and more
@@ -49,60 +43,46 @@ module _ (meaning : Meaning) where
       ∙ append_assoc (outputs_from meaning meaning.first earlier) (outputs_from meaning (state_after meaning earlier) members)
       (outputs_from meaning (state_after meaning (earlier ++ members)) more)
 
-  batch-said : (earlier : List (List ℕ)) (batch : Batch) (before : ℕ) (outputs more after : List (List ℕ)) → before ≡ length earlier
-      → outputs ≡ outputs_from meaning (state_after meaning earlier) (members_of batch) → after ≡ (earlier ++ members_of batch) ++ more
-      → AllByRecursion (WasSaid (outputs_from meaning meaning.first after)) (tellings_from before outputs)
-  batch-said earlier batch before outputs more after place said is =
+  batch-said : (earlier : List (List ℕ)) (batch : Batch) (position : ℕ) (outputs between more after : List (List ℕ))
+      → IsTold meaning earlier batch position outputs between → after ≡ between ++ more
+      → AllByRecursion (WasSaid (outputs_from meaning meaning.first after)) (tellings_to position outputs)
+  batch-said earlier batch position outputs between more after told is =
       let members = members_of batch in let front = outputs_from meaning meaning.first earlier in
       let rest = outputs_from meaning (state_after meaning (earlier ++ members)) more in
       let all : outputs_from meaning meaning.first after ≡ front ++ (outputs ++ rest) = ap (λ (l : List (List ℕ)). outputs_from meaning
-      meaning.first l) is ∙ outputs-parts earlier members more ∙ ap (λ (l : List (List ℕ)). front ++ (l ++ rest)) (sym said) in
-      let at : before ≡ length front = place ∙ sym (length-outputs_from meaning meaning.first earlier) in
-      tellings-inside (outputs_from meaning meaning.first after) outputs rest before (ap (λ (l : List (List ℕ)). drop before l) all
-      ∙ ap (λ n. drop n (front ++ (outputs ++ rest))) at ∙ drop-length front (outputs ++ rest))
-
-  asked-grows : (requests : List (List ℕ)) (batch : Batch) (reply : Reply) (after : List (List ℕ))
-      → StepsOn meaning requests batch reply after → Grows requests after
-  asked-grows requests batch (Told false before outputs) after s = (members_of batch, s.grown)
-  asked-grows requests batch (Told true before outputs) after s = same-grows requests after s.2
-  asked-grows requests batch (Kept way position) after s = (members_of batch, s.0)
-  asked-grows requests batch _ after s = same-grows requests after s
-
-  step-grows : (requests : List (List ℕ)) (event : events.Event) (reply : Reply) (after : List (List ℕ))
-      → Steps meaning requests event reply after → Grows requests after
-  step-grows requests (events.Ask meddles stop offer batch) reply after s = asked-grows requests batch reply after s
-  step-grows requests _ reply after s = stays-grows requests reply after s
+      meaning.first l) (is ∙ ap (λ (l : List (List ℕ)). l ++ more) told.grown) ∙ outputs-parts earlier members more
+      ∙ ap (λ (l : List (List ℕ)). front ++ (l ++ rest)) (sym told.said) in
+      let at : position ≡ length front + length outputs = omega (
+        arith,
+        told.counted,
+        ap (λ (l : List (List ℕ)). length l) told.grown,
+        length-append earlier members,
+        ap (λ (l : List (List ℕ)). length l) told.said,
+        length-outputs_from meaning (state_after meaning earlier) members,
+        length-outputs_from meaning meaning.first earlier,
+      ) in
+      tellings-inside (outputs_from meaning meaning.first after) outputs rest (length front) position at
+      (ap (λ (l : List (List ℕ)). drop (length front) l) all ∙ drop-length front (outputs ++ rest))
 
   run-grows : (requests : List (List ℕ)) (es : List events.Event) (replies : List Reply) (after : List (List ℕ))
       → Runs meaning requests es replies after → Grows requests after
-  run-grows requests [] [] after r = same-grows requests after r
+  run-grows requests [] [] after r = ([], r ∙ sym (append-nil requests))
   run-grows requests (event ∷ es) (reply ∷ replies) after r =
-      let one = step-grows requests event reply r.0 r.1 in let two = run-grows r.0 es replies after r.2 in
-      (one.0 ++ two.0, two.1 ∙ ap (λ (l : List (List ℕ)). l ++ two.0) one.1 ∙ append_assoc requests one.0 two.0)
+      let one = step-grows meaning requests event reply r.0 r.1 in let two = run-grows r.0 es replies after r.2 in
+      let more = added event reply in
+      (more ++ two.0, two.1 ∙ ap (λ (l : List (List ℕ)). l ++ two.0) one ∙ append_assoc requests more two.0)
   run-grows requests _ _ after r = absurd r
 
-  -- what a step tells was said, also once more requests were run
-  asked-tells : (requests : List (List ℕ)) (batch : Batch) (reply : Reply) (between more after : List (List ℕ))
-      → StepsOn meaning requests batch reply between → after ≡ between ++ more
-      → AllByRecursion (WasSaid (outputs_from meaning meaning.first after)) (tellings_of reply)
-  asked-tells requests batch (Told false before outputs) between more after s is =
-      batch-said requests batch before outputs more after s.position s.said (is ∙ ap (λ (l : List (List ℕ)). l ++ more) s.grown)
-  asked-tells requests batch (Told true before outputs) between more after s is =
-      batch-said s.0 batch before outputs more after s.1.position s.1.said (is ∙ ap (λ (l : List (List ℕ)). l ++ more) (s.2 ∙ s.1.grown))
-  asked-tells requests batch _ between more after s is = tt
-
-stays-tells : (outputs requests : List (List ℕ)) (reply : Reply) (after : List (List ℕ)) → AsksNone requests reply after
-    → AllByRecursion (WasSaid outputs) (tellings_of reply)
-stays-tells outputs requests (Told again before said) after s = absurd s
-stays-tells outputs requests _ after s = tt
-
+-- what a step tells was said, also once more requests were run
 step-tells : (meaning : Meaning) (requests : List (List ℕ)) (event : events.Event) (reply : Reply) (between more after : List (List ℕ))
     → Steps meaning requests event reply between → after ≡ between ++ more
     → AllByRecursion (WasSaid (outputs_from meaning meaning.first after)) (tellings_of reply)
-step-tells meaning requests (events.Ask meddles stop offer batch) reply between more after s is =
-    asked-tells meaning requests batch reply between more after s is
-step-tells meaning requests _ reply between more after s is =
-    stays-tells (outputs_from meaning meaning.first after) requests reply between s
+step-tells meaning requests (events.Ask meddles stop offer batch) (Told false position outputs) between more after s is =
+    batch-said meaning requests batch position outputs between more after s is
+step-tells meaning requests (events.Ask meddles stop offer batch) (Told true position outputs) between more after s is =
+    batch-said meaning s.0 batch position outputs requests more after s.1 (is ∙ ap (λ (l : List (List ℕ)). l ++ more) s.2)
+step-tells meaning requests _ (Told again position said) between more after s is = absurd s
+step-tells meaning requests _ _ between more after s is = tt
 
 run-tells : (meaning : Meaning) (requests : List (List ℕ)) (es : List events.Event) (replies : List Reply) (after : List (List ℕ))
     → Runs meaning requests es replies after → AllByRecursion (WasSaid (outputs_from meaning meaning.first after)) (tellings_in replies)
