@@ -1,7 +1,7 @@
 -- What an event leaves of a replay.
 use Rattle.mm_replay.proofs.Below.{◌≡◌, ◌∙◌, ◌+◌, ◌-◌, ◌^◌, ◌≤◌, ◌<◌, ℕ, List, [], ◌∷◌, ◌++◌, length, Some, None, inl, inr, refl, sym, ap}
-use Rattle.mm_replay.proofs.Below.{subst, arith, sum_by, slice_get, slice_get_past, Header, Meddle, Stop, reading_steps, course_of}
-use Rattle.mm_replay.proofs.Below.{count_none, Event, Ask, Checkpoint, Power, Extend, Reply, Digests, Held, instance_of, within_bits}
+use Rattle.mm_replay.proofs.Below.{subst, arith, sum_by, slice_get, slice_get_past, Meddle, Stop, reading_steps, course_of}
+use Rattle.mm_replay.proofs.Below.{count_none, Event, Ask, Power, Reply, Digests, Held, instance_of, within_bits}
 use Rattle.mm_replay.proofs.Below.{having_read, Follows, Wants, Issues, Running, after_event}
 use Rattle.std.proofs.lemmas.List.Sums.{sum_by-append}
 use Rattle.std.proofs.Math.Nat.{min-eq_left}
@@ -14,9 +14,6 @@ use Rattle.mm_replay.proofs.Issuing.{outcome_issues}
 -- a count of few requests is no greatest one
 within-small : (d : Digests) → d.count ≤ 2 ^ 64 - 1 → within_bits d ≡ d
 within-small d h = ap (λ (n : ℕ). record d { count = n }) (min-eq_left h)
-
-abbrev stands : Header → Digests → List (List ℕ) → ℕ → ℕ → Running
-stands m d issued events read = record { header = m; digests = d; issued = issued; events = events; read = read }
 
 -- what an event leaves
 pub record Leaves (old new : Held) (event : Event) : Type 0 where
@@ -62,9 +59,8 @@ read_stays old new meddles stop e =
 
 pub stays : (event : Event) (old new : Held) → Wants event old new → Stays old new
 stays (Ask meddles stop offer b) old new w = elim w [ inl e ↦ same_stays old new e | inr e ↦ read_stays old new meddles stop e ]
-stays (Checkpoint meddles stop) old new e = same_stays old new e
 stays Power old new e = absurd e
-stays (Extend value) old new e = same_stays old new e
+stays event old new e = same_stays old new e
 
 -- what stands after it
 pub stands_after : (old new : Held) (event : Event) (line : List ℕ) (events read : ℕ) → Leaves old new event
@@ -77,10 +73,13 @@ pub stands_after : (old new : Held) (event : Event) (line : List ℕ) (events re
     } in
     let before : Running = record { header = old.header; digests = old.digests; issued = old.issued; events = events; read = read } in
     now ≡ after_event before line event)
-stands_after old new event line events read l =
-    ap (λ (m : Header). stands m new.digests new.issued (events + 1) (read + length line)) l.header
-    ∙ ap (λ (d : Digests). stands old.header d new.issued (events + 1) (read + length line)) l.digests
-    ∙ ap (λ (s : List (List ℕ)). stands old.header (held.outcome_in old event).state s (events + 1) (read + length line)) l.issued
+stands_after old new event line events read l = λ j. record {
+  header = l.header j;
+  digests = l.digests j;
+  issued = l.issued j;
+  events = events + 1;
+  read = read + length line;
+}
 
 -- the bytes of the snapshots
 last_of : (xs : List (List ℕ)) (x : List ℕ) → slice_get (xs ++ x ∷ []) (length xs) ≡ Some x

@@ -12,26 +12,25 @@ pub use Rattle.std.proofs.lemmas.List.{append-nil, ext_get_or, set_split}
 pub use Rattle.std.proofs.lemmas.List.Elements.{All-cons, All-nil, Contains-append_cases, Contains-append_left, Contains-push_cases}
 pub use Rattle.sha2.specs.Sha256.{add_state, digest_bytes, first_words, initial_hash_256, next_word, padded_message, rounds, sha256}
 pub use Rattle.mm_base.specs.Limits.{last_position, longest_request, most_members}
-pub use Rattle.mm_digest.specs.LengthLaws.{length-start_of, length-zero_bytes}
-pub use Rattle.mm_digest.specs.Messages.{anchored_message, anchored_of, extended_message, start_message, start_of, zero_bytes}
+pub use Rattle.mm_digest.specs.Messages.{anchored_message, anchored_of, extended_message, start_message, start_of}
 pub use Rattle.mm_digest.specs.declared.variant.Variant.{Variant}
 pub use Rattle.mm_digest.specs.declared.variant.Variant.TheVariants.{Basic, Opt}
 pub use Rattle.mm_seal.specs.Parts.{parts_of}
-pub use Rattle.mm_seal.specs.SealLaws.{sealed_once, sealed_parts}
-pub use Rattle.mm_seal.specs.Snapshot.{Content, IsContent, IsPlace, offered_of, Snapshot, tag_of, variant_of}
+pub use Rattle.mm_seal.specs.SealLaws.{sealed_parts}
+pub use Rattle.mm_seal.specs.Snapshot.{Content, IsContent, offered_of, Snapshot, tag_of, variant_of}
 pub use Rattle.mm_seal.specs.declared.snapshot.PartsFault.{PartsFault}
 pub use Rattle.mm_seal.specs.declared.snapshot.PartsFault.TheVariants.{Form, Kind}
 pub use Rattle.mm_seal.specs.declared.snapshot.Place.TheVariants.{Opt as InOpt}
 pub use Rattle.mm_platform.specs.declared.fault.StepFault.{StepFault}
 pub use Rattle.mm_platform.specs.declared.plan.Meddle.{Meddle}
 pub use Rattle.mm_platform.specs.declared.plan.Stop.{Stop}
-pub use Rattle.mm_platform.specs.declared.plan.Stop.TheVariants.{Cut, Drop, Fail, Quiet}
+pub use Rattle.mm_platform.specs.declared.plan.Stop.TheVariants.{Cut, Quiet}
 pub use Rattle.mm_module.specs.Batch.{Batch, batch_text, members_of, normal, One, size_of}
 pub use Rattle.mm_module.specs.BatchLaws.{members_of-normal}
 pub use Rattle.mm_module.specs.CounterLaws.{counter_is_lawful}
 pub use Rattle.mm_module.specs.CounterTable.{counter}
 pub use Rattle.mm_module.specs.Meaning.{IsLawful, Meaning, outputs_from, state_after}
-pub use Rattle.mm_module.specs.RunLaws.{length-outputs_from, state_after-is_spelled}
+pub use Rattle.mm_module.specs.RunLaws.{state_after-is_spelled}
 pub use Rattle.mm_model.specs.Chains.{anchor_of, guard, guard_message, link_message}
 pub use Rattle.mm_model.specs.EndLaws.{first_outside, first_sound}
 pub use Rattle.mm_model.specs.FormLaws.{reads_zero}
@@ -43,27 +42,26 @@ pub use Rattle.mm_model.specs.Judge.{is_last, judge, judged}
 pub use Rattle.mm_model.specs.Life.{has_value, is_lost, Life, life_of, Live}
 pub use Rattle.mm_model.specs.ListLaws.{each_append, each_left, each_right, each_self}
 pub use Rattle.mm_model.specs.Long.{is_long}
-pub use Rattle.mm_model.specs.Messages.{AreNoGuards, form_messages, history_messages, IsClear, offer_messages, point_messages, Within}
+pub use Rattle.mm_model.specs.Messages.{AreNoGuards, form_messages, history_messages, IsClear, offer_messages, Within}
 pub use Rattle.mm_model.specs.Moves.{committing, Digests, made}
 pub use Rattle.mm_model.specs.Places.{anchor_after, issued, issued as content_issued, issued_place, Names}
 pub use Rattle.mm_model.specs.PlacesWords.{digest_of}
 pub use Rattle.mm_model.specs.Sound.{IsSound}
-pub use Rattle.mm_model.specs.Standing.{IsGenuine, IsRight, issued_bytes}
+pub use Rattle.mm_model.specs.Standing.{IsGenuine, issued_bytes}
 pub use Rattle.mm_model.specs.Steps.{ask_steps, Changes, checkpoint_steps, Reads, Step, Writes}
 pub use Rattle.mm_model.specs.declared.refusal.Refusal.{Refusal}
-pub use Rattle.mm_model.specs.declared.verdict.Verdict.{Verdict}
-pub use Rattle.mm_model.specs.declared.verdict.Verdict.TheVariants.{Again, Fresh, Lost, Stale}
+pub use Rattle.mm_model.specs.declared.verdict.Verdict.TheVariants.{Fresh}
 pub use Rattle.mm_model.proofs.Above.{basic_issued, basic_names, opt_issued, opt_names, outside_moved, sound_moved}
 pub use Rattle.mm_call.specs.AlongLaws.{checkpoint_none, closed_kept, opt_closes}
 pub use Rattle.mm_call.specs.Asked.{counted_moves, counted_part, foreign_in, from_reset, IsPlain, IsWithin, moves_messages, right_messages}
-pub use Rattle.mm_call.specs.Called.{Answers, Breaks, Called, called, ended_by, Ending, reading_steps, Refuses, seen_at}
+pub use Rattle.mm_call.specs.Called.{Answers, Breaks, Called, called, ended_by, Ending, reading_steps, seen_at}
 pub use Rattle.mm_call.specs.CalledWords.{called_with, kept_at}
-pub use Rattle.mm_call.specs.Checkpoints.{Checkpointed, checkpointed, Closes, Closing, HasNone, IsSameCheckpoint, LostPower, NoSegment}
+pub use Rattle.mm_call.specs.Checkpoints.{Checkpointed, checkpointed, Closing, IsSameCheckpoint}
 pub use Rattle.mm_call.specs.Checkpoints.{Stops}
 pub use Rattle.mm_call.specs.CheckpointsWords.{checkpointed_with}
 pub use Rattle.mm_call.specs.Courses.{after_step, closes, commits, Course, Done, End, Fails, Fate, seen_in, step_moves, walk, Walked}
 pub use Rattle.mm_call.specs.Found.{Found, found_at, found_by_verdict, right_content}
-pub use Rattle.mm_call.specs.FoundWords.{content_if_right, found_unless_wanting, found_with, is_fresh}
+pub use Rattle.mm_call.specs.FoundWords.{found_unless_wanting, found_with, is_fresh}
 pub use Rattle.mm_call.specs.Laws.{IsSameCall}
 pub use Rattle.mm_call.specs.Levels.{all_made, by_digests, by_lists, Level}
 pub use Rattle.mm_call.specs.MoveLaws.{agrees-moved, anchor-nil, committed_in, more_batches, plain-moved, same_batches, summary-nil}
@@ -72,7 +70,7 @@ pub use Rattle.mm_call.specs.OrderWords.{weighed}
 pub use Rattle.mm_call.specs.WalkLaws.{asks, batch, call_commits, Commits, commits-none, commits_batch, foreign_in-append, foreign_in-first}
 pub use Rattle.mm_call.specs.WalkLaws.{foreign_in-foreign, from_reset-foreign, messages-made, nothing, seen_none, taking, taking_is}
 pub use Rattle.mm_call.proofs.Above.{admitted_tells, again_of, AllMay, AreOwn, ask_may, bare, basic_checkpoint_same, basic_same, before}
-pub use Rattle.mm_call.proofs.Above.{before_last, each_at, first_in, foreign_fine, foreign_may, found_with_tells, fresh_of, holds_moved}
+pub use Rattle.mm_call.proofs.Above.{each_at, first_in, foreign_fine, foreign_may, found_with_tells, fresh_of, holds_moved}
 pub use Rattle.mm_call.proofs.Above.{holds_open, listed_bare, live_found, may_of, not_lost, opt_agrees_moved, opt_calls_agree_by_lists}
 pub use Rattle.mm_call.proofs.Above.{opt_checkpoints_agree_by_lists, own_asked, own_checked, plain_outside, power_brings, power_fine}
 pub use Rattle.mm_call.proofs.Above.{power_may, read_moves, Ready, ready_closing, requests-push, reset, reset_messages, said_last, Shape}
@@ -86,6 +84,7 @@ pub use Rattle.mm_schedule.specs.declared.reply.Way.{Way}
 pub use Rattle.mm_run.specs.Folds.{after_stop, asked, closed_outcome, closing_reply, closing_then, course_of, event_outcome, expected}
 pub use Rattle.mm_run.specs.Folds.{first_digests, first_issued, followed, Followed, followed_by, moves_then, Outcome, outcome_by}
 pub use Rattle.mm_run.specs.Folds.{replies_by_digests, reply_of, snapshots_of, uncalled, way_of}
+pub use Rattle.mm_run.specs.FoldsWords.{broken_reply}
 pub use Rattle.mm_run.specs.HeldWords.{world_barrier, world_key}
 pub use Rattle.mm_run.specs.Laws.{after_two_segments, AgreesThroughout, BasicIsExpected, continued, ExpectedRuns, IsIssued}
 pub use Rattle.mm_run.specs.Laws.{IssuedNamePositions, one_ask, OptIsExpected, two_segments}

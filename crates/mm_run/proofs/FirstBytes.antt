@@ -11,7 +11,7 @@ unfoldable pub first_byte : (List ℕ → List ℕ) → List ℕ → ℕ
 first_byte hash m = slice_index (hash m) 0
 
 -- no number of the list is this one
-abbrev pub apart_from : ℕ → List ℕ → Bool
+abbrev apart_from : ℕ → List ℕ → Bool
 apart_from a [] = true
 apart_from a (b ∷ bs) = if nat_eq b a then false else apart_from a bs
 
@@ -81,7 +81,7 @@ zero_first : slice_index zero_bytes 0 ≡ 0
 unfolding zero_bytes
 zero_first = refl
 
-pub clear_by_first : (all : List (List ℕ)) → all_apart (map (first_byte sha256) all) ≡ true → IsClear all
+clear_by_first : (all : List (List ℕ)) → all_apart (map (first_byte sha256) all) ≡ true → IsClear all
 unfolding first_byte
 clear_by_first all e = record {
   apart = λ m n c d same. same_by_first sha256 all e m n c d (ap (λ v. slice_index v 0) same);
@@ -132,3 +132,9 @@ digest m = digest_bytes (blocks initial_hash_256 (padded_message m) (length (pad
 pub digest_is : (m : List ℕ) → digest m ≡ sha256 m
 unfolding sha256
 digest_is m = ap (λ h. digest_bytes h 8) (blocks_are initial_hash_256 (padded_message m) (length (padded_message m) / 64))
+
+-- messages that a hash makes are clear, as their digests show
+pub clear_by_digests : (messages : (List ℕ → List ℕ) → List (List ℕ)) → all_apart (map (first_byte digest) (messages digest)) ≡ true
+    → IsClear (messages sha256)
+clear_by_digests messages e = clear_by_first (messages sha256)
+    (ap (λ (hash : List ℕ → List ℕ). all_apart (map (first_byte hash) (messages hash))) (λ j. λ m. sym (digest_is m) j) ∙ e)

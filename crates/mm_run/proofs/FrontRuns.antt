@@ -3,7 +3,9 @@ use Rattle.mm_run.proofs.Below.{◌∙◌, ℕ, List, [], ◌∷◌, ◌++◌, a
 use Rattle.mm_run.proofs.Below.{start_message, Meaning, Instance, basic, opt, History, first_history, requests_of, IsClear, Event, Runs}
 use Rattle.mm_run.proofs.Below.{Reply, event_outcome, expected, replies_by_digests, first_digests, first_issued, AgreesThroughout}
 use Rattle.mm_run.proofs.Below.{AreGenuine, IsClearRun, IsGenuineRun, batches_of, foreign_of, run_messages}
+use Rattle.mm_run.proofs.Below.{Followed, messages_from, each_left, each_self}
 use Rattle.std.proofs.lemmas.Grind.{flat_map-append}
+use Rattle.mm_run.proofs.FirstBytes.{clear_within}
 use Rattle.mm_run.specs.OneRun.{FrontsAreOneRun}
 use Rattle.mm_run.proofs.BasicRuns.{basic_expected}
 use Rattle.mm_run.proofs.GoingOn.{goes_on, messages-append}
@@ -35,13 +37,6 @@ basic_fronts_run meaning key events = fronts_run (basic meaning key) (λ es. bas
 pub opt_fronts_run : (meaning : Meaning) (key barrier : List ℕ) (events : List Event) → FrontsAreOneRun (opt meaning key barrier) events
 opt_fronts_run meaning key barrier events = fronts_run (opt meaning key barrier) (λ es. opt_expected meaning key barrier es) events
 
--- what is asked of more messages holds of some
-clear_front : (some more : List (List ℕ)) → IsClear (some ++ more) → IsClear some
-clear_front some more c = record {
-  apart = λ m n here there same. c.apart m n (Contains-append_left some more m here) (Contains-append_left some more n there) same;
-  nonzero = λ m here. c.nonzero m (Contains-append_left some more m here);
-}
-
 first_of_all : {A : Type 0} (items : Event → List A) (front later : List Event) (x : A) → Contains (flat_map items front) x
     → Contains (flat_map items (front ++ later)) x
 first_of_all {A} items front later x here = subst (λ (all : List A). Contains all x) (sym (flat_map-append items front later))
@@ -49,11 +44,15 @@ first_of_all {A} items front later x here = subst (λ (all : List A). Contains a
 
 -- The premises of a run are those of its first parts.
 pub clear_fronts : (i : Instance) (front later : List Event) → IsClearRun i (front ++ later) → IsClearRun i front
-clear_fronts i front later c = record {
-  clear = clear_front (run_messages i front) _ (subst IsClear (ap (λ (ms : List (List ℕ)). start_message i.variant i.meaning.id ∷ ms)
-      (messages-append i front later first_history (first_issued i))) c.clear);
-  apart = λ is d b value batch. c.apart is d b (first_of_all foreign_of front later d value) (first_of_all batches_of front later b batch);
-}
+clear_fronts i front later c =
+    let it : Followed History = expected i front in
+    let some : List (List ℕ) = run_messages i front in let more : List (List ℕ) = messages_from i it.state it.issued later in record {
+      clear = clear_within (some ++ more) some (subst IsClear (ap (λ (ms : List (List ℕ)). start_message i.variant i.meaning.id ∷ ms)
+          (messages-append i front later first_history (first_issued i))) c.clear)
+          (each_left (Contains (some ++ more)) some more (each_self [] (some ++ more)));
+      apart = λ is d b value batch. c.apart is d b (first_of_all foreign_of front later d value) (first_of_all batches_of front later b
+          batch);
+    }
 
 genuine_from : (i : Instance) (front later : List Event) (y : History) (issued : List (List ℕ)) → AreGenuine i y issued (front ++ later)
     → AreGenuine i y issued front

@@ -4,8 +4,9 @@ mod Flipping
 mod GoingOn
 mod FrontRuns
 mod Following
-pub mod BasicRuns
-pub mod OptRuns
+mod BasicRuns
+mod OptRuns
+mod EachWay
 mod Running
 mod Counting
 mod Naming

@@ -1,17 +1,19 @@
 -- An event keeps what names a position of the history, whichever snapshot or ticket says it; and each snapshot that was issued
 -- names one.
-use Rattle.mm_run.proofs.Below.{ℕ, ◌≡◌, Bool, true, false, List, [], ◌∷◌, Option, None, Some, Result, Ok, Err, refl, sym, ap, ◌∙◌, subst}
-use Rattle.mm_run.proofs.Below.{if◌then◌else◌, AllByRecursion, Variant, Basic, Opt, Meaning, Batch, normal, StepFault, Meddle, Stop, Cut}
+use Rattle.mm_run.proofs.Below.{ℕ, ◌≡◌, Bool, true, false, List, [], ◌∷◌, Option, None, Some, Result, Ok, Err, refl, sym, ap, ◌∙◌}
+use Rattle.mm_run.proofs.Below.{AllByRecursion, Variant, Basic, Opt, Meaning, Batch, normal, StepFault, Stop, Cut}
 use Rattle.mm_run.proofs.Below.{Instance, basic, opt, History, Move, Foreign, Close, PowerMove, moved, first_history, joined, life_of}
-use Rattle.mm_run.proofs.Below.{has_value, is_lost, IsSound, is_long, Names, content_issued, Content, Step, Reads, Writes, ask_steps}
+use Rattle.mm_run.proofs.Below.{has_value, is_lost, IsSound, Names, content_issued, Content, Step, Reads, Writes, ask_steps}
 use Rattle.mm_run.proofs.Below.{checkpoint_steps, Refusal, first_sound, sound_moved, basic_names, basic_issued, opt_names, opt_issued}
 use Rattle.mm_run.proofs.Below.{by_lists, all_made, Found, found_at, found_unless_wanting, is_fresh, Fate, Course, Walked, walk, closes}
-use Rattle.mm_run.proofs.Below.{Ending, Answers, Refuses, Breaks, Called, seen_at, ended_by, called, Closing, Stops, Checkpointed}
+use Rattle.mm_run.proofs.Below.{Ending, Breaks, Called, seen_at, ended_by, called, Closing, Stops, Checkpointed}
 use Rattle.mm_run.proofs.Below.{checkpointed, foreign_in, not_lost, live_found, foreign_fine, power_fine, ready_closing, before, sight}
-use Rattle.mm_run.proofs.Below.{sight_is, Ready, walk_fine, own_checked, asks, unlacked, opt_closes, closed_kept, AllMay, may_of, first_in}
-use Rattle.mm_run.proofs.Below.{ask_may, each_self, each_append, Event, Ask, Checkpoint, Power, Extend, offered_bytes, Outcome, after_stop}
-use Rattle.mm_run.proofs.Below.{course_of, snapshots_of, moves_then, outcome_by, asked, closing_then, event_outcome, Followed, followed}
+use Rattle.mm_run.proofs.Below.{sight_is, Ready, walk_fine, asks, unlacked, opt_closes, closed_kept, AllMay, may_of, first_in}
+use Rattle.mm_run.proofs.Below.{ask_may, each_self, each_append, Event, Outcome, after_stop}
+use Rattle.mm_run.proofs.Below.{course_of, snapshots_of, moves_then, outcome_by, closing_then, event_outcome, Followed, followed}
 use Rattle.mm_run.proofs.Below.{first_issued, IsIssued, IssuedNamePositions, IsSoundIn, KeepsNames, EventsKeepNames}
+use Rattle.mm_run.proofs.Below.{AreOwn}
+use Rattle.mm_run.proofs.EachWay.{in_any_way, then_all, closing_all}
 
 -- from one history to another, whichever snapshots were issued
 pub record Lasts (i : Instance) (y z : History) : Type 0 where
@@ -40,7 +42,7 @@ pub record Keeping (i : Instance) : Type 0 where
       → Lasts i y (all_made (by_lists i) y moves)
   pub call_may : (y : History) (c : Course) (bytes : List ℕ) (b : Batch) → MayIn i.variant i y (called i (by_lists i) y c bytes b).moves
   pub check_may : (y : History) (c : Course) → MayIn i.variant i y (checkpointed i (by_lists i) y c).moves
-  pub stop_may : (stop : Stop) (y : History) → MayIn i.variant i y (after_stop stop)
+  pub power_may : (y : History) → MayIn i.variant i y (PowerMove ∷ [])
   pub foreign_may : (y : History) (value : List ℕ) → MayIn i.variant i y (Foreign value ∷ [])
   pub answers : (y : History) (c : Course) (bytes : List ℕ) (b : Batch) → IsSoundIn i.variant y
       → (let o = called i (by_lists i) y c bytes b in AllByRecursion (IsIssued i o.state) (snapshots_of o.ending))
@@ -48,15 +50,6 @@ pub record Keeping (i : Instance) : Type 0 where
 module _ (i : Instance) (v : Keeping i) where
   keeps_same : (y z : History) (xs : List (List ℕ)) → Lasts i y z → KeepsNames i y z xs xs
   keeps_same y z xs l = record { sound = l.sound; names = l.names; issued = λ h. each_issued i y z l.names xs h }
-
-  then_may : (stop : Stop) (ending : Ending) (y : History) → MayIn i.variant i y (moves_then stop ending)
-  then_may stop (Breaks fault kept) y = v.stop_may stop y
-  then_may stop (Answers answer) y = none_may i.variant i y
-  then_may stop (Refuses why) y = none_may i.variant i y
-
-  closing_may : (stop : Stop) (closing : Closing) (y : History) → MayIn i.variant i y (closing_then stop closing)
-  closing_may stop (Stops fault closed) y = v.stop_may stop y
-  closing_may stop closing y = none_may i.variant i y
 
   -- a call, or a checkpoint, and what follows where it is broken off
   lasts_then : (y : History) (moves rest : List Move) → IsSoundIn i.variant y → MayIn i.variant i y moves
@@ -74,37 +67,30 @@ module _ (i : Instance) (v : Keeping i) where
       let rest : List Move = moves_then stop o.ending in
       let z : History = all_made (by_lists i) o.state rest in
       let a = v.made o.moves y sound (v.call_may y c bytes b) in
-      let e = v.made rest o.state a.sound (then_may stop o.ending o.state) in
-      let l : Lasts i y z = lasts_then y o.moves rest sound (v.call_may y c bytes b) (then_may stop o.ending o.state) in
+      let e = v.made rest o.state a.sound (then_all (MayIn i.variant i o.state) (none_may i.variant i o.state)
+      (v.power_may o.state) stop o.ending) in
+      let names : (content : Content) → Names i y content → Names i z content = λ content named. e.names content (a.names content named) in
       record {
-        sound = l.sound;
-        names = l.names;
-        issued = λ h. each_append (IsIssued i z) issued (snapshots_of o.ending) (each_issued i y z l.names issued h)
+        sound = e.sound;
+        names = names;
+        issued = λ h. each_append (IsIssued i z) issued (snapshots_of o.ending) (each_issued i y z names issued h)
             (each_issued i o.state z e.names (snapshots_of o.ending) (v.answers y c bytes b sound));
       }
 
-  if_keeps : (y : History) (issued : List (List ℕ)) (long : Bool) (x z : Outcome History) → KeepsNames i y x.state issued x.issued
-      → KeepsNames i y z.state issued z.issued
-      → (let o : Outcome History = (if long then x else z) in KeepsNames i y o.state issued o.issued)
-  if_keeps y issued true x z a b = a
-  if_keeps y issued false x z a b = b
-
-  asked_keeps : (y : History) (issued : List (List ℕ)) (meddles : List Meddle) (stop : Stop) (bytes : Option (List ℕ)) (b : Batch)
-      → IsSoundIn i.variant y
-      → (let o : Outcome History = asked i (by_lists i) y issued meddles stop bytes b in KeepsNames i y o.state issued o.issued)
-  asked_keeps y issued meddles stop None b sound = keeps_same y y issued (record { sound = sound; names = λ content named. named })
-  asked_keeps y issued meddles stop (Some bytes) b sound =
-      if_keeps y issued (is_long b) _ _ (keeps_same y y issued (record { sound = sound; names = λ content named. named }))
-      (call_keeps y issued stop (course_of stop meddles) bytes (normal b) sound)
-
   pub event_keeps : EventsKeepNames i
-  event_keeps y issued (Ask meddles stop offer b) sound = asked_keeps y issued meddles stop (offered_bytes issued offer) b sound
-  event_keeps y issued (Checkpoint meddles stop) sound =
-      let c : Course = course_of stop meddles in
-      let o : Checkpointed History = checkpointed i (by_lists i) y c in
-      keeps_same y _ issued (lasts_then y o.moves (closing_then stop o.ending) sound (v.check_may y c) (closing_may stop o.ending o.state))
-  event_keeps y issued Power sound = keeps_same y _ issued (v.made (PowerMove ∷ []) y sound (v.stop_may (Cut 0) y))
-  event_keeps y issued (Extend value) sound = keeps_same y _ issued (v.made (Foreign value ∷ []) y sound (v.foreign_may y value))
+  event_keeps y issued event sound =
+      let still : KeepsNames i y y issued issued = keeps_same y y issued (record { sound = sound; names = λ content named. named }) in
+      in_any_way i (by_lists i) y issued (λ o. KeepsNames i y o.state issued o.issued) (record {
+        refused = λ why. still;
+        call = λ stop meddles bytes b short. call_keeps y issued stop (course_of stop meddles) bytes (normal b) sound;
+        check = λ stop meddles.
+            let c : Course = course_of stop meddles in let o : Checkpointed History = checkpointed i (by_lists i) y c in
+            keeps_same y _ issued
+            (lasts_then y o.moves (closing_then stop o.ending) sound (v.check_may y c)
+            (closing_all (MayIn i.variant i o.state) (none_may i.variant i o.state) (v.power_may o.state) stop o.ending));
+        power = keeps_same y _ issued (v.made (PowerMove ∷ []) y sound (v.power_may y));
+        extend = λ value. keeps_same y _ issued (v.made (Foreign value ∷ []) y sound (v.foreign_may y value));
+      }) event
 
   follow_named : (events : List Event) (y : History) (issued : List (List ℕ)) → IsSoundIn i.variant y → AllByRecursion (IsIssued i y) issued
       → (let f : Followed History = followed i (by_lists i) y issued events in AllByRecursion (IsIssued i f.state) f.issued)
@@ -121,8 +107,7 @@ module _ (i : Instance) (v : Keeping i) where
 ended_issues : (i : Instance) (seen end : History) (b : Batch) (moves : List Move) (broken : Option StepFault)
     (found : Result Found Refusal) → ((f : Found) → found ≡ Ok f → Names i end (content_issued i end))
     → AllByRecursion (IsIssued i end) (snapshots_of (ended_by (by_lists i) seen end b found moves broken))
-ended_issues i seen end b moves (Some fault) (Err why) named = tt
-ended_issues i seen end b moves (Some fault) (Ok f) named = tt
+ended_issues i seen end b moves (Some fault) found named = tt
 ended_issues i seen end b moves None (Err why) named = tt
 ended_issues i seen end b moves None (Ok f) named = (record { content = content_issued i end; sealed = refl; names = named f refl }, tt)
 
@@ -133,45 +118,33 @@ abbrev pub last_steps : Bool → List Step
 last_steps true = []
 last_steps false = Writes Close ∷ []
 
-ready_last : (meaning : Meaning) (key barrier : List ℕ) (others : List (List ℕ)) (fates : ℕ → Fate) (z : History) (lost : Bool)
-    → z.is_open ≡ true → is_lost (life_of Opt z) ≡ lost → Ready [] others [] (opt meaning key barrier) fates 3 (last_steps lost) z
-ready_last meaning key barrier others fates z true e is = tt
-ready_last meaning key barrier others fates z false e is = ready_closing meaning key barrier [] others [] fates z e (not_lost z is e)
+-- the moves of own steps that are ready may be made
+walk_may : (meaning : Meaning) (key barrier : List ℕ) (fates : ℕ → Fate) (steps : List Step) (y : History) → AreOwn steps
+    → ((others : List (List ℕ)) → Ready [] others [] (opt meaning key barrier) fates 1 steps y)
+    → AllMay (opt meaning key barrier) y (walk fates 1 steps).moves
+walk_may meaning key barrier fates steps y own ready =
+    let others : List (List ℕ) = foreign_in (walk fates 1 steps).moves in
+    may_of [] others [] (opt meaning key barrier) (walk fates 1 steps).moves y
+    (walk_fine meaning key barrier [] others [] fates steps 1 y own (each_self [] others) (ready others))
 
-last_is : (lost : Bool) → checkpoint_steps Opt true lost ≡ Reads ∷ Reads ∷ last_steps lost
-last_is true = refl
-last_is false = refl
-
--- the moves of a checkpoint may be made
-pub checkpoint_may : (meaning : Meaning) (key barrier : List ℕ) (y : History) (c : Course) (flag lost : Bool) → y.is_open ≡ flag
+-- those of a checkpoint
+checkpoint_may : (meaning : Meaning) (key barrier : List ℕ) (y : History) (c : Course) (flag lost : Bool) → y.is_open ≡ flag
     → is_lost (life_of Opt (sight y c)) ≡ lost → AllMay (opt meaning key barrier) y (walk c.fates 1 (checkpoint_steps Opt flag lost)).moves
-checkpoint_may meaning key barrier y c false lost e is =
-    let i = opt meaning key barrier in
-    let others : List (List ℕ) = foreign_in (walk c.fates 1 (Reads ∷ [])).moves in
-    may_of [] others [] i (walk c.fates 1 (Reads ∷ [])).moves y
-    (walk_fine meaning key barrier [] others [] c.fates (Reads ∷ []) 1 y tt (each_self [] others) (λ o. tt))
-checkpoint_may meaning key barrier y c true lost e is =
-    let i = opt meaning key barrier in
-    let others : List (List ℕ) = foreign_in (walk c.fates 1 (checkpoint_steps Opt true lost)).moves in
-    let third = ready_last meaning key barrier others c.fates (sight y c) lost e is in
-    let ready : Ready [] others [] i c.fates 1 (Reads ∷ Reads ∷ last_steps lost) y = λ o p. third in
-    may_of [] others [] i (walk c.fates 1 (checkpoint_steps Opt true lost)).moves y
-    (walk_fine meaning key barrier [] others [] c.fates (checkpoint_steps Opt true lost) 1 y (own_checked true lost) (each_self [] others)
-    (subst (λ s. Ready [] others [] i c.fates 1 s y) (sym (last_is lost)) ready))
+checkpoint_may meaning key barrier y c false lost e is = walk_may meaning key barrier c.fates (Reads ∷ []) y tt (λ others o. tt)
+checkpoint_may meaning key barrier y c true true e is = walk_may meaning key barrier c.fates (Reads ∷ Reads ∷ []) y tt (λ others o p. tt)
+checkpoint_may meaning key barrier y c true false e is =
+    walk_may meaning key barrier c.fates (Reads ∷ Reads ∷ Writes Close ∷ []) y (refl, tt)
+    (λ others o p. ready_closing meaning key barrier [] others [] c.fates (sight y c) e (not_lost (sight y c) is e))
 
 module _ (meaning : Meaning) (key barrier : List ℕ) where
   abbrev me : Instance
   me = opt meaning key barrier
 
-  opt_made : (moves : List Move) (y : History) → IsSound y → AllMay me y moves → Lasts me y (all_made (by_lists me) y moves)
+  pub opt_made : (moves : List Move) (y : History) → IsSound y → AllMay me y moves → Lasts me y (all_made (by_lists me) y moves)
   opt_made [] y sound may = record { sound = sound; names = λ content named. named }
   opt_made (m ∷ moves) y sound may =
       let r = opt_made moves (moved me y m) (sound_moved meaning key barrier y m sound may.0) may.1 in
       record { sound = r.sound; names = λ content named. r.names content (opt_names meaning key barrier y m content sound may.0 named) }
-
-  opt_stop_may : (stop : Stop) (y : History) → AllMay me y (after_stop stop)
-  opt_stop_may (Cut n) y = ((power_fine meaning key barrier [] [] [] y).may, tt)
-  opt_stop_may stop y = tt
 
   opt_answers : (y : History) (c : Course) (bytes : List ℕ) (b : Batch) → IsSound y
       → (let o = called me (by_lists me) y c bytes b in AllByRecursion (IsIssued me o.state) (snapshots_of o.ending))
@@ -195,7 +168,7 @@ module _ (meaning : Meaning) (key barrier : List ℕ) where
     call_may = ask_may meaning key barrier;
     check_may = λ y c. checkpoint_may meaning key barrier y c y.is_open (is_lost (life_of Opt (all_made (by_lists me) y (before c)))) refl
         (ap (λ x. is_lost (life_of Opt x)) (sym (sight_is me y c)));
-    stop_may = opt_stop_may;
+    power_may = λ y. ((power_fine meaning key barrier [] [] [] y).may, tt);
     foreign_may = λ y value. ((foreign_fine meaning key barrier [] (value ∷ []) [] y value (first_in value [])).may, tt);
     answers = opt_answers;
   }
@@ -232,7 +205,7 @@ module _ (meaning : Meaning) (key : List ℕ) where
     made = basic_made;
     call_may = λ y c bytes b. tt;
     check_may = λ y c. tt;
-    stop_may = λ stop y. tt;
+    power_may = λ y. tt;
     foreign_may = λ y value. tt;
     answers = basic_answers;
   }

@@ -1,22 +1,22 @@
 -- What is expected is a run of the machine, in each variant.
-use Rattle.mm_run.proofs.Below.{ℕ, ◌≡◌, ◌+◌, ◌-◌, Bool, true, false, ◌&&◌, List, [], ◌∷◌, ◌++◌, length, Option, None, Some, Result, Ok, Err}
-use Rattle.mm_run.proofs.Below.{refl, sym, ap, ◌∙◌, subst, if◌then◌else◌, nat_eq, bytes_eq, and_parts, Meaning, state_after, outputs_from}
-use Rattle.mm_run.proofs.Below.{Batch, members_of, size_of, normal, members_of-normal, length-outputs_from, PartsFault, Form, Kind}
-use Rattle.mm_run.proofs.Below.{Snapshot, tag_of, parts_of, StepFault, Meddle, Stop, Quiet, Cut, Drop, Fail, Instance, History, Move}
-use Rattle.mm_run.proofs.Below.{requests_of, total_of, first_history, Life, Live, life_of, is_lost, is_last, judged, judge, is_long}
+use Rattle.mm_run.proofs.Below.{ℕ, ◌≡◌, ◌+◌, Bool, true, false, ◌&&◌, List, [], ◌∷◌, ◌++◌, length, Option, None, Some, Result, Ok, Err}
+use Rattle.mm_run.proofs.Below.{refl, sym, ap, ◌∙◌, subst, nat_eq, bytes_eq, and_parts, Meaning, state_after, outputs_from}
+use Rattle.mm_run.proofs.Below.{Batch, members_of, size_of, normal, members_of-normal, PartsFault, Form, Kind}
+use Rattle.mm_run.proofs.Below.{Snapshot, tag_of, parts_of, StepFault, Meddle, Stop, Cut, Instance, History, Move}
+use Rattle.mm_run.proofs.Below.{requests_of, total_of, first_history, Life, Live, life_of, is_lost, is_last, judged, judge}
 use Rattle.mm_run.proofs.Below.{ask_steps, Refusal, admitted, examined, by_lists, all_made, Found, found_by_verdict, found_at}
-use Rattle.mm_run.proofs.Below.{found_unless_wanting, is_fresh, Course, Walked, walk, seen_in, commits, Ending, Breaks, Called}
-use Rattle.mm_run.proofs.Below.{reading_steps, ended_by, called, kept_at, Closing, Closes, HasNone, NoSegment, LostPower, Stops}
+use Rattle.mm_run.proofs.Below.{found_unless_wanting, is_fresh, Course, Walked, walk, seen_in, commits, Ending, Answers, Breaks, Called}
+use Rattle.mm_run.proofs.Below.{reading_steps, ended_by, called, kept_at, Closing, Stops}
 use Rattle.mm_run.proofs.Below.{Checkpointed, checkpointed_with, same_batches, more_batches, Commits, nothing, batch, commits-none}
 use Rattle.mm_run.proofs.Below.{call_commits, commits_batch, seen_none, admitted_tells, weighed_tells, found_with_tells, unless_lost}
-use Rattle.mm_run.proofs.Below.{requests-push, before_last, said_last, again_of, fresh_of, unlacked, checkpoint_none, Event, Ask}
-use Rattle.mm_run.proofs.Below.{Checkpoint, Power, Extend, IsTold, StepsOn, AsksNone, Steps, Runs, Way, Reply, offered_bytes, Outcome}
-use Rattle.mm_run.proofs.Below.{way_of, after_stop, course_of, reply_of, moves_then, outcome_by, asked, closing_reply, closing_then}
+use Rattle.mm_run.proofs.Below.{requests-push, said_last, again_of, fresh_of, unlacked, checkpoint_none, Event, Ask}
+use Rattle.mm_run.proofs.Below.{Checkpoint, IsTold, StepsOn, AsksNone, Steps, Runs, Way, Reply, offered_bytes, Outcome}
+use Rattle.mm_run.proofs.Below.{way_of, after_stop, course_of, reply_of, moves_then, outcome_by, closing_reply, closing_then}
 use Rattle.mm_run.proofs.Below.{closed_outcome, event_outcome, Followed, followed, first_issued, ExpectedRuns}
-use Rattle.mm_model.specs.declared.answer.BatchAnswer.{BatchAnswer}
 use Rattle.mm_model.specs.BatchLaws.{EndsWith, is_last_tells}
 use Rattle.mm_call.specs.Answers.{answer_on}
 use Rattle.mm_schedule.specs.declared.reply.Reply.TheVariants.{Told, Kept}
+use Rattle.mm_run.proofs.EachWay.{asked_either, then_all, closing_all}
 
 -- a repeat that is accepted is one of the last batch, whatever the life of the history
 repeat_admitted : (life : Life) (here repeat fits again : Bool) → admitted (judged life here repeat) fits ≡ Ok again → again ≡ true
@@ -43,18 +43,6 @@ repeats_at : (i : Instance) (y : History) (b : Batch) (bytes : List ℕ) (found 
 repeats_at i y b bytes found is again =
     repeats_from i y b (parts_of i.variant i.meaning.id bytes) found (unless_lost (is_lost (life_of i.variant y)) _ found is) again
 
--- the moves after a call that was broken off commit nothing
-stop_none : (i : Instance) (stop : Stop) (y : History) → (all_made (by_lists i) y (after_stop stop)).batches ≡ y.batches
-stop_none i Quiet y = refl
-stop_none i (Cut n) y = refl
-stop_none i (Drop n) y = refl
-stop_none i (Fail n done) y = refl
-
-then_none : (i : Instance) (stop : Stop) (ending : Ending) (y : History)
-    → (all_made (by_lists i) y (moves_then stop ending)).batches ≡ y.batches
-then_none i stop (Breaks fault kept) y = stop_none i stop y
-then_none i stop ending y = refl
-
 -- what a call that was broken off says
 broken_steps : (meaning : Meaning) (requests after : List (List ℕ)) (b : Batch) (how : Way) (fault : StepFault) (committed : Bool)
     (position : ℕ)
@@ -63,51 +51,14 @@ broken_steps : (meaning : Meaning) (requests after : List (List ℕ)) (b : Batch
 broken_steps meaning requests after b how fault true position same grown = grown refl
 broken_steps meaning requests after b how fault false position same grown = same refl
 
-told_steps : (meaning : Meaning) (requests after : List (List ℕ)) (b : Batch) (again : Bool) (before : ℕ) (outputs : List (List ℕ))
-    → (again ≡ false → IsTold meaning requests b before outputs after)
-    → (again ≡ true → (earlier : List (List ℕ)) × IsTold meaning earlier b before outputs requests × (after ≡ requests))
-    → StepsOn meaning requests b (Told again before outputs) after
-told_steps meaning requests after b true before outputs runs repeats = repeats refl
-told_steps meaning requests after b false before outputs runs repeats = runs refl
-
--- the position before an answer's batch
-told_before : (meaning : Meaning) (batches named : List Batch) (b : Batch) (outputs : List (List ℕ)) → batches ≡ named ++ b ∷ []
-    → outputs ≡ outputs_from meaning (state_after meaning (requests_of named)) (members_of b)
-    → total_of batches - length outputs ≡ total_of named
-told_before meaning batches named b outputs e said =
-    let size : length outputs ≡ size_of b = ap length said
-    ∙ length-outputs_from meaning (state_after meaning (requests_of named)) (members_of b) in
-    ap (λ n. total_of batches - n) size ∙ before_last batches named b e
-
--- the answer by lists, read as the machine's
-told_new : (i : Instance) (y y' : History) (b : Batch) (again : Bool) → y'.batches ≡ y.batches ++ b ∷ []
-    → (let a : BatchAnswer = answer_on i y' b again in IsTold i.meaning (requests_of y.batches) b (a.position - length a.outputs) a.outputs
-    (requests_of y'.batches))
-told_new i y y' b again e =
-    let said = said_last i.meaning y'.batches y.batches b e in record {
-      position = told_before i.meaning y'.batches y.batches b _ e said;
-      said = said;
-      grown = ap requests_of e ∙ requests-push y.batches b;
-    }
-
-told_again : (i : Instance) (y y' : History) (b : Batch) (again : Bool) → y'.batches ≡ y.batches → EndsWith y.batches b
-    → (let a : BatchAnswer = answer_on i y' b again in (earlier : List (List ℕ))
-    × IsTold i.meaning earlier b (a.position - length a.outputs) a.outputs (requests_of y.batches)
-    × (requests_of y'.batches ≡ requests_of y.batches))
-told_again i y y' b again e ends =
-    let said = said_last i.meaning y'.batches ends.front b (e ∙ ends.is) in (
-      requests_of ends.front,
-      record {
-        position = told_before i.meaning y'.batches ends.front b _ (e ∙ ends.is) said;
-        said = said;
-        grown = ap requests_of ends.is ∙ requests-push ends.front b;
-      },
-      ap requests_of e,
-    )
-
-told_kept : (y y' : History) (b : Batch) → y'.batches ≡ y.batches ++ b ∷ []
-    → (requests_of y'.batches ≡ requests_of y.batches ++ members_of b) × (total_of y'.batches ≡ length (requests_of y'.batches))
-told_kept y y' b e = (ap requests_of e ∙ requests-push y.batches b, refl)
+-- what is told of a batch with which a history ends
+told_last : (i : Instance) (y : History) (front : List Batch) (b : Batch) (again : Bool) → y.batches ≡ front ++ b ∷ []
+    → IsTold i.meaning (requests_of front) b (total_of y.batches) (answer_on i y b again).outputs (requests_of y.batches)
+told_last i y front b again e = record {
+  counted = refl;
+  said = said_last i.meaning y.batches front b e;
+  grown = ap requests_of e ∙ requests-push front b;
+}
 
 ended_steps : (i : Instance) (y seen : History) (how : Way) (b : Batch)
     (walked : Walked) (broken : Option StepFault) (found : Result Found Refusal) → walked.broken ≡ broken
@@ -115,23 +66,29 @@ ended_steps : (i : Instance) (y seen : History) (how : Way) (b : Batch)
     → (let end : History = all_made (by_lists i) y walked.moves in
     StepsOn i.meaning (requests_of y.batches) b (reply_of how (ended_by (by_lists i) seen end b found walked.moves broken))
     (requests_of end.batches))
-ended_steps i y seen how b walked (Some fault) (Err why) e (nothing none unless) repeat =
-    broken_steps i.meaning _ _ b how fault (commits walked.moves) 0 (λ x. ap requests_of (same_batches i walked.moves y none))
-    (λ x. let clash = sym (commits-none walked.moves none) ∙ x in cc)
-ended_steps i y seen how b walked None (Err why) e (nothing none unless) repeat = ap requests_of (same_batches i walked.moves y none)
-ended_steps i y seen how b walked (Some fault) (Ok f) e (nothing none unless) repeat =
+ended_steps i y seen how b walked (Some fault) found e (nothing none unless) repeat =
     broken_steps i.meaning _ _ b how fault (commits walked.moves) _ (λ x. ap requests_of (same_batches i walked.moves y none))
     (λ x. let clash = sym (commits-none walked.moves none) ∙ x in cc)
 ended_steps i y seen how b walked (Some fault) (Ok f) e (batch one fresh) repeat =
     broken_steps i.meaning _ _ b how fault (commits walked.moves) _ (λ x. let clash = sym (commits_batch walked.moves b one) ∙ x in cc)
-    (λ x. told_kept y (all_made (by_lists i) y walked.moves) b (more_batches i walked.moves y b one))
+    (λ x. (ap requests_of (more_batches i walked.moves y b one) ∙ requests-push y.batches b, refl))
+ended_steps i y seen how b walked None (Err why) e (nothing none unless) repeat = ap requests_of (same_batches i walked.moves y none)
 ended_steps i y seen how b walked None (Ok f) e (nothing none unless) repeat =
-    let again = again_of f.again (unless e) in
-    told_steps i.meaning _ _ b f.again _ _ (λ x. let clash = sym again ∙ x in cc)
-    (λ x. told_again i y (all_made (by_lists i) y walked.moves) b f.again (same_batches i walked.moves y none) (repeat f refl again))
-ended_steps i y seen how b walked None (Ok f) e (batch one fresh) repeat = told_steps i.meaning _ _ b f.again _ _
-    (λ x. told_new i y (all_made (by_lists i) y walked.moves) b f.again (more_batches i walked.moves y b one))
-    (λ x. let clash = sym (fresh_of f.again fresh) ∙ x in cc)
+    let end : History = all_made (by_lists i) y walked.moves in let again = again_of f.again (unless e) in
+    let same = same_batches i walked.moves y none in let ends = repeat f refl again in
+    subst (λ (g : Bool). StepsOn i.meaning (requests_of y.batches) b (reply_of how (Answers (answer_on i end b g))) (requests_of
+    end.batches))
+    (sym again) (
+      requests_of ends.front,
+      subst (IsTold i.meaning (requests_of ends.front) b (total_of end.batches) (answer_on i end b true).outputs) (ap requests_of same)
+          (told_last i end ends.front b true (same ∙ ends.is)),
+      ap requests_of same,
+    )
+ended_steps i y seen how b walked None (Ok f) e (batch one fresh) repeat =
+    let end : History = all_made (by_lists i) y walked.moves in
+    subst (λ (g : Bool). StepsOn i.meaning (requests_of y.batches) b (reply_of how (Answers (answer_on i end b g))) (requests_of
+    end.batches))
+    (sym (fresh_of f.again fresh)) (told_last i end y.batches b false (more_batches i walked.moves y b one))
 ended_steps i y seen how b walked broken (Err why) e (batch one fresh) repeat = cc
 
 called_steps : (i : Instance) (y : History) (issued : List (List ℕ)) (meddles : List Meddle) (stop : Stop) (bytes : List ℕ) (b : Batch)
@@ -148,54 +105,34 @@ called_steps i y issued meddles stop bytes b =
     let o : Called History = called i (by_lists i) y c bytes b in
     let P : List Batch → Type 0 = λ v. EndsWith v b in
     let S : List (List ℕ) → Type 0 = λ after. StepsOn i.meaning (requests_of y.batches) b (reply_of (way_of stop) o.ending) after in
-    subst S (ap requests_of (sym (then_none i stop o.ending o.state))) (ended_steps i y seen (way_of stop) b walked walked.broken found refl
+    let none = then_all (λ moves. (all_made (by_lists i) o.state moves).batches ≡ o.state.batches) refl refl stop o.ending in
+    subst S (ap requests_of (sym none)) (ended_steps i y seen (way_of stop) b walked walked.broken found refl
     (call_commits i.variant c.fates y.is_open (is_fresh found) b)
     (λ f is again. subst P same (repeats_at i seen b bytes f (unlacked lists c.lacks f is) again)))
 
 -- a step depends on the requests of its batch alone
-members_told : (meaning : Meaning) (requests after : List (List ℕ)) (b c : Batch) (before : ℕ) (outputs : List (List ℕ))
-    → members_of b ≡ members_of c → IsTold meaning requests b before outputs after → IsTold meaning requests c before outputs after
-members_told meaning requests after b c before outputs e s = record {
-  position = s.position;
+members_told : (meaning : Meaning) (requests after : List (List ℕ)) (b c : Batch) (position : ℕ) (outputs : List (List ℕ))
+    → members_of b ≡ members_of c → IsTold meaning requests b position outputs after → IsTold meaning requests c position outputs after
+members_told meaning requests after b c position outputs e s = record {
+  counted = s.counted;
   said = s.said ∙ ap (λ v. outputs_from meaning (state_after meaning requests) v) e;
   grown = s.grown ∙ ap (λ v. requests ++ v) e;
 }
 
 members_steps : (meaning : Meaning) (requests after : List (List ℕ)) (b c : Batch) (said : Reply) → members_of b ≡ members_of c
     → StepsOn meaning requests b said after → StepsOn meaning requests c said after
-members_steps meaning requests after b c (Told true before outputs) e s =
-    (s.0, members_told meaning s.0 requests b c before outputs e s.1, s.2)
-members_steps meaning requests after b c (Told false before outputs) e s = members_told meaning requests after b c before outputs e s
+members_steps meaning requests after b c (Told true position outputs) e s =
+    (s.0, members_told meaning s.0 requests b c position outputs e s.1, s.2)
+members_steps meaning requests after b c (Told false position outputs) e s = members_told meaning requests after b c position outputs e s
 members_steps meaning requests after b c (Kept way position) e s = (s.0 ∙ ap (λ v. requests ++ v) e, s.1)
 members_steps meaning requests after b c said e s = s
-
-if_steps : (meaning : Meaning) (requests : List (List ℕ)) (b : Batch) (long : Bool) (x y : Outcome History)
-    → StepsOn meaning requests b x.reply (requests_of x.state.batches) → StepsOn meaning requests b y.reply (requests_of y.state.batches)
-    → (let o : Outcome History = (if long then x else y) in StepsOn meaning requests b o.reply (requests_of o.state.batches))
-if_steps meaning requests b true x y p q = p
-if_steps meaning requests b false x y p q = q
-
-asked_steps : (i : Instance) (y : History) (issued : List (List ℕ)) (meddles : List Meddle) (stop : Stop) (bytes : Option (List ℕ))
-    (b : Batch) → (let o : Outcome History = asked i (by_lists i) y issued meddles stop bytes b in
-    StepsOn i.meaning (requests_of y.batches) b o.reply (requests_of o.state.batches))
-asked_steps i y issued meddles stop None b = refl
-asked_steps i y issued meddles stop (Some bytes) b = if_steps i.meaning (requests_of y.batches) b (is_long b) _ _ refl
-    (members_steps i.meaning _ _ (normal b) b _ (members_of-normal b) (called_steps i y issued meddles stop bytes (normal b)))
 
 -- what a checkpoint says tells no request
 closing_stays : (how : Way) (closing : Closing) (requests after : List (List ℕ)) → after ≡ requests
     → AsksNone requests (closing_reply how closing) after
-closing_stays how Closes requests after e = e
-closing_stays how HasNone requests after e = e
-closing_stays how NoSegment requests after e = e
-closing_stays how LostPower requests after e = e
 closing_stays how (Stops fault true) requests after e = e
 closing_stays how (Stops fault false) requests after e = e
-
-closing_none : (i : Instance) (stop : Stop) (closing : Closing) (y : History)
-    → (all_made (by_lists i) y (closing_then stop closing)).batches ≡ y.batches
-closing_none i stop (Stops fault closed) y = stop_none i stop y
-closing_none i stop closing y = refl
+closing_stays how closing requests after e = e
 
 checkpointed_steps : (i : Instance) (y : History) (issued : List (List ℕ)) (meddles : List Meddle) (stop : Stop) (is_lost : Bool)
     → (let o : Outcome History = closed_outcome (by_lists i) stop issued
@@ -205,12 +142,17 @@ checkpointed_steps i y issued meddles stop is_lost =
     let c : Course = course_of stop meddles in
     let o : Checkpointed History = checkpointed_with i (by_lists i) y c is_lost in
     closing_stays (way_of stop) o.ending _ _
-    (ap requests_of (closing_none i stop o.ending o.state ∙ same_batches i o.moves y (checkpoint_none i.variant y.is_open is_lost c.fates)))
+    (ap requests_of (closing_all (λ moves. (all_made (by_lists i) o.state moves).batches ≡ o.state.batches) refl refl stop o.ending
+    ∙ same_batches i o.moves y (checkpoint_none i.variant y.is_open is_lost c.fates)))
 
 pub event_steps : (i : Instance) (y : History) (issued : List (List ℕ)) (event : Event)
     → (let o : Outcome History = event_outcome i (by_lists i) y issued event in
     Steps i.meaning (requests_of y.batches) event o.reply (requests_of o.state.batches))
-event_steps i y issued (Ask meddles stop offer b) = asked_steps i y issued meddles stop (offered_bytes issued offer) b
+event_steps i y issued (Ask meddles stop offer b) =
+    asked_either i (by_lists i) y issued (λ o. StepsOn i.meaning (requests_of y.batches) b o.reply (requests_of o.state.batches)) meddles
+    stop
+    (offered_bytes issued offer) b (λ why. refl) (λ bytes short. members_steps i.meaning _ _ (normal b) b _ (members_of-normal b)
+    (called_steps i y issued meddles stop bytes (normal b)))
 event_steps i y issued (Checkpoint meddles stop) = checkpointed_steps i y issued meddles stop _
 event_steps i y issued event = refl
 

@@ -1,29 +1,13 @@
 -- A schedule followed by a level: each event's reply, and what stands after it.
-use Rattle.std.specs.Prelude.{ℕ, ◌+◌, ◌-◌, false, List, [], ◌∷◌, ◌++◌, length, Option, None, Some, Err, if◌then◌else◌}
-use Rattle.std.specs.Option.{option_map_or}
-use Rattle.mm_digest.specs.Messages.{zero_bytes, start_of}
-use Rattle.mm_module.specs.Batch.{Batch, One, normal}
-use Rattle.mm_platform.specs.declared.plan.Meddle.{Meddle}
-use Rattle.mm_platform.specs.declared.plan.Stop.{Stop}
-use Rattle.mm_platform.specs.declared.plan.Stop.TheVariants.{Quiet, Cut, Drop, Fail}
-use Rattle.mm_model.specs.Instance.{Instance}
-use Rattle.mm_model.specs.History.{History, Move, Foreign, Power as PowerMove, first_history}
-use Rattle.mm_model.specs.Long.{is_long}
-use Rattle.mm_model.specs.Moves.{Digests}
-use Rattle.mm_model.specs.Standing.{issued_bytes}
-use Rattle.mm_model.specs.Steps.{Reads}
-use Rattle.mm_model.specs.declared.refusal.Refusal.{Refusal}
+use Rattle.mm_run.specs.Below.{option_map_or, ℕ, ◌+◌, false, List, [], ◌∷◌, ◌++◌, Option, None, Some, Err, if◌then◌else◌, zero_bytes}
+use Rattle.mm_run.specs.Below.{start_of, Meddle, Stop, Quiet, Cut, Drop, Fail, Batch, One, normal, History, Move, Foreign, PowerMove}
+use Rattle.mm_run.specs.Below.{first_history, Instance, is_long, Digests, issued_bytes, Reads, Refusal, Ending, Answers, Refuses, Breaks}
+use Rattle.mm_run.specs.Below.{Called, called, called_by, Closing, Closes, HasNone, NoSegment, LostPower, Stops, Checkpointed, checkpointed}
+use Rattle.mm_run.specs.Below.{Course, planned, walk, Level, all_made, by_lists, by_digests, Event, Ask, Checkpoint, Power, Extend, Cause}
+use Rattle.mm_run.specs.Below.{Reply, Way}
 use Rattle.mm_model.specs.declared.refusal.Refusal.TheVariants as refusal
-use Rattle.mm_call.specs.Levels.{Level, all_made, by_lists, by_digests}
-use Rattle.mm_call.specs.Courses.{Course, planned, walk}
-use Rattle.mm_call.specs.Called.{Ending, Answers, Refuses, Breaks, Called, called, called_by}
-use Rattle.mm_call.specs.Checkpoints.{Closing, Closes, HasNone, NoSegment, LostPower, Stops, Checkpointed, checkpointed}
-use Rattle.mm_schedule.specs.Events.{Event, Ask, Checkpoint, Power, Extend}
-use Rattle.mm_schedule.specs.declared.reply.Way.{Way}
 use Rattle.mm_schedule.specs.declared.reply.Way.TheVariants as way
-use Rattle.mm_schedule.specs.declared.reply.Cause.{Cause}
 use Rattle.mm_schedule.specs.declared.reply.Cause.TheVariants as cause
-use Rattle.mm_schedule.specs.declared.reply.Reply.{Reply}
 use Rattle.mm_schedule.specs.declared.reply.Reply.TheVariants as reply
 use Rattle.mm_run.specs.Offered.{offered_bytes}
 
@@ -70,11 +54,10 @@ cause_of (refusal.Device fault) = cause.Long
 cause_of refusal.Blank = cause.Blank
 cause_of refusal.Cell = cause.Cell
 
--- The reply to a call. An answer tells the position before its batch; a call that was broken off
--- the one after it, if that was committed.
+-- The reply to a call, with the position after its batch; of a call that was broken off if that was
+-- committed.
 abbrev pub reply_of : Way → Ending → Reply
-reply_of how (Answers answer) =
-    reply.Told answer.again (answer.position - length answer.outputs) answer.outputs
+reply_of how (Answers answer) = reply.Told answer.again answer.position answer.outputs
 reply_of how (Refuses why) = reply.No (cause_of why)
 reply_of how (Breaks fault kept) =
     option_map_or (λ position. reply.Kept how position) kept (reply.Nothing how)

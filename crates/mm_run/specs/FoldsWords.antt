@@ -1,12 +1,5 @@
 -- Words of the laws and proofs, each of which says a thing of Folds in short.
-use Rattle.std.specs.Prelude.{ℕ, ◌-◌, Bool, List, length, Option, if◌then◌else◌}
-use Rattle.std.specs.Option.{option_map_or}
-use Rattle.mm_platform.specs.declared.plan.Meddle.{Meddle}
-use Rattle.mm_platform.specs.declared.plan.Stop.{Stop}
-use Rattle.mm_platform.specs.Standing.{Plan}
-use Rattle.mm_model.specs.declared.answer.BatchAnswer.{BatchAnswer}
-use Rattle.mm_schedule.specs.declared.reply.Way.{Way}
-use Rattle.mm_schedule.specs.declared.reply.Reply.{Reply}
+use Rattle.mm_run.specs.Below.{option_map_or, ℕ, Bool, List, Option, if◌then◌else◌, Plan, Meddle, Stop, BatchAnswer, Reply, Way}
 use Rattle.mm_schedule.specs.declared.reply.Reply.TheVariants as reply
 
 -- what a schedule plans for a call
@@ -17,9 +10,9 @@ plan_of stop meddles = record { stop = stop; meddles = meddles; at = 0 }
 abbrev pub broken_reply : Way → Option ℕ → Reply
 broken_reply how kept = option_map_or (λ position. reply.Kept how position) kept (reply.Nothing how)
 
--- the answer's reply tells the position before the batch
+-- the reply that tells an answer
 abbrev pub told_reply : BatchAnswer → Reply
-told_reply answer = reply.Told answer.again (answer.position - length answer.outputs) answer.outputs
+told_reply answer = reply.Told answer.again answer.position answer.outputs
 
 -- a checkpoint that was broken off: whether its segment was closed
 abbrev pub stopped_reply : Way → Bool → Reply

@@ -1,17 +1,7 @@
 -- A world as contracts see it: a platform with a module on it that follows a schedule, by digests.
-use Rattle.std.specs.Prelude.{◌≡◌, ℕ, ◌-◌, ◌^◌, List, length, min, ◌⊎◌}
-use Rattle.std.specs.List.{range_with_len}
-use Rattle.mm_platform.specs.declared.plan.Meddle.{Meddle}
-use Rattle.mm_platform.specs.declared.plan.Stop.{Stop}
-use Rattle.mm_modules.specs.Modules.{meaning_of}
-use Rattle.mm_schedule.specs.declared.header.Header.{Header}
-use Rattle.mm_schedule.specs.declared.reply.Reply.{Reply}
-use Rattle.mm_schedule.specs.Events.{Event, Ask, Checkpoint, Power, Extend}
-use Rattle.mm_model.specs.Instance.{Instance}
-use Rattle.mm_model.specs.Moves.{Digests}
-use Rattle.mm_call.specs.Levels.{by_digests}
-use Rattle.mm_call.specs.Called.{seen_at, reading_steps}
-use Rattle.mm_call.specs.Standing.{instance_by, counted_by}
+use Rattle.mm_run.specs.Below.{range_with_len, ◌≡◌, ℕ, ◌-◌, ◌^◌, List, length, min, ◌⊎◌, Meddle, Stop, meaning_of, Instance, Digests}
+use Rattle.mm_run.specs.Below.{seen_at, reading_steps, by_digests, instance_by, counted_by, Event, Ask, Checkpoint, Power, Extend, Header}
+use Rattle.mm_run.specs.Below.{Reply}
 use Rattle.mm_run.specs.Folds.{Outcome, course_of, event_outcome, first_issued, first_digests}
 
 -- 32 bytes in rising order, from this one on

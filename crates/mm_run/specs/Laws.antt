@@ -1,19 +1,7 @@
 -- The laws of whole runs.
-use Rattle.std.specs.Prelude.{◌≡◌, ℕ, ◌+◌, true, List, [], ◌∷◌, ◌++◌, codes, replicate}
-use Rattle.std.specs.List.{AllByRecursion}
-use Rattle.mm_module.specs.Meaning.{Meaning}
-use Rattle.mm_module.specs.Batch.{One}
-use Rattle.mm_platform.specs.declared.plan.Stop.TheVariants.{Quiet}
-use Rattle.mm_seal.specs.Snapshot.{Content, sealed_of}
-use Rattle.mm_model.specs.Instance.{Instance}
-use Rattle.mm_model.specs.InstanceWords.{basic, opt}
-use Rattle.mm_model.specs.History.{History, Own, requests_of}
-use Rattle.mm_model.specs.Places.{Names}
-use Rattle.mm_schedule.specs.Events.{Event, Ask, Checkpoint, Extend}
-use Rattle.mm_schedule.specs.declared.event.Offer.TheVariants.{Last}
-use Rattle.mm_schedule.specs.Machine.{Runs}
-use Rattle.mm_model.specs.Moves.{Digests}
-use Rattle.mm_call.specs.Levels.{by_lists, by_digests, Agrees}
+use Rattle.mm_run.specs.Below.{AllByRecursion, ◌≡◌, ℕ, ◌+◌, true, List, [], ◌∷◌, ◌++◌, codes, replicate, Content, sealed_of, Quiet, One}
+use Rattle.mm_run.specs.Below.{Meaning, History, Own, requests_of, Instance, basic, opt, Digests, Names, by_lists, by_digests, Agrees}
+use Rattle.mm_run.specs.Below.{Event, Ask, Checkpoint, Extend, Runs, Last}
 use Rattle.mm_run.specs.Folds.{Followed, followed, expected, replies_by_digests}
 use Rattle.mm_run.specs.Premises.{messages_from, IsClearRun, IsGenuineRun}
 

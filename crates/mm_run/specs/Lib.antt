@@ -1,3 +1,4 @@
+pub mod Below
 pub mod Offered
 pub mod OfferedBytes
 pub mod Folds

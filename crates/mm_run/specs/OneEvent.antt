@@ -1,20 +1,7 @@
 -- The laws of one event.
-use Rattle.std.specs.Prelude.{◌≡◌, ℕ, List}
-use Rattle.std.specs.List.{AllByRecursion, Contains}
-use Rattle.mm_digest.specs.declared.variant.Variant.{Variant}
-use Rattle.mm_digest.specs.declared.variant.Variant.TheVariants.{Basic, Opt}
-use Rattle.mm_module.specs.Batch.{Batch}
-use Rattle.mm_seal.specs.Snapshot.{Content}
-use Rattle.mm_model.specs.Instance.{Instance}
-use Rattle.mm_model.specs.History.{History, requests_of}
-use Rattle.mm_model.specs.Messages.{Within, IsClear}
-use Rattle.mm_model.specs.Moves.{Digests}
-use Rattle.mm_model.specs.Places.{Names}
-use Rattle.mm_model.specs.Sound.{IsSound}
-use Rattle.mm_call.specs.Asked.{moves_messages, IsWithin}
-use Rattle.mm_call.specs.Levels.{by_lists, by_digests, Agrees}
-use Rattle.mm_schedule.specs.Events.{Event}
-use Rattle.mm_schedule.specs.Machine.{Steps}
+use Rattle.mm_run.specs.Below.{AllByRecursion, Contains, ◌≡◌, ℕ, List, Variant, Basic, Opt, Content, Batch, History, requests_of, Instance}
+use Rattle.mm_run.specs.Below.{Within, IsClear, Digests, Names, IsSound, moves_messages, IsWithin, by_lists, by_digests, Agrees, Event}
+use Rattle.mm_run.specs.Below.{Steps}
 use Rattle.mm_run.specs.Folds.{Outcome, event_outcome}
 use Rattle.mm_run.specs.Laws.{IsIssued}
 use Rattle.mm_run.specs.Premises.{moves_of, event_messages, foreign_of, batches_of, IsGenuineEvent}

@@ -1,11 +1,5 @@
 -- One run of the module, of all events and of each first part of them.
-use Rattle.std.specs.Prelude.{◌≡◌, ℕ, List, [], ◌++◌, length}
-use Rattle.mm_call.specs.Levels.{by_digests}
-use Rattle.mm_model.specs.Instance.{Instance}
-use Rattle.mm_model.specs.Moves.{Digests}
-use Rattle.mm_schedule.specs.Events.{Event}
-use Rattle.mm_schedule.specs.Machine.{Runs}
-use Rattle.mm_schedule.specs.declared.reply.Reply.{Reply}
+use Rattle.mm_run.specs.Below.{◌≡◌, ℕ, List, [], ◌++◌, length, Instance, Digests, by_digests, Event, Runs, Reply}
 use Rattle.mm_run.specs.Folds.{Followed, followed, expected, replies_by_digests}
 use Rattle.mm_run.specs.Laws.{continued}
 use Rattle.mm_run.specs.Premises.{IsClearRun, IsGenuineRun}

@@ -1,21 +1,9 @@
 -- The messages that a run of events hashes, as far as a proof looks at them, and what is asked of
 -- the run.
-use Rattle.std.specs.Prelude.{◌≡◌, ℕ, List, [], ◌∷◌, ◌++◌, IfSome, map, flat_map, if◌then◌else◌}
-use Rattle.std.specs.Option.{option_map_or}
-use Rattle.mm_digest.specs.declared.variant.Variant.TheVariants.{Opt}
-use Rattle.mm_digest.specs.Messages.{start_message}
-use Rattle.mm_module.specs.Batch.{Batch, normal}
-use Rattle.mm_model.specs.Instance.{Instance}
-use Rattle.mm_model.specs.History.{History, Move, Foreign, Power as PowerMove, first_history}
-use Rattle.mm_model.specs.Long.{is_long}
-use Rattle.mm_model.specs.Messages.{IsClear, AreNoGuards}
-use Rattle.mm_model.specs.Standing.{issued_bytes, IsGenuine}
-use Rattle.mm_call.specs.Levels.{by_lists}
-use Rattle.mm_call.specs.Found.{right_content}
-use Rattle.mm_call.specs.Called.{called}
-use Rattle.mm_call.specs.Checkpoints.{checkpointed}
-use Rattle.mm_call.specs.Asked.{moves_messages, right_messages}
-use Rattle.mm_schedule.specs.Events.{Event, Ask, Checkpoint, Power, Extend}
+use Rattle.mm_run.specs.Below.{option_map_or, ◌≡◌, ℕ, List, [], ◌∷◌, ◌++◌, IfSome, map, flat_map, if◌then◌else◌, start_message, Opt, Batch}
+use Rattle.mm_run.specs.Below.{normal, History, Move, Foreign, PowerMove, first_history, Instance, is_long, IsClear, AreNoGuards}
+use Rattle.mm_run.specs.Below.{issued_bytes, IsGenuine, moves_messages, right_messages, called, checkpointed, right_content, by_lists}
+use Rattle.mm_run.specs.Below.{Event, Ask, Checkpoint, Power, Extend}
 use Rattle.mm_run.specs.Offered.{offered_bytes}
 use Rattle.mm_run.specs.Folds.{course_of, event_outcome}
 

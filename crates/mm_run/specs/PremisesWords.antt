@@ -1,22 +1,7 @@
 -- Words of the laws and proofs, each of which says a thing of Premises in short.
-use Rattle.std.specs.Prelude.{◌≡◌, ℕ, List, [], ◌∷◌, Option, IfSome, flat_map, if◌then◌else◌}
-use Rattle.std.specs.Option.{option_map_or}
-use Rattle.mm_digest.specs.declared.variant.Variant.{Variant}
-use Rattle.mm_digest.specs.declared.variant.Variant.TheVariants.{Opt}
-use Rattle.mm_digest.specs.Messages.{start_message}
-use Rattle.mm_module.specs.Batch.{Batch, normal}
-use Rattle.mm_platform.specs.declared.plan.Meddle.{Meddle}
-use Rattle.mm_platform.specs.declared.plan.Stop.{Stop}
-use Rattle.mm_model.specs.Instance.{Instance}
-use Rattle.mm_model.specs.History.{History, Move, first_history}
-use Rattle.mm_model.specs.Long.{is_long}
-use Rattle.mm_model.specs.Messages.{AreNoGuards}
-use Rattle.mm_model.specs.Standing.{IsGenuine}
-use Rattle.mm_call.specs.Levels.{by_lists}
-use Rattle.mm_call.specs.Found.{right_content}
-use Rattle.mm_call.specs.Called.{called}
-use Rattle.mm_call.specs.Asked.{right_messages}
-use Rattle.mm_schedule.specs.Events.{Event}
+use Rattle.mm_run.specs.Below.{option_map_or, ◌≡◌, ℕ, List, [], ◌∷◌, Option, IfSome, flat_map, if◌then◌else◌, start_message, Variant, Opt}
+use Rattle.mm_run.specs.Below.{Meddle, Stop, Batch, normal, History, Move, first_history, Instance, is_long, AreNoGuards, IsGenuine}
+use Rattle.mm_run.specs.Below.{right_messages, called, right_content, by_lists, Event}
 use Rattle.mm_run.specs.Folds.{course_of, first_issued}
 use Rattle.mm_run.specs.Premises.{messages_from, foreign_of, batches_of}
 

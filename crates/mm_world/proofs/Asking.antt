@@ -1,16 +1,17 @@
 -- A planned call comes to what it does by digests.
-use Rattle.mm_world.proofs.Below.{◌≡◌, ℕ, suc, ◌+◌, Bool, true, false, ◌&&◌, List, [], ◌∷◌, ◌++◌, length, map, Option, None, Some, Result}
+use Rattle.mm_world.proofs.Below.{◌≡◌, ℕ, ◌+◌, Bool, true, false, ◌&&◌, List, [], ◌∷◌, ◌++◌, length, Option, None, Some, Result}
 use Rattle.mm_world.proofs.Below.{Ok, Err, refl, sym, ap, ◌∙◌, subst, arith, if◌then◌else◌, option_to_list, option_map, append-nil, Variant}
 use Rattle.mm_world.proofs.Below.{Basic, Opt, zero_bytes, Batch, StepFault, Stop, Quiet, Cut, Drop, Fail, Item, Standing, item_values}
-use Rattle.mm_world.proofs.Below.{register_after, items_cycled, Instance, Move, Commit, Foreign, Power, Digests, made, register_reads, Step}
-use Rattle.mm_world.proofs.Below.{Reads, Changes, Writes, ask_steps, Refusal, by_digests, all_made, Found, found_at, found_unless_wanting}
+use Rattle.mm_world.proofs.Below.{register_after, items_cycled, Instance, Move, Commit, Power, Digests, made, register_reads, Step}
+use Rattle.mm_world.proofs.Below.{Reads, Writes, ask_steps, Refusal, by_digests, all_made, Found, found_at, found_unless_wanting}
 use Rattle.mm_world.proofs.Below.{is_fresh, End, Done, Fails, Fate, Walked, walk, after_step, commits, seen_in, Ending, Answers, Refuses}
 use Rattle.mm_world.proofs.Below.{Breaks, Called, called, called_by, position_of, given_for, ended_by, reading_steps, kept_at, RegisterAt}
-use Rattle.mm_world.proofs.Below.{StandsAt, shown, counted_by, StaysOn, fault_of, changing, commits-none, reading_none, way_of, after_stop}
-use Rattle.mm_world.proofs.Below.{reply_of, snapshots_of, moves_then, outcome_by, Stands, is_cut, SettlesPlan, Came}
+use Rattle.mm_world.proofs.Below.{StandsAt, shown, StaysOn, fault_of, changing, commits-none, reading_none, way_of, after_stop}
+use Rattle.mm_world.proofs.Below.{reply_of, snapshots_of, moves_then, Stands, is_cut}
 use Rattle.mm_model.specs.declared.answer.BatchAnswer.{BatchAnswer}
 use Rattle.mm_model.specs.declared.refusal.Refusal.TheVariants as refusal
 use Rattle.mm_world.specs.declared.call.Called as code
+use Rattle.mm_world.proofs.Below.{reads_of}
 use Rattle.mm_world.proofs.Committing.{committed_by, reads_shown}
 
 -- steps that read
@@ -37,16 +38,20 @@ ask_split Opt true false b = refl
 ask_split Opt false false b = refl
 ask_split _ _ _ b = refl
 
+-- the walk of reading steps that are all done
+abbrev all_read : (ℕ → Fate) → ℕ → List Step → Walked
+all_read fates n reads = record { moves = seen_in fates reads n; steps = length reads; writes = 0; broken = None }
+
 -- reading steps are all done, or one of them fails: then it doesn't matter what would follow
 data Reading (fates : ℕ → Fate) (n : ℕ) (reads rest : List Step) : Type 0 where
-  whole : (walk fates n reads).broken ≡ None → Reading fates n reads rest
+  whole : walk fates n reads ≡ all_read fates n reads → Reading fates n reads rest
   cut_off : (fault : StepFault) → (walk fates n reads).broken ≡ Some fault → walk fates n (reads ++ rest) ≡ walk fates n reads
       → Reading fates n reads rest
 
 reading_more : (fates : ℕ → Fate) (n : ℕ) (reads rest : List Step) (e : End) → (fates n).ends ≡ e → Reading fates (n + 1) reads rest
     → Reading fates n (Reads ∷ reads) rest
-reading_more fates n reads rest Done e (whole none) =
-    whole (ap (λ x. (after_step Reads (fates n).brings x (walk fates (n + 1) reads)).broken) e ∙ none)
+reading_more fates n reads rest Done e (whole all) =
+    whole (ap (λ x. after_step Reads (fates n).brings x (walk fates (n + 1) reads)) e ∙ ap (after_step Reads (fates n).brings Done) all)
 reading_more fates n reads rest Done e (cut_off fault broken same) =
     cut_off fault (ap (λ x. (after_step Reads (fates n).brings x (walk fates (n + 1) reads)).broken) e ∙ broken)
     (ap (λ w. after_step Reads (fates n).brings (fates n).ends w) same)
@@ -60,56 +65,19 @@ reading fates n [] rest are = whole refl
 reading fates n (Reads ∷ reads) rest are = reading_more fates n reads rest (fates n).ends refl (reading fates (n + 1) reads rest are)
 reading fates n _ rest are = absurd are
 
--- reading steps that are all done
-record AllRead (fates : ℕ → Fate) (n : ℕ) (reads : List Step) : Type 0 where
-  pub moves : (walk fates n reads).moves ≡ seen_in fates reads n
-  pub steps : (walk fates n reads).steps ≡ length reads
-  pub writes : (walk fates n reads).writes ≡ 0
-
-all_read_more : (fates : ℕ → Fate) (n : ℕ) (reads : List Step) (e : End) → (fates n).ends ≡ e
-    → (after_step Reads (fates n).brings e (walk fates (n + 1) reads)).broken ≡ None
-    → ((walk fates (n + 1) reads).broken ≡ None → AllRead fates (n + 1) reads) → AllRead fates n (Reads ∷ reads)
-all_read_more fates n reads Done e none later =
-    let l = later none in
-    let P : End → Walked = λ x. after_step Reads (fates n).brings x (walk fates (n + 1) reads) in record {
-      moves = ap (λ x. (P x).moves) e ∙ ap (λ ms. map Foreign (fates n).brings ++ ms) l.moves;
-      steps = ap (λ x. (P x).steps) e ∙ ap suc l.steps;
-      writes = ap (λ x. (P x).writes) e ∙ l.writes;
-    }
-all_read_more fates n reads (Fails fault made) e none later = cc
-
-all_read : (fates : ℕ → Fate) (n : ℕ) (reads : List Step) → AreReads reads → (walk fates n reads).broken ≡ None → AllRead fates n reads
-all_read fates n [] are none = record { moves = refl; steps = refl; writes = refl }
-all_read fates n (Reads ∷ reads) are none =
-    all_read_more fates n reads (fates n).ends refl none (λ later. all_read fates (n + 1) reads are later)
-all_read fates n _ are none = absurd are
-
--- the step at which a walk is broken off
+-- the last step of a walk that was broken off
 pub record BreaksAt (fates : ℕ → Fate) (n : ℕ) (walked : Walked) : Type 0 where
-  pub before : ℕ
   pub fault : StepFault
   pub made : Bool
-  pub steps : walked.steps ≡ suc before
-  pub fails : (fates (n + before)).ends ≡ Fails fault made
+  pub fails : (last : ℕ) → last + 1 ≡ n + walked.steps → (fates last).ends ≡ Fails fault made
 
 breaks_more : (fates : ℕ → Fate) (n : ℕ) (step : Step) (rest : Walked) (e : End) (f : StepFault) → (fates n).ends ≡ e
     → (after_step step (fates n).brings e rest).broken ≡ Some f → (rest.broken ≡ Some f → BreaksAt fates (n + 1) rest)
     → BreaksAt fates n (after_step step (fates n).brings e rest)
 breaks_more fates n step rest Done f e broken later =
-    let l = later broken in record {
-      before = suc l.before;
-      fault = l.fault;
-      made = l.made;
-      steps = ap suc l.steps;
-      fails = subst (λ k. (fates k).ends ≡ Fails l.fault l.made) (omega arith) l.fails;
-    }
-breaks_more fates n step rest (Fails fault made) f e broken later = record {
-  before = 0;
-  fault = fault;
-  made = made;
-  steps = refl;
-  fails = subst (λ k. (fates k).ends ≡ Fails fault made) (omega arith) e;
-}
+    let l = later broken in record { fault = l.fault; made = l.made; fails = λ last at. l.fails last (omega (arith, at)) }
+breaks_more fates n step rest (Fails fault made) f e broken later =
+    record { fault = fault; made = made; fails = λ last at. subst (λ k. (fates k).ends ≡ Fails fault made) (omega (arith, at)) e }
 
 pub breaks_at : (fates : ℕ → Fate) (n : ℕ) (steps : List Step) (f : StepFault) → (walk fates n steps).broken ≡ Some f
     → BreaksAt fates n (walk fates n steps)
@@ -148,7 +116,8 @@ module _ (i : Instance) (d seen : Digests) where
   lacking_found : (b : Batch) (fates : ℕ → Fate) (rest : List Step) (f : Found) → Reading fates 1 (reading_steps i.variant) rest
       → Lacking (call_of i d seen b (Err refusal.Memory) (walk fates 1 (reading_steps i.variant))) (call_of i d seen b (Ok f)
       (walk fates 1 (reading_steps i.variant ++ rest)))
-  lacking_found b fates rest f (whole none) = let w = walk fates 1 (reading_steps i.variant) in refuses (refuses_by b w w.broken refl none)
+  lacking_found b fates rest f (whole all) =
+      let w = walk fates 1 (reading_steps i.variant) in refuses (refuses_by b w w.broken refl (ap (λ (x : Walked). x.broken) all))
   lacking_found b fates rest f (cut_off fault broken alike) =
       let w = walk fates 1 (reading_steps i.variant) in
       let none = commits-none w.moves (reading_none i.variant fates) in
@@ -205,11 +174,14 @@ refused_read i d seen b fates found why e =
     let u = unbroken i d seen (all_made (by_digests i) d w.moves) b found why w.moves w.broken e in
     let is : w ≡ walk fates 1 (reading_steps i.variant) = ap (λ x. walk fates 1 (ask_steps i.variant d.flag x b)) u.1
     ∙ read_only i.variant d.flag b fates in
-    let r = all_read fates 1 (reading_steps i.variant) (reading_reads i.variant) (ap (λ (x : Walked). x.broken) (sym is) ∙ u.0) in record {
-      state = ap (λ (x : Walked). all_made (by_digests i) d x.moves) is ∙ ap (all_made (by_digests i) d) r.moves;
-      steps = ap (λ (x : Walked). x.steps) is ∙ r.steps;
-      writes = ap (λ (x : Walked). x.writes) is ∙ r.writes;
-    }
+    elim (reading fates 1 (reading_steps i.variant) [] (reading_reads i.variant)) [
+      | whole all ↦ record {
+        state = ap (λ (x : Walked). all_made (by_digests i) d x.moves) (is ∙ all);
+        steps = ap (λ (x : Walked). x.steps) (is ∙ all);
+        writes = ap (λ (x : Walked). x.writes) (is ∙ all);
+      }
+      | cut_off fault broken alike ↦ let clash : None ≡ Some fault = sym u.0 ∙ ap (λ (x : Walked). x.broken) is ∙ broken in absurd (cc)
+    ]
 
 -- what a result tells of an ending
 
@@ -244,7 +216,7 @@ pub stop_power : (stop : Stop) → after_stop stop ≡ power_if (is_cut stop)
 stop_power Quiet = refl
 stop_power _ = refl
 
-moves_power : (stop : Stop) (e : Ending) → moves_then stop e ≡ power_if (breaks e && is_cut stop)
+pub moves_power : (stop : Stop) (e : Ending) → moves_then stop e ≡ power_if (breaks e && is_cut stop)
 moves_power stop (Breaks fault kept) = stop_power stop
 moves_power stop _ = refl
 
@@ -253,28 +225,25 @@ pub reads_none : (items : Option (List Item)) (r : List ℕ) → option_map (λ 
 reads_none None r e = cc
 reads_none (Some xs) r e = refl
 
+-- what the register reads once the plan is over
+pub settled_reads : (i : Instance) (d : Digests) (mid new : Standing) (lost : Bool) → register_reads mid ≡ Some d.register
+    → new.items ≡ items_cycled lost mid.items → register_reads new ≡ Some (all_made (by_digests i) d (power_if lost)).register
+settled_reads i d mid new false e items = ap reads_of items ∙ e
+settled_reads i d mid new true e items = ap reads_of items ∙ reads_none mid.items d.register e
+
 pub stands_settled : (i : Instance) (d : Digests) (mid new : Standing) (lost : Bool) → Stands i mid d → new.cell ≡ mid.cell
     → new.items ≡ items_cycled lost mid.items → Stands i new (all_made (by_digests i) d (power_if lost))
 stands_settled i d mid new false s cell items =
-    let r : register_reads new ≡ Some d.register = ap (λ x. option_map (λ xs. register_after (item_values xs)) x) items ∙ s.register in
-    record {
-      at = record { spells = s.at.spells; cell = cell ∙ s.at.cell; reads = register_at i.variant (register_reads new) d.register r };
-      register = r;
-    }
+    let r = settled_reads i d mid new false s.register items in
+    record { at = record { spells = s.at.spells; cell = cell ∙ s.at.cell; reads = register_at i.variant _ _ r }; register = r }
 stands_settled i d mid new true s cell items =
-    let r : register_reads new ≡ Some zero_bytes = ap (λ x. option_map (λ xs. register_after (item_values xs)) x) items
-    ∙ reads_none mid.items d.register s.register in
-    record {
-      at = record { spells = s.at.spells; cell = cell ∙ s.at.cell; reads = register_at i.variant (register_reads new) zero_bytes r };
-      register = r;
-    }
+    let r = settled_reads i d mid new true s.register items in
+    record { at = record { spells = s.at.spells; cell = cell ∙ s.at.cell; reads = register_at i.variant _ _ r }; register = r }
 
 pub on_settled : (stop : Stop) (broken : Bool) (mid new : Standing) → StaysOn stop broken mid
     → new.is_on ≡ (if broken && is_cut stop then true else mid.is_on) → new.is_on ≡ true
 on_settled (Cut n) true mid new stays e = e
-on_settled Quiet true mid new stays e = e ∙ stays
-on_settled (Drop n) true mid new stays e = e ∙ stays
-on_settled (Fail n done) true mid new stays e = e ∙ stays
+on_settled _ true mid new stays e = e ∙ stays
 on_settled _ _ mid new stays e = e ∙ stays
 
 -- what a call came to, in the words of its ending
@@ -292,28 +261,5 @@ pub came_register : (i : Instance) (d : Digests) (o : Called Digests) (planned_a
     → mid.items ≡ option_map (shown i d o.moves) planned_at.items
     → o.state ≡ all_made (by_digests i) d o.moves → register_reads planned_at ≡ Some d.register → register_reads mid ≡ Some o.state.register
 came_register i d o planned_at mid items state register =
-    ap (λ x. option_map (λ xs. register_after (item_values xs)) x) items ∙ reads_shown i o.moves d planned_at.items register
+    ap reads_of items ∙ reads_shown i o.moves d planned_at.items register
     ∙ ap (λ (e : Digests). Some e.register) (sym state)
-
-pub came : (i : Instance) (d : Digests) (stop : Stop) (issued : List (List ℕ)) (size : ℕ) (o : Called Digests) (old planned_at mid new
-    : Standing) (it : code.Called) → StandsAt i mid o.state → mid.items ≡ option_map (shown i d o.moves) planned_at.items
-    → o.state ≡ all_made (by_digests i) d o.moves → mid.steps ≡ counted_by o.steps planned_at.steps
-    → mid.writes ≡ counted_by o.writes planned_at.writes → planned_at.steps ≡ old.steps → planned_at.writes ≡ old.writes
-    → register_reads planned_at ≡ Some d.register → o.state.count ≡ d.count + committed_by o.ending size
-    → SettlesPlan stop (breaks o.ending) mid new → StaysOn stop (breaks o.ending) mid → Tells stop size o.ending it
-    → Came i (outcome_by (by_digests i) stop issued o) d.count issued old new it
-came i d stop issued size o old planned_at mid new it stands items state steps writes s w register counts settles stays tells =
-    let read = came_register i d o planned_at mid items state register in let lost = breaks o.ending && is_cut stop in
-    let P : List Move → Type 0 = λ ms. Stands i new (all_made (by_digests i) o.state ms) in
-    let C : List Move → Type 0 = λ ms. (all_made (by_digests i) o.state ms).count ≡ d.count + it.committed in
-    let power = moves_power stop o.ending in
-    record {
-      reply = tells.reply;
-      issues = ap (λ x. issued ++ x) tells.snapshot;
-      stands =
-          subst P (sym power) (stands_settled i o.state mid new lost (record { at = stands; register = read }) settles.cell settles.items);
-      counts = subst C (sym power) (power_count i o.state lost ∙ counts ∙ ap (λ n. d.count + n) (sym tells.committed));
-      quiet = record { is_on = on_settled stop (breaks o.ending) mid new stays settles.is_on; plan = settles.plan };
-      steps = settles.steps ∙ steps ∙ ap (counted_by o.steps) s;
-      writes = settles.writes ∙ writes ∙ ap (counted_by o.writes) w;
-    }

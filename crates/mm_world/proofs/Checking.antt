@@ -1,43 +1,18 @@
 -- A planned checkpoint, however it ended, comes to what it does by digests.
-use Rattle.mm_world.proofs.Below.{◌≡◌, ℕ, ◌+◌, Bool, true, false, ◌&&◌, List, [], ◌∷◌, ◌++◌, map, Option, None, Some, Result, Ok, Err, refl}
-use Rattle.mm_world.proofs.Below.{sym, ap, ◌∙◌, subst, arith, eqb-true, append-nil, if◌then◌else◌, ◌==◌, option_map, Memory, Variant, Basic}
-use Rattle.mm_world.proofs.Below.{Opt, Meaning, StepFault, Meddle, Stop, Quiet, Cut, Drop, Fail, Standing, item_values, register_after}
+use Rattle.mm_world.proofs.Below.{◌≡◌, ℕ, ◌+◌, Bool, true, false, ◌&&◌, List, [], ◌∷◌, ◌++◌, map, Option, None, Some, Result, Ok, refl}
+use Rattle.mm_world.proofs.Below.{sym, ap, ◌∙◌, subst, arith, append-nil, ◌==◌, Variant, Basic}
+use Rattle.mm_world.proofs.Below.{Opt, Meaning, StepFault, Meddle, Stop, Standing}
 use Rattle.mm_world.proofs.Below.{fault_at, is_made_at, Instance, Move, Foreign, Close, Digests, register_reads, Reads, Writes}
 use Rattle.mm_world.proofs.Below.{checkpoint_steps, Said, CheckpointRefusal, closing_told, ChecksBy, ChecksOn, by_digests, all_made, End}
-use Rattle.mm_world.proofs.Below.{Done, Fails, Fate, Walked, walk, after_step, planned, closes, end_of, made_move, seen_at, instance_by}
-use Rattle.mm_world.proofs.Below.{StandsAt, StaysOn, closes-foreign, closes_first, checkpoint_none, Reply, way_of, course_of, closing_reply}
+use Rattle.mm_world.proofs.Below.{Done, Fails, Fate, Walked, walk, after_step, closes, end_of, made_move, seen_at, instance_by}
+use Rattle.mm_world.proofs.Below.{StandsAt, StaysOn, closes-foreign, closes_first, checkpoint_none, way_of, course_of, closing_reply}
 use Rattle.mm_world.proofs.Below.{closing_then, closed_outcome, plan_of, stopped_reply, Stands, takes_effect, is_cut, SettlesPlan}
-use Rattle.mm_world.proofs.Below.{stopped_step, closes_at, told_closing, stops_in, Came, ChecksAs, quiet_as}
-use Rattle.mm_platform.specs.declared.fault.StepFault.TheVariants as step
+use Rattle.mm_world.proofs.Below.{closes_at, told_closing, stops_in, Came, ChecksAs, quiet_as}
 use Rattle.mm_call.specs.Checkpoints.{closing_of, checkpointed}
 use Rattle.mm_call.specs.CheckpointsWords.{closed_by}
-use Rattle.mm_world.proofs.Committing.{reads_shown, count_none}
+use Rattle.mm_world.proofs.Below.{reads_of}
+use Rattle.mm_world.proofs.Committing.{reads_shown, count_none, stopped_at}
 use Rattle.mm_world.proofs.Asking.{stands_settled, on_settled, power_if, stop_power, power_count}
-
--- the step at which a planned call is broken off
-pub record StoppedAt (stop : Stop) (n : ℕ) (made : Bool) : Type 0 where
-  pub number : stopped_step stop ≡ n
-  pub effect : made ≡ takes_effect stop
-
-stopped_off : (stop : Stop) (at n : ℕ) (here : Bool) (fault : StepFault) (made : Bool) → (at == n) ≡ here → stopped_step stop ≡ at
-    → takes_effect stop ≡ true → end_of (if here then Some step.Off else None) true ≡ Fails fault made → StoppedAt stop n made
-stopped_off stop at n true fault made here number effect e =
-    record { number = number ∙ eqb-true at n here; effect = (let x : true ≡ made = cc in sym x ∙ sym effect) }
-stopped_off stop at n false fault made here number effect e = cc
-
-stopped_failed : (stop : Stop) (at n : ℕ) (here done : Bool) (fault : StepFault) (made : Bool) → (at == n) ≡ here → stopped_step stop ≡ at
-    → takes_effect stop ≡ done
-    → end_of (if here then Some step.Failed else None) (if here then done else true) ≡ Fails fault made → StoppedAt stop n made
-stopped_failed stop at n true done fault made here number effect e =
-    record { number = number ∙ eqb-true at n here; effect = (let x : done ≡ made = cc in sym x ∙ sym effect) }
-stopped_failed stop at n false done fault made here number effect e = cc
-
-pub stopped_at : (stop : Stop) (n : ℕ) (fault : StepFault) (made : Bool) → end_of (fault_at stop n) (is_made_at stop n) ≡ Fails fault made
-    → StoppedAt stop n made
-stopped_at Quiet n fault made e = cc
-stopped_at (Cut at) n fault made e = stopped_off (Cut at) at n (at == n) fault made refl refl refl e
-stopped_at (Drop at) n fault made e = stopped_off (Drop at) at n (at == n) fault made refl refl refl e
-stopped_at (Fail at done) n fault made e = stopped_failed (Fail at done) at n (at == n) done fault made refl refl refl e
 
 -- whether the segment was closed
 
@@ -86,26 +61,18 @@ closes_planned fates stop _ _ is_lost fault told broken =
 
 -- what is told
 
+-- what is told of it, and the moves that follow
 closing_said : (stop : Stop) (variant : Variant) (is_open is_lost closed : Bool) (broken : Option StepFault)
-    (result : Result Said CheckpointRefusal) → result ≡ closing_told (closed_by broken closed (closing_of variant is_open is_lost))
-    → ((fault : StepFault) → broken ≡ Some fault → closed ≡ closes_at stop) → told_closing stop result ≡ closing_reply (way_of stop)
-    (closed_by broken closed (closing_of variant is_open is_lost))
-closing_said stop variant is_open is_lost closed (Some fault) result e known =
-    ap (told_closing stop) e ∙ ap (stopped_reply (way_of stop)) (sym (known fault refl))
-closing_said stop Basic is_open is_lost closed None result e known = ap (told_closing stop) e
-closing_said stop Opt false is_lost closed None result e known = ap (told_closing stop) e
-closing_said stop Opt true true closed None result e known = ap (told_closing stop) e
-closing_said stop _ _ _ closed None result e known = ap (told_closing stop) e
-
-stops_said : (variant : Variant) (is_open is_lost closed : Bool) (broken : Option StepFault) (result : Result Said CheckpointRefusal)
-    → result ≡ closing_told (closed_by broken closed (closing_of variant is_open is_lost)) → (stop : Stop)
-    → closing_then stop (closed_by broken closed (closing_of variant is_open is_lost)) ≡ power_if (stops_in result && is_cut stop)
-stops_said variant is_open is_lost closed (Some fault) result e stop =
-    stop_power stop ∙ sym (ap (λ x. power_if (stops_in x && is_cut stop)) e)
-stops_said Basic is_open is_lost closed None result e stop = sym (ap (λ x. power_if (stops_in x && is_cut stop)) e)
-stops_said Opt false is_lost closed None result e stop = sym (ap (λ x. power_if (stops_in x && is_cut stop)) e)
-stops_said Opt true true closed None result e stop = sym (ap (λ x. power_if (stops_in x && is_cut stop)) e)
-stops_said _ _ _ closed None result e stop = sym (ap (λ x. power_if (stops_in x && is_cut stop)) e)
+    → ((fault : StepFault) → broken ≡ Some fault → closed ≡ closes_at stop)
+    → (let closing = closed_by broken closed (closing_of variant is_open is_lost) in
+    (told_closing stop (closing_told closing) ≡ closing_reply (way_of stop) closing)
+    × (closing_then stop closing ≡ power_if (stops_in (closing_told closing) && is_cut stop)))
+closing_said stop variant is_open is_lost closed (Some fault) known =
+    (ap (stopped_reply (way_of stop)) (sym (known fault refl)), stop_power stop)
+closing_said stop Basic is_open is_lost closed None known = (refl, refl)
+closing_said stop Opt false is_lost closed None known = (refl, refl)
+closing_said stop Opt true true closed None known = (refl, refl)
+closing_said stop _ _ _ closed None known = (refl, refl)
 
 -- a checkpoint on the planned course
 closed_came : (i : Instance) (d : Digests) (stop : Stop) (meddles : List Meddle) (old mid new : Standing)
@@ -118,14 +85,15 @@ closed_came i d stop meddles old mid new result issued goes register settles sta
     let c = course_of stop meddles in let is_lost = (by_digests i).is_lost (seen_at i (by_digests i) d c) in
     let o = checkpointed i (by_digests i) d c in let w = walk c.fates 1 (checkpoint_steps i.variant d.flag is_lost) in
     let read : register_reads mid ≡ Some o.state.register =
-    ap (λ x. option_map (λ xs. register_after (item_values xs)) x) goes.items ∙ reads_shown i o.moves d old.items register in
+    ap reads_of goes.items ∙ reads_shown i o.moves d old.items register in
     let lost = stops_in result && is_cut stop in
-    let power = stops_said i.variant d.flag is_lost (closes w.moves) w.broken result goes.gives stop in
+    let said = closing_said stop i.variant d.flag is_lost (closes w.moves) w.broken
+    (λ fault broken. closes_planned c.fates stop i.variant d.flag is_lost fault (λ n. refl) broken) in
+    let power = said.1 ∙ ap (λ x. power_if (stops_in x && is_cut stop)) (sym goes.gives) in
     let P : List Move → Type 0 = λ ms. Stands i new (all_made (by_digests i) o.state ms) in
     let C : List Move → Type 0 = λ ms. (all_made (by_digests i) o.state ms).count ≡ d.count + 0 in
     record {
-      reply = closing_said stop i.variant d.flag is_lost (closes w.moves) w.broken result goes.gives
-          (λ fault broken. closes_planned c.fates stop i.variant d.flag is_lost fault (λ n. refl) broken);
+      reply = ap (told_closing stop) goes.gives ∙ said.0;
       issues = append-nil issued;
       stands =
           subst P (sym power) (stands_settled i o.state mid new lost (record { at = goes.stands; register = read }) settles.cell
@@ -153,17 +121,3 @@ checks_planned old mid new meddles stop result checks settles variant meaning is
     (checkpointed i (by_digests i) d (record { fates = f; lacks = false })) at mid result) (λ j. λ n. told n j) (checks.goes variant meaning
     key barrier d stands) in
     closed_came i d stop meddles old mid new result issued goes s.register settles stays.0
-
-pub checks_wanting : (old new : Standing) (meddles : List Meddle) (stop : Stop) (memory : Memory) → new ≡ old
-    → (variant : Variant) (meaning : Meaning) (issued : List (List ℕ)) → ChecksAs variant meaning old new issued meddles stop (Err memory)
-checks_wanting old new meddles stop memory e variant meaning issued = λ key barrier d s q. e
-
--- the same, in the words of the code
-pub checks_over : (old planned_at mid new : Standing) (meddles : List Meddle) (stop : Stop) (broken : Bool) (said : Reply)
-    (result : Result Said CheckpointRefusal) → planned_at ≡ record old { plan = Some (plan_of stop meddles) }
-    → ChecksOn planned_at mid result → broken ≡ stops_in result → SettlesPlan stop broken mid new → said ≡ told_closing stop result
-    → (variant : Variant) (meaning : Meaning) (issued : List (List ℕ)) → ChecksAs variant meaning old new issued meddles stop (Ok said)
-checks_over old planned_at mid new meddles stop broken said result planned checks is settles told variant meaning issued =
-    subst (λ r. ChecksAs variant meaning old new issued meddles stop (Ok r)) (sym told)
-    (checks_planned old mid new meddles stop result (subst (λ (s : Standing). ChecksOn s mid result) planned checks)
-    (subst (λ x. SettlesPlan stop x mid new) is settles) variant meaning issued)

@@ -1,6 +1,6 @@
 -- Each reply of a world can be printed, and an event issues at most one snapshot, in whichever way it ends.
 use Rattle.mm_world.proofs.Below.{◌≡◌, ℕ, ◌+◌, ◌≤◌, List, length, Result, Ok, Err, IfOk, OnErr, inl, inr, sym, ap, subst, arith, Memory}
-use Rattle.mm_world.proofs.Below.{Reply, Event, Ask, Checkpoint, Extend, Held, outcome_in, Follows, Wants, printed, grown}
+use Rattle.mm_world.proofs.Below.{Reply, Event, Ask, Held, outcome_in, Follows, Wants, printed, grown}
 use Rattle.mm_schedule.specs.Events.{Power}
 use Rattle.mm_schedule.specs.Replies.{IsPrintable}
 

@@ -1,7 +1,7 @@
 -- A call over a cell that it doesn't go on with makes one reading step.
 use Rattle.mm_world.proofs.Below.{◌≡◌, ℕ, Bool, true, false, ◌&&◌, List, Option, None, Some, Result, Ok, Err, refl, sym, ap, ◌∙◌, subst}
 use Rattle.mm_world.proofs.Below.{eq-eqb, if◌then◌else◌, ◌==◌, Variant, Basic, Opt, Meaning, Batch, StepFault, Standing, ReadCell, Goes}
-use Rattle.mm_world.proofs.Below.{Cell, CellFault, Blank, Unspelled, ReadsCell, same_variant, Refusal, Ended, Refused, Reads, ended_with}
+use Rattle.mm_world.proofs.Below.{Cell, CellFault, Blank, Unspelled, ReadsCell, same_variant, Refusal, Ended, Refused, ended_with}
 use Rattle.mm_world.proofs.Below.{fault_of, OrMemory, Said, CheckpointRefusal, closing_fault_of, segment_in, SeesSegment, Looks}
 use Rattle.mm_world.proofs.Below.{EndsLooking, AskCall, begun, AskFinishes, why_vain}
 use Rattle.mm_seal.specs.CellLaws.{reads_cell-same}
@@ -21,11 +21,20 @@ use Rattle.mm_opt.specs.declared.found.Found as opt_found
 use Rattle.mm_opt.specs.declared.segment.CheckpointRefusal.TheVariants as closing
 use Rattle.mm_opt.specs.declared.segment.Segment.{Segment}
 
--- The one reading step of a call that was refused for this, or broken off there.
-pub record StopsReading (old new : Standing) (why : Refusal) (ended : Ended) : Type 0 where
+-- The one reading step of a call, which ended as it does by the step's fault, if it had one.
+pub record StopsAs {A : Type 0} (ends_by : Option StepFault → A) (old new : Standing) (ended : A) : Type 0 where
   pub fault : Option StepFault
   pub goes : Goes ReadCell old new fault
-  pub ends : ended ≡ ended_with fault why
+  pub ends : ended ≡ ends_by fault
+
+stops_at : {A : Type 0} (ends_by : Option StepFault → A) (old middle new : Standing) (ended : A) (fault : Option StepFault)
+    → Goes ReadCell old middle fault → new ≡ middle → ended ≡ ends_by fault → StopsAs ends_by old new ended
+stops_at ends_by old middle new ended fault goes same ends =
+    record { fault = fault; goes = subst (λ (s : Standing). Goes ReadCell old s fault) (sym same) goes; ends = ends }
+
+-- a call that was refused for this, or broken off there
+abbrev pub StopsReading : Standing → Standing → Refusal → Ended → Type 0
+StopsReading old new why ended = StopsAs (λ fault. ended_with fault why) old new ended
 
 -- what is found in the cell
 
@@ -49,19 +58,9 @@ never_own id why bytes read cell h k own vain =
     let clash : true ≡ false = sym (own_basic id cell own) ∙ u.0 in absurd (cc)
 
 -- a refusal at the step, or its fault
-stops_by : (old middle new : Standing) (why w : Refusal) (ended : Ended) (fault : Option StepFault) → fault_of w ≡ fault
-    → Goes ReadCell old middle (fault_of w)
-    → (new ≡ middle) × (ended ≡ ended_with (fault_of w) w) → (fault_of w ≡ None → w ≡ why) → StopsReading old new why ended
-stops_by old middle new why w ended None e goes ends known = record {
-  fault = None;
-  goes = subst (λ (s : Standing). Goes ReadCell old s None) (sym ends.0) (subst (Goes ReadCell old middle) e goes);
-  ends = ends.1 ∙ ap (λ f. ended_with f w) e ∙ ap Refused (known e);
-}
-stops_by old middle new why w ended (Some fault) e goes ends known = record {
-  fault = Some fault;
-  goes = subst (λ (s : Standing). Goes ReadCell old s (Some fault)) (sym ends.0) (subst (Goes ReadCell old middle) e goes);
-  ends = ends.1 ∙ ap (λ f. ended_with f w) e;
-}
+with_why : (fault : Option StepFault) (w why : Refusal) → (fault ≡ None → w ≡ why) → ended_with fault w ≡ ended_with fault why
+with_why None w why known = ap Refused (known refl)
+with_why (Some fault) w why known = refl
 
 module _ (meaning : Meaning) where
   -- Basic
@@ -100,7 +99,8 @@ module _ (meaning : Meaning) where
       let f = reads.finds none in
       let same : Err w ≡ Err why = basic_in bytes offer b read why (Err w) f.finds.seen h vain
       (subst (λ (x : List ℕ). seen.IsSeen meaning.id x offer f.finds.seen) (f.told bytes cell) f.finds.is_seen) f.finds.found_is in cc in
-      stops_by old middle new why w ended (fault_of w) refl reads.goes ends known
+      stops_at (λ fault. ended_with fault why) old middle new ended (fault_of w) reads.goes ends.0
+      (ends.1 ∙ with_why (fault_of w) w why known)
 
   basic_stops : (old new : Standing) (bytes offer : List ℕ) (b : Batch) (read : Result Cell CellFault) (why : Refusal) (ended : Ended)
       → old.cell ≡ Some bytes → ReadsCell bytes read → why_vain Basic meaning.id read ≡ Some why → basic_asks.Finishes meaning None old new
@@ -149,7 +149,8 @@ module _ (meaning : Meaning) where
       (subst (λ (x : List ℕ). SeesCell meaning.id x (Err w)) (f.told bytes cell) f.sees) in cc in
       let last : (new ≡ middle) × (ended ≡ ended_with (fault_of w) w) =
       subst (λ (x : Result opt_found.Found Refusal). EndsTo opt_asks.opt_call x middle new ended) on.1 ends in
-      stops_by old first new why w ended (fault_of w) refl reads.goes (last.0 ∙ on.0, last.1) known
+      stops_at (λ fault. ended_with fault why) old first new ended (fault_of w) reads.goes (last.0 ∙ on.0)
+      (last.1 ∙ with_why (fault_of w) w why known)
 
   opt_stops : (old new : Standing) (bytes offer : List ℕ) (b : Batch) (read : Result Cell CellFault) (why : Refusal) (ended : Ended)
       → old.cell ≡ Some bytes → ReadsCell bytes read → why_vain Opt meaning.id read ≡ Some why → opt_finishes.Finishes meaning stage.Begun
@@ -173,10 +174,8 @@ abbrev pub closing_ended : Option StepFault → CellFault → Result Said Checkp
 closing_ended None fault = Err (missing_segment fault)
 closing_ended (Some failed) fault = Err (closing.Device failed)
 
-pub record StopsLooking (old new : Standing) (missed : CellFault) (result : Result Said CheckpointRefusal) : Type 0 where
-  pub fault : Option StepFault
-  pub goes : Goes ReadCell old new fault
-  pub ends : result ≡ closing_ended fault missed
+abbrev pub StopsLooking : Standing → Standing → CellFault → Result Said CheckpointRefusal → Type 0
+StopsLooking old new missed result = StopsAs (λ fault. closing_ended fault missed) old new result
 
 device_of : (w : CheckpointRefusal) (fault : StepFault) → closing_fault_of w ≡ Some fault → w ≡ closing.Device fault
 device_of (closing.Device f) fault e = let s : f ≡ fault = cc in ap closing.Device s
@@ -186,34 +185,25 @@ missing_in : (missed : CellFault) → segment_in (Err missed) ≡ Err (missing_s
 missing_in Blank = refl
 missing_in Unspelled = refl
 
-module _ (old : Standing) where
-  stops_looking_by : (middle new : Standing) (missed : CellFault) (w : CheckpointRefusal) (result : Result Said CheckpointRefusal)
-      (fault : Option StepFault) → closing_fault_of w ≡ fault → Goes ReadCell old middle (closing_fault_of w)
-      → (new ≡ middle) × (result ≡ Err w) → (closing_fault_of w ≡ None → w ≡ missing_segment missed) → StopsLooking old new missed result
-  stops_looking_by middle new missed w result None e goes ends known = record {
-    fault = None;
-    goes = subst (λ (s : Standing). Goes ReadCell old s None) (sym ends.0) (subst (Goes ReadCell old middle) e goes);
-    ends = ends.1 ∙ ap (λ x. Err x) (known e);
-  }
-  stops_looking_by middle new missed w result (Some fault) e goes ends known = record {
-    fault = Some fault;
-    goes = subst (λ (s : Standing). Goes ReadCell old s (Some fault)) (sym ends.0) (subst (Goes ReadCell old middle) e goes);
-    ends = ends.1 ∙ ap (λ x. Err x) (device_of w fault e);
-  }
+with_missing : (w : CheckpointRefusal) (fault : Option StepFault) (missed : CellFault) → closing_fault_of w ≡ fault
+    → (fault ≡ None → w ≡ missing_segment missed) → Err w ≡ closing_ended fault missed
+with_missing w None missed e known = ap (λ x. Err x) (known refl)
+with_missing w (Some fault) missed e known = ap (λ x. Err x) (device_of w fault e)
 
-  pub stops_looking : (middle new : Standing) (bytes : List ℕ) (missed : CellFault) (found : Result Segment CheckpointRefusal)
-      (result : Result Said CheckpointRefusal) → old.cell ≡ Some bytes → ReadsCell bytes (Err missed) → Looks old middle found
-      → EndsLooking found middle new result → StopsLooking old new missed result
-  stops_looking middle new bytes missed (Ok it) result cell h looks ends =
-      let f = looks.finds refl in
-      let clash : Ok it ≡ Err (missing_segment missed) = closing_found bytes missed (Ok it) h (subst (λ (x : List ℕ). SeesSegment x (Ok it))
-      (f.told bytes cell) f.sees) ∙ missing_in missed in absurd (cc)
-  stops_looking middle new bytes missed (Err w) result cell h looks ends =
-      let known : closing_fault_of w ≡ None → w ≡ missing_segment missed = λ none.
-      let f = looks.finds none in
-      let same : Err w ≡ Err (missing_segment missed) = closing_found bytes missed (Err w) h (subst (λ (x : List ℕ). SeesSegment x (Err w))
-      (f.told bytes cell) f.sees) ∙ missing_in missed in cc in
-      stops_looking_by middle new missed w result (closing_fault_of w) refl looks.goes ends known
+pub stops_looking : (old middle new : Standing) (bytes : List ℕ) (missed : CellFault) (found : Result Segment CheckpointRefusal)
+    (result : Result Said CheckpointRefusal) → old.cell ≡ Some bytes → ReadsCell bytes (Err missed) → Looks old middle found
+    → EndsLooking found middle new result → StopsLooking old new missed result
+stops_looking old middle new bytes missed (Ok it) result cell h looks ends =
+    let f = looks.finds refl in
+    let clash : Ok it ≡ Err (missing_segment missed) = closing_found bytes missed (Ok it) h (subst (λ (x : List ℕ). SeesSegment x (Ok it))
+    (f.told bytes cell) f.sees) ∙ missing_in missed in absurd (cc)
+stops_looking old middle new bytes missed (Err w) result cell h looks ends =
+    let known : closing_fault_of w ≡ None → w ≡ missing_segment missed = λ none.
+    let f = looks.finds none in
+    let same : Err w ≡ Err (missing_segment missed) = closing_found bytes missed (Err w) h (subst (λ (x : List ℕ). SeesSegment x (Err w))
+    (f.told bytes cell) f.sees) ∙ missing_in missed in cc in
+    stops_at (λ fault. closing_ended fault missed) old middle new result (closing_fault_of w) looks.goes ends.0
+    (ends.1 ∙ with_missing w (closing_fault_of w) missed refl known)
 
 -- either variant
 begun_stops : (variant : Variant) (meaning : Meaning) (old new : Standing) (offer : List ℕ) (b : Batch) (ended : Ended)

@@ -13,8 +13,7 @@ use Rattle.mm_call.specs.Levels.{by_digests}
 use Rattle.mm_call.specs.Called.{seen_at, reading_steps}
 use Rattle.mm_call.specs.Standing.{instance_by, counted_by}
 use Rattle.mm_schedule.specs.declared.reply.Reply.{Reply}
-use Rattle.mm_run.specs.Folds.{Outcome, course_of, asked}
-use Rattle.mm_run.specs.Folds.{closed_outcome}
+use Rattle.mm_run.specs.Folds.{Outcome, course_of, asked, closed_outcome}
 use Rattle.mm_call.specs.Checkpoints.{checkpointed}
 use Rattle.mm_world.specs.declared.call.Called.{Called}
 use Rattle.mm_world.specs.Stands.{Stands, IsQuiet}
@@ -44,14 +43,11 @@ abbrev pub AsksAs : Variant → Meaning → Standing → Standing → List (List
     → Option (List ℕ) → Batch
     → Result Called Memory → Type 0
 AsksAs variant meaning old new issued meddles stop bytes b result =
-    (key barrier : List ℕ) (d : Digests) → Stands (instance_by variant meaning key barrier) old d
-    → IsQuiet old
+    (key barrier : List ℕ) (d : Digests) → let i = instance_by variant meaning key barrier in
+    Stands i old d → IsQuiet old
     → MatchResult result
-    (Came (instance_by variant meaning key barrier)
-    (asked (instance_by variant meaning key barrier)
-    (by_digests (instance_by variant meaning key barrier)) d issued meddles stop bytes b)
-    d.count issued old new)
-    (λ _. Lacks (instance_by variant meaning key barrier) d meddles stop old new)
+    (Came i (asked i (by_digests i) d issued meddles stop bytes b) d.count issued old new)
+    (λ _. Lacks i d meddles stop old new)
 
 -- a call that hands out no snapshot and commits nothing
 abbrev pub quiet_as : Reply → Called
@@ -61,13 +57,9 @@ quiet_as said = record { reply = said; snapshot = None; committed = 0 }
 abbrev pub ChecksAs : Variant → Meaning → Standing → Standing → List (List ℕ) → List Meddle → Stop
     → Result Reply Memory → Type 0
 ChecksAs variant meaning old new issued meddles stop result =
-    (key barrier : List ℕ) (d : Digests) → Stands (instance_by variant meaning key barrier) old d
-    → IsQuiet old
-    → MatchResult result
-    (λ said. Came (instance_by variant meaning key barrier)
-    (closed_outcome (by_digests (instance_by variant meaning key barrier)) stop issued
-    (checkpointed (instance_by variant meaning key barrier)
-    (by_digests (instance_by variant meaning key barrier)) d
-    (course_of stop meddles)))
-    d.count issued old new (quiet_as said))
+    (key barrier : List ℕ) (d : Digests) → let i = instance_by variant meaning key barrier in
+    Stands i old d → IsQuiet old
+    → let o = checkpointed i (by_digests i) d (course_of stop meddles) in MatchResult result
+    (λ said. Came i (closed_outcome (by_digests i) stop issued o) d.count issued old new
+    (quiet_as said))
     (λ _. new ≡ old)

@@ -59,7 +59,7 @@ impl Called {
         Called {
             reply: Reply::Told {
                 again,
-                before: position.saturating_sub(size),
+                position,
                 outputs,
             },
             snapshot: Some(snapshot),

@@ -1,4 +1,4 @@
-use Rattle.mm_world.proofs.InVain.{checks_either, checks_wanting_either}
+use Rattle.mm_world.proofs.InVain.{checks_either}
 use Rattle.mm_world.proofs.call.planned_checkpoint.Goals as goal
 
 pub returns : goal.returns

@@ -1,32 +1,34 @@
 use Rattle.mm_world.proofs.Below.{ℕ, List, ◌++◌, ap, ◌∙◌, option_to_list, batch_of}
-use Rattle.mm_world.proofs.Worlds.{follows_ask, settled_ask, wants_ask, settled_lacking, room_in}
+use Rattle.mm_world.proofs.Worlds.{follows_ask, settled_ask, wants_ask, settled_lacking}
 use Rattle.mm_world.proofs.world.World.follow_ask.Goals as goal
 
 pub invariant_of-self-in-Err : goal.invariant_of-self-in-Err
-invariant_of-self-in-Err c =
-    settled_lacking c.self.inside.header c.self.inside.platform c.call_by_offer.new.platform c.self.inside.issued.items
-    c.as_slice.result.now c.reserve.new.self.items c.self.inside.committed c.args.meddles.now c.args.stop c.args.offer.now
-    (batch_of c.args.batch) c.in-Err.memory c.self.invariant c.in-Err.ensures.own c.reserve.ensures.items
+invariant_of-self-in-Err c = settled_lacking c.self.inside.header c.self.inside.platform c.call_by_offer.new.platform
+    c.self.inside.issued.items c.self.inside.committed
+    c.args.self.now c.self.view_is c.self.invariant c.as_slice.result.now c.reserve.new.self.items 0 c.args.meddles.now c.args.stop
+    c.args.offer.now (batch_of c.args.batch) c.in-Err.memory c.in-Err.ensures.own c.reserve.ensures.items
 
 pub returns-in-Err-clause-memory : goal.returns-in-Err-clause-memory
-returns-in-Err-clause-memory c =
-    wants_ask c.self.inside.header c.self.inside.platform c.call_by_offer.new.platform c.self.inside.issued.items c.as_slice.result.now
-    c.reserve.new.self.items c.self.inside.committed c.args.meddles.now c.args.stop c.args.offer.now (batch_of c.args.batch) c.in-Err.memory
-    c.args.self.now c.self.view_is c.self.invariant c.in-Err.ensures.own c.reserve.ensures.items
+returns-in-Err-clause-memory c = wants_ask c.self.inside.header c.self.inside.platform c.call_by_offer.new.platform
+    c.self.inside.issued.items c.self.inside.committed
+    c.args.self.now c.self.view_is c.self.invariant c.as_slice.result.now c.reserve.new.self.items 0 c.args.meddles.now c.args.stop
+    c.args.offer.now (batch_of c.args.batch) c.in-Err.memory c.in-Err.ensures.own c.reserve.ensures.items
 
 pub invariant_of-self-in-Ok : goal.invariant_of-self-in-Ok
-invariant_of-self-in-Ok c =
-    settled_ask c.self.inside.header c.self.inside.platform c.call_by_offer.new.platform c.self.inside.issued.items c.as_slice.result.now
-    c.keep.new.issued.items c.self.inside.committed c.saturating_add-self-inside.result c.args.meddles.now c.args.stop c.args.offer.now
-    (batch_of c.args.batch) c.in-Ok.called c.self.invariant c.in-Ok.ensures.own (c.keep.ensures
-    ∙ ap (λ (x : List (List ℕ)). x ++ option_to_list c.in-Ok.called.snapshot) c.reserve.ensures.items) c.saturating_add-self-inside.ensures
-    (room_in c.self.inside.header c.self.inside.platform c.self.inside.issued.items c.self.inside.committed c.args.self.now c.self.view_is
-    c.requires)
+invariant_of-self-in-Ok c = settled_ask c.self.inside.header c.self.inside.platform c.call_by_offer.new.platform
+    c.self.inside.issued.items c.self.inside.committed
+    c.args.self.now c.self.view_is c.self.invariant c.as_slice.result.now c.keep.new.issued.items c.saturating_add-self-inside.result
+    c.args.meddles.now c.args.stop
+    c.args.offer.now (batch_of c.args.batch) c.in-Ok.called c.in-Ok.ensures.own
+    (c.keep.ensures ∙ ap (λ (x : List (List ℕ)). x ++ option_to_list c.in-Ok.called.snapshot) c.reserve.ensures.items)
+    c.saturating_add-self-inside.ensures c.requires
 
 pub returns-in-Ok-clause-ok : goal.returns-in-Ok-clause-ok
-returns-in-Ok-clause-ok c =
-    follows_ask c.self.inside.header c.self.inside.platform c.call_by_offer.new.platform c.self.inside.issued.items c.as_slice.result.now
-    c.keep.new.issued.items c.self.inside.committed c.saturating_add-self-inside.result c.args.meddles.now c.args.stop c.args.offer.now
-    (batch_of c.args.batch) c.in-Ok.called c.args.self.now c.self.view_is c.self.invariant (c.as_slice.ensures.value
-    ∙ c.reserve.ensures.items) c.in-Ok.ensures.own (c.keep.ensures ∙ ap (λ (x : List (List ℕ)). x ++ option_to_list c.in-Ok.called.snapshot)
-    c.reserve.ensures.items) c.saturating_add-self-inside.ensures
+returns-in-Ok-clause-ok c = follows_ask c.self.inside.header c.self.inside.platform c.call_by_offer.new.platform
+    c.self.inside.issued.items c.self.inside.committed
+    c.args.self.now c.self.view_is c.self.invariant c.as_slice.result.now c.keep.new.issued.items c.saturating_add-self-inside.result
+    c.args.meddles.now c.args.stop
+    c.args.offer.now (batch_of c.args.batch) c.in-Ok.called
+    (c.as_slice.ensures.value ∙ c.reserve.ensures.items) c.in-Ok.ensures.own
+    (c.keep.ensures ∙ ap (λ (x : List (List ℕ)). x ++ option_to_list c.in-Ok.called.snapshot) c.reserve.ensures.items)
+    c.saturating_add-self-inside.ensures
