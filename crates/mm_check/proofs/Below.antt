@@ -1,16 +1,18 @@
 -- The words and laws that the proofs of this crate take from specs/ and from the crates below.
 pub use Rattle.std.specs.BTreeSet.{BTreeSet, contains, insert_key}
 pub use Rattle.std.specs.Cmp.Lexicographic.{slice_cmp}
-pub use Rattle.std.specs.List.{Contains, filter, fold, list_any, slice_get}
+pub use Rattle.std.specs.List.{Contains, fold, list_any, slice_get, filter}
 pub use Rattle.std.specs.Option.{option_copied, option_map}
 pub use Rattle.std.specs.Ordering.{is_eq, match_ordering, nat_cmp}
-pub use Rattle.std.specs.Prelude.{◌==◌, ◌||◌, not, Vec}
+pub use Rattle.std.specs.Prelude.{◌||◌, not, Vec, ◌==◌}
 pub use Rattle.std.specs.Str.{bytes_eq}
-pub use Rattle.std.proofs.Common.{◌*◌, ◌++◌, ◌+◌, ◌-◌, ◌<◌, ◌∙◌, ◌∷◌, ◌≡◌, ◌≤◌, ◌⊎◌, [], ap, append-nil, append_assoc, arith, Bool, cond}
-pub use Rattle.std.proofs.Common.{drop, Err, false, get_or, if◌then◌else◌, inl, inr, length, length-append, List, map, nat_le, nat_lt, None}
-pub use Rattle.std.proofs.Common.{Ok, Option, refl, Result, Some, subst, suc, sym, take, true, zero, ℕ}
-pub use Rattle.std.proofs.lemmas.Bool.Decides.{nat_tests, same_from_decides}
-pub use Rattle.std.proofs.lemmas.List.{drop_all, length-drop, length-map, length-take, map-append, take_more}
+pub use Rattle.std.proofs.Common.{◌++◌, ◌+◌, ◌<◌, ◌∙◌, ◌∷◌, ◌≡◌, ◌≤◌, ◌⊎◌, [], ap, append-nil, append_assoc, arith, Bool, cond, drop, Err}
+pub use Rattle.std.proofs.Common.{false, get_or, if◌then◌else◌, inl, inr, length, length-append, List, map, nat_le, nat_lt, None, Ok}
+pub use Rattle.std.proofs.Common.{Option, refl, Result, Some, subst, suc, sym, take, true, zero, ℕ, ◌*◌, ◌-◌}
+pub use Rattle.std.proofs.lemmas.Bool.Decides.{nat_tests}
+pub use Rattle.std.proofs.lemmas.Cmp.{nat_list_eq_equiv}
+pub use Rattle.std.proofs.lemmas.Grind.{flat_map-append}
+pub use Rattle.std.proofs.lemmas.List.{drop_all, length-map, length-take, map-append, take_more, length-drop}
 pub use Rattle.std.proofs.lemmas.List.Elements.{Contains-append_cases, Contains-append_left, Contains-append_right, Contains-push}
 pub use Rattle.std.proofs.lemmas.List.Elements.{Contains-push_cases}
 pub use Rattle.std.proofs.lemmas.List.Folds.{list_any-append, list_any_at}
@@ -19,48 +21,40 @@ pub use Rattle.std.proofs.lemmas.Option.{get_or_from_slice_get, slice_get_read, 
 pub use Rattle.std.proofs.lemmas.Slice.Eq.{bytes_eq-Decides}
 pub use Rattle.sha2.specs.Sha256.{sha256}
 pub use Rattle.mm_base.specs.Limits.{longest_line, most_events, most_members}
-pub use Rattle.mm_digest.specs.Messages.{anchored_message, anchored_of, start_message, variant_byte, zero_bytes}
+pub use Rattle.mm_digest.specs.Messages.{start_message, variant_byte, zero_bytes, anchored_message, anchored_of}
 pub use Rattle.mm_digest.specs.declared.variant.Variant.{Variant}
 pub use Rattle.mm_digest.specs.declared.variant.Variant.TheVariants.{Basic, Opt}
 pub use Rattle.mm_platform.specs.declared.plan.Meddle.{Meddle}
-pub use Rattle.mm_platform.specs.declared.plan.Stop.{Stop}
 pub use Rattle.mm_module.specs.Batch.{Batch, Many, normal, One, size_of}
 pub use Rattle.mm_module.specs.Meaning.{Meaning, outputs_from}
 pub use Rattle.mm_modules.specs.Modules.{meaning_of}
 pub use Rattle.mm_model.specs.Chains.{guard}
 pub use Rattle.mm_model.specs.ChainsWords.{own_values}
-pub use Rattle.mm_model.specs.History.{Close, Commit, first_history, Foreign, History, Move, moved, Placed, Power as PowerMove, requests_of}
-pub use Rattle.mm_model.specs.History.{Reset, total_of}
+pub use Rattle.mm_model.specs.History.{Close, first_history, History, Move, moved, total_of, Commit, Foreign, requests_of}
 pub use Rattle.mm_model.specs.Instance.{Instance}
-pub use Rattle.mm_model.specs.Long.{is_long}
-pub use Rattle.mm_model.specs.Messages.{AreNoGuards, form_messages, IsClear, moving_messages, offer_messages}
+pub use Rattle.mm_model.specs.Messages.{AreNoGuards, IsClear, form_messages, moving_messages, offer_messages}
 pub use Rattle.mm_model.specs.MessagesWords.{move_messages}
-pub use Rattle.mm_model.specs.Steps.{ask_steps, Changes, checkpoint_steps, Reads, Step, Writes}
 pub use Rattle.mm_call.specs.Asked.{moves_messages, right_messages}
-pub use Rattle.mm_call.specs.Courses.{after_step, commits, Course, Done, End, Fails, Fate, step_moves, walk, Walked}
-pub use Rattle.mm_call.specs.Found.{Found, found_at, right_content}
-pub use Rattle.mm_call.specs.Levels.{all_made, by_digests, by_lists}
-pub use Rattle.mm_schedule.specs.Events.{Ask, Checkpoint, Event, event_of, Extend, meddles_of, Power}
+pub use Rattle.mm_call.specs.Levels.{by_digests, by_lists, all_made}
+pub use Rattle.mm_schedule.specs.Events.{Event, event_of, Ask, Checkpoint, Extend, meddles_of, Power}
 pub use Rattle.mm_schedule.specs.Replies.{end_line, lines_of_reply, told_lines}
 pub use Rattle.mm_schedule.specs.declared.event.Event.{Event as CodeEvent}
 pub use Rattle.mm_schedule.specs.declared.header.Header.{Header}
 pub use Rattle.mm_schedule.specs.declared.reply.Reply.{Reply}
-pub use Rattle.mm_run.specs.Folds.{asked, closing_reply, course_of, event_outcome, expected, first_digests, first_issued, Followed}
-pub use Rattle.mm_run.specs.Folds.{followed, Outcome, outcome_by, replies_by_digests, reply_of, uncalled, way_of}
+pub use Rattle.mm_run.specs.Folds.{event_outcome, expected, first_digests, first_issued, Followed, followed, Outcome, replies_by_digests}
+pub use Rattle.mm_run.specs.Folds.{asked, closing_reply, course_of, outcome_by, reply_of, uncalled, way_of}
 pub use Rattle.mm_run.specs.Held.{world_of}
 pub use Rattle.mm_run.specs.HeldWords.{world_barrier, world_key}
-pub use Rattle.mm_run.specs.Offered.{offered_bytes}
-pub use Rattle.mm_run.specs.Premises.{AreGenuine, batches_of, event_messages, foreign_of, IsGenuineEvent, IsGenuineRun, messages_from}
-pub use Rattle.mm_run.specs.Premises.{moves_of}
-pub use Rattle.mm_run.specs.PremisesWords.{AreApart, ask_moves, asked_batches, asking_messages, foreign_values, run_messages}
+pub use Rattle.mm_run.specs.Premises.{AreGenuine, batches_of, event_messages, foreign_of, IsClearRun, IsGenuineEvent, IsGenuineRun}
+pub use Rattle.mm_run.specs.Premises.{messages_from, moves_of}
+pub use Rattle.mm_run.specs.PremisesWords.{AreApart, asked_batches, foreign_values, run_messages, ask_moves, asking_messages}
 pub use Rattle.mm_run.proofs.Above.{goes_on, short_size}
 pub use Rattle.mm_expect.specs.Numbered.{messages_if, messages_where, numbered_event}
 pub use Rattle.mm_play.proofs.Above.{for_whole, not_ok, ok_same, outcome_of, plays_err, plays_ok}
-pub use Rattle.mm_replay.specs.Progress.{running}
 pub use Rattle.mm_replay.specs.Schedule.{after_event, is_too_much, replaying, Running, running_outcome}
 pub use Rattle.mm_check.specs.Checking.{after_compared, AtHeader, check_answer, check_closing, CheckStage, Compared, differs_then}
-pub use Rattle.mm_check.specs.Checking.{first_compared, first_read, headed, InEvents, InReplies, is_line, most_recorded, Read, read_event}
-pub use Rattle.mm_check.specs.Checking.{read_line, section_line, with_event}
+pub use Rattle.mm_check.specs.Checking.{first_compared, first_read, headed, InEvents, InReplies, is_line, Read, read_line, section_line}
+pub use Rattle.mm_check.specs.Checking.{with_event}
 pub use Rattle.mm_check.specs.Deciding.{forged_then, IsFirstForged, premise_by, StandsBehind}
 pub use Rattle.mm_check.specs.Guards.{digest_items, events_of, HasAll, secured_by}
 pub use Rattle.mm_check.specs.Listing.{both_more, first_where, is_zero, listed, lower, message_digests, shared_in, shared_with, zero_in}
@@ -71,3 +65,9 @@ pub use Rattle.mm_check.specs.Verdicts.{agreement_of, AreVerdicts, AreVerdictsOn
 pub use Rattle.mm_check.specs.Verdicts.{first_difference, is_found, run_lines, RunsBehind}
 pub use Rattle.mm_check.specs.declared.verdicts.Premise.{Premise}
 pub use Rattle.mm_check.specs.declared.verdicts.Verdicts.{Verdicts}
+pub use Rattle.mm_platform.specs.declared.plan.Stop.{Stop}
+pub use Rattle.mm_model.specs.Long.{is_long}
+pub use Rattle.mm_model.specs.Steps.{ask_steps, Changes, checkpoint_steps, Reads, Step, Writes}
+pub use Rattle.mm_call.specs.Courses.{after_step, commits, Course, Done, End, Fails, Fate, step_moves, walk, Walked}
+pub use Rattle.mm_call.specs.Found.{Found, found_at, right_content}
+pub use Rattle.mm_run.specs.Offered.{offered_bytes}

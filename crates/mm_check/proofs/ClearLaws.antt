@@ -1,55 +1,85 @@
--- A list of messages is clear where no two of its numbers share a digest and no digest is zero.
-use Rattle.mm_check.proofs.Below.{◌≡◌, ◌∙◌, ℕ, ◌+◌, Bool, true, false, cond, List, [], ◌∷◌, ◌++◌, Option, None, Some, refl, sym, ap, subst}
-use Rattle.mm_check.proofs.Below.{arith, inl, inr, ◌⊎◌, fold, list_any, Contains, option_map, bytes_eq, Contains-append_left}
-use Rattle.mm_check.proofs.Below.{Contains-append_right, Contains-append_cases, Contains-push, Contains-push_cases, bytes_eq-Decides}
-use Rattle.mm_check.proofs.Below.{sha256, zero_bytes, start_message, Instance, History, Move, Commit, Foreign, Placed, Reset, Close}
-use Rattle.mm_check.proofs.Below.{PowerMove, moved, first_history, IsClear, move_messages, moves_messages, by_lists, Event, event_outcome}
-use Rattle.mm_check.proofs.Below.{first_issued, event_messages, moves_of, messages_from, run_messages, messages_if, messages_where}
-use Rattle.mm_check.proofs.Below.{numbered_event, first_where, listed, message_digests, shared_with, shared_in, is_zero, zero_in}
-use Rattle.mm_check.proofs.Below.{numbered_from, numbered}
+-- The messages of a run are clear exactly where the numbers tell nothing of their digests, and no value of others is a guard exactly
+-- where no event is told.
+use Rattle.mm_check.proofs.Below.{◌≡◌, ◌∙◌, ℕ, ◌+◌, Bool, true, false, cond, List, [], ◌∷◌, ◌++◌, map, Option, None, Some, refl, sym, ap}
+use Rattle.mm_check.proofs.Below.{arith, inl, inr, ◌⊎◌, ◌||◌, append_assoc, append-nil, fold, list_any, list_any_at, list_any-append}
+use Rattle.mm_check.proofs.Below.{Contains, option_map, bytes_eq, Contains-append_left, Contains-append_right, Contains-append_cases}
+use Rattle.mm_check.proofs.Below.{Contains-push, Contains-push_cases, nat_list_eq_equiv, bytes_eq-Decides, sha256, zero_bytes}
+use Rattle.mm_check.proofs.Below.{start_message, guard, own_values, Instance, History, Move, Close, moved, first_history, IsClear}
+use Rattle.mm_check.proofs.Below.{AreNoGuards, move_messages, moves_messages, by_lists, Event, event_outcome, first_issued, event_messages}
+use Rattle.mm_check.proofs.Below.{moves_of, messages_from, foreign_of, foreign_values, asked_batches, run_messages, messages_if}
+use Rattle.mm_check.proofs.Below.{messages_where, numbered_event, first_where, listed, message_digests, shared_with, shared_in, is_zero}
+use Rattle.mm_check.proofs.Below.{zero_in, numbered_from, numbered, is_secured}
+use Rattle.std.specs.Option.{is_some}
+use Rattle.std.proofs.lemmas.Bool.{or_cases, or_parts, or_from, false_from_ne_true}
 use Rattle.std.proofs.lemmas.Map.Views.{Contains-from_any}
+use Rattle.mm_check.proofs.SetLaws.{or_swap}
 
--- each element of the one list is in the other
-abbrev pub IsIn : List (List ℕ) → List (List ℕ) → Type 0
-IsIn xs ys = (m : List ℕ) → Contains xs m → Contains ys m
-
-pub none_in : (m : List ℕ) → Contains [] m → ⊥
+none_in : (m : List ℕ) → Contains [] m → ⊥
 none_in m h = let few = h.1 in absurd (omega arith)
 
+first_in : {A : Type 0} (x : A) (xs : List A) → Contains (x ∷ xs) x
+first_in x xs = Contains-append_left (x ∷ []) xs x (Contains-push [] x)
+
 -- an element is the first or among the others
-pub cons_cases : (x : List ℕ) (xs : List (List ℕ)) (m : List ℕ) → Contains (x ∷ xs) m → (x ≡ m) ⊎ Contains xs m
+cons_cases : (x : List ℕ) (xs : List (List ℕ)) (m : List ℕ) → Contains (x ∷ xs) m → (x ≡ m) ⊎ Contains xs m
 cons_cases x xs m h = elim (Contains-append_cases (x ∷ []) xs m h) [
   | inl a ↦ elim (Contains-push_cases [] x m a) [ inl none ↦ absurd (none_in m none) | inr same ↦ inl same ]
   | inr b ↦ inr b
 ]
 
+-- a list passes a test where an element does
+
+any_in : {A : Type 0} (p : A → Bool) (xs : List A) (x : A) → Contains xs x → p x ≡ true → list_any p xs ≡ true
+any_in p xs x h e = list_any_at p xs h.0 x h.1 (ap p h.2 ∙ e)
+
+any_some : {A : Type 0} (p : A → Bool) (xs : List A) → list_any p xs ≡ true → (x : A) × Contains xs x × (p x ≡ true)
+any_some p [] h = absurd (cc)
+any_some p (x ∷ xs) h = elim (or_cases (p x) (list_any p xs) h) [
+  | inl here ↦ (x, first_in x xs, here)
+  | inr later ↦ let f = any_some p xs later in (f.0, Contains-append_right (x ∷ []) xs f.0 f.1, f.2)
+]
+
+any_map : {A B : Type 0} (p : B → Bool) (f : A → B) (xs : List A) → list_any p (map f xs) ≡ list_any (λ x. p (f x)) xs
+any_map p f [] = refl
+any_map p f (x ∷ xs) = ap (λ (b : Bool). p (f x) || b) (any_map p f xs)
+
 -- no test comes out both ways
-pub true_false : (b : Bool) → b ≡ true → b ≡ false → ⊥
+true_false : (b : Bool) → b ≡ true → b ≡ false → ⊥
 true_false b t f = cc
+
+-- there is a first that passes where the list passes
+
+some_here : (here : Bool) (o : Option ℕ)
+    → (let w : Option ℕ = cond here (Some 1) (option_map (λ n. n + 1) o) in is_some w ≡ (here || is_some o))
+some_here true o = refl
+some_here false None = refl
+some_here false (Some n) = refl
+
+where_any : {A : Type 0} (p : A → Bool) (xs : List A) → is_some (first_where p xs) ≡ list_any p xs
+where_any p [] = refl
+where_any p (x ∷ xs) = some_here (p x) (first_where p xs) ∙ ap (λ (b : Bool). p x || b) (where_any p xs)
+
+none_from : (o : Option ℕ) → is_some o ≡ false → o ≡ None
+none_from None e = refl
+none_from (Some n) e = absurd (cc)
+
+pub not_any : {A : Type 0} (p : A → Bool) (xs : List A) → first_where p xs ≡ None → list_any p xs ≡ false
+not_any p xs e = sym (where_any p xs) ∙ ap is_some e
+
+pub no_where : {A : Type 0} (p : A → Bool) (xs : List A) → (list_any p xs ≡ true → ⊥) → first_where p xs ≡ None
+no_where p xs h = none_from (first_where p xs) (where_any p xs ∙ false_from_ne_true (list_any p xs) h)
 
 -- a test that no digest passes
 
-none_more : (o : Option ℕ) → option_map (λ n. n + 1) o ≡ None → o ≡ None
-none_more None h = refl
-none_more (Some n) h = absurd (cc)
-
-pub first_none : (here : Bool) (o : Option ℕ) → (let w : Option ℕ = cond here (Some 1) (option_map (λ n. n + 1) o) in w ≡ None)
-    → (here ≡ false) × (o ≡ None)
-first_none true o h = absurd (cc)
-first_none false o h = (refl, none_more o h)
-
 found_none : (p : List ℕ → Bool) (ms : List (List ℕ)) (m : List ℕ) → Contains ms m → p (sha256 m) ≡ true
     → first_where p (message_digests ms) ≡ None → ⊥
-found_none p [] m h pass none = none_in m h
-found_none p (x ∷ ms) m h pass none =
-    let parts = first_none (p (sha256 x)) (first_where p (message_digests ms)) none in
-    elim (cons_cases x ms m h) [
-      | inl same ↦ true_false (sym pass ∙ ap (λ (l : List ℕ). p (sha256 l)) (sym same) ∙ parts.0)
-      | inr later ↦ found_none p ms m later pass parts.1
-    ]
-  where
-    true_false : true ≡ false → ⊥
-    true_false e = cc
+found_none p ms m h pass none = true_false (list_any p (message_digests ms))
+    (any_map p sha256 ms ∙ any_in (λ x. p (sha256 x)) ms m h pass) (not_any p (message_digests ms) none)
+
+none_found : (p : List ℕ → Bool) (ms : List (List ℕ)) → ((m : List ℕ) → Contains ms m → p (sha256 m) ≡ true → ⊥)
+    → first_where p (message_digests ms) ≡ None
+none_found p ms h = no_where p (message_digests ms)
+    (λ e. let f = any_some (λ x. p (sha256 x)) ms (sym (any_map p sha256 ms) ∙ e) in h f.0 f.1 f.2)
 
 -- no two numbers share a digest
 
@@ -58,10 +88,13 @@ pairs_none (Some n) later h = absurd (cc)
 pairs_none None None h = (refl, refl)
 pairs_none None (Some pair) h = absurd (cc)
 
+none_of_pairs : (found : Option ℕ) (later : Option (ℕ × ℕ)) → found ≡ None → later ≡ None → shared_with found later ≡ None
+none_of_pairs found later f l = rw (f, l) refl
+
 same_digest : (a b : List ℕ) → a ≡ b → bytes_eq a b ≡ true
 same_digest a b e = (bytes_eq-Decides a b).1 e
 
-pub pairs_apart : (ms : List (List ℕ)) → shared_in (message_digests ms) ≡ None → (m n : List ℕ) → Contains ms m → Contains ms n
+pairs_apart : (ms : List (List ℕ)) → shared_in (message_digests ms) ≡ None → (m n : List ℕ) → Contains ms m → Contains ms n
     → sha256 m ≡ sha256 n → m ≡ n
 pairs_apart [] none m n hm hn e = absurd (none_in m hm)
 pairs_apart (x ∷ ms) none m n hm hn e =
@@ -77,125 +110,163 @@ pairs_apart (x ∷ ms) none m n hm hn e =
       ]
     ]
 
-pub clear_from : (ms : List (List ℕ)) → shared_in (message_digests ms) ≡ None → zero_in (message_digests ms) ≡ None → IsClear ms
+clear_from : (ms : List (List ℕ)) → shared_in (message_digests ms) ≡ None → zero_in (message_digests ms) ≡ None → IsClear ms
 clear_from ms none zero = record {
   apart = λ m n hm hn e. pairs_apart ms none m n hm hn e;
   nonzero = λ m h e. found_none is_zero ms m h ((bytes_eq-Decides (sha256 m) zero_bytes).1 e) zero;
 }
 
-pub clear_of_fewer : (xs ys : List (List ℕ)) → IsIn xs ys → IsClear ys → IsClear xs
+clear_of_fewer : (xs ys : List (List ℕ)) → ((m : List ℕ) → Contains xs m → Contains ys m) → IsClear ys → IsClear xs
 clear_of_fewer xs ys within clear = record {
   apart = λ m n hm hn e. clear.apart m n (within m hm) (within n hn) e;
   nonzero = λ m h e. clear.nonzero m (within m h) e;
 }
 
+-- a list with no element twice
+abbrev IsOnce : List (List ℕ) → Type 0
+IsOnce [] = Unit {0}
+IsOnce (x ∷ xs) = (list_any (bytes_eq x) xs ≡ false) × IsOnce xs
+
+once_push : (xs : List (List ℕ)) (x : List ℕ) → IsOnce xs → list_any (bytes_eq x) xs ≡ false → IsOnce (xs ++ x ∷ [])
+once_push [] x once new = (refl, tt)
+once_push (y ∷ xs) x once new =
+    let parts = or_parts (bytes_eq x y) (list_any (bytes_eq x) xs) new in (
+      list_any-append (bytes_eq y) xs (x ∷ []) ∙ or_from (list_any (bytes_eq y) xs) (bytes_eq y x || false) once.0
+          (or_from (bytes_eq y x) false (nat_list_eq_equiv.symm y x ∙ parts.0) refl),
+      once_push xs x once.1 parts.1,
+    )
+
+listed_once : (seen : List (List ℕ)) (x : List ℕ) (has : Bool) → list_any (bytes_eq x) seen ≡ has → IsOnce seen
+    → IsOnce (cond has seen (seen ++ x ∷ []))
+listed_once seen x true e once = once
+listed_once seen x false e once = once_push seen x once e
+
+all_once : (ms seen : List (List ℕ)) → IsOnce seen → IsOnce (fold listed seen ms)
+all_once [] seen once = once
+all_once (x ∷ ms) seen once = all_once ms (listed seen x) (listed_once seen x (list_any (bytes_eq x) seen) refl once)
+
+clear_none : (ms : List (List ℕ)) → IsOnce ms → IsClear ms → shared_in (message_digests ms) ≡ None
+clear_none [] once clear = refl
+clear_none (x ∷ ms) once clear =
+    none_of_pairs (first_where (bytes_eq (sha256 x)) (message_digests ms)) (shared_in (message_digests ms))
+    (none_found (bytes_eq (sha256 x)) ms (λ m h e.
+    let same = clear.apart x m (first_in x ms) (Contains-append_right (x ∷ []) ms m h) ((bytes_eq-Decides (sha256 x) (sha256 m)).0 e) in
+    true_false (list_any (bytes_eq x) ms) (any_in (bytes_eq x) ms m h (same_digest x m same)) once.0))
+    (clear_none ms once.1 (clear_of_fewer ms (x ∷ ms) (λ m h. Contains-append_right (x ∷ []) ms m h) clear))
+
+-- two lists of the same elements
+abbrev Same : List (List ℕ) → List (List ℕ) → Type 0
+Same xs ys = (m : List ℕ) → list_any (bytes_eq m) xs ≡ list_any (bytes_eq m) ys
+
+same_in : (xs ys : List (List ℕ)) → Same xs ys → (m : List ℕ) → Contains xs m → Contains ys m
+same_in xs ys same m h =
+    Contains-from_any (λ a b. (bytes_eq-Decides a b).0) m ys (sym (same m) ∙ any_in (bytes_eq m) xs m h (same_digest m m refl))
+
+same_append : (a b c d : List (List ℕ)) → Same a b → Same c d → Same (a ++ c) (b ++ d)
+same_append a b c d f g m = list_any-append (bytes_eq m) a c ∙ (λ j. f m j || g m j) ∙ sym (list_any-append (bytes_eq m) b d)
+
 -- each message is listed
 
-listed_keeps : (seen : List (List ℕ)) (x : List ℕ) → IsIn seen (listed seen x)
-listed_keeps seen x m h = elim (list_any (bytes_eq x) seen) as (λ b. Contains (cond b seen (seen ++ x ∷ [])) m) [
-  | true ↦ h
-  | false ↦ Contains-append_left seen (x ∷ []) m h
-]
+listed_too : (s t : Bool) → (t ≡ true → s ≡ true) → s ≡ (s || (t || false))
+listed_too true t h = refl
+listed_too false true h = h refl
+listed_too false false h = refl
 
-lists_by : (seen : List (List ℕ)) (x : List ℕ) (has : Bool) → list_any (bytes_eq x) seen ≡ has → Contains (cond has seen (seen ++ x ∷ [])) x
-lists_by seen x true e = Contains-from_any (λ a b. (bytes_eq-Decides a b).0) x seen e
-lists_by seen x false e = Contains-push seen x
+listed_same : (seen : List (List ℕ)) (x : List ℕ) (has : Bool) → list_any (bytes_eq x) seen ≡ has
+    → Same (cond has seen (seen ++ x ∷ [])) (seen ++ x ∷ [])
+listed_same seen x false e m = refl
+listed_same seen x true e m = listed_too (list_any (bytes_eq m) seen) (bytes_eq m x)
+    (λ t. ap (λ (l : List ℕ). list_any (bytes_eq l) seen) ((bytes_eq-Decides m x).0 t) ∙ e)
+    ∙ sym (list_any-append (bytes_eq m) seen (x ∷ []))
 
-all_keeps : (ms seen : List (List ℕ)) → IsIn seen (fold listed seen ms)
-all_keeps [] seen m h = h
-all_keeps (x ∷ ms) seen m h = all_keeps ms (listed seen x) m (listed_keeps seen x m h)
-
-all_listed : (ms seen : List (List ℕ)) → IsIn ms (fold listed seen ms)
-all_listed [] seen m h = absurd (none_in m h)
-all_listed (x ∷ ms) seen m h = elim (cons_cases x ms m h) [
-  | inl same ↦ subst (λ (l : List ℕ). Contains (fold listed (listed seen x) ms) l) same
-      (all_keeps ms (listed seen x) x (lists_by seen x (list_any (bytes_eq x) seen) refl))
-  | inr later ↦ all_listed ms (listed seen x) m later
-]
+all_same : (ms seen : List (List ℕ)) → Same (fold listed seen ms) (seen ++ ms)
+all_same [] seen m = ap (list_any (bytes_eq m)) (sym (append-nil seen))
+all_same (x ∷ ms) seen m = all_same ms (listed seen x) m
+    ∙ same_append (listed seen x) (seen ++ x ∷ []) ms ms (listed_same seen x (list_any (bytes_eq x) seen) refl) (λ n. refl) m
+    ∙ ap (list_any (bytes_eq m)) (append_assoc seen (x ∷ []) ms)
 
 -- the messages of moves are those that extend the register and those that close segments
 
-abbrev pub is_closing : Move → Bool
-is_closing (Commit b) = false
-is_closing (Foreign d) = false
-is_closing (Placed b) = false
-is_closing Reset = false
-is_closing Close = true
-is_closing PowerMove = false
+move_same : (i : Instance) (y : History) (v : Move) (ext clo later : List (List ℕ)) → Same (ext ++ clo) later
+    → Same (messages_if false i y v ++ ext ++ (messages_if true i y v ++ clo)) (move_messages i y v ++ later)
+move_same i y Close ext clo later same m =
+    let here = move_messages i y Close in
+    list_any-append (bytes_eq m) ext (here ++ clo)
+    ∙ ap (λ (b : Bool). list_any (bytes_eq m) ext || b) (list_any-append (bytes_eq m) here clo)
+    ∙ or_swap (list_any (bytes_eq m) ext) (list_any (bytes_eq m) here) (list_any (bytes_eq m) clo)
+    ∙ ap (λ (b : Bool). list_any (bytes_eq m) here || b) (sym (list_any-append (bytes_eq m) ext clo) ∙ same m)
+    ∙ sym (list_any-append (bytes_eq m) here later)
+move_same i y v ext clo later same m = ap (list_any (bytes_eq m)) (append_assoc (move_messages i y v) ext clo)
+    ∙ same_append (move_messages i y v) (move_messages i y v) (ext ++ clo) later (λ n. refl) same m
 
-extending_is : (i : Instance) (y : History) (v : Move) → messages_if false i y v ≡ cond (is_closing v) [] (move_messages i y v)
-extending_is i y (Commit b) = refl
-extending_is i y _ = refl
+moves_same : (i : Instance) (moves : List Move) (y : History)
+    → Same (messages_where false i y moves ++ messages_where true i y moves) (moves_messages i y moves)
+moves_same i [] y m = refl
+moves_same i (v ∷ moves) y m =
+    move_same i y v (messages_where false i (moved i y v) moves) (messages_where true i (moved i y v) moves)
+    (moves_messages i (moved i y v) moves) (moves_same i moves (moved i y v)) m
 
-closing_is : (i : Instance) (y : History) (v : Move) → messages_if true i y v ≡ cond (is_closing v) (move_messages i y v) []
-closing_is i y (Commit b) = refl
-closing_is i y _ = refl
-
-pub parts_are : (i : Instance) (y : History) (v : Move) (ext clo : List (List ℕ))
-    → messages_if false i y v ++ ext ++ (messages_if true i y v ++ clo)
-    ≡ cond (is_closing v) [] (move_messages i y v) ++ ext ++ (cond (is_closing v) (move_messages i y v) [] ++ clo)
-parts_are i y v ext clo =
-    ap (λ (l : List (List ℕ)). l ++ ext ++ (messages_if true i y v ++ clo)) (extending_is i y v)
-    ∙ ap (λ (l : List (List ℕ)). cond (is_closing v) [] (move_messages i y v) ++ ext ++ (l ++ clo)) (closing_is i y v)
-
-move_in : (closing : Bool) (here ext clo : List (List ℕ)) → IsIn here (cond closing [] here ++ ext ++ (cond closing here [] ++ clo))
-move_in true here ext clo m h = Contains-append_right ([] ++ ext) (here ++ clo) m (Contains-append_left here clo m h)
-move_in false here ext clo m h = Contains-append_left (here ++ ext) ([] ++ clo) m (Contains-append_left here ext m h)
-
-later_in : (a b ext clo : List (List ℕ)) → IsIn (ext ++ clo) (a ++ ext ++ (b ++ clo))
-later_in a b ext clo m h = elim (Contains-append_cases ext clo m h) [
-  | inl e ↦ Contains-append_left (a ++ ext) (b ++ clo) m (Contains-append_right a ext m e)
-  | inr c ↦ Contains-append_right (a ++ ext) (b ++ clo) m (Contains-append_right b clo m c)
-]
-
-moves_in : (i : Instance) (moves : List Move) (y : History)
-    → IsIn (moves_messages i y moves) (messages_where false i y moves ++ messages_where true i y moves)
-moves_in i [] y m h = absurd (none_in m h)
-moves_in i (v ∷ moves) y m h =
-    let here = move_messages i y v in
-    let ext = messages_where false i (moved i y v) moves in
-    let clo = messages_where true i (moved i y v) moves in
-    subst (λ (l : List (List ℕ)). Contains l m) (sym (parts_are i y v ext clo))
-    (elim (Contains-append_cases here (moves_messages i (moved i y v) moves) m h) [
-      | inl now ↦ move_in (is_closing v) here ext clo m now
-      | inr later ↦ later_in (cond (is_closing v) [] here) (cond (is_closing v) here []) ext clo m (moves_in i moves (moved i y v) m later)
-    ])
-
-event_in : (i : Instance) (y : History) (issued : List (List ℕ)) (event : Event)
-    → IsIn (event_messages i issued event ++ moves_messages i y (moves_of i y issued event)) (numbered_event i y issued event)
-event_in i y issued event m h =
+events_same : (i : Instance) (events : List Event) (y : History) (issued : List (List ℕ))
+    → Same (numbered_from i y issued events) (messages_from i y issued events)
+events_same i [] y issued m = refl
+events_same i (event ∷ events) y issued m =
+    let o = event_outcome i (by_lists i) y issued event in
     let asks = event_messages i issued event in
     let moves = moves_of i y issued event in
-    let parts = messages_where false i y moves ++ messages_where true i y moves in
-    elim (Contains-append_cases asks (moves_messages i y moves) m h) [
-      | inl a ↦ Contains-append_left asks parts m a
-      | inr b ↦ Contains-append_right asks parts m (moves_in i moves y m b)
-    ]
+    same_append (numbered_event i y issued event) (asks ++ moves_messages i y moves) (numbered_from i o.state o.issued events)
+    (messages_from i o.state o.issued events)
+    (same_append asks asks (messages_where false i y moves ++ messages_where true i y moves) (moves_messages i y moves) (λ n. refl)
+    (moves_same i moves y)) (events_same i events o.state o.issued) m
 
-events_in : (i : Instance) (events : List Event) (y : History) (issued : List (List ℕ))
-    → IsIn (messages_from i y issued events) (numbered_from i y issued events)
-events_in i [] y issued m h = absurd (none_in m h)
-events_in i (event ∷ events) y issued m h =
-    let o = event_outcome i (by_lists i) y issued event in
-    let here = event_messages i issued event ++ moves_messages i y (moves_of i y issued event) in
-    elim (Contains-append_cases here (messages_from i o.state o.issued events) m h) [
-      | inl now ↦ Contains-append_left (numbered_event i y issued event) (numbered_from i o.state o.issued events) m
-          (event_in i y issued event m now)
-      | inr later ↦ Contains-append_right (numbered_event i y issued event) (numbered_from i o.state o.issued events) m
-          (events_in i events o.state o.issued m later)
-    ]
-
-run_in : (i : Instance) (events : List Event) → IsIn (run_messages i events) (numbered i events)
-run_in i events m h =
+run_same : (i : Instance) (events : List Event) → Same (numbered i events) (run_messages i events)
+run_same i events m =
     let start = start_message i.variant i.meaning.id in
-    let rest = numbered_from i first_history (first_issued i) events in
-    elim (cons_cases start (messages_from i first_history (first_issued i) events) m h) [
-      | inl same ↦ all_keeps rest (start ∷ []) m (subst (λ (l : List ℕ). Contains (start ∷ []) l) same (Contains-push [] start))
-      | inr later ↦ all_listed rest (start ∷ []) m (events_in i events first_history (first_issued i) m later)
-    ]
+    all_same (numbered_from i first_history (first_issued i) events) (start ∷ []) m
+    ∙ ap (λ (b : Bool). bytes_eq m start || b) (events_same i events first_history (first_issued i) m)
 
 -- the run is clear where the numbers tell nothing else
 pub clear_run : (i : Instance) (events : List Event) → shared_in (message_digests (numbered i events)) ≡ None
     → zero_in (message_digests (numbered i events)) ≡ None → IsClear (run_messages i events)
 clear_run i events none zero =
-    clear_of_fewer (run_messages i events) (numbered i events) (run_in i events) (clear_from (numbered i events) none zero)
+    clear_of_fewer (run_messages i events) (numbered i events)
+    (same_in (run_messages i events) (numbered i events) (λ m. sym (run_same i events m))) (clear_from (numbered i events) none zero)
+
+-- and they tell nothing else where it is clear
+module _ (i : Instance) (events : List Event) (clear : IsClear (run_messages i events)) where
+  numbers_clear : IsClear (numbered i events)
+  numbers_clear = clear_of_fewer (numbered i events) (run_messages i events)
+      (same_in (numbered i events) (run_messages i events) (run_same i events)) clear
+
+  pub unshared : shared_in (message_digests (numbered i events)) ≡ None
+  unshared =
+      clear_none (numbered i events) (all_once (numbered_from i first_history (first_issued i) events)
+      (start_message i.variant i.meaning.id ∷ []) (refl, tt)) numbers_clear
+
+  pub no_zero : zero_in (message_digests (numbered i events)) ≡ None
+  no_zero =
+      none_found is_zero (numbered i events) (λ m h e. numbers_clear.nonzero m h ((bytes_eq-Decides (sha256 m) zero_bytes).0 e))
+
+-- the values that others bring, and the guards
+
+foreign_any : (q : List ℕ → Bool) (es : List Event) → list_any q (foreign_values es) ≡ list_any (λ e. list_any q (foreign_of e)) es
+foreign_any q [] = refl
+foreign_any q (e ∷ es) = list_any-append q (foreign_of e) (foreign_values es)
+    ∙ ap (λ (b : Bool). list_any q (foreign_of e) || b) (foreign_any q es)
+
+module _ (barrier : List ℕ) (es : List Event) where
+  abbrev guards : List (List ℕ)
+  guards = own_values barrier (asked_batches es)
+
+  pub no_guards : first_where (is_secured guards) es ≡ None → AreNoGuards barrier (foreign_values es) (asked_batches es)
+  no_guards none d b hd hb same =
+      let known = any_map (bytes_eq d) (guard barrier) (asked_batches es)
+      ∙ any_in (λ c. bytes_eq d (guard barrier c)) (asked_batches es) b hb (same_digest d (guard barrier b) same) in
+      true_false (list_any (is_secured guards) es) (sym (foreign_any (λ v. list_any (bytes_eq v) guards) es)
+      ∙ any_in (λ v. list_any (bytes_eq v) guards) (foreign_values es) d hd known) (not_any (is_secured guards) es none)
+
+  pub none_secured : AreNoGuards barrier (foreign_values es) (asked_batches es) → first_where (is_secured guards) es ≡ None
+  none_secured apart = no_where (is_secured guards) es (λ e.
+      let f = any_some (λ v. list_any (bytes_eq v) guards) (foreign_values es) (foreign_any (λ v. list_any (bytes_eq v) guards) es ∙ e) in
+      let g = any_some (λ c. bytes_eq f.0 (guard barrier c)) (asked_batches es)
+      (sym (any_map (bytes_eq f.0) (guard barrier) (asked_batches es)) ∙ f.2) in
+      apart f.0 g.0 f.1 g.1 ((bytes_eq-Decides f.0 (guard barrier g.0)).0 g.2))

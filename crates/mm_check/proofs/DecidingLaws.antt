@@ -1,15 +1,14 @@
 -- One event more, and what is told at the end.
-use Rattle.mm_check.proofs.Below.{◌≡◌, ◌∙◌, ℕ, ◌+◌, ◌≤◌, ◌<◌, take, get_or, Bool, true, false, map, inl, inr, List, [], ◌∷◌, ◌++◌, length}
-use Rattle.mm_check.proofs.Below.{Option, None, Some, refl, sym, ap, subst, arith, append_assoc, append-nil, length-append, fold, list_any}
-use Rattle.mm_check.proofs.Below.{Contains, bytes_eq, Contains-append_cases, list_any_at, bytes_eq-Decides, ◌||◌, Variant, Basic, Opt}
-use Rattle.mm_check.proofs.Below.{start_message, variant_byte, sha256, length-map, length-take, most_events, CodeEvent, Meaning, meaning_of}
-use Rattle.mm_check.proofs.Below.{guard, own_values, Instance, History, first_history, total_of, Header, Reply, Event, event_of}
+use Rattle.mm_check.proofs.Below.{◌≡◌, ◌∙◌, ℕ, ◌+◌, ◌≤◌, true, false, Bool, List, [], ◌∷◌, ◌++◌, length, Option, None, Some, refl, sym, ap}
+use Rattle.mm_check.proofs.Below.{subst, arith, append_assoc, append-nil, length-append, flat_map-append, fold, Variant, Basic, Opt}
+use Rattle.mm_check.proofs.Below.{start_message}
+use Rattle.mm_check.proofs.Below.{variant_byte, Meaning, meaning_of, Instance, History, first_history, total_of, Header, Event}
 use Rattle.mm_check.proofs.Below.{lines_of_reply, end_line, by_lists, Followed, followed, event_outcome, first_issued, expected, world_of}
-use Rattle.mm_check.proofs.Below.{world_key, world_barrier, AreNoGuards, foreign_of, IsGenuineEvent, AreGenuine, foreign_values}
-use Rattle.mm_check.proofs.Below.{asked_batches, AreApart, goes_on, numbered_event, listed, message_digests, shared_in, zero_in}
-use Rattle.mm_check.proofs.Below.{first_where, Lists, pair_of, numbered_from, numbered, is_secured, secured_in, lines_of_all}
-use Rattle.mm_check.proofs.Below.{expected_lines, IsForgedAt, Decides, events_of, secured_by, IsFirstForged, StandsBehind, forged_then}
+use Rattle.mm_check.proofs.Below.{world_key, world_barrier, IsGenuineEvent, AreGenuine, IsClearRun, AreApart, goes_on, numbered_event}
+use Rattle.mm_check.proofs.Below.{listed, message_digests, shared_in, zero_in, Lists, pair_of, numbered_from, numbered, secured_in}
+use Rattle.mm_check.proofs.Below.{lines_of_all, expected_lines, IsForgedAt, Decides, secured_by, IsFirstForged, StandsBehind, forged_then}
 use Rattle.mm_check.proofs.Below.{premise_by}
+use Rattle.mm_check.proofs.Below.{◌<◌, take, sha256, length-map, length-take, most_events, CodeEvent, event_of, events_of}
 use Rattle.std.proofs.lemmas.List.Sums.{fold-append}
 use Rattle.mm_call.specs.Standing.{instance_by}
 use Rattle.mm_run.specs.Laws.{continued}
@@ -18,8 +17,7 @@ use Rattle.mm_history.specs.Naming.{IsDecided}
 use Rattle.mm_expect.specs.Traced.{Traced, IsAfter}
 use Rattle.mm_expect.specs.declared.expecting.Heard.{Heard}
 use Rattle.mm_check.proofs.FewLaws.{heard_few, numbered_few}
-use Rattle.mm_check.proofs.GuardLaws.{events_more}
-use Rattle.mm_check.proofs.ClearLaws.{clear_run, first_none, true_false}
+use Rattle.mm_check.proofs.ClearLaws.{clear_run, no_guards}
 use Rattle.mm_check.specs.declared.deciding.Deciding.{Deciding}
 
 -- what is heard of an event behind those that were followed so far
@@ -35,13 +33,11 @@ pub heard_after : (header : Header) (es : List Event) (it : Traced) (e : Event) 
 heard_after header es it e heard after hears genuine =
     let i = world_of header in
     let f = expected i es in
-    let a = subst (λ (h : Header). Hears (world_of h) it.history it.issued e heard) after.header_is hears in
-    let b = subst (λ (y : History). Hears i y it.issued e heard) after.history_is a in
-    let c = subst (λ (s : List (List ℕ)). Hears i f.state s e heard) after.issued_is b in
     let g = subst (λ (y : History). IsDecided heard.is_genuine (IsGenuineEvent i y it.issued e)) after.history_is genuine in
     record {
-      reply = c.reply;
-      messages = c.messages;
+      reply = hears.reply ∙ (λ j. (event_outcome (world_of (after.header_is j)) (by_lists (world_of (after.header_is j)))
+          (after.history_is j) (after.issued_is j) e).reply);
+      messages = hears.messages ∙ (λ j. numbered_event (world_of (after.header_is j)) (after.history_is j) (after.issued_is j) e);
       genuine = subst (λ (s : List (List ℕ)). IsDecided heard.is_genuine (IsGenuineEvent i f.state s e)) after.issued_is g;
     }
 
@@ -67,19 +63,13 @@ numbered-push i es e =
     ∙ fold-append listed start (numbered_from i first_history (first_issued i) es)
     (numbered_event i (expected i es).state (expected i es).issued e)
 
-pub lines_of_all-append : (xs ys : List Reply) → lines_of_all (xs ++ ys) ≡ lines_of_all xs ++ lines_of_all ys
-lines_of_all-append [] ys = refl
-lines_of_all-append (x ∷ xs) ys =
-    ap (λ (l : List (List ℕ)). lines_of_reply x ++ l) (lines_of_all-append xs ys)
-    ∙ sym (append_assoc (lines_of_reply x) (lines_of_all xs) (lines_of_all ys))
-
 lines-push : (i : Instance) (es : List Event) (e : Event) → (let f : Followed History = expected i es in
     lines_of_all (expected i (es ++ e ∷ [])).replies ≡ lines_of_all f.replies
     ++ lines_of_reply (event_outcome i (by_lists i) f.state f.issued e).reply)
 lines-push i es e =
     let f = expected i es in
     let said = (event_outcome i (by_lists i) f.state f.issued e).reply in
-    ap (λ (g : Followed History). lines_of_all g.replies) (after_one i es e) ∙ lines_of_all-append f.replies (said ∷ [])
+    ap (λ (g : Followed History). lines_of_all g.replies) (after_one i es e) ∙ flat_map-append lines_of_reply f.replies (said ∷ [])
     ∙ ap (λ (l : List (List ℕ)). lines_of_all f.replies ++ l) (append-nil (lines_of_reply said))
 
 genuine_push : (i : Instance) (es : List Event) (e : Event) (y : History) (issued : List (List ℕ))
@@ -120,42 +110,26 @@ stands_next header es e old new heard h hears after few lists lines forged =
       few = omega (arith, few, h.few, length-append es (e ∷ []));
       lists = subst (λ (l : List (List ℕ)). Lists l new.numbers)
           (ap (λ (l : List (List ℕ)). fold listed (numbered i es) l) hears.messages ∙ sym (numbered-push i es e)) lists;
-      lines = lines ∙ ap (λ (l : List (List ℕ)). l ++ lines_of_reply heard.reply) h.lines
-          ∙ ap (λ (r : Reply). lines_of_all (expected i es).replies ++ lines_of_reply r) hears.reply ∙ sym (lines-push i es e);
+      lines = lines ∙ (λ j. h.lines j ++ lines_of_reply (hears.reply j)) ∙ sym (lines-push i es e);
       forged = subst (λ (o : Option ℕ). IsFirstForged i (es ++ e ∷ []) o) (sym forged)
           (forged-push i es e old.forged heard.is_genuine h.forged hears.genuine);
     }
 
 -- what is told at the end
 
-any_in : {A : Type 0} (p : A → Bool) (xs : List A) (x : A) → Contains xs x → p x ≡ true → list_any p xs ≡ true
-any_in p xs x h e = list_any_at p xs h.0 x h.1 (ap p h.2 ∙ e)
-
-any_map : {A B : Type 0} (p : B → Bool) (f : A → B) (xs : List A) → list_any p (map f xs) ≡ list_any (λ x. p (f x)) xs
-any_map p f [] = refl
-any_map p f (x ∷ xs) = ap (λ (b : Bool). p (f x) || b) (any_map p f xs)
-
--- no event brings a guard
-foreign_apart : (guards : List (List ℕ)) (es : List Event) (d : List ℕ) → first_where (is_secured guards) es ≡ None
-    → Contains (foreign_values es) d → list_any (bytes_eq d) guards ≡ true → ⊥
-foreign_apart guards [] d none h is = let few = h.1 in absurd (omega arith)
-foreign_apart guards (e ∷ es) d none h is =
-    let parts = first_none (is_secured guards e) (first_where (is_secured guards) es) none in
-    elim (Contains-append_cases (foreign_of e) (foreign_values es) d h) [
-      | inl here ↦ true_false (is_secured guards e) (any_in (λ v. list_any (bytes_eq v) guards) (foreign_of e) d here is) parts.0
-      | inr later ↦ foreign_apart guards es d parts.1 later is
-    ]
-
-no_guards : (barrier : List ℕ) (es : List Event) → first_where (is_secured (own_values barrier (asked_batches es))) es ≡ None
-    → AreNoGuards barrier (foreign_values es) (asked_batches es)
-no_guards barrier es none d b hd hb same =
-    foreign_apart (own_values barrier (asked_batches es)) es d none hd (any_map (bytes_eq d) (guard barrier) (asked_batches es)
-    ∙ any_in (λ c. bytes_eq d (guard barrier c)) (asked_batches es) b hb ((bytes_eq-Decides d (guard barrier b)).1 same))
-
 apart_by : (variant : Variant) (meaning : Meaning) (es : List Event) → secured_by variant world_barrier es ≡ None
     → (let i : Instance = instance_by variant meaning world_key world_barrier in AreApart i.variant i es)
 apart_by Basic meaning es none = λ is. cc
 apart_by Opt meaning es none = λ is. no_guards world_barrier es none
+
+clear_by : (variant : Variant) (meaning : Meaning) (es : List Event)
+    → (let i : Instance = instance_by variant meaning world_key world_barrier in
+    shared_in (message_digests (numbered i es)) ≡ None → zero_in (message_digests (numbered i es)) ≡ None
+    → secured_by variant world_barrier es ≡ None → IsClearRun i es)
+clear_by variant meaning es p z s = record {
+  clear = clear_run (instance_by variant meaning world_key world_barrier) es p z;
+  apart = apart_by variant meaning es s;
+}
 
 secured_told : (variant : Variant) (meaning : Meaning) (es : List Event) (n : ℕ) → secured_by variant world_barrier es ≡ Some n
     → (let i : Instance = instance_by variant meaning world_key world_barrier in (i.variant ≡ Opt) × (secured_in i es ≡ Some n))
@@ -172,12 +146,8 @@ decided_by variant meaning es None None (Some event) forged p z s f =
     let i = instance_by variant meaning world_key world_barrier in
     let told = secured_told variant meaning es event (sym s) in
     (clear_run i es (sym p) (sym z), told.0, told.1)
-decided_by variant meaning es None None None (Some event) p z s f =
-    let i = instance_by variant meaning world_key world_barrier in
-    (record { clear = clear_run i es (sym p) (sym z); apart = apart_by variant meaning es (sym s) }, f)
-decided_by variant meaning es None None None None p z s f =
-    let i = instance_by variant meaning world_key world_barrier in
-    (record { clear = clear_run i es (sym p) (sym z); apart = apart_by variant meaning es (sym s) }, f)
+decided_by variant meaning es None None None (Some event) p z s f = (clear_by variant meaning es (sym p) (sym z) (sym s), f)
+decided_by variant meaning es None None None None p z s f = (clear_by variant meaning es (sym p) (sym z) (sym s), f)
 
 pub decided : (header : Header) (es : List Event) (it : Deciding) (secured : Option ℕ) → StandsBehind header es it
     → secured ≡ secured_by header.variant world_barrier es
@@ -213,49 +183,27 @@ pub lines_end : (header : Header) (es : List Event) (it : Deciding) (committed i
     → StandsBehind header es it → committed ≡ total_of it.expecting.history.batches → issued ≡ length it.expecting.issued
     → lines ≡ it.lines.items ++ end_line committed issued ∷ [] → lines ≡ expected_lines (world_of header) es
 lines_end header es it committed issued lines h n k is =
-    let f = expected (world_of header) es in
-    is ∙ ap (λ (l : List (List ℕ)). l ++ end_line committed issued ∷ []) h.lines
-    ∙ ap (λ (m : ℕ). lines_of_all f.replies ++ end_line m issued ∷ []) (n ∙ ap (λ (y : History). total_of y.batches) h.after.history_is)
-    ∙ ap (λ (m : ℕ). lines_of_all f.replies ++ end_line (total_of f.state.batches) m ∷ []) (k ∙ ap length h.after.issued_is)
+    is ∙ (λ j. h.lines j ++ end_line ((n ∙ ap (λ (y : History). total_of y.batches) h.after.history_is) j)
+    ((k ∙ ap length h.after.issued_is) j) ∷ [])
 
--- there is room for an event's messages, and for its snapshot
+pub start_is : (byte id variant code : ℕ) → byte ≡ variant → id ≡ code → 0 ∷ byte ∷ id ∷ [] ≡ 0 ∷ variant ∷ code ∷ []
+start_is byte id variant code b i = λ j. 0 ∷ b j ∷ i j ∷ []
 
-few_taken : (es : List CodeEvent) (index : ℕ) → length es ≤ most_events → length (take index es) ≤ most_events
-few_taken es index few = omega (arith, few, length-take index es)
-
+-- there is room for an event's messages
 pub room_for : (header : Header) (es : List CodeEvent) (index : ℕ) (event : CodeEvent) (it : Deciding) (heard : Heard)
-    → length es ≤ most_events → StandsBehind header (events_of (take index es)) it → IsHeard (world_of header)
-    (expected (world_of header) (events_of (take index es))) (event_of event) heard
+    → length es ≤ most_events → StandsBehind header (events_of (take index es)) it
+    → IsHeard (world_of header) (expected (world_of header) (events_of (take index es))) (event_of event) heard
     → it.numbers.digests.count + length heard.messages.items < 4294967295
 room_for header es index event it heard few h hears =
     let i = world_of header in
     let f = expected i (events_of (take index es)) in
     omega (
       arith,
-      few_taken es index few,
+      few,
+      length-take index es,
       h.lists.counts.count,
       length-map (numbered i (events_of (take index es))) sha256,
       numbered_few i (take index es),
       ap length hears.messages,
       heard_few i f.state f.issued event,
     )
-
--- the event of this index was followed
-pub stands_after : (header : Header) (es : List CodeEvent) (index : ℕ) (event : CodeEvent) (old new : Deciding) (heard : Heard)
-    → index < length es → event ≡ get_or es index event → StandsBehind header (events_of (take index es)) old → IsHeard (world_of header)
-    (expected (world_of header) (events_of (take index es))) (event_of event) heard
-    → IsAfter header (events_of (take index es) ++ event_of event ∷ []) new.expecting
-    → length new.expecting.issued ≤ length old.expecting.issued + 1
-    → Lists (fold listed (numbered (world_of header) (events_of (take index es))) heard.messages.items) new.numbers
-    → new.lines.items ≡ old.lines.items ++ lines_of_reply heard.reply → new.forged ≡ forged_then old.forged heard.is_genuine (index + 1)
-    → StandsBehind header (events_of (take (index + 1) es)) new
-stands_after header es index event old new heard within is h hears after few lists lines forged =
-    let before = events_of (take index es) in
-    let count : index ≡ length before = omega (arith, within, length-map (take index es) event_of, length-take index es) in
-    subst (λ (l : List Event). StandsBehind header l new)
-    (ap (λ (e : CodeEvent). before ++ event_of e ∷ []) is ∙ sym (events_more es index event within))
-    (stands_next header before (event_of event) old new heard h hears after few lists lines
-    (forged ∙ ap (λ (n : ℕ). forged_then old.forged heard.is_genuine (n + 1)) count))
-
-pub start_is : (byte id variant code : ℕ) → byte ≡ variant → id ≡ code → 0 ∷ byte ∷ id ∷ [] ≡ 0 ∷ variant ∷ code ∷ []
-start_is byte id variant code b i = ap (λ (n : ℕ). 0 ∷ n ∷ id ∷ []) b ∙ ap (λ (n : ℕ). 0 ∷ variant ∷ n ∷ []) i

@@ -8,6 +8,8 @@ use Rattle.mm_check.proofs.Below.{Fails, Fate, Walked, step_moves, after_step, w
 use Rattle.mm_check.proofs.Below.{Checkpoint, Power, Extend, event_of, meddles_of, offered_bytes, course_of, event_outcome, first_issued}
 use Rattle.mm_check.proofs.Below.{moves_of, event_messages, ask_moves, asking_messages, messages_if, messages_where, numbered_event, listed}
 use Rattle.mm_check.proofs.Below.{numbered_from, numbered, events_of}
+use Rattle.mm_check.proofs.Below.{Many, One}
+use Rattle.std.proofs.lemmas.List.Sums.{count_by-le-length, length-filter}
 use Rattle.mm_platform.specs.StandingWords.{due}
 use Rattle.mm_seal.specs.declared.snapshot.Place.{Place}
 use Rattle.mm_seal.specs.declared.snapshot.Place.TheVariants.{Basic as InBasic, Opt as InOpt}
@@ -16,16 +18,12 @@ use Rattle.mm_call.specs.CoursesWords.{made_move}
 use Rattle.mm_schedule.specs.declared.event.Event.TheVariants as code
 use Rattle.mm_schedule.specs.declared.event.Meddles.{Meddles}
 
+-- none, or few
+unless_few : {A : Type 0} (long : Bool) (xs : List A) (n : ℕ) → length xs ≤ n → length (cond long [] xs) ≤ n
+unless_few true xs n h = omega arith
+unless_few false xs n h = h
+
 -- the values before a step
-
-filter_one : {A : Type 0} (here : Bool) (x : A) (xs rest : List A) → length rest ≤ length xs
-    → length (cond here (x ∷ rest) rest) ≤ length (x ∷ xs)
-filter_one true x xs rest h = omega arith
-filter_one false x xs rest h = omega arith
-
-filter_few : {A : Type 0} (p : A → Bool) (xs : List A) → length (filter p xs) ≤ length xs
-filter_few p [] = omega arith
-filter_few p (x ∷ xs) = filter_one (p x) x xs (filter p xs) (filter_few p xs)
 
 due_few : (n : ℕ) (meddles : List Meddle) → length meddles ≤ 8 → length (due n meddles) ≤ 8
 due_few n meddles few =
@@ -33,7 +31,8 @@ due_few n meddles few =
       arith,
       few,
       length-map (filter (λ (m : Meddle). m.step == n) meddles) (λ (m : Meddle). m.value.bytes),
-      filter_few (λ (m : Meddle). m.step == n) meddles,
+      length-filter (λ (m : Meddle). m.step == n) meddles,
+      count_by-le-length (λ (m : Meddle). m.step == n) meddles,
     )
 
 -- the moves of a walk
@@ -79,31 +78,27 @@ walked_few : (stop : Stop) (meddles : List Meddle) (steps : List Step) → lengt
     → length (walk (course_of stop meddles).fates 1 steps).moves ≤ 45
 walked_few stop meddles steps few h = omega (arith, h, walk_few (course_of stop meddles).fates (λ n. due_few n meddles few) steps 1)
 
--- an event with few meddles
-abbrev pub FewMeddles : Event → Type 0
-FewMeddles (Ask meddles stop offer b) = length meddles ≤ 8
-FewMeddles (Checkpoint meddles stop) = length meddles ≤ 8
-FewMeddles Power = Unit {0}
-FewMeddles (Extend value) = Unit {0}
-
-long_few : (long : Bool) (moves : List Move) → length moves ≤ 45 → length (cond long [] moves) ≤ 45
-long_few true moves h = omega arith
-long_few false moves h = h
-
 asked_few : (i : Instance) (y : History) (meddles : List Meddle) (stop : Stop) (bytes : Option (List ℕ)) (b : Batch) → length meddles ≤ 8
     → length (ask_moves i y meddles stop bytes b) ≤ 45
 asked_few i y meddles stop None b few = omega arith
 asked_few i y meddles stop (Some bytes) b few =
-    long_few (is_long b) _
+    unless_few (is_long b) _ 45
     (walked_few stop meddles (ask_steps i.variant y.is_open _ (normal b)) few (ask_few i.variant y.is_open _ (normal b)))
 
-moves_few : (i : Instance) (y : History) (issued : List (List ℕ)) (event : Event) → FewMeddles event
-    → length (moves_of i y issued event) ≤ 45
-moves_few i y issued (Ask meddles stop offer b) few = asked_few i y meddles stop (offered_bytes issued offer) b few
-moves_few i y issued (Checkpoint meddles stop) few =
-    walked_few stop meddles (checkpoint_steps i.variant y.is_open _) few (close_few i.variant y.is_open _)
-moves_few i y issued Power few = omega arith
-moves_few i y issued (Extend value) few = omega arith
+-- an event of the code has at most eight meddles
+counted_few : (meddles : Meddles) → length (meddles_of meddles) ≤ 8
+counted_few meddles = let few = meddles.few in omega (arith, few, length-take meddles.count meddles.items)
+
+moves_few : (i : Instance) (y : History) (issued : List (List ℕ)) (event : CodeEvent)
+    → length (moves_of i y issued (event_of event)) ≤ 45
+moves_few i y issued (code.Ask meddles stop offer request) =
+    asked_few i y (meddles_of meddles) stop (offered_bytes issued offer) (One request) (counted_few meddles)
+moves_few i y issued (code.Batch meddles stop offer text) =
+    asked_few i y (meddles_of meddles) stop (offered_bytes issued offer) (Many text) (counted_few meddles)
+moves_few i y issued (code.Checkpoint meddles stop) =
+    walked_few stop (meddles_of meddles) (checkpoint_steps i.variant y.is_open _) (counted_few meddles)
+    (close_few i.variant y.is_open _)
+moves_few i y issued _ = omega arith
 
 -- their messages
 
@@ -142,50 +137,30 @@ right_few : (i : Instance) (b : Batch) (content : Option Content) → length (ri
 right_few i b None = omega arith
 right_few i b (Some content) = offer_few i content.place b
 
-short_few : (long : Bool) (xs : List (List ℕ)) → length xs ≤ 6 → length (cond long [] xs) ≤ 6
-short_few true xs h = omega arith
-short_few false xs h = h
-
 asking_few : (i : Instance) (bytes : Option (List ℕ)) (b : Batch) → length (asking_messages i bytes b) ≤ 6
 asking_few i None b = omega arith
 asking_few i (Some bytes) b =
-    short_few (is_long b) (right_messages i (normal b) (right_content i bytes)) (right_few i (normal b) (right_content i bytes))
+    unless_few (is_long b) _ 6 (right_few i (normal b) (right_content i bytes))
 
 asks_few : (i : Instance) (issued : List (List ℕ)) (event : Event) → length (event_messages i issued event) ≤ 6
 asks_few i issued (Ask meddles stop offer b) = asking_few i (offered_bytes issued offer) b
 asks_few i issued (Checkpoint meddles stop) = omega arith
 asks_few i issued _ = omega arith
 
-event_few : (i : Instance) (y : History) (issued : List (List ℕ)) (event : Event) → FewMeddles event
-    → length (numbered_event i y issued event) ≤ 96
-event_few i y issued event few =
-    let moves = moves_of i y issued event in
-    let asks = event_messages i issued event in
+pub heard_few : (i : Instance) (y : History) (issued : List (List ℕ)) (event : CodeEvent)
+    → length (numbered_event i y issued (event_of event)) ≤ 96
+heard_few i y issued event =
+    let moves = moves_of i y issued (event_of event) in
+    let asks = event_messages i issued (event_of event) in
     omega (
       arith,
-      asks_few i issued event,
-      moves_few i y issued event few,
+      asks_few i issued (event_of event),
+      moves_few i y issued event,
       where_few false i y moves,
       where_few true i y moves,
       length-append (messages_where false i y moves) (messages_where true i y moves),
       length-append asks (messages_where false i y moves ++ messages_where true i y moves),
     )
-
--- an event of the code has at most eight meddles
-
-counted_few : (meddles : Meddles) → length (meddles_of meddles) ≤ 8
-counted_few meddles = let few = meddles.few in omega (arith, few, length-take meddles.count meddles.items)
-
-code_few : (event : CodeEvent) → FewMeddles (event_of event)
-code_few (code.Ask meddles stop offer request) = counted_few meddles
-code_few (code.Batch meddles stop offer text) = counted_few meddles
-code_few (code.Checkpoint meddles stop) = counted_few meddles
-code_few code.Power = tt
-code_few (code.Extend value) = tt
-
-pub heard_few : (i : Instance) (y : History) (issued : List (List ℕ)) (event : CodeEvent)
-    → length (numbered_event i y issued (event_of event)) ≤ 96
-heard_few i y issued event = event_few i y issued (event_of event) (code_few event)
 
 from_few : (i : Instance) (y : History) (issued : List (List ℕ)) (events : List CodeEvent)
     → length (numbered_from i y issued (events_of events)) ≤ 96 * length events

@@ -19,9 +19,9 @@ use Rattle.mm_call.specs.Checkpoints.{Closing, Stops, checkpointed}
 use Rattle.mm_schedule.specs.declared.reply.Way.{Way}
 use Rattle.mm_run.specs.FoldsWords.{broken_reply}
 
-told_length : (again : Bool) (before : ℕ) (outputs : List (List ℕ)) → length (told_lines again before outputs) ≡ length outputs
-told_length again before [] = refl
-told_length again before (o ∷ outputs) = omega (arith, told_length again (before + 1) outputs)
+told_length : (again : Bool) (position : ℕ) (outputs : List (List ℕ)) → length (told_lines again position outputs) ≡ length outputs
+told_length again position [] = refl
+told_length again position (o ∷ outputs) = omega (arith, told_length again position outputs)
 
 last_few : (i : Instance) (y : History) (n : ℕ) → length (last_outputs i.meaning y n) ≤ n
 last_few i y n =
@@ -35,16 +35,15 @@ broken_few how (Some position) = omega arith
 ended_few : (i : Instance) (seen y : History) (how : Way) (b : Batch) (found : Result Found Refusal) (moves : List Move)
     (broken : Option StepFault) → size_of b ≤ most_members
     → length (lines_of_reply (reply_of how (ended_by (by_lists i) seen y b found moves broken))) ≤ most_members
-ended_few i seen y how b (Err why) moves (Some fault) h =
-    broken_few how (kept_at (commits moves) (position_of (by_lists i) seen y b (Err why)))
-ended_few i seen y how b (Ok it) moves (Some fault) h = broken_few how (kept_at (commits moves) (position_of (by_lists i) seen y b (Ok it)))
+ended_few i seen y how b found moves (Some fault) h =
+    broken_few how (kept_at (commits moves) (position_of (by_lists i) seen y b found))
 ended_few i seen y how b (Err why) moves None h = omega arith
 ended_few i seen y how b (Ok it) moves None h =
     omega (
       arith,
       h,
       last_few i y (size_of b),
-      told_length it.again (total_of y.batches - length (last_outputs i.meaning y (size_of b))) (last_outputs i.meaning y (size_of b)),
+      told_length it.again (total_of y.batches) (last_outputs i.meaning y (size_of b)),
     )
 
 called_few : (i : Instance) (y : History) (how : Way) (c : Course) (bytes : List ℕ) (b : Batch) → size_of b ≤ most_members

@@ -1,10 +1,10 @@
 -- The value of a batch, by the digest of its request or of its text.
 use Rattle.mm_check.proofs.Below.{◌≡◌, ℕ, zero, suc, ◌+◌, ◌<◌, Bool, true, false, cond, List, [], ◌∷◌, ◌++◌, length, map, take, get_or}
-use Rattle.mm_check.proofs.Below.{Option, None, Some, refl, if◌then◌else◌, sym, ap, ◌∙◌, arith, append_assoc, append-nil, ◌||◌, BTreeSet}
+use Rattle.mm_check.proofs.Below.{Option, None, Some, refl, if◌then◌else◌, sym, ap, ◌∙◌, arith, append-nil, ◌||◌, BTreeSet, flat_map-append}
 use Rattle.mm_check.proofs.Below.{contains, slice_cmp, list_any, option_map, nat_cmp, is_eq, bytes_eq, take_more, map-append}
-use Rattle.mm_check.proofs.Below.{list_any-append, is_eq-slice_cmp, Meddle, CodeEvent, Event, event_of, own_values, Batch, batches_of}
-use Rattle.mm_check.proofs.Below.{asked_batches, first_where, events_of, HasAll, One, Many, normal}
-use Rattle.mm_check.proofs.ListingLaws.{or_here, bytes_eq-flip, first_where-push}
+use Rattle.mm_check.proofs.Below.{nat_list_eq_equiv, list_any-append, is_eq-slice_cmp, Meddle, CodeEvent, Event, event_of, own_values}
+use Rattle.mm_check.proofs.Below.{Batch, batches_of, asked_batches, first_where, events_of, HasAll, One, Many, normal}
+use Rattle.mm_check.proofs.ListingLaws.{first_where-push}
 use Rattle.mm_digest.specs.MessagesWords.{secured_of, secured_batch_of}
 use Rattle.mm_module.specs.BatchWords.{has_tab}
 use Rattle.mm_model.specs.Chains.{guard}
@@ -41,7 +41,7 @@ or_is false rest = refl
 pub put_at : (digest d : List ℕ) (new old : Bool) → new ≡ cond (is_eq (slice_cmp nat_cmp digest d)) true old
     → new ≡ (bytes_eq d digest || old)
 put_at digest d new old e =
-    e ∙ ap (λ (b : Bool). cond b true old) (is_eq-slice_cmp digest d ∙ bytes_eq-flip digest d) ∙ or_is (bytes_eq d digest) old
+    e ∙ ap (λ (b : Bool). cond b true old) (is_eq-slice_cmp digest d ∙ nat_list_eq_equiv.symm digest d) ∙ or_is (bytes_eq d digest) old
 
 or_flip : (a b : Bool) → (a || b) ≡ (b || (a || false))
 or_flip true true = refl
@@ -56,36 +56,19 @@ has_more known old new g more h goes is d =
     goes d ∙ ap (λ (b : Bool). bytes_eq d g || b) (h d) ∙ or_flip (bytes_eq d g) (list_any (bytes_eq d) known)
     ∙ sym (list_any-append (bytes_eq d) known (g ∷ [])) ∙ ap (λ (l : List (List ℕ)). list_any (bytes_eq d) (known ++ l)) is
 
--- the guards of one event more
+-- one event more
 
-asked_append : (xs ys : List Event) → asked_batches (xs ++ ys) ≡ asked_batches xs ++ asked_batches ys
-asked_append [] ys = refl
-asked_append (x ∷ xs) ys =
-    ap (λ (l : List Batch). batches_of x ++ l) (asked_append xs ys)
-    ∙ sym (append_assoc (batches_of x) (asked_batches xs) (asked_batches ys))
+pub events_more : (es : List CodeEvent) (i : ℕ) (e : CodeEvent) → i < length es → e ≡ get_or es i e
+    → events_of (take i es) ++ event_of e ∷ [] ≡ events_of (take (i + 1) es)
+events_more es i e h is = ap (λ (x : CodeEvent). events_of (take i es) ++ event_of x ∷ []) is
+    ∙ sym (ap events_of (take_more es i e h) ∙ map-append event_of (take i es) (get_or es i e ∷ []))
 
-pub events_more : (es : List CodeEvent) (i : ℕ) (d : CodeEvent) → i < length es
-    → events_of (take (i + 1) es) ≡ events_of (take i es) ++ event_of (get_or es i d) ∷ []
-events_more es i d h = ap events_of (take_more es i d h) ∙ map-append event_of (take i es) (get_or es i d ∷ [])
-
-pub guards_more : (barrier : List ℕ) (es : List CodeEvent) (i : ℕ) (d : CodeEvent) → i < length es
-    → own_values barrier (asked_batches (events_of (take i es))) ++ own_values barrier (batches_of (event_of (get_or es i d)))
-    ≡ own_values barrier (asked_batches (events_of (take (i + 1) es)))
-guards_more barrier es i d h =
-    let e = event_of (get_or es i d) in
-    let before = events_of (take i es) in
-    sym (ap (λ (l : List Event). own_values barrier (asked_batches l)) (events_more es i d h) ∙ ap (own_values barrier)
-    (asked_append before (e ∷ []) ∙ ap (λ (l : List Batch). asked_batches before ++ l) (append-nil (batches_of e)))
+pub guards_more : (barrier : List ℕ) (before : List Event) (e : Event)
+    → own_values barrier (asked_batches before) ++ own_values barrier (batches_of e) ≡ own_values barrier (asked_batches (before ++ e ∷ []))
+guards_more barrier before e =
+    sym (ap (own_values barrier) (flat_map-append batches_of before (e ∷ [])
+    ∙ ap (λ (l : List Batch). asked_batches before ++ l) (append-nil (batches_of e)))
     ∙ map-append (guard barrier) (asked_batches before) (batches_of e))
-
-pub guards_more_at : (barrier : List ℕ) (es : List CodeEvent) (i : ℕ) (e : CodeEvent) → i < length es → e ≡ get_or es i e
-    → (set : BTreeSet (List ℕ))
-    → HasAll (own_values barrier (asked_batches (events_of (take i es))) ++ own_values barrier (batches_of (event_of e))) set
-    → HasAll (own_values barrier (asked_batches (events_of (take (i + 1) es)))) set
-guards_more_at barrier es i e h is set has d =
-    has d ∙ ap (λ (x : CodeEvent). list_any (bytes_eq d)
-    (own_values barrier (asked_batches (events_of (take i es))) ++ own_values barrier (batches_of (event_of x)))) is
-    ∙ ap (list_any (bytes_eq d)) (guards_more barrier es i e h)
 
 -- the first event that passes
 
@@ -98,36 +81,17 @@ first_none : (here : Bool) (o : Option ℕ) → (let w : Option ℕ = cond here 
 first_none true o h = absurd (cc)
 first_none false o h = (refl, none_before o h)
 
-first_now : (here : Bool) (o : Option ℕ) → here ≡ true → (let w : Option ℕ = cond here (Some 1) o in Some 1 ≡ w)
-first_now true o h = refl
-first_now false o h = absurd (cc)
+pub first_at : (p : Event → Bool) (es : List CodeEvent) (i : ℕ) (e : CodeEvent) → i < length es → e ≡ get_or es i e
+    → first_where p (events_of (take i es)) ≡ None → p (event_of e) ≡ true → Some (i + 1) ≡ first_where p (events_of es)
+first_at p [] i e h is none here = absurd (omega arith)
+first_at p (x ∷ es) zero e h is none here = rw (sym (ap (λ (y : CodeEvent). p (event_of y)) is) ∙ here) refl
+first_at p (x ∷ es) (suc i) e h is none here =
+    let parts = first_none (p (event_of x)) (first_where p (events_of (take i es))) none in
+    rw (parts.0, ← first_at p es i e (omega arith) is parts.1 here) (ap Some (omega arith))
 
-first_later : (here : Bool) (o : Option ℕ) (n : ℕ) → here ≡ false → Some n ≡ o
-    → (let w : Option ℕ = cond here (Some 1) (option_map (λ k. k + 1) o) in Some (n + 1) ≡ w)
-first_later true o n h e = absurd (cc)
-first_later false o n h e = ap (option_map (λ k. k + 1)) e
-
-pub first_at : (p : Event → Bool) (es : List CodeEvent) (i : ℕ) (d : CodeEvent) → i < length es
-    → first_where p (events_of (take i es)) ≡ None → p (event_of (get_or es i d)) ≡ true → Some (i + 1) ≡ first_where p (events_of es)
-first_at p [] i d h none here = absurd (omega arith)
-first_at p (e ∷ es) zero d h none here = first_now (p (event_of e)) _ here
-first_at p (e ∷ es) (suc i) d h none here =
-    let parts = first_none (p (event_of e)) (first_where p (events_of (take i es))) none in
-    let number : suc i + 1 ≡ (i + 1) + 1 = omega arith in
-    ap Some number ∙ first_later (p (event_of e)) (first_where p (events_of es)) (i + 1) parts.0
-    (first_at p es i d (omega arith) parts.1 here)
-
-nothing_here : (found : Option ℕ) (here : Bool) (last : ℕ) → found ≡ None → here ≡ false → or_here found here last ≡ None
-nothing_here None false last f h = refl
-nothing_here None true last f h = absurd (cc)
-nothing_here (Some n) here last f h = absurd (cc)
-
-pub none_more : (p : Event → Bool) (es : List CodeEvent) (i : ℕ) (d : CodeEvent) → i < length es
-    → first_where p (events_of (take i es)) ≡ None
-    → p (event_of (get_or es i d)) ≡ false → first_where p (events_of (take (i + 1) es)) ≡ None
-none_more p es i d h none here =
-    ap (first_where p) (events_more es i d h) ∙ first_where-push p (events_of (take i es)) (event_of (get_or es i d))
-    ∙ nothing_here (first_where p (events_of (take i es))) (p (event_of (get_or es i d))) _ none here
+pub none_more : (p : Event → Bool) (before : List Event) (e : Event) → first_where p before ≡ None → p e ≡ false
+    → first_where p (before ++ e ∷ []) ≡ None
+none_more p before e none here = first_where-push p before e ∙ rw (none, here) refl
 
 -- a set that has these digests finds them
 pub secured_same : (known : List (List ℕ)) (set : BTreeSet (List ℕ)) (values : List (List ℕ)) → HasAll known set

@@ -1,15 +1,12 @@
 mod Below
 mod ListingLaws
-mod CountsLaws
 mod SetLaws
 mod GuardLaws
-mod LineLaws
 mod ClearLaws
 mod FewLaws
 mod DecidingLaws
 mod FewLines
 mod ComparingLaws
 mod CheckingLaws
-mod DifferenceLaws
 mod RunLaws
 mod FixedLaws

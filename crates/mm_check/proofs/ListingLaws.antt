@@ -1,10 +1,13 @@
--- What one more digest changes.
+-- What one more digest changes, and the numbers in code after it.
 use Rattle.mm_check.proofs.Below.{◌≡◌, ◌∙◌, ℕ, ◌+◌, ◌≤◌, nat_lt, Bool, true, false, cond, List, [], ◌∷◌, ◌++◌, length, Option, None, Some}
-use Rattle.mm_check.proofs.Below.{refl, sym, ap, arith, option_map, bytes_eq, nat_tests, same_from_decides, bytes_eq-Decides, first_where}
-use Rattle.mm_check.proofs.Below.{both_more, shared_with, shared_in, is_zero, zero_in, lower, zero_then}
+use Rattle.mm_check.proofs.Below.{refl, sym, ap, arith, length-append, option_map, bytes_eq, nat_tests, nat_list_eq_equiv, bytes_eq-Decides}
+use Rattle.mm_check.proofs.Below.{slice_cmp, nat_cmp, is_eq, is_eq-slice_cmp, first_where, both_more, shared_with, shared_in, is_zero}
+use Rattle.mm_check.proofs.Below.{zero_in, lower, zero_then, pair_of, CountsDigests}
+use Rattle.std.specs.BTreeMap as tree
+use Rattle.mm_check.specs.declared.digests.Digests.{Digests}
 
 -- the number that was found, or this one where the test passes
-abbrev pub or_here : Option ℕ → Bool → ℕ → Option ℕ
+abbrev or_here : Option ℕ → Bool → ℕ → Option ℕ
 or_here (Some n) here last = Some n
 or_here None true last = Some last
 or_here None false last = None
@@ -31,10 +34,6 @@ pub first_where-push : {A : Type 0} (p : A → Bool) (xs : List A) (x : A)
     → first_where p (xs ++ x ∷ []) ≡ or_here (first_where p xs) (p x) (length xs + 1)
 first_where-push p [] x = first_one (p x)
 first_where-push p (y ∷ xs) x = first_pass p y (p y) xs x (first_where-push p xs x)
-
-pub bytes_eq-flip : (a b : List ℕ) → bytes_eq a b ≡ bytes_eq b a
-bytes_eq-flip a b = same_from_decides (bytes_eq a b) (bytes_eq b a) (bytes_eq-Decides a b)
-    (λ h. sym ((bytes_eq-Decides b a).0 h), λ h. (bytes_eq-Decides b a).1 (sym h))
 
 -- the pair after a digest whose first has this number, if there is one
 abbrev lower_if : Option (ℕ × ℕ) → Option ℕ → ℕ → Option (ℕ × ℕ)
@@ -67,40 +66,29 @@ not_below_one m = grind (arith, nat_tests)
 one_below : (n : ℕ) → 1 ≤ n → nat_lt 1 (n + 1) ≡ true
 one_below n h = grind (arith, nat_tests)
 
-chosen_same : (test : Bool) (a : ℕ × ℕ) (first second : ℕ) → test ≡ false → cond test (Some (first, second)) (Some a) ≡ Some a
-chosen_same true a first second e = absurd (cc)
-chosen_same false a first second e = refl
-
-chosen_new : (test : Bool) (a : ℕ × ℕ) (first second next : ℕ) → test ≡ true → second ≡ next
-    → Some (first, second) ≡ cond test (Some (first, next)) (Some a)
-chosen_new true a first second next e s = ap (λ (n : ℕ). Some (first, n)) s
-chosen_new false a first second next e s = absurd (cc)
-
-chosen_more : (t u : Bool) (a : ℕ × ℕ) (m last next : ℕ) → u ≡ t → last + 1 ≡ next
-    → option_map both_more (cond t (Some (m, last)) (Some a)) ≡ cond u (Some (m + 1, next)) (Some (both_more a))
-chosen_more true true a m last next e s = ap (λ (n : ℕ). Some (m + 1, n)) s
-chosen_more false false a m last next e s = refl
-chosen_more true false a m last next e s = absurd (cc)
-chosen_more false true a m last next e s = absurd (cc)
+chosen_more : (test : Bool) (a : ℕ × ℕ) (m last : ℕ)
+    → option_map both_more (cond test (Some (m, last)) (Some a)) ≡ cond test (Some (m + 1, last + 1)) (Some (both_more a))
+chosen_more true a m last = refl
+chosen_more false a m last = refl
 
 -- the first digest comes again already
 again_step : (n m next : ℕ) (here : Bool) (x : Option ℕ)
     → Some (1, n + 1) ≡ lower_if (Some (1, n + 1)) (cond here (Some 1) (option_map (λ k. k + 1) x)) next
 again_step n m next true x = refl
 again_step n m next false None = refl
-again_step n m next false (Some k) = sym (chosen_same (nat_lt (k + 1) 1) (1, n + 1) (k + 1) next (not_below_one k))
+again_step n m next false (Some k) = rw (not_below_one k) refl
 
 -- it comes again now
 now_step : (s : Option (ℕ × ℕ)) (last next : ℕ) → FromOne s → last + 1 ≡ next → Some (1, last + 1) ≡ lower (option_map both_more s) 1 next
 now_step None last next h e = ap (λ (n : ℕ). Some (1, n)) e
-now_step (Some a) last next h e = chosen_new (nat_lt 1 (a.0 + 1)) (both_more a) 1 (last + 1) next (one_below a.0 h) e
+now_step (Some a) last next h e = rw (one_below a.0 h) (ap (λ (n : ℕ). Some (1, n)) e)
 
 -- it doesn't come again
 later_step : (s : Option (ℕ × ℕ)) (x : Option ℕ) (last next : ℕ) → last + 1 ≡ next
     → option_map both_more (lower_if s x last) ≡ lower_if (option_map both_more s) (option_map (λ k. k + 1) x) next
 later_step s None last next e = refl
 later_step None (Some m) last next e = ap (λ (n : ℕ). Some (m + 1, n)) e
-later_step (Some a) (Some m) last next e = chosen_more (nat_lt m a.0) (nat_lt (m + 1) (a.0 + 1)) a m last next (lt_more m a.0) e
+later_step (Some a) (Some m) last next e = rw (lt_more m a.0, ← e) (chosen_more (nat_lt m a.0) a m last)
 
 shared_step : (found : Option ℕ) (s : Option (ℕ × ℕ)) (x : Option ℕ) (here : Bool) (last next : ℕ) → FromOne s → last + 1 ≡ next
     → shared_with (or_here found here last) (lower_if s x last) ≡ lower_if (shared_with found s)
@@ -114,7 +102,7 @@ shared_in-push : (ds : List (List ℕ)) (x : List ℕ)
 shared_in-push [] x = refl
 shared_in-push (d ∷ ds) x =
     let found = first_where-push (bytes_eq d) ds x
-    ∙ ap (λ (b : Bool). or_here (first_where (bytes_eq d) ds) b (length ds + 1)) (bytes_eq-flip d x) in
+    ∙ ap (λ (b : Bool). or_here (first_where (bytes_eq d) ds) b (length ds + 1)) (nat_list_eq_equiv.symm d x) in
     ap (λ (o : Option ℕ). shared_with o (shared_in (ds ++ x ∷ []))) found
     ∙ ap (shared_with (or_here (first_where (bytes_eq d) ds) (bytes_eq x d) (length ds + 1))) (shared_in-push ds x)
     ∙ shared_step (first_where (bytes_eq d) ds) (shared_in ds) (first_where (bytes_eq x) ds) (bytes_eq x d) (length ds + 1)
@@ -139,7 +127,7 @@ known_at f ds x d n false h is e = here_not (first_where (bytes_eq d) ds) (lengt
 known_at f ds x d n true h is e =
     here_known (first_where (bytes_eq d) ds) n true (length ds + 1) (sym (h d) ∙ ap f ((bytes_eq-Decides d x).0 e) ∙ is)
 
-pub finds-known : (f : List ℕ → Option ℕ) (ds : List (List ℕ)) (x : List ℕ) (n : ℕ) → Finds f ds → f x ≡ Some n → Finds f (ds ++ x ∷ [])
+finds-known : (f : List ℕ → Option ℕ) (ds : List (List ℕ)) (x : List ℕ) (n : ℕ) → Finds f ds → f x ≡ Some n → Finds f (ds ++ x ∷ [])
 finds-known f ds x n h is d = h d ∙ known_at f ds x d n (bytes_eq d x) h is refl ∙ sym (first_where-push (bytes_eq d) ds x)
 
 new_at : (f : List ℕ → Option ℕ) (ds : List (List ℕ)) (x d : List ℕ) (same : Bool) → Finds f ds → f x ≡ None → bytes_eq d x ≡ same
@@ -148,16 +136,16 @@ new_at f ds x d false h is e = h d ∙ here_not (first_where (bytes_eq d) ds) (l
 new_at f ds x d true h is e =
     ap (λ (o : Option ℕ). or_here o true (length ds + 1)) (sym (sym (h d) ∙ ap f ((bytes_eq-Decides d x).0 e) ∙ is))
 
-pub finds-new : (f g : List ℕ → Option ℕ) (ds : List (List ℕ)) (x : List ℕ) → Finds f ds → f x ≡ None
+finds-new : (f g : List ℕ → Option ℕ) (ds : List (List ℕ)) (x : List ℕ) → Finds f ds → f x ≡ None
     → ((d : List ℕ) → g d ≡ cond (bytes_eq d x) (Some (length ds + 1)) (f d)) → Finds g (ds ++ x ∷ [])
 finds-new f g ds x h is goes d = goes d ∙ new_at f ds x d (bytes_eq d x) h is refl ∙ sym (first_where-push (bytes_eq d) ds x)
 
 -- the pair, likewise
-pub shared-known : (f : List ℕ → Option ℕ) (ds : List (List ℕ)) (x : List ℕ) (n : ℕ) → Finds f ds → f x ≡ Some n
+shared-known : (f : List ℕ → Option ℕ) (ds : List (List ℕ)) (x : List ℕ) (n : ℕ) → Finds f ds → f x ≡ Some n
     → shared_in (ds ++ x ∷ []) ≡ lower (shared_in ds) n (length ds + 1)
 shared-known f ds x n h is = shared_in-push ds x ∙ ap (λ (o : Option ℕ). lower_if (shared_in ds) o (length ds + 1)) (sym (h x) ∙ is)
 
-pub shared-new : (f : List ℕ → Option ℕ) (ds : List (List ℕ)) (x : List ℕ) → Finds f ds → f x ≡ None
+shared-new : (f : List ℕ → Option ℕ) (ds : List (List ℕ)) (x : List ℕ) → Finds f ds → f x ≡ None
     → shared_in (ds ++ x ∷ []) ≡ shared_in ds
 shared-new f ds x h is = shared_in-push ds x ∙ ap (λ (o : Option ℕ). lower_if (shared_in ds) o (length ds + 1)) (sym (h x) ∙ is)
 
@@ -170,5 +158,46 @@ zero_by : (found : Option ℕ) (digest : List ℕ) (last : ℕ) → or_here foun
 zero_by (Some n) digest last = refl
 zero_by None digest last = zero_here None (is_zero digest) last
 
-pub zero_in-push : (ds : List (List ℕ)) (x : List ℕ) → zero_in (ds ++ x ∷ []) ≡ zero_then (zero_in ds) x (length ds + 1)
+zero_in-push : (ds : List (List ℕ)) (x : List ℕ) → zero_in (ds ++ x ∷ []) ≡ zero_then (zero_in ds) x (length ds + 1)
 zero_in-push ds x = first_where-push is_zero ds x ∙ zero_by (zero_in ds) x (length ds + 1)
+
+-- the numbers in code after one more digest
+
+abbrev number_at : Digests → List ℕ → Option ℕ
+number_at it d = tree.get (slice_cmp nat_cmp) it.firsts d
+
+-- what comes with every digest
+pub record Adds (old new : Digests) (x : List ℕ) : Type 0 where
+  pub count : new.count ≡ old.count + 1
+  pub zero : new.zero ≡ zero_then old.zero x (old.count + 1)
+
+one_longer : (ds : List (List ℕ)) (x : List ℕ) (n : ℕ) → n ≡ length ds → n + 1 ≡ length (ds ++ x ∷ [])
+one_longer ds x n e = omega (arith, length-append ds (x ∷ []))
+
+zero_goes : (ds : List (List ℕ)) (old new : Digests) (x : List ℕ) → CountsDigests ds old → Adds old new x
+    → new.zero ≡ zero_in (ds ++ x ∷ [])
+zero_goes ds old new x h a =
+    a.zero ∙ (λ j. zero_then (h.zero j) x (h.count j + 1)) ∙ sym (zero_in-push ds x)
+
+pub counts-known : (ds : List (List ℕ)) (old new : Digests) (x : List ℕ) (n : ℕ) → CountsDigests ds old → Adds old new x
+    → number_at old x ≡ Some n → new.firsts ≡ old.firsts → pair_of new.shared ≡ lower (pair_of old.shared) n (old.count + 1)
+    → CountsDigests (ds ++ x ∷ []) new
+counts-known ds old new x n h a found same shared = record {
+  firsts = λ (d : List ℕ). ap (λ m. tree.get (slice_cmp nat_cmp) m d) same ∙ finds-known (number_at old) ds x n h.firsts found d;
+  count = a.count ∙ one_longer ds x old.count h.count;
+  shared = shared ∙ (λ j. lower (h.shared j) n (h.count j + 1))
+      ∙ sym (shared-known (number_at old) ds x n h.firsts found);
+  zero = zero_goes ds old new x h a;
+}
+
+pub counts-new : (ds : List (List ℕ)) (old new : Digests) (x : List ℕ) → CountsDigests ds old → Adds old new x → number_at old x ≡ None
+    → ((d : List ℕ) → number_at new d ≡ cond (is_eq (slice_cmp nat_cmp x d)) (Some (old.count + 1)) (number_at old d))
+    → new.shared ≡ old.shared → CountsDigests (ds ++ x ∷ []) new
+counts-new ds old new x h a none goes same = record {
+  firsts = finds-new (number_at old) (number_at new) ds x h.firsts none (λ (d : List ℕ).
+      goes d ∙ ap (λ b. cond b (Some (old.count + 1)) (number_at old d)) (is_eq-slice_cmp x d ∙ nat_list_eq_equiv.symm x d)
+      ∙ ap (λ (n : ℕ). cond (bytes_eq d x) (Some (n + 1)) (number_at old d)) h.count);
+  count = a.count ∙ one_longer ds x old.count h.count;
+  shared = ap pair_of same ∙ h.shared ∙ sym (shared-new (number_at old) ds x h.firsts none);
+  zero = zero_goes ds old new x h a;
+}

@@ -15,7 +15,7 @@ or_same : (a r : Bool) → (a || r) ≡ (a || (a || r))
 or_same true r = refl
 or_same false r = refl
 
-or_swap : (a b r : Bool) → (a || (b || r)) ≡ (b || (a || r))
+pub or_swap : (a b r : Bool) → (a || (b || r)) ≡ (b || (a || r))
 or_swap true true r = refl
 or_swap true false r = refl
 or_swap false true r = refl

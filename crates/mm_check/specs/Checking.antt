@@ -1,17 +1,9 @@
 -- A recorded run line by line: the header, the events, and at will the line `replies` and the
 -- recorded lines.
-use Rattle.std.specs.Prelude.{ℕ, ◌+◌, ◌-◌, Bool, true, false, nat_le, List, [], ◌∷◌, ◌++◌, codes, Option, None, Some, Result, Ok, Err, if◌then◌else◌}
-use Rattle.std.specs.List.{slice_get}
-use Rattle.std.specs.Str.{bytes_eq}
-use Rattle.mm_base.specs.Limits.{most_events}
-use Rattle.mm_schedule.specs.declared.header.Header.{Header}
-use Rattle.mm_schedule.specs.Events.{Event}
-use Rattle.mm_schedule.specs.Grammar.{event_at}
-use Rattle.mm_schedule.specs.Replies.{lines_of_reply}
-use Rattle.mm_run.specs.Held.{world_of}
-use Rattle.mm_play.specs.declared.player.Refused.{Refused}
-use Rattle.mm_play.specs.declared.player.Refused.TheVariants.{Bad, Much}
-use Rattle.mm_replay.specs.Schedule.{Running, begun, is_too_much, running_outcome, after_event}
+use Rattle.mm_check.specs.Below.{slice_get, sum_by, ℕ, ◌+◌, ◌-◌, Bool, true, false, nat_le, List, [], ◌∷◌, ◌++◌, codes, length, Option}
+use Rattle.mm_check.specs.Below.{None, Some, Result, Ok, Err, if◌then◌else◌, bytes_eq, most_events, Event, event_at, lines_of_reply, Header}
+use Rattle.mm_check.specs.Below.{world_of, Running, begun, most_kept, running_outcome, after_event, EventPlayer, event_answer}
+use Rattle.mm_check.specs.Below.{header_answer, Refused, Much}
 use Rattle.mm_check.specs.Numbering.{expected_lines}
 
 -- the line between the events and the recorded lines
@@ -80,14 +72,24 @@ pub data CheckStage : Type 0 where
   InEvents : Read → CheckStage
   InReplies : Compared → CheckStage
 
+-- what is done with events
+abbrev pub checking : EventPlayer Event Read CheckStage
+checking = record {
+  among = λ r. InEvents r;
+  event_in = λ r. event_at;
+  reply = λ r event. [];
+  after = with_event;
+  events = λ r. r.running.events;
+  bytes = λ r. r.running.read;
+  kept = λ r. sum_by length r.running.issued;
+  room = most_kept;
+}
+
 abbrev pub headed : Option Header → Result (List ℕ × CheckStage) Refused
-headed None = Err Bad
-headed (Some header) = Ok ([], InEvents (first_read header))
+headed found = header_answer first_read checking.among found
 
 abbrev pub read_event : Read → List ℕ → Option Event → Result (List ℕ × CheckStage) Refused
-read_event r line None = Err Bad
-read_event r line (Some event) =
-    if is_too_much r.running line then Err Much else Ok ([], InEvents (with_event r line event))
+read_event r line found = event_answer checking r line found
 
 -- a line among the events
 abbrev pub read_line : Read → List ℕ → Result (List ℕ × CheckStage) Refused

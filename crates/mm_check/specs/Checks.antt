@@ -1,17 +1,7 @@
 -- The check of a recorded run: what it says of the lines of an input.
-use Rattle.std.specs.Prelude.{◌≡◌, ℕ, List, [], ◌∷◌, ◌++◌, map, Option, Some, Result, Ok, Err, ◌⊎◌}
-use Rattle.std.specs.Io.KnownBytes.{Appends, Consumes, IsAtEnd}
-use Rattle.mm_base.specs.Input.{lines_of}
-use Rattle.mm_base.specs.declared.replay_fault.ReplayFault.{ReplayFault}
-use Rattle.mm_base.specs.declared.replay_fault.ReplayFault.TheVariants.{Memory, ReadFault, WriteFault, BadLine, LineLong, TooMuch}
-use Rattle.mm_schedule.specs.declared.header.Header.{Header}
-use Rattle.mm_schedule.specs.Events.{Event}
-use Rattle.mm_schedule.specs.Grammar.{event_at}
-use Rattle.mm_schedule.specs.Headers.{header_at}
-use Rattle.mm_run.specs.Held.{world_of}
-use Rattle.mm_play.specs.Play.{Told, run, run_of}
-use Rattle.mm_play.specs.Plays.{ForWhole, IsTailShort}
-use Rattle.mm_play.specs.Takes.{IsFrontOf}
+use Rattle.mm_check.specs.Below.{Appends, Consumes, IsAtEnd, ◌≡◌, ℕ, List, [], ◌∷◌, ◌++◌, map, Option, Some, Result, Ok, Err, ◌⊎◌, lines_of}
+use Rattle.mm_check.specs.Below.{ReplayFault, Memory, ReadFault, WriteFault, Event, event_at, header_at, Header, world_of, Told, run}
+use Rattle.mm_check.specs.Below.{run_of, ForWhole, IsTailShort, IsFrontOf}
 use Rattle.mm_check.specs.Checking.{CheckStage, AtHeader, check_answer, check_closing, section_line}
 use Rattle.mm_check.specs.Verdicts.{AreVerdicts, run_lines, verdicts_text}
 use Rattle.mm_check.specs.declared.verdicts.Verdicts.{Verdicts}
@@ -64,12 +54,8 @@ JudgesBy left taken (Err ReadFault) =
 JudgesBy left taken (Err WriteFault) = ⊥
 JudgesBy left taken (Err Memory) = Unit {0}
 -- else the run over the lines stops so
-JudgesBy left taken (Err (BadLine number)) =
-    ForWhole left taken (λ input. (check_run input).outcome ≡ Err (BadLine number))
-JudgesBy left taken (Err (LineLong number)) =
-    ForWhole left taken (λ input. (check_run input).outcome ≡ Err (LineLong number))
-JudgesBy left taken (Err TooMuch) =
-    ForWhole left taken (λ input. (check_run input).outcome ≡ Err TooMuch)
+JudgesBy left taken (Err fault) =
+    ForWhole left taken (λ input. (check_run input).outcome ≡ Err fault)
 
 pub record Judges (left left' : Option (List ℕ)) (result : Result Verdicts ReplayFault) : Type 0
   where
@@ -84,15 +70,8 @@ ChecksRunBy left taken sent (Ok verdicts) =
     IsJudged left taken verdicts × (sent ≡ verdicts_text verdicts)
 ChecksRunBy left taken sent (Err WriteFault) =
     (verdicts : Verdicts) × IsJudged left taken verdicts × IsFrontOf sent (verdicts_text verdicts)
-ChecksRunBy left taken sent (Err ReadFault) = (sent ≡ []) × IsTailShort taken
-    × ((after : CheckStage) × ((check_lines (lines_of taken)).outcome ≡ Ok after))
 ChecksRunBy left taken sent (Err Memory) = sent ≡ []
-ChecksRunBy left taken sent (Err (BadLine number)) = (sent ≡ [])
-    × ForWhole left taken (λ input. (check_run input).outcome ≡ Err (BadLine number))
-ChecksRunBy left taken sent (Err (LineLong number)) = (sent ≡ [])
-    × ForWhole left taken (λ input. (check_run input).outcome ≡ Err (LineLong number))
-ChecksRunBy left taken sent (Err TooMuch) =
-    (sent ≡ []) × ForWhole left taken (λ input. (check_run input).outcome ≡ Err TooMuch)
+ChecksRunBy left taken sent (Err fault) = (sent ≡ []) × JudgesBy left taken (Err fault)
 
 -- A check took these bytes of the input and wrote those.
 pub record ChecksRun (left left' received received' : Option (List ℕ))

@@ -1,83 +1,63 @@
 -- A recorded run ends: each answered line leaves fewer.
-use Rattle.std.specs.Prelude.{◌≡◌, ℕ, ◌+◌, ◌<◌, ◌^◌, Bool, true, false, nat_le, List, [], Option, None, Some, Result, Ok, Err, if◌then◌else◌}
-use Rattle.std.specs.Str.{bytes_eq}
-use Rattle.std.proofs.Common.{refl, subst, arith}
-use Rattle.std.proofs.lemmas.Bool.Decides.{nat_tests}
-use Rattle.mm_base.specs.Limits.{most_events}
-use Rattle.mm_schedule.specs.declared.header.Header.{Header}
-use Rattle.mm_schedule.specs.Events.{Event}
-use Rattle.mm_schedule.specs.Grammar.{event_at}
-use Rattle.mm_play.specs.declared.player.Refused.{Refused}
-use Rattle.mm_play.specs.declared.player.Refused.TheVariants.{Bad, Much}
-use Rattle.mm_play.specs.Counting.{few_events, no_answer, same_next}
-use Rattle.mm_replay.specs.Schedule.{is_too_much, replaying}
-use Rattle.mm_check.specs.Checking.{Read, first_read, with_event, Compared, first_compared, after_compared, CheckStage, AtHeader, InEvents, InReplies, headed, read_event, check_answer, check_left, most_recorded, section_line}
-
-fewer : (bound : ℕ) (reply said : List ℕ) (next stage : CheckStage)
-    → (let r : Result (List ℕ × CheckStage) Refused = Ok (said, stage) in r ≡ Ok (reply, next))
-    → check_left stage < bound → check_left next < bound
-fewer bound reply said next stage h few =
-    subst (λ (s : CheckStage). check_left s < bound) (same_next reply said next stage h) few
-
-header_fewer : (found : Option Header) (reply : List ℕ) (next : CheckStage)
-    → headed found ≡ Ok (reply, next)
-    → check_left next < most_events + most_recorded + 2
-header_fewer None reply next h = absurd (no_answer Bad reply next h)
-header_fewer (Some header) reply next h =
-    fewer (most_events + most_recorded + 2) reply [] next (InEvents (first_read header)) h
-    (omega arith)
-
-event_fewer : (r : Read) (line : List ℕ) (event : Event) (much : Bool) (reply : List ℕ)
-    (next : CheckStage)
-    → is_too_much r.running line ≡ much
-    → (let a : Result (List ℕ × CheckStage) Refused = if much then Err Much
-    else Ok ([], InEvents (with_event r line event)) in
-    a ≡ Ok (reply, next))
-    → check_left next < check_left (InEvents r)
-event_fewer r line event true reply next is h = absurd (no_answer Much reply next h)
-event_fewer r line event false reply next is h =
-    fewer (check_left (InEvents r)) reply [] next (InEvents (with_event r line event)) h
-    (omega (arith, few_events replaying r.running line is))
-
-found_fewer : (r : Read) (line : List ℕ) (found : Option Event) (reply : List ℕ) (next : CheckStage)
-    → read_event r line found ≡ Ok (reply, next)
-    → check_left next < check_left (InEvents r)
-found_fewer r line None reply next h = absurd (no_answer Bad reply next h)
-found_fewer r line (Some event) reply next h =
-    event_fewer r line event (is_too_much r.running line) reply next refl h
-
-read_fewer : (r : Read) (line : List ℕ) (section : Bool) (reply : List ℕ) (next : CheckStage)
-    → (let a : Result (List ℕ × CheckStage) Refused = if section
-    then Ok ([], InReplies (first_compared r))
-    else read_event r line (event_at line) in a ≡ Ok (reply, next))
-    → check_left next < check_left (InEvents r)
-read_fewer r line true reply next h =
-    fewer (check_left (InEvents r)) reply [] next (InReplies (first_compared r)) h (omega arith)
-read_fewer r line false reply next h = found_fewer r line (event_at line) reply next h
+use Rattle.mm_check.specs.Below.{refl, sym, subst, inl, inr, arith, nat_tests, bytes_eq-Decides, ◌≡◌, ◌⊎◌, ℕ, ◌+◌, ◌<◌, ◌^◌, Bool, true}
+use Rattle.mm_check.specs.Below.{false, nat_le, List, [], Option, Result, Ok, Err, if◌then◌else◌, bytes_eq, most_events, event_at, Header}
+use Rattle.mm_check.specs.Below.{begins_fewer, few_events, no_answer, same_answer, taken, Taken, Refused, Much}
+use Rattle.mm_check.specs.Checking.{Read, first_read, Compared, first_compared, after_compared, CheckStage, AtHeader, InEvents, InReplies, checking, read_event, read_line, compare_line, check_answer, check_left, most_recorded, section_line}
 
 few_recorded : (count : ℕ) → nat_le most_recorded count ≡ false → count < most_recorded
 few_recorded count h = grind (arith, nat_tests)
 
-compare_fewer : (c : Compared) (line : List ℕ) (much : Bool) (reply : List ℕ) (next : CheckStage)
-    → nat_le most_recorded c.count ≡ much
-    → (let a : Result (List ℕ × CheckStage) Refused = if much then Err Much
-    else Ok ([], InReplies (after_compared c line)) in
-    a ≡ Ok (reply, next))
-    → check_left next < check_left (InReplies c)
-compare_fewer c line true reply next is h = absurd (no_answer Much reply next h)
-compare_fewer c line false reply next is h =
-    fewer (check_left (InReplies c)) reply [] next (InReplies (after_compared c line)) h
-    (omega (arith, few_recorded c.count is))
+-- where an answer is given unless there is too much, it is that answer
+unless_much : (much : Bool) (said answer : List ℕ × CheckStage)
+    → (let r : Result (List ℕ × CheckStage) Refused = if much then Err Much else Ok said in
+    r ≡ Ok answer) → (much ≡ false) × (said ≡ answer)
+unless_much true said answer h = absurd (no_answer Much answer.0 answer.1 h)
+unless_much false said answer h = (refl, same_answer said answer h)
+
+-- a recorded line was compared
+pub compared : (c : Compared) (line : List ℕ) (answer : List ℕ × CheckStage)
+    → compare_line c line ≡ Ok answer
+    → (nat_le most_recorded c.count ≡ false) × (([], InReplies (after_compared c line)) ≡ answer)
+compared c line answer h =
+    unless_much (nat_le most_recorded c.count) ([], InReplies (after_compared c line)) answer h
+
+-- a line among the events began the section, or was an event
+abbrev pub Reads : Read → List ℕ → List ℕ × CheckStage → Type 0
+Reads r line answer = ((line ≡ section_line) × (([], InReplies (first_compared r)) ≡ answer))
+    ⊎ Taken checking r line answer
+
+reads_by : (r : Read) (line : List ℕ) (section : Bool) (answer : List ℕ × CheckStage)
+    → bytes_eq line section_line ≡ section
+    → (let a : Result (List ℕ × CheckStage) Refused = if section
+    then Ok ([], InReplies (first_compared r))
+    else read_event r line (event_at line) in a ≡ Ok answer) → Reads r line answer
+reads_by r line true answer is h = inl (
+  (bytes_eq-Decides line section_line).0 is,
+  same_answer ([], InReplies (first_compared r)) answer h,
+)
+reads_by r line false answer is h = inr (taken checking r line answer h)
+
+pub reads : (r : Read) (line : List ℕ) (answer : List ℕ × CheckStage)
+    → read_line r line ≡ Ok answer → Reads r line answer
+reads r line answer h = reads_by r line (bytes_eq line section_line) answer refl h
 
 -- an answered line leaves fewer
 pub check_counts_down : (heading : List ℕ → Option Header) (it next : CheckStage)
     (line reply : List ℕ)
     → check_answer heading it line ≡ Ok (reply, next) → check_left next < check_left it
-check_counts_down heading AtHeader next line reply h = header_fewer (heading line) reply next h
+check_counts_down heading AtHeader next line reply h =
+    begins_fewer check_left (most_events + most_recorded + 2) first_read checking.among
+    (λ header. omega arith) (heading line) reply next h
 check_counts_down heading (InEvents r) next line reply h =
-    read_fewer r line (bytes_eq line section_line) reply next h
+    let So : List ℕ × CheckStage → Type 0 = λ a. check_left a.1 < check_left (InEvents r) in
+    elim (reads r line (reply, next) h) [
+      | inl section ↦ subst So section.1 (omega arith)
+      | inr t ↦ subst So (sym t.said) (omega (arith, few_events checking r line t.few))
+    ]
 check_counts_down heading (InReplies c) next line reply h =
-    compare_fewer c line (nat_le most_recorded c.count) reply next refl h
+    let a = compared c line (reply, next) h in
+    subst (λ (a : List ℕ × CheckStage). check_left a.1 < check_left (InReplies c)) a.1
+    (omega (arith, few_recorded c.count a.0))
 
 -- and there are few at first
 pub check_is_short : (it : CheckStage) → check_left it < 2 ^ 31

@@ -1,12 +1,6 @@
 -- What the code that decides holds behind some first events.
-use Rattle.std.specs.Prelude.{◌≡◌, ℕ, ◌+◌, ◌≤◌, Bool, true, false, List, length, Option, None, Some}
-use Rattle.mm_model.specs.Instance.{Instance}
-use Rattle.mm_schedule.specs.declared.header.Header.{Header}
-use Rattle.mm_schedule.specs.Events.{Event}
-use Rattle.mm_run.specs.Folds.{expected}
-use Rattle.mm_run.specs.Held.{world_of}
-use Rattle.mm_run.specs.Premises.{IsGenuineRun}
-use Rattle.mm_expect.specs.Traced.{IsAfter}
+use Rattle.mm_check.specs.Below.{◌≡◌, ℕ, ◌+◌, ◌≤◌, Bool, true, false, List, length, Option, None, Some, Instance, Event, Header, expected}
+use Rattle.mm_check.specs.Below.{world_of, IsGenuineRun, IsAfter}
 use Rattle.mm_check.specs.Lists.{Lists}
 use Rattle.mm_check.specs.Numbering.{numbered, lines_of_all, IsForgedAt, Decides, expected_lines}
 use Rattle.mm_check.specs.declared.deciding.Deciding.{Deciding}

@@ -1,21 +1,9 @@
 -- The guards of batches in code.
-use Rattle.std.specs.Prelude.{◌≡◌, ℕ, List, [], ◌∷◌, map, Option, None, Some, if◌then◌else◌}
-use Rattle.std.specs.BTreeSet.{BTreeSet, contains}
-use Rattle.std.specs.Cmp.Lexicographic.{slice_cmp}
-use Rattle.std.specs.List.{list_any}
-use Rattle.std.specs.Ordering.{nat_cmp}
-use Rattle.std.specs.Str.{bytes_eq}
-use Rattle.mm_digest.specs.declared.digest.Digest.{Digest}
-use Rattle.mm_digest.specs.declared.variant.Variant.{Variant}
-use Rattle.mm_digest.specs.declared.variant.Variant.TheVariants.{Basic, Opt}
-use Rattle.mm_model.specs.ChainsWords.{own_values}
-use Rattle.mm_run.specs.PremisesWords.{asked_batches}
+use Rattle.mm_check.specs.Below.{BTreeSet, contains, slice_cmp, list_any, nat_cmp, ◌≡◌, ℕ, List, [], ◌∷◌, map, Option, None, Some}
+use Rattle.mm_check.specs.Below.{if◌then◌else◌, bytes_eq, Digest, Variant, Basic, Opt, Batch, normal, own_values, is_long, Event, event_of}
+use Rattle.mm_check.specs.Below.{CodeEvent, asked_batches}
 use Rattle.mm_check.specs.Listing.{first_where}
 use Rattle.mm_check.specs.Numbering.{is_secured}
-use Rattle.mm_module.specs.Batch.{Batch, normal}
-use Rattle.mm_model.specs.Long.{is_long}
-use Rattle.mm_schedule.specs.declared.event.Event.{Event as CodeEvent}
-use Rattle.mm_schedule.specs.Events.{Event, event_of}
 
 abbrev pub events_of : List CodeEvent → List Event
 events_of events = map event_of events

@@ -1,23 +1,9 @@
 -- The premises of the headline for a run of events, as they are told: by the numbers of messages
 -- and of events.
-use Rattle.std.specs.Prelude.{◌≡◌, ℕ, ◌+◌, Bool, List, [], ◌∷◌, ◌++◌, length, Option, None, Some}
-use Rattle.std.specs.List.{fold, list_any}
-use Rattle.std.specs.Str.{bytes_eq}
-use Rattle.mm_digest.specs.declared.variant.Variant.TheVariants.{Opt}
-use Rattle.mm_digest.specs.Messages.{start_message}
-use Rattle.mm_model.specs.ChainsWords.{own_values}
-use Rattle.mm_model.specs.Instance.{Instance}
-use Rattle.mm_model.specs.History.{History, first_history}
-use Rattle.mm_model.specs.Messages.{IsClear}
-use Rattle.mm_schedule.specs.Events.{Event}
-use Rattle.mm_schedule.specs.Replies.{lines_of_reply, end_line}
-use Rattle.mm_schedule.specs.declared.reply.Reply.{Reply}
-use Rattle.mm_call.specs.Levels.{by_lists}
-use Rattle.mm_model.specs.History.{total_of}
-use Rattle.mm_run.specs.Folds.{Followed, event_outcome, first_issued, expected}
-use Rattle.mm_run.specs.Premises.{foreign_of, IsClearRun, IsGenuineEvent, IsGenuineRun}
-use Rattle.mm_run.specs.PremisesWords.{asked_batches, run_messages}
-use Rattle.mm_expect.specs.Numbered.{numbered_event}
+use Rattle.mm_check.specs.Below.{flat_map, fold, list_any, ◌≡◌, ℕ, ◌+◌, Bool, List, [], ◌∷◌, ◌++◌, length, Option, None, Some, bytes_eq}
+use Rattle.mm_check.specs.Below.{start_message, Opt, own_values, History, first_history, total_of, Instance, IsClear, by_lists, Event}
+use Rattle.mm_check.specs.Below.{lines_of_reply, end_line, Reply, Followed, event_outcome, first_issued, expected, foreign_of, IsClearRun}
+use Rattle.mm_check.specs.Below.{IsGenuineEvent, IsGenuineRun, asked_batches, run_messages, numbered_event}
 use Rattle.mm_check.specs.Listing.{first_where, listed, message_digests, shared_in, zero_in}
 use Rattle.mm_check.specs.declared.verdicts.Premise.{Premise}
 use Rattle.mm_check.specs.declared.verdicts.Premise.TheVariants.{Held, Shared, Zero, Secured, Forged}
@@ -69,8 +55,7 @@ Decides i events (Forged event) = IsClearRun i events × IsForgedAt i events eve
 
 -- the lines of replies, each with its LF
 abbrev pub lines_of_all : List Reply → List (List ℕ)
-lines_of_all [] = []
-lines_of_all (reply ∷ replies) = lines_of_reply reply ++ lines_of_all replies
+lines_of_all replies = flat_map lines_of_reply replies
 
 -- the lines of a run that was followed, with its last line, by how many requests were committed
 abbrev pub lines_with : {S : Type 0} → Followed S → ℕ → List (List ℕ)

@@ -1,12 +1,8 @@
 -- What one line did to a recorded run that is read.
-use Rattle.std.specs.Prelude.{◌≡◌, ℕ, List, [], Option, None, Some, Result, Ok, Err}
-use Rattle.mm_play.specs.declared.player.Refused.{Refused}
-use Rattle.mm_play.specs.declared.player.Refused.TheVariants.{Bad, Much}
-use Rattle.mm_play.specs.declared.player.ReplyFault.{ReplyFault}
+use Rattle.mm_check.specs.Below.{◌≡◌, ℕ, List, [], Option, None, Some, Result, Ok, Err, Event, event_of, CodeEvent, Refused, Bad, Much}
+use Rattle.mm_check.specs.Below.{ReplyFault}
 use Rattle.mm_play.specs.declared.player.ReplyFault.TheVariants as fault
-use Rattle.mm_schedule.specs.Events.{Event, event_of}
-use Rattle.mm_schedule.specs.declared.event.Event.{Event as CodeEvent}
-use Rattle.mm_check.specs.Checking.{Read, Compared, CheckStage, AtHeader, InEvents, InReplies}
+use Rattle.mm_check.specs.Checking.{CheckStage, AtHeader, InEvents, InReplies}
 use Rattle.mm_check.specs.declared.player.Phase.{Phase}
 use Rattle.mm_check.specs.declared.player.Phase.TheVariants.{Events, Replies}
 
@@ -26,15 +22,6 @@ abbrev pub LineComesTo : {A : Type 0} → (A → CheckStage) → Result (List �
 LineComesTo stage answer (Ok next) = answer ≡ Ok ([], stage next)
 LineComesTo stage answer (Err fault.Memory) = Unit {0}
 LineComesTo stage answer (Err (fault.Refused why)) = answer ≡ Err why
-
-abbrev pub StepsPhase : Result (List ℕ × CheckStage) Refused → Result Phase ReplyFault → Type 0
-StepsPhase answer result = LineComesTo phase_of answer result
-
-abbrev pub ReadsEvent : Result (List ℕ × CheckStage) Refused → Result Read ReplyFault → Type 0
-ReadsEvent answer result = LineComesTo InEvents answer result
-
-abbrev pub ComparesLine : Result (List ℕ × CheckStage) Refused → Result Compared ReplyFault → Type 0
-ComparesLine answer result = LineComesTo InReplies answer result
 
 -- the event of a line, if it has one
 abbrev pub IsEventOf : Option Event → Result CodeEvent ReplyFault → Type 0

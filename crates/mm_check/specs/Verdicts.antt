@@ -1,14 +1,6 @@
 -- What a check comes to.
-use Rattle.std.specs.Prelude.{◌≡◌, ℕ, ◌+◌, ◌≤◌, Bool, false, nat_le, List, [], ◌∷◌, ◌++◌, length, codes, Option, None, Some, if◌then◌else◌}
-use Rattle.std.specs.Fmt.{decimal}
-use Rattle.std.specs.Str.{bytes_eq}
-use Rattle.mm_base.specs.Limits.{most_events}
-use Rattle.mm_schedule.specs.declared.header.Header.{Header}
-use Rattle.mm_schedule.specs.Events.{Event}
-use Rattle.mm_model.specs.Instance.{Instance}
-use Rattle.mm_run.specs.Folds.{replies_by_digests}
-use Rattle.mm_run.specs.Held.{world_of}
-use Rattle.mm_replay.specs.Schedule.{Running}
+use Rattle.mm_check.specs.Below.{decimal, ◌≡◌, ℕ, ◌+◌, ◌≤◌, Bool, false, nat_le, List, [], ◌∷◌, ◌++◌, length, codes, Option, None, Some}
+use Rattle.mm_check.specs.Below.{if◌then◌else◌, bytes_eq, most_events, Instance, Event, Header, replies_by_digests, world_of, Running}
 use Rattle.mm_check.specs.Numbering.{Decides, lines_of_all, lines_with, expected_lines}
 use Rattle.mm_check.specs.Checking.{Compared, differs_then, CheckStage, AtHeader, InEvents, InReplies}
 use Rattle.mm_check.specs.declared.verdicts.Premise.{Premise}

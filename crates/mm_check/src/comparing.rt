@@ -1,9 +1,9 @@
 //! Recorded lines, compared with those that are expected.
 
 ghost use Rattle.std.specs.Prelude.{◌≡◌, option_copied, IfOk};
-ghost use Rattle.mm_check.specs.Checking.{Compared, compare_line, differs_then, first_compared, is_line};
+ghost use Rattle.mm_check.specs.Checking.{Compared, InReplies, compare_line, differs_then, first_compared, is_line};
 ghost use Rattle.mm_check.specs.Verdicts.{AreVerdictsOn, agreement_of};
-ghost use Rattle.mm_check.specs.Steps.{ComparesLine};
+ghost use Rattle.mm_check.specs.Steps.{LineComesTo};
 
 use crate::reading::Reading;
 use crate::verdicts::{Agreement, Premise, Verdicts};
@@ -99,7 +99,7 @@ impl Comparing {
 
     /// Behind a recorded line.
     pub fn compare_line(mut self, alloc: Global, line: &[u8]) -> Result<Comparing, ReplyFault>
-        ensures { ComparesLine (compare_line self line.now) result }
+        ensures { LineComesTo InReplies (compare_line self line.now) result }
     {
         if self.count >= MOST_RECORDED {
             return Err(ReplyFault::Refused(Refused::Much));

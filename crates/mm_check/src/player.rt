@@ -5,7 +5,7 @@ ghost use Rattle.mm_base.specs.Limits.{longest_line};
 ghost use Rattle.mm_schedule.specs.Headers.{header_at};
 ghost use Rattle.mm_check.specs.Checking.{CheckStage, AtHeader, check_answer, check_closing, check_left, headed, read_line};
 ghost use Rattle.mm_check.specs.Counting.{check_counts_down, check_is_short};
-ghost use Rattle.mm_check.specs.Steps.{phase_of, check_stage, StepsPhase};
+ghost use Rattle.mm_check.specs.Steps.{phase_of, check_stage, LineComesTo};
 ghost use Rattle.mm_check.specs.Verdicts.{Concludes};
 
 use crate::comparing::Comparing;
@@ -40,7 +40,7 @@ impl Model for CheckPlayer {
 
 /// Behind the header of this line.
 fn first_phase(alloc: Global, line: &[u8]) -> Result<Phase, ReplyFault>
-    ensures { StepsPhase (headed (header_at line.now)) result }
+    ensures { LineComesTo phase_of (headed (header_at line.now)) result }
 {
     let header = match read_header(line) {
         Some(header) => header,
@@ -55,7 +55,7 @@ fn first_phase(alloc: Global, line: &[u8]) -> Result<Phase, ReplyFault>
 /// Behind a line among the events.
 fn read_line(alloc: Global, reading: Reading, line: &[u8]) -> Result<Phase, ReplyFault>
     requires { length line.now ≤ longest_line }
-    ensures { StepsPhase (read_line reading line.now) result }
+    ensures { LineComesTo phase_of (read_line reading line.now) result }
 {
     if line == b"replies".as_slice() {
         return match Comparing::new(alloc, reading) {
@@ -72,7 +72,7 @@ fn read_line(alloc: Global, reading: Reading, line: &[u8]) -> Result<Phase, Repl
 /// Behind the next line.
 fn next_phase(alloc: Global, phase: Option<Phase>, line: &[u8]) -> Result<Phase, ReplyFault>
     requires { length line.now ≤ longest_line }
-    ensures { StepsPhase (check_answer header_at (check_stage phase) line.now) result }
+    ensures { LineComesTo phase_of (check_answer header_at (check_stage phase) line.now) result }
 {
     match phase {
         None => first_phase(alloc, line),

@@ -5,9 +5,9 @@ ghost use Rattle.mm_base.specs.Limits.{longest_line};
 ghost use Rattle.mm_schedule.specs.Grammar.{event_at};
 ghost use Rattle.mm_schedule.specs.Replies.{IsPrintable, lines_of_reply};
 ghost use Rattle.mm_run.specs.Held.{world_of};
-ghost use Rattle.mm_check.specs.Checking.{Read, first_read, read_event};
+ghost use Rattle.mm_check.specs.Checking.{Read, InEvents, first_read, read_event};
 ghost use Rattle.mm_check.specs.Verdicts.{AreVerdicts, run_lines};
-ghost use Rattle.mm_check.specs.Steps.{ReadsEvent, IsEventOf};
+ghost use Rattle.mm_check.specs.Steps.{LineComesTo, IsEventOf};
 ghost use Rattle.mm_check.specs.Guards.{events_of};
 ghost use Rattle.mm_check.specs.Deciding.{DecidesRun};
 
@@ -95,7 +95,7 @@ impl Reading {
     /// Behind the event of a line.
     pub fn add_event(mut self, alloc: Global, line: &[u8]) -> Result<Reading, ReplyFault>
         requires { length line.now ≤ longest_line }
-        ensures { ReadsEvent (read_event self line.now (event_at line.now)) result }
+        ensures { LineComesTo InEvents (read_event self line.now (event_at line.now)) result }
     {
         let event = event_in(alloc, line)?;
         let reply = self.progress.reply_to_event(line, &event)?;

@@ -38,10 +38,10 @@ goes_after header events event old new at is =
           ∙ sym (ap (λ (f : Followed History). f.issued) whole);
     }
 
-pub event_state : (old new : Recorded) (issued later : List (List ℕ)) (event : Event) (front back : List (List ℕ)) (said : Said)
+pub event_state : {old new : Recorded} {issued later : List (List ℕ)} {event : Event} {front back : List (List ℕ)} {said : Said}
     → WentByEvent old new issued event front back said → later ≡ issued ++ option_to_list said.snapshot
     → traced new later ≡ after_traced (traced old issued) event
-event_state old new issued later event front back said comes kept =
+event_state {old} {issued = issued} {event = event} comes kept =
     let same = ap (λ (i : Instance). event_outcome i (by_lists i) old.history issued event) (instance_is (header_of old)) in
     λ j. record {
       header = record { variant = comes.variant j; «module» = comes.«module» j };

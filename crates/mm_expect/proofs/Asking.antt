@@ -2,17 +2,20 @@
 use Rattle.mm_expect.proofs.Below.{◌≡◌, ℕ, ◌+◌, ◌<◌, ◌≤◌, Bool, true, false, List, [], ◌∷◌, ◌++◌, map, Option, None, Some, Result, Ok, Err}
 use Rattle.mm_expect.proofs.Below.{refl, sym, ap, ◌∙◌, subst, arith, append_assoc, if◌then◌else◌, nat_eq, IfOk, append-nil, Decides-eqb}
 use Rattle.mm_expect.proofs.Below.{last_position, Variant, Basic, Opt, StepFault, Meddle, Stop, Batch, size_of, Instance, History, Move}
-use Rattle.mm_expect.proofs.Below.{Commit, Foreign, Placed, Reset, Close, Power, moved, total_of, is_last, Step, Reads, ask_steps, Refusal}
+use Rattle.mm_expect.proofs.Below.{Commit, Foreign, Placed, Reset, Close, Power, total_of, is_last, Step, Reads, ask_steps, Refusal}
 use Rattle.mm_expect.proofs.Below.{is_last_of, total-push, answer_on, by_lists, all_made, Found, found_at, found_unless_wanting, is_fresh}
 use Rattle.mm_expect.proofs.Below.{End, Done, Fails, Fate, Walked, step_moves, after_step, walk, seen_in, commits, planned, Answers, Breaks}
-use Rattle.mm_expect.proofs.Below.{Called, reading_steps, position_of, ended_by, called, seen_at, kept_at, called_with, Ended, Answered}
-use Rattle.mm_expect.proofs.Below.{Refused, Broken, committed_in, same_batches, more_batches, Commits, nothing, batch, finished}
-use Rattle.mm_expect.proofs.Below.{commits-none, writing_commits, commits_batch, seen_none, reading_none, course_of, plan_of, Recorded}
-use Rattle.mm_expect.proofs.Below.{Went, recorded_instance, instance_with, Walks, again_in, Admits, changing_steps, changing_from}
-use Rattle.mm_expect.proofs.Below.{changes_on, ChangesBy, ending_of, new_ending, GoesOnNew, CallsBy}
+use Rattle.mm_expect.proofs.Below.{Called, reading_steps, position_of, ended_by, called, seen_at, kept_at, called_with, Ended, Refused}
+use Rattle.mm_expect.proofs.Below.{Broken, committed_in, same_batches, more_batches, Commits, nothing, batch, finished, commits-none}
+use Rattle.mm_expect.proofs.Below.{writing_commits, commits_batch, seen_none, reading_none, course_of, plan_of, Recorded, Went}
+use Rattle.mm_expect.proofs.Below.{recorded_instance, instance_with, Walks, again_in, Admits, changing_steps, changing_from, changes_on}
+use Rattle.mm_expect.proofs.Below.{ChangesBy, ending_of, new_ending, GoesOnNew, CallsBy}
 use Rattle.mm_module.specs.BatchLaws.{size_of-pos}
+use Rattle.mm_call.specs.AlongLaws.{GoesAlong, walk_along}
 use Rattle.mm_call.specs.WalkLaws as walks
-use Rattle.mm_expect.proofs.Walking.{went_then, not_true}
+use Rattle.mm_call.specs.WalkLaws.{made-append, taking_is}
+use Rattle.std.proofs.lemmas.Bool.{false_from_ne_true}
+use Rattle.mm_expect.proofs.Walking.{went_then}
 
 -- what the steps of a new batch commit
 
@@ -53,30 +56,21 @@ new_few old new stop meddles b w admits =
     subst (λ n. n ≤ last_position) (sym (ap total_of grown ∙ total-push old.history.batches b)) admits.fits
 
 -- whether the total rose tells whether the batch was committed
-kept_when : (same : Bool) (before total size : ℕ) (commit : Bool) → nat_eq total before ≡ same → (commit ≡ true → total ≡ before + size)
-    → 0 < size → (commit ≡ false → total ≡ before) → (if same then None else Some total) ≡ kept_at commit total
-kept_when true before total size true e up pos stay =
-    let a : total ≡ before = (Decides-eqb total before).0 e in absurd (omega (arith, a, up refl, pos))
-kept_when true before total size false e up pos stay = refl
-kept_when false before total size true e up pos stay = refl
-kept_when false before total size false e up pos stay = let a : nat_eq total before ≡ true = (Decides-eqb total before).1 (stay refl) in cc
-
 kept_by : (old new : Recorded) (walked : Walked) (b : Batch) → Commits b true walked → Went old new walked.moves
     → (if nat_eq (total_of new.history.batches) (total_of old.history.batches) then None else Some (total_of new.history.batches))
     ≡ kept_at (commits walked.moves) (total_of new.history.batches)
 kept_by old new walked b (nothing none unless) went =
-    let i = recorded_instance old in
-    let same : total_of new.history.batches ≡ total_of old.history.batches =
-    ap (λ (y : History). total_of y.batches) went.history ∙ ap total_of (same_batches i walked.moves old.history none) in
-    kept_when _ (total_of old.history.batches) (total_of new.history.batches) (size_of b) (commits walked.moves) refl
-    (λ e. let no : commits walked.moves ≡ false = commits-none walked.moves none in cc) (size_of-pos b) (λ e. same)
+    let same : total_of new.history.batches ≡ total_of old.history.batches = ap (λ (y : History). total_of y.batches) went.history
+    ∙ ap total_of (same_batches (recorded_instance old) walked.moves old.history none) in
+    rw ((Decides-eqb (total_of new.history.batches) (total_of old.history.batches)).1 same, commits-none walked.moves none) refl
 kept_by old new walked b (batch one is) went =
-    let i = recorded_instance old in
     let more : total_of new.history.batches ≡ total_of old.history.batches + size_of b =
-    ap (λ (y : History). total_of y.batches) went.history ∙ ap total_of (more_batches i walked.moves old.history b one)
-    ∙ total-push old.history.batches b in
-    kept_when _ (total_of old.history.batches) (total_of new.history.batches) (size_of b) (commits walked.moves) refl
-    (λ e. more) (size_of-pos b) (λ e. let yes : commits walked.moves ≡ true = commits_batch walked.moves b one in cc)
+    ap (λ (y : History). total_of y.batches) went.history
+    ∙ ap total_of (more_batches (recorded_instance old) walked.moves old.history b one) ∙ total-push old.history.batches b in
+    let other : nat_eq (total_of new.history.batches) (total_of old.history.batches) ≡ false = false_from_ne_true _ (λ e.
+    let same = (Decides-eqb (total_of new.history.batches) (total_of old.history.batches)).0 e in
+    absurd (omega (arith, more, same, size_of-pos b))) in
+    rw (other, commits_batch walked.moves b one) refl
 
 pub new_broken : (old new : Recorded) (stop : Stop) (meddles : List Meddle) (b : Batch) (fault : StepFault) (kept : Option ℕ)
     → ChangesBy old new stop meddles b (Some fault)
@@ -193,9 +187,7 @@ module _ (a : Recorded) (stop : Stop) (meddles : List Meddle) (bytes : List ℕ)
       → Type 0 = λ g. CallsBy a n (called_with at (by_lists at) a.history seen (course_of stop meddles) b g) ended in
       subst C (sym is) (record {
         went = subst (Went a n) (sym m) went;
-        ends = ends ∙ ap (λ (v : List Move). ended_by (by_lists at) seen (all_made (by_lists at) a.history v) b f v broken) (sym m)
-            ∙ ap (λ (v : Option StepFault). ended_by (by_lists at) seen (all_made (by_lists at) a.history (walked f).moves) b f
-            (walked f).moves v) (sym br);
+        ends = ends ∙ (λ j. ended_by (by_lists at) seen (all_made (by_lists at) a.history (sym m j)) b f (sym m j) (sym br j));
       })
 
   pub ask_broken : (n : Recorded) (fault : StepFault) → Walks a n reading (Some fault) → CallsBy a n all (Broken fault None)
@@ -214,8 +206,8 @@ module _ (a : Recorded) (stop : Stop) (meddles : List Meddle) (bytes : List ℕ)
       → found_at (recorded_instance n) (by_lists (recorded_instance n)) n.history b bytes ≡ found
   found_there n w =
       let same : recorded_instance n ≡ at = λ j. instance_with (w.went.variant j) (w.went.«module» j) in
-      ap (λ (k : Instance). found_at k (by_lists k) n.history b bytes) same ∙ ap (λ (h : History). found_at at (by_lists at) h b bytes)
-      (w.went.history ∙ ap (all_made (by_lists at) a.history) (read_seen fates a.variant (sym w.broken)))
+      let there = w.went.history ∙ ap (all_made (by_lists at) a.history) (read_seen fates a.variant (sym w.broken)) in
+      λ j. found_at (same j) (by_lists (same j)) (there j) b bytes
 
   -- nothing comes behind the reading steps
   read_only : (f : Result Found Refusal) → reading.broken ≡ None → is_fresh f ≡ false → Then reading finished (walked f)
@@ -232,22 +224,6 @@ module _ (a : Recorded) (stop : Stop) (meddles : List Meddle) (bytes : List ℕ)
       let t = read_only (Err why) (sym w.broken) refl in
       by_parts n (Refused why) (Err why) reading.moves None (unlack found ∙ is) (t.moves ∙ append-nil reading.moves) t.broken w.went refl
 
-  answered_with : (n : Recorded) (again : Bool) → Walks a n reading None
-      → answer_on (recorded_instance n) n.history b again ≡ answer_on at (all_made (by_lists at) a.history reading.moves) b again
-  answered_with n again w =
-      let same : recorded_instance n ≡ at = λ j. instance_with (w.went.variant j) (w.went.«module» j) in
-      ap (λ (k : Instance). answer_on k n.history b again) same ∙ ap (λ (h : History). answer_on at h b again) w.went.history
-
-  pub ask_again : (n : Recorded) (ended : Ended) → Walks a n reading None
-      → Ok true ≡ again_in (found_at (recorded_instance n) (by_lists (recorded_instance n)) n.history b bytes)
-      → ended ≡ Answered (answer_on (recorded_instance n) n.history b true) → CallsBy a n all ended
-  ask_again n ended w e is_answer =
-      let f = again_ok found true (e ∙ ap again_in (found_there n w)) in
-      let t = read_only (Ok f.0) (sym w.broken) (ap (λ (k : Bool). if k then false else true) f.2) in
-      by_parts n ended (Ok f.0) reading.moves None (unlack found ∙ f.1) (t.moves ∙ append-nil reading.moves) t.broken w.went
-      (ap ending_of is_answer ∙ ap Answers (answered_with n true w
-      ∙ ap (answer_on at (all_made (by_lists at) a.history reading.moves) b) (sym f.2)))
-
   -- the ending of a new batch, behind the reading steps
   ends_new : (n m : Recorded) (f : Found) (moves : List Move) (broken : Option StepFault) → f.again ≡ false → Walks a n reading None
       → Went n m moves → new_ending m b moves broken
@@ -255,33 +231,24 @@ module _ (a : Recorded) (stop : Stop) (meddles : List Meddle) (bytes : List ℕ)
   ends_new n m f moves None new w went =
       let both = went_then a n m reading.moves moves w.went went in
       let same : recorded_instance m ≡ at = λ j. instance_with (both.variant j) (both.«module» j) in
-      ap Answers (ap (λ (k : Instance). answer_on k m.history b false) same ∙ ap (λ (h : History). answer_on at h b false) both.history
-      ∙ ap (answer_on at (all_made (by_lists at) a.history (reading.moves ++ moves)) b) (sym new))
+      λ j. Answers (answer_on (same j) (both.history j) b (sym new j))
   ends_new n m f moves (Some fault) new w went =
       let both = went_then a n m reading.moves moves w.went went in
-      ap (Breaks fault)
-      (ap (λ (k : Bool). kept_at k (total_of m.history.batches)) (sym (commits-append reading.moves moves (reading_none a.variant fates)))
-      ∙ ap (λ (h : History). kept_at (commits (reading.moves ++ moves)) (total_of h.batches)) both.history)
+      λ j. Breaks fault
+      (kept_at (sym (commits-append reading.moves moves (reading_none a.variant fates)) j) (total_of (both.history j).batches))
 
-  foreign_open : (values : List (List ℕ)) (moves : List Move) (y : History) (flag : Bool)
-      → ((z : History) → z.is_open ≡ y.is_open → (all_made (by_lists at) z moves).is_open ≡ y.is_open)
-      → (all_made (by_lists at) y (map Foreign values ++ moves)).is_open ≡ y.is_open
-  foreign_open [] moves y flag more = more y refl
-  foreign_open (v ∷ values) moves y flag more = foreign_open values moves (moved at y (Foreign v)) flag more
-
-  step_open : (values : List (List ℕ)) (ends : End) (r : Walked) (y : History)
-      → ((z : History) → z.is_open ≡ y.is_open → (all_made (by_lists at) z r.moves).is_open ≡ y.is_open)
-      → (all_made (by_lists at) y (after_step Reads values ends r).moves).is_open ≡ y.is_open
-  step_open values Done r y more = foreign_open values r.moves y true more
-  step_open values (Fails f made) r y more =
-      ap (λ (v : List Move). (all_made (by_lists at) y v).is_open) (sym (append-nil (map Foreign values)))
-      ∙ foreign_open values [] y true (λ z e. e)
+  -- what is read leaves a segment open or shut
+  open_along : GoesAlong (λ moves. (y : History) → (all_made (by_lists at) y moves).is_open ≡ y.is_open)
+  open_along = record {
+    more = λ xs ys p q y.
+        ap (λ (h : History). h.is_open) (made-append (by_lists at) xs ys y) ∙ q (all_made (by_lists at) y xs) ∙ p y;
+    others = λ values y. ap (λ (h : History). h.is_open) (taking_is at values y);
+  }
 
   read_open : (variant : Variant) (y : History)
       → (all_made (by_lists at) y (walk fates 1 (reading_steps variant)).moves).is_open ≡ y.is_open
-  read_open Basic y = step_open (fates 1).brings (fates 1).ends finished y (λ z e. e)
-  read_open Opt y = step_open (fates 1).brings (fates 1).ends (after_step Reads (fates 2).brings (fates 2).ends finished) y
-      (λ z e. step_open (fates 2).brings (fates 2).ends finished z (λ u f. f) ∙ e)
+  read_open Basic y = walk_along _ open_along fates 1 (reading_steps Basic) tt y
+  read_open Opt y = walk_along _ open_along fates 1 (reading_steps Opt) tt y
 
   pub ask_new : (n m : Recorded) (ended : Ended) → Walks a n reading None
       → Ok false ≡ again_in (found_at (recorded_instance n) (by_lists (recorded_instance n)) n.history b bytes)
@@ -291,8 +258,7 @@ module _ (a : Recorded) (stop : Stop) (meddles : List Meddle) (bytes : List ℕ)
       let more : Walked = walk fates (changing_from a.variant) (changing_steps a.variant a.history.is_open b) in
       let opens : n.history.is_open ≡ a.history.is_open = ap (λ (y : History). y.is_open) w.went.history ∙ read_open a.variant a.history in
       let same : changes_on n stop meddles b ≡ more =
-      ap (λ (v : Variant). walk fates (changing_from v) (changing_steps v n.history.is_open b)) w.went.variant
-      ∙ ap (λ (o : Bool). walk fates (changing_from a.variant) (changing_steps a.variant o b)) opens in
+      (λ j. walk fates (changing_from (w.went.variant j)) (changing_steps (w.went.variant j) (opens j) b)) in
       let went : Went n m more.moves = subst (λ (v : Walked). Went n m v.moves) same goes.went in
       let ends : ending_of ended ≡ new_ending m b more.moves more.broken = goes.ends
       ∙ ap (λ (v : Walked). new_ending m b v.moves v.broken) same in
@@ -322,7 +288,7 @@ kept_same total before now was n w e =
 pub kept_other : (total before now was : ℕ) → now ≡ total → was ≡ before → (now ≡ was → ⊥)
     → Some now ≡ (if nat_eq total before then None else Some total)
 kept_other total before now was n w e = ap (λ (t : ℕ). Some t) n ∙ sym (ap (λ (b : Bool). if b then None else Some total)
-    (not_true (nat_eq total before) (λ t. e (n ∙ (Decides-eqb total before).0 t ∙ sym w))))
+    (false_from_ne_true (nat_eq total before) (λ t. e (n ∙ (Decides-eqb total before).0 t ∙ sym w))))
 
 -- what others put into the register commits nothing
 pub foreign_batches : (i : Instance) (fates : ℕ → Fate) (steps : List Step) (n : ℕ) (y : History)

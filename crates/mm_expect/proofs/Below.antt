@@ -54,7 +54,7 @@ pub use Rattle.mm_call.specs.Courses.{after_step, closes, commits, Course, Done,
 pub use Rattle.mm_call.specs.Courses.{Walked}
 pub use Rattle.mm_call.specs.CoursesWords.{end_of, made_move}
 pub use Rattle.mm_call.specs.Found.{Found, found_at, found_by_verdict, right_content}
-pub use Rattle.mm_call.specs.FoundWords.{content_if_right, found_unless_wanting, is_fresh}
+pub use Rattle.mm_call.specs.FoundWords.{found_unless_wanting, is_fresh}
 pub use Rattle.mm_call.specs.Levels.{all_made, by_lists}
 pub use Rattle.mm_call.specs.MoveLaws.{anchor-nil, committed_in, more_batches, same_batches, summary-nil}
 pub use Rattle.mm_call.specs.Standing.{instance_by}

@@ -45,15 +45,16 @@ state_went old went handed new stop o ended state_is calls hh hv hm restored =
     moves_ended stop ended ∙ ap (moves_then stop) calls.ends in
     restored.history ∙ (λ j. all_made (by_lists (instance_with (v j) (m j))) (h j) (moves j))
 
-pub went_by_call : (old went handed new : Recorded) (stop : Stop) (meddles : List Meddle) (bytes : List ℕ) (b : Batch) (ended : Ended)
-    (front asked back : List (List ℕ)) (said : Said)
+pub went_by_call : {old went handed new : Recorded} {stop : Stop} {meddles : List Meddle} {bytes : List ℕ} {b : Batch} {ended : Ended}
+    {front asked back : List (List ℕ)} {said : Said}
     → asked ≡ front ++ right_messages (recorded_instance old) b (right_content (recorded_instance old) bytes)
     → CallsBy (forgotten old) went (called_on old stop meddles bytes b) ended
     → handed.history ≡ went.history → handed.variant ≡ went.variant → handed.«module» ≡ went.«module»
     → back ≡ asked ++ (went.extending ++ went.closing) → Went handed new (moves_if (is_broken ended) (after_stop stop))
     → said.reply ≡ reply_of (way_of stop) (ending_of ended) → option_to_list said.snapshot ≡ snapshots_of (ending_of ended)
     → WentByCall old new stop meddles bytes b front back said
-went_by_call old went handed new stop meddles bytes b ended front asked back said listed calls hh hv hm handed_on restored replied sealed =
+went_by_call {old} {went} {handed} {new} {stop} {meddles} {bytes} {b} {ended} {front} listed calls hh hv hm handed_on restored replied
+    sealed =
     let right : List (List ℕ) = right_messages (recorded_instance old) b (right_content (recorded_instance old) bytes) in
     record {
       variant = restored.variant ∙ hv ∙ calls.went.variant;

@@ -31,15 +31,12 @@ shut_is a n stop meddles unless variant is_open (Ok closing) va op steps ends sh
     let i = recorded_instance a in
     let fates = planned (plan_of stop meddles) in
     let lost = is_lost (life_of a.variant (seen_at i (by_lists i) a.history (course_of stop meddles))) in
-    let here = ap (λ (v : Variant). checkpoint_steps v a.history.is_open lost) va ∙ ap (λ (o : Bool). checkpoint_steps variant o lost) op
-    ∙ steps lost in
-    let there = ap (λ (v : Variant). ghost_closing.closing_of v a.history.is_open lost) va
-    ∙ ap (λ (o : Bool). ghost_closing.closing_of variant o lost) op ∙ ends lost in
+    let here = (λ j. checkpoint_steps (va j) (op j) lost) ∙ steps lost in
+    let there = (λ j. ghost_closing.closing_of (va j) (op j) lost) ∙ ends lost in
     let W : Walked = walk fates 1 (Reads ∷ []) in
     record {
       went = subst (λ (s : List Step). Went a n (walk fates 1 s).moves) (sym here) shut.went;
-      ends = shut.ends ∙ ap (λ (k : Bool). ghost_closing_words.closed_by W.broken k (closing_as unless)) (sym (one_closes fates))
-          ∙ ap (ghost_closing_words.closed_by W.broken (closes W.moves)) (sym there)
+      ends = shut.ends ∙ (λ j. ghost_closing_words.closed_by W.broken (sym (one_closes fates) j) (sym there j))
           ∙ ap (λ (s : List Step). ghost_closing_words.closed_by (walk fates 1 s).broken (closes (walk fates 1 s).moves)
           (ghost_closing.closing_of a.variant a.history.is_open lost)) (sym here);
     }
@@ -67,8 +64,7 @@ module _ (a : Recorded) (stop : Stop) (meddles : List Meddle) (va : a.variant �
   all = ghost_closing.checkpointed at (by_lists at) a.history (course_of stop meddles)
 
   steps_are : checkpoint_steps a.variant a.history.is_open lost ≡ reading_steps Opt ++ last_steps lost
-  steps_are =
-      ap (λ (v : Variant). checkpoint_steps v a.history.is_open lost) va ∙ ap (λ (o : Bool). checkpoint_steps Opt o lost) op ∙ last_is lost
+  steps_are = (λ j. checkpoint_steps (va j) (op j) lost) ∙ last_is lost
 
   by_parts : (n : Recorded) (closing : Closing) (moves : List Move) (broken : Option StepFault)
       → (walk fates 1 (reading_steps Opt ++ last_steps lost)).moves ≡ moves
@@ -76,17 +72,10 @@ module _ (a : Recorded) (stop : Stop) (meddles : List Meddle) (va : a.variant �
       → closing_as closing ≡ ghost_closing_words.closed_by broken (closes moves) (ghost_closing.closing_of Opt true lost)
       → WentByCheckpoint a n all closing
   by_parts n closing moves broken m br went ends =
-      let W = λ (s : List Step). walk fates 1 s in
-      let there = ap (λ (v : Variant). ghost_closing.closing_of v a.history.is_open lost) va
-      ∙ ap (λ (o : Bool). ghost_closing.closing_of Opt o lost) op in
       record {
         went = subst (λ (s : List Step). Went a n (walk fates 1 s).moves) (sym steps_are) (subst (Went a n) (sym m) went);
-        ends = ends
-            ∙ ap (λ (v : List Move). ghost_closing_words.closed_by broken (closes v) (ghost_closing.closing_of Opt true lost)) (sym m)
-            ∙ ap (λ (f : Option StepFault). ghost_closing_words.closed_by f
-            (closes (walk fates 1 (reading_steps Opt ++ last_steps lost)).moves) (ghost_closing.closing_of Opt true lost)) (sym br)
-            ∙ ap (ghost_closing_words.closed_by (walk fates 1 (reading_steps Opt ++ last_steps lost)).broken
-            (closes (walk fates 1 (reading_steps Opt ++ last_steps lost)).moves)) (sym there)
+        ends = ends ∙ (λ j. ghost_closing_words.closed_by (sym br j) (closes (sym m j))
+            (ghost_closing.closing_of (sym va j) (sym op j) lost))
             ∙ ap (λ (s : List Step). ghost_closing_words.closed_by (walk fates 1 s).broken (closes (walk fates 1 s).moves)
             (ghost_closing.closing_of a.variant a.history.is_open lost)) (sym steps_are);
       }
@@ -99,9 +88,10 @@ module _ (a : Recorded) (stop : Stop) (meddles : List Meddle) (va : a.variant �
 
   -- what the chronicle tells of power is what the checkpoint sees
   lost_there : (n : Recorded) → Walks a n reading None → is_lost (life_of n.variant n.history) ≡ lost
-  lost_there n w = ap (λ (v : Variant). is_lost (life_of v n.history)) w.went.variant ∙ ap (λ (h : History). is_lost (life_of a.variant h))
-      (w.went.history ∙ ap (all_made (by_lists at) a.history) (read_seen fates Opt (sym w.broken)
-      ∙ ap (λ (v : Variant). seen_in fates (reading_steps v) 1) (sym va)))
+  lost_there n w =
+      let seen = w.went.history ∙ ap (all_made (by_lists at) a.history) (read_seen fates Opt (sym w.broken)
+      ∙ ap (λ (v : Variant). seen_in fates (reading_steps v) 1) (sym va)) in
+      λ j. is_lost (life_of (w.went.variant j) (seen j))
 
   goes_last : (l : Bool) → lost ≡ l → reading.broken ≡ None
       → Then reading (walk fates 3 (last_steps l)) (walk fates 1 (reading_steps Opt ++ last_steps lost))

@@ -1,18 +1,17 @@
 -- Whether an offer is genuine, by whether what it says names a position.
-use Rattle.mm_expect.proofs.Below.{◌≡◌, ℕ, zero, suc, ◌≤◌, ◌&&◌, Bool, true, false, List, [], ◌∷◌, length, None, Some, Result, Ok, Err}
-use Rattle.mm_expect.proofs.Below.{refl, sym, ap, ◌∙◌, subst, arith, get_or, if◌then◌else◌, slice_get, bytes_eq, AllByRecursion, Basic, Opt}
-use Rattle.mm_expect.proofs.Below.{Meaning, IsLawful, state_after, state_after-is_spelled, Batch, InBasic, InOpt, PartsFault, parts_of}
-use Rattle.mm_expect.proofs.Below.{Content, Snapshot, IsContent, IsPlace, tag_of, offered_of, last_position, limit_of, Instance, basic, opt}
-use Rattle.mm_expect.proofs.Below.{History, requests_of, total_of, IsPoint, at_anchor, in_closed, in_current, IsPlaceOf, Names, IsRight}
-use Rattle.mm_expect.proofs.Below.{IsGenuine, total-append, right_content, content_if_right, IsIssued, IsDecided, EachOfferIsDecided}
-use Rattle.mm_expect.proofs.Below.{BasicIssuedAreGenuine, OptIssuedAreGenuine}
+use Rattle.mm_expect.proofs.Below.{◌≡◌, ℕ, zero, suc, ◌≤◌, Bool, true, false, List, [], ◌∷◌, length, None, Some, Ok, refl, sym, ap, ◌∙◌}
+use Rattle.mm_expect.proofs.Below.{subst, arith, get_or, slice_get, AllByRecursion, Basic, Opt, Meaning, IsLawful, state_after}
+use Rattle.mm_expect.proofs.Below.{state_after-is_spelled, Batch, InBasic, InOpt, parts_of, Content, IsContent, IsPlace, tag_of, offered_of}
+use Rattle.mm_expect.proofs.Below.{last_position, limit_of, Instance, basic, opt, History, requests_of, total_of, IsPoint, at_anchor}
+use Rattle.mm_expect.proofs.Below.{in_closed, in_current, IsPlaceOf, Names, IsRight, IsGenuine, total-append, right_content, IsIssued}
+use Rattle.mm_expect.proofs.Below.{IsDecided, EachOfferIsDecided, BasicIssuedAreGenuine, OptIssuedAreGenuine}
 use Rattle.std.proofs.lemmas.Slice.Eq.{bytes_eq-Decides}
 use Rattle.mm_digest.specs.LengthLaws.{length-zero_bytes}
 use Rattle.mm_seal.specs.declared.snapshot.Place.{Place}
 use Rattle.mm_seal.specs.Snapshot.{sealed_of, snapshot_front}
 use Rattle.mm_seal.specs.SealLaws.{sealed_parts, sealed_once}
 use Rattle.mm_model.specs.ChainLaws.{length-summary_of, length-anchor_of, length-register_of}
-use Rattle.mm_call.specs.OfferLaws.{right_is, is_right}
+use Rattle.mm_call.specs.OfferLaws.{one_content, right_is, right_of}
 
 -- A right offer says one thing, and what is said of an offer is right.
 
@@ -23,30 +22,10 @@ said_of i bytes content right =
     right_is i (parts_of i.variant i.meaning.id bytes) (offered_of i.key content) parts right.state
     ((bytes_eq-Decides (tag_of i.key content) (tag_of i.key content)).1 refl)
 
-record IsSaid (s t : Bool) (x content : Content) : Type 0 where
-  spelled : s ≡ true
-  tagged : t ≡ true
-  same : x ≡ content
-
-said_if : (s t : Bool) (x content : Content) → (if s && t then Some x else None) ≡ Some content → IsSaid s t x content
-said_if false t x content e = absurd (cc)
-said_if true false x content e = absurd (cc)
-said_if true true x content e = record { spelled = refl; tagged = refl; same = cc }
-
-pub right_of : (i : Instance) (bytes : List ℕ) (parts : Result Snapshot PartsFault) → parts_of i.variant i.meaning.id bytes ≡ parts
-    → (content : Content) → content_if_right i parts ≡ Some content → IsRight i bytes content
-right_of i bytes (Err fault) e content is = absurd (cc)
-right_of i bytes (Ok snapshot) e content is =
-    let a = said_if (i.meaning.is_spelled snapshot.content.state) (bytes_eq snapshot.tag (tag_of i.key snapshot.content)) snapshot.content
-    content is in
-    subst (λ (x : Content). IsRight i bytes x) a.same (is_right i bytes snapshot e a.spelled a.tagged)
-
-one_said : (i : Instance) (bytes : List ℕ) (x content : Content) → right_content i bytes ≡ Some x → IsRight i bytes content → x ≡ content
-one_said i bytes x content e right = let same : Some x ≡ Some content = sym e ∙ said_of i bytes content right in cc
-
 by_content : (yes : Bool) (i : Instance) (y : History) (bytes : List ℕ) (content : Content) → right_content i bytes ≡ Some content
     → IsDecided yes (Names i y content) → IsDecided yes (IsGenuine i y bytes)
-by_content true i y bytes content e n = λ other right. subst (λ (x : Content). Names i y x) (one_said i bytes content other e right) n
+by_content true i y bytes content e n = λ other right. subst (λ (x : Content). Names i y x)
+    (one_content i bytes content other (right_of i bytes (parts_of i.variant i.meaning.id bytes) refl content e) right) n
 by_content false i y bytes content e none =
     λ genuine. none (genuine content (right_of i bytes (parts_of i.variant i.meaning.id bytes) refl content e))
 

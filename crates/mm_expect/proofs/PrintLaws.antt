@@ -24,9 +24,6 @@ short_outputs meaning lawful state (request ∷ requests) spelled =
     (outputs_from meaning (meaning.next state request) requests) (lawful.says_lines state request spelled).short
     (short_outputs meaning lawful (meaning.next state request) requests (lawful.goes_on state request spelled))
 
-back_again : (total size n : ℕ) → size ≤ total → n ≡ size → total ≤ last_position → total - n + n ≤ last_position
-back_again total size n l e few = omega (arith, l, e, few)
-
 -- the reply that tells an answer to the last batch
 told_printable : (i : Instance) → IsLawful i.meaning → (y : History) (b : Batch) (again : Bool) → is_last y.batches b ≡ true
     → total_of y.batches ≤ last_position → IsPrintable (told_reply (answer_on i y b again))
@@ -34,13 +31,10 @@ told_printable i lawful y b again last few =
     let h = is_last_tells y.batches b last in
     let start = state_after i.meaning (requests_of h.front) in
     let outputs = outputs_from i.meaning start (members_of b) in
-    let same : last_outputs i.meaning y (size_of b) ≡ outputs = said_last i.meaning y.batches h.front b h.is in
-    let many : total_of y.batches ≡ total_of h.front + size_of b = ap total_of h.is ∙ total-push h.front b in
-    let size : length (last_outputs i.meaning y (size_of b)) ≡ size_of b =
-    ap (λ (v : List (List ℕ)). length v) same ∙ length-outputs_from i.meaning start (members_of b) in (
+    let same : last_outputs i.meaning y (size_of b) ≡ outputs = said_last i.meaning y.batches h.front b h.is in (
       subst (λ (v : List (List ℕ)). All (λ (o : List ℕ). length o ≤ longest_request) v) (sym same)
           (short_outputs i.meaning lawful start (members_of b) (state_after-is_spelled i.meaning lawful (requests_of h.front))),
-      back_again (total_of y.batches) (size_of b) (length (last_outputs i.meaning y (size_of b))) (omega (arith, many)) size few,
+      few,
     )
 
 broken_printable : (way : Way) (commit : Bool) (position : ℕ) → IsPrintable (broken_reply way (kept_at commit position))

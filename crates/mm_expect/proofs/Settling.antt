@@ -2,11 +2,11 @@
 use Rattle.mm_expect.proofs.Below.{◌≡◌, ◌≤◌, ℕ, Bool, true, false, List, [], ◌∷◌, ◌++◌, length, sym, ap, ◌∙◌, subst, IsTrue, nat_le}
 use Rattle.mm_expect.proofs.Below.{same_from_push, list_any, ◌||◌, Variant, Basic, Opt, Batch, members_of, size_of, limit_of, zero_bytes}
 use Rattle.mm_expect.proofs.Below.{start_of, state_after, outputs_from, state_after-append, state_from-is_spelled, AnyModule, meaning_of}
-use Rattle.mm_expect.proofs.Below.{any_is_lawful, guard, register_of, History, Value, first_history, requests_of, total_of, committed}
-use Rattle.mm_expect.proofs.Below.{cell_digest_of, values_of, is_last, is_long, digest_of, issued_bytes, is_last_tells, answer_on}
-use Rattle.mm_expect.proofs.Below.{last_outputs, Answered, anchor-nil, summary-nil, is_empty, has_value, requests-push, said_last, Marks}
-use Rattle.mm_expect.proofs.Below.{marks_of, with_value, emptied, closed_marks, linked_marks, grown, opened_marks, Recorded, barrier_of}
-use Rattle.mm_expect.proofs.Below.{instance_with, recorded_instance}
+use Rattle.mm_expect.proofs.Below.{Instance, any_is_lawful, guard, register_of, History, Value, first_history, requests_of, total_of}
+use Rattle.mm_expect.proofs.Below.{committed, cell_digest_of, values_of, is_last, is_long, digest_of, issued_bytes, is_last_tells}
+use Rattle.mm_expect.proofs.Below.{answer_on, last_outputs, Answered, anchor-nil, summary-nil, is_empty, has_value, requests-push}
+use Rattle.mm_expect.proofs.Below.{said_last, Marks, marks_of, with_value, emptied, closed_marks, linked_marks, grown, opened_marks}
+use Rattle.mm_expect.proofs.Below.{Recorded, barrier_of, instance_with, recorded_instance}
 use Rattle.std.proofs.lemmas.List.Folds.{list_any-append}
 use Rattle.mm_module.specs.MeaningWords.{state_from}
 use Rattle.mm_model.specs.FormLaws.{reads_zero}
@@ -20,11 +20,21 @@ spelled_same «module» next state members run spelled =
     let P : List ℕ → Type 0 = λ v. IsTrue ((meaning_of «module»).is_spelled v) in
     subst P (sym run) (state_from-is_spelled (meaning_of «module») (any_is_lawful «module») state members spelled)
 
-module _ (variant : Variant) («module» : AnyModule) (barrier : List ℕ) (y z : History) (old new : Marks) (state before : List ℕ) where
+-- the module's states after the batch, and before it
+abbrev pub Ran : AnyModule → History → (state next kept : List ℕ) → Batch → Type 0
+Ran «module» y state next kept b =
+    (next ≡ state_from (meaning_of «module») (state_after (meaning_of «module») (requests_of y.batches)) (members_of b)) × (kept ≡ state)
+    × (list_any is_long (b ∷ []) ≡ false)
+
+module _ {variant : Variant} {«module» : AnyModule} {barrier : List ℕ} {y : History} {old : Marks} {state before : List ℕ}
+    (s : IsSettled variant «module» barrier y old state before) where
+  abbrev i : Instance
+  i = instance_with variant «module»
+
   -- a move that commits nothing
-  settled_still : IsSettled variant «module» barrier y old state before → z.batches ≡ y.batches
-      → new ≡ marks_of (instance_with variant «module») z → IsSettled variant «module» barrier z new state before
-  settled_still s same marks = record {
+  settled_still : {z : History} {new : Marks} → z.batches ≡ y.batches → new ≡ marks_of i z
+      → IsSettled variant «module» barrier z new state before
+  settled_still same marks = record {
     barrier_is = s.barrier_is;
     marks_is = marks;
     state_is = s.state_is ∙ ap (λ (bs : List Batch). state_after (meaning_of «module») (requests_of bs)) (sym same);
@@ -34,82 +44,62 @@ module _ (variant : Variant) («module» : AnyModule) (barrier : List ℕ) (y z 
     short = ap (list_any is_long) same ∙ s.short;
   }
 
-  pub settled_value : (v : List ℕ) → IsSettled variant «module» barrier y old state before
-      → z ≡ record y { items = y.items ++ Value v ∷ [] } → new ≡ with_value old v → IsSettled variant «module» barrier z new state before
-  settled_value v s is marks = settled_still s (ap (λ (h : History). h.batches) is)
-      (marks ∙ ap (λ (m : Marks). with_value m v) s.marks_is ∙ sym (marks_value (instance_with variant «module») y v)
-      ∙ ap (marks_of (instance_with variant «module»)) (sym is))
+  pub settled_value : {z : History} {new : Marks} (v : List ℕ) → z ≡ record y { items = y.items ++ Value v ∷ [] } → new ≡ with_value old v
+      → IsSettled variant «module» barrier z new state before
+  settled_value v is marks = settled_still (ap (λ (h : History). h.batches) is)
+      (marks ∙ ap (λ (m : Marks). with_value m v) s.marks_is ∙ sym (marks_value i y v) ∙ ap (marks_of i) (sym is))
 
-  pub settled_emptied : IsSettled variant «module» barrier y old state before → z ≡ record y { items = [] }
-      → new ≡ emptied old (is_empty z.current) → IsSettled variant «module» barrier z new state before
-  settled_emptied s is marks = settled_still s (ap (λ (h : History). h.batches) is)
-      (marks ∙ ap (λ (m : Marks). emptied m (is_empty z.current)) s.marks_is
-      ∙ ap (λ (h : History). emptied (marks_of (instance_with variant «module») y) (is_empty h.current)) is
-      ∙ sym (marks_emptied (instance_with variant «module») y) ∙ ap (marks_of (instance_with variant «module»)) (sym is))
+  pub settled_emptied : {z : History} {new : Marks} → z ≡ record y { items = [] } → new ≡ emptied old (is_empty z.current)
+      → IsSettled variant «module» barrier z new state before
+  settled_emptied is marks = settled_still (ap (λ (h : History). h.batches) is)
+      (marks ∙ (λ j. emptied (s.marks_is j) (is_empty (is j).current)) ∙ sym (marks_emptied i y) ∙ ap (marks_of i) (sym is))
 
-  pub settled_shut : IsSettled variant «module» barrier y old state before
-      → z ≡ record y { closed = y.closed ++ y.items ∷ []; current = []; is_open = false }
+  pub settled_shut : {z : History} {new : Marks} → z ≡ record y { closed = y.closed ++ y.items ∷ []; current = []; is_open = false }
       → new ≡ closed_marks variant old (has_value y.items) (is_empty y.items) → IsSettled variant «module» barrier z new state before
-  settled_shut s is marks = settled_still s (ap (λ (h : History). h.batches) is)
+  settled_shut is marks = settled_still (ap (λ (h : History). h.batches) is)
       (marks ∙ ap (λ (m : Marks). closed_marks variant m (has_value y.items) (is_empty y.items)) s.marks_is
-      ∙ sym (marks_shut (instance_with variant «module») y) ∙ ap (marks_of (instance_with variant «module»)) (sym is))
-
-  -- the module's states after the batch, and before it
-  abbrev pub Ran : List ℕ → List ℕ → Batch → Type 0
-  Ran next kept b =
-      (next ≡ state_from (meaning_of «module») (state_after (meaning_of «module») (requests_of y.batches)) (members_of b)) × (kept ≡ state)
-      × (list_any is_long (b ∷ []) ≡ false)
+      ∙ sym (marks_shut i y) ∙ ap (marks_of i) (sym is))
 
   -- a batch is committed
-  settled_more : (b : Batch) (next kept : List ℕ) → IsSettled variant «module» barrier y old state before → z.batches ≡ y.batches ++ b ∷ []
-      → new ≡ marks_of (instance_with variant «module») z → Ran next kept b → IsSettled variant «module» barrier z new next kept
-  settled_more b next kept s grows marks (run, was, short) =
-      let meaning = meaning_of «module» in
-      record {
-        barrier_is = s.barrier_is;
-        marks_is = marks;
-        state_is = run ∙ sym (state_after-append meaning (requests_of y.batches) (members_of b))
-            ∙ ap (state_after meaning) (sym (requests-push y.batches b))
-            ∙ ap (λ (bs : List Batch). state_after meaning (requests_of bs)) (sym grows);
-        before_is = λ front last e. was ∙ s.state_is
-            ∙ ap (λ (bs : List Batch). state_after meaning (requests_of bs)) (same_from_push y.batches front b last (sym grows ∙ e)).0;
-        spelled = spelled_same «module» next state (members_of b)
-            (run ∙ ap (λ (v : List ℕ). state_from meaning v (members_of b)) (sym s.state_is)) s.spelled;
-        begun = subst (λ (v : List ℕ). IsTrue (meaning.is_spelled v)) (sym was) s.spelled;
-        short = ap (list_any is_long) grows ∙ list_any-append is_long y.batches (b ∷ [])
-            ∙ ap (λ (f : Bool). f || list_any is_long (b ∷ [])) s.short ∙ short;
-      }
+  module _ (b : Batch) {next kept : List ℕ} (run : Ran «module» y state next kept b) where
+    settled_more : {z : History} {new : Marks} → z.batches ≡ y.batches ++ b ∷ [] → new ≡ marks_of i z
+        → IsSettled variant «module» barrier z new next kept
+    settled_more grows marks =
+        let meaning = meaning_of «module» in
+        record {
+          barrier_is = s.barrier_is;
+          marks_is = marks;
+          state_is = run.0 ∙ sym (state_after-append meaning (requests_of y.batches) (members_of b))
+              ∙ ap (state_after meaning) (sym (requests-push y.batches b))
+              ∙ ap (λ (bs : List Batch). state_after meaning (requests_of bs)) (sym grows);
+          before_is = λ front last e. run.1 ∙ s.state_is
+              ∙ ap (λ (bs : List Batch). state_after meaning (requests_of bs)) (same_from_push y.batches front b last (sym grows ∙ e)).0;
+          spelled = spelled_same «module» next state (members_of b)
+              (run.0 ∙ ap (λ (v : List ℕ). state_from meaning v (members_of b)) (sym s.state_is)) s.spelled;
+          begun = subst (λ (v : List ℕ). IsTrue (meaning.is_spelled v)) (sym run.1) s.spelled;
+          short = ap (list_any is_long) grows ∙ list_any-append is_long y.batches (b ∷ [])
+              ∙ ap (λ (f : Bool). f || list_any is_long (b ∷ [])) s.short ∙ run.2;
+        }
 
-  pub settled_linked : (b : Batch) (next kept : List ℕ) → IsSettled variant «module» barrier y old state before → variant ≡ Basic
-      → z ≡ committed Basic y.is_open y b → new ≡ linked_marks old b → Ran next kept b → IsSettled variant «module» barrier z new next kept
-  settled_linked b next kept s basic is marks run =
-      let i = instance_with variant «module» in
-      settled_more b next kept s (ap (λ (h : History). h.batches) is)
-      (marks ∙ ap (λ (m : Marks). linked_marks m b) s.marks_is ∙ sym (marks_linked i y b basic) ∙ ap (marks_of i) (sym is)) run
+    pub settled_linked : {z : History} {new : Marks} → variant ≡ Basic → z ≡ committed Basic y.is_open y b → new ≡ linked_marks old b
+        → IsSettled variant «module» barrier z new next kept
+    settled_linked basic is marks = settled_more (ap (λ (h : History). h.batches) is)
+        (marks ∙ ap (λ (m : Marks). linked_marks m b) s.marks_is ∙ sym (marks_linked i y b basic) ∙ ap (marks_of i) (sym is))
 
-  pub settled_grown : (b : Batch) (next kept value : List ℕ) (size : ℕ) → IsSettled variant «module» barrier y old state before
-      → variant ≡ Opt → z ≡ committed Opt true y b → size ≡ size_of b → value ≡ guard (barrier_of variant) b → new ≡ grown old size value
-      → Ran next kept b → IsSettled variant «module» barrier z new next kept
-  settled_grown b next kept value size s opt is sized guards marks run =
-      let i = instance_with variant «module» in
-      settled_more b next kept s (ap (λ (h : History). h.batches) is) (marks ∙ ap (λ (m : Marks). grown m size value) s.marks_is
-      ∙ ap (λ n. grown (marks_of i y) n value) sized ∙ ap (λ v. grown (marks_of i y) (size_of b) v) guards
-      ∙ sym (marks_grown i y b opt) ∙ ap (marks_of i) (sym is)) run
+    pub settled_grown : {z : History} {new : Marks} {value : List ℕ} {size : ℕ} → variant ≡ Opt → z ≡ committed Opt true y b
+        → size ≡ size_of b
+        → value ≡ guard (barrier_of variant) b → new ≡ grown old size value → IsSettled variant «module» barrier z new next kept
+    settled_grown opt is sized guards marks = settled_more (ap (λ (h : History). h.batches) is)
+        (marks ∙ (λ j. grown (s.marks_is j) (sized j) (guards j)) ∙ sym (marks_grown i y b opt) ∙ ap (marks_of i) (sym is))
 
-  pub settled_opened : (b : Batch) (next kept value register : List ℕ) (size : ℕ) → IsSettled variant «module» barrier y old state before
-      → variant ≡ Opt
-      → z ≡ committed Opt false y b → size ≡ size_of b → value ≡ guard barrier b → register ≡ register_of (values_of barrier z.items)
-      → new ≡ opened_marks old size value register (nat_le (length y.items) 1)
-      → Ran next kept b → IsSettled variant «module» barrier z new next kept
-  settled_opened b next kept value register size s opt is sized guards reads marks run =
-      let i = instance_with variant «module» in
-      settled_more b next kept s (ap (λ (h : History). h.batches) is)
-      (marks ∙ ap (λ (m : Marks). opened_marks m size value register (nat_le (length y.items) 1)) s.marks_is
-      ∙ ap (λ n. opened_marks (marks_of i y) n value register (nat_le (length y.items) 1)) sized
-      ∙ ap (λ v. opened_marks (marks_of i y) (size_of b) v register (nat_le (length y.items) 1)) (guards ∙ ap (λ r. guard r b) s.barrier_is)
-      ∙ ap (λ v. opened_marks (marks_of i y) (size_of b) (guard i.barrier b) v (nat_le (length y.items) 1))
-      (reads ∙ ap (λ r. register_of (values_of r z.items)) s.barrier_is
-      ∙ ap (λ (h : History). register_of (values_of i.barrier h.items)) is) ∙ sym (marks_opened i y b opt) ∙ ap (marks_of i) (sym is)) run
+    pub settled_opened : {z : History} {new : Marks} {value register : List ℕ} {size : ℕ} → variant ≡ Opt → z ≡ committed Opt false y b
+        → size ≡ size_of b
+        → value ≡ guard barrier b → register ≡ register_of (values_of barrier z.items)
+        → new ≡ opened_marks old size value register (nat_le (length y.items) 1) → IsSettled variant «module» barrier z new next kept
+    settled_opened opt is sized guards reads marks = settled_more (ap (λ (h : History). h.batches) is)
+        (marks ∙ (λ j. opened_marks (s.marks_is j) (sized j) ((guards ∙ ap (λ r. guard r b) s.barrier_is) j)
+        ((reads ∙ (λ k. register_of (values_of (s.barrier_is k) (is k).items))) j) (nat_le (length y.items) 1))
+        ∙ sym (marks_opened i y b opt) ∙ ap (marks_of i) (sym is))
 
 cell_first : («module» : AnyModule) (variant : Variant)
     → start_of variant (meaning_of «module»).id ≡ cell_digest_of (instance_with variant «module») variant first_history
@@ -121,34 +111,26 @@ no_last [] x e = cc
 no_last (y ∷ front) x e = cc
 
 -- at the first history
-pub settled_first : (variant : Variant) («module» : AnyModule) (barrier : List ℕ) (y : History) (marks : Marks) (state before : List ℕ)
-    (id : ℕ) → barrier ≡ barrier_of variant → y ≡ first_history → id ≡ (meaning_of «module»).id → marks ≡ record {
-      total = 0;
-      cell = digest_of (start_of variant id);
-      own = digest_of zero_bytes;
-      register = digest_of zero_bytes;
-      is_own = true;
-      is_marred = false;
-    } → state ≡ (meaning_of «module»).first → before ≡ (meaning_of «module»).first → IsSettled variant «module» barrier y marks state before
-settled_first variant «module» barrier y marks state before id b first ids m s f =
+abbrev pub first_marks : List ℕ → List ℕ → Marks
+first_marks cell register = record {
+  total = 0;
+  cell = digest_of cell;
+  own = digest_of register;
+  register = digest_of register;
+  is_own = true;
+  is_marred = false;
+}
+
+pub settled_first : {variant : Variant} {«module» : AnyModule} {barrier : List ℕ} {y : History} {marks : Marks} {state before : List ℕ}
+    {id : ℕ} → barrier ≡ barrier_of variant → y ≡ first_history → id ≡ (meaning_of «module»).id
+    → marks ≡ first_marks (start_of variant id) zero_bytes → state ≡ (meaning_of «module»).first → before ≡ (meaning_of «module»).first
+    → IsSettled variant «module» barrier y marks state before
+settled_first {variant = variant} {«module» = «module»} {y = y} b first ids m s f =
     let i = instance_with variant «module» in
     let lawful = any_is_lawful «module» in record {
       barrier_is = b;
-      marks_is = m ∙ ap (λ n. record {
-        total = 0;
-        cell = digest_of (start_of variant n);
-        own = digest_of zero_bytes;
-        register = digest_of zero_bytes;
-        is_own = true;
-        is_marred = false;
-      }) ids ∙ (λ j. record {
-        total = 0;
-        cell = digest_of (cell_first «module» variant j);
-        own = digest_of (sym reads_zero j);
-        register = digest_of (sym reads_zero j);
-        is_own = true;
-        is_marred = false;
-      }) ∙ ap (marks_of i) (sym first);
+      marks_is = m ∙ (λ j. first_marks ((ap (start_of variant) ids ∙ cell_first «module» variant) j) (sym reads_zero j))
+          ∙ ap (marks_of i) (sym first);
       state_is = s ∙ ap (λ (h : History). state_after (meaning_of «module») (requests_of h.batches)) (sym first);
       before_is = λ front last e. absurd (no_last front last (sym (ap (λ (h : History). h.batches) first) ∙ e));
       spelled = subst (λ (v : List ℕ). IsTrue ((meaning_of «module»).is_spelled v)) (sym s) lawful.begins;
@@ -157,26 +139,26 @@ settled_first variant «module» barrier y marks state before id b first ids m s
     }
 
 -- the state is within its limit
-pub fits_limit : («module» : AnyModule) (state given : List ℕ) (id : ℕ) → IsTrue ((meaning_of «module»).is_spelled state) → given ≡ state
+pub fits_limit : («module» : AnyModule) {state given : List ℕ} {id : ℕ} → IsTrue ((meaning_of «module»).is_spelled state) → given ≡ state
     → id ≡ (meaning_of «module»).id → length given ≤ limit_of id
-fits_limit «module» state given id spelled same ids = subst (λ n. length given ≤ limit_of n) (sym ids)
+fits_limit «module» {state} {given} spelled same ids = subst (λ n. length given ≤ limit_of n) (sym ids)
     (subst (λ (v : List ℕ). length v ≤ limit_of (meaning_of «module»).id) (sym same) ((any_is_lawful «module»).fits state spelled))
 
 -- what the module says to the last batch, run again
-pub outputs_last : (variant : Variant) («module» : AnyModule) (barrier : List ℕ) (y : History) (marks : Marks) (state before : List ℕ)
+pub outputs_last : {variant : Variant} {«module» : AnyModule} {barrier : List ℕ} {y : History} {marks : Marks} {state before : List ℕ}
     (b : Batch) → IsSettled variant «module» barrier y marks state before → is_last y.batches b ≡ true
     → outputs_from (meaning_of «module») before (members_of b) ≡ last_outputs (meaning_of «module») y (size_of b)
-outputs_last variant «module» barrier y marks state before b s last =
+outputs_last {«module» = «module»} {y = y} b s last =
     let h = is_last_tells y.batches b last in
     ap (λ v. outputs_from (meaning_of «module») v (members_of b)) (s.before_is h.front b h.is)
     ∙ sym (said_last (meaning_of «module») y.batches h.front b h.is)
 
-pub answered_is : (r : Recorded) (again : Bool) (b : Batch) (position : ℕ) (outputs : List (List ℕ)) (snapshot : List ℕ)
+pub answered_is : (r : Recorded) (again : Bool) (b : Batch) {position : ℕ} {outputs : List (List ℕ)} {snapshot : List ℕ}
     → position ≡ total_of r.history.batches → outputs ≡ last_outputs (meaning_of r.«module») r.history (size_of b)
     → snapshot ≡ issued_bytes (recorded_instance r) r.history
     → Answered (record { again = again; position = position; outputs = outputs; snapshot = snapshot }) ≡ Answered
     (answer_on (recorded_instance r) r.history b again)
-answered_is r again b position outputs snapshot p o s =
+answered_is r again b p o s =
     λ j. Answered (record { again = again; position = p j; outputs = o j; snapshot = s j })
 
 -- a batch that isn't too long, as a list

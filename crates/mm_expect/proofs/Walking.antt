@@ -6,6 +6,7 @@ use Rattle.mm_expect.proofs.Below.{History, Move, Foreign, moved, Step, by_lists
 use Rattle.mm_expect.proofs.Below.{made_move, end_of, made-append, plan_of, Recorded, Went, recorded_instance, instance_with, move_of}
 use Rattle.mm_expect.proofs.Below.{step_as, steps_of, Walks}
 use Rattle.std.specs.Prelude.{Result, Ok, Err}
+use Rattle.std.proofs.lemmas.Bool.{false_from_ne_true}
 use Rattle.mm_platform.specs.declared.fault.StepFault.TheVariants.{Failed}
 use Rattle.mm_expect.specs.Numbered.{messages_if, messages_where}
 use Rattle.mm_expect.specs.declared.course.Move as code
@@ -26,10 +27,9 @@ same_instance a b moves w = λ j. instance_with (w.variant j) (w.«module» j)
 then_listed : (closing : Bool) (i k : Instance) (y z : History) (xs ys : List Move) (front middle after : List (List ℕ)) → k ≡ i
     → z ≡ all_made (by_lists i) y xs → middle ≡ front ++ messages_where closing i y xs
     → after ≡ middle ++ messages_where closing k z ys → after ≡ front ++ messages_where closing i y (xs ++ ys)
-then_listed closing i k y z xs ys front middle after same is first second = second ∙ ap (λ v. v ++ messages_where closing k z ys) first
-    ∙ append_assoc front (messages_where closing i y xs) (messages_where closing k z ys)
-    ∙ ap (λ v. front ++ (messages_where closing i y xs ++ v))
-    (ap (λ (h : Instance). messages_where closing h z ys) same ∙ ap (λ (h : History). messages_where closing i h ys) is)
+then_listed closing i k y z xs ys front middle after same is first second =
+    second ∙ (λ j. first j ++ messages_where closing (same j) (is j) ys)
+    ∙ append_assoc front (messages_where closing i y xs) (messages_where closing i (all_made (by_lists i) y xs) ys)
     ∙ ap (λ v. front ++ v) (sym (messages_where-append closing i xs ys y))
 
 pub went_then : (a b c : Recorded) (xs ys : List Move) → Went a b xs → Went b c ys → Went a c (xs ++ ys)
@@ -37,8 +37,7 @@ went_then a b c xs ys first second =
     let same = same_instance a b xs first in record {
       variant = second.variant ∙ first.variant;
       «module» = second.«module» ∙ first.«module»;
-      history = second.history ∙ ap (λ (i : Instance). all_made (by_lists i) b.history ys) same
-          ∙ ap (λ (y : History). all_made (by_lists (recorded_instance a)) y ys) first.history
+      history = second.history ∙ (λ j. all_made (by_lists (same j)) (first.history j) ys)
           ∙ sym (made-append (by_lists (recorded_instance a)) xs ys a.history);
       extending =
           then_listed false (recorded_instance a) (recorded_instance b) a.history b.history xs ys a.extending b.extending c.extending same
@@ -46,10 +45,6 @@ went_then a b c xs ys first second =
       closing = then_listed true (recorded_instance a) (recorded_instance b) a.history b.history xs ys a.closing b.closing c.closing same
           first.history first.closing second.closing;
     }
-
-pub not_true : (b : Bool) → (b ≡ true → ⊥) → b ≡ false
-not_true true h = absurd (h refl)
-not_true false h = refl
 
 added : (xs : List (List ℕ)) (v : List ℕ) (flag : Bool) → map Foreign (xs ++ (if flag then v ∷ [] else [])) ≡ map Foreign xs
     ++ (if flag then Foreign v ∷ [] else [])
@@ -85,7 +80,8 @@ pub bring_none : (a b : Recorded) (step : ℕ) (meddles : List Meddle) (i : ℕ)
     → ((get_or meddles i d).step ≡ step → ⊥) → Went a b (map Foreign (due step (take i meddles)))
     → Went a b (map Foreign (due step (take (i + 1) meddles)))
 bring_none a b step meddles i d l e first = subst (Went a b) (sym (due_taken step meddles i d false l
-    (not_true ((get_or meddles i d).step == step) (λ t. e ((Decides-eqb (get_or meddles i d).step step).0 t))) ∙ append-nil _)) first
+    (false_from_ne_true ((get_or meddles i d).step == step) (λ t. e ((Decides-eqb (get_or meddles i d).step step).0 t)))
+    ∙ append-nil _)) first
 
 -- a step that answers no fault has its effect
 made_at : (at step : ℕ) (flag done : Bool) → (at == step) ≡ flag → (if flag then Some Failed else None) ≡ None
@@ -111,13 +107,6 @@ module _ (a b c : Recorded) (stop : Stop) (meddles : List Meddle) (n : ℕ) (ste
             (subst (λ (m : Bool). Went a b (step_moves step m (due n meddles))) (made_where_whole stop n whole) first) more.went;
         broken = more.broken;
       })
-
-  pub walks_broken : (fault : StepFault) → fault_at stop n ≡ Some fault → Went a c (step_moves step (is_made_at stop n) (due n meddles))
-      → Walks a c (walk fates n (step ∷ later)) (Some fault)
-  walks_broken fault breaks first =
-      let W : Option StepFault
-      → Type 0 = λ f. Walks a c (after_step step (due n meddles) (end_of f (is_made_at stop n)) (walk fates (n + 1) later)) (Some fault) in
-      subst W (sym breaks) (record { went = first; broken = refl })
 
 pub changes_then : {E : Type 0} (r : Result (Unit {0}) E) (a b c : Recorded) (action : code.Move) (made : Bool) (values : List (List ℕ))
     (step : code_step.Step) → step ≡ Changes action → OnOk r (Went b c (made_move made (move_of action))) → Went a b (map Foreign values)

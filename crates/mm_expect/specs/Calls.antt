@@ -1,24 +1,8 @@
 -- What a call comes to, as a chronicle goes on by it.
-use Rattle.std.specs.Prelude.{◌≡◌, ℕ, ◌+◌, ◌≤◌, Bool, true, false, List, [], ◌∷◌, Option, None, Some, Result, Ok, Err}
-use Rattle.mm_base.specs.Limits.{last_position}
-use Rattle.mm_digest.specs.declared.variant.Variant.{Variant}
-use Rattle.mm_digest.specs.declared.variant.Variant.TheVariants.{Basic, Opt}
-use Rattle.mm_platform.specs.declared.fault.StepFault.{StepFault}
-use Rattle.mm_platform.specs.declared.plan.Meddle.{Meddle}
-use Rattle.mm_platform.specs.declared.plan.Stop.{Stop}
-use Rattle.mm_module.specs.Batch.{Batch, size_of}
-use Rattle.mm_model.specs.History.{History, Move, Commit, Placed, Reset, total_of}
-use Rattle.mm_model.specs.Judge.{is_last}
-use Rattle.mm_model.specs.Steps.{Step, Changes, Writes}
-use Rattle.mm_model.specs.declared.refusal.Refusal.{Refusal}
-use Rattle.mm_call.specs.Answers.{answer_on}
-use Rattle.mm_call.specs.Courses.{Walked, planned, walk, commits}
-use Rattle.mm_call.specs.Called.{Ending, Answers, Refuses, Breaks, Called}
-use Rattle.mm_call.specs.CalledWords.{kept_at}
-use Rattle.mm_call.specs.Found.{Found}
-use Rattle.mm_call.specs.declared.ended.Ended.{Ended}
-use Rattle.mm_call.specs.declared.ended.Ended.TheVariants.{Answered, Refused, Broken}
-use Rattle.mm_run.specs.FoldsWords.{plan_of}
+use Rattle.mm_expect.specs.Below.{◌≡◌, ℕ, ◌+◌, ◌≤◌, Bool, true, false, List, [], ◌∷◌, Option, None, Some, Result, Ok, Err, last_position}
+use Rattle.mm_expect.specs.Below.{Variant, Basic, Opt, StepFault, Meddle, Stop, Batch, size_of, History, Move, Commit, Placed, Reset}
+use Rattle.mm_expect.specs.Below.{total_of, is_last, Step, Changes, Writes, Refusal, answer_on, Ending, Answers, Refuses, Breaks, Called}
+use Rattle.mm_expect.specs.Below.{kept_at, Walked, planned, walk, commits, Found, Ended, Answered, Refused, Broken, plan_of}
 use Rattle.mm_expect.specs.Recorded.{Recorded, Went, recorded_instance}
 use Rattle.mm_expect.specs.Walking.{Walks}
 

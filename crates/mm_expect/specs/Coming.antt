@@ -1,15 +1,7 @@
 -- What an event comes to, as a chronicle goes on by it.
-use Rattle.std.specs.Prelude.{◌≡◌, ℕ, Bool, true, false, List, [], ◌++◌, option_to_list}
-use Rattle.mm_platform.specs.declared.plan.Meddle.{Meddle}
-use Rattle.mm_platform.specs.declared.plan.Stop.{Stop}
-use Rattle.mm_module.specs.Batch.{Batch}
-use Rattle.mm_model.specs.History.{History, Move}
-use Rattle.mm_call.specs.Asked.{right_messages}
-use Rattle.mm_call.specs.Called.{Called, called}
-use Rattle.mm_call.specs.Found.{right_content}
-use Rattle.mm_call.specs.Levels.{by_lists, all_made}
-use Rattle.mm_schedule.specs.Events.{Event}
-use Rattle.mm_run.specs.Folds.{Outcome, course_of, way_of, reply_of, snapshots_of, moves_then, event_outcome}
+use Rattle.mm_expect.specs.Below.{◌≡◌, ℕ, Bool, true, false, List, [], ◌++◌, option_to_list, Meddle, Stop, Batch, History, Move}
+use Rattle.mm_expect.specs.Below.{right_messages, Called, called, right_content, by_lists, all_made, Event, Outcome, course_of, way_of}
+use Rattle.mm_expect.specs.Below.{reply_of, snapshots_of, moves_then, event_outcome}
 use Rattle.mm_expect.specs.declared.replies.Said.{Said}
 use Rattle.mm_expect.specs.Numbered.{messages_where, numbered_event}
 use Rattle.mm_expect.specs.Recorded.{Recorded, recorded_instance}

@@ -1,17 +1,6 @@
 -- Whether an offer is genuine, by whether what it says names a position.
-use Rattle.std.specs.Prelude.{◌≡◌, ℕ, ◌≤◌, Bool, List, Some, None, slice_get}
-use Rattle.std.specs.List.{AllByRecursion}
-use Rattle.mm_base.specs.Limits.{last_position}
-use Rattle.mm_module.specs.Meaning.{Meaning, IsLawful}
-use Rattle.mm_seal.specs.Snapshot.{Content}
-use Rattle.mm_model.specs.Instance.{Instance}
-use Rattle.mm_model.specs.InstanceWords.{basic, opt}
-use Rattle.mm_model.specs.History.{History, total_of}
-use Rattle.mm_model.specs.Places.{Names}
-use Rattle.mm_model.specs.Standing.{IsGenuine}
-use Rattle.mm_call.specs.Found.{right_content}
-use Rattle.mm_run.specs.Laws.{IsIssued}
-use Rattle.mm_history.specs.Naming.{IsDecided}
+use Rattle.mm_expect.specs.Below.{AllByRecursion, ◌≡◌, ℕ, ◌≤◌, Bool, List, Some, None, slice_get, last_position, Content, Meaning, IsLawful}
+use Rattle.mm_expect.specs.Below.{History, total_of, Instance, basic, opt, Names, IsGenuine, right_content, IsDecided, IsIssued}
 
 -- An offer that isn't right is genuine; a right one exactly where what it says names a position.
 pub record OffersAreDecided (i : Instance) : Type 0 where

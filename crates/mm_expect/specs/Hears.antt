@@ -1,10 +1,5 @@
 -- What is heard of an event.
-use Rattle.std.specs.Prelude.{◌≡◌, ℕ, List}
-use Rattle.mm_model.specs.Instance.{Instance}
-use Rattle.mm_model.specs.History.{History}
-use Rattle.mm_call.specs.Levels.{by_lists}
-use Rattle.mm_schedule.specs.Events.{Event}
-use Rattle.mm_run.specs.Folds.{event_outcome}
+use Rattle.mm_expect.specs.Below.{◌≡◌, ℕ, List, History, Instance, by_lists, Event, event_outcome}
 use Rattle.mm_expect.specs.declared.expecting.Heard.{Heard}
 use Rattle.mm_expect.specs.Numbered.{numbered_event}
 

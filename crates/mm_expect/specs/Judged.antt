@@ -1,23 +1,7 @@
 -- Whether an offer is genuine, as it is decided beside the fold by lists.
-use Rattle.std.specs.Prelude.{◌≡◌, ℕ, ◌≤◌, Bool, false, List, Option, None, Some, Result, Ok, Err, slice_get}
-use Rattle.std.specs.List.{AllByRecursion}
-use Rattle.std.specs.Str.{bytes_eq}
-use Rattle.mm_base.specs.Limits.{last_position}
-use Rattle.mm_seal.specs.Snapshot.{Content, Snapshot}
-use Rattle.mm_seal.specs.declared.snapshot.PartsFault.{PartsFault}
-use Rattle.mm_model.specs.Instance.{Instance}
-use Rattle.mm_model.specs.History.{History, total_of}
-use Rattle.mm_model.specs.Standing.{IsGenuine}
-use Rattle.mm_call.specs.Found.{right_content}
-use Rattle.mm_schedule.specs.declared.event.Offer.{Offer}
-use Rattle.mm_schedule.specs.Events.{Event}
-use Rattle.mm_run.specs.Held.{world_of}
-use Rattle.mm_run.specs.Laws.{IsIssued}
-use Rattle.mm_run.specs.Offered.{offered_bytes}
-use Rattle.mm_run.specs.Premises.{IsGenuineEvent}
-use Rattle.mm_run.specs.PremisesWords.{IsGenuineOffer}
-use Rattle.mm_schedule.specs.declared.header.Header.{Header}
-use Rattle.mm_history.specs.Naming.{IsDecided}
+use Rattle.mm_expect.specs.Below.{AllByRecursion, ◌≡◌, ℕ, ◌≤◌, Bool, false, List, Option, None, Some, Result, Ok, Err, slice_get, bytes_eq}
+use Rattle.mm_expect.specs.Below.{last_position, Content, Snapshot, PartsFault, History, total_of, Instance, IsGenuine, right_content}
+use Rattle.mm_expect.specs.Below.{Event, Offer, Header, IsDecided, world_of, IsIssued, offered_bytes, IsGenuineEvent, IsGenuineOffer}
 use Rattle.mm_expect.specs.Traced.{Traced, IsAfter}
 
 -- what holds of each history that a schedule leads to: few requests are committed, and each issued

@@ -1,26 +1,14 @@
 -- The messages of an event, in the order of their numbers.
-use Rattle.std.specs.Prelude.{ℕ, Bool, true, false, List, [], ◌++◌, ◌∷◌}
-use Rattle.mm_model.specs.Instance.{Instance}
-use Rattle.mm_model.specs.History.{History, Move, Commit, Foreign, Placed, Reset, Close, Power as PowerMove, moved}
-use Rattle.mm_model.specs.MessagesWords.{move_messages}
-use Rattle.mm_schedule.specs.Events.{Event}
-use Rattle.mm_run.specs.Premises.{moves_of, event_messages}
+use Rattle.mm_expect.specs.Below.{ℕ, Bool, true, false, List, [], ◌++◌, ◌∷◌, History, Move, Close, moved, Instance, move_messages, Event}
+use Rattle.mm_expect.specs.Below.{moves_of, event_messages}
 
 -- the messages of a move, by whether those of moves that close a segment are asked for, or those of
 -- all others
 abbrev pub messages_if : Bool → Instance → History → Move → List (List ℕ)
 messages_if true i y Close = move_messages i y Close
-messages_if true i y (Commit b) = []
-messages_if true i y (Foreign v) = []
-messages_if true i y (Placed b) = []
-messages_if true i y Reset = []
-messages_if true i y PowerMove = []
+messages_if true i y m = []
 messages_if false i y Close = []
-messages_if false i y (Commit b) = move_messages i y (Commit b)
-messages_if false i y (Foreign v) = move_messages i y (Foreign v)
-messages_if false i y (Placed b) = move_messages i y (Placed b)
-messages_if false i y Reset = move_messages i y Reset
-messages_if false i y PowerMove = move_messages i y PowerMove
+messages_if false i y m = move_messages i y m
 
 -- The messages of moves in two parts: of those that close a segment, and of all others, which
 -- extend the register; each in order of time.

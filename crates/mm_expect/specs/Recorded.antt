@@ -1,17 +1,7 @@
 -- A chronicle as contracts see it.
-use Rattle.std.specs.Prelude.{◌≡◌, ℕ, true, false, List, [], ◌∷◌, ◌++◌}
-use Rattle.mm_digest.specs.declared.variant.Variant.{Variant}
-use Rattle.mm_digest.specs.declared.variant.Variant.TheVariants.{Basic, Opt}
-use Rattle.mm_digest.specs.Messages.{zero_bytes, extended_message, anchored_message}
-use Rattle.mm_module.specs.Batch.{Batch, members_of}
-use Rattle.mm_module.specs.Meaning.{state_after}
-use Rattle.mm_module.specs.MeaningWords.{state_from}
-use Rattle.mm_modules.specs.declared.any.AnyModule.{AnyModule}
-use Rattle.mm_modules.specs.Modules.{meaning_of}
-use Rattle.mm_model.specs.Instance.{Instance}
-use Rattle.mm_model.specs.History.{History, Move, requests_of, first_history}
-use Rattle.mm_call.specs.Levels.{by_lists, all_made}
-use Rattle.mm_run.specs.HeldWords.{world_key, world_barrier}
+use Rattle.mm_expect.specs.Below.{◌≡◌, ℕ, true, false, List, [], ◌∷◌, ◌++◌, zero_bytes, extended_message, anchored_message, Variant, Basic}
+use Rattle.mm_expect.specs.Below.{Opt, Batch, members_of, state_after, state_from, meaning_of, AnyModule, History, Move, requests_of}
+use Rattle.mm_expect.specs.Below.{first_history, Instance, by_lists, all_made, world_key, world_barrier}
 use Rattle.mm_expect.specs.Numbered.{messages_where}
 
 -- a variant and a module, and a history of them; and the messages of the moves since they were last

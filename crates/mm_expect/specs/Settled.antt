@@ -1,15 +1,6 @@
 -- What the fields of a chronicle keep.
-use Rattle.std.specs.Prelude.{◌≡◌, ℕ, false, List, [], ◌∷◌, ◌++◌, IsTrue}
-use Rattle.std.specs.List.{list_any}
-use Rattle.mm_digest.specs.declared.variant.Variant.{Variant}
-use Rattle.mm_module.specs.Batch.{Batch}
-use Rattle.mm_module.specs.Meaning.{state_after}
-use Rattle.mm_modules.specs.declared.any.AnyModule.{AnyModule}
-use Rattle.mm_modules.specs.Modules.{meaning_of}
-use Rattle.mm_model.specs.History.{History, requests_of}
-use Rattle.mm_model.specs.Long.{is_long}
-use Rattle.mm_history.specs.declared.marks.Marks.{Marks}
-use Rattle.mm_history.specs.Marks.{marks_of}
+use Rattle.mm_expect.specs.Below.{list_any, ◌≡◌, ℕ, false, List, [], ◌∷◌, ◌++◌, IsTrue, Variant, Batch, state_after, meaning_of, AnyModule}
+use Rattle.mm_expect.specs.Below.{History, requests_of, is_long, marks_of, Marks}
 use Rattle.mm_expect.specs.Recorded.{barrier_of, instance_with}
 
 -- the barrier and the marks are those of the history; and the module's states those after its

@@ -1,11 +1,6 @@
 -- A schedule followed by lists, as contracts see it.
-use Rattle.std.specs.Prelude.{◌≡◌, ℕ, List, [], ◌∷◌, ◌++◌}
-use Rattle.mm_model.specs.History.{History, first_history}
-use Rattle.mm_schedule.specs.declared.header.Header.{Header}
-use Rattle.mm_schedule.specs.Events.{Event}
-use Rattle.mm_call.specs.Levels.{by_lists}
-use Rattle.mm_run.specs.Folds.{Outcome, event_outcome, expected, first_issued}
-use Rattle.mm_run.specs.Held.{world_of}
+use Rattle.mm_expect.specs.Below.{◌≡◌, ℕ, List, [], ◌∷◌, ◌++◌, History, first_history, by_lists, Event, Header, Outcome, event_outcome}
+use Rattle.mm_expect.specs.Below.{expected, first_issued, world_of}
 
 -- the header; the history; and the issued snapshots by their numbers
 pub record Traced : Type 0 where

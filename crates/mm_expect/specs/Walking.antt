@@ -1,11 +1,7 @@
 -- The steps of a call in code, and the walk of them.
-use Rattle.std.specs.Prelude.{◌≡◌, false, List, [], ◌∷◌, map, Option}
-use Rattle.mm_platform.specs.declared.fault.StepFault.{StepFault}
-use Rattle.mm_module.specs.Batches.{batch_of}
+use Rattle.mm_expect.specs.Below.{◌≡◌, false, List, [], ◌∷◌, map, Option, StepFault, batch_of, is_long, Walked}
 use Rattle.mm_model.specs.History as history
-use Rattle.mm_model.specs.Long.{is_long}
 use Rattle.mm_model.specs.Steps as steps
-use Rattle.mm_call.specs.Courses.{Walked}
 use Rattle.mm_expect.specs.declared.course.Move.{Move}
 use Rattle.mm_expect.specs.declared.course.Move.TheVariants.{Commit, Place, Reset, Close}
 use Rattle.mm_expect.specs.declared.course.Step.{Step}

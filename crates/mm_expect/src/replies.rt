@@ -61,11 +61,10 @@ fn told(answer: BatchAnswer) -> Said
         outputs,
         snapshot,
     } = answer;
-    let size = outputs.len() as u64;
     Said {
         reply: Reply::Told {
             again,
-            before: position.saturating_sub(size),
+            position,
             outputs,
         },
         snapshot: Some(snapshot),

@@ -1,5 +1,4 @@
 mod Below
-mod KeptLaws
 mod FirstLaws
 mod TakenLaws
 mod NameLaws

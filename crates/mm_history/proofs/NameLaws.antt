@@ -1,13 +1,13 @@
 -- The test whether a content names a position of a history decides it.
-use Rattle.mm_history.proofs.Below.{◌≡◌, ℕ, ◌+◌, ◌-◌, ◌<◌, ◌≤◌, Bool, true, false, ◌&&◌, ◌||◌, List, [], ◌∷◌, ◌++◌, length, drop, take}
-use Rattle.mm_history.proofs.Below.{Option, None, Some, refl, sym, ap, ◌∙◌, subst, inl, inr, ◌⊎◌, arith, append_assoc, length-append, not}
-use Rattle.mm_history.proofs.Below.{◌==◌, nat_le, nat_lt, bytes_eq, Decides, Decides-eqb, Decides-and, Decides-or, Decides-like}
-use Rattle.mm_history.proofs.Below.{Decides-ltb, append-nil, take-append-drop, length-take, drop-append-le, take-append-le, length-drop}
-use Rattle.mm_history.proofs.Below.{not_empty, Variant, Basic, Opt, instance_by, zero_bytes, Batch, Meaning, state_after, Place, InBasic}
-use Rattle.mm_history.proofs.Below.{InOpt, Content, summary_of, register_of, own_values, Instance, Entry, History, requests_of, total_of}
-use Rattle.mm_history.proofs.Below.{joined, is_empty, has_value, IsPoint, at_anchor, in_closed, in_current, IsPlaceOf, Names, anchor_after}
-use Rattle.mm_history.proofs.Below.{same_fronts, IsDecided, first_with, same_batches, is_at, is_behind, is_within, is_inside_at, some_place}
-use Rattle.mm_history.proofs.Below.{is_place, is_named_at, is_named, same_summary, BasicNamesAreDecided, OptNamesAreDecided}
+use Rattle.mm_history.proofs.Below.{◌≡◌, ℕ, ◌+◌, ◌-◌, ◌<◌, ◌≤◌, Bool, true, false, ◌&&◌, List, [], ◌∷◌, ◌++◌, length, drop, take, Option}
+use Rattle.mm_history.proofs.Below.{None, Some, refl, sym, ap, ◌∙◌, subst, inl, inr, ◌⊎◌, arith, append_assoc, length-append, not, bytes_eq}
+use Rattle.mm_history.proofs.Below.{Decides, Decides-eqb, Decides-and, Decides-or, Decides-like, Decides-ltb, append-nil, take-append-drop}
+use Rattle.mm_history.proofs.Below.{length-take, drop-append-le, take-append-le, length-drop, not_empty, Variant, Basic, Opt, instance_by}
+use Rattle.mm_history.proofs.Below.{zero_bytes, Batch, Meaning, state_after, Place, InBasic, InOpt, Content, summary_of, register_of}
+use Rattle.mm_history.proofs.Below.{own_values, Instance, Entry, History, requests_of, total_of, joined, is_empty, has_value, IsPoint}
+use Rattle.mm_history.proofs.Below.{at_anchor, in_closed, in_current, IsPlaceOf, Names, anchor_after, same_fronts, IsDecided, first_with}
+use Rattle.mm_history.proofs.Below.{is_at, is_behind, is_within, is_inside_at, some_place, is_place, is_named_at, is_named, same_summary}
+use Rattle.mm_history.proofs.Below.{BasicNamesAreDecided, OptNamesAreDecided}
 use Rattle.std.proofs.Math.Seq.{drop-append_seam}
 use Rattle.std.proofs.lemmas.Slice.Eq.{bytes_eq-Decides}
 use Rattle.mm_model.specs.InstanceWords.{basic, opt}
@@ -49,12 +49,8 @@ module _ (i : Instance) (y : History) (named : List Batch) (a e : List ℕ) wher
       (λ (p : ((has_value (joined before) ≡ false) × (length named ≡ length (joined before)))
       × ((a ≡ anchor_after i before) × (e ≡ zero_bytes))). record { clean = p.0.0; counted = p.0.1; anchor = p.1.0; extension = p.1.1 })
       (λ (p : IsAt before). ((p.clean, p.counted), (p.anchor, p.extension)))
-      (Decides-and (not (has_value (joined before)) && (length named == length (joined before)))
-      (bytes_eq a (anchor_after i before) && bytes_eq e zero_bytes)
-      (Decides-and (not (has_value (joined before))) (length named == length (joined before)) (not-Decides (has_value (joined before)))
-      (Decides-eqb (length named) (length (joined before))))
-      (Decides-and (bytes_eq a (anchor_after i before)) (bytes_eq e zero_bytes) (bytes_eq-Decides a (anchor_after i before))
-      (bytes_eq-Decides e zero_bytes)))
+      (Decides-and _ _ (Decides-and _ _ (not-Decides (has_value (joined before))) (Decides-eqb (length named) (length (joined before))))
+      (Decides-and _ _ (bytes_eq-Decides a (anchor_after i before)) (bytes_eq-Decides e zero_bytes)))
 
   behind-Decides : (start : ℕ) (before : List (List Entry))
       → Decides (is_behind i.barrier (anchor_after i before) start named a e) (IsBehind start before)
@@ -63,17 +59,15 @@ module _ (i : Instance) (y : History) (named : List Batch) (a e : List ℕ) wher
       Decides-like (is_behind i.barrier (anchor_after i before) start named a e)
       (λ (p : (start < length named) × ((a ≡ anchor_after i before) × (e ≡ there))).
       record { starts = p.0; anchor = p.1.0; extension = p.1.1 }) (λ (p : IsBehind start before). (p.starts, (p.anchor, p.extension)))
-      (Decides-and (nat_lt start (length named)) (bytes_eq a (anchor_after i before) && bytes_eq e there) (Decides-ltb start (length named))
-      (Decides-and (bytes_eq a (anchor_after i before)) (bytes_eq e there) (bytes_eq-Decides a (anchor_after i before))
-      (bytes_eq-Decides e there)))
+      (Decides-and _ _ (Decides-ltb start (length named))
+      (Decides-and _ _ (bytes_eq-Decides a (anchor_after i before)) (bytes_eq-Decides e there)))
 
   within-Decides : (before : List (List Entry)) (segment : List Entry) (later : List (List Entry))
       → Decides (is_within (length (joined before)) named (length segment) (is_empty later && is_empty y.current))
       (IsWithin before segment later)
   within-Decides before segment later =
-      Decides-or (nat_le (length named - length (joined before)) (length segment)) (is_empty later && is_empty y.current)
-      (le-Decides (length named - length (joined before)) (length segment))
-      (Decides-and (is_empty later) (is_empty y.current) (empty-Decides later) (empty-Decides y.current))
+      Decides-or _ _ (le-Decides (length named - length (joined before)) (length segment))
+      (Decides-and _ _ (empty-Decides later) (empty-Decides y.current))
 
   inside-Decides : Decides (is_inside_at i.barrier (anchor_after i y.closed) y named a e) (IsInside (length y.batches - length y.current))
   inside-Decides =
@@ -81,21 +75,14 @@ module _ (i : Instance) (y : History) (named : List Batch) (a e : List ℕ) wher
       Decides-like (is_inside_at i.barrier (anchor_after i y.closed) y named a e)
       (λ (p : (drop start y.batches ≡ y.current) × IsBehind start y.closed). record { last = p.0; behind = p.1 })
       (λ (p : IsInside start). (p.last, p.behind))
-      (Decides-and (same_batches (drop start y.batches) y.current) (is_behind i.barrier (anchor_after i y.closed) start named a e)
-      (same-Decides (drop start y.batches) y.current) (behind-Decides start y.closed))
+      (Decides-and _ _ (same-Decides (drop start y.batches) y.current) (behind-Decides start y.closed))
 
   places-Decides : (before rest : List (List Entry))
       → Decides (some_place i.meaning.id i.barrier y named a e before rest) (Places before rest)
-  places-Decides before [] = Decides-or (is_at (not (has_value (joined before))) (anchor_after i before) (length (joined before)) named a e)
-      (is_inside_at i.barrier (anchor_after i y.closed) y named a e) (at-Decides before) inside-Decides
+  places-Decides before [] = Decides-or _ _ (at-Decides before) inside-Decides
   places-Decides before (segment ∷ rest) =
-      let start : ℕ = length (joined before) in
-      let within : Bool = is_within start named (length segment) (is_empty rest && is_empty y.current) in
-      let at : Bool = is_at (not (has_value (joined before))) (anchor_after i before) start named a e in
-      let behind : Bool = is_behind i.barrier (anchor_after i before) start named a e in
-      Decides-or (at || (behind && within)) (some_place i.meaning.id i.barrier y named a e (before ++ segment ∷ []) rest)
-      (Decides-or at (behind && within) (at-Decides before)
-      (Decides-and behind within (behind-Decides start before) (within-Decides before segment rest)))
+      Decides-or _ _ (Decides-or _ _ (at-Decides before)
+      (Decides-and _ _ (behind-Decides (length (joined before)) before) (within-Decides before segment rest)))
       (places-Decides (before ++ segment ∷ []) rest)
 
   -- from the statement to a place
@@ -288,23 +275,15 @@ named_by Opt meaning key barrier y content r e =
 
 -- By what another snapshot says that names the same position.
 
-first_of : (i : Instance) (y : History) (other : Content) (n : Names i y other) → first_with other.position y.batches ≡ Some n.named
-first_of i y other n =
-    ap (λ (p : ℕ). first_with p y.batches) n.position ∙ ap (first_with (total_of n.named)) n.first ∙ first_is n.named n.rest
-
 pub first_beside : (i : Instance) (y : History) (content other : Content) → content.position ≡ other.position → (n : Names i y other)
     → first_with content.position y.batches ≡ Some n.named
-first_beside i y content other same n = ap (λ (p : ℕ). first_with p y.batches) same ∙ first_of i y other n
+first_beside i y content other same n =
+    (λ j. first_with ((same ∙ n.position) j) (n.first j)) ∙ first_is n.named n.rest
 
 pub named_beside : (i : Instance) (y : History) (content other : Content) → content.position ≡ other.position → (n : Names i y other)
     → is_named i y content ≡ (bytes_eq content.state other.state && is_place i.variant i y n.named content.place)
 named_beside i y content other same n = ap (is_named_at i y content) (first_beside i y content other same n)
     ∙ ap (λ (s : List ℕ). bytes_eq content.state s && is_place i.variant i y n.named content.place) (sym n.state)
-
-pub state_beside : (i : Instance) (y : History) (content other : Content) → content.position ≡ other.position → (r : Bool)
-    → r ≡ bytes_eq content.state other.state → r ≡ false → Names i y other → false ≡ is_named i y content
-state_beside i y content other same r test off n =
-    sym (named_beside i y content other same n ∙ ap (λ (b : Bool). b && is_place i.variant i y n.named content.place) (sym test ∙ off))
 
 pub stated_beside : (i : Instance) (y : History) (content other : Content) → content.position ≡ other.position → (r : Bool)
     → r ≡ bytes_eq content.state other.state → r ≡ true
@@ -318,11 +297,21 @@ summary_beside meaning key y named (InBasic s) (InBasic t) p = ap (bytes_eq s.by
 summary_beside meaning key y named (InBasic s) (InOpt a e) p = absurd p
 summary_beside meaning key y named (InOpt a e) other p = refl
 
-pub basic_beside : (variant : Variant) (meaning : Meaning) (key barrier : List ℕ) → variant ≡ Basic → (y : History)
-    (content other : Content) → content.position ≡ other.position → (r : Bool) → r ≡ bytes_eq content.state other.state → r ≡ true
-    → (s : Bool) → s ≡ same_summary content.place other.place
-    → (let i = instance_by variant meaning key barrier in Names i y other → s ≡ is_named i y content)
-basic_beside Basic meaning key barrier e y content other same r test on s is n =
-    is ∙ summary_beside meaning key y n.named content.place other.place n.place
-    ∙ stated_beside (basic meaning key) y content other same r test on n
-basic_beside Opt meaning key barrier e y content other same r test on s is n = absurd (cc)
+module _ (variant : Variant) (meaning : Meaning) (key barrier : List ℕ) (y : History) (content other : Content)
+    (same : content.position ≡ other.position) {r : Bool} (test : r ≡ bytes_eq content.state other.state) where
+  abbrev i : Instance
+  i = instance_by variant meaning key barrier
+
+  pub state_beside : r ≡ false → Names i y other → IsDecided false (Names i y content)
+  state_beside off n = named_by variant meaning key barrier y content false
+      (sym (named_beside i y content other same n ∙ ap (λ (b : Bool). b && is_place i.variant i y n.named content.place) (sym test ∙ off)))
+
+  basic_by : (v : Variant) → v ≡ Basic → (let x = instance_by v meaning key barrier in r ≡ true → Names x y other
+      → same_summary content.place other.place ≡ is_named x y content)
+  basic_by Basic e on n = summary_beside meaning key y n.named content.place other.place n.place
+      ∙ stated_beside (basic meaning key) y content other same r test on n
+  basic_by Opt e on n = absurd (cc)
+
+  pub basic_beside : {s : Bool} → variant ≡ Basic → r ≡ true → s ≡ same_summary content.place other.place → Names i y other
+      → IsDecided s (Names i y content)
+  basic_beside {s} e on is n = named_by variant meaning key barrier y content s (is ∙ basic_by variant e on n)

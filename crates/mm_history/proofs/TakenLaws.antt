@@ -1,45 +1,36 @@
 -- One more batch, or one more segment, of what is walked over.
 use Rattle.mm_history.proofs.Below.{◌≡◌, ◌≢◌, ℕ, zero, suc, ◌+◌, ◌<◌, ◌≤◌, Bool, true, false, ◌||◌, List, [], ◌∷◌, ◌++◌, length, map, take}
-use Rattle.mm_history.proofs.Below.{drop, get_or, Some, refl, sym, ap, ◌∙◌, arith, append_assoc, Vec, not, ◌==◌, nat_lt, bytes_eq, list_any}
-use Rattle.mm_history.proofs.Below.{option_map, or_parts, Decides-eqb, Decides-ltb, append-nil, map-append, take-map, drop-map, take_more}
-use Rattle.mm_history.proofs.Below.{drop_more, length-map, Batch, members_of, Meaning, state_after, state_after-append, Opt, zero_bytes}
-use Rattle.mm_history.proofs.Below.{start_of, anchored_of, link, summary_of, register_of, own_values, Entry, requests_of, values_of}
-use Rattle.mm_history.proofs.Below.{is_long, KeptBatch, KeptEntry, kept_batch, kept_batches, kept_entries, kept_segments, first_with}
-use Rattle.mm_history.proofs.Below.{same_batches, anchor_at, is_at, is_behind}
+use Rattle.mm_history.proofs.Below.{drop, get_or, Some, refl, sym, ap, ◌∙◌, arith, Vec, not, ◌==◌, nat_lt, bytes_eq, list_any, option_map}
+use Rattle.mm_history.proofs.Below.{or_parts, Decides-eqb, Decides-ltb, append-nil, map-append, take-map, drop-map, drop_more}
+use Rattle.mm_history.proofs.Below.{flat_map-append, length-map, Batch, members_of, Meaning, state_after, state_after-append, Opt}
+use Rattle.mm_history.proofs.Below.{zero_bytes, start_of, anchored_of, link, summary_of, register_of, own_values, Entry, requests_of}
+use Rattle.mm_history.proofs.Below.{values_of, is_long, KeptBatch, KeptEntry, kept_batch, kept_batches, kept_entries, kept_segments}
+use Rattle.mm_history.proofs.Below.{first_with, same_batches, anchor_at, is_at, is_behind, taken}
 use Rattle.std.specs.Prelude.{◌&&◌}
 use Rattle.mm_module.specs.MeaningWords.{state_from}
 use Rattle.mm_model.specs.Chains.{anchor_of}
 use Rattle.mm_model.specs.DigestLaws.{summary-push, anchor-push}
 use Rattle.mm_history.proofs.FirstLaws.{same-Decides}
 
--- one more batch of a list
-pub taken : (batches : List KeptBatch) (i : ℕ) (batch : KeptBatch) → i < length batches → batch ≡ get_or batches i batch
-    → kept_batches (take (i + 1) batches) ≡ kept_batches (take i batches) ++ kept_batch batch ∷ []
-taken batches i batch l is =
-    ap kept_batches (take_more batches i batch l) ∙ map-append kept_batch (take i batches) (get_or batches i batch ∷ [])
-    ∙ ap (λ (b : KeptBatch). kept_batches (take i batches) ++ kept_batch b ∷ []) (sym is)
-
-pub summary_taken : (id : ℕ) (batches : List KeptBatch) (i : ℕ) (batch : KeptBatch) (b : Batch) (s next : List ℕ) → i < length batches
+pub summary_taken : (id : ℕ) (batches : List KeptBatch) (i : ℕ) (batch : KeptBatch) {b : Batch} {s next : List ℕ} → i < length batches
     → batch ≡ get_or batches i batch → s ≡ summary_of id (kept_batches (take i batches))
     → b ≡ kept_batch batch → next ≡ link s b → next ≡ summary_of id (kept_batches (take (i + 1) batches))
-summary_taken id batches i batch b s next l is so_far same n = n ∙ ap (link s) same ∙ ap (λ (x : List ℕ). link x (kept_batch batch)) so_far
-    ∙ sym (summary-push id (kept_batches (take i batches)) (kept_batch batch)) ∙ ap (summary_of id) (sym (taken batches i batch l is))
+summary_taken id batches i batch l is so_far same n = n ∙ (λ j. link (so_far j) (same j))
+    ∙ sym (summary-push id (kept_batches (take i batches)) (kept_batch batch)) ∙ ap (summary_of id) (taken kept_batch batches i batch l is)
 
 requests-push : (batches : List Batch) (b : Batch) → requests_of (batches ++ b ∷ []) ≡ requests_of batches ++ members_of b
-requests-push [] b = append-nil (members_of b)
-requests-push (c ∷ batches) b = ap (λ (rs : List (List ℕ)). members_of c ++ rs) (requests-push batches b)
-    ∙ sym (append_assoc (members_of c) (requests_of batches) (members_of b))
+requests-push batches b =
+    flat_map-append members_of batches (b ∷ []) ∙ ap (λ (rs : List (List ℕ)). requests_of batches ++ rs) (append-nil (members_of b))
 
-pub state_taken : (meaning : Meaning) (batches : List KeptBatch) (i : ℕ) (batch : KeptBatch) (b : Batch) (s lent next : List ℕ)
+pub state_taken : (meaning : Meaning) (batches : List KeptBatch) (i : ℕ) (batch : KeptBatch) {b : Batch} {s lent next : List ℕ}
     → i < length batches → batch ≡ get_or batches i batch → s ≡ state_after meaning (requests_of (kept_batches (take i batches)))
     → lent ≡ s → b ≡ kept_batch batch → next ≡ state_from meaning lent (members_of b)
     → next ≡ state_after meaning (requests_of (kept_batches (take (i + 1) batches)))
-state_taken meaning batches i batch b s lent next l is so_far lend same n =
-    n ∙ ap (λ (x : Batch). state_from meaning lent (members_of x)) same
-    ∙ ap (λ (x : List ℕ). state_from meaning x (members_of (kept_batch batch))) (lend ∙ so_far)
+state_taken meaning batches i batch l is so_far lend same n =
+    n ∙ (λ j. state_from meaning ((lend ∙ so_far) j) (members_of (same j)))
     ∙ sym (state_after-append meaning (requests_of (kept_batches (take i batches))) (members_of (kept_batch batch)))
     ∙ ap (state_after meaning) (sym (requests-push (kept_batches (take i batches)) (kept_batch batch)))
-    ∙ ap (λ (bs : List Batch). state_after meaning (requests_of bs)) (sym (taken batches i batch l is))
+    ∙ ap (λ (bs : List Batch). state_after meaning (requests_of bs)) (taken kept_batch batches i batch l is)
 
 pub short_at : (batches : List KeptBatch) (i : ℕ) (batch : KeptBatch) → i < length batches → batch ≡ get_or batches i batch
     → list_any is_long (kept_batches batches) ≡ false → is_long (kept_batch batch) ≡ false
@@ -91,11 +82,12 @@ pub not_or : (s t : Bool) → not (s || t) ≡ (not s && not t)
 not_or true t = refl
 not_or false t = refl
 
-pub behind_found : (barrier here : List ℕ) (start : ℕ) (named rest : List KeptBatch) (a e register : List ℕ) (r s : Bool)
+pub behind_found : (barrier here : List ℕ) (start : ℕ) (named : List KeptBatch) (a e : List ℕ) {rest : List KeptBatch} {register : List ℕ}
+    {r s : Bool}
     → start < length named → rest ≡ drop start named → r ≡ bytes_eq a here → r ≡ true
     → register ≡ register_of (own_values barrier (kept_batches rest)) → s ≡ bytes_eq e register
     → s ≡ is_behind barrier here start (kept_batches named) a e
-behind_found barrier here start named rest a e register r s lt cut is on reads ext =
+behind_found barrier here start named a e {register = register} lt cut is on reads ext =
     let less : nat_lt start (length (kept_batches named)) ≡ true = (Decides-ltb start (length (kept_batches named))).1
     (omega (arith, lt, length-map named kept_batch)) in
     let there : register ≡ register_of (own_values barrier (drop start (kept_batches named))) =
@@ -106,14 +98,6 @@ behind_found barrier here start named rest a e register r s lt cut is on reads e
     ∙ ap (λ (b : Bool). b && bytes_eq e (register_of (own_values barrier (drop start (kept_batches named))))) (sym is ∙ on))
 
 -- one more segment
-pub segments_taken : {A : Type 0} (closed : List (Vec KeptEntry A)) (k : ℕ) (segment : Vec KeptEntry A) → k < length closed
-    → segment ≡ get_or closed k segment → kept_segments (take (k + 1) closed) ≡ kept_segments (take k closed) ++ kept_entries segment.items
-    ∷ []
-segments_taken {A} closed k segment l is =
-    let f : Vec KeptEntry A → List Entry = λ v. kept_entries v.items in
-    ap (map f) (take_more closed k segment l) ∙ map-append f (take k closed) (get_or closed k segment ∷ [])
-    ∙ ap (λ (v : Vec KeptEntry A). map f (take k closed) ++ f v ∷ []) (sym is)
-
 pub segments_left : {A : Type 0} (closed : List (Vec KeptEntry A)) (k : ℕ) (segment : Vec KeptEntry A) → k < length closed
     → segment ≡ get_or closed k segment → kept_segments (drop k closed) ≡ kept_entries segment.items ∷ kept_segments (drop (k + 1) closed)
 segments_left {A} closed k segment l is =
@@ -126,15 +110,14 @@ anchor_more id barrier before segment = ap (anchor_of id) (map-append (values_of
     ∙ anchor-push id (map (values_of barrier) before) (values_of barrier segment)
 
 pub anchor_taken : {A : Type 0} (id : ℕ) (barrier : List ℕ) (closed : List (Vec KeptEntry A)) (k : ℕ) (segment : Vec KeptEntry A)
-    (lent : List KeptEntry) (anchor register next : List ℕ) → k < length closed → segment ≡ get_or closed k segment
+    {lent : List KeptEntry} {anchor register next : List ℕ} → k < length closed → segment ≡ get_or closed k segment
     → anchor ≡ anchor_at id barrier (kept_segments (take k closed)) → lent ≡ segment.items
     → register ≡ register_of (values_of barrier (kept_entries lent)) → next ≡ anchored_of anchor register
     → next ≡ anchor_at id barrier (kept_segments (take (k + 1) closed))
-anchor_taken id barrier closed k segment lent anchor register next l is so_far items reads n =
-    n ∙ ap (λ (x : List ℕ). anchored_of x register) so_far ∙ ap (anchored_of (anchor_at id barrier (kept_segments (take k closed))))
-    (reads ∙ ap (λ (xs : List KeptEntry). register_of (values_of barrier (kept_entries xs))) items)
+anchor_taken {A} id barrier closed k segment {register = register} l is so_far items reads n =
+    n ∙ (λ j. anchored_of (so_far j) ((reads ∙ ap (λ (xs : List KeptEntry). register_of (values_of barrier (kept_entries xs))) items) j))
     ∙ sym (anchor_more id barrier (kept_segments (take k closed)) (kept_entries segment.items))
-    ∙ ap (anchor_at id barrier) (sym (segments_taken closed k segment l is))
+    ∙ ap (anchor_at id barrier) (taken (λ (v : Vec KeptEntry A). kept_entries v.items) closed k segment l is)
 
 pub anchor_none : (id : ℕ) (barrier s : List ℕ) → s ≡ start_of Opt id → s ≡ anchor_at id barrier []
 unfolding anchor_of

@@ -19,9 +19,6 @@ use Rattle.mm_model.specs.DigestLaws.{summary-push, register-push, anchor-push}
 use Rattle.mm_model.specs.FormLaws.{reads_zero}
 use Rattle.mm_model.specs.HistoryLaws.{own_values-append, has_value-append, register_more}
 use Rattle.mm_model.specs.SegmentLaws.{joined-push}
-use Rattle.mm_model.specs.declared.kept.KeptBatch.{KeptBatch}
-use Rattle.mm_model.specs.declared.kept.KeptEntry.{KeptEntry}
-use Rattle.mm_model.specs.Kept.{kept_batch, kept_batches, kept_entry, kept_entries}
 use Rattle.mm_history.specs.Marks.{marks_of, with_value, emptied, closed_digest, closed_marks, linked_marks, grown, opened_marks}
 
 pub own_more : (barrier : List ℕ) (batches : List Batch) (b : Batch)
@@ -29,28 +26,19 @@ pub own_more : (barrier : List ℕ) (batches : List Batch) (b : Batch)
 own_more barrier batches b =
     ap register_of (own_values-append barrier batches (b ∷ [])) ∙ register-push (own_values barrier batches) (guard barrier b)
 
--- one more entry or batch of a list is taken in
-pub entry_taken : (barrier : List ℕ) (entries : List KeptEntry) (i : ℕ) (entry : KeptEntry) (register value next : List ℕ)
-    → i < length entries → entry ≡ get_or entries i entry → register ≡ register_of (values_of barrier (kept_entries (take i entries)))
-    → value ≡ value_of barrier (kept_entry entry) → next ≡ extended_of register value
-    → next ≡ register_of (values_of barrier (kept_entries (take (i + 1) entries)))
-entry_taken barrier entries i entry register value next l is so_far v n =
-    n ∙ ap (λ r. extended_of r value) so_far ∙ ap (λ w. extended_of (register_of (values_of barrier (kept_entries (take i entries)))) w) v
-    ∙ sym (register_more barrier (kept_entries (take i entries)) (kept_entry entry))
-    ∙ ap (λ (e : KeptEntry). register_of (values_of barrier (kept_entries (take i entries) ++ kept_entry e ∷ []))) is
-    ∙ ap (λ (es : List Entry). register_of (values_of barrier es))
-    (sym (map-append kept_entry (take i entries) (get_or entries i entry ∷ [])) ∙ ap kept_entries (sym (take_more entries i entry l)))
+-- one more of a list, as contracts see it
+pub taken : {K E : Type 0} (kept : K → E) (xs : List K) (i : ℕ) (x : K) → i < length xs → x ≡ get_or xs i x
+    → map kept (take i xs) ++ kept x ∷ [] ≡ map kept (take (i + 1) xs)
+taken kept xs i x l is = ap (λ y. map kept (take i xs) ++ kept y ∷ []) is
+    ∙ sym (ap (map kept) (take_more xs i x l) ∙ map-append kept (take i xs) (get_or xs i x ∷ []))
 
-pub batch_taken : (barrier : List ℕ) (batches : List KeptBatch) (i : ℕ) (batch : KeptBatch) (register value next : List ℕ)
-    → i < length batches → batch ≡ get_or batches i batch → register ≡ register_of (own_values barrier (kept_batches (take i batches)))
-    → value ≡ guard barrier (kept_batch batch) → next ≡ extended_of register value
-    → next ≡ register_of (own_values barrier (kept_batches (take (i + 1) batches)))
-batch_taken barrier batches i batch register value next l is so_far v n =
-    n ∙ ap (λ r. extended_of r value) so_far ∙ ap (λ w. extended_of (register_of (own_values barrier (kept_batches (take i batches)))) w) v
-    ∙ sym (own_more barrier (kept_batches (take i batches)) (kept_batch batch))
-    ∙ ap (λ (e : KeptBatch). register_of (own_values barrier (kept_batches (take i batches) ++ kept_batch e ∷ []))) is
-    ∙ ap (λ (es : List Batch). register_of (own_values barrier es))
-    (sym (map-append kept_batch (take i batches) (get_or batches i batch ∷ [])) ∙ ap kept_batches (sym (take_more batches i batch l)))
+-- the register takes in its value
+pub value_taken : {K E : Type 0} (kept : K → E) (value : E → List ℕ) (xs : List K) (i : ℕ) (x : K) (register v next : List ℕ)
+    → i < length xs → x ≡ get_or xs i x → register ≡ register_of (map value (map kept (take i xs))) → v ≡ value (kept x)
+    → next ≡ extended_of register v → next ≡ register_of (map value (map kept (take (i + 1) xs)))
+value_taken kept value xs i x register v next l is so_far same n =
+    n ∙ (λ j. extended_of (so_far j) (same j)) ∙ sym (register-push (map value (map kept (take i xs))) (value (kept x)))
+    ∙ ap register_of (sym (map-append value (map kept (take i xs)) (kept x ∷ [])) ∙ ap (map value) (taken kept xs i x l is))
 
 -- entries and batches
 

@@ -1,5 +1,5 @@
 use Rattle.mm_check.proofs.Below.{◌∙◌, length, ap, refl, arith, slice_get, slice_get_read, is_found}
-use Rattle.mm_check.proofs.DifferenceLaws.{same_more, differs_here, surplus}
+use Rattle.mm_check.proofs.ComparingLaws.{same_more, differs_here, surplus}
 use Rattle.mm_check.proofs.difference.difference.Goals as goal
 
 pub returns-then-not-is_at : goal.returns-then-not-is_at

@@ -1,5 +1,14 @@
-use Rattle.mm_check.proofs.LineLaws.{lines_more}
+use Rattle.mm_check.proofs.Below.{◌≡◌, ◌∙◌, ℕ, ◌+◌, ◌<◌, List, [], ◌∷◌, ◌++◌, length, take, Some, sym, ap, append_assoc, slice_get}
+use Rattle.mm_check.proofs.Below.{take_more, slice_get_within, get_or_from_slice_get}
 use Rattle.mm_check.proofs.lines.put_reply.Goals as goal
+
+lines_more : (first old new lines : List (List ℕ)) (i : ℕ) (line : List ℕ) → old ≡ first ++ take i lines → slice_get lines i ≡ Some line
+    → new ≡ old ++ line ∷ [] → new ≡ first ++ take (i + 1) lines
+lines_more first old new lines i line was at is =
+    let within : i < length lines = slice_get_within lines i line at in
+    is ∙ ap (λ (l : List (List ℕ)). l ++ line ∷ []) was ∙ append_assoc first (take i lines) (line ∷ [])
+    ∙ ap (λ (l : List (List ℕ)). first ++ l)
+    (sym (take_more lines i line within ∙ ap (λ (l : List ℕ). take i lines ++ l ∷ []) (get_or_from_slice_get lines i line line at)))
 
 pub lines-preserved : goal.lines-preserved
 lines-preserved c = lines_more _ _ _ _ _ _ c.lines.invariant c.in_ok-line.ensures c.in_ok-put.ensures

@@ -9,6 +9,5 @@ returns-in-None c = (offers_decided (recorded_instance c.args.chronicle.now)).no
 
 pub returns-in-Some : goal.returns-in-Some
 returns-in-Some c = genuine_some c.is_named.result (recorded_instance c.args.chronicle.now) c.args.chronicle.now.history c.args.bytes.now
-    (content_of c.in-Some.body) (sym c.right_body.ensures ∙ ap (option_map content_of) c.in-Some.is)
-    (names_there c.chronicle.inside.barrier c.chronicle.view_is c.chronicle.invariant.barrier_is c.is_named.result
-    (content_of c.in-Some.body) c.is_named.ensures)
+    (sym c.right_body.ensures ∙ ap (option_map content_of) c.in-Some.is)
+    (names_there c.chronicle.view_is c.chronicle.invariant.barrier_is c.is_named.result (content_of c.in-Some.body) c.is_named.ensures)

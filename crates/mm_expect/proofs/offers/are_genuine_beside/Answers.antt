@@ -8,9 +8,7 @@ returns-in-None c = λ are. (offers_decided (recorded_instance c.args.chronicle.
     (sym c.right_body.ensures ∙ ap (option_map content_of) c.in-None.is)
 
 pub returns-in-Some-said_at : goal.returns-in-Some-said_at
-returns-in-Some-said_at c =
-    decided_beside c.is_named_beside.result c.args.chronicle.now.variant c.args.chronicle.now.«module» c.args.chronicle.now.history
-    c.args.issued.now c.args.bytes.now c.in-Some.body.position (content_of c.in-Some.body) (content_of c.in-Some-said_at.other)
+returns-in-Some-said_at c = decided_beside c.args.chronicle.now c.args.issued.now c.is_named_beside.result c.args.bytes.now
     (sym c.right_body.ensures ∙ ap (option_map content_of) c.in-Some.is) c.in-Some-said_at.ensures
-    (beside_there c.chronicle.inside.barrier c.chronicle.view_is c.chronicle.invariant.barrier_is c.is_named_beside.result
+    (beside_there c.chronicle.view_is c.chronicle.invariant.barrier_is c.is_named_beside.result
     (content_of c.in-Some.body) (content_of c.in-Some-said_at.other) c.is_named_beside.ensures)

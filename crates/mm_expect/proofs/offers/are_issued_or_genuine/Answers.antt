@@ -3,5 +3,4 @@ use Rattle.mm_expect.proofs.offers.are_issued_or_genuine.Goals as goal
 
 pub returns-then-is_issued : goal.returns-then-is_issued
 returns-then-is_issued c =
-    decided_among c.args.chronicle.now.variant c.args.chronicle.now.«module» c.args.chronicle.now.history c.args.issued.now c.args.bytes.now
-    (c.is_issued.ensures c.if-is_issued.true)
+    decided_among c.args.chronicle.now c.args.issued.now c.args.bytes.now (c.is_issued.ensures c.if-is_issued.true)

@@ -10,15 +10,11 @@ returns-in-None c = decided_none (recorded_instance c.args.chronicle.now) c.args
 pub returns-in-Some : goal.returns-in-Some
 returns-in-Some c =
     decided_some c.are_issued_or_genuine.result (recorded_instance c.args.chronicle.now) c.args.chronicle.now.history c.args.issued.now
-    c.args.offer.now (bytes_in c.in-Some.found) c.bytes.result.now
-    (sym c.in_ok-offered-in-Flip.ensures ∙ ap (option_map bytes_in) c.in-Some.is) c.bytes.ensures c.are_issued_or_genuine.ensures
+    c.args.offer.now (sym c.in_ok-offered-in-Flip.ensures ∙ ap (option_map bytes_in) c.in-Some.is) c.bytes.ensures
+    c.are_issued_or_genuine.ensures
 
 pub returns-in-Number : goal.returns-in-Number
-returns-in-Number c =
-    decided_number c.args.chronicle.now.variant c.args.chronicle.now.«module» c.args.chronicle.now.history c.args.issued.now
-    c.args.offer.now c.in-Number.field-0 c.in-Number.is
+returns-in-Number c = decided_number c.args.chronicle.now c.args.issued.now c.in-Number.is
 
 pub returns-in-Last : goal.returns-in-Last
-returns-in-Last c =
-    decided_last c.args.chronicle.now.variant c.args.chronicle.now.«module» c.args.chronicle.now.history c.args.issued.now c.args.offer.now
-    c.in-Last.is
+returns-in-Last c = decided_last c.args.chronicle.now c.args.issued.now c.in-Last.is

@@ -6,6 +6,5 @@ closed-init c = anchor_none c.args.id c.args.barrier.now c.start-anchor.result.b
 
 pub closed-preserved : goal.closed-preserved
 closed-preserved c =
-    anchor_taken c.args.id c.args.barrier.now c.args.closed.now c.closed.segment-index c.segment-item.result c.as_slice.result.now
-    c.closed.anchor.bytes c.register_of.result.bytes c.anchored-anchor.result.bytes c.closed-test.true c.segment-item.is c.closed.invariant
-    c.as_slice.ensures.value c.register_of.ensures c.anchored-anchor.ensures
+    anchor_taken c.args.id c.args.barrier.now c.args.closed.now c.closed.segment-index c.segment-item.result c.closed-test.true
+    c.segment-item.is c.closed.invariant c.as_slice.ensures.value c.register_of.ensures c.anchored-anchor.ensures

@@ -1,5 +1,5 @@
-use Rattle.mm_history.proofs.Below.{ℕ, List, ◌∙◌, ap, sym, subst, take, IsTrue, meaning_of, batch_of, state_after-is_spelled, requests_of}
-use Rattle.mm_history.proofs.Below.{is_long, kept_batches}
+use Rattle.mm_history.proofs.Below.{ℕ, List, ◌∙◌, ap, sym, subst, take, IsTrue, meaning_of, state_after-is_spelled, requests_of, is_long}
+use Rattle.mm_history.proofs.Below.{kept_batches}
 use Rattle.mm_modules.specs.ModulesLaws.{any_is_lawful}
 use Rattle.mm_history.proofs.TakenLaws.{state_taken, short_at}
 use Rattle.mm_history.proofs.naming.state_after.Goals as goal
@@ -16,7 +16,5 @@ run_batch-requires-clause-short c = ap is_long c.lent.ensures
 
 pub batches-preserved : goal.batches-preserved
 batches-preserved c =
-    state_taken (meaning_of c.args.module.now) c.args.batches.now c.batches.batch-index c.batch-item.result (batch_of c.lent.result)
-    c.batches.state
-    c.as_slice.result.now c.in_ok-next.field-0.state c.batches-test.true c.batch-item.is c.batches.invariant c.as_slice.ensures.value
-    c.lent.ensures c.in_ok-next.ensures.state
+    state_taken (meaning_of c.args.module.now) c.args.batches.now c.batches.batch-index c.batch-item.result c.batches-test.true
+    c.batch-item.is c.batches.invariant c.as_slice.ensures.value c.lent.ensures c.in_ok-next.ensures.state

@@ -1,4 +1,4 @@
-use Rattle.mm_history.proofs.Below.{◌∙◌, batch_of}
+use Rattle.mm_history.proofs.Below.{◌∙◌}
 use Rattle.mm_call.specs.MoveLaws.{summary-nil}
 use Rattle.mm_history.proofs.TakenLaws.{summary_taken}
 use Rattle.mm_history.proofs.naming.summary_of.Goals as goal
@@ -8,5 +8,5 @@ batches-init c = c.start-summary.ensures ∙ summary-nil c.args.id
 
 pub batches-preserved : goal.batches-preserved
 batches-preserved c =
-    summary_taken c.args.id c.args.batches.now c.batches.batch-index c.batch-item.result (batch_of c.lent.result) c.batches.summary.bytes
-    c.link-summary.result.bytes c.batches-test.true c.batch-item.is c.batches.invariant c.lent.ensures c.link-summary.ensures
+    summary_taken c.args.id c.args.batches.now c.batches.batch-index c.batch-item.result c.batches-test.true c.batch-item.is
+    c.batches.invariant c.lent.ensures c.link-summary.ensures

@@ -1,5 +1,8 @@
-use Rattle.mm_check.proofs.Below.{ℕ, List, length, take, ap, subst, arith, fold, world_of, event_of, events_of, listed, Lists, numbered}
-use Rattle.mm_check.proofs.DecidingLaws.{heard_after, room_for, stands_after}
+use Rattle.mm_check.proofs.Below.{◌∙◌, ℕ, ◌≡◌, ◌+◌, List, length, take, ap, subst, arith, length-map, length-take, fold, world_of, Event}
+use Rattle.mm_check.proofs.Below.{event_of, events_of, forged_then, listed, Lists, numbered, StandsBehind}
+use Rattle.mm_check.specs.declared.deciding.Deciding.{Deciding}
+use Rattle.mm_check.proofs.DecidingLaws.{heard_after, room_for, stands_next}
+use Rattle.mm_check.proofs.GuardLaws.{events_more}
 use Rattle.mm_check.proofs.deciding.Deciding.follow_event.Goals as goal
 
 pub list_all-requires : goal.list_all-requires
@@ -7,29 +10,33 @@ list_all-requires c =
     let header = c.args.header.now in
     let before = events_of (take c.args.index c.args.events.now) in
     let told = c.in_ok-heard.ensures in
-    let heard = heard_after header before c.args.self.now.expecting (event_of c.index-events-index.result) c.in_ok-heard.heard
-    c.requires.stands.after told.hears (told.genuine header before c.requires.stands.after) in
-    let room = room_for header c.args.events.now c.args.index c.index-events-index.result c.args.self.now c.in_ok-heard.heard c.requires.few
-    c.requires.stands heard in
-    let same = ap length c.as_slice.ensures.value in
-    omega (arith, room, same)
+    let after = c.requires.stands.after in
+    omega (
+      arith,
+      room_for header c.args.events.now c.args.index c.index-events-index.result c.args.self.now c.in_ok-heard.heard c.requires.few
+          c.requires.stands (heard_after header before _ _ _ after told.hears (told.genuine header before after)),
+      ap length c.as_slice.ensures.value,
+    )
 
 pub returns : goal.returns
 returns c =
     let header = c.args.header.now in
-    let before = events_of (take c.args.index c.args.events.now) in
+    let all = c.args.events.now in
+    let index = c.args.index in
+    let event = c.index-events-index.result in
+    let before = events_of (take index all) in
+    let count : index ≡ length before = omega (arith, c.requires.within, length-map (take index all) event_of, length-take index all) in
     let told = c.in_ok-heard.ensures in
-    let heard = heard_after header before c.args.self.now.expecting (event_of c.index-events-index.result) c.in_ok-heard.heard
-    c.requires.stands.after told.hears (told.genuine header before c.requires.stands.after) in
-    let after = c.in_ok-heard.ensures.after header before c.requires.stands.after in
-    let lists = c.in_ok-list_all.ensures in
-    stands_after header c.args.events.now c.args.index c.index-events-index.result c.args.self.now
-    (record {
+    let after = c.requires.stands.after in
+    let new : Deciding = record {
       expecting = c.event.new.self;
       numbers = c.list_all.new.self;
       forged = c.forged_then-self.result;
       lines = c.put_reply.new.lines;
-    })
-    c.in_ok-heard.heard c.requires.within c.index-events-index.is c.requires.stands heard after c.in_ok-heard.ensures.grows
+    } in
+    subst (λ (l : List Event). StandsBehind header l new) (events_more all index event c.requires.within c.index-events-index.is)
+    (stands_next header before (event_of event) c.args.self.now new c.in_ok-heard.heard c.requires.stands
+    (heard_after header before _ _ _ after told.hears (told.genuine header before after)) (told.after header before after) told.grows
     (subst (λ (l : List (List ℕ)). Lists (fold listed (numbered (world_of header) before) l) c.list_all.new.self) c.as_slice.ensures.value
-    (lists (numbered (world_of header) before) c.requires.stands.lists)) c.in_ok-put_reply.ensures c.forged_then-self.ensures
+    (c.in_ok-list_all.ensures (numbered (world_of header) before) c.requires.stands.lists)) c.in_ok-put_reply.ensures
+    (c.forged_then-self.ensures ∙ ap (λ (n : ℕ). forged_then c.args.self.now.forged c.in_ok-heard.heard.is_genuine (n + 1)) count))

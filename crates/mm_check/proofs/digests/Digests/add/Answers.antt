@@ -1,6 +1,6 @@
 use Rattle.mm_check.proofs.Below.{◌∙◌, ℕ, List, sym, ap, refl, slice_cmp, option_copied, nat_cmp, pair_of}
 use Rattle.std.specs.BTreeMap.{get}
-use Rattle.mm_check.proofs.CountsLaws.{counts-known, counts-new}
+use Rattle.mm_check.proofs.ListingLaws.{counts-known, counts-new}
 use Rattle.mm_check.proofs.digests.Digests.add.Goals as goal
 use Rattle.mm_check.proofs.digests.Digests.add.Goals.{in-Some, in-None+in_ok-put-in-None}
 

@@ -1,4 +1,5 @@
-use Rattle.mm_check.proofs.Below.{ap, running, events_of}
+use Rattle.mm_check.proofs.Below.{ap, events_of}
+use Rattle.mm_replay.specs.Progress.{running}
 use Rattle.mm_check.proofs.RunLaws.{expected_short}
 use Rattle.mm_check.proofs.reading.Reading.into_verdicts.Goals as goal
 

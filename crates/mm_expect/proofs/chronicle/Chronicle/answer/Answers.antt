@@ -7,9 +7,8 @@ pub returns : goal.returns
 returns c =
     let b = batch_of c.args.batch in
     let last = ap (λ (r : Recorded). is_last r.history.batches b) c.self.view_is ∙ c.requires.last in
-    answered_is c.args.self.now c.args.again b c.self.inside.marks.total c.in_ok-outputs.field-0.outputs c.in_ok-snapshot.snapshot
+    answered_is c.args.self.now c.args.again b
     (ap (λ (m : Marks). m.total) c.self.invariant.marks_is ∙ ap (λ (r : Recorded). total_of r.history.batches) c.self.view_is)
     (c.in_ok-outputs.ensures.outputs ∙ ap (λ v. outputs_from (meaning_of c.self.inside.«module») v (members_of b)) c.as_slice.ensures.value
-    ∙ outputs_last c.self.inside.variant c.self.inside.«module» c.self.inside.barrier c.self.inside.lists c.self.inside.marks
-    c.self.inside.state c.self.inside.before b c.self.invariant last
+    ∙ outputs_last b c.self.invariant last
     ∙ ap (λ (r : Recorded). last_outputs (meaning_of r.«module») r.history (size_of b)) c.self.view_is) c.in_ok-snapshot.ensures

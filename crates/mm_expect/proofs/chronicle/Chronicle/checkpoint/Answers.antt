@@ -3,14 +3,11 @@ use Rattle.mm_expect.proofs.CheckLaws.{shut_is}
 use Rattle.mm_expect.proofs.chronicle.Chronicle.checkpoint.Goals as goal
 
 pub returns-in-Basic : goal.returns-in-Basic
-returns-in-Basic c = shut_is c.args.self.now c.check_shut.new.self c.args.course.now.stop c.args.course.now.meddles.now HasNone Basic
-    c.args.self.now.history.is_open
-    c.check_shut.result (ap (λ (r : Recorded). r.variant) (sym c.self.view_is) ∙ c.in-Basic.is) refl (λ lost. refl) (λ lost. refl)
-    c.check_shut.ensures
+returns-in-Basic c = shut_is _ _ c.args.course.now.stop c.args.course.now.meddles.now HasNone Basic _ c.check_shut.result
+    (ap (λ (r : Recorded). r.variant) (sym c.self.view_is) ∙ c.in-Basic.is) refl (λ lost. refl) (λ lost. refl) c.check_shut.ensures
 
 pub returns-else-is_open : goal.returns-else-is_open
-returns-else-is_open c =
-    shut_is c.args.self.now c.check_shut-else-is_open.new.self c.args.course.now.stop c.args.course.now.meddles.now NoSegment Opt false
+returns-else-is_open c = shut_is _ _ c.args.course.now.stop c.args.course.now.meddles.now NoSegment Opt false
     c.check_shut-else-is_open.result (ap (λ (r : Recorded). r.variant) (sym c.self.view_is) ∙ c.in-Opt.is)
     (ap (λ (r : Recorded). r.history.is_open) (sym c.self.view_is) ∙ sym c.is_open.ensures ∙ c.if-is_open.false)
     (λ lost. refl) (λ lost. refl) c.check_shut-else-is_open.ensures

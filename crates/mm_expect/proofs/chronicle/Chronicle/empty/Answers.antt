@@ -3,7 +3,5 @@ use Rattle.mm_expect.proofs.Settling.{settled_emptied}
 use Rattle.mm_expect.proofs.chronicle.Chronicle.empty.Goals as goal
 
 pub invariant_of-self : goal.invariant_of-self
-invariant_of-self c =
-    settled_emptied c.self.inside.variant c.self.inside.«module» c.self.inside.barrier c.self.inside.lists c.empty.new.self
-    c.self.inside.marks c.emptied-self-inside.result c.self.inside.state c.self.inside.before c.self.invariant
-    c.empty.ensures (c.emptied-self-inside.ensures ∙ ap (emptied c.self.inside.marks) c.is_clear.ensures)
+invariant_of-self c = settled_emptied c.self.invariant c.empty.ensures
+    (c.emptied-self-inside.ensures ∙ ap (emptied c.self.inside.marks) c.is_clear.ensures)

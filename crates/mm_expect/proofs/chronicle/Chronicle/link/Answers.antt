@@ -4,11 +4,8 @@ use Rattle.mm_expect.proofs.chronicle.Chronicle.link.Goals as goal
 
 pub invariant_of-self-2 : goal.invariant_of-self-2
 invariant_of-self-2 c =
-    settled_linked c.self.inside.variant c.self.inside.«module» c.self.inside.barrier c.self.inside.lists c.add.new.self c.self.inside.marks
-    c.linked-self-inside.result c.self.inside.state c.self.inside.before (batch_of c.args.batch) c.replace.new.dest c.replace.result
-    c.self.invariant
-    (ap (λ (r : Recorded). r.variant) c.self.view_is ∙ c.requires.variant) c.in_ok-add.ensures.ok c.linked-self-inside.ensures (
+    settled_linked c.self.invariant (batch_of c.args.batch) (
       c.replace.ensures.after ∙ c.requires.state ∙ ap (λ (r : Recorded). state_after_batch r (batch_of c.args.batch)) (sym c.self.view_is),
       c.replace.ensures.value,
       short_one (batch_of c.args.batch) c.requires.short,
-    )
+    ) (ap (λ (r : Recorded). r.variant) c.self.view_is ∙ c.requires.variant) c.in_ok-add.ensures.ok c.linked-self-inside.ensures

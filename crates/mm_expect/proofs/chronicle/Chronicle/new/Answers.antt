@@ -9,5 +9,4 @@ invariant_of-result c =
       | in-Basic w ↦ w.barrier-is ∙ w.zero.ensures ∙ ap barrier_of (sym w.in-Basic.is)
       | in-Opt w ↦ w.barrier-is ∙ w.world_barrier-barrier.ensures ∙ ap barrier_of (sym w.in-Opt.is)
     ] in
-    settled_first c.args.variant c.args.«module» c.match-variant.barrier c.new.result c.first.result c.in_ok-state.state
-    c.in_ok-before.before c.id.result barrier_is c.new.ensures c.id.ensures c.first.ensures c.in_ok-state.ensures c.in_ok-before.ensures
+    settled_first barrier_is c.new.ensures c.id.ensures c.first.ensures c.in_ok-state.ensures c.in_ok-before.ensures

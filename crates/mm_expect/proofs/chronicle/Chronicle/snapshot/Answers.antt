@@ -3,5 +3,4 @@ use Rattle.mm_expect.proofs.chronicle.Chronicle.snapshot.Goals as goal
 
 pub seal_under-requires-clause-state : goal.seal_under-requires-clause-state
 seal_under-requires-clause-state c =
-    fits_limit c.self.inside.«module» c.self.inside.state c.as_slice.result.now c.id.result c.self.invariant.spelled
-    c.as_slice.ensures.value c.id.ensures
+    fits_limit c.self.inside.«module» c.self.invariant.spelled c.as_slice.ensures.value c.id.ensures

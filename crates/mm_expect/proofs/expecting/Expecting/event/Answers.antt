@@ -1,5 +1,5 @@
-use Rattle.mm_expect.proofs.Below.{ℕ, List, sym, ap, ◌∙◌, subst, any_is_lawful, event_of, IsPrintable, WentByEvent, recorded_instance}
-use Rattle.mm_expect.proofs.Below.{world_of, IsGenuineEvent, DecidesEvent, IsDecided, Traced, IsAfter, after_traced}
+use Rattle.mm_expect.proofs.Below.{sym, ap, ◌∙◌, subst, any_is_lawful, event_of, IsPrintable, recorded_instance, world_of, IsGenuineEvent}
+use Rattle.mm_expect.proofs.Below.{IsDecided, Traced, IsAfter, after_traced}
 use Rattle.mm_schedule.specs.declared.reply.Reply.{Reply}
 use Rattle.mm_expect.proofs.AfterLaws.{event_state, goes_after}
 use Rattle.mm_expect.proofs.JudgeLaws.{event_decided}
@@ -7,14 +7,8 @@ use Rattle.mm_expect.proofs.PrintLaws.{printable}
 use Rattle.mm_expect.proofs.expecting.Expecting.event.Goals as goal
 
 pub returns-clause-state : goal.returns-clause-state
-returns-clause-state c =
-    let happens = event_of c.args.event.now in
-    let So : List (List ℕ) → Type 0 = λ v. WentByEvent c.self.inside.chronicle c.follow.new.chronicle v happens c.new-messages.result.items
-    c.follow.new.messages.items c.in_ok-reply.field-0 in
-    event_state c.self.inside.chronicle c.follow.new.chronicle c.self.inside.issued.items c.keep.new.issued.items happens
-    c.new-messages.result.items
-    c.follow.new.messages.items c.in_ok-reply.field-0 (subst So c.as_slice-2.ensures.value c.in_ok-reply.ensures) c.in_ok-keep.ensures
-    ∙ ap (λ (t : Traced). after_traced t happens) c.self.view_is
+returns-clause-state c = event_state (rw c.as_slice-2.ensures.value at c.in_ok-reply.ensures) c.in_ok-keep.ensures
+    ∙ ap (λ (t : Traced). after_traced t (event_of c.args.event.now)) c.self.view_is
 
 pub returns-clause-after : goal.returns-clause-after
 returns-clause-after c = λ header events at.
@@ -27,10 +21,8 @@ returns-clause-printable c = subst (λ (r : Reply). IsPrintable r) (sym c.in_ok-
 
 pub returns-clause-genuine : goal.returns-clause-genuine
 returns-clause-genuine c = λ header events at.
-    let So : List (List ℕ) → Type 0 = λ v. DecidesEvent (recorded_instance c.self.inside.chronicle) c.self.inside.chronicle.history v
-    (event_of c.args.event.now) c.in_ok-is_genuine.is_genuine in
     let To : Traced → Type 0 = λ t. IsDecided c.in_ok-is_genuine.is_genuine
     (IsGenuineEvent (world_of header) t.history t.issued (event_of c.args.event.now)) in
     subst To c.self.view_is
     (event_decided c.self.inside.chronicle c.self.inside.issued.items (event_of c.args.event.now) c.in_ok-is_genuine.is_genuine header
-    events (subst So c.as_slice.ensures.value c.in_ok-is_genuine.ensures) (subst (IsAfter header events) (sym c.self.view_is) at))
+    events (rw c.as_slice.ensures.value at c.in_ok-is_genuine.ensures) (subst (IsAfter header events) (sym c.self.view_is) at))

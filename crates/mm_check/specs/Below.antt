@@ -1,0 +1,52 @@
+-- The words that the definitions of this crate take from the crates below.
+pub use Rattle.std.proofs.Common.{arith, inl, inr, refl, subst, sym}
+pub use Rattle.std.proofs.lemmas.Bool.Decides.{nat_tests}
+pub use Rattle.std.proofs.lemmas.Slice.Eq.{bytes_eq-Decides}
+pub use Rattle.std.specs.BTreeSet.{BTreeSet, contains, keys}
+pub use Rattle.std.specs.Cmp.Lexicographic.{slice_cmp}
+pub use Rattle.std.specs.Fmt.{decimal}
+pub use Rattle.std.specs.Io.KnownBytes.{Appends, Consumes, IsAtEnd}
+pub use Rattle.std.specs.List.{flat_map, fold, list_any, slice_get, sum_by}
+pub use Rattle.std.specs.Option.{option_map}
+pub use Rattle.std.specs.Ordering.{nat_cmp}
+pub use Rattle.std.specs.Prelude.{Bool, Err, List, None, Ok, Option, Result, Some, Vec, [], codes, false, if◌then◌else◌, length, map}
+pub use Rattle.std.specs.Prelude.{nat_le, nat_lt, true, ℕ, ◌++◌, ◌+◌, ◌-◌, ◌<◌, ◌^◌, ◌∷◌, ◌≡◌, ◌≤◌, ◌⊎◌}
+pub use Rattle.std.specs.Str.{bytes_eq}
+pub use Rattle.sha2.specs.Sha256.{sha256}
+pub use Rattle.mm_base.specs.Input.{lines_of}
+pub use Rattle.mm_base.specs.Limits.{most_events}
+pub use Rattle.mm_base.specs.declared.replay_fault.ReplayFault.{ReplayFault}
+pub use Rattle.mm_base.specs.declared.replay_fault.ReplayFault.TheVariants.{Memory, ReadFault, WriteFault}
+pub use Rattle.mm_digest.specs.Messages.{start_message, zero_bytes}
+pub use Rattle.mm_digest.specs.declared.digest.Digest.{Digest}
+pub use Rattle.mm_digest.specs.declared.variant.Variant.{Variant}
+pub use Rattle.mm_digest.specs.declared.variant.Variant.TheVariants.{Basic, Opt}
+pub use Rattle.mm_module.specs.Batch.{Batch, normal}
+pub use Rattle.mm_model.specs.ChainsWords.{own_values}
+pub use Rattle.mm_model.specs.History.{History, first_history, total_of}
+pub use Rattle.mm_model.specs.Instance.{Instance}
+pub use Rattle.mm_model.specs.Long.{is_long}
+pub use Rattle.mm_model.specs.Messages.{IsClear}
+pub use Rattle.mm_call.specs.Levels.{by_lists}
+pub use Rattle.mm_schedule.specs.Events.{Event, event_of}
+pub use Rattle.mm_schedule.specs.Grammar.{event_at}
+pub use Rattle.mm_schedule.specs.Headers.{header_at}
+pub use Rattle.mm_schedule.specs.Replies.{end_line, lines_of_reply}
+pub use Rattle.mm_schedule.specs.declared.event.Event.{Event as CodeEvent}
+pub use Rattle.mm_schedule.specs.declared.header.Header.{Header}
+pub use Rattle.mm_schedule.specs.declared.reply.Reply.{Reply}
+pub use Rattle.mm_run.specs.Folds.{Followed, event_outcome, expected, first_issued, replies_by_digests}
+pub use Rattle.mm_run.specs.Held.{world_of}
+pub use Rattle.mm_run.specs.Premises.{IsClearRun, IsGenuineEvent, IsGenuineRun, foreign_of}
+pub use Rattle.mm_run.specs.PremisesWords.{asked_batches, run_messages}
+pub use Rattle.mm_expect.specs.Numbered.{numbered_event}
+pub use Rattle.mm_expect.specs.Traced.{IsAfter}
+pub use Rattle.mm_replay.specs.Schedule.{Running, after_event, begun, most_kept, running_outcome}
+pub use Rattle.mm_play.specs.Counting.{Taken, begins_fewer, few_events, no_answer, same_answer, taken}
+pub use Rattle.mm_play.specs.Events.{EventPlayer, event_answer, header_answer}
+pub use Rattle.mm_play.specs.Play.{Told, run, run_of}
+pub use Rattle.mm_play.specs.Plays.{ForWhole, IsTailShort}
+pub use Rattle.mm_play.specs.Takes.{IsFrontOf}
+pub use Rattle.mm_play.specs.declared.player.Refused.{Refused}
+pub use Rattle.mm_play.specs.declared.player.Refused.TheVariants.{Bad, Much}
+pub use Rattle.mm_play.specs.declared.player.ReplyFault.{ReplyFault}

@@ -1,0 +1,53 @@
+-- The words that the definitions of this crate take from the crates below.
+pub use Rattle.std.specs.List.{AllByRecursion, list_any}
+pub use Rattle.std.specs.Prelude.{Bool, Err, IsTrue, List, None, Ok, Option, Result, Some, [], false, map, option_to_list, slice_get, true}
+pub use Rattle.std.specs.Prelude.{ℕ, ◌++◌, ◌+◌, ◌∷◌, ◌≡◌, ◌≤◌}
+pub use Rattle.std.specs.Str.{bytes_eq}
+pub use Rattle.mm_base.specs.Limits.{last_position}
+pub use Rattle.mm_digest.specs.Messages.{anchored_message, extended_message, zero_bytes}
+pub use Rattle.mm_digest.specs.declared.variant.Variant.{Variant}
+pub use Rattle.mm_digest.specs.declared.variant.Variant.TheVariants.{Basic, Opt}
+pub use Rattle.mm_seal.specs.Snapshot.{Content, Snapshot}
+pub use Rattle.mm_seal.specs.declared.snapshot.PartsFault.{PartsFault}
+pub use Rattle.mm_platform.specs.declared.fault.StepFault.{StepFault}
+pub use Rattle.mm_platform.specs.declared.plan.Meddle.{Meddle}
+pub use Rattle.mm_platform.specs.declared.plan.Stop.{Stop}
+pub use Rattle.mm_module.specs.Batch.{Batch, members_of, size_of}
+pub use Rattle.mm_module.specs.Batches.{batch_of}
+pub use Rattle.mm_module.specs.Meaning.{IsLawful, Meaning, state_after}
+pub use Rattle.mm_module.specs.MeaningWords.{state_from}
+pub use Rattle.mm_modules.specs.Modules.{meaning_of}
+pub use Rattle.mm_modules.specs.declared.any.AnyModule.{AnyModule}
+pub use Rattle.mm_model.specs.History.{Close, Commit, History, Move, Placed, Reset, first_history, moved, requests_of, total_of}
+pub use Rattle.mm_model.specs.Instance.{Instance}
+pub use Rattle.mm_model.specs.InstanceWords.{basic, opt}
+pub use Rattle.mm_model.specs.Judge.{is_last}
+pub use Rattle.mm_model.specs.Long.{is_long}
+pub use Rattle.mm_model.specs.MessagesWords.{move_messages}
+pub use Rattle.mm_model.specs.Places.{Names}
+pub use Rattle.mm_model.specs.Standing.{IsGenuine}
+pub use Rattle.mm_model.specs.Steps.{Changes, Step, Writes}
+pub use Rattle.mm_model.specs.declared.refusal.Refusal.{Refusal}
+pub use Rattle.mm_call.specs.Answers.{answer_on}
+pub use Rattle.mm_call.specs.Asked.{right_messages}
+pub use Rattle.mm_call.specs.Called.{Answers, Breaks, Called, Ending, Refuses, called}
+pub use Rattle.mm_call.specs.CalledWords.{kept_at}
+pub use Rattle.mm_call.specs.Courses.{Walked, commits, planned, walk}
+pub use Rattle.mm_call.specs.Found.{Found, right_content}
+pub use Rattle.mm_call.specs.Levels.{all_made, by_lists}
+pub use Rattle.mm_call.specs.declared.ended.Ended.{Ended}
+pub use Rattle.mm_call.specs.declared.ended.Ended.TheVariants.{Answered, Broken, Refused}
+pub use Rattle.mm_schedule.specs.Events.{Event}
+pub use Rattle.mm_schedule.specs.declared.event.Offer.{Offer}
+pub use Rattle.mm_schedule.specs.declared.header.Header.{Header}
+pub use Rattle.mm_history.specs.Marks.{marks_of}
+pub use Rattle.mm_history.specs.Naming.{IsDecided}
+pub use Rattle.mm_history.specs.declared.marks.Marks.{Marks}
+pub use Rattle.mm_run.specs.Folds.{Outcome, course_of, event_outcome, expected, first_issued, moves_then, reply_of, snapshots_of, way_of}
+pub use Rattle.mm_run.specs.FoldsWords.{plan_of}
+pub use Rattle.mm_run.specs.Held.{world_of}
+pub use Rattle.mm_run.specs.HeldWords.{world_barrier, world_key}
+pub use Rattle.mm_run.specs.Laws.{IsIssued}
+pub use Rattle.mm_run.specs.Offered.{offered_bytes}
+pub use Rattle.mm_run.specs.Premises.{IsGenuineEvent, event_messages, moves_of}
+pub use Rattle.mm_run.specs.PremisesWords.{IsGenuineOffer}
