@@ -4,6 +4,7 @@ use Rattle.mm_pages.proofs.Below.{ap, sym, ◌∙◌, inl, inr, arith, length-ap
 use Rattle.mm_pages.proofs.Below.{length-replicate, get_or_append_left, get_or-append_right, get_or-take, get_or-drop, get_or_past}
 use Rattle.mm_pages.proofs.Below.{append-nil, drop_all, drop-drop, take-min, same_number_lists}
 use Rattle.mm_pages.specs.Bytes.{resized, page_of, with_page}
+use Rattle.mm_pages.specs.Puts.{IsPutIn, IsPutAt}
 
 pub length-resized : (n : ℕ) (bytes : List ℕ) → length (resized n bytes) ≡ n
 unfolding resized
@@ -59,47 +60,27 @@ page_of-same bytes other page h =
 placed : ℕ → List ℕ → ℕ → List ℕ → List ℕ
 placed at part size bytes = resized at bytes ++ (part ++ drop (at + size) bytes)
 
-placed-before : (at size i : ℕ) (part bytes : List ℕ) → i < at →
-    get_or (placed at part size bytes) i 0 ≡ get_or bytes i 0
+placed_is : (at size : ℕ) (part bytes : List ℕ) → length part ≡ size → IsPutIn at size part bytes (placed at part size bytes)
 unfolding placed
-placed-before at size i part bytes h =
-    get_or_append_left (resized at bytes) (part ++ drop (at + size) bytes) 0 i (omega (arith, length-resized at bytes))
-    ∙ get_or-resized at i bytes h
+placed_is at size part bytes l =
+    let whole : List ℕ = part ++ drop (at + size) bytes in
+    record {
+      within = λ i h.
+          let k : at + i - at ≡ i = omega arith in
+          get_or-append_right (resized at bytes) whole at (at + i) 0 (length-resized at bytes) (omega arith)
+          ∙ ap (λ n. get_or whole n 0) k ∙ get_or_append_left part (drop (at + size) bytes) 0 i (omega arith);
+      before = λ i h. get_or_append_left (resized at bytes) whole 0 i (omega (arith, length-resized at bytes))
+          ∙ get_or-resized at i bytes h;
+      after = λ i h.
+          let k : at + size + (i - at - size) ≡ i = omega arith in
+          get_or-append_right (resized at bytes) whole at i 0 (length-resized at bytes) (omega arith)
+          ∙ get_or-append_right part (drop (at + size) bytes) size (i - at) 0 l (omega arith)
+          ∙ get_or-drop (at + size) bytes (i - at - size) 0 ∙ ap (λ n. get_or bytes n 0) k;
+    }
 
-placed-within : (at size i : ℕ) (part bytes : List ℕ) → length part ≡ size → i < size →
-    get_or (placed at part size bytes) (at + i) 0 ≡ get_or part i 0
-unfolding placed
-placed-within at size i part bytes l h =
-    let k : at + i - at ≡ i = omega arith in
-    get_or-append_right (resized at bytes) (part ++ drop (at + size) bytes) at (at + i) 0 (length-resized at bytes)
-    (omega arith)
-    ∙ ap (λ n. get_or (part ++ drop (at + size) bytes) n 0) k
-    ∙ get_or_append_left part (drop (at + size) bytes) 0 i (omega arith)
-
-placed-after : (at size i : ℕ) (part bytes : List ℕ) → length part ≡ size → at + size ≤ i →
-    get_or (placed at part size bytes) i 0 ≡ get_or bytes i 0
-unfolding placed
-placed-after at size i part bytes l h =
-    let k : at + size + (i - at - size) ≡ i = omega arith in
-    get_or-append_right (resized at bytes) (part ++ drop (at + size) bytes) at i 0 (length-resized at bytes) (omega arith)
-    ∙ get_or-append_right part (drop (at + size) bytes) size (i - at) 0 l (omega arith)
-    ∙ get_or-drop (at + size) bytes (i - at - size) 0
-    ∙ ap (λ n. get_or bytes n 0) k
-
-pub with_page-before : (page i : ℕ) (part bytes : List ℕ) → i < 256 * page →
-    get_or (with_page page part bytes) i 0 ≡ get_or bytes i 0
+pub put_at : (page : ℕ) (part was : List ℕ) → length part ≡ 256 → IsPutAt page part was (with_page page part was)
 unfolding with_page placed
-with_page-before page i part bytes h = placed-before (256 * page) 256 i part bytes h
-
-pub with_page-within : (page i : ℕ) (part bytes : List ℕ) → length part ≡ 256 → i < 256 →
-    get_or (with_page page part bytes) (256 * page + i) 0 ≡ get_or part i 0
-unfolding with_page placed
-with_page-within page i part bytes l h = placed-within (256 * page) 256 i part bytes l h
-
-pub with_page-after : (page i : ℕ) (part bytes : List ℕ) → length part ≡ 256 → 256 * page + 256 ≤ i →
-    get_or (with_page page part bytes) i 0 ≡ get_or bytes i 0
-unfolding with_page placed
-with_page-after page i part bytes l h = placed-after (256 * page) 256 i part bytes l h
+put_at page part was l = placed_is (256 * page) 256 part was l
 
 -- bytes of this length that agree up to there
 pub resized-same : (bytes now : List ℕ) → ((i : ℕ) → i < length bytes → get_or now i 0 ≡ get_or bytes i 0) →

@@ -24,32 +24,18 @@ part_at page at i left there part was e f a low high =
     ∙ get_or-page_of was page (i - at) (omega arith)
     ∙ ap (λ n. get_or was n 0) k
 
--- a read of a page changes two counts at most
-same_all : (old mid new : Paged) → mid ≡ record old { page_reads = mid.page_reads } →
-    new ≡ record mid { faults = new.faults; page_reads = counted mid.page_reads } → new.faults ≡ mid.faults →
-    new ≡ record old { page_reads = new.page_reads }
-same_all old mid new e f k =
-    let step : new ≡ record mid { page_reads = new.page_reads } =
-    λ i. record {
-      slots = ap (λ (x : Paged). x.slots) f i;
-      is_honest = ap (λ (x : Paged). x.is_honest) f i;
-      faults = k i;
-      page_reads = new.page_reads;
-      page_writes = ap (λ (x : Paged). x.page_writes) f i;
-      length_writes = ap (λ (x : Paged). x.length_writes) f i;
-      unsynced = ap (λ (x : Paged). x.unsynced) f i;
-    } in
-    step ∙ ap (λ (x : Paged). record x { page_reads = new.page_reads }) e
-
-pub gives_more : (slot size page : ℕ) (old mid new : Paged) (bytes there part : List ℕ) (done : Unit) →
+pub gives_more : {slot size page : ℕ} {old mid new : Paged} {bytes there part : List ℕ} {done : Unit} →
     256 * page < size → GivesFirst slot size page old mid bytes → ReadsPage slot page mid new there (Ok done) →
     part ≡ take (min (size - 256 * page) 256) there → length part ≡ min (size - 256 * page) 256 →
     GivesFirst slot size (page + 1) old new (bytes ++ part)
-gives_more slot size page old mid new bytes there part done within g r p l =
+gives_more {slot} {size} {page} {old} {bytes = bytes} {there = there} {part = part} within g r p l =
     let at : length bytes ≡ 256 * page = omega (arith, g.len) in
     let size_is : length (bytes ++ part) ≡ length bytes + length part = length-append bytes part in
     record {
-      same = same_all old mid new g.same r.same r.counted_faults.kept;
+      same = r.same ∙ (λ i. record (g.same i) {
+        faults = (r.counted_faults.kept ∙ ap (λ (x : Paged). x.faults) g.same) i;
+        page_reads = sym (ap (λ (x : Paged). x.page_reads) r.same) i;
+      });
       len = omega (arith, size_is, g.len, l);
       gives =
           λ slots e most i below.
@@ -62,29 +48,13 @@ gives_more slot size page old mid new bytes there part done within g r p l =
           ];
     }
 
--- nothing but the two counts changes
-two_counts : (old new : Paged) → new.slots ≡ old.slots → new.is_honest ≡ old.is_honest →
-    new.page_writes ≡ old.page_writes → new.length_writes ≡ old.length_writes → new.unsynced ≡ old.unsynced →
-    new ≡ record old { faults = new.faults; page_reads = new.page_reads }
-two_counts old new s h w l u = λ i. record {
-  slots = s i;
-  is_honest = h i;
-  faults = new.faults;
-  page_reads = new.page_reads;
-  page_writes = w i;
-  length_writes = l i;
-  unsynced = u i;
-}
-
-pub gives_all : (slot size : ℕ) (old new : Paged) (bytes : List ℕ) (done : Unit) →
+pub gives_all : {slot size : ℕ} {old new : Paged} {bytes : List ℕ} {done : Unit} →
     GivesFirst slot size (page_count size) old new bytes → GivesPages slot size old new bytes (Ok done)
-gives_all slot size old new bytes done g =
+gives_all {slot} {size} {old} {new} {bytes} g =
     let size_is : length bytes ≡ size = omega (arith, g.len) in
     record {
-      same =
-          two_counts old new (ap (λ (x : Paged). x.slots) g.same) (ap (λ (x : Paged). x.is_honest) g.same)
-          (ap (λ (x : Paged). x.page_writes) g.same) (ap (λ (x : Paged). x.length_writes) g.same)
-          (ap (λ (x : Paged). x.unsynced) g.same);
+      same = g.same
+          ∙ (λ i. record old { faults = sym (ap (λ (x : Paged). x.faults) g.same) i; page_reads = new.page_reads });
       counted_faults = ap (λ (x : Paged). x.faults) g.same;
       len = size_is;
       gives =
@@ -99,9 +69,9 @@ size_of_seen : (n size : ℕ) (bytes : List ℕ) → n ≡ 1100000 → size ≡ 
     size ≡ length (take n bytes)
 size_of_seen n size bytes e f = omega (arith, length-take n bytes)
 
-pub gives_size : (slot seen size : ℕ) (old new : Paged) → ReadsLength slot old new (Ok seen) →
+pub gives_size : {slot seen size : ℕ} {old new : Paged} → ReadsLength slot old new (Ok seen) →
     size ≡ min seen 1100000 → GivesSize slot old new (Ok size)
-gives_size slot seen size old new r e = record {
+gives_size {slot} {size = size} r e = record {
   same = r.same;
   counted_faults = record { later = r.counted_faults.later; kept = r.counted_faults.kept; failed = tt };
   most = omega arith;

@@ -3,7 +3,7 @@ use Rattle.mm_pages.proofs.Below.{ℕ, ◌≡◌, ◌-◌, zero, suc, Bool, true
 use Rattle.mm_pages.proofs.Below.{sym, ◌∙◌, subst, inl, inr, arith, ◌==◌, if◌then◌else◌, cases_lt, get_or_append_left, get_or-append_right}
 use Rattle.mm_pages.proofs.Below.{Digest, Slots, with_slot, putting, page_of, page_count, Paged, Rows, with_row, page_digest, page_digests}
 use Rattle.mm_pages.proofs.Below.{PutsWhole, AreOf, AreInStep, KeepsStep}
-use Rattle.mm_pages.proofs.RowLaws.{length-digests_of}
+use Rattle.mm_pages.proofs.RowLaws.{length-digests_of, put}
 
 last_of : (n : ℕ) (digest other : Digest) → get_or (Some digest ∷ []) n None ≡ Some other → (n ≡ 0) × (digest ≡ other)
 last_of zero digest other e = (refl, cc)
@@ -26,19 +26,13 @@ are_of_own bytes (suc count) page digest e =
           sym found.1 ∙ ap (λ n. page_digest (page_of bytes n)) same)
     ]
 
-put_row : Bool → Bool → Bool → Rows → List (Option Digest) → Rows
-put_row a b c rows row =
-    if a then record rows { zero = row } else if b then record rows { one = row }
-    else if c then record rows { two = row } else record rows { three = row }
-
-put_slot : Bool → Bool → Bool → Slots → List ℕ → Slots
+abbrev put_slot : Bool → Bool → Bool → Slots → List ℕ → Slots
 put_slot a b c slots bytes =
     if a then record slots { zero = bytes } else if b then record slots { one = bytes }
     else if c then record slots { two = bytes } else record slots { three = bytes }
 
 step_put : (a b c : Bool) (rows : Rows) (slots : Slots) (row : List (Option Digest)) (bytes : List ℕ) →
-    AreInStep rows slots → AreOf row bytes → AreInStep (put_row a b c rows row) (put_slot a b c slots bytes)
-unfolding put_row put_slot
+    AreInStep rows slots → AreOf row bytes → AreInStep (put a b c rows row) (put_slot a b c slots bytes)
 step_put true b c rows slots row bytes h k =
     record { at_zero = k; at_one = h.at_one; at_two = h.at_two; at_three = h.at_three }
 step_put false true c rows slots row bytes h k =
@@ -50,22 +44,21 @@ step_put false false false rows slots row bytes h k =
 
 step_with : (slot : ℕ) (rows : Rows) (slots : Slots) (row : List (Option Digest)) (bytes : List ℕ) →
     AreInStep rows slots → AreOf row bytes → AreInStep (with_row rows slot row) (with_slot slots slot bytes)
-unfolding put_row put_slot
 step_with slot rows slots row bytes h k = step_put (slot == 0) (slot == 1) (slot == 2) rows slots row bytes h k
 
 -- one slot and its digests changed
-step_after : (slot : ℕ) (rows after : Rows) (row : List (Option Digest)) (bytes : List ℕ) (old new : Option Slots)
-    (was now : Slots) → after ≡ with_row rows slot row → new ≡ putting slot bytes old → old ≡ Some was →
-    new ≡ Some now → AreOf row bytes → AreInStep rows was → AreInStep after now
-step_after slot rows after row bytes old new was now r s e f k h =
+step_after : (slot : ℕ) {rows after : Rows} (row : List (Option Digest)) (bytes : List ℕ) {old new : Option Slots} {was now : Slots} →
+    after ≡ with_row rows slot row → new ≡ putting slot bytes old → old ≡ Some was → new ≡ Some now → AreOf row bytes →
+    AreInStep rows was → AreInStep after now
+step_after slot {rows} {after} row bytes {was = was} {now = now} r s e f k h =
     let told : Some (with_slot was slot bytes) ≡ Some now =
     sym (s ∙ ap (λ (x : Option Slots). putting slot bytes x) e) ∙ f in
     let same : with_slot was slot bytes ≡ now = cc in
     subst (λ (x : Rows). AreInStep x now) (sym r)
     (subst (λ (x : Slots). AreInStep (with_row rows slot row) x) same (step_with slot rows was row bytes h k))
 
-pub step_written : (slot : ℕ) (bytes : List ℕ) (old new : Paged) (rows after : Rows) →
-    PutsWhole slot bytes old new rows after → KeepsStep old new rows after
-step_written slot bytes old new rows after p honest was now e f h =
-    step_after slot rows after (page_digests bytes (page_count (length bytes))) bytes old.slots new.slots was now p.rows_are
-    (p.slots honest) e f (are_of_own bytes (page_count (length bytes))) h
+pub step_written : {slot : ℕ} {bytes : List ℕ} {old new : Paged} {rows after : Rows} → PutsWhole slot bytes old new rows after →
+    KeepsStep old new rows after
+step_written {slot} {bytes} p honest was now e f h =
+    step_after slot (page_digests bytes (page_count (length bytes))) bytes p.rows_are (p.slots honest) e f (are_of_own bytes (page_count
+    (length bytes))) h

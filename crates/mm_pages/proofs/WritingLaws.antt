@@ -1,34 +1,26 @@
 -- The steps of a write, one after another.
 use Rattle.mm_pages.proofs.Below.{ℕ, ◌≡◌, ◌+◌, ◌*◌, ◌<◌, ◌≤◌, suc, true, false, Option, Some, None, Result, Ok, Err, List, [], ◌++◌, length}
 use Rattle.mm_pages.proofs.Below.{get_or, take, drop, refl, ap, sym, ◌∙◌, subst, inl, inr, arith, ◌-◌, length-append, is_err, cases_lt}
-use Rattle.mm_pages.proofs.Below.{Failed, Rose, Digest, Slots, slot_in, with_slot, MarksAlone, putting, slot_in-with_slot, with_slot-twice}
+use Rattle.mm_pages.proofs.Below.{Failed, Rose, Digest, Slots, slot_in, with_slot, putting, slot_in-with_slot, with_slot-twice}
 use Rattle.mm_pages.proofs.Below.{with_slot-same, putting-twice, marks_alone, marked_last, resized, page_of, page_count, Paged, ReadsLength}
 use Rattle.mm_pages.proofs.Below.{Syncs, changing, counted_by, may_be, look_at, looks_at, change_count, changes_of, one_if, Rows, row_in}
 use Rattle.mm_pages.proofs.Below.{with_row, kept_digest, page_digest, keeping, page_digests, IsInStep, IsPutAt, FailsIn, Fails, PutsThere}
 use Rattle.mm_pages.proofs.Below.{PutsOne, IsFilled, FillsSlot, PutsFirst, IsOneMoreAtMost, Fits, FitsAndSyncs, EndsInSync, PutsWhole}
 use Rattle.mm_pages.proofs.Below.{PutsBytes}
 use Rattle.mm_pages.proofs.BytesLaws.{get_or-page_of, page_of-same, resized-same, resized-length}
-use Rattle.mm_pages.proofs.RowLaws.{row_in-with_row, with_row-twice, with_row-same, keeping-next, kept_of-next, length-digests_of, take-digests_of}
+use Rattle.mm_pages.proofs.RowLaws.{row_in-with_row, with_row-twice, with_row-same, keeping-next, kept_of-next, length-digests_of}
+use Rattle.mm_pages.proofs.RowLaws.{take-digests_of}
 use Rattle.mm_pages.proofs.CountLaws.{counted_by-add, changes_of-same}
-use Rattle.mm_pages.proofs.PageLaws.{slots_stay, marks_same}
+use Rattle.mm_pages.proofs.PageLaws.{slots_stay, marks_same, told_once}
 
 -- a slot of which no page was put
 fills_none : (slot : ℕ) (bytes : List ℕ) (slots : Option Slots) → FillsSlot slot 0 bytes slots slots
-fills_none slot bytes None = record {
-  left = [];
-  slots = refl;
-  fills = λ told e. absurd (cc);
-}
+fills_none slot bytes None = record { left = []; slots = refl; fills = λ told e. absurd (cc) }
 fills_none slot bytes (Some was) = record {
   left = slot_in was slot;
   slots = ap Some (sym (with_slot-same was slot));
-  fills =
-      λ told e.
-      let same : was ≡ told = cc in
-      subst (λ (x : Slots). IsFilled 0 bytes (slot_in x slot) (slot_in was slot)) same (record {
-        filled = λ i below. absurd (omega arith);
-        after = λ i after. refl;
-      });
+  fills = told_once (λ x. IsFilled 0 bytes (slot_in x slot) (slot_in was slot)) was
+      (record { filled = λ i below. absurd (omega arith); after = λ i after. refl });
 }
 
 -- no page yet
@@ -86,10 +78,10 @@ fills_more slot count bytes old mid new f p = record {
       filled_more count bytes (slot_in told slot) f.left p.left (f.fills told e) here;
 }
 
-pub puts_more : (slot count : ℕ) (bytes : List ℕ) (old mid new : Paged) (rows some after : Rows) →
+pub puts_more : {slot count : ℕ} {bytes : List ℕ} {old mid new : Paged} {rows some after : Rows} →
     PutsFirst slot count bytes old mid rows some → PutsOne slot count (page_of bytes count) mid new some after →
     PutsFirst slot (suc count) bytes old new rows after
-puts_more slot count bytes old mid new rows some after f p =
+puts_more {slot} {count} {bytes} {old} {mid} {new} {rows} {some} f p =
     let part : List ℕ = page_of bytes count in
     let firsts : List (Option Digest) = page_digests bytes count in
     let row : List (Option Digest) = row_in rows slot in
@@ -107,13 +99,10 @@ puts_more slot count bytes old mid new rows some after f p =
       lengths = p.lengths ∙ f.lengths;
       marks = p.marks ∙ f.marks;
       rows_are =
-          p.rows_are ∙ ap (λ (x : List (Option Digest)). with_row some slot x) more
-          ∙ ap (λ (x : Rows). with_row x slot (page_digests bytes (suc count) ++ drop (suc count) row)) f.rows_are
+          p.rows_are ∙ (λ j. with_row (f.rows_are j) slot (more j))
           ∙ with_row-twice rows slot (firsts ++ drop count row) (page_digests bytes (suc count) ++ drop (suc count) row);
       looks =
-          p.looks
-          ∙ ap (λ (x : Option Digest). counted_by (one_if (may_be x (page_digest part))) mid.page_reads) kept_is
-          ∙ ap (λ n. counted_by (look_at row count part) n) f.looks
+          p.looks ∙ (λ j. counted_by (one_if (may_be (kept_is j) (page_digest part))) (f.looks j))
           ∙ sym (counted_by-add (look_at row count part) (looks_at row bytes count) old.page_reads);
       fills =
           λ honest.
@@ -128,9 +117,7 @@ puts_more slot count bytes old mid new rows some after f p =
           let step : IsInStep (row_in some slot) count (slot_in (with_slot told slot g.left) slot) =
           λ x k. steps count (omega arith) x (sym kept_is ∙ k) ∙ ap page_digest (sym page) in
           p.writes (with_slot told slot g.left) (told_after slot g.left old.slots mid.slots told g.slots e) step
-          ∙ ap (λ (x : List ℕ). counted_by (change_count x part) mid.page_writes) page
-          ∙ ap (λ n. counted_by (change_count (page_of was count) part) n)
-          (f.writes honest told e (λ k below. steps k (omega arith)))
+          ∙ (λ j. counted_by (change_count (page j) part) (f.writes honest told e (λ k below. steps k (omega arith)) j))
           ∙ sym (counted_by-add (change_count (page_of was count) part) (changes_of was bytes count) old.page_writes);
       still =
           λ honest told e steps none.
@@ -141,46 +128,29 @@ puts_more slot count bytes old mid new rows some after f p =
     }
 
 -- where the digests so far stand, the next one follows
-pub reaches : (slot count : ℕ) (bytes : List ℕ) (old new : Paged) (rows after : Rows) →
+pub reaches : {slot count : ℕ} {bytes : List ℕ} {old new : Paged} {rows after : Rows} →
     PutsFirst slot count bytes old new rows after → count ≤ length (row_in after slot)
-reaches slot count bytes old new rows after f =
+reaches {slot} {count} {bytes} {rows = rows} f =
     let row_is = ap (λ (x : Rows). row_in x slot) f.rows_are
     ∙ row_in-with_row rows slot (page_digests bytes count ++ drop count (row_in rows slot)) in
-    omega (
-      arith,
-      ap length row_is,
-      length-append (page_digests bytes count) (drop count (row_in rows slot)),
-      length-digests_of bytes count,
-    )
+    omega (arith, ap length row_is, length-append {A = Option Digest}, length-digests_of bytes count)
 
 -- a failure after some pages
-fails_in_after : (slot : ℕ) (left : List ℕ) (old mid new : Paged) → mid.is_honest ≡ old.is_honest →
-    mid.faults ≡ old.faults → (old.is_honest ≡ true → (some : List ℕ) × (mid.slots ≡ putting slot some old.slots)) →
-    MarksAlone slot old.unsynced mid.unsynced → FailsIn slot mid new → FailsIn slot old new
-fails_in_after slot left old mid new h k s m f = record {
-  honest = f.honest ∙ h;
-  faults = subst (λ n. Rose n new.faults) k f.faults;
-  leaves =
-      λ honest.
-      let first = s honest in
-      let later = f.leaves (h ∙ honest) in (
-        later.0,
-        later.1 ∙ ap (λ (x : Option Slots). putting slot later.0 x) first.1
-            ∙ putting-twice slot first.0 later.0 old.slots,
-      );
-  marks = f.marks ∙ m;
-}
-
-pub fails_after : (slot count : ℕ) (bytes : List ℕ) (old mid new : Paged) (rows some after : Rows) →
+pub fails_after : {slot count : ℕ} {bytes : List ℕ} {old mid new : Paged} {rows some after : Rows} →
     PutsFirst slot count bytes old mid rows some → Fails slot mid new some after → Fails slot old new rows after
-fails_after slot count bytes old mid new rows some after f g = record {
-  paged =
-      fails_in_after slot [] old mid new f.honest f.faults
-      (λ honest. let h = f.fills honest in (h.left, h.slots)) f.marks g.paged;
+fails_after {slot} {old = old} {new = new} {rows = rows} f g = record {
+  paged = record {
+    honest = g.paged.honest ∙ f.honest;
+    faults = subst (λ n. Rose n new.faults) f.faults g.paged.faults;
+    leaves =
+        λ honest.
+        let first = f.fills honest in
+        let later = g.paged.leaves (f.honest ∙ honest) in
+        (later.0, later.1 ∙ ap (putting slot later.0) first.slots ∙ putting-twice slot first.left later.0 old.slots);
+    marks = g.paged.marks ∙ f.marks;
+  };
   row = g.row;
-  rows_are =
-      g.rows_are ∙ ap (λ (x : Rows). with_row x slot g.row) f.rows_are
-      ∙ with_row-twice rows slot _ g.row;
+  rows_are = g.rows_are ∙ ap (λ (x : Rows). with_row x slot g.row) f.rows_are ∙ with_row-twice rows slot _ g.row;
 }
 
 -- slots whose length is right
@@ -193,9 +163,9 @@ length_stays slot size (Some told) h =
     ap Some (sym (with_slot-same told slot) ∙ ap (λ (x : List ℕ). with_slot told slot x) (sym same))
 
 -- the length, where it is right already
-pub fits_already : (slot size seen : ℕ) (old new : Paged) → ReadsLength slot old new (Ok seen) → seen ≡ size →
+pub fits_already : {slot size seen : ℕ} {old new : Paged} → ReadsLength slot old new (Ok seen) → seen ≡ size →
     Fits slot size old new
-fits_already slot size seen old new r e = record {
+fits_already {slot} {size} {old = old} {new = new} r e = record {
   honest = ap (λ (x : Paged). x.is_honest) r.same;
   faults = r.counted_faults.kept;
   reads = ap (λ (x : Paged). x.page_reads) r.same;
@@ -207,15 +177,11 @@ fits_already slot size seen old new r e = record {
   marks = marks_same slot old new (ap (λ (x : Paged). x.unsynced) r.same);
 }
 
-pub length_failed : (slot : ℕ) (old new : Paged) (fault : Failed) → ReadsLength slot old new (Err fault) →
-    FailsIn slot old new
-length_failed slot old new fault r = record {
+pub length_failed : {slot : ℕ} {old new : Paged} {fault : Failed} → ReadsLength slot old new (Err fault) → FailsIn slot old new
+length_failed {slot} {old} {new} r = record {
   honest = ap (λ (x : Paged). x.is_honest) r.same;
   faults = r.counted_faults.failed;
-  leaves =
-      λ honest.
-      let stay = slots_stay slot old.slots in
-      (stay.0, ap (λ (x : Paged). x.slots) r.same ∙ stay.1);
+  leaves = λ honest. let stay = slots_stay slot old.slots in (stay.0, ap (λ (x : Paged). x.slots) r.same ∙ stay.1);
   marks = marks_same slot old new (ap (λ (x : Paged). x.unsynced) r.same);
 }
 
@@ -226,9 +192,9 @@ slots_changed slot change None = ([], refl)
 slots_changed slot change (Some told) = (change (slot_in told slot), refl)
 
 -- a length that is fitted, and then synced
-fits_and_synced : (slot size : ℕ) (old mid new : Paged) (done : Unit) → Fits slot size old mid →
+fits_and_synced : {slot size : ℕ} {old mid new : Paged} {done : Unit} → Fits slot size old mid →
     Syncs slot mid new (Ok done) → Fits slot size old new
-fits_and_synced slot size old mid new done f s = record {
+fits_and_synced {slot} {old = old} {mid = mid} {new = new} f s = record {
   honest = ap (λ (x : Paged). x.is_honest) s.same ∙ f.honest;
   faults = s.counted_faults.kept ∙ f.faults;
   reads = ap (λ (x : Paged). x.page_reads) s.same ∙ f.reads;
@@ -245,7 +211,7 @@ fits_and_synced slot size old mid new done f s = record {
 pub fits_synced : (slot size : ℕ) (old mid new : Paged) (result : Result Unit Failed) → Fits slot size old mid →
     Syncs slot mid new result → EndsInSync slot size old new result
 fits_synced slot size old mid new (Ok done) f s = record {
-  fits = fits_and_synced slot size old mid new done f s;
+  fits = fits_and_synced f s;
   synced = marked_last slot false old.unsynced mid.unsynced new.unsynced f.marks (ap (λ (x : Paged). x.unsynced) s.same);
 }
 fits_synced slot size old mid new (Err fault) f s = record {
@@ -282,11 +248,11 @@ fits_whole slot bytes (Some told) mid new f e =
     ∙ ap Some (with_slot-twice told slot f.left bytes)
 
 -- all pages, and then the length
-pub puts_all : (slot : ℕ) (bytes : List ℕ) (old mid new : Paged) (rows some after : Rows) →
+pub puts_all : {slot : ℕ} {bytes : List ℕ} {old mid new : Paged} {rows some after : Rows} →
     PutsFirst slot (page_count (length bytes)) bytes old mid rows some →
     after ≡ with_row some slot (take (page_count (length bytes)) (row_in some slot)) →
     FitsAndSyncs slot (length bytes) mid new → PutsWhole slot bytes old new rows after
-puts_all slot bytes old mid new rows some after f r ends =
+puts_all {slot} {bytes} {old} {mid} {new} {rows} {some} f r ends =
     let g = ends.fits in
     let count : ℕ = page_count (length bytes) in
     let row_is : row_in some slot ≡ page_digests bytes count ++ drop count (row_in rows slot) =
@@ -300,8 +266,7 @@ puts_all slot bytes old mid new rows some after f r ends =
       lengths = subst (λ n. IsOneMoreAtMost n new.length_writes) f.lengths g.lengths;
       synced = marked_last slot false old.unsynced mid.unsynced new.unsynced f.marks ends.synced;
       rows_are =
-          r ∙ ap (λ (x : List (Option Digest)). with_row some slot x) cut
-          ∙ ap (λ (x : Rows). with_row x slot (page_digests bytes count)) f.rows_are
+          r ∙ (λ j. with_row (f.rows_are j) slot (cut j))
           ∙ with_row-twice rows slot _ (page_digests bytes count);
       looks = g.reads ∙ f.looks;
       slots =
@@ -316,16 +281,12 @@ puts_all slot bytes old mid new rows some after f r ends =
     }
 
 -- all pages, and then a failure
-pub fails_at_end : (slot : ℕ) (bytes : List ℕ) (old mid new : Paged) (rows some after : Rows) →
+pub fails_at_end : {slot : ℕ} {bytes : List ℕ} {old mid new : Paged} {rows some after : Rows} →
     PutsFirst slot (page_count (length bytes)) bytes old mid rows some →
     after ≡ with_row some slot (take (page_count (length bytes)) (row_in some slot)) →
     FailsIn slot mid new → Fails slot old new rows after
-fails_at_end slot bytes old mid new rows some after f r g =
-    fails_after slot (page_count (length bytes)) bytes old mid new rows some after f (record {
-      paged = g;
-      row = take (page_count (length bytes)) (row_in some slot);
-      rows_are = r;
-    })
+fails_at_end {slot} {bytes} {some = some} f r g =
+    fails_after f (record { paged = g; row = take (page_count (length bytes)) (row_in some slot); rows_are = r })
 
 -- a write that didn't fail
 pub put_whole : (slot : ℕ) (bytes : List ℕ) (old new : Paged) (rows after : Rows) (result : Result Unit Failed) →

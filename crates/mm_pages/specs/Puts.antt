@@ -28,11 +28,15 @@ pub record HoldsPage (slot page : ℕ) (kept : Option Digest) (digest : Digest) 
   pub holds : IfOk result (λ is. (slots : Slots) → old.slots ≡ Some slots
       → is ≡ (may_be kept digest && bytes_eq (page_of (slot_in slots slot) page) part))
 
--- some bytes stand at the page's place, and the bytes before and after it are as they were
-pub record IsPutAt (page : ℕ) (part was now : List ℕ) : Type 0 where
-  pub within : (i : ℕ) → i < 256 → slice_index now (256 * page + i) ≡ slice_index part i
-  pub before : (i : ℕ) → i < 256 * page → slice_index now i ≡ slice_index was i
-  pub after : (i : ℕ) → 256 * page + 256 ≤ i → slice_index now i ≡ slice_index was i
+-- some bytes stand at a place, as many as this, and the bytes before and after it are as they were
+pub record IsPutIn (at size : ℕ) (part was now : List ℕ) : Type 0 where
+  pub within : (i : ℕ) → i < size → slice_index now (at + i) ≡ slice_index part i
+  pub before : (i : ℕ) → i < at → slice_index now i ≡ slice_index was i
+  pub after : (i : ℕ) → at + size ≤ i → slice_index now i ≡ slice_index was i
+
+-- the same at a page's place
+abbrev pub IsPutAt : ℕ → List ℕ → List ℕ → List ℕ → Type 0
+IsPutAt page part was now = IsPutIn (256 * page) 256 part was now
 
 -- a slot of a device that failed: its slot has any bytes if it is honest, and no other slot changed
 pub record FailsIn (slot : ℕ) (old new : Paged) : Type 0 where

@@ -114,20 +114,19 @@ one_reading slot bytes (Some p) (Some q) h k =
     (omega (arith, h.0.line.short)) (omega (arith, k.0.line.short)) (sym h.1 ∙ k.1))
 
 -- bytes whose front and digest are split off are a record's exactly where these are the record's
-pub record IsSplit (bytes front digest : List ℕ) : Type 0 where
-  pub at_front : front ≡ take (length bytes - 32) bytes
-  pub at_digest : digest ≡ drop (length bytes - 32) bytes
-  pub size : length front + 32 ≡ length bytes
+abbrev pub IsSplit : List ℕ → List ℕ → List ℕ → Type 0
+IsSplit bytes front digest =
+    (front ≡ take (length bytes - 32) bytes) × (digest ≡ drop (length bytes - 32) bytes) × (length front + 32 ≡ length bytes)
 
 pub split_record : (bytes front digest : List ℕ) (p : Pending) → IsSplit bytes front digest →
     bytes ≡ pending_spelling p → (front ≡ pending_front p) × (digest ≡ sha256 (pending_front p))
 unfolding pending_spelling
 split_record bytes front digest p s e =
-    let whole : bytes ≡ front ++ digest = joined _ bytes front digest s.at_front s.at_digest in
+    let whole : bytes ≡ front ++ digest = joined _ bytes front digest s.0 s.1 in
     let sizes : length front ≡ length (pending_front p) =
     omega (
       arith,
-      s.size,
+      s.2,
       ap length e,
       length-append (pending_front p) (sha256 (pending_front p)),
       length-sha256 (pending_front p),
@@ -161,6 +160,6 @@ pub reads_some : (slot : ℕ) (bytes front digest : List ℕ) (q : Pending) → 
 unfolding pending_spelling
 reads_some slot bytes front digest q s f is e = (
   is,
-  joined _ bytes front digest s.at_front s.at_digest ∙ ap (λ (x : List ℕ). front ++ x) e
+  joined _ bytes front digest s.0 s.1 ∙ ap (λ (x : List ℕ). front ++ x) e
       ∙ ap (λ (x : List ℕ). x ++ sha256 x) f.spelled,
 )

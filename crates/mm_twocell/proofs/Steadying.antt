@@ -39,46 +39,40 @@ torn_of bytes cycles faults ahead leaves register = record {
   leaves = leaves;
 }
 
-steps_by : (act : Act) (old new : Standing) (fault : Option StepFault) (bytes : List ℕ) (cycles faults ahead : ℕ) (leaves : List ℕ)
-    → ((made : Bool) (cell : Option (List ℕ)) → cell_after act made cell ≡ cell) → IsSteady old → Goes act old new fault
-    → StepsRegister act (torn_of bytes cycles faults ahead leaves old) (torn_of bytes cycles faults ahead leaves new)
-steps_by act old new fault bytes cycles faults ahead leaves same steady g =
-    let s = steadies_by g old.plan refl steady.0 steady.1 in
-    let t : Standing = told_by (torn_of bytes cycles faults ahead leaves old) in
-    let made : makes t ≡ true = ap (λ (o : Bool). will_be_made o quiet_plan) steady.0 in
-    let brings : will_bring old.is_on quiet_plan ≡ [] = ap (λ (o : Bool). will_bring o quiet_plan) steady.0 in
-    let answers : next_answer t ≡ None = ap (λ (o : Bool). will_answer o quiet_plan) steady.0 in
-    record {
-      stands = record {
-        cell = sym (same (makes t) (whole_bytes (Some bytes)));
-        items = g.items ∙ ap (λ (m : Bool). items_after act m (beside g.others old.items)) (s.made ∙ sym made)
-            ∙ ap (λ (o : List (List ℕ)). items_after act (makes t) (beside o old.items)) (s.others ∙ sym brings);
-        is_on = s.on ∙ sym (ap (λ (o : Bool). will_be_on o quiet_plan) steady.0);
-        steps = g.steps;
-        writes = g.writes;
-        cycles = refl;
-        faults = sym (ap (λ (f : Option StepFault). faults_after f faults) answers);
-        plan = refl;
-      };
-      ahead = refl;
-      leaves = refl;
-    }
+module _ (old new : Standing) (fault : Option StepFault) (bytes : List ℕ) (cycles faults ahead : ℕ) (leaves : List ℕ)
+    (steady : IsSteady old) where
+  steps_by : (act : Act) → ((made : Bool) (cell : Option (List ℕ)) → cell_after act made cell ≡ cell) → Goes act old new fault
+      → StepsRegister act (torn_of bytes cycles faults ahead leaves old) (torn_of bytes cycles faults ahead leaves new)
+  steps_by act same g =
+      let s = steadies_by g old.plan refl steady.0 steady.1 in
+      let t : Standing = told_by (torn_of bytes cycles faults ahead leaves old) in
+      let made : makes t ≡ true = ap (λ (o : Bool). will_be_made o quiet_plan) steady.0 in
+      let brings : will_bring old.is_on quiet_plan ≡ [] = ap (λ (o : Bool). will_bring o quiet_plan) steady.0 in
+      let answers : next_answer t ≡ None = ap (λ (o : Bool). will_answer o quiet_plan) steady.0 in
+      record {
+        stands = record {
+          cell = sym (same (makes t) (whole_bytes (Some bytes)));
+          items = g.items ∙ ap (λ (m : Bool). items_after act m (beside g.others old.items)) (s.made ∙ sym made)
+              ∙ ap (λ (o : List (List ℕ)). items_after act (makes t) (beside o old.items)) (s.others ∙ sym brings);
+          is_on = s.on ∙ sym (ap (λ (o : Bool). will_be_on o quiet_plan) steady.0);
+          steps = g.steps;
+          writes = g.writes;
+          cycles = refl;
+          faults = sym (ap (λ (f : Option StepFault). faults_after f faults) answers);
+          plan = refl;
+        };
+        ahead = refl;
+        leaves = refl;
+      }
 
-pub read_steps : (old new : Standing) (fault : Option StepFault) (bytes : List ℕ) (cycles faults ahead : ℕ) (leaves : List ℕ)
-    → IsSteady old → Goes ReadRegister old new fault
-    → StepsRegister ReadRegister (torn_of bytes cycles faults ahead leaves old) (torn_of bytes cycles faults ahead leaves new)
-read_steps old new fault bytes cycles faults ahead leaves steady g =
-    steps_by ReadRegister old new fault bytes cycles faults ahead leaves (λ _ _. refl) steady g
+  pub read_steps : Goes ReadRegister old new fault
+      → StepsRegister ReadRegister (torn_of bytes cycles faults ahead leaves old) (torn_of bytes cycles faults ahead leaves new)
+  read_steps g = steps_by ReadRegister (λ _ _. refl) g
 
-pub reset_steps : (old new : Standing) (fault : Option StepFault) (bytes : List ℕ) (cycles faults ahead : ℕ) (leaves : List ℕ)
-    → IsSteady old → Goes ResetRegister old new fault
-    → StepsRegister ResetRegister (torn_of bytes cycles faults ahead leaves old) (torn_of bytes cycles faults ahead leaves new)
-reset_steps old new fault bytes cycles faults ahead leaves steady g =
-    steps_by ResetRegister old new fault bytes cycles faults ahead leaves (λ _ _. refl) steady g
+  pub reset_steps : Goes ResetRegister old new fault
+      → StepsRegister ResetRegister (torn_of bytes cycles faults ahead leaves old) (torn_of bytes cycles faults ahead leaves new)
+  reset_steps g = steps_by ResetRegister (λ _ _. refl) g
 
-pub extend_steps : (value : List ℕ) (old new : Standing) (fault : Option StepFault) (bytes : List ℕ) (cycles faults ahead : ℕ)
-    (leaves : List ℕ)
-    → IsSteady old → Goes (ExtendRegister value) old new fault
-    → StepsRegister (ExtendRegister value) (torn_of bytes cycles faults ahead leaves old) (torn_of bytes cycles faults ahead leaves new)
-extend_steps value old new fault bytes cycles faults ahead leaves steady g =
-    steps_by (ExtendRegister value) old new fault bytes cycles faults ahead leaves (λ _ _. refl) steady g
+  pub extend_steps : (value : List ℕ) → Goes (ExtendRegister value) old new fault
+      → StepsRegister (ExtendRegister value) (torn_of bytes cycles faults ahead leaves old) (torn_of bytes cycles faults ahead leaves new)
+  extend_steps value g = steps_by (ExtendRegister value) (λ _ _. refl) g

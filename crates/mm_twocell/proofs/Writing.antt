@@ -3,7 +3,8 @@ use Rattle.mm_twocell.proofs.Below.{ℕ, ◌≡◌, ◌-◌, ◌*◌, ◌⊎◌,
 use Rattle.mm_twocell.proofs.Below.{Some, refl, sym, ap, ◌∙◌, subst, arith, ◌%◌, ◌==◌, slice_index, option_map, nat_tests, Rose}
 use Rattle.mm_twocell.proofs.Below.{cell_length, StepFault, Failed, Off, Standing, WriteCell, beside, cell_after, EndsBy, spliced}
 use Rattle.mm_twocell.proofs.Below.{LeavesRest, ReadsRaw, WritesRaw, beside-beside, picked, WritesPicked}
-use Rattle.mm_twocell.proofs.Cells.{InThree, in_three, three, one_item, parity, picks_first, picks_second, put_first, put_second, put_selector, selector_of}
+use Rattle.mm_twocell.proofs.Cells.{InThree, in_three, three, one_item, parity, picks_first, picks_second, put_first, put_second}
+use Rattle.mm_twocell.proofs.Cells.{put_selector, selector_of}
 
 -- how a call ends that went on from a call that was done
 pub ends_with : (fault : Option StepFault) (old two three : Standing) (made any : Bool) → old.is_on ≡ true → two.faults ≡ old.faults
@@ -160,10 +161,10 @@ told_picks (Some bytes) w selector other m r lw =
     selector_picks bytes w other m (picks bytes selector other (r.size bytes refl) (r.read bytes refl) r.other_is) lw
 
 -- the other cell was torn
-pub write_torn : (bytes : List ℕ) (selector other : ℕ) (old one two : Standing) (fault : StepFault) → length bytes ≡ cell_length
-    → IsRead old.cell selector other → ReadsRaw old one None → WritesRaw (cell_length * other) bytes one two (Some fault)
+pub write_torn : {bytes : List ℕ} {selector other : ℕ} {old one two : Standing} {fault : StepFault} → IsRead old.cell selector other
+    → ReadsRaw old one None → WritesRaw (cell_length * other) bytes one two (Some fault) → length bytes ≡ cell_length
     → WritesPicked bytes old two (Some fault)
-write_torn bytes selector other old one two fault l r a b = record {
+write_torn {selector = selector} {other = other} {old = old} {one = one} {two = two} {fault = fault} r a b l = record {
   is_made = false;
   cell = ap (option_map picked) (b.cell ∙ ap (option_map (spliced (cell_length * other) b.written)) a.cell)
       ∙ told_left old.cell b.written selector other r (b.size ∙ l);
@@ -178,11 +179,10 @@ other_below selector other o = elim (parity selector) [
 ]
 
 -- the selector was written, or torn
-pub write_ends : (bytes : List ℕ) (selector other : ℕ) (old one two three : Standing) (fault : Option StepFault)
-    → length bytes ≡ cell_length
+pub write_ends : {bytes : List ℕ} {selector other value : ℕ} {old one two three : Standing} {fault : Option StepFault}
     → IsRead old.cell selector other → ReadsRaw old one None → WritesRaw (cell_length * other) bytes one two None
-    → (value : ℕ) → value ≡ other → WritesRaw 208 (value ∷ []) two three fault → WritesPicked bytes old three fault
-write_ends bytes selector other old one two three fault l r a b value same c =
+    → WritesRaw 208 (value ∷ []) two three fault → value ≡ other → length bytes ≡ cell_length → WritesPicked bytes old three fault
+write_ends {bytes} {selector} {other} {old = old} {one = one} {two = two} {three = three} {fault = fault} r a b c same l =
     let m : ℕ = get_or c.written 0 0 in
     let byte : c.written ≡ m ∷ [] = one_item c.written c.size in
     let cells : three.cell ≡ option_map (spliced 208 (m ∷ [])) (option_map (spliced (cell_length * other) bytes) old.cell) =

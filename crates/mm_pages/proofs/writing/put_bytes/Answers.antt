@@ -8,14 +8,11 @@ ends_by : (slot : ℕ) (bytes : List ℕ) (old mid new : Paged) (rows some after
     PutsFirst slot (page_count (length bytes)) bytes old mid rows some →
     after ≡ with_row some slot (take (page_count (length bytes)) (row_in some slot)) →
     EndsInSync slot (length bytes) mid new result → PutsBytes slot bytes old new rows after result
-ends_by slot bytes old mid new rows some after (Ok done) f r g = puts_all slot bytes old mid new rows some after f r g
-ends_by slot bytes old mid new rows some after (Err fault) f r g =
-    fails_at_end slot bytes old mid new rows some after f r g
+ends_by slot bytes old mid new rows some after (Ok done) f r g = puts_all f r g
+ends_by slot bytes old mid new rows some after (Err fault) f r g = fails_at_end f r g
 
 pub returns : goal.returns
 returns g c =
-    ends_by c.args.slot c.args.bytes.now _ _ _ c.args.digests.now c.put_pages.new.digests c.cut.new.self
-    c.fit_and_sync.result c.in_ok-put_pages.ensures
+    ends_by c.args.slot c.args.bytes.now _ _ _ c.args.digests.now _ _ c.fit_and_sync.result c.in_ok-put_pages.ensures
     (c.cut.ensures ∙ ap (λ n. with_row c.put_pages.new.digests c.args.slot (take n (row_in c.put_pages.new.digests c.args.slot)))
-    c.page_count.ensures)
-    c.fit_and_sync.ensures
+    c.page_count.ensures) c.fit_and_sync.ensures

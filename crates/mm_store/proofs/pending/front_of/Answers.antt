@@ -6,8 +6,7 @@ use Rattle.mm_store.proofs.pending.front_of.Goals.{else-begins_record-via-then-b
 
 pub returns-in_err-word : goal.returns-in_err-word
 returns-in_err-word c =
-    let none : SpellsNoRecord c.args.front.now = no_front-word c.args.front.now c.in_err-word.ensures.cases in
-    rw c.from_residual.ensures none
+    rw c.from_residual.ensures (no_front-word c.args.front.now c.in_err-word.ensures.cases)
 
 pub returns-in_err-position : goal.returns-in_err-position
 returns-in_err-position c =

@@ -17,7 +17,7 @@ returns-clause-step g c =
     let all = subst (λ (x : Cached g.row.D.Denot). PutsWhole c.args.slot c.args.bytes.now (g.D.PageDevice.pages x.device)
     (g.D.PageDevice.pages c.put_bytes.new.device) x.rows c.put_bytes.new.digests) c.self.view_is
     (put_whole c.args.slot c.args.bytes.now _ _ _ _ c.put_bytes.result c.put_bytes.ensures done) in
-    step_written c.args.slot c.args.bytes.now _ _ _ _ all
+    step_written all
 
 pub returns-clause-settled : goal.returns-clause-settled
 returns-clause-settled g c honest told e steps same =
