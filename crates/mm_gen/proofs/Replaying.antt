@@ -7,12 +7,11 @@ use Rattle.mm_gen.proofs.Below.{world_of, Running, ReplayStage, AtHeader, InEven
 use Rattle.mm_gen.proofs.Below.{schedule_answer, schedule_closing, texts_of, text_of_replies, IsLimited, is_over, SumsUp, BulkFault, Memory}
 use Rattle.mm_gen.proofs.Below.{TooMuch, Summary}
 use Rattle.std.proofs.Common.{nat_lt, length-append}
-use Rattle.mm_base.specs.declared.replay_fault.ReplayFault.{ReplayFault}
 use Rattle.mm_base.specs.declared.replay_fault.ReplayFault.TheVariants as fault
 use Rattle.mm_gen.proofs.Readable.{is_schedule}
 use Rattle.mm_play.specs.Play.{Told, told, after_writing, and_then, ended, run}
 use Rattle.mm_gen.specs.Replayed.{IsReplayed, replay_of}
-use Rattle.mm_gen.proofs.Tallying.{heads, left_of, no_events, over_at, over_behind}
+use Rattle.mm_gen.proofs.Tallying.{heads, left_of, over_at, over_behind}
 
 -- the replay of event lines, of which the first has this number
 abbrev lines_run : ℕ → Running → List (List ℕ) → Told ReplayStage
@@ -26,14 +25,6 @@ goes : (number : ℕ) (r : Running) (line : List ℕ) (more : List (List ℕ)) (
     → event_at line ≡ Some event → is_too_much r line ≡ false → lines_run number r (line ∷ more) ≡ after_writing
     (text_of_replies (running_outcome r event).reply) (lines_run (number + 1) (after_event r line event) more)
 goes number r line more event short is room = rw (fits line short, is, room) refl
-
--- one that passes a limit ends the replay
-stops : (number : ℕ) (r : Running) (line : List ℕ) (more : List (List ℕ)) (event : Event) → length line ≤ longest_line
-    → event_at line ≡ Some event → is_too_much r line ≡ true → (lines_run number r (line ∷ more)).outcome ≡ Err fault.TooMuch
-stops number r line more event short is much = rw (fits line short, is, much) refl
-
-both_ways : (b : Bool) → b ≡ true → b ≡ false → ⊥
-both_ways b is isnt = cc
 
 -- all these lines are answered
 record AreAnswered (number : ℕ) (r : Running) (lines : List (List ℕ)) (events : List Event) : Type 0 where
@@ -57,14 +48,14 @@ module _ (number : ℕ) (r : Running) (line : List ℕ) (lines : List (List ℕ)
   answered_line : (events : List Event) (much : Bool) → is_too_much r line ≡ much → length line ≤ longest_line → event_at line ≡ Some event
       → is_over r (line ∷ lines) ≡ false → (is_over (after_event r line event) lines ≡ false
       → AreAnswered (number + 1) (after_event r line event) lines events) → AreAnswered number r (line ∷ lines) (event ∷ events)
-  answered_line events true is short read over on = absurd (both_ways (is_over r (line ∷ lines)) (over_at r line lines is) over)
+  answered_line events true is short read over on = let much = over_at r line lines is in cc
   answered_line events false is short read over on = answered_more events short read is (on (over_behind r line lines event read is ∙ over))
 
 all_answered : (lines : List (List ℕ)) (events : List Event) → AllByRecursion IsEventLine lines → map event_at lines ≡ map Some events
     → (number : ℕ) (r : Running) → is_over r lines ≡ false → AreAnswered number r lines events
 all_answered [] [] are read number r over = record { last = r; ran = refl; digests = refl; issued = refl }
-all_answered [] (event ∷ events) are read number r over = absurd (no_events (Some event) (map Some events) (sym read))
-all_answered (line ∷ lines) [] are read number r over = absurd (no_events (event_at line) (map event_at lines) read)
+all_answered [] (event ∷ events) are read number r over = cc
+all_answered (line ∷ lines) [] are read number r over = cc
 all_answered (line ∷ lines) (event ∷ events) are read number r over =
     let both = heads (event_at line) (Some event) (map event_at lines) (map Some events) read in
     answered_line number r line lines event events (is_too_much r line) refl are.0.short both.0 over
@@ -75,14 +66,14 @@ much_line : (number : ℕ) (r : Running) (line : List ℕ) (lines : List (List �
     → length line ≤ longest_line → event_at line ≡ Some event → is_over r (line ∷ lines) ≡ true
     → (is_over (after_event r line event) lines ≡ true → (lines_run (number + 1) (after_event r line event) lines).outcome
     ≡ Err fault.TooMuch) → (lines_run number r (line ∷ lines)).outcome ≡ Err fault.TooMuch
-much_line number r line lines event true is short read over on = stops number r line lines event short read is
+much_line number r line lines event true is short read over on = rw (fits line short, read, is) refl
 much_line number r line lines event false is short read over on =
     ap (λ (t : Told ReplayStage). t.outcome) (goes number r line lines event short read is)
     ∙ on (over_behind r line lines event read is ∙ over)
 
 much_answered : (lines : List (List ℕ)) → AllByRecursion IsEventLine lines → (number : ℕ) (r : Running) → is_over r lines ≡ true
     → (lines_run number r lines).outcome ≡ Err fault.TooMuch
-much_answered [] are number r over = absurd (both_ways false over refl)
+much_answered [] are number r over = cc
 much_answered (line ∷ lines) are number r over =
     let event : Event = are.0.event in
     much_line number r line lines event (is_too_much r line) refl are.0.short (spelled_is_read line event are.0.spelled) over
@@ -114,10 +105,6 @@ module _ (header : Header) where
 abbrev ends : Header → List (List ℕ) → ReplayStage → Told ReplayStage
 ends header lines = ended schedule_closing (1 + length (header_text header ∷ lines)) []
 
-much_stays : (t : Told ReplayStage) (on : ReplayStage → Told ReplayStage) (outcome : Result ReplayStage ReplayFault) → t.outcome ≡ outcome
-    → outcome ≡ Err fault.TooMuch → (and_then t on).outcome ≡ Err fault.TooMuch
-much_stays t on outcome is much = rw (is, much) refl
-
 module _ (number count : ℕ) where
   whole : (header : Header) → count ≤ most_events → replay_of number count header ≡ and_then (lines_run 2 (begun header)
       (schedule_lines number count header)) (ends header (schedule_lines number count header))
@@ -146,8 +133,7 @@ module _ (number count : ℕ) where
   replayed_much header few over =
       let is = is_schedule number count header few in let lines : List (List ℕ) = schedule_lines number count header in
       let stopped = much_answered lines (recursion_from_All IsEventLine lines is.events) 2 (begun header) over in
-      ap (λ (t : Told ReplayStage). t.outcome) (whole header few)
-      ∙ much_stays (lines_run 2 (begun header) lines) (ends header lines) _ refl stopped
+      ap (λ (t : Told ReplayStage). t.outcome) (whole header few) ∙ rw stopped refl
 
   -- what a run of a schedule comes to is what a replay of its text does
   pub replayed : (header : Header) (result : Result Summary BulkFault) → count ≤ most_events

@@ -45,15 +45,7 @@ module _ (stop : Stop) where
         spelled = (
           from,
           offers.spelled,
-          record {
-            few = omega arith;
-            extensions = [];
-            ending = ending;
-            meddled = refl;
-            stopped
-                = ends.spelled;
-            parts = refl;
-          },
+          record { few = omega arith; extensions = []; ending = ending; meddled = refl; stopped = ends.spelled; parts = refl },
         );
         short = omega (arith, line.short);
         unbroken = line.unbroken;

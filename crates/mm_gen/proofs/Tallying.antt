@@ -7,11 +7,10 @@ use Rattle.mm_gen.proofs.Below.{schedule_lines, schedule_text, Followed, followe
 use Rattle.mm_gen.proofs.Below.{begun, is_too_much, running_outcome, texts_of, text_of_replies, IsLimited, is_over, is_break, SumsUp}
 use Rattle.mm_gen.proofs.Below.{BulkFault, Memory, TooMuch, Summary}
 use Rattle.std.specs.Prelude.{Some, Err}
-use Rattle.std.specs.Option.{option_map_or}
 use Rattle.std.proofs.Math.Seq.{take-append_seam, drop-append-add}
 use Rattle.mm_digest.specs.declared.digest.Digest.{Digest}
 use Rattle.mm_schedule.specs.declared.reply.Reply.{Reply}
-use Rattle.mm_schedule.specs.declared.reply.Reply.TheVariants.{Told, No, Kept, Nothing, Closed, Checkpointed, Power, Extended}
+use Rattle.mm_schedule.specs.declared.reply.Reply.TheVariants.{Told}
 use Rattle.mm_gen.proofs.Readable.{header-unbroken, is_schedule}
 use Rattle.mm_model.specs.Moves.{Digests}
 use Rattle.mm_call.specs.Levels.{by_digests}
@@ -39,16 +38,6 @@ line_again line more unbroken =
     let found : position is_break (line ++ 10 ∷ more) ≡ Some
     (length line) = rw (first_break line more (recursion_from_All IsNoBreak line unbroken), test) refl in
     rw (found, take-append_seam line (10 ∷ more), drop-append-add line (10 ∷ more) 1) refl
-
-no_line : line_at [] ≡ None
-unfolding line_at
-no_line = refl
-
-no_pair : (p : List ℕ × List ℕ) → (let none : Option (List ℕ × List ℕ) = None in none ≡ Some p) → ⊥
-no_pair p is = cc
-
-pub no_events : (one : Option Event) (more : List (Option Event)) → (let none : List (Option Event) = [] in one ∷ more ≡ none) → ⊥
-no_events one more is = cc
 
 -- ---- what is left
 
@@ -101,19 +90,12 @@ pub record Next (lines : List (List ℕ)) (rest : List ℕ) (r : Running) (count
       → Going lines behind new (counted_reply counts reply) (text ++ text_of_replies reply)
 
 total-counted : (counts : Counts) (reply : Reply) → total (counted_reply counts reply) ≡ total counts + 1
-total-counted counts (Told false before outputs) = omega arith
+total-counted counts (Told false position outputs) = omega arith
 total-counted counts _ = omega arith
 
 -- the first of the options, and the others
 pub heads : (one other : Option Event) (more others : List (Option Event)) → one ∷ more ≡ other ∷ others → (one ≡ other) × (more ≡ others)
-heads one other more others is = (ap (first_or one) is, ap rest_of is) where
-  first_or : Option Event → List (Option Event) → Option Event
-  first_or default [] = default
-  first_or default (x ∷ xs) = x
-
-  rest_of : List (Option Event) → List (Option Event)
-  rest_of [] = []
-  rest_of (x ∷ xs) = xs
+heads one other more others is = (cc, cc)
 
 -- a line that passes no limit: those behind it decide
 pub over_behind : (r : Running) (line : List ℕ) (more : List (List ℕ)) (event : Event) → event_at line ≡ Some event
@@ -157,16 +139,16 @@ module _ (lines : List (List ℕ)) where
   next_line : (left : List (List ℕ)) (rest : List ℕ) (r : Running) (counts : Counts) (text : List ℕ) (events : List Event)
       (line behind : List ℕ) → GoingWith lines rest r counts text left events → line_at rest ≡ Some (line, behind)
       → Next lines rest r counts text line behind
+  unfolding line_at
   next_line [] rest r counts text events line behind going found =
-      absurd (no_pair (line, behind) (sym no_line ∙ ap line_at (sym going.bytes) ∙ found))
-  next_line (l ∷ more) rest r counts text [] line behind going found = absurd (no_events (event_at l) (map event_at more) going.read)
+      let nothing : line_at rest ≡ None = ap line_at going.bytes in cc
+  next_line (l ∷ more) rest r counts text [] line behind going found =
+      let clash = going.read in cc
   next_line (l ∷ more) rest r counts text (event ∷ events) line behind going found =
       let few = going.few in let are = going.are in
       let both = heads (event_at l) (Some event) (map event_at more) (map Some events) going.read in
-      let first : Some (l, lines_joined more) ≡ Some (line, behind) = sym (line_again l (lines_joined more) are.0.unbroken)
-      ∙ ap line_at (sym going.bytes) ∙ found in
-      let same : (l, lines_joined more) ≡ (line, behind) = ap
-      (λ (o : Option (List ℕ × List ℕ)). option_map_or (λ (p : List ℕ × List ℕ). p) o (line, behind)) first in
+      let again = line_again l (lines_joined more) are.0.unbroken in let at = ap line_at going.bytes in
+      let same : (l, lines_joined more) ≡ (line, behind) = cc in
       let made : Next lines rest r counts text l (lines_joined more) = record {
         less = omega (arith, length-append l (10 ∷ lines_joined more), ap (λ (b : List ℕ). length b) going.bytes);
         header = λ reply new answered. ap (λ (x : Running). x.header) (answered.1 event both.0).1;
@@ -187,11 +169,6 @@ module _ (lines : List (List ℕ)) where
 
   -- ---- the end
 
-  line_found : (l : List ℕ) (more : List (List ℕ)) (rest : List ℕ) → rest ≡ lines_joined (l ∷ more) → IsUnbroken l
-      → line_at rest ≡ None → ⊥
-  line_found l more rest bytes unbroken none =
-      no_pair (l, lines_joined more) (sym none ∙ ap line_at bytes ∙ line_again l (lines_joined more) unbroken)
-
   ended_at : (left : List (List ℕ)) (rest : List ℕ) (r : Running) (counts : Counts) (text : List ℕ) (events : List Event)
       → GoingWith lines rest r counts text left events → line_at rest ≡ None
       → (is_over (begun r.header) lines ≡ false) × SumsUp r.header lines (so_far r counts text)
@@ -202,8 +179,9 @@ module _ (lines : List (List ℕ)) where
         sym going.over,
         record { events = going.all; read = going.whole; told = rw (sym state, sym issued, sym numbered, sym written) refl },
       )
-  ended_at [] rest r counts text (event ∷ events) going none = absurd (no_events (Some event) (map Some events) (sym going.read))
-  ended_at (l ∷ more) rest r counts text events going none = absurd (line_found l more rest going.bytes going.are.0.unbroken none)
+  ended_at [] rest r counts text (event ∷ events) going none = let clash = going.read in cc
+  ended_at (l ∷ more) rest r counts text events going none =
+      let found = ap line_at going.bytes ∙ line_again l (lines_joined more) going.are.0.unbroken in cc
 
   -- no line was one too many
   pub within : (rest : List ℕ) (r : Running) (counts : Counts) (text : List ℕ) (header : Header) → Going lines rest r counts text

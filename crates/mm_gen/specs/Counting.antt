@@ -10,8 +10,8 @@ no_counts = record { ok = 0; again = 0; no = 0; kept = 0; lost = 0; other = 0 }
 
 -- one reply more, by its kind: `ok`, `again`, `no`, one with `kept`, one with `lost`, or another
 abbrev pub counted_reply : Counts → Reply → Counts
-counted_reply counts (Told false before outputs) = record counts { ok = counts.ok + 1 }
-counted_reply counts (Told true before outputs) = record counts { again = counts.again + 1 }
+counted_reply counts (Told false position outputs) = record counts { ok = counts.ok + 1 }
+counted_reply counts (Told true position outputs) = record counts { again = counts.again + 1 }
 counted_reply counts (No cause) = record counts { no = counts.no + 1 }
 counted_reply counts (Kept way position) = record counts { kept = counts.kept + 1 }
 counted_reply counts (Nothing way) = record counts { lost = counts.lost + 1 }

@@ -1,37 +1,16 @@
 -- A whole play, by what a player's answers mean; and that an input that is answered to its end is not refused.
 use Rattle.mm_play.proofs.Below.{◌≡◌, ◌∙◌, ℕ, List, ◌++◌, Option, Some, None, Result, Ok, Err, inl, inr, sym, ap, subst, append-nil}
-use Rattle.mm_play.proofs.Below.{Consumes, ReplayFault, Memory, ReadFault, WriteFault, BadLine, LineLong, TooMuch, Refused, Told, told, run}
-use Rattle.mm_play.proofs.Below.{run_of, ForWhole, Settles, IsUnrefused, Plays, Answered, Finished, RefusesMuch, TellsBy, PlaysWhole}
+use Rattle.mm_play.proofs.Below.{Consumes, ReplayFault, Memory, ReadFault, WriteFault, Refused, Told, told, run}
+use Rattle.mm_play.proofs.Below.{run_of, ForWhole, Settles, IsUnrefused, Plays, PlaysWhole}
 use Rattle.mm_play.proofs.Runs.{not_ok}
-use Rattle.mm_play.proofs.Telling.{tells_by, tells_more}
+use Rattle.mm_play.proofs.Telling.{Means, tells}
 
 -- an answer other than Ok means the same for any call
 pub settles_err : {P : Type 0} (A B : Type 0) (lines : List (List ℕ) → Told P) (whole : List ℕ → Told P) (next : P) (left : Option (List ℕ))
     (taken sent : List ℕ) (fault : ReplayFault) → (let r : Result A ReplayFault = Err fault in Settles lines whole next left taken sent r)
     → (let r : Result B ReplayFault = Err fault in Settles lines whole next left taken sent r)
 settles_err A B lines whole next left taken sent Memory s = s
-settles_err A B lines whole next left taken sent ReadFault s = s
-settles_err A B lines whole next left taken sent WriteFault s = s
-settles_err A B lines whole next left taken sent (BadLine n) s = s
-settles_err A B lines whole next left taken sent (LineLong n) s = s
-settles_err A B lines whole next left taken sent TooMuch s = s
-
--- What a player's answers mean: those to lines that were answered, those to all lines of an input, and why a line is one
--- too many.
-pub record Means {P : Type 0} (answer : P → List ℕ → Result (List ℕ × P) Refused) (closing : P → Option (List ℕ)) (first : P)
-    (some all : List (List ℕ) → List ℕ → Type 0) (much : List (List ℕ) → List (List ℕ) → Type 0) : Type 0 where
-  pub lines : (lines : List (List ℕ)) (written : List ℕ) → Answered answer first lines written → some lines written
-  pub whole : (lines : List (List ℕ)) (written : List ℕ) → Finished answer closing first lines written → all lines written
-  pub turn : (done rest : List (List ℕ)) → RefusesMuch answer first done rest → much done rest
-
--- What is out tells what the answers mean.
-pub tells : {P T : Type 0} (answer : P → List ℕ → Result (List ℕ × P) Refused) (closing : P → Option (List ℕ)) (first next : P)
-    {some all : List (List ℕ) → List ℕ → Type 0} {much : List (List ℕ) → List (List ℕ) → Type 0} → Means answer closing first some all much
-    → (left : Option (List ℕ)) (taken sent : List ℕ) (result : Result T ReplayFault) → Settles (run answer 1 first)
-    (run_of answer closing first) next left taken sent result → TellsBy some all much left taken sent result
-tells answer closing first next {some = some} {all = all} {much = much} m left taken sent result s =
-    tells_more (Answered answer first) some (Finished answer closing first) all (RefusesMuch answer first) much m.lines m.whole m.turn
-    left taken sent result (tells_by answer closing first next left taken sent result s)
+settles_err A B lines whole next left taken sent _ s = s
 
 -- A play from the first stage, with the answer that its caller makes of the play's.
 module _ {P R : Type 0} {answer : P → List ℕ → Result (List ℕ × P) Refused} {closing : P → Option (List ℕ)} {first player next : P}
@@ -72,20 +51,14 @@ module _ {P R : Type 0} {answer : P → List ℕ → Result (List ℕ × P) Refu
 -- what holds of the whole input holds of all bytes there were
 whole_holds : (left left' : Option (List ℕ)) (taken : List ℕ) (holds : List ℕ → Type 0) → Consumes left left' taken
     → ForWhole left' taken holds → (bytes : List ℕ) → left ≡ Some bytes → holds bytes
-whole_holds None left' taken holds c w bytes is = absurd (none_some is)
-  where
-    none_some : (let o : Option (List ℕ) = None in o ≡ Some bytes) → ⊥
-    none_some h = cc
+whole_holds None left' taken holds c w bytes is = cc
 whole_holds (Some xs) None taken holds c w bytes is = absurd c
 whole_holds (Some xs) (Some ys) taken holds c w bytes is =
-    let all : xs ≡ bytes = some_same xs bytes is in
+    let all : xs ≡ bytes = cc in
     elim w [
       | inl h ↦ subst holds (sym c ∙ all) (h ys)
       | inr h ↦ subst holds (sym (c ∙ ap (λ (l : List ℕ). taken ++ l) h.0 ∙ append-nil taken) ∙ all) h.1
     ]
-  where
-    some_same : (a b : List ℕ) → (let o : Option (List ℕ) = Some a in o ≡ Some b) → a ≡ b
-    some_same a b h = cc
 
 clashes : {P : Type 0} (whole : List ℕ → Told P) (left left' : Option (List ℕ)) (taken sent : List ℕ) (fault : ReplayFault)
     → Consumes left left' taken → ForWhole left' taken (λ input. whole input ≡ told sent (Err fault)) → (bytes : List ℕ) (end : P)
@@ -101,12 +74,8 @@ completed lines whole next left left' taken sent (Ok _) c s bytes end is ran = t
 completed lines whole next left left' taken sent (Err Memory) c s bytes end is ran = tt
 completed lines whole next left left' taken sent (Err ReadFault) c s bytes end is ran = tt
 completed lines whole next left left' taken sent (Err WriteFault) c s bytes end is ran = tt
-completed lines whole next left left' taken sent (Err (BadLine n)) c s bytes end is ran =
-    clashes whole left left' taken sent (BadLine n) c s bytes end is ran
-completed lines whole next left left' taken sent (Err (LineLong n)) c s bytes end is ran =
-    clashes whole left left' taken sent (LineLong n) c s bytes end is ran
-completed lines whole next left left' taken sent (Err TooMuch) c s bytes end is ran =
-    clashes whole left left' taken sent TooMuch c s bytes end is ran
+completed lines whole next left left' taken sent (Err fault) c s bytes end is ran =
+    clashes whole left left' taken sent fault c s bytes end is ran
 
 -- An input that is answered to its end is not refused.
 pub unrefused : {P T : Type 0} {answer : P → List ℕ → Result (List ℕ × P) Refused} {closing : P → Option (List ℕ)} {first next : P}
@@ -140,6 +109,6 @@ module _ {P R : Type 0} {answer : P → List ℕ → Result (List ℕ × P) Refu
       record {
         next = next;
         plays = p;
-        told = tells {T = R} answer closing first next means left' p.taken p.sent (Err fault) p.settled;
+        told = tells answer closing first next means {T = R} left' p.taken p.sent (Err fault) p.settled;
         reported = tt;
       }

@@ -1,12 +1,12 @@
 -- A run over lines that are events is the run of these events.
-use Rattle.mm_play.proofs.Below.{◌≡◌, ◌∙◌, ◌+◌, ◌≤◌, ◌<◌, ℕ, Bool, true, false, cond, ◌||◌, nat_le, nat_lt, List, [], ◌∷◌, ◌++◌, length}
+use Rattle.mm_play.proofs.Below.{◌≡◌, ◌∙◌, ◌+◌, ◌≤◌, ◌<◌, ℕ, Bool, true, false, ◌||◌, nat_le, nat_lt, List, [], ◌∷◌, ◌++◌, length}
 use Rattle.mm_play.proofs.Below.{map, Result, Ok, Err, Option, None, Some, refl, sym, ap, subst, arith, inl, inr, ◌⊎◌, sum_by, nat_tests}
-use Rattle.mm_play.proofs.Below.{LineLong, longest_line, most_events, Refused, Bad, Much, Told, told, stopped, refusal_at, answered, run}
+use Rattle.mm_play.proofs.Below.{most_events, Refused, Bad, Much, told, run}
 use Rattle.mm_play.proofs.Below.{Answered, Finished, RefusesMuch}
 use Rattle.std.proofs.lemmas.List.Sums.{sum_by-append}
 use Rattle.mm_play.specs.Counting.{no_answer, same_answer, taken}
 use Rattle.mm_play.specs.Events.{EventPlayer, is_over, unless_over, event_answer, TakesEvents, behind, IsOverBehind, NoneIsOver, AreEvents, header_answer, AreHeaded, AreHeadedAndMuch}
-use Rattle.mm_play.proofs.Runs.{not_ok, ok_same, told_is, written_of, outcome_of}
+use Rattle.mm_play.proofs.Runs.{FirstAnswered, first_answered, ok_same, written_of, outcome_of}
 
 module _ {P : Type 0} (answer : P → List ℕ → Result (List ℕ × P) Refused) (number : ℕ) (player : P) where
   -- there is no line
@@ -14,50 +14,18 @@ module _ {P : Type 0} (answer : P → List ℕ → Result (List ℕ × P) Refuse
       → (written ≡ []) × (last ≡ player)
   none_answered written last h = (sym (written_of h), sym (ok_same player last (outcome_of h)))
 
-  -- The first of the lines was answered, and then the others.
-  pub record FirstAnswered (line : List ℕ) (lines : List (List ℕ)) (written : List ℕ) (last : P) : Type 0 where
-    pub reply : List ℕ × P
-    pub more : List ℕ
-    pub replied : answer player line ≡ Ok reply
-    pub ran : run answer (number + 1) reply.1 lines ≡ told more (Ok last)
-    pub whole : written ≡ reply.0 ++ more
-
-  pub first_answered : (line : List ℕ) (lines : List (List ℕ)) (written : List ℕ) (last : P)
-      → run answer number player (line ∷ lines) ≡ told written (Ok last) → FirstAnswered line lines written last
-  first_answered line lines written last h = by_length (nat_lt longest_line (length line)) h
-    where
-      rest : P → Told P
-      rest next = run answer (number + 1) next lines
-
-      by_answer : (given : Result (List ℕ × P) Refused) → answer player line ≡ given
-          → answered rest number given ≡ told written (Ok last) → FirstAnswered line lines written last
-      by_answer (Err refused) is h = absurd (not_ok (refusal_at number refused) last (outcome_of h))
-      by_answer (Ok reply) is h =
-          let t = rest reply.1 in
-          record {
-            reply = reply;
-            more = t.written;
-            replied = is;
-            ran = told_is t t.written (Ok last) refl (outcome_of h);
-            whole = sym (written_of h);
-          }
-
-      by_length : (long : Bool) → cond long (stopped (LineLong number)) (answered rest number (answer player line)) ≡ told written (Ok last)
-          → FirstAnswered line lines written last
-      by_length true h = absurd (not_ok (LineLong number) last (outcome_of h))
-      by_length false h = by_answer (answer player line) refl h
-
   -- A first line names a header, and nothing is written for it.
   pub header_first : {H R : Type 0} (line : List ℕ) (lines : List (List ℕ)) (written : List ℕ) (last : P) (begun : H → R) (among : R → P)
       (found : Option H) → answer player line ≡ header_answer begun among found
       → run answer number player (line ∷ lines) ≡ told written (Ok last)
       → (header : H) × (found ≡ Some header) × (run answer (number + 1) (among (begun header)) lines ≡ told written (Ok last))
   header_first {H} {R} line lines written last begun among found begins h =
-      let f = first_answered line lines written last h in by_found f found refl (sym begins ∙ f.replied)
+      let f = first_answered answer number player line lines written last h in by_found f found refl (sym begins ∙ f.replied)
     where
-      by_found : (f : FirstAnswered line lines written last) (x : Option H) → found ≡ x → header_answer begun among found ≡ Ok f.reply
+      by_found : (f : FirstAnswered answer number player line lines written last) (x : Option H) → found ≡ x
+          → header_answer begun among found ≡ Ok f.reply
           → (header : H) × (found ≡ Some header) × (run answer (number + 1) (among (begun header)) lines ≡ told written (Ok last))
-      by_found f None is h = absurd (no_answer Bad f.reply.0 f.reply.1 (sym (ap (header_answer begun among) is) ∙ h))
+      by_found f None is h = cc
       by_found f (Some header) is h =
           let said = same_answer ([], among (begun header)) f.reply (sym (ap (header_answer begun among) is) ∙ h) in (
             header,
@@ -95,18 +63,10 @@ no_line (first ∷ before) line after h = cc
 
 -- whether an event is one too many, in numbers
 over_of : (done most size room : ℕ) → (nat_le most done || nat_lt room size) ≡ true → (most ≤ done) ⊎ (room < size)
-over_of done most size room h = by_first (nat_le most done) refl h
-  where
-    by_first : (many : Bool) → nat_le most done ≡ many → (many || nat_lt room size) ≡ true → (most ≤ done) ⊎ (room < size)
-    by_first true is h = inl (grind (arith, nat_tests))
-    by_first false is h = inr (grind (arith, nat_tests))
+over_of done most size room h = grind (arith, nat_tests)
 
 not_over : (done most size room : ℕ) → (nat_le most done || nat_lt room size) ≡ false → (most ≤ done) ⊎ (room < size) → ⊥
-not_over done most size room h over = by_first (nat_le most done) refl h
-  where
-    by_first : (many : Bool) → nat_le most done ≡ many → (many || nat_lt room size) ≡ false → ⊥
-    by_first true is h = cc
-    by_first false is h = elim over [ inl few ↦ grind (arith, nat_tests) | inr few ↦ grind (arith, nat_tests) ]
+not_over done most size room h over = grind (arith, nat_tests)
 
 module _ {E R P : Type 0} (p : EventPlayer E R P) (answer : P → List ℕ → Result (List ℕ × P) Refused) (takes : TakesEvents p answer) where
   -- the first line was not one too many, and none behind it

@@ -32,35 +32,65 @@ after_writing-twice : {P : Type 0} (first second : List ℕ) (t : Told P)
     → after_writing first (after_writing second t) ≡ after_writing (first ++ second) t
 after_writing-twice first second t = ap (λ bytes. told bytes t.outcome) (sym (append_assoc first second t.written))
 
--- what one answered line writes goes first
-turned-append : {P : Type 0} (long : Bool) (answer : Result (List ℕ × P) Refused) (number : ℕ) (on after : P → Told P) (sent : List ℕ)
-    (last : P) (rest : Told P) → ((next : P) (bytes : List ℕ) → on next ≡ told bytes (Ok last) → after next ≡ after_writing bytes rest)
-    → cond long (stopped (LineLong number)) (answered on number answer) ≡ told sent (Ok last) → cond long (stopped (LineLong number))
-    (answered after number answer) ≡ after_writing sent rest
-turned-append {P} true answer number on after sent last rest step h =
-    absurd (not_ok (LineLong number) last (ap (λ (t : Told P). t.outcome) h))
-turned-append {P} false (Err refused) number on after sent last rest step h =
-    absurd (not_ok (refusal_at number refused) last (ap (λ (t : Told P). t.outcome) h))
-turned-append {P} false (Ok reply) number on after sent last rest step h =
-    let went = told_is (on reply.1) (on reply.1).written (Ok last) refl (ap (λ (t : Told P). t.outcome) h) in
-    ap (after_writing reply.0) (step reply.1 (on reply.1).written went) ∙ after_writing-twice reply.0 (on reply.1).written rest
-    ∙ ap (λ bytes. after_writing bytes rest) (ap (λ (t : Told P). t.written) h)
+module _ {P : Type 0} (answer : P → List ℕ → Result (List ℕ × P) Refused) (number : ℕ) (player : P) (line : List ℕ)
+    (lines : List (List ℕ)) where
+  -- what the first of some lines comes to
+  pub data Turned (t : Told P) : Type 0 where
+    Long : t ≡ stopped (LineLong number) → Turned t
+    Refuses : (why : Refused) → answer player line ≡ Err why → t ≡ stopped (refusal_at number why) → Turned t
+    Replies : (reply : List ℕ × P) → nat_lt longest_line (length line) ≡ false → answer player line ≡ Ok reply
+        → t ≡ after_writing reply.0 (run answer (number + 1) reply.1 lines) → Turned t
+
+  pub turned : Turned (run answer number player (line ∷ lines))
+  turned = by (nat_lt longest_line (length line)) refl (answer player line) refl
+    where
+      by : (long : Bool) → nat_lt longest_line (length line) ≡ long → (said : Result (List ℕ × P) Refused) → answer player line ≡ said
+          → Turned (cond long (stopped (LineLong number)) (answered (λ next. run answer (number + 1) next lines) number said))
+      by true short said is = Long refl
+      by false short (Err why) is = Refuses why is refl
+      by false short (Ok reply) is = Replies reply short is refl
+
+  -- The first of the lines was answered, and then the others.
+  pub record FirstAnswered (written : List ℕ) (last : P) : Type 0 where
+    pub reply : List ℕ × P
+    pub more : List ℕ
+    pub short : nat_lt longest_line (length line) ≡ false
+    pub replied : answer player line ≡ Ok reply
+    pub ran : run answer (number + 1) reply.1 lines ≡ told more (Ok last)
+    pub whole : written ≡ reply.0 ++ more
+
+  pub first_answered : (written : List ℕ) (last : P) → run answer number player (line ∷ lines) ≡ told written (Ok last)
+      → FirstAnswered written last
+  first_answered written last h = by turned
+    where
+      by : Turned (run answer number player (line ∷ lines)) → FirstAnswered written last
+      by (Long is) = cc (outcome_of (sym is ∙ h))
+      by (Refuses why _ is) = cc (outcome_of (sym is ∙ h))
+      by (Replies reply short replied is) =
+          let t = run answer (number + 1) reply.1 lines in
+          record {
+            reply = reply;
+            more = t.written;
+            short = short;
+            replied = replied;
+            ran = told_is t t.written (Ok last) refl (outcome_of (sym is ∙ h));
+            whole = written_of (sym h ∙ is);
+          }
 
 -- the run over these lines, and then over more
 pub run-append : {P : Type 0} (answer : P → List ℕ → Result (List ℕ × P) Refused) (number : ℕ) (player : P) (lines more : List (List ℕ))
     (sent : List ℕ) (last : P) → run answer number player lines ≡ told sent (Ok last)
     → run answer number player (lines ++ more) ≡ after_writing sent (run answer (number + length lines) last more)
 run-append {P} answer number player [] more sent last h =
-    let at_last : player ≡ last = ok_same player last (ap (λ (t : Told P). t.outcome) h) in
-    let none : [] ≡ sent = ap (λ (t : Told P). t.written) h in
+    let at_last = ok_same player last (outcome_of h) in
     ap (λ p. run answer number p more) at_last ∙ ap (λ n. run answer n last more) (omega arith)
-    ∙ ap (λ bytes. after_writing bytes (run answer (number + 0) last more)) none
+    ∙ ap (λ bytes. after_writing bytes (run answer (number + 0) last more)) (written_of h)
 run-append {P} answer number player (line ∷ lines) more sent last h =
-    turned-append (nat_lt longest_line (length line)) (answer player line) number
-    (λ next. run answer (number + 1) next lines) (λ next. run answer (number + 1) next (lines ++ more)) sent last
-    (run answer (number + length (line ∷ lines)) last more)
-    (λ next bytes went. run-append answer (number + 1) next lines more bytes last went
-    ∙ ap (λ n. after_writing bytes (run answer n last more)) (omega arith)) h
+    let f = first_answered answer number player line lines sent last h in
+    rw (f.short, f.replied) (ap (after_writing f.reply.0) (run-append answer (number + 1) f.reply.1 lines more f.more last f.ran
+    ∙ ap (λ n. after_writing f.more (run answer n last more)) (omega arith))
+    ∙ after_writing-twice f.reply.0 f.more _ ∙ ap (λ bytes. after_writing bytes (run answer (number + length (line ∷ lines)) last more))
+    (sym f.whole))
 
 -- what comes after lines that were all answered goes after what they wrote
 and_then-after : {P : Type 0} (sent : List ℕ) (t : Told P) (on : P → Told P)

@@ -4,7 +4,7 @@ use Rattle.mm_play.proofs.Below.{◌≡◌, ◌∙◌, ◌+◌, ◌≤◌, ℕ, 
 use Rattle.mm_play.proofs.Below.{ap, subst, append_assoc, append-nil, arith, inl, inr, length-append, Appends, Consumes, AllByRecursion}
 use Rattle.mm_play.proofs.Below.{Appends-nil, Appends-trans, Consumes-nil, Consumes-trans, IsUnbroken, lines_of, tail_of, lines_joined}
 use Rattle.mm_play.proofs.Below.{longest_line, lines_of-joined, lines_of-unbroken, tail_of-joined, tail_of-unbroken, joined-append}
-use Rattle.mm_play.proofs.Below.{ReplayFault, Memory, ReadFault, WriteFault, BadLine, LineLong, TooMuch, Refused, Told, told, stopped}
+use Rattle.mm_play.proofs.Below.{ReplayFault, Memory, ReadFault, WriteFault, Refused, Told, told, stopped}
 use Rattle.mm_play.proofs.Below.{after_writing, run, run_from, run_of, IsFrontOf, ForWhole, Settles, Plays, PlayedOn, IsSent, PlaysNext}
 use Rattle.mm_play.proofs.Runs.{run-more, run_from-joined}
 use Rattle.mm_play.proofs.Turning.{front_after}
@@ -155,9 +155,7 @@ module _ {P : Type 0} {answer : P → List ℕ → Result (List ℕ × P) Refuse
     ap (run answer 1 first) (ap lines_of (sym (append-nil (lines_joined s.lines))) ∙ lines_of-joined s.lines [] s.unbroken
         ∙ append-nil s.lines) ∙ s.ran ∙ ap (λ b. told b (Ok player)) (sym (ap (λ b. s.sent ++ b) w)),
   )
-  settled_by said (BadLine n) w = stopped_by said (BadLine n) w.0 w.1
-  settled_by said (LineLong n) w = stopped_by said (LineLong n) w.0 w.1
-  settled_by said TooMuch w = stopped_by said TooMuch w.0 w.1
+  settled_by said fault w = stopped_by said fault w.0 w.1
 
   plays_with : (came : Result (Unit {0}) ReplayFault)
       → Settles (run answer 1 first) (run_of answer closing first) next left'' (s.taken ++ t.taken) (s.sent ++ t.sent) came

@@ -2,9 +2,9 @@
 use Rattle.mm_play.proofs.Below.{◌≡◌, ◌∙◌, ◌+◌, ℕ, Bool, true, false, cond, List, [], ◌∷◌, ◌++◌, length, nat_lt, Result, Ok, Err, Option}
 use Rattle.mm_play.proofs.Below.{None, Some, refl, sym, ap, subst, append-nil, arith, inl, inr, ◌⊎◌, lines_of, tail_of, ReplayFault, Memory}
 use Rattle.mm_play.proofs.Below.{ReadFault, WriteFault, BadLine, LineLong, TooMuch, longest_line, Refused, Bad, Much, Told, told, stopped}
-use Rattle.mm_play.proofs.Below.{after_writing, refusal_at, answered, run, ended, closed, goes_on, run_of, ForWhole, Settles, IsFrontOf}
+use Rattle.mm_play.proofs.Below.{after_writing, run, ended, closed, goes_on, run_of, ForWhole, Settles, IsFrontOf}
 use Rattle.mm_play.proofs.Below.{AnswersFirst, Answered, Finished, RefusesMuch, TellsBy, anywhere, before_line}
-use Rattle.mm_play.proofs.Runs.{not_ok, told_is, written_of, outcome_of}
+use Rattle.mm_play.proofs.Runs.{Turned, Long, Refuses, Replies, turned}
 
 module _ {P : Type 0} (answer : P → List ℕ → Result (List ℕ × P) Refused) where
   -- why a run stops, where the line of this number is next
@@ -25,233 +25,161 @@ module _ {P : Type 0} (answer : P → List ℕ → Result (List ℕ × P) Refuse
     ran : run answer number player done ≡ told written (Ok next)
     stops : StopsBy (number + length done) next rest fault
 
-  err_same : (a b : ReplayFault) → (let r : Result P ReplayFault = Err a in r ≡ Err b) → a ≡ b
-  err_same a b h = cc
-
   -- no line was answered
-  halts_at : (number : ℕ) (player : P) (lines : List (List ℕ)) (written : List ℕ) (why fault : ReplayFault)
-      → stopped why ≡ told {P = P} written (Err fault) → StopsBy number player lines why → Halts number player lines written fault
-  halts_at number player lines written why fault h s = record {
+  halts_at : (number : ℕ) (player : P) (lines : List (List ℕ)) (why : ReplayFault) → StopsBy number player lines why
+      → Halts number player lines [] why
+  halts_at number player lines why s = record {
     done = [];
     rest = lines;
     next = player;
     split = refl;
-    ran = ap (λ (w : List ℕ). told w (Ok player)) (written_of h);
-    stops = subst (λ n. StopsBy n player lines fault) (omega arith)
-        (subst (StopsBy number player lines) (err_same why fault (outcome_of h)) s);
+    ran = refl;
+    stops = subst (λ n. StopsBy n player lines why) (omega arith) s;
   }
+
+  -- a run over lines ended so
+  abbrev Ran : ℕ → P → List (List ℕ) → List ℕ → Result P ReplayFault → Type 0
+  Ran number player lines written (Ok next) = run answer number player lines ≡ told written (Ok next)
+  Ran number player lines written (Err fault) = Halts number player lines written fault
+
+  abbrev RanSo : ℕ → P → List (List ℕ) → Told P → Type 0
+  RanSo number player lines t = Ran number player lines t.written t.outcome
 
   -- one line was answered in front
-  halts_more : (number : ℕ) (player : P) (line : List ℕ) (lines : List (List ℕ)) (reply : List ℕ × P) (written : List ℕ)
-      (fault : ReplayFault) → nat_lt longest_line (length line) ≡ false → answer player line ≡ Ok reply
-      → Halts (number + 1) reply.1 lines written fault → Halts number player (line ∷ lines) (reply.0 ++ written) fault
-  halts_more number player line lines reply written fault short is h =
-      let on : P → Told P = λ next. run answer (number + 1) next h.done in
-      record {
-        done = line ∷ h.done;
-        rest = h.rest;
-        next = h.next;
-        split = ap (λ (ls : List (List ℕ)). line ∷ ls) h.split;
-        ran = ap (λ b. cond b (stopped (LineLong number)) (answered on number (answer player line))) short ∙ ap (answered on number) is
-            ∙ ap (after_writing reply.0) h.ran;
-        stops = subst (λ n. StopsBy n h.next h.rest fault) (omega arith) h.stops;
-      }
-
-  halts_refused : (number : ℕ) (player : P) (line : List ℕ) (lines : List (List ℕ)) (written : List ℕ) (fault : ReplayFault)
-      (why : Refused) → answer player line ≡ Err why → stopped (refusal_at number why) ≡ told {P = P} written (Err fault)
-      → Halts number player (line ∷ lines) written fault
-  halts_refused number player line lines written fault Bad is h =
-      halts_at number player (line ∷ lines) written (BadLine number) fault h refl
-  halts_refused number player line lines written fault Much is h =
-      halts_at number player (line ∷ lines) written TooMuch fault h (line, lines, refl, is)
-
-  abbrev Onward : ℕ → List (List ℕ) → Type 0
-  Onward number lines = (next : P) (written : List ℕ) (fault : ReplayFault) → run answer (number + 1) next lines ≡ told written (Err fault)
-      → Halts (number + 1) next lines written fault
-
-  halts : (lines : List (List ℕ)) (number : ℕ) (player : P) (written : List ℕ) (fault : ReplayFault)
-      → run answer number player lines ≡ told written (Err fault) → Halts number player lines written fault
-  halts [] number player written fault h = absurd (not_ok fault player (sym (outcome_of h)))
-  halts (line ∷ lines) number player written fault h =
-      by_line (λ next w f. halts lines (number + 1) next w f) (nat_lt longest_line (length line)) refl h
-    where
-      by_answer : Onward number lines → (said : Result (List ℕ × P) Refused) → nat_lt longest_line (length line) ≡ false
-          → answer player line ≡ said → answered (λ next. run answer (number + 1) next lines) number said ≡ told written (Err fault)
-          → Halts number player (line ∷ lines) written fault
-      by_answer on (Err why) short is h = halts_refused number player line lines written fault why is h
-      by_answer on (Ok reply) short is h =
-          let t = run answer (number + 1) reply.1 lines in
-          let went = told_is t t.written (Err fault) refl (outcome_of h) in
-          subst (λ (w : List ℕ). Halts number player (line ∷ lines) w fault) (written_of h)
-          (halts_more number player line lines reply t.written fault short is (on reply.1 t.written fault went))
-
-      by_line : Onward number lines → (long : Bool) → nat_lt longest_line (length line) ≡ long → cond long (stopped (LineLong number))
-          (answered (λ next. run answer (number + 1) next lines) number (answer player line)) ≡ told written (Err fault)
-          → Halts number player (line ∷ lines) written fault
-      by_line on true is h = halts_at number player (line ∷ lines) written (LineLong number) fault h refl
-      by_line on false is h = by_answer on (answer player line) is refl h
-
-  -- a whole input: the lines were all answered, and the end of the input stopped it
-  halts_after : (player next : P) (lines : List (List ℕ)) (said written : List ℕ) (why fault : ReplayFault)
-      → run answer 1 player lines ≡ told said (Ok next) → after_writing said (stopped why) ≡ told {P = P} written (Err fault)
-      → StopsBy (1 + length lines) next [] why → Halts 1 player lines written fault
-  halts_after player next lines said written why fault ran h s = record {
-    done = lines;
-    rest = [];
-    next = next;
-    split = sym (append-nil lines);
-    ran = ran ∙ ap (λ (w : List ℕ). told w (Ok next)) (sym (append-nil said) ∙ written_of h);
-    stops = subst (StopsBy (1 + length lines) next []) (err_same why fault (outcome_of h)) s;
+  ran_more : (number : ℕ) (player : P) (line : List ℕ) (lines : List (List ℕ)) (reply : List ℕ × P) (written : List ℕ)
+      (outcome : Result P ReplayFault) → nat_lt longest_line (length line) ≡ false → answer player line ≡ Ok reply
+      → Ran (number + 1) reply.1 lines written outcome → Ran number player (line ∷ lines) (reply.0 ++ written) outcome
+  ran_more number player line lines reply written (Ok next) short is h = rw (short, is) (ap (after_writing reply.0) h)
+  ran_more number player line lines reply written (Err fault) short is h = record {
+    done = line ∷ h.done;
+    rest = h.rest;
+    next = h.next;
+    split = ap (λ (ls : List (List ℕ)). line ∷ ls) h.split;
+    ran = rw (short, is) (ap (after_writing reply.0) h.ran);
+    stops = subst (λ n. StopsBy n h.next h.rest fault) (omega arith) h.stops;
   }
 
-  -- where it stopped
-  first_by : (player : P) (lines : List (List ℕ)) (written : List ℕ) (fault : ReplayFault) (stops : List (List ℕ) → List (List ℕ) → Type 0)
-      (h : Halts 1 player lines written fault) → stops h.done h.rest → AnswersFirst (Answered answer player) stops lines written
-  first_by player lines written fault stops h s =
-      record { done = h.done; rest = h.rest; split = h.split; answered = (h.next, h.ran); stopped = s }
+  ran : (lines : List (List ℕ)) (number : ℕ) (player : P) → RanSo number player lines (run answer number player lines)
+  ran [] number player = refl
+  ran (line ∷ lines) number player = by (λ next. ran lines (number + 1) next) (turned answer number player line lines)
+    where
+      by : {t : Told P} → ((next : P) → RanSo (number + 1) next lines (run answer (number + 1) next lines))
+          → Turned answer number player line lines t → RanSo number player (line ∷ lines) t
+      by on (Long is) = subst (RanSo number player (line ∷ lines)) (sym is) (halts_at number player (line ∷ lines) (LineLong number) refl)
+      by on (Refuses Bad said is) =
+          subst (RanSo number player (line ∷ lines)) (sym is) (halts_at number player (line ∷ lines) (BadLine number) refl)
+      by on (Refuses Much said is) =
+          subst (RanSo number player (line ∷ lines)) (sym is)
+          (halts_at number player (line ∷ lines) TooMuch (line, lines, refl, said))
+      by on (Replies reply short said is) =
+          subst (RanSo number player (line ∷ lines)) (sym is)
+          (ran_more number player line lines reply _ _ short said (on reply.1))
 
   module _ (closing : P → Option (List ℕ)) (player : P) where
-    ended_halts : (next : P) (lines : List (List ℕ)) (tail said written : List ℕ) (fault : ReplayFault)
-        → run answer 1 player lines ≡ told said (Ok next)
-        → after_writing said (ended closing (1 + length lines) tail next) ≡ told written (Err fault) → Halts 1 player lines written fault
-    ended_halts next lines [] said written fault ran h = by_closing (closing next) h
-      where
-        by_closing : (last : Option (List ℕ)) → after_writing said (closed (1 + length lines) next last) ≡ told written (Err fault)
-            → Halts 1 player lines written fault
-        by_closing None h = halts_after player next lines said written (BadLine (1 + length lines)) fault ran h refl
-        by_closing (Some last) h = absurd (not_ok fault next (sym (outcome_of h)))
-    ended_halts next lines (byte ∷ bytes) said written fault ran h = by_size (nat_lt longest_line (length (byte ∷ bytes))) h
-      where
-        by_size : (long : Bool)
-            → after_writing said (cond long (stopped (LineLong (1 + length lines))) (stopped (BadLine (1 + length lines)))) ≡ told
-            {P = P} written (Err fault) → Halts 1 player lines written fault
-        by_size true h = halts_after player next lines said written (LineLong (1 + length lines)) fault ran h refl
-        by_size false h = halts_after player next lines said written (BadLine (1 + length lines)) fault ran h refl
+    -- a run over an input ended so
+    abbrev Ends : List (List ℕ) → List ℕ → Result P ReplayFault → Type 0
+    Ends lines written (Ok end) = Finished answer closing player lines written
+    Ends lines written (Err fault) = Halts 1 player lines written fault
 
-    -- The run over an input stopped.
-    whole_halts : (input written : List ℕ) (fault : ReplayFault) → run_of answer closing player input ≡ told written (Err fault)
-        → Halts 1 player (lines_of input) written fault
-    whole_halts input written fault h = let t = run answer 1 player (lines_of input) in by_outcome t.written t.outcome refl h
+    ends : (input : List ℕ) → (let t = run_of answer closing player input in Ends (lines_of input) t.written t.outcome)
+    ends input = by (lines_of input) (tail_of input) _ _ (ran (lines_of input) 1 player)
       where
-        by_outcome : (said : List ℕ) (outcome : Result P ReplayFault) → run answer 1 player (lines_of input) ≡ told said outcome
-            → goes_on (ended closing (1 + length (lines_of input)) (tail_of input)) said outcome ≡ told written (Err fault)
-            → Halts 1 player (lines_of input) written fault
-        by_outcome said (Ok next) ran h = ended_halts next (lines_of input) (tail_of input) said written fault ran h
-        by_outcome said (Err why) ran h = halts (lines_of input) 1 player written fault (ran ∙ h)
+        -- the end of the input stopped it
+        halts_behind : (lines : List (List ℕ)) (said : List ℕ) (next : P) (why : ReplayFault)
+            → run answer 1 player lines ≡ told said (Ok next) → StopsBy (1 + length lines) next [] why
+            → Halts 1 player lines (said ++ []) why
+        halts_behind lines said next why went s = record {
+          done = lines;
+          rest = [];
+          next = next;
+          split = sym (append-nil lines);
+          ran = went ∙ ap (λ (w : List ℕ). told w (Ok next)) (sym (append-nil said));
+          stops = s;
+        }
 
-    -- The run over an input came to its end.
-    ended_finishes : (next end : P) (lines : List (List ℕ)) (tail said written : List ℕ) → run answer 1 player lines ≡ told said (Ok next)
-        → after_writing said (ended closing (1 + length lines) tail next) ≡ told written (Ok end)
-        → Finished answer closing player lines written
-    ended_finishes next end lines [] said written ran h = by_closing (closing next) refl h
-      where
-        by_closing : (last : Option (List ℕ)) → closing next ≡ last
-            → after_writing said (closed (1 + length lines) next last) ≡ told written (Ok end)
-            → Finished answer closing player lines written
-        by_closing None is h = absurd (not_ok (BadLine (1 + length lines)) end (outcome_of h))
-        by_closing (Some last) is h = record { next = next; said = said; last = last; ran = ran; closed = is; whole = sym (written_of h) }
-    ended_finishes next end lines (byte ∷ bytes) said written ran h = absurd (by_size (nat_lt longest_line (length (byte ∷ bytes))) h)
-      where
-        by_size : (long : Bool)
-            → after_writing said (cond long (stopped (LineLong (1 + length lines))) (stopped (BadLine (1 + length lines))))
-            ≡ told {P = P} written (Ok end) → ⊥
-        by_size true h = not_ok (LineLong (1 + length lines)) end (outcome_of h)
-        by_size false h = not_ok (BadLine (1 + length lines)) end (outcome_of h)
+        by_closing : (lines : List (List ℕ)) (said : List ℕ) (next : P) (last : Option (List ℕ)) → closing next ≡ last
+            → run answer 1 player lines ≡ told said (Ok next)
+            → (let t = after_writing said (closed (1 + length lines) next last) in Ends lines t.written t.outcome)
+        by_closing lines said next None is went = halts_behind lines said next (BadLine (1 + length lines)) went refl
+        by_closing lines said next (Some last) is went =
+            record { next = next; said = said; last = last; ran = went; closed = is; whole = refl }
 
-    whole_finishes : (end : P) (input written : List ℕ) → run_of answer closing player input ≡ told written (Ok end)
-        → Finished answer closing player (lines_of input) written
-    whole_finishes end input written h = let t = run answer 1 player (lines_of input) in by_outcome t.written t.outcome refl h
-      where
-        by_outcome : (said : List ℕ) (outcome : Result P ReplayFault) → run answer 1 player (lines_of input) ≡ told said outcome
-            → goes_on (ended closing (1 + length (lines_of input)) (tail_of input)) said outcome ≡ told written (Ok end)
-            → Finished answer closing player (lines_of input) written
-        by_outcome said (Ok next) ran h = ended_finishes next end (lines_of input) (tail_of input) said written ran h
-        by_outcome said (Err why) ran h = absurd (not_ok why end (outcome_of h))
+        by_size : (lines : List (List ℕ)) (said : List ℕ) (next : P) (long : Bool) → run answer 1 player lines ≡ told said (Ok next)
+            → (let t = after_writing said (cond long (stopped (LineLong (1 + length lines))) (stopped {P = P} (BadLine (1 + length lines))))
+            in Ends lines t.written t.outcome)
+        by_size lines said next true went = halts_behind lines said next (LineLong (1 + length lines)) went refl
+        by_size lines said next false went = halts_behind lines said next (BadLine (1 + length lines)) went refl
 
-    -- some bytes of which these are a front
-    fronts : (input sent written : List ℕ) (outcome : Result P ReplayFault) → run_of answer closing player input ≡ told written outcome
-        → IsFrontOf sent written → (all : List ℕ) × IsFrontOf sent all
-        × (AnswersFirst (Answered answer player) anywhere (lines_of input) all ⊎ Finished answer closing player (lines_of input) all)
-    fronts input sent written (Ok end) is front = (written, front, inr (whole_finishes end input written is))
-    fronts input sent written (Err fault) is front =
-        (written, front, inl (first_by player (lines_of input) written fault anywhere (whole_halts input written fault is) tt))
+        by : (lines : List (List ℕ)) (tail said : List ℕ) (outcome : Result P ReplayFault) → Ran 1 player lines said outcome
+            → (let t = goes_on (ended closing (1 + length lines) tail) said outcome in Ends lines t.written t.outcome)
+        by lines tail said (Err why) went = went
+        by lines [] said (Ok next) went = by_closing lines said next (closing next) refl went
+        by lines (byte ∷ bytes) said (Ok next) went = by_size lines said next (nat_lt longest_line (length (byte ∷ bytes))) went
 
 -- it holds of the whole input, and so does what follows from it
 pub for_whole : (left : Option (List ℕ)) (taken : List ℕ) (A B : List ℕ → Type 0) → ((input : List ℕ) → A input → B input)
     → ForWhole left taken A → ForWhole left taken B
 for_whole left taken A B lift w = elim w [ inl h ↦ inl (λ rest. lift (taken ++ rest) (h rest)) | inr h ↦ inr (h.0, lift taken h.1) ]
 
--- What a call that settled tells.
-pub tells_by : {P T : Type 0} (answer : P → List ℕ → Result (List ℕ × P) Refused) (closing : P → Option (List ℕ)) (player next : P)
-    (left : Option (List ℕ)) (taken sent : List ℕ) (result : Result T ReplayFault)
-    → Settles (run answer 1 player) (run_of answer closing player) next left taken sent result
-    → TellsBy (Answered answer player) (Finished answer closing player) (RefusesMuch answer player) left taken sent result
-tells_by answer closing player next left taken sent (Ok _) s = whole_finishes answer closing player next taken sent s.1
-tells_by answer closing player next left taken sent (Err ReadFault) s = s
-tells_by answer closing player next left taken sent (Err WriteFault) s =
-    for_whole left taken (λ input. IsFrontOf sent (run_of answer closing player input).written) _
-    (λ input front. let t = run_of answer closing player input in fronts answer closing player input sent t.written t.outcome refl front) s
-tells_by answer closing player next left taken sent (Err Memory) s = (s.0, s.1, (s.2, s.3))
-tells_by answer closing player next left taken sent (Err (BadLine n)) s =
-    for_whole left taken (λ input. run_of answer closing player input ≡ told sent (Err (BadLine n))) _
-    (λ input is. let h = whole_halts answer closing player input sent (BadLine n) is in
-    first_by answer player (lines_of input) sent (BadLine n) (before_line n) h (omega (arith, h.stops))) s
-tells_by answer closing player next left taken sent (Err (LineLong n)) s =
-    for_whole left taken (λ input. run_of answer closing player input ≡ told sent (Err (LineLong n))) _
-    (λ input is. let h = whole_halts answer closing player input sent (LineLong n) is in
-    first_by answer player (lines_of input) sent (LineLong n) (before_line n) h (omega (arith, h.stops))) s
-tells_by answer closing player next left taken sent (Err TooMuch) s =
-    for_whole left taken (λ input. run_of answer closing player input ≡ told sent (Err TooMuch)) _
-    (λ input is. let h = whole_halts answer closing player input sent TooMuch is in
-    first_by answer player (lines_of input) sent TooMuch (RefusesMuch answer player) h (record {
-      next = h.next;
-      said = sent;
-      line = h.stops.0;
-      more = h.stops.1;
-      ran = h.ran;
-      follows = h.stops.2;
-      refused = h.stops.3;
-    })) s
+-- What a player's answers mean: those to lines that were answered, those to all lines of an input, and why a line is one
+-- too many.
+pub record Means {P : Type 0} (answer : P → List ℕ → Result (List ℕ × P) Refused) (closing : P → Option (List ℕ)) (first : P)
+    (some all : List (List ℕ) → List ℕ → Type 0) (much : List (List ℕ) → List (List ℕ) → Type 0) : Type 0 where
+  pub lines : (lines : List (List ℕ)) (written : List ℕ) → Answered answer first lines written → some lines written
+  pub whole : (lines : List (List ℕ)) (written : List ℕ) → Finished answer closing first lines written → all lines written
+  pub turn : (done rest : List (List ℕ)) → RefusesMuch answer first done rest → much done rest
 
-abbrev Fronted : (List (List ℕ) → List ℕ → Type 0) → (List (List ℕ) → List ℕ → Type 0) → List ℕ → List ℕ → Type 0
-Fronted some all sent input =
-    (written : List ℕ) × IsFrontOf sent written × (AnswersFirst some anywhere (lines_of input) written ⊎ all (lines_of input) written)
+module _ {P : Type 0} (answer : P → List ℕ → Result (List ℕ × P) Refused) (closing : P → Option (List ℕ)) (first next : P)
+    {some all : List (List ℕ) → List ℕ → Type 0} {much : List (List ℕ) → List (List ℕ) → Type 0}
+    (m : Means answer closing first some all much) where
+  -- where it stopped
+  first_by : (lines : List (List ℕ)) (written : List ℕ) (fault : ReplayFault) (stops : List (List ℕ) → List (List ℕ) → Type 0)
+      (h : Halts answer 1 first lines written fault) → stops h.done h.rest → AnswersFirst some stops lines written
+  first_by lines written fault stops h s =
+      record { done = h.done; rest = h.rest; split = h.split; answered = m.lines h.done written (h.next, h.ran); stopped = s }
 
--- What the answers to lines mean is what is told.
-module _ (some some' all all' : List (List ℕ) → List ℕ → Type 0) (much much' : List (List ℕ) → List (List ℕ) → Type 0)
-    (lift : (ls : List (List ℕ)) (w : List ℕ) → some ls w → some' ls w) (whole : (ls : List (List ℕ)) (w : List ℕ) → all ls w → all' ls w)
-    (turn : (done rest : List (List ℕ)) → much done rest → much' done rest) where
-  first_more : (stops stops' : List (List ℕ) → List (List ℕ) → Type 0) (lines : List (List ℕ)) (written : List ℕ)
-      → ((done rest : List (List ℕ)) → stops done rest → stops' done rest) → AnswersFirst some stops lines written
-      → AnswersFirst some' stops' lines written
-  first_more stops stops' lines written turn a = record {
-    done = a.done;
-    rest = a.rest;
-    split = a.split;
-    answered = lift a.done written a.answered;
-    stopped = turn a.done a.rest a.stopped;
-  }
+  -- all was answered, or it stopped
+  either : (lines : List (List ℕ)) (written : List ℕ) (outcome : Result P ReplayFault) → Ends answer closing first lines written outcome
+      → AnswersFirst some anywhere lines written ⊎ all lines written
+  either lines written (Ok end) h = inr (m.whole lines written h)
+  either lines written (Err fault) h = inl (first_by lines written fault anywhere h tt)
 
-  either_more : (lines : List (List ℕ)) (written : List ℕ) → AnswersFirst some anywhere lines written ⊎ all lines written
-      → AnswersFirst some' anywhere lines written ⊎ all' lines written
-  either_more lines written e = elim e [
-    | inl a ↦ inl (first_more anywhere anywhere lines written (λ done rest s. s) a)
-    | inr a ↦ inr (whole lines written a)
-  ]
+  -- how it ended, of an input over which the run is known
+  ended_so : (input written : List ℕ) (outcome : Result P ReplayFault) → run_of answer closing first input ≡ told written outcome
+      → Ends answer closing first (lines_of input) written outcome
+  ended_so input written outcome is =
+      subst (λ (t : Told P). Ends answer closing first (lines_of input) t.written t.outcome) is (ends answer closing first input)
 
-  pub tells_more : {T : Type 0} (left : Option (List ℕ)) (taken sent : List ℕ) (result : Result T ReplayFault)
-      → TellsBy some all much left taken sent result → TellsBy some' all' much' left taken sent result
-  tells_more left taken sent (Ok _) t = whole (lines_of taken) sent t
-  tells_more left taken sent (Err ReadFault) t = (t.0, lift (lines_of taken) sent t.1)
-  tells_more left taken sent (Err WriteFault) t =
-      for_whole left taken (Fronted some all sent) (Fronted some' all' sent) (λ input w. (w.0, w.1, either_more (lines_of input) w.0 w.2)) t
-  tells_more left taken sent (Err Memory) t = (t.0, t.1, lift (lines_of t.0) sent t.2)
-  tells_more left taken sent (Err (BadLine n)) t =
-      for_whole left taken (λ input. AnswersFirst some (before_line n) (lines_of input) sent) _
-      (λ input a. first_more (before_line n) (before_line n) (lines_of input) sent (λ done rest s. s) a) t
-  tells_more left taken sent (Err (LineLong n)) t =
-      for_whole left taken (λ input. AnswersFirst some (before_line n) (lines_of input) sent) _
-      (λ input a. first_more (before_line n) (before_line n) (lines_of input) sent (λ done rest s. s) a) t
-  tells_more left taken sent (Err TooMuch) t =
-      for_whole left taken (λ input. AnswersFirst some much (lines_of input) sent) _
-      (λ input a. first_more much much' (lines_of input) sent turn a) t
+  stopped_at : (left : Option (List ℕ)) (taken sent : List ℕ) (fault : ReplayFault) (stops : List (List ℕ) → List (List ℕ) → Type 0)
+      → ((lines : List (List ℕ)) (h : Halts answer 1 first lines sent fault) → stops h.done h.rest)
+      → ForWhole left taken (λ input. run_of answer closing first input ≡ told sent (Err fault))
+      → ForWhole left taken (λ input. AnswersFirst some stops (lines_of input) sent)
+  stopped_at left taken sent fault stops each s =
+      for_whole left taken (λ input. run_of answer closing first input ≡ told sent (Err fault)) _
+      (λ input is. let h = ended_so input sent (Err fault) is in
+      first_by (lines_of input) sent fault stops h (each (lines_of input) h)) s
+
+  -- What is out tells what the answers mean.
+  pub tells : {T : Type 0} (left : Option (List ℕ)) (taken sent : List ℕ) (result : Result T ReplayFault)
+      → Settles (run answer 1 first) (run_of answer closing first) next left taken sent result
+      → TellsBy some all much left taken sent result
+  tells left taken sent (Ok _) s = m.whole (lines_of taken) sent (ended_so taken sent (Ok next) s.1)
+  tells left taken sent (Err ReadFault) s = (s.0, m.lines (lines_of taken) sent s.1)
+  tells left taken sent (Err WriteFault) s =
+      for_whole left taken (λ input. IsFrontOf sent (run_of answer closing first input).written) (λ input. (written : List ℕ)
+      × IsFrontOf sent written × (AnswersFirst some anywhere (lines_of input) written ⊎ all (lines_of input) written))
+      (λ input front. let t = run_of answer closing first input in
+      (t.written, front, either (lines_of input) t.written t.outcome (ends answer closing first input))) s
+  tells left taken sent (Err Memory) s = (s.0, s.1, m.lines (lines_of s.0) sent (s.2, s.3))
+  tells left taken sent (Err (BadLine n)) s = stopped_at left taken sent (BadLine n) (before_line n) (λ lines h. omega (arith, h.stops)) s
+  tells left taken sent (Err (LineLong n)) s = stopped_at left taken sent (LineLong n) (before_line n) (λ lines h. omega (arith, h.stops)) s
+  tells left taken sent (Err TooMuch) s =
+      stopped_at left taken sent TooMuch much (λ lines h. m.turn h.done h.rest (record {
+        next = h.next;
+        said = sent;
+        line = h.stops.0;
+        more = h.stops.1;
+        ran = h.ran;
+        follows = h.stops.2;
+        refused = h.stops.3;
+      })) s

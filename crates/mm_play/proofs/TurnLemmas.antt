@@ -1,7 +1,7 @@
 -- A line is answered, or the input ends, by what the reader read and what the player did.
 use Rattle.mm_play.proofs.Below.{◌≡◌, ◌∙◌, ◌<◌, ◌+◌, ℕ, Bool, true, false, List, [], ◌∷◌, ◌++◌, length, take, drop, Result, Ok, Err, Option}
 use Rattle.mm_play.proofs.Below.{refl, sym, ap, subst, append_assoc, arith, inl, inr, length-take, take-append-drop, ReplayFault, Memory}
-use Rattle.mm_play.proofs.Below.{ReadFault, WriteFault, BadLine, LineLong, TooMuch, longest_line, Refused, refusal_at, stopped, run_from}
+use Rattle.mm_play.proofs.Below.{BadLine, LineLong, TooMuch, longest_line, Refused, refusal_at, stopped, run_from}
 use Rattle.mm_play.proofs.Below.{ForWhole, Answers, PlayedOn, Advances}
 use Rattle.mm_base.specs.Lines.{MayGrow}
 use Rattle.mm_base.specs.Next.{NextLine}
@@ -37,16 +37,11 @@ module _ {P : Type 0} (answer : P → List ℕ → Result (List ℕ × P) Refuse
       → PlayedOn answer (run_from answer closing number player) number player next left' bytes held' pending pending' result
   went_by_line bytes line (Ok true) cut within a =
       record { line = line; reply = a.1; unbroken = within.unbroken; short = within.short; cut = cut; answered = a.2; said_behind = a.3 }
-  went_by_line bytes line (Ok false) cut within a = let clash : false ≡ true = a.0 in absurd (no_clash clash)
-    where
-      no_clash : false ≡ true → ⊥
-      no_clash h = cc
-  went_by_line bytes line (Err WriteFault) cut within a = absurd a
+  went_by_line bytes line (Ok false) cut within a = let clash : false ≡ true = a.0 in cc
   went_by_line bytes line (Err Memory) cut within a = a
-  went_by_line bytes line (Err ReadFault) cut within a = absurd a
-  went_by_line bytes line (Err (LineLong n)) cut within a = absurd a
   went_by_line bytes line (Err (BadLine n)) cut within a = (a.0, refused_by bytes line a.1 (BadLine n) cut within a.2 a.3)
   went_by_line bytes line (Err TooMuch) cut within a = (a.0, refused_by bytes line a.1 TooMuch cut within a.2 a.3)
+  went_by_line bytes line _ cut within a = absurd a
 
   -- A line was read, and the player answered it or didn't.
   pub advanced_by_line : (result : Result Bool ReplayFault) (read : Result Read LineFault) (what : Read) (line : _)

@@ -1,7 +1,7 @@
 -- A turn: what was pending before it may be sent first, and nothing is pending where it ends the run.
 use Rattle.mm_play.proofs.Below.{◌≡◌, ◌∙◌, ◌≢◌, ◌+◌, ℕ, Bool, true, false, List, [], ◌∷◌, ◌++◌, length, Result, Ok, Err, OnOk, OnErr}
 use Rattle.mm_play.proofs.Below.{Option, sym, ap, subst, append_assoc, append-nil, inl, inr, Appends, Appends-trans, Consumes-nil}
-use Rattle.mm_play.proofs.Below.{IsUnbroken, ReplayFault, Memory, ReadFault, WriteFault, BadLine, LineLong, TooMuch, Refused, Told}
+use Rattle.mm_play.proofs.Below.{IsUnbroken, ReplayFault, Memory, ReadFault, WriteFault, Refused, Told}
 use Rattle.mm_play.proofs.Below.{after_writing, run_from, IsFrontOf, ForWhole, PlayedOn, Advances, SendsDue, SendsThen, IsSent, PlaysNext}
 use Rattle.std.proofs.Math.Seq.{take-append_seam}
 use Rattle.std.proofs.lemmas.List.Elements.{All-take}
@@ -41,16 +41,13 @@ module _ {P : Type 0} (answer : P → List ℕ → Result (List ℕ × P) Refuse
     said_behind = ap (λ b. front ++ b) w.said_behind ∙ sym (append_assoc front pending w.reply);
   }
   went_behind (Ok false) w = (w.0, w.1, w.2, ap (λ b. front ++ b) w.3 ∙ sym (append_assoc front pending w.1))
-  went_behind (Err ReadFault) w = (said_behind w.0, w.1)
   went_behind (Err WriteFault) w =
       for_whole left bytes (λ input. IsFrontOf said (pending ++ (rest input).written))
       (λ input. IsFrontOf (front ++ said) ((front ++ pending) ++ (rest input).written))
       (λ input h. subst (λ (b : List ℕ). IsFrontOf (front ++ said) b) (sym (append_assoc front pending (rest input).written))
       (front_after front said (pending ++ (rest input).written) h)) w
   went_behind (Err Memory) w = said_behind w
-  went_behind (Err (BadLine n)) w = (said_behind w.0, w.1)
-  went_behind (Err (LineLong n)) w = (said_behind w.0, w.1)
-  went_behind (Err TooMuch) w = (said_behind w.0, w.1)
+  went_behind (Err fault) w = (said_behind w.0, w.1)
 
 -- ---- a front of what is pending is a front of what the run writes
 
@@ -93,15 +90,12 @@ module _ {P : Type 0} (answer : P → List ℕ → Result (List ℕ × P) Refuse
         w.0,
         subst (λ (t : Told P). IsFrontOf sent (pending ++ t.written)) (sym w.2) (subst (λ (b : List ℕ). IsFrontOf sent b) w.3 front),
       )
-  went_cut (Err ReadFault) w front = unanswered w.0 front
   went_cut (Err WriteFault) w front =
       for_whole left bytes (IsCut (run_from answer closing number player) pending said)
       (IsCut (run_from answer closing number player) pending sent)
       (λ input h. front_of_front sent said (pending ++ (run_from answer closing number player input).written) front h) w
   went_cut (Err Memory) w front = unanswered w front
-  went_cut (Err (BadLine n)) w front = unanswered w.0 front
-  went_cut (Err (LineLong n)) w front = unanswered w.0 front
-  went_cut (Err TooMuch) w front = unanswered w.0 front
+  went_cut (Err fault) w front = unanswered w.0 front
 
 -- ---- turns
 

@@ -53,31 +53,18 @@ IsBlamed false before now = now ≡ before
 
 abbrev pub is_read_fault : {T : Type 0} → Result T ReplayFault → Bool
 is_read_fault (Err ReadFault) = true
-is_read_fault (Err WriteFault) = false
-is_read_fault (Err Memory) = false
-is_read_fault (Err (BadLine number)) = false
-is_read_fault (Err (LineLong number)) = false
-is_read_fault (Err TooMuch) = false
-is_read_fault (Ok _) = false
+is_read_fault _ = false
 
 abbrev pub is_write_fault : {T : Type 0} → Result T ReplayFault → Bool
 is_write_fault (Err WriteFault) = true
-is_write_fault (Err ReadFault) = false
-is_write_fault (Err Memory) = false
-is_write_fault (Err (BadLine number)) = false
-is_write_fault (Err (LineLong number)) = false
-is_write_fault (Err TooMuch) = false
-is_write_fault (Ok _) = false
+is_write_fault _ = false
 
 -- no line was refused
 abbrev pub IsUnrefused : {T : Type 0} → Result T ReplayFault → Type 0
-IsUnrefused (Ok _) = Unit {0}
-IsUnrefused (Err Memory) = Unit {0}
-IsUnrefused (Err ReadFault) = Unit {0}
-IsUnrefused (Err WriteFault) = Unit {0}
 IsUnrefused (Err (BadLine number)) = ⊥
 IsUnrefused (Err (LineLong number)) = ⊥
 IsUnrefused (Err TooMuch) = ⊥
+IsUnrefused _ = Unit {0}
 
 -- A call took these bytes of the input and wrote those, and its answer fits.
 pub record Plays {P T : Type 0} (answer : P → List ℕ → Result (List ℕ × P) Refused)

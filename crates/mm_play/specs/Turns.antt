@@ -19,13 +19,11 @@ abbrev pub Answers : {P : Type 0} → ℕ → Result (List ℕ × P) Refused →
 Answers number answer next old new (Ok goes_on) =
     (goes_on ≡ true) × (reply : List ℕ) × (answer ≡ Ok (reply, next)) × (new ≡ old ++ reply)
 Answers number answer next old new (Err Memory) = new ≡ old
-Answers number answer next old new (Err ReadFault) = ⊥
-Answers number answer next old new (Err WriteFault) = ⊥
-Answers number answer next old new (Err (LineLong line)) = ⊥
 Answers number answer next old new (Err (BadLine line)) =
     (new ≡ old) × (why : Refused) × (answer ≡ Err why) × (refusal_at number why ≡ BadLine line)
 Answers number answer next old new (Err TooMuch) =
     (new ≡ old) × (why : Refused) × (answer ≡ Err why) × (refusal_at number why ≡ TooMuch)
+Answers number answer next old new (Err fault) = ⊥
 
 -- A player met the end of the input, with these last lines, if it may end here.
 abbrev pub EndsInput : ℕ → Option (List ℕ) → List ℕ → List ℕ → Result Bool ReplayFault → Type 0
@@ -34,10 +32,7 @@ EndsInput number closing old new (Ok goes_on) =
 EndsInput number closing old new (Err (BadLine line)) =
     (new ≡ old) × (closing ≡ None) × (line ≡ number)
 EndsInput number closing old new (Err Memory) = new ≡ old
-EndsInput number closing old new (Err WriteFault) = ⊥
-EndsInput number closing old new (Err ReadFault) = ⊥
-EndsInput number closing old new (Err (LineLong line)) = ⊥
-EndsInput number closing old new (Err TooMuch) = ⊥
+EndsInput number closing old new (Err fault) = ⊥
 
 -- A line of this number was read and answered, and its reply stands behind what was pending.
 pub record AnswersLine {P : Type 0} (answer : P → List ℕ → Result (List ℕ × P) Refused) (number : ℕ)

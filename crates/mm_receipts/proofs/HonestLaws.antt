@@ -1,9 +1,9 @@
 -- Receipts that aren't forged never clash: each known pair is one, and two of one position are equal.
-use Rattle.mm_receipts.proofs.Below.{◌≡◌, ◌∙◌, ◌+◌, ◌≤◌, ◌==◌, ◌&&◌, ◌++◌, ℕ, Bool, true, false, cond, nat_lt, nat_le, List, [], ◌∷◌}
-use Rattle.mm_receipts.proofs.Below.{length, drop, take, Option, Some, None, Result, Ok, Err, refl, sym, ap, subst, arith, Refused}
-use Rattle.mm_receipts.proofs.Below.{first_answered, receipts-true, no-clash, Asked, Tally, Checking, pair_at, parted, asked_with}
+use Rattle.mm_receipts.proofs.Below.{◌≡◌, ◌∙◌, ◌+◌, ◌≤◌, ◌==◌, ◌++◌, ℕ, Bool, true, false, cond, nat_lt, List, [], ◌∷◌}
+use Rattle.mm_receipts.proofs.Below.{length, Option, Some, None, Result, Ok, Err, refl, sym, ap, subst, arith}
+use Rattle.mm_receipts.proofs.Below.{first_answered, receipts-true, no-clash, Asked, Tally, Checking, pair_at, parted}
 use Rattle.mm_receipts.proofs.Below.{is_too_much, known_at, against_pair, receipt_verdict, pair_verdict, verdict_text, after_pair, first_by}
-use Rattle.mm_receipts.proofs.Below.{second_answer, waits, settles, receipts_answer, first_tally}
+use Rattle.mm_receipts.proofs.Below.{waits, settles, receipts_answer, first_tally}
 use Rattle.std.specs.Prelude.{if◌then◌else◌}
 use Rattle.std.specs.BTreeMap.{is_at, insert_entry}
 use Rattle.std.specs.List.{AllByRecursion, position}
@@ -13,13 +13,10 @@ use Rattle.std.specs.declared.cmp.Ordering.TheVariants.{Less, Equal, Greater}
 use Rattle.std.specs.Str.{bytes_eq}
 use Rattle.std.proofs.lemmas.Bool.Decides.{nat_tests}
 use Rattle.std.proofs.lemmas.Slice.Eq.{bytes_eq-Decides}
-use Rattle.mm_base.specs.Decimals.{decimal_number}
 use Rattle.mm_base.specs.Limits.{last_position, longest_request}
 use Rattle.mm_module.specs.Meaning.{Meaning}
 use Rattle.mm_module.specs.WordsWords.{is_space}
-use Rattle.mm_module.specs.LineLaws.{and-true}
-use Rattle.mm_play.specs.Counting.{no_answer, same_answer, same_next}
-use Rattle.mm_play.specs.declared.player.Refused.TheVariants.{Bad, Much}
+use Rattle.mm_play.specs.declared.player.Refused.TheVariants.{Much}
 use Rattle.mm_play.specs.Play.{Told, told, run}
 use Rattle.mm_receipt.specs.declared.receipt.NotReceipt.{NotReceipt}
 use Rattle.mm_receipt.specs.declared.receipt.NotReceipt.TheVariants.{Form, Tag}
@@ -27,14 +24,13 @@ use Rattle.mm_receipt.specs.Receipts.{verified}
 use Rattle.mm_receipt.specs.Tagged.{IsCounted, IsUnforged}
 use Rattle.mm_receipts.specs.declared.pair.Pair.{Pair}
 use Rattle.mm_receipts.specs.declared.pair.Verdict.{Verdict}
-use Rattle.mm_receipts.specs.declared.pair.Verdict.TheVariants.{NoForm, Good}
+use Rattle.mm_receipts.specs.declared.pair.Verdict.TheVariants.{Good}
 use Rattle.mm_receipts.specs.Honest.{pairs_of, text_alone, alone, WasTagged, IsTrue, IsHonest, ChecksAreHonest}
 
 -- a pair that nothing stands beside is answered by its output alone
 alone-text : (position : ℕ) (request output : List ℕ) (answer : Result (Unit {0}) NotReceipt)
     → verdict_text position (receipt_verdict answer None request output) ≡ text_alone position answer
-alone-text position request output (Err Form) = refl
-alone-text position request output _ = refl
+alone-text position request output answer = grind arith
 
 -- what a first line keeps
 record IsFormed (asked : Asked) : Type 0 where
@@ -45,30 +41,11 @@ abbrev MayWait : Option Asked → Type 0
 MayWait None = Unit {0}
 MayWait (Some asked) = IsFormed asked
 
-numbered-formed : (request : List ℕ) (number : ℕ) (flag : Bool)
-    → (nat_le 1 number && nat_le number last_position && nat_le (length request) longest_request) ≡ flag
-    → MayWait (if flag then Some (record { position = number; request = request }) else None)
-numbered-formed request number true is =
-    let w = and-true (nat_le 1 number && nat_le number last_position) (nat_le (length request) longest_request) is in
-    let v = and-true (nat_le 1 number) (nat_le number last_position) w.0 in
-    record { near = grind (arith, nat_tests); short = grind (arith, nat_tests) }
-numbered-formed request number false is = tt
-
-found-formed : (request : List ℕ) (found : Option ℕ) → MayWait (asked_with request found)
-found-formed request None = tt
-found-formed request (Some number) = numbered-formed request number _ refl
-
 parted-formed : (line : List ℕ) (found : Option ℕ) → MayWait (parted line found)
-parted-formed line None = tt
-parted-formed line (Some at) = found-formed (drop (at + 1) line) (decimal_number (take at line))
+parted-formed line found = grind (arith, nat_tests)
 
 at-key : (a b : ℕ) → is_at (nat_cmp a) b ≡ true → a ≡ b
-at-key a b is = at-by a b (nat_lt a b) (a == b) refl is
-  where
-    at-by : (a b : ℕ) (below same : Bool) → (a == b) ≡ same → is_at (λ (k : ℕ). cond below Less (cond same Equal Greater)) b ≡ true → a ≡ b
-    at-by a b true same e h = cc
-    at-by a b false true e h = grind (arith, nat_tests)
-    at-by a b false false e h = cc
+at-key a b is = grind (arith, nat_tests)
 
 module _ (inner : Meaning) (requests : List (List ℕ)) (counted : AllByRecursion IsCounted requests) (key : List ℕ) where
   -- a pair that is known isn't forged
@@ -139,12 +116,7 @@ module _ (inner : Meaning) (requests : List (List ℕ)) (counted : AllByRecursio
 
   after-key : (tally : Tally) (asked : Asked) (output : List ℕ) (verdict : Verdict)
       → (after_pair tally asked output verdict).key ≡ tally.key
-  after-key tally asked output NoForm = refl
-  after-key tally asked output _ = refl
-
-  same_reply : (reply said : List ℕ) (next it : Checking)
-      → (let r : Result (List ℕ × Checking) Refused = Ok (said, it) in r ≡ Ok (reply, next)) → reply ≡ said
-  same_reply reply said next it h = sym (ap (λ (q : List ℕ × Checking). q.0) (same_answer (said, it) (reply, next) h))
+  after-key tally asked output verdict = grind arith
 
   -- what stands between two lines
   record Stands (tally : Tally) (asked : Option Asked) : Type 0 where
@@ -159,30 +131,22 @@ module _ (inner : Meaning) (requests : List (List ℕ)) (counted : AllByRecursio
     known : mid.tally.known ≡ tally.known
     same_key : mid.tally.key ≡ tally.key
 
-  first-waits : (tally : Tally) (line : List ℕ) (found : Option Asked) (much : Bool) (reply : List ℕ) (mid : Checking)
-      → pair_at line ≡ found → is_too_much tally line ≡ much
-      → waits (first_by tally line found) ≡ Ok (reply, mid) → Waiting tally line reply mid
-  first-waits tally line None much reply mid is flag h = absurd (no_answer Bad reply mid h)
-  first-waits tally line (Some asked) true reply mid is flag h = absurd (no_answer Much reply mid (rw flag at h))
-  first-waits tally line (Some asked) false reply mid is flag h =
-      let e = sym (same_next reply _ mid _ (rw flag at h)) in
-      record {
-        silent = same_reply reply _ mid _ (rw flag at h);
-        asked = ap (λ (c : Checking). c.asked) e ∙ sym is;
-        known = ap (λ (c : Checking). c.tally.known) e;
-        same_key = ap (λ (c : Checking). c.tally.key) e;
-      }
+  first-waits : (tally : Tally) (line : List ℕ) (found : Option Asked) (reply : List ℕ) (mid : Checking)
+      → pair_at line ≡ found → waits (first_by tally line found) ≡ Ok (reply, mid) → Waiting tally line reply mid
+  first-waits tally line found reply mid is h =
+      let w = waited tally line found reply mid h in
+      record { silent = w.0; asked = w.1.0 ∙ sym is; known = w.1.1; same_key = w.1.2 }
+    where
+      waited : (tally : Tally) (line : List ℕ) (found : Option Asked) (reply : List ℕ) (mid : Checking)
+          → waits (first_by tally line found) ≡ Ok (reply, mid)
+          → (reply ≡ []) × ((mid.asked ≡ found) × (mid.tally.known ≡ tally.known) × (mid.tally.key ≡ tally.key))
+      waited tally line found reply mid h = grind (arith, nat_tests)
 
   -- a second line is answered by its verdict
-  record Settling (tally : Tally) (asked : Asked) (line : List ℕ) (reply : List ℕ) (mid : Checking) : Type 0 where
-    told : reply ≡ verdict_text asked.position (pair_verdict tally asked line)
-    next : mid ≡ record { tally = after_pair tally asked line (pair_verdict tally asked line); asked = None }
-
-  second-settles : (tally : Tally) (asked : Asked) (line : List ℕ) (much : Bool) (reply : List ℕ) (mid : Checking)
-      → is_too_much tally line ≡ much → settles (second_answer tally asked line) ≡ Ok (reply, mid) → Settling tally asked line reply mid
-  second-settles tally asked line true reply mid flag h = absurd (no_answer Much reply mid (rw flag at h))
-  second-settles tally asked line false reply mid flag h =
-      record { told = same_reply reply _ mid _ (rw flag at h); next = sym (same_next reply _ mid _ (rw flag at h)) }
+  settled : (tally after : Tally) (line said reply : List ℕ) (mid : Checking)
+      → settles (if is_too_much tally line then Err Much else Ok (said, after)) ≡ Ok (reply, mid)
+      → (reply ≡ said) × (mid ≡ record { tally = after; asked = None })
+  settled tally after line said reply mid h = grind (arith, nat_tests)
 
   unforged : (asked : Asked) (line : List ℕ) → IsFormed asked → WasTagged inner requests key (record { asked = asked; output = line })
       → verified key asked.position asked.request line ≡ Ok tt → IsUnforged inner requests key asked.position asked.request line
@@ -201,7 +165,7 @@ module _ (inner : Meaning) (requests : List (List ℕ)) (counted : AllByRecursio
       record { plain = sym (ap (λ (t : Told Checking). t.written) ran); right = tt }
   honest-from (line ∷ lines) number tally None written next s ran genuine =
       let step = first_answered receipts_answer number (record { tally = tally; asked = None }) line lines written next ran in
-      let w = first-waits tally line (pair_at line) (is_too_much tally line) step.reply.0 step.reply.1 refl refl step.replied in
+      let w = first-waits tally line (pair_at line) step.reply.0 step.reply.1 refl step.replied in
       let mid : record { tally = step.reply.1.tally; asked = pair_at line } ≡ step.reply.1 = ap
       (λ (a : Option Asked). record { tally = step.reply.1.tally; asked = a }) (sym w.asked) in
       let stands : Stands step.reply.1.tally (pair_at line) = record {
@@ -214,7 +178,9 @@ module _ (inner : Meaning) (requests : List (List ℕ)) (counted : AllByRecursio
       record { plain = step.whole ∙ ap (λ (l : List ℕ). l ++ step.more) w.silent ∙ rest.plain; right = rest.right }
   honest-from (line ∷ lines) number tally (Some asked) written next s ran genuine =
       let step = first_answered receipts_answer number (record { tally = tally; asked = Some asked }) line lines written next ran in
-      let w = second-settles tally asked line (is_too_much tally line) step.reply.0 step.reply.1 refl step.replied in
+      let verdict = pair_verdict tally asked line in
+      let w = settled tally (after_pair tally asked line verdict) line (verdict_text asked.position verdict) step.reply.0 step.reply.1
+      step.replied in
       let answer = verified key asked.position asked.request line in
       let new : answer ≡ Ok tt → IsUnforged inner requests key asked.position asked.request line = unforged asked line s.formed genuine.0 in
       let plain : pair_verdict tally asked line ≡ receipt_verdict answer None asked.request line =
@@ -230,10 +196,10 @@ module _ (inner : Meaning) (requests : List (List ℕ)) (counted : AllByRecursio
         formed = tt;
       } in
       let rest = honest-from lines (number + 1) after None step.more next stands
-      (ap (λ (c : Checking). run receipts_answer (number + 1) c lines) (sym w.next) ∙ step.ran) genuine.1 in
+      (ap (λ (c : Checking). run receipts_answer (number + 1) c lines) (sym w.1) ∙ step.ran) genuine.1 in
       record {
         plain =
-            step.whole ∙ ap (λ (l : List ℕ). l ++ step.more) (w.told ∙ ap (λ (v : Verdict). verdict_text asked.position v) plain
+            step.whole ∙ ap (λ (l : List ℕ). l ++ step.more) (w.0 ∙ ap (λ (v : Verdict). verdict_text asked.position v) plain
             ∙ alone-text asked.position asked.request line answer)
             ∙ ap (λ (l : List ℕ). alone key (record { asked = asked; output = line }) ++ l) rest.plain;
         right = (true-pair asked line s.formed genuine.0, rest.right);

@@ -92,58 +92,31 @@ verdict_text number Good = codes "good " ++ decimal number ++ 10 ∷ []
 
 -- a pair and its second line are counted
 abbrev pub counted_in : Tally → List ℕ → Tally
-counted_in tally line = record {
-  key = tally.key;
-  known = tally.known;
-  good = tally.good;
-  pairs = tally.pairs + 1;
-  read = tally.read + length line;
-}
+counted_in tally line =
+    record tally { pairs = tally.pairs + 1; read = tally.read + length line }
 
 -- a good pair is remembered
 abbrev pub remembered : Tally → Asked → List ℕ → Tally
-remembered tally asked output = record {
-  key = tally.key;
+remembered tally asked output = record tally {
   known =
       insert_entry nat_cmp tally.known asked.position
       (record { request = asked.request; output = output });
-  good = tally.good;
-  pairs = tally.pairs;
-  read = tally.read;
 }
 
 abbrev pub one_more_good : Tally → Tally
-one_more_good tally =
-    record {
-      key = tally.key;
-      known = tally.known;
-      good = tally.good + 1;
-      pairs = tally.pairs;
-      read = tally.read;
-    }
+one_more_good tally = record tally { good = tally.good + 1 }
 
 -- after a pair with this verdict
 abbrev pub after_pair : Tally → Asked → List ℕ → Verdict → Tally
 after_pair tally asked output Good =
     one_more_good (remembered (counted_in tally output) asked output)
-after_pair tally asked output NoForm = counted_in tally output
-after_pair tally asked output NoTag = counted_in tally output
-after_pair tally asked output Clash = counted_in tally output
+after_pair tally asked output _ = counted_in tally output
 
 abbrev pub first_by : Tally → List ℕ → Option Asked → Result (Asked × Tally) Refused
 first_by tally line None = Err Bad
 first_by tally line (Some asked) =
     if is_too_much tally line then Err Much
-    else Ok (
-      asked,
-      record {
-        key = tally.key;
-        known = tally.known;
-        good = tally.good;
-        pairs = tally.pairs;
-        read = tally.read + length line;
-      },
-    )
+    else Ok (asked, record tally { read = tally.read + length line })
 
 -- the first line of a pair, which is answered nothing
 abbrev pub first_answer : Tally → List ℕ → Result (Asked × Tally) Refused

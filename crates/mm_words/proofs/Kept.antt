@@ -1,9 +1,9 @@
 -- No word of a command but `--help` is refused before the parse.
-use Rattle.mm_words.proofs.Below.{◌≡◌, ◌∙◌, ◌<◌, ◌≤◌, ◌^◌, ℕ, true, false, List, [], ◌∷◌, length, refl, sym, subst, arith, codes, Some}
+use Rattle.mm_words.proofs.Below.{◌≡◌, ◌∙◌, ◌<◌, ◌≤◌, ◌^◌, ℕ, true, false, List, [], ◌∷◌, length, refl, sym, arith, codes, Some}
 use Rattle.mm_words.proofs.Below.{None, Result, Ok, Err, ◌==◌, decimal, AllPass, list_any, all_ascii_digits, bytes_eq, nat_tests}
 use Rattle.mm_words.proofs.Below.{decode_of-ok, decode_sized-ok, decode_sized-twice, Variant, Basic, Opt, AnyModule, name_of, any_is_listed}
 use Rattle.mm_words.proofs.Below.{variant_text, Header, IsGenerated, SpellsCommand, generated_words, header_words, IsMatched, is_refused}
-use Rattle.mm_words.proofs.Below.{Command, Init, Run, Checkpoint, Power, Replay, Check, Gen, Bulk, Slots, Receipts, Transfer, Help}
+use Rattle.mm_words.proofs.Below.{Command, Init, Gen, Bulk, Receipts, Help}
 use Rattle.mm_words.proofs.Below.{Generated}
 use Rattle.std.specs.Char.{is_ascii_digit}
 use Rattle.std.specs.Result.{result_ok}
@@ -83,9 +83,6 @@ pub record AreKept (words : List (List ℕ)) : Type 0 where
   pub few : length words ≤ 5
   pub kept : list_any is_refused words ≡ false
 
-alone_kept : (word : List ℕ) → is_refused word ≡ false → AreKept (word ∷ [])
-alone_kept word first = record { few = omega arith; kept = rw first refl }
-
 generated_kept : (word : List ℕ) (it : Generated) → is_refused word ≡ false → IsGenerated it → AreKept (word ∷ generated_words it)
 generated_kept word it first allowed = record {
   few = omega arith;
@@ -104,20 +101,10 @@ header_kept header = record { few = omega arith; kept = rw (variant_kept header.
 receipts_kept : (digits key : List ℕ) → value_at digits ≡ Some key → AreKept (codes "receipts" ∷ digits ∷ [])
 receipts_kept digits key gives = record { few = omega arith; kept = rw (key_kept digits key gives) refl }
 
-kept_as : (words others : List (List ℕ)) → words ≡ others → AreKept others → AreKept words
-kept_as words others same kept = let P : List (List ℕ) → Type 0 = λ w. AreKept w in subst P (sym same) kept
-
 pub are_kept : (command : Command) (words : List (List ℕ)) → SpellsCommand command words → IsMatched command → AreKept words
-are_kept (Init header) words spells matched = kept_as words _ spells.spelled (header_kept header)
-are_kept Run words spells matched = kept_as words _ spells.spelled (alone_kept (codes "run") refl)
-are_kept Checkpoint words spells matched = kept_as words _ spells.spelled (alone_kept (codes "checkpoint") refl)
-are_kept Power words spells matched = kept_as words _ spells.spelled (alone_kept (codes "power") refl)
-are_kept Replay words spells matched = kept_as words _ spells.spelled (alone_kept (codes "replay") refl)
-are_kept Check words spells matched = kept_as words _ spells.spelled (alone_kept (codes "check") refl)
-are_kept (Gen it) words spells matched = kept_as words _ spells.spelled (generated_kept (codes "gen") it refl spells.allowed)
-are_kept (Bulk it) words spells matched = kept_as words _ spells.spelled (generated_kept (codes "bulk") it refl spells.allowed)
-are_kept Slots words spells matched = kept_as words _ spells.spelled (alone_kept (codes "slots") refl)
-are_kept (Receipts key) words spells matched =
-    let given = spells.spelled in kept_as words _ given.2 (receipts_kept given.0 key given.1)
-are_kept Transfer words spells matched = kept_as words _ spells.spelled (alone_kept (codes "transfer") refl)
+are_kept (Init header) words spells matched = rw spells.spelled (header_kept header)
+are_kept (Gen it) words spells matched = rw spells.spelled (generated_kept (codes "gen") it refl spells.allowed)
+are_kept (Bulk it) words spells matched = rw spells.spelled (generated_kept (codes "bulk") it refl spells.allowed)
+are_kept (Receipts key) words spells matched = let given = spells.spelled in rw given.2 (receipts_kept given.0 key given.1)
 are_kept Help words spells matched = absurd matched
+are_kept command words spells matched = rw spells.spelled (record { few = omega arith; kept = refl })

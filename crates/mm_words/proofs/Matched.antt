@@ -1,14 +1,15 @@
 -- The words of a command are taken, and what is matched is the command's.
-use Rattle.mm_words.proofs.Below.{◌≡◌, ◌≤◌, ◌∙◌, ℕ, true, false, List, [], ◌∷◌, refl, sym, ap, subst, arith, codes, Option, Some, nat_lt}
+use Rattle.mm_words.proofs.Below.{◌≡◌, ◌≤◌, ◌∙◌, ℕ, true, false, List, [], ◌∷◌, refl, sym, ap, arith, codes, Option, Some, nat_lt}
 use Rattle.mm_words.proofs.Below.{option_map, decimal, option_map_or, nat_tests, subcommand_of, takes, Text, first_of, rows_of}
 use Rattle.mm_words.proofs.Below.{first_value-rows, read_by_spelling, most_events, Variant, Basic, Opt, value_at, AnyModule, module_named}
 use Rattle.mm_words.proofs.Below.{name_of, any_is_found, variant_text, variant_at, Header, the_app, IsGenerated, SpellsCommand}
-use Rattle.mm_words.proofs.Below.{generated_words, header_words, IsMatched, Command, Init, Run, Checkpoint, Power, Replay, Check, Gen, Bulk}
-use Rattle.mm_words.proofs.Below.{Slots, Receipts, Transfer, Help, Generated}
+use Rattle.mm_words.proofs.Below.{generated_words, header_words, IsMatched, Command, Init, Gen, Bulk}
+use Rattle.mm_words.proofs.Below.{Receipts, Help, Generated}
 use Rattle.clap.specs.declared.parser.matches.Found.{Found}
+use Rattle.clap.proofs.OnLiterals.{clap_on_literals}
 use Rattle.mm_words.specs.Forms.{command_in, generated_in, header_in, key_found}
-use Rattle.mm_words.proofs.Kept.{IsPlainWord, key_kept, name_kept, number_kept, plain_word, variant_kept}
-use Rattle.mm_words.proofs.Taken.{AreGeneratedTaken, Given, IsTaken, alone, bulk_taken, check_taken, checkpoint_taken, gen_taken, generating, given_in, init_taken, power_taken, receipts_taken, replay_taken, run_taken, slots_taken, transfer_taken, with_header, with_key}
+use Rattle.mm_words.proofs.Kept.{key_kept, name_kept, number_kept, plain_word, variant_kept}
+use Rattle.mm_words.proofs.Taken.{AreGeneratedTaken, Given, IsTaken, alone, generated_taken, generating, given_in, init_taken, receipts_taken, with_header, with_key}
 
 pub variant-read : (variant : Variant) → variant_at (variant_text variant) ≡ Some variant
 variant-read Basic = refl
@@ -34,51 +35,30 @@ header_again header found variant named =
     ) refl
 
 -- the words of a generated schedule, read
-generated_again : (it : Generated) (found : Found) → IsGenerated it → first_of (codes "NUMBER") (rows_of found) ≡ Some (decimal it.number)
-    → first_of (codes "COUNT") (rows_of found) ≡ Some (decimal it.count) → header_in found ≡ Some it.header → generated_in found ≡ Some it
-unfolding generated_in
-generated_again it found allowed number count header =
-    let few : it.count ≤ most_events = allowed.count in
-    let test : nat_lt most_events it.count ≡ false = grind (arith, nat_tests) in
-    rw (
-      first_value-rows found (codes "NUMBER") ∙ number,
-      first_value-rows found (codes "COUNT") ∙ count,
-      read_by_spelling (decimal it.number) it.number allowed.number refl,
-      read_by_spelling (decimal it.count) it.count (omega arith) refl,
-      test,
-      header,
-    ) refl
-
--- a key, read
-key_again : (digits key : List ℕ) (found : Found) → first_of (codes "KEY") (rows_of found) ≡ Some digits → value_at digits ≡ Some key
-    → key_found found ≡ Some key
-unfolding key_found
-key_again digits key found is gives = rw (first_value-rows found (codes "KEY") ∙ is, gives) refl
-
-given_header : (name : List ℕ) (header : Header) (it : Text) (found : Found)
-    → given_by it found ≡ with_header name (variant_text header.variant) (name_of header.module)
-    → (it ≡ name) × (header_in found ≡ Some header)
-given_header name header it found is = (
-  ap (λ (g : Given). g.name) is,
-  header_again header found (ap (λ (g : Given). g.variant) is) (ap (λ (g : Given). g.module_named) is),
-)
-
 given_generated : (name : List ℕ) (it : Generated) (given_name : Text) (found : Found) → IsGenerated it
     → given_by given_name found ≡ generating name (decimal it.number) (decimal it.count) (variant_text it.header.variant)
     (name_of it.header.module)
     → (given_name ≡ name) × (generated_in found ≡ Some it)
-given_generated name it given_name found allowed is = (
-  ap (λ (g : Given). g.name) is,
-  generated_again it found allowed (ap (λ (g : Given). g.number) is) (ap (λ (g : Given). g.count) is)
-      (header_again it.header found (ap (λ (g : Given). g.variant) is) (ap (λ (g : Given). g.module_named) is)),
-)
+unfolding generated_in
+given_generated name it given_name found allowed is =
+    let few : it.count ≤ most_events = allowed.count in
+    let test : nat_lt most_events it.count ≡ false = grind (arith, nat_tests) in (
+      ap (λ (g : Given). g.name) is,
+      rw (
+        first_value-rows found (codes "NUMBER") ∙ ap (λ (g : Given). g.number) is,
+        first_value-rows found (codes "COUNT") ∙ ap (λ (g : Given). g.count) is,
+        read_by_spelling (decimal it.number) it.number allowed.number refl,
+        read_by_spelling (decimal it.count) it.count (omega arith) refl,
+        test,
+        header_again it.header found (ap (λ (g : Given). g.variant) is) (ap (λ (g : Given). g.module_named) is),
+      ) refl,
+    )
 
-given_key : (name digits key : List ℕ) (it : Text) (found : Found) → value_at digits ≡ Some key
-    → given_by it found ≡ with_key name digits → (it ≡ name) × (key_found found ≡ Some key)
-given_key name digits key it found gives is = (
-  ap (λ (g : Given). g.name) is,
-  key_again digits key found (ap (λ (g : Given). g.key) is) gives,
-)
+-- a key, read
+given_key : (digits key : List ℕ) (it : Text) (found : Found) → value_at digits ≡ Some key
+    → given_by it found ≡ with_key (codes "receipts") digits → key_found found ≡ Some key
+unfolding key_found
+given_key digits key it found gives is = rw (first_value-rows found (codes "KEY") ∙ ap (λ (g : Given). g.key) is, gives) refl
 
 -- the words are taken, and what is given is the command
 pub record Brings (command : Command) (words : List (List ℕ)) : Type 0 where
@@ -94,7 +74,10 @@ init_brings header =
     record {
       given = with_header (codes "init") (variant_text header.variant) (name_of header.module);
       is = init_taken (variant_text header.variant) (name_of header.module) variant named;
-      matched = λ name found same. let read = given_header (codes "init") header name found same in rw (read.0, read.1) refl;
+      matched = λ name found same. rw (
+        ap (λ (g : Given). g.name) same,
+        header_again header found (ap (λ (g : Given). g.variant) same) (ap (λ (g : Given). g.module_named) same),
+      ) refl;
     }
 
 -- a command of one word
@@ -107,67 +90,52 @@ alone_brings command name taken is = record {
   matched = λ other found same. ap (λ (n : Text). command_in n found) (ap (λ (g : Given). g.name) same) ∙ is found;
 }
 
-number_plain : (it : Generated) → IsGenerated it → IsPlainWord (decimal it.number)
-number_plain it allowed = plain_word (decimal it.number) (number_kept it.number allowed.number)
-
-count_plain : (it : Generated) → IsGenerated it → IsPlainWord (decimal it.count)
-count_plain it allowed = plain_word (decimal it.count) (number_kept it.count (omega (arith, allowed.count)))
-
-variant_plain : (it : Generated) → IsPlainWord (variant_text it.header.variant)
-variant_plain it = plain_word (variant_text it.header.variant) (variant_kept it.header.variant)
-
-name_plain : (it : Generated) → IsPlainWord (name_of it.header.module)
-name_plain it = plain_word (name_of it.header.module) (name_kept it.header.module)
-
 -- a command on a schedule that is made from a number
-generated_brings : (command : Command) (name : Text) (it : Generated) → IsGenerated it → AreGeneratedTaken name
+generated_brings : (command : Command) (name : Text) (it : Generated) → IsGenerated it
+    → IsTaken (name ∷ generated_words it)
+    (generating name (decimal it.number) (decimal it.count) (variant_text it.header.variant) (name_of it.header.module))
     → ((found : Found) → generated_in found ≡ Some it → command_in name found ≡ Some command)
     → Brings command (name ∷ generated_words it)
 generated_brings command name it allowed taken is = record {
   given = generating name (decimal it.number) (decimal it.count) (variant_text it.header.variant) (name_of it.header.module);
-  is = taken (decimal it.number) (decimal it.count) (variant_text it.header.variant) (name_of it.header.module)
-      (number_plain it allowed) (count_plain it allowed) (variant_plain it) (name_plain it);
+  is = taken;
   matched = λ other found same.
       let read = given_generated name it other found allowed same in
       ap (λ (n : Text). command_in n found) read.0 ∙ is found read.1;
 }
+
+both_taken : (it : Generated) → IsGenerated it
+    → AreGeneratedTaken (decimal it.number) (decimal it.count) (variant_text it.header.variant) (name_of it.header.module) (codes "gen")
+    × AreGeneratedTaken (decimal it.number) (decimal it.count) (variant_text it.header.variant) (name_of it.header.module) (codes "bulk")
+both_taken it allowed =
+    generated_taken (decimal it.number) (decimal it.count) (variant_text it.header.variant) (name_of it.header.module)
+    (plain_word _ (number_kept it.number allowed.number)) (plain_word _ (number_kept it.count (omega (arith, allowed.count))))
+    (plain_word _ (variant_kept it.header.variant)) (plain_word _ (name_kept it.header.module))
 
 receipts_brings : (digits key : List ℕ) → value_at digits ≡ Some key → Brings (Receipts key) (codes "receipts" ∷ digits ∷ [])
 unfolding command_in
 receipts_brings digits key gives = record {
   given = with_key (codes "receipts") digits;
   is = receipts_taken digits (plain_word digits (key_kept digits key gives));
-  matched = λ name found same. let read = given_key (codes "receipts") digits key name found gives same in rw (read.0, read.1) refl;
+  matched = λ name found same. rw (ap (λ (g : Given). g.name) same, given_key digits key name found gives same) refl;
 }
 
-brings_as : (command : Command) (words others : List (List ℕ)) → words ≡ others → Brings command others → Brings command words
-brings_as command words others same brings = let P : List (List ℕ) → Type 0 = λ w. Brings command w in subst P (sym same) brings
-
 pub brings : (command : Command) (words : List (List ℕ)) → SpellsCommand command words → IsMatched command → Brings command words
-unfolding command_in
-brings (Init header) words spells matched = brings_as (Init header) words _ spells.spelled (init_brings header)
-brings Run words spells matched = brings_as Run words _ spells.spelled (alone_brings Run (codes "run") run_taken (λ found. refl))
-brings Checkpoint words spells matched =
-    brings_as Checkpoint words _ spells.spelled (alone_brings Checkpoint (codes "checkpoint") checkpoint_taken (λ found. refl))
-brings Power words spells matched = brings_as Power words _ spells.spelled (alone_brings Power (codes "power") power_taken (λ found. refl))
-brings Replay words spells matched =
-    brings_as Replay words _ spells.spelled (alone_brings Replay (codes "replay") replay_taken (λ found. refl))
-brings Check words spells matched = brings_as Check words _ spells.spelled (alone_brings Check (codes "check") check_taken (λ found. refl))
+unfolding command_in clap_on_literals
+brings (Init header) words spells matched = rw spells.spelled (init_brings header)
 brings (Gen it) words spells matched =
-    brings_as (Gen it) words _ spells.spelled
-    (generated_brings (Gen it) (codes "gen") it spells.allowed gen_taken (λ found read. rw read refl))
+    rw spells.spelled
+    (generated_brings (Gen it) (codes "gen") it spells.allowed (both_taken it spells.allowed).0 (λ found read. rw read refl))
 brings (Bulk it) words spells matched =
-    brings_as (Bulk it) words _ spells.spelled
-    (generated_brings (Bulk it) (codes "bulk") it spells.allowed bulk_taken (λ found read. rw read refl))
-brings Slots words spells matched = brings_as Slots words _ spells.spelled (alone_brings Slots (codes "slots") slots_taken (λ found. refl))
+    rw spells.spelled
+    (generated_brings (Bulk it) (codes "bulk") it spells.allowed (both_taken it spells.allowed).1 (λ found read. rw read refl))
 brings (Receipts key) words spells matched =
-    let given = spells.spelled in brings_as (Receipts key) words _ given.2 (receipts_brings given.0 key given.1)
-brings Transfer words spells matched =
-    brings_as Transfer words _ spells.spelled (alone_brings Transfer (codes "transfer") transfer_taken (λ found. refl))
+    let given = spells.spelled in rw given.2 (receipts_brings given.0 key given.1)
 brings Help words spells matched = absurd matched
+brings command words spells matched = rw spells.spelled (alone_brings command _ (refl, refl) (λ found. refl))
 
 pub is_taken : (command : Command) (words : List (List ℕ)) → SpellsCommand command words → IsMatched command → takes the_app words ≡ true
-is_taken command words spells matched = (brings command words spells matched).is.taken
+is_taken command words spells matched = (brings command words spells matched).is.0
 
 same_given : (one other : Given) → Some one ≡ Some other → one ≡ other
 same_given one other is = ap (λ (o : Option Given). option_map_or (λ (g : Given). g) o one) is
@@ -177,4 +145,4 @@ pub is_matched : (command : Command) (words : List (List ℕ)) (name : Text) (fo
     → subcommand_of the_app words ≡ Some (name, rows_of found) → command_in name found ≡ Some command
 is_matched command words name found spells matched is =
     let it = brings command words spells matched in
-    it.matched name found (same_given (given_by name found) it.given (sym (ap (option_map given_in) is) ∙ it.is.met))
+    it.matched name found (same_given (given_by name found) it.given (sym (ap (option_map given_in) is) ∙ it.is.1))

@@ -51,17 +51,10 @@ generated-again it allowed =
 
 command-again : (command : Command) (words : List (List ℕ)) → SpellsCommand command words → command_by words ≡ Some command
 command-again (Init header) words spells = ap command_by spells.spelled ∙ rw (header-again header) refl
-command-again Run words spells = ap command_by spells.spelled
-command-again Checkpoint words spells = ap command_by spells.spelled
-command-again Power words spells = ap command_by spells.spelled
-command-again Replay words spells = ap command_by spells.spelled
-command-again Check words spells = ap command_by spells.spelled
 command-again (Gen it) words spells = ap command_by spells.spelled ∙ rw (generated-again it spells.allowed) refl
 command-again (Bulk it) words spells = ap command_by spells.spelled ∙ rw (generated-again it spells.allowed) refl
-command-again Slots words spells = ap command_by spells.spelled
 command-again (Receipts key) words spells = let given = spells.spelled in ap command_by given.2 ∙ rw given.1 refl
-command-again Transfer words spells = ap command_by spells.spelled
-command-again Help words spells = ap command_by spells.spelled
+command-again command words spells = ap command_by spells.spelled
 
 pub one_command : (words : List (List ℕ)) (command other : Command) → SpellsCommand command words → SpellsCommand other words
     → command ≡ other

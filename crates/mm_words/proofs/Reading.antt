@@ -2,7 +2,7 @@
 use Rattle.mm_words.proofs.Below.{◌≡◌, ◌<◌, ◌≤◌, ◌∙◌, ℕ, Bool, true, false, List, [], ◌∷◌, length, get_or, refl, sym, ap, subst, arith}
 use Rattle.mm_words.proofs.Below.{codes, Option, Some, None, IsTrue, ◌↔◌, option_map, map, ◌||◌, Bor, list_any, option_map_or, bytes_eq}
 use Rattle.mm_words.proofs.Below.{bytes_eq-Decides, Row, Text, value_at, AreReceiptsWords, AreWordsOf, SpellsCommand, IsMatched, is_refused}
-use Rattle.mm_words.proofs.Below.{Command, Init, Run, Checkpoint, Power, Replay, Check, Gen, Bulk, Slots, Receipts, Transfer, Help}
+use Rattle.mm_words.proofs.Below.{Command, Help}
 use Rattle.std.specs.Cmp.Lexicographic.{pointwise, pointwise_decides}
 use Rattle.std.proofs.lemmas.List.{length-map}
 use Rattle.mm_words.proofs.Kept.{are_kept}
@@ -56,18 +56,8 @@ other_words words others is same =
 -- where `--help` doesn't stand alone the command has a subcommand
 pub no_help : (words : List (List ℕ)) (command : Command) → SpellsCommand command words
     → pointwise bytes_eq words (codes "--help" ∷ []) ≡ false → IsMatched command
-no_help words (Init header) spells is = tt
-no_help words Run spells is = tt
-no_help words Checkpoint spells is = tt
-no_help words Power spells is = tt
-no_help words Replay spells is = tt
-no_help words Check spells is = tt
-no_help words (Gen it) spells is = tt
-no_help words (Bulk it) spells is = tt
-no_help words Slots spells is = tt
-no_help words (Receipts key) spells is = tt
-no_help words Transfer spells is = tt
 no_help words Help spells is = other_words words (codes "--help" ∷ []) is spells.spelled
+no_help words command spells is = tt
 
 -- words that are refused spell none
 pub too_many : (words : List (Bor (List ℕ))) (command : Command) → SpellsCommand command (map (λ (word : Bor (List ℕ)). word.now) words)
