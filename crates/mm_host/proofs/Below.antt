@@ -2,11 +2,11 @@
 pub use Rattle.std.specs.Io.KnownBytes.{Consumes, IsAtEnd}
 pub use Rattle.std.specs.List.{Contains, list_any}
 pub use Rattle.std.specs.Option.{option_map}
-pub use Rattle.std.specs.Prelude.{◌⊎◌, if◌then◌else◌, IsSome, nat_eq, nat_le, nat_lt}
+pub use Rattle.std.specs.Prelude.{◌⊎◌, if◌then◌else◌, IfSome, nat_eq, nat_le, nat_lt}
 pub use Rattle.std.specs.Str.{bytes_eq}
-pub use Rattle.std.proofs.Common.{◌%◌, ◌&&◌, ◌++◌, ◌+◌, ◌-◌, ◌<◌, ◌||◌, ◌∙◌, ◌∷◌, ◌≡◌, ◌≢◌, ◌≤◌, [], ap, arith, Bool, drop, Err, false}
-pub use Rattle.std.proofs.Common.{IfOk, inl, inr, length, length-append, length-drop, length-take, List, map, None, Ok, Option, refl}
-pub use Rattle.std.proofs.Common.{Result, rules, Some, subst, suc, sym, take, true, zero, ℕ}
+pub use Rattle.std.proofs.Common.{◌%◌, ◌&&◌, ◌++◌, ◌+◌, ◌-◌, ◌<◌, ◌∙◌, ◌∷◌, ◌≡◌, ◌≢◌, ◌≤◌, [], ap, arith, Bool, drop, Err, false, IfOk, inl}
+pub use Rattle.std.proofs.Common.{inr, length, length-append, length-drop, length-take, List, map, None, Ok, Option, refl, Result, rules}
+pub use Rattle.std.proofs.Common.{Some, subst, suc, sym, take, true, zero, ℕ}
 pub use Rattle.std.proofs.Math.Seq.{take-add, take-nil}
 pub use Rattle.std.proofs.lemmas.Bool.Decides.{nat_tests}
 pub use Rattle.std.proofs.lemmas.List.{take_all}
@@ -14,7 +14,7 @@ pub use Rattle.sha2.proofs.Facts256.{length-sha256}
 pub use Rattle.mm_base.specs.Faults.{counted, Rose}
 pub use Rattle.mm_base.specs.Limits.{last_position, longest_request}
 pub use Rattle.mm_base.proofs.Above.{Consumes-both}
-pub use Rattle.mm_digest.specs.LengthLaws.{length-start_of, length-zero_bytes}
+pub use Rattle.mm_digest.specs.LengthLaws.{length-zero_bytes}
 pub use Rattle.mm_digest.specs.Messages.{start_message}
 pub use Rattle.mm_digest.specs.declared.variant.Variant.{Variant}
 pub use Rattle.mm_digest.specs.declared.variant.Variant.TheVariants.{Basic, Opt}
@@ -25,12 +25,12 @@ pub use Rattle.mm_platform.specs.Standing.{Item, item_values, register_after as 
 pub use Rattle.mm_platform.specs.Steps.{cell_after, EndsBy, WriteCell}
 pub use Rattle.mm_platform.specs.declared.fault.StepFault.{StepFault}
 pub use Rattle.mm_module.specs.Batch.{Batch, One, size_of}
-pub use Rattle.mm_module.specs.Meaning.{IsLawful, Meaning, state_after}
+pub use Rattle.mm_module.specs.Meaning.{IsLawful, Meaning}
 pub use Rattle.mm_model.specs.BatchLaws.{before_the_last, total-push}
 pub use Rattle.mm_model.specs.Chains.{guard, register_of}
 pub use Rattle.mm_model.specs.Fit.{IsFit}
-pub use Rattle.mm_model.specs.History.{Close, Commit, committed, Entry, first_history, Foreign, History, joined, Move, moved, Own, Placed}
-pub use Rattle.mm_model.specs.History.{Power, renamed, requests_of, Reset, total_of, Value}
+pub use Rattle.mm_model.specs.History.{Commit, committed, Entry, first_history, Foreign, History, joined, Move, moved, Own, Placed, renamed}
+pub use Rattle.mm_model.specs.History.{requests_of, Reset, total_of, Value}
 pub use Rattle.mm_model.specs.Instance.{Instance}
 pub use Rattle.mm_model.specs.InstanceWords.{basic, opt}
 pub use Rattle.mm_model.specs.Life.{are_own, has_value, is_empty, is_lost, Life, life_by, life_of, Live, Lost as LostLife, Spoiled}
@@ -39,43 +39,41 @@ pub use Rattle.mm_model.specs.Moves.{digests_of, IsAllowed}
 pub use Rattle.mm_model.specs.Places.{issued, issued_place, Names}
 pub use Rattle.mm_model.specs.Sound.{IsSound}
 pub use Rattle.mm_model.specs.Standing.{cell_of, IsGenuine, IsRight, issued_bytes, StandsFor}
-pub use Rattle.mm_model.specs.Steps.{ask_steps, Reads, Step}
+pub use Rattle.mm_model.specs.Steps.{ask_steps, Reads}
 pub use Rattle.mm_model.specs.declared.answer.Answer.{Answer}
 pub use Rattle.mm_model.specs.declared.answer.BatchAnswer.{BatchAnswer}
 pub use Rattle.mm_model.specs.declared.refusal.Refusal.{Refusal}
-pub use Rattle.mm_model.specs.declared.refusal.Refusal.TheVariants.{Blank, Cell as OtherCell, Device, Form, Full, Kind, Long, Lost, Memory}
-pub use Rattle.mm_model.specs.declared.refusal.Refusal.TheVariants.{Stale, State, Tag}
+pub use Rattle.mm_model.specs.declared.refusal.Refusal.TheVariants.{Device, Long, Lost, Memory}
 pub use Rattle.mm_model.specs.declared.verdict.Verdict.{Verdict}
-pub use Rattle.mm_model.proofs.Above.{basic_issued, basic_names, opt_issued, opt_names, sound_moved}
+pub use Rattle.mm_model.proofs.Above.{basic_issued, basic_names, opt_issued, opt_names}
 pub use Rattle.mm_call.specs.Asked.{IsAsked, IsWithin}
-pub use Rattle.mm_call.specs.Called.{called, ended_by, given_for}
-pub use Rattle.mm_call.specs.Calls.{Asks, breaks_off, EndsTo, goes_on}
-pub use Rattle.mm_call.specs.CallsOn.{CallsOn}
-pub use Rattle.mm_call.specs.Coming.{Comes, EndsWith, grown, kept}
-pub use Rattle.mm_call.specs.Courses.{closes, commits, Course, Fate, walk, Walked}
+pub use Rattle.mm_call.specs.Called.{called, ended_by, given_for, reading_steps, seen_at}
+pub use Rattle.mm_call.specs.Calls.{breaks_off, EndsTo, goes_on}
+pub use Rattle.mm_call.specs.CallsOn.{CallContinues, CallsOn}
+pub use Rattle.mm_call.specs.Coming.{Comes, grown, kept}
+pub use Rattle.mm_call.specs.Courses.{after_step, commits, Course, Done, End, Fails, Fate, seen_in, walk, Walked}
 pub use Rattle.mm_call.specs.Ended.{result_of}
 pub use Rattle.mm_call.specs.Found.{Found, found_at, found_by_verdict}
 pub use Rattle.mm_call.specs.FoundWords.{found_unless_wanting, found_with, is_fresh}
 pub use Rattle.mm_call.specs.Leaving.{Blames, whole, whole_in}
 pub use Rattle.mm_call.specs.Levels.{all_made, by_digests, by_lists}
-pub use Rattle.mm_call.specs.MoveLaws.{anchor-nil, same_batches, summary-nil}
-pub use Rattle.mm_call.specs.OfferLaws.{one_content, opt_content}
+pub use Rattle.mm_call.specs.MoveLaws.{same_batches}
+pub use Rattle.mm_call.specs.OfferLaws.{basic_content, one_content, opt_content}
 pub use Rattle.mm_call.specs.Order.{admitted, examined}
 pub use Rattle.mm_call.specs.OrderWords.{weighed}
 pub use Rattle.mm_call.specs.Premises.{AreAsked, AreShown, IsIdle}
 pub use Rattle.mm_call.specs.Refusals.{fault_in, fault_of, OrMemory}
 pub use Rattle.mm_call.specs.Standing.{counted_by, instance_by}
-pub use Rattle.mm_call.specs.WalkLaws.{asks, basic_commits, batch, changing, Commits, foreign_first, foreign_made, nothing, opt_commits}
-pub use Rattle.mm_call.specs.WalkLaws.{taking}
+pub use Rattle.mm_call.specs.WalkLaws.{finished, seen_none}
 pub use Rattle.mm_call.specs.declared.ended.Ended.{Ended}
 pub use Rattle.mm_call.specs.declared.ended.Ended.TheVariants.{Answered, Broken, Refused}
-pub use Rattle.mm_call.proofs.Above.{Alike, alike_of, AllMay, answered_only, ask_may, asked_for, asked_idle, bare, basic_asked, basic_comes}
-pub use Rattle.mm_call.proofs.Above.{before, before as seen_before, Given, grown_by, live_found, names_made, opt_comes as comes, path_is}
-pub use Rattle.mm_call.proofs.Above.{refused_result, sight_is, stands_at, steps_give, unlacked}
+pub use Rattle.mm_call.proofs.Above.{Alike, alike_call, AllMay, answered_clean_as, ask_may, asked_for, asked_idle, bare, basic_asked}
+pub use Rattle.mm_call.proofs.Above.{basic_comes, before, ends_result, Given, grown_by, names_after, names_made, opt_comes as comes}
+pub use Rattle.mm_call.proofs.Above.{refused_result, stands_at, steps_give}
 pub use Rattle.mm_call.proofs.OptAlike.{still}
 pub use Rattle.mm_basic.specs.Asks.{acts_for, answer_in, basic_call, StepsAnswered as BasicAnswered, StepsBy as BasicSteps}
 pub use Rattle.mm_basic.specs.Asks.{StepsRefused as BasicRefused}
-pub use Rattle.mm_opt.specs.Asks.{opt_call, ReadsOn, StepsAnswered, StepsBy, StepsFrom, StepsRefused, WritesAtMostOnce}
+pub use Rattle.mm_opt.specs.Asks.{opt_call, ReadsOn, StepsAnswered, StepsBy, StepsFrom, WritesAtMostOnce}
 pub use Rattle.mm_opt.proofs.Above.{IsShaped, reads_shaped}
 pub use Rattle.mm_flight.proofs.Above.{begun_may_ask}
 pub use Rattle.mm_store.specs.Calls.{CountsFailures, putting, ReadsSlot, WritesSlot}

@@ -1,22 +1,12 @@
 pub mod Above
 mod Below
 mod Askable
-mod RefusalTold
-mod Blaming
 mod Slots
-mod Awaited
 mod Refusing
+mod Meeting
 mod Recovering
-mod Taking
-mod First
 mod SettingUp
-mod OptMoves
-mod BothRecovering
-mod Recording
-mod Issuing
-mod CountingWrites
-mod CameWriting
-mod Finding
+mod Exits
 mod Keeping
 mod CellWriting
 mod OneCall

@@ -1,19 +1,85 @@
--- Why a call for the request that waits is refused.
-use Rattle.mm_host.proofs.Below.{◌≡◌, ℕ, ◌+◌, ◌-◌, ◌≤◌, Bool, true, false, ◌&&◌, List, [], ◌∷◌, ◌++◌, map, Option, None, Some, Result, Ok}
-use Rattle.mm_host.proofs.Below.{Err, refl, sym, ap, ◌∙◌, subst, inl, inr, arith, ◌⊎◌, nat_eq, nat_le, if◌then◌else◌, bytes_eq, nat_tests}
-use Rattle.mm_host.proofs.Below.{last_position, Basic, Opt, Batch, One, Meaning, StepFault, Content, Snapshot, tag_of, offered_of}
-use Rattle.mm_host.proofs.Below.{PartsFault, History, Move, Foreign, total_of, Instance, basic, opt, Life, Live, Spoiled, LostLife, life_of}
-use Rattle.mm_host.proofs.Below.{is_lost, IsRight, Step, ask_steps, Refusal, Memory, Device, Lost, Stale, Verdict, before_the_last}
-use Rattle.mm_host.proofs.Below.{ended_by, given_for, called, Course, Fate, Walked, walk, Found, found_by_verdict, found_at, found_with}
-use Rattle.mm_host.proofs.Below.{found_unless_wanting, is_fresh, by_lists, all_made, admitted, examined, weighed, before, sight_is, path_is}
-use Rattle.mm_host.proofs.Below.{same_batches, taking, foreign_made, Commits, nothing, batch, asks, basic_commits, opt_commits, fault_of}
-use Rattle.mm_host.proofs.Below.{EndsWith, Pending, ReadsPending, IsAwaited, later, IsWaiting, IsRefusedAs}
+-- What a call for the request that waits makes of the history, and why it is refused.
+use Rattle.mm_host.proofs.Below.{◌≡◌, ℕ, ◌+◌, ◌-◌, ◌≤◌, true, false, List, [], ◌∷◌, ◌++◌, Result, Ok, refl, sym, ap, ◌∙◌, subst, arith, inl}
+use Rattle.mm_host.proofs.Below.{inr, ◌⊎◌, nat_eq, nat_tests, Batch, One, Content, Instance, History, total_of, IsRight, total-push}
+use Rattle.mm_host.proofs.Below.{BatchAnswer, Refusal, Comes, kept, grown, one_content, Pending, Holds, IsAwaited, Some, Answer, whole}
+use Rattle.mm_host.proofs.Below.{AnswersAt, Names, IsGenuine, Bool, ◌&&◌, map, Option, None, Err, nat_le, if◌then◌else◌, IfSome}
+use Rattle.mm_host.proofs.Below.{last_position, Basic, Opt, Variant, StepFault, Snapshot, tag_of, offered_of, PartsFault, Move, Foreign}
+use Rattle.mm_host.proofs.Below.{Life, Live, Spoiled, LostLife, life_of, is_lost, Reads, ask_steps, Memory, Device, Lost, before_the_last}
+use Rattle.mm_host.proofs.Below.{ended_by, given_for, called, Course, End, Done, Fails, Fate, Walked, walk, after_step, seen_in, seen_at}
+use Rattle.mm_host.proofs.Below.{reading_steps, Found, found_by_verdict, found_at, found_with, found_unless_wanting, is_fresh, by_lists}
+use Rattle.mm_host.proofs.Below.{all_made, admitted, same_batches, seen_none, finished, fault_of, ReadsPending, later, IsWaiting}
+use Rattle.mm_host.proofs.Below.{IsRefusedAs}
+use Rattle.mm_call.specs.Answers.{answer_on}
 use Rattle.std.proofs.lemmas.Bool.{le-leb}
 use Rattle.std.proofs.lemmas.Slice.Eq.{bytes_eq-Decides}
 use Rattle.mm_seal.specs.Parts.{parts_of}
 use Rattle.mm_seal.specs.SealLaws.{sealed_parts}
-use Rattle.mm_model.specs.Judge.{is_last, judged, judge}
-use Rattle.mm_host.proofs.Awaited.{awaited_least, one_more}
+use Rattle.mm_model.specs.Judge.{is_last, judged}
+
+pub one_more : (batches : List Batch) (request : List ℕ) → total_of (batches ++ One request ∷ []) ≡ total_of batches + 1
+one_more batches request = total-push batches (One request)
+
+pub awaited_least : (y : History) (p : Pending) → IsAwaited y p → 1 ≤ p.position
+awaited_least y p (inl e) = omega (arith, e)
+awaited_least y p (inr e) = omega (arith, e.0, one_more e.1.front p.request, ap total_of e.1.is)
+
+pub awaited_then : (y after : History) (p : Pending) → after.batches ≡ y.batches → IsAwaited y p → IsAwaited after p
+awaited_then y after p same w = rw same w
+
+-- what is held goes on to be, and is genuine
+pub holds_on : (i : Instance) (y z : History) → ((content : Content) → Names i y content → Names i z content)
+    → (bytes : List ℕ) (position : ℕ) → Holds i y bytes position → Holds i z bytes position
+holds_on i y z names bytes position h =
+    record { content = h.content; right = h.right; names = names h.content h.names; at = h.at }
+
+pub genuine_by : (i : Instance) (y : History) (bytes : List ℕ) (position : ℕ) → Holds i y bytes position → IsGenuine i y bytes
+genuine_by i y bytes position h =
+    λ content right. subst (λ (x : Content). Names i y x) (one_content i bytes h.content content h.right right) h.names
+
+pub eq_same : (n m : ℕ) → n ≡ m → nat_eq n m ≡ true
+eq_same n m e = grind (arith, nat_tests, e)
+
+eq_later : (n m : ℕ) → n ≡ m + 1 → nat_eq n m ≡ false
+eq_later n m e = grind (arith, nat_tests, e)
+
+pub grows : (i : Instance) (y : History) (p : Pending) (offer : List ℕ) (after : History) (gives : Result BatchAnswer Refusal)
+    → Comes i y offer (One p.request) after gives → (after.batches ≡ y.batches) ⊎ (after.batches ≡ y.batches ++ One p.request ∷ [])
+grows i y p offer after gives (kept same answers) = inl same
+grows i y p offer after gives (grown content right at more answers) = inr more
+
+module _ (i : Instance) (y : History) (p : Pending) (offer : List ℕ) (after : History) (w : IsAwaited y p)
+    (h : Holds i y offer (p.position - 1)) where
+  -- the offer says one thing: the position before the request's
+  said : (content : Content) → IsRight i offer content → p.position - 1 ≡ content.position
+  said content right = sym (ap (λ (c : Content). c.position) (one_content i offer content h.content right h.right) ∙ h.at)
+
+  -- the request is awaited by what the call leaves
+  pub still_awaited : (gives : Result BatchAnswer Refusal) → Comes i y offer (One p.request) after gives → IsAwaited after p
+  still_awaited gives (kept same answers) = awaited_then y after p same w
+  still_awaited gives (grown content right at more answers) = inr (
+    omega (arith, said content right, at, awaited_least y p w, one_more y.batches p.request, ap total_of more),
+    record { front = y.batches; is = sym more },
+  )
+
+  told_at : (answer : Answer) → p.position ≡ total_of after.batches
+      → whole answer ≡ answer_on i after (One p.request) (nat_eq p.position (total_of y.batches))
+      → AnswersAt i y (Some p) after answer × (answer.position ≡ p.position)
+  told_at answer at is =
+      (record { p = p; waits = refl; position = at; answer_is = is }, ap (λ (b : BatchAnswer). b.position) is ∙ sym at)
+
+  -- and is answered at its position
+  pub answered_at : (answer : Answer) → Comes i y offer (One p.request) after (Ok (whole answer))
+      → AnswersAt i y (Some p) after answer × (answer.position ≡ p.position)
+  answered_at answer (kept same gives) =
+      let g = gives (whole answer) refl in
+      let here : p.position ≡ total_of y.batches =
+      omega (arith, said g.content g.right, g.position, awaited_least y p w, one_more g.ends.front p.request, ap total_of g.ends.is) in
+      told_at answer (here ∙ ap total_of (sym same))
+      (g.answer_is ∙ ap (answer_on i after (One p.request)) (sym (eq_same p.position (total_of y.batches) here)))
+  answered_at answer (grown content right at more gives) =
+      let next : p.position ≡ total_of y.batches + 1 = omega (arith, said content right, at, awaited_least y p w) in
+      told_at answer (omega (arith, next, one_more y.batches p.request, ap total_of more))
+      (gives (whole answer) refl ∙ ap (answer_on i after (One p.request)) (sym (eq_later p.position (total_of y.batches) next)))
 
 -- for want of memory, or as the history's life says
 abbrev pub MayRefuse : Refusal → Life → Type 0
@@ -29,199 +95,78 @@ pub record IsOffered (i : Instance) (s : History) (p : Pending) (offer : List �
 
 pub offered_then : (i : Instance) (y s : History) (p : Pending) (offer : List ℕ) → s.batches ≡ y.batches → IsOffered i y p offer
     → IsOffered i s p offer
-offered_then i y s p offer same o = record {
-  content = o.content;
-  right = o.right;
-  at = o.at;
-  awaited =
-      subst (λ (bs : List Batch). (p.position ≡ total_of bs + 1) ⊎ ((p.position ≡ total_of bs) × EndsWith bs (One p.request))) (sym same)
-      o.awaited;
-  most = o.most;
-}
+offered_then i y s p offer same o =
+    record { content = o.content; right = o.right; at = o.at; awaited = awaited_then y s p same o.awaited; most = o.most }
 
 -- a record that waits has a position of at most 2^48
-AtMost : Option Pending → Type 0
-AtMost None = Unit {0}
-AtMost (Some p) = p.position ≤ last_position
+abbrev AtMost : Option Pending → Type 0
+AtMost read = IfSome read (λ p. p.position ≤ last_position)
 
 read_most : (slot : ℕ) (bytes : List ℕ) (read : Option Pending) → ReadsPending slot bytes read → AtMost read
-unfolding AtMost
 read_most slot bytes None r = tt
 read_most slot bytes (Some p) r = r.0.most
-
-either_most : (t : Bool) (a b : Option Pending) → AtMost a → AtMost b → AtMost (if t then a else b)
-either_most true a b x y = x
-either_most false a b x y = y
 
 later_most : (a b : Option Pending) → AtMost a → AtMost b → AtMost (later a b)
 later_most None b x y = y
 later_most (Some a) None x y = x
-later_most (Some a) (Some b) x y = either_most (nat_le b.position a.position) (Some a) (Some b) x y
+later_most (Some a) (Some b) x y =
+    elim (nat_le b.position a.position) as (λ (t : Bool). AtMost (if t then Some a else Some b)) [ true ↦ x | false ↦ y ]
 
 pub waiting_most : (two three : List ℕ) (waiting : Option Pending) (p : Pending) → IsWaiting two three waiting → waiting ≡ Some p
     → p.position ≤ last_position
-unfolding AtMost
 waiting_most two three waiting p w e =
-    subst AtMost (sym w.is ∙ e)
+    subst (λ (read : Option Pending). AtMost read) (sym w.is ∙ e)
     (later_most w.in_two w.in_three (read_most 2 two w.in_two w.reads_two) (read_most 3 three w.in_three w.reads_three))
 
 -- the position is the last one, or the request is a repeat
-record IsPlaced (s : History) (p : Pending) (position : ℕ) : Type 0 where
-  placed : (nat_eq position (total_of s.batches) ≡ true)
-      ⊎ ((nat_eq (position + 1) (total_of s.batches) && is_last s.batches (One p.request)) ≡ true)
-
-same_number : (n m : ℕ) → n ≡ m → nat_eq n m ≡ true
-same_number n m e = grind (arith, nat_tests, e)
-
-repeats : (batches front : List Batch) (request : List ℕ) (position : ℕ) → front ++ One request ∷ [] ≡ batches → position ≡ total_of front
-    → (nat_eq (position + 1) (total_of batches) && is_last batches (One request)) ≡ true
-repeats batches front request position e at =
-    subst (λ (n : ℕ). (nat_eq (n + 1) (total_of batches) && is_last batches (One request)) ≡ true) (sym at)
-    ((before_the_last batches front (One request ∷ []) (One request) (sym e)).1 e)
-
-placed_by : (s : History) (p : Pending) (position : ℕ) → position ≡ p.position - 1 → IsAwaited s p → 1 ≤ p.position → IsPlaced s p position
-placed_by s p position at (inl next) least = record { placed = inl (same_number position (total_of s.batches) (omega (arith, at, next))) }
+placed_by : (s : History) (p : Pending) (position : ℕ) → position ≡ p.position - 1 → IsAwaited s p → 1 ≤ p.position
+    → (nat_eq position (total_of s.batches) ≡ true)
+    ⊎ ((nat_eq (position + 1) (total_of s.batches) && is_last s.batches (One p.request)) ≡ true)
+placed_by s p position at (inl next) least = inl (eq_same position (total_of s.batches) (omega (arith, at, next)))
 placed_by s p position at (inr done) least =
-    let here : position ≡ total_of done.1.front = omega (arith, at, done.0, least, one_more done.1.front p.request, ap total_of done.1.is)
-    in
-    record { placed = inr (repeats s.batches done.1.front p.request position done.1.is here) }
+    let here : position ≡ total_of done.1.front =
+    omega (arith, at, done.0, least, one_more done.1.front p.request, ap total_of done.1.is) in
+    inr (rw here ((before_the_last s.batches done.1.front (One p.request ∷ []) (One p.request) (sym done.1.is)).1 done.1.is))
 
--- so the verdict follows from the life
-abbrev refused_by : Life → Option Refusal
-refused_by Live = None
-refused_by Spoiled = Some Stale
-refused_by LostLife = Some Lost
+-- so it is found, or refused as the life says
+abbrev AsLife : Life → Result Found Refusal → Type 0
+AsLife _ (Ok found) = Unit {0}
+AsLife life (Err why) = IsRefusedAs why life
 
-IsBy : Option Refusal → Result Bool Refusal → Type 0
-IsBy None found = (again : Bool) × (found ≡ Ok again)
-IsBy (Some why) found = found ≡ Err why
+abbrev FindsAs : Life → Content → Result Bool Refusal → Type 0
+FindsAs life content examined = AsLife life (if is_lost life then Err Lost else found_with content examined)
 
-admitted_here : (life : Life) (here repeat : Bool) → (here ≡ true) ⊎ (repeat ≡ true)
-    → IsBy (refused_by life) (admitted (judged life here repeat) true)
-unfolding IsBy
-admitted_here LostLife here repeat h = refl
-admitted_here Spoiled here repeat h = refl
-admitted_here Live true repeat h = (false, refl)
-admitted_here Live false true h = (true, refl)
-admitted_here Live false false (inl e) = absurd (cc)
-admitted_here Live false false (inr e) = absurd (cc)
+admitted_here : (life : Life) (content : Content) (here repeat : Bool) → (here ≡ true) ⊎ (repeat ≡ true)
+    → FindsAs life content (admitted (judged life here repeat) true)
+admitted_here LostLife content here repeat h = refl
+admitted_here Spoiled content here repeat h = refl
+admitted_here Live content true repeat h = tt
+admitted_here Live content false true h = tt
+admitted_here Live content false false (inl e) = absurd (cc)
+admitted_here Live content false false (inr e) = absurd (cc)
 
-weighed_here : (s t fits : Bool) (v : Verdict) (by : Option Refusal) → s ≡ true → t ≡ true → fits ≡ true → IsBy by (admitted v true)
-    → IsBy by (weighed s t v fits)
-weighed_here s t fits v by p q r h =
-    subst (λ (x : Bool). IsBy by (weighed x t v fits)) (sym p)
-    (subst (λ (x : Bool). IsBy by (weighed true x v fits)) (sym q)
-    (subst (λ (x : Bool). IsBy by (weighed true true v x)) (sym r) h))
-
-examined_here : (i : Instance) (s : History) (p : Pending) (offer : List ℕ) (o : IsOffered i s p offer)
-    → IsBy (refused_by (life_of i.variant s))
-    (examined i.meaning i.key (offered_of i.key o.content) (One p.request) (judge i.variant s o.content.position (One p.request)))
-examined_here i s p offer o =
-    let least : 1 ≤ p.position = awaited_least s p o.awaited in
-    let fits : o.content.position + 1 ≤ last_position = omega (arith, o.at, o.most, least) in
-    weighed_here (i.meaning.is_spelled o.content.state) (bytes_eq (tag_of i.key o.content) (tag_of i.key o.content))
-    (nat_le (o.content.position + 1) last_position) _
-    (refused_by (life_of i.variant s)) o.right.state ((bytes_eq-Decides (tag_of i.key o.content) (tag_of i.key o.content)).1 refl)
-    (le-leb (o.content.position + 1) last_position fits)
-    (admitted_here (life_of i.variant s) (nat_eq o.content.position (total_of s.batches))
-    (nat_eq (o.content.position + 1) (total_of s.batches) && is_last s.batches (One p.request))
-    (placed_by s p o.content.position o.at o.awaited least).placed)
-
--- what is found is refused by the life alone
-found_by : (life : Life) (content : Content) (x : Result Bool Refusal) (why : Refusal) → IsBy (refused_by life) x
-    → found_with content x ≡ Err why → IsRefusedAs why life
-unfolding IsBy
-found_by Live content x why h e =
-    let none : found_with content (Ok h.0) ≡ Err why = subst (λ (y : Result Bool Refusal). found_with content y ≡ Err why) h.1 e
-    in absurd (cc)
-found_by Spoiled content x why h e =
-    let stale : found_with content (Err Stale) ≡ Err why = subst (λ (y : Result Bool Refusal). found_with content y ≡ Err why) h e in
-    let same : Stale ≡ why = cc in
-    subst (λ (w : Refusal). IsRefusedAs w Spoiled) same refl
-found_by LostLife content x why h e =
-    let lost : found_with content (Err Lost) ≡ Err why = subst (λ (y : Result Bool Refusal). found_with content y ≡ Err why) h e in
-    let same : Lost ≡ why = cc in
-    subst (λ (w : Refusal). IsRefusedAs w LostLife) same refl
-
-unless_lost : (life : Life) (found : Result Found Refusal) (why : Refusal) → (found ≡ Err why → IsRefusedAs why life)
-    → (if is_lost life then Err Lost else found) ≡ Err why → IsRefusedAs why life
-unless_lost Live found why h e = h e
-unless_lost Spoiled found why h e = h e
-unless_lost LostLife found why h e = let same : Lost ≡ why = cc in subst (λ (w : Refusal). IsRefusedAs w LostLife) same refl
-
-found_refused : (i : Instance) (s : History) (p : Pending) (offer : List ℕ) (o : IsOffered i s p offer) (why : Refusal)
+pub found_refused : (i : Instance) (s : History) (p : Pending) (offer : List ℕ) (o : IsOffered i s p offer) (why : Refusal)
     → found_at i (by_lists i) s (One p.request) offer ≡ Err why → IsRefusedAs why (life_of i.variant s)
 found_refused i s p offer o why e =
+    let life : Life = life_of i.variant s in
+    let least : 1 ≤ p.position = awaited_least s p o.awaited in
+    let fits : o.content.position + 1 ≤ last_position = omega (arith, o.at, o.most, least) in
     let parts : parts_of i.variant i.meaning.id offer ≡ Ok (offered_of i.key o.content) =
     ap (λ (bytes : List ℕ). parts_of i.variant i.meaning.id bytes) o.right.sealed
     ∙ sealed_parts i.key o.content i.variant i.meaning.id o.right.formed o.right.variant o.right.id in
-    unless_lost (life_of i.variant s) (found_by_verdict i (by_lists i) s (One p.request) (parts_of i.variant i.meaning.id offer)) why
-    (λ (f : found_by_verdict i (by_lists i) s (One p.request) (parts_of i.variant i.meaning.id offer) ≡ Err why).
-    found_by (life_of i.variant s) o.content _ why (examined_here i s p offer o)
-    (sym (ap (λ (x : Result Snapshot PartsFault). found_by_verdict i (by_lists i) s (One p.request) x) parts) ∙ f)) e
+    subst (λ (found : Result Found Refusal). AsLife life found)
+    (ap (λ (x : Result Snapshot PartsFault). if is_lost life then Err Lost else found_by_verdict i (by_lists i) s (One p.request) x)
+    (sym parts) ∙ e)
+    (rw (
+      o.right.state,
+      (bytes_eq-Decides (tag_of i.key o.content) (tag_of i.key o.content)).1 refl,
+      le-leb (o.content.position + 1) last_position fits,
+    )
+    (admitted_here life o.content (nat_eq o.content.position (total_of s.batches))
+    (nat_eq (o.content.position + 1) (total_of s.batches) && is_last s.batches (One p.request))
+    (placed_by s p o.content.position o.at o.awaited least)))
 
--- memory may be wanting besides
-lacking : (found : Result Found Refusal) (lacks : Bool) (why : Refusal) (life : Life) → ((w : Refusal) → found ≡ Err w → IsRefusedAs w life)
-    → found_unless_wanting found lacks ≡ Err why → MayRefuse why life
-lacking (Err w) lacks why life h e = let same : w ≡ why = cc in inr (subst (λ (x : Refusal). IsRefusedAs x life) same (h w refl))
-lacking (Ok found) false why _ h e = absurd (cc)
-lacking (Ok found) true why _ h e = let same : Memory ≡ why = cc in inl (sym same)
-
--- how the call ends
-ended_refused : (i : Instance) (seen end : History) (b : Batch) (found : Result Found Refusal) (moves : List Move)
-    (broken : Option StepFault) (why : Refusal) (life : Life)
-    → (broken ≡ None → found ≡ Err why → MayRefuse why life) → given_for (ended_by (by_lists i) seen end b found moves broken) ≡ Err why
-    → MayRefuse why life
-ended_refused i seen end b found moves (Some fault) why life h e =
-    let same : Device fault ≡ why = cc in inr (subst (λ (w : Refusal). IsRefusedAs w life) same tt)
-ended_refused i seen end b (Err w) moves None why _ h e = let same : w ≡ why = cc in h refl (ap (λ (x : Refusal). Err x) same)
-ended_refused i seen end b (Ok found) moves None why _ h e = absurd (cc)
-
--- a refusal that hands on no device's fault comes where nothing was found, and the walk commits nothing then
-ended_whole : (i : Instance) (seen end : History) (b : Batch) (found : Result Found Refusal) (moves : List Move) (broken : Option StepFault)
-    (why : Refusal)
-    → given_for (ended_by (by_lists i) seen end b found moves broken) ≡ Err why → fault_of why ≡ None → (w : Refusal) × (found ≡ Err w)
-ended_whole i seen end b found moves (Some fault) why e none =
-    let same : Device fault ≡ why = cc in
-    let some : fault_of (Device fault) ≡ None = subst (λ (w : Refusal). fault_of w ≡ None) (sym same) none in absurd (cc)
-ended_whole i seen end b (Err w) moves None why e none = (w, refl)
-ended_whole i seen end b (Ok found) moves None why e none = absurd (cc)
-
-not_fresh : (found : Result Found Refusal) (why : Refusal) → found ≡ Err why → is_fresh found ≡ true → ⊥
-not_fresh (Err w) why e f = cc
-not_fresh (Ok found) why e f = cc
-
-keeps_by : (i : Instance) (b : Batch) (y : History) (w : Walked) (found : Result Found Refusal) (why : Refusal) → found ≡ Err why
-    → Commits b (is_fresh found) w
-    → (all_made (by_lists i) y w.moves).batches ≡ y.batches
-keeps_by i b y w found why e (nothing none unless) = same_batches i w.moves y none
-keeps_by i b y w found why e (batch one fresh) = absurd (not_fresh found why e fresh)
-
-pub basic_keeps : (meaning : Meaning) (key : List ℕ) (y : History) (c : Course) (b : Batch) (offer : List ℕ) (why : Refusal)
-    → given_for (called (basic meaning key) (by_lists (basic meaning key)) y c offer b).ending ≡ Err why → fault_of why ≡ None
-    → (called (basic meaning key) (by_lists (basic meaning key)) y c offer b).state.batches ≡ y.batches
-basic_keeps meaning key y c b offer why e none =
-    let i : Instance = basic meaning key in
-    let seen : History = all_made (by_lists i) y (map Foreign (c.fates 1).brings ++ []) in
-    let found : Result Found Refusal = found_unless_wanting (found_at i (by_lists i) seen b offer) c.lacks in
-    let w : Walked = walk c.fates 1 (ask_steps Basic y.is_open (is_fresh found) b) in
-    let f = ended_whole i seen (all_made (by_lists i) y w.moves) b found w.moves w.broken why e none in
-    keeps_by i b y w found f.0 f.1 (basic_commits c.fates y.is_open (is_fresh found) b)
-
-pub opt_keeps : (meaning : Meaning) (key barrier : List ℕ) (y : History) (c : Course) (b : Batch) (offer : List ℕ) (why : Refusal)
-    → given_for (called (opt meaning key barrier) (by_lists (opt meaning key barrier)) y c offer b).ending ≡ Err why → fault_of why ≡ None
-    → (called (opt meaning key barrier) (by_lists (opt meaning key barrier)) y c offer b).state.batches ≡ y.batches
-opt_keeps meaning key barrier y c b offer why e none =
-    let i : Instance = opt meaning key barrier in
-    let seen : History = all_made (by_lists i) y (before c) in
-    let found : Result Found Refusal = found_unless_wanting (found_at i (by_lists i) seen b offer) c.lacks in
-    let w : Walked = walk c.fates 1 (ask_steps Opt y.is_open (is_fresh found) b) in
-    let f = ended_whole i seen (all_made (by_lists i) y w.moves) b found w.moves w.broken why e none in
-    keeps_by i b y w found f.0 f.1
-    (subst (λ (steps : List Step). Commits b (is_fresh found) (walk c.fates 1 steps)) (sym (asks y.is_open (is_fresh found) b))
-    (opt_commits c.fates y.is_open (is_fresh found) b))
-
--- such a refusal is what was found, and no step failed
+-- a refusal that hands on no device's fault is what was found, and no step failed
 ended_found : (i : Instance) (seen end : History) (b : Batch) (found : Result Found Refusal) (moves : List Move) (broken : Option StepFault)
     (why : Refusal)
     → given_for (ended_by (by_lists i) seen end b found moves broken) ≡ Err why → fault_of why ≡ None → (found ≡ Err why) × (broken ≡ None)
@@ -231,92 +176,46 @@ ended_found i seen end b found moves (Some fault) why e none =
 ended_found i seen end b (Err w) moves None why e none = let same : w ≡ why = cc in (ap (λ (x : Refusal). Err x) same, refl)
 ended_found i seen end b (Ok found) moves None why e none = absurd (cc)
 
+-- where nothing was found, the call made its reading steps alone
+read_then : (values : List (List ℕ)) (ends : End) (rest : Walked) (seen : List Move) → (rest.broken ≡ None → rest.moves ≡ seen)
+    → (after_step Reads values ends rest).broken ≡ None → (after_step Reads values ends rest).moves ≡ map Foreign values ++ seen
+read_then values Done rest seen h e = ap (λ (moves : List Move). map Foreign values ++ moves) (h e)
+read_then values (Fails fault made) rest seen h e = absurd (cc)
+
+read_alone : (variant : Variant) (fates : ℕ → Fate) (flag fresh : Bool) (b : Batch) → fresh ≡ false
+    → (walk fates 1 (ask_steps variant flag fresh b)).broken ≡ None
+    → (walk fates 1 (ask_steps variant flag fresh b)).moves ≡ seen_in fates (reading_steps variant) 1
+read_alone variant fates flag true b e whole = absurd (cc)
+read_alone Basic fates flag false b e whole = read_then (fates 1).brings (fates 1).ends finished [] (λ _. refl) whole
+read_alone Opt fates flag false b e whole =
+    read_then (fates 1).brings (fates 1).ends (walk fates 2 (Reads ∷ [])) (map Foreign (fates 2).brings ++ [])
+    (read_then (fates 2).brings (fates 2).ends finished [] (λ _. refl)) whole
+
+-- memory may be wanting besides
 lacking_or : (found : Result Found Refusal) (lacks : Bool) (why : Refusal) → found_unless_wanting found lacks ≡ Err why
     → (why ≡ Memory) ⊎ (found ≡ Err why)
-lacking_or (Err w) lacks why e = let same : w ≡ why = cc in inr (ap (λ (x : Refusal). Err x) same)
+lacking_or (Err w) lacks why e = inr e
 lacking_or (Ok found) false why e = absurd (cc)
 lacking_or (Ok found) true why e = let same : Memory ≡ why = cc in inl (sym same)
 
--- Basic: its life never ends
-pub basic_refused : (meaning : Meaning) (key : List ℕ) (y : History) (c : Course) (p : Pending) (offer : List ℕ) (why : Refusal)
-    → IsOffered (basic meaning key) (all_made (by_lists (basic meaning key)) y (map Foreign (c.fates 1).brings ++ [])) p offer
-    → given_for (called (basic meaning key) (by_lists (basic meaning key)) y c offer (One p.request)).ending ≡ Err why → MayRefuse why Live
-basic_refused meaning key y c p offer why o e =
-    let i : Instance = basic meaning key in
-    let seen : History = all_made (by_lists i) y (map Foreign (c.fates 1).brings ++ []) in
-    let found : Result Found Refusal = found_unless_wanting (found_at i (by_lists i) seen (One p.request) offer) c.lacks in
-    let w : Walked = walk c.fates 1 (ask_steps Basic y.is_open (is_fresh found) (One p.request)) in
-    ended_refused i seen (all_made (by_lists i) y w.moves) (One p.request) found w.moves w.broken why Live
-    (λ whole f. lacking (found_at i (by_lists i) seen (One p.request) offer) c.lacks why Live (λ x g. found_refused i seen p offer o x g) f)
-    e
+-- so such a call leaves what it saw, and is refused as the offer is there
+module _ (i : Instance) (y : History) (c : Course) (b : Batch) (offer : List ℕ) (why : Refusal)
+    (e : given_for (called i (by_lists i) y c offer b).ending ≡ Err why) (none : fault_of why ≡ None) where
+  left_seen : ((called i (by_lists i) y c offer b).state ≡ seen_at i (by_lists i) y c)
+      × (found_unless_wanting (found_at i (by_lists i) (seen_at i (by_lists i) y c) b offer) c.lacks ≡ Err why)
+  left_seen =
+      let seen : History = seen_at i (by_lists i) y c in
+      let found : Result Found Refusal = found_unless_wanting (found_at i (by_lists i) seen b offer) c.lacks in
+      let w : Walked = walk c.fates 1 (ask_steps i.variant y.is_open (is_fresh found) b) in
+      let f = ended_found i seen (all_made (by_lists i) y w.moves) b found w.moves w.broken why e none in
+      (ap (all_made (by_lists i) y) (read_alone i.variant c.fates y.is_open (is_fresh found) b (ap is_fresh f.0) f.1), f.0)
 
--- Opt: where nothing was found, the call made its reading steps alone
-fresh_none : (found : Result Found Refusal) (why : Refusal) → found ≡ Err why → is_fresh found ≡ false
-fresh_none (Err w) why e = refl
-fresh_none (Ok found) why e = absurd (cc)
+  pub keeps_refused : (called i (by_lists i) y c offer b).state.batches ≡ y.batches
+  keeps_refused =
+      ap (λ (z : History). z.batches) left_seen.0
+      ∙ same_batches i (seen_in c.fates (reading_steps i.variant) 1) y (seen_none c.fates (reading_steps i.variant) 1)
 
-read_alone : (i : Instance) (fates : ℕ → Fate) (y : History) (flag fresh : Bool) (b : Batch) → fresh ≡ false
-    → (walk fates 1 (ask_steps Opt flag fresh b)).broken ≡ None
-    → all_made (by_lists i) y (walk fates 1 (ask_steps Opt flag fresh b)).moves ≡ taking (taking y (fates 1).brings) (fates 2).brings
-read_alone i fates y flag true b e whole = absurd (cc)
-read_alone i fates y flag false b e whole = path_is i fates (ask_steps Opt flag false b) 1 y whole
-
-pub opt_refused : (meaning : Meaning) (key barrier : List ℕ) (y : History) (c : Course) (p : Pending) (offer : List ℕ) (why : Refusal)
-    → IsOffered (opt meaning key barrier) (all_made (by_lists (opt meaning key barrier)) y (before c)) p offer
-    → given_for (called (opt meaning key barrier) (by_lists (opt meaning key barrier)) y c offer (One p.request)).ending ≡ Err why
-    → MayRefuse why (life_of Opt (called (opt meaning key barrier) (by_lists (opt meaning key barrier)) y c offer (One p.request)).state)
-opt_refused meaning key barrier y c p offer why o e =
-    let i : Instance = opt meaning key barrier in
-    let seen : History = all_made (by_lists i) y (before c) in
-    let found : Result Found Refusal = found_unless_wanting (found_at i (by_lists i) seen (One p.request) offer) c.lacks in
-    let w : Walked = walk c.fates 1 (ask_steps Opt y.is_open (is_fresh found) (One p.request)) in
-    let end : History = all_made (by_lists i) y w.moves in
-    ended_refused i seen end (One p.request) found w.moves w.broken why (life_of Opt end)
-    (λ whole f.
-    let same : end ≡ seen = read_alone i c.fates y y.is_open (is_fresh found) (One p.request) (fresh_none found why f) whole
-    ∙ sym (sight_is i y c) in
-    subst (λ (z : History). MayRefuse why (life_of Opt z)) (sym same)
-    (lacking (found_at i (by_lists i) seen (One p.request) offer) c.lacks why (life_of Opt seen) (λ x g. found_refused i seen p offer o x g)
-    f)) e
-
--- so a refusal is what the offer gets at the history where the call ends
-
-basic_alone : (i : Instance) (fates : ℕ → Fate) (y : History) (flag fresh : Bool) (b : Batch) → fresh ≡ false
-    → (walk fates 1 (ask_steps Basic flag fresh b)).broken ≡ None
-    → all_made (by_lists i) y (walk fates 1 (ask_steps Basic flag fresh b)).moves ≡ taking y (fates 1).brings
-basic_alone i fates y flag true b e whole = absurd (cc)
-basic_alone i fates y flag false b e whole = path_is i fates (ask_steps Basic flag false b) 1 y whole
-
-pub basic_judged : (meaning : Meaning) (key : List ℕ) (y : History) (c : Course) (b : Batch) (offer : List ℕ) (why : Refusal)
-    → given_for (called (basic meaning key) (by_lists (basic meaning key)) y c offer b).ending ≡ Err why → fault_of why ≡ None
-    → (why ≡ Memory)
-    ⊎ (found_at (basic meaning key) (by_lists (basic meaning key))
-    (called (basic meaning key) (by_lists (basic meaning key)) y c offer b).state b offer ≡ Err why)
-basic_judged meaning key y c b offer why e none =
-    let i : Instance = basic meaning key in
-    let seen : History = all_made (by_lists i) y (map Foreign (c.fates 1).brings ++ []) in
-    let found : Result Found Refusal = found_unless_wanting (found_at i (by_lists i) seen b offer) c.lacks in
-    let w : Walked = walk c.fates 1 (ask_steps Basic y.is_open (is_fresh found) b) in
-    let end : History = all_made (by_lists i) y w.moves in
-    let f = ended_found i seen end b found w.moves w.broken why e none in
-    let same : seen ≡ end = foreign_made i (c.fates 1).brings [] y
-    ∙ sym (basic_alone i c.fates y y.is_open (is_fresh found) b (fresh_none found why f.0) f.1) in
-    subst (λ (z : History). (why ≡ Memory) ⊎ (found_at i (by_lists i) z b offer ≡ Err why)) same
-    (lacking_or (found_at i (by_lists i) seen b offer) c.lacks why f.0)
-
-pub opt_judged : (meaning : Meaning) (key barrier : List ℕ) (y : History) (c : Course) (b : Batch) (offer : List ℕ) (why : Refusal)
-    → given_for (called (opt meaning key barrier) (by_lists (opt meaning key barrier)) y c offer b).ending ≡ Err why → fault_of why ≡ None
-    → (why ≡ Memory)
-    ⊎ (found_at (opt meaning key barrier) (by_lists (opt meaning key barrier))
-    (called (opt meaning key barrier) (by_lists (opt meaning key barrier)) y c offer b).state b offer ≡ Err why)
-opt_judged meaning key barrier y c b offer why e none =
-    let i : Instance = opt meaning key barrier in
-    let seen : History = all_made (by_lists i) y (before c) in
-    let found : Result Found Refusal = found_unless_wanting (found_at i (by_lists i) seen b offer) c.lacks in
-    let w : Walked = walk c.fates 1 (ask_steps Opt y.is_open (is_fresh found) b) in
-    let end : History = all_made (by_lists i) y w.moves in
-    let f = ended_found i seen end b found w.moves w.broken why e none in
-    let same : seen ≡ end = sight_is i y c
-    ∙ sym (read_alone i c.fates y y.is_open (is_fresh found) b (fresh_none found why f.0) f.1) in
-    subst (λ (z : History). (why ≡ Memory) ⊎ (found_at i (by_lists i) z b offer ≡ Err why)) same
-    (lacking_or (found_at i (by_lists i) seen b offer) c.lacks why f.0)
+  pub judged_refused : (why ≡ Memory) ⊎ (found_at i (by_lists i) (called i (by_lists i) y c offer b).state b offer ≡ Err why)
+  judged_refused =
+      rw left_seen.0
+      (lacking_or (found_at i (by_lists i) (seen_at i (by_lists i) y c) b offer) c.lacks why left_seen.1)

@@ -1,6 +1,54 @@
--- A write of a snapshot leaves the slots that a recovery reads.
-use Rattle.mm_host.proofs.Below.{◌≡◌, ℕ, ◌-◌, ◌%◌, ◌≤◌, List, refl, sym, subst, arith, inl, inr, ◌⊎◌, Pending, Slots, with_slot, slot_read}
-use Rattle.mm_host.proofs.Below.{offer_slot}
+-- What slots hold: what a history issues names its end, and a snapshot fits.
+use Rattle.mm_host.proofs.Below.{◌≡◌, ◌≤◌, ℕ, Bool, true, false, List, refl, sym, last_position, Variant, Basic, Opt, Meaning, IsLawful}
+use Rattle.mm_host.proofs.Below.{IsContent, variant_of, Instance, basic, opt, History, joined, requests_of, total_of, has_value, Names}
+use Rattle.mm_host.proofs.Below.{issued, issued_place, IsSound, issued_bytes, basic_issued, opt_issued, basic_content, opt_content, Holds}
+use Rattle.mm_host.proofs.Below.{◌-◌, ◌%◌, length, take, ap, ◌∙◌, arith, inl, inr, ◌⊎◌, take_all, Pending, Slots, longest_slot, with_slot}
+use Rattle.mm_host.proofs.Below.{slot_read, longest_slot-is, slot_in-with_slot, offer_slot}
+use Rattle.mm_module.specs.RunLaws.{state_after-is_spelled}
+
+-- What the history issues has its sizes, and names its end.
+pub record IsIssued (i : Instance) (y : History) : Type 0 where
+  pub formed : total_of y.batches ≤ last_position → IsContent (issued i y)
+  pub names : Names i y (issued i y)
+
+pub issued_in_basic : (meaning : Meaning) → IsLawful meaning → (key : List ℕ) (y : History) → IsIssued (basic meaning key) y
+issued_in_basic meaning lawful key y =
+    record { formed = basic_content meaning lawful key y; names = basic_issued meaning key y }
+
+pub issued_in_opt : (meaning : Meaning) → IsLawful meaning → (key barrier : List ℕ) (y : History) → IsSound y
+    → has_value (joined y.closed) ≡ false → IsIssued (opt meaning key barrier) y
+issued_in_opt meaning lawful key barrier y sound clean =
+    record { formed = opt_content meaning lawful key barrier y; names = opt_issued meaning key barrier y sound clean }
+
+placed_as : (variant : Variant) (flag : Bool) (i : Instance) (y : History) → variant_of (issued_place variant flag i y) ≡ variant
+placed_as Basic flag i y = refl
+placed_as Opt true i y = refl
+placed_as Opt false i y = refl
+
+pub holds_issued : (i : Instance) → IsLawful i.meaning → (y : History) (bytes : List ℕ) (position : ℕ) → IsIssued i y
+    → total_of y.batches ≤ last_position → bytes ≡ issued_bytes i y → position ≡ total_of y.batches → Holds i y bytes position
+holds_issued i lawful y bytes position issues fits is at = record {
+  content = issued i y;
+  right = record {
+    formed = issues.formed fits;
+    sealed = is;
+    variant = placed_as i.variant y.is_open i y;
+    id = refl;
+    state = state_after-is_spelled i.meaning lawful (requests_of y.batches);
+  };
+  names = issues.names;
+  at = sym at;
+}
+
+-- the longest snapshot fits a slot
+pub fits_slot : (size limit : ℕ) → size ≤ 1048690 → limit ≡ 1100000 → size ≤ limit
+fits_slot size limit h e = omega (arith, h, e)
+
+-- so a slot shows the snapshot that was put there
+pub seen_put : (slots : Slots) (n : ℕ) (bytes : List ℕ) → length bytes ≤ 1048690 → slot_read (with_slot slots n bytes) n ≡ bytes
+seen_put slots n bytes h =
+    ap (λ (x : List ℕ). take longest_slot x) (slot_in-with_slot slots n bytes)
+    ∙ take_all longest_slot bytes (fits_slot (length bytes) longest_slot h longest_slot-is)
 
 -- the slots of records, and that of the offer, are as before
 pub record IsElsewhere (slots other : Slots) (p : Pending) : Type 0 where
@@ -12,25 +60,19 @@ pub elsewhere_same : (slots : Slots) (p : Pending) → IsElsewhere slots slots p
 elsewhere_same slots p = record { two = refl; three = refl; offer = refl }
 
 -- a position and the one before it take turns
-turns : (n : ℕ) → 1 ≤ n → ((n % 2 ≡ 0) × ((n - 1) % 2 ≡ 1)) ⊎ ((n % 2 ≡ 1) × ((n - 1) % 2 ≡ 0))
-turns n h = grind (arith, h)
+turns : (n m : ℕ) → n ≡ m → 1 ≤ m → ((n % 2 ≡ 0) × ((m - 1) % 2 ≡ 1)) ⊎ ((n % 2 ≡ 1) × ((m - 1) % 2 ≡ 0))
+turns n m e h = grind (arith, e, h)
 
-by_turn : (slots : Slots) (p : Pending) (bytes : List ℕ) (here there : ℕ) → p.position % 2 ≡ here → offer_slot p ≡ there
-    → slot_read (with_slot slots here bytes) 2 ≡ slot_read slots 2 → slot_read (with_slot slots here bytes) 3 ≡ slot_read slots 3
-    → slot_read (with_slot slots here bytes) there ≡ slot_read slots there
-    → IsElsewhere slots (with_slot slots (p.position % 2) bytes) p
-by_turn slots p bytes here there h t two three offer = record {
-  two = subst (λ (n : ℕ). slot_read (with_slot slots n bytes) 2 ≡ slot_read slots 2) (sym h) two;
-  three = subst (λ (n : ℕ). slot_read (with_slot slots n bytes) 3 ≡ slot_read slots 3) (sym h) three;
-  offer = subst (λ (n : ℕ). slot_read (with_slot slots n bytes) (offer_slot p) ≡ slot_read slots (offer_slot p)) (sym h)
-      (subst (λ (m : ℕ). slot_read (with_slot slots here bytes) m ≡ slot_read slots m) (sym t) offer);
-}
+abbrev LeavesSlot : Slots → List ℕ → ℕ → ℕ → Type 0
+LeavesSlot slots bytes here n = slot_read (with_slot slots here bytes) n ≡ slot_read slots n
 
-by_cases : (slots : Slots) (p : Pending) (bytes : List ℕ) → ((p.position % 2 ≡ 0) × ((p.position - 1) % 2 ≡ 1))
-    ⊎ ((p.position % 2 ≡ 1) × ((p.position - 1) % 2 ≡ 0)) → IsElsewhere slots (with_slot slots (p.position % 2) bytes) p
-by_cases slots p bytes (inl t) = by_turn slots p bytes 0 1 t.0 t.1 refl refl refl
-by_cases slots p bytes (inr t) = by_turn slots p bytes 1 0 t.0 t.1 refl refl refl
+by_turn : (slots : Slots) (bytes : List ℕ) (here there : ℕ)
+    → ((here ≡ 0) × (there ≡ 1)) ⊎ ((here ≡ 1) × (there ≡ 0))
+    → LeavesSlot slots bytes here 2 × LeavesSlot slots bytes here 3 × LeavesSlot slots bytes here there
+by_turn slots bytes here there (inl t) = rw (t.0, t.1) (refl, refl, refl)
+by_turn slots bytes here there (inr t) = rw (t.0, t.1) (refl, refl, refl)
 
-pub elsewhere_put : (slots : Slots) (p : Pending) (bytes : List ℕ) → 1 ≤ p.position
-    → IsElsewhere slots (with_slot slots (p.position % 2) bytes) p
-elsewhere_put slots p bytes h = by_cases slots p bytes (turns p.position h)
+pub elsewhere_put : (slots : Slots) (p : Pending) (n : ℕ) (bytes : List ℕ) → n ≡ p.position → 1 ≤ p.position
+    → IsElsewhere slots (with_slot slots (n % 2) bytes) p
+elsewhere_put slots p n bytes e h =
+    let t = by_turn slots bytes (n % 2) (offer_slot p) (turns n p.position e h) in record { two = t.0; three = t.1; offer = t.2 }

@@ -1,20 +1,7 @@
 -- One call of either variant.
-use Rattle.std.specs.Prelude.{◌≢◌, ℕ, List, Result, Err, IfOk}
-use Rattle.mm_digest.specs.declared.variant.Variant.{Variant}
-use Rattle.mm_digest.specs.declared.variant.Variant.TheVariants.{Basic, Opt}
-use Rattle.mm_platform.specs.Standing.{Standing}
-use Rattle.mm_module.specs.Meaning.{Meaning}
-use Rattle.mm_module.specs.Batch.{Batch, One}
-use Rattle.mm_model.specs.Fit.{IsFit}
-use Rattle.mm_model.specs.declared.answer.Answer.{Answer}
-use Rattle.mm_model.specs.declared.answer.BatchAnswer.{BatchAnswer}
-use Rattle.mm_model.specs.declared.refusal.Refusal.{Refusal}
-use Rattle.mm_model.specs.declared.refusal.Refusal.TheVariants.{Long}
-use Rattle.mm_call.specs.CallsOn.{CallsOn}
-use Rattle.mm_call.specs.Leaving.{LeavesUntouched, Blames, whole, whole_in}
-use Rattle.mm_call.specs.Refusals.{fault_in}
-use Rattle.mm_basic.specs.Asked.{AskedInBasic}
-use Rattle.mm_opt.specs.Asked.{AskedInOpt}
+use Rattle.mm_host.specs.Below.{◌≢◌, ℕ, List, Result, Err, IfOk, Variant, Basic, Opt, Standing, Batch, One, Meaning, IsFit, Answer}
+use Rattle.mm_host.specs.Below.{BatchAnswer, Refusal, Long, CallsOn, LeavesUntouched, Blames, whole, whole_in, fault_in, AskedInBasic}
+use Rattle.mm_host.specs.Below.{AskedInOpt}
 use Rattle.mm_host.specs.CellWrites.{CallWrites}
 
 -- what a whole call promises, in either core

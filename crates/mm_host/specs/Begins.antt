@@ -1,24 +1,9 @@
 -- What a first start comes to.
-use Rattle.std.specs.Prelude.{◌≡◌, ◌≢◌, ℕ, Bool, true, false, List, [], map, length, None, Some, Result, Ok, Err, ◌⊎◌}
-use Rattle.std.specs.List.{Contains}
-use Rattle.std.specs.Option.{option_map}
-use Rattle.std.specs.Io.KnownBytes.{Consumes}
-use Rattle.mm_base.specs.Faults.{Rose}
-use Rattle.mm_digest.specs.declared.variant.Variant.{Variant}
-use Rattle.mm_digest.specs.declared.variant.Variant.TheVariants.{Basic, Opt}
-use Rattle.mm_digest.specs.Messages.{start_message}
-use Rattle.mm_seal.specs.Cell.{blank_cell}
-use Rattle.mm_platform.specs.Standing.{Standing, item_values}
-use Rattle.mm_module.specs.Meaning.{Meaning}
-use Rattle.mm_module.specs.Batch.{Batch}
-use Rattle.mm_model.specs.Instance.{Instance}
-use Rattle.mm_model.specs.History.{History, Value, first_history}
-use Rattle.mm_model.specs.Standing.{StandsFor, issued_bytes}
-use Rattle.mm_call.specs.Asked.{IsWithin}
-use Rattle.mm_store.specs.Slots.{Slots}
-use Rattle.mm_store.specs.Unsynced.{Unsynced, all_synced}
+use Rattle.mm_host.specs.Below.{Consumes, Contains, option_map, ◌≡◌, ◌≢◌, ℕ, Bool, true, false, List, [], map, length, None, Some, Result}
+use Rattle.mm_host.specs.Below.{Ok, Err, ◌⊎◌, Rose, start_message, Variant, Basic, Opt, blank_cell, Standing, item_values, Batch, Meaning}
+use Rattle.mm_host.specs.Below.{History, Value, first_history, Instance, StandsFor, issued_bytes, IsWithin, Slots, Unsynced, all_synced}
 use Rattle.mm_host.specs.declared.init_fault.InitFault.{InitFault}
-use Rattle.mm_host.specs.declared.init_fault.InitFault.TheVariants.{Memory, Platform, Already, ReadFault, Short, Store}
+use Rattle.mm_host.specs.declared.init_fault.InitFault.TheVariants.{Platform, Already, ReadFault, Store}
 use Rattle.mm_host.specs.Fitting.{FitsHistory}
 use Rattle.mm_host.specs.Init.{Devices, instance_from}
 
@@ -68,21 +53,13 @@ abbrev pub Leaves : Variant → Meaning → Devices → Devices → Result Unit 
 Leaves variant meaning before after (Ok _) = Begins variant meaning before after
 Leaves variant meaning before after (Err (Platform fault)) =
     (after.platform.cell ≡ before.platform.cell) ⊎ Begins variant meaning before after
-Leaves variant meaning before after (Err Memory) = after.platform.cell ≡ before.platform.cell
-Leaves variant meaning before after (Err Already) = after.platform.cell ≡ before.platform.cell
-Leaves variant meaning before after (Err ReadFault) = after.platform.cell ≡ before.platform.cell
-Leaves variant meaning before after (Err (Short got)) = after.platform.cell ≡ before.platform.cell
-Leaves variant meaning before after (Err Store) = after.platform.cell ≡ before.platform.cell
+Leaves variant meaning before after result = after.platform.cell ≡ before.platform.cell
 
 -- Unless the platform failed, Already is told exactly where the cell isn't blank.
 abbrev pub TellsOf : List ℕ → Result Unit InitFault → Type 0
-TellsOf cell (Ok _) = cell ≡ blank_cell
 TellsOf cell (Err Already) = cell ≢ blank_cell
 TellsOf cell (Err (Platform fault)) = Unit {0}
-TellsOf cell (Err Memory) = cell ≡ blank_cell
-TellsOf cell (Err ReadFault) = cell ≡ blank_cell
-TellsOf cell (Err (Short got)) = cell ≡ blank_cell
-TellsOf cell (Err Store) = cell ≡ blank_cell
+TellsOf cell result = cell ≡ blank_cell
 
 abbrev pub TellsUse : Devices → Result Unit InitFault → Type 0
 TellsUse before result = (cell : List ℕ) → before.platform.cell ≡ Some cell → TellsOf cell result

@@ -1,25 +1,18 @@
 -- Whose fault it is that a host program can't go on.
-use Rattle.std.specs.Prelude.{◌≡◌, ◌≢◌, Result, Ok, Err}
-use Rattle.mm_base.specs.Faults.{Rose}
-use Rattle.mm_platform.specs.Standing.{Standing}
+use Rattle.mm_host.specs.Below.{◌≡◌, ◌≢◌, Result, Err, Rose, Standing, Blames, fault_of, StoreStanding}
 use Rattle.mm_model.specs.declared.refusal.Refusal.TheVariants as refusal
-use Rattle.mm_call.specs.Leaving.{Blames}
-use Rattle.mm_call.specs.Refusals.{fault_of}
-use Rattle.mm_store.specs.Kept.{StoreStanding}
 use Rattle.mm_host.specs.declared.fault.HostFault.{HostFault}
-use Rattle.mm_host.specs.declared.fault.HostFault.TheVariants.{Memory, Store, Refused}
+use Rattle.mm_host.specs.declared.fault.HostFault.TheVariants.{Store, Refused}
 
 -- The store's count of faults rose exactly where Store is told, and the platform's exactly where a
 -- device's fault is.
 abbrev pub Blamed : {T : Type 0} → Result T HostFault → Standing → Standing → StoreStanding
     → StoreStanding → Type 0
-Blamed (Ok it) before after old new = (after.faults ≡ before.faults) × (new.faults ≡ old.faults)
-Blamed (Err Memory) before after old new =
-    (after.faults ≡ before.faults) × (new.faults ≡ old.faults)
 Blamed (Err Store) before after old new =
     (after.faults ≡ before.faults) × Rose old.faults new.faults
 Blamed (Err (Refused why)) before after old new =
     Blames (fault_of why) before.faults after.faults × (new.faults ≡ old.faults)
+Blamed result before after old new = (after.faults ≡ before.faults) × (new.faults ≡ old.faults)
 
 -- A refusal is never want of memory, and never a request that is too long.
 pub record IsNamed {T : Type 0} (result : Result T HostFault) : Type 0 where

@@ -1,18 +1,9 @@
 -- How often the cell is to be written: by one call, and by calls that are made one after another.
-use Rattle.std.specs.Prelude.{◌≡◌, ◌+◌, ◌≤◌, ℕ, zero, suc, Bool, true, false, List, Option, None, Some, Result, Ok, Err}
-use Rattle.mm_digest.specs.declared.variant.Variant.{Variant}
-use Rattle.mm_digest.specs.declared.variant.Variant.TheVariants.{Basic, Opt}
-use Rattle.mm_platform.specs.declared.fault.StepFault.{StepFault}
-use Rattle.mm_platform.specs.Standing.{Standing}
-use Rattle.mm_seal.specs.declared.cell.Cell.{Cell}
-use Rattle.mm_seal.specs.Cell.{IsCell, cell_spelling}
-use Rattle.mm_model.specs.declared.answer.Answer.{Answer}
-use Rattle.mm_model.specs.declared.refusal.Refusal.{Refusal}
-use Rattle.mm_call.specs.Refusals.{fault_of}
-use Rattle.mm_call.specs.Standing.{counted_by}
-use Rattle.mm_opt.specs.Asks.{WritesAtMostOnce}
+use Rattle.mm_host.specs.Below.{◌≡◌, ◌+◌, ◌≤◌, ℕ, zero, suc, Bool, true, false, List, Option, None, Some, Result, Ok, Err, Variant, Basic}
+use Rattle.mm_host.specs.Below.{Opt, IsCell, cell_spelling, Cell, Standing, StepFault, Answer, Refusal, fault_of, counted_by}
+use Rattle.mm_host.specs.Below.{WritesAtMostOnce}
 use Rattle.mm_host.specs.declared.fault.HostFault.{HostFault}
-use Rattle.mm_host.specs.declared.fault.HostFault.TheVariants.{Memory, Store, Refused}
+use Rattle.mm_host.specs.declared.fault.HostFault.TheVariants.{Refused}
 use Rattle.mm_host.specs.declared.resuming.Resumed.{Resumed}
 use Rattle.mm_host.specs.declared.resuming.Resumed.TheVariants.{Start, Answered}
 
@@ -25,15 +16,13 @@ pub record TellsFlag (standing : Standing) (flag : Bool) : Type 0 where
 
 -- of so many new requests, those that open a segment: the first, where none is open
 abbrev pub openings : Bool → ℕ → ℕ
-openings true requests = 0
-openings false zero = 0
 openings false (suc requests) = 1
+openings flag requests = 0
 
 -- whether one is open after them
 abbrev pub is_open_after : Bool → ℕ → Bool
-is_open_after true requests = true
 is_open_after false zero = false
-is_open_after false (suc requests) = true
+is_open_after flag requests = true
 
 -- In Opt, for so many new requests: over any platform the cell was to be written at most once for
 -- each. Over one that tells its cell, at most once in all; and by the cell's flag, exactly for the
@@ -70,9 +59,8 @@ pub record LeavesFlag (requests : ℕ) (before after : Standing) : Type 0 where
   pub leaves : (flag : Bool) → TellsFlag before flag → TellsFlag after (is_open_after flag requests)
 
 abbrev pub LeavesOpen : Variant → Result Answer Refusal → ℕ → Standing → Standing → Type 0
-LeavesOpen Basic result requests before after = Unit {0}
 LeavesOpen Opt (Ok answer) requests before after = LeavesFlag requests before after
-LeavesOpen Opt (Err why) requests before after = Unit {0}
+LeavesOpen variant result requests before after = Unit {0}
 
 -- One call, which commits a new request or none.
 pub record CallWrites (variant : Variant) (result : Result Answer Refusal)
@@ -91,9 +79,8 @@ new_first (Answered answer) = new_by answer.again
 -- memory was wanting, or the store or a device failed.
 abbrev pub IsNewOf : Result Resumed HostFault → ℕ → Type 0
 IsNewOf (Ok it) requests = requests ≡ new_first it
-IsNewOf (Err Memory) requests = requests ≤ 1
-IsNewOf (Err Store) requests = requests ≤ 1
 IsNewOf (Err (Refused why)) requests = IsNewAt (fault_of why) requests
+IsNewOf came requests = requests ≤ 1
 
 -- How often a recovery, or one more request, is to write the cell: for what was asked, where that
 -- is new.

@@ -1,14 +1,6 @@
 -- Which slots fit a history: from them the host goes on.
-use Rattle.std.specs.Prelude.{◌≡◌, ◌+◌, ◌-◌, ◌%◌, ℕ, List, Option, None, Some, ◌⊎◌}
-use Rattle.mm_module.specs.Batch.{One}
-use Rattle.mm_seal.specs.Snapshot.{Content}
-use Rattle.mm_model.specs.Instance.{Instance}
-use Rattle.mm_model.specs.History.{History, total_of}
-use Rattle.mm_model.specs.Places.{Names}
-use Rattle.mm_model.specs.Standing.{IsRight}
-use Rattle.mm_call.specs.Coming.{EndsWith}
-use Rattle.mm_store.specs.Pending.{Pending}
-use Rattle.mm_store.specs.Slots.{Slots, slot_read}
+use Rattle.mm_host.specs.Below.{◌≡◌, ◌+◌, ◌-◌, ◌%◌, ℕ, List, Option, None, Some, ◌⊎◌, Content, One, History, total_of, Instance, Names}
+use Rattle.mm_host.specs.Below.{IsRight, EndsWith, Pending, Slots, slot_read}
 use Rattle.mm_host.specs.Waiting.{IsWaiting}
 
 -- the slot of the snapshot before the position of a request that waits

@@ -1,23 +1,9 @@
 -- The steps by which a platform with a blank cell, and a store, are set up. Nothing is asked for
 -- them.
-use Rattle.std.specs.Prelude.{◌≡◌, ◌≤◌, ◌<◌, ◌↔◌, ℕ, Bool, true, false, IsTrue, List, [], ◌∷◌, length, take, drop, Option, Some, Result, Ok, Err, IfOk, MatchResult, ◌⊎◌}
-use Rattle.std.specs.Result.{result_err}
-use Rattle.std.specs.Io.KnownBytes.{Consumes, IsAtEnd}
-use Rattle.mm_base.specs.declared.fault.Failed.{Failed}
-use Rattle.mm_base.specs.Faults.{CountsFaults}
-use Rattle.mm_digest.specs.declared.variant.Variant.{Variant}
-use Rattle.mm_seal.specs.Cell.{blank_cell, cell_spelling}
-use Rattle.mm_platform.specs.declared.fault.StepFault.{StepFault}
-use Rattle.mm_platform.specs.Standing.{Standing}
-use Rattle.mm_platform.specs.Steps.{ReadCell, WriteCell, Goes}
-use Rattle.mm_module.specs.Meaning.{Meaning}
-use Rattle.mm_model.specs.Instance.{Instance}
-use Rattle.mm_model.specs.History.{first_history}
-use Rattle.mm_model.specs.Standing.{cell_of, issued_bytes}
-use Rattle.mm_call.specs.Standing.{instance_by}
-use Rattle.mm_store.specs.declared.fault.StoreFault.{StoreFault}
-use Rattle.mm_store.specs.Kept.{StoreStanding}
-use Rattle.mm_store.specs.Calls.{WritesSlot}
+use Rattle.mm_host.specs.Below.{Consumes, IsAtEnd, ◌≡◌, ◌≤◌, ◌<◌, ◌↔◌, ℕ, Bool, true, false, IsTrue, List, [], ◌∷◌, length, take, drop}
+use Rattle.mm_host.specs.Below.{Option, Some, Result, Ok, Err, IfOk, MatchResult, ◌⊎◌, result_err, CountsFaults, Failed, Variant}
+use Rattle.mm_host.specs.Below.{blank_cell, cell_spelling, Standing, ReadCell, WriteCell, Goes, StepFault, Meaning, first_history, Instance}
+use Rattle.mm_host.specs.Below.{cell_of, issued_bytes, instance_by, WritesSlot, StoreStanding, StoreFault}
 use Rattle.mm_host.specs.declared.init_fault.InitFault.{InitFault}
 use Rattle.mm_host.specs.declared.init_fault.InitFault.TheVariants.{Memory, Platform, Already, ReadFault, Short}
 use Rattle.mm_host.specs.InitFaults.{store_failed_as}
@@ -61,17 +47,13 @@ abbrev pub instance_from : Variant → Meaning → List ℕ → Instance
 instance_from variant meaning secrets =
     instance_by variant meaning (take 32 secrets) (drop 32 secrets)
 
--- bytes that are put in a slot
-pub record Put : Type 0 where
-  pub slot : ℕ
-  pub bytes : List ℕ
+-- a slot, and the bytes that are put in it
+abbrev pub Put : Type 0
+Put = ℕ × List ℕ
 
 -- what a new store gets, in this order: three slots are empty, and the first one holds the snapshot
 abbrev pub first_puts : List ℕ → List Put
-first_puts snapshot =
-    record { slot = 1; bytes = [] } ∷ record { slot = 2; bytes = [] }
-    ∷ record { slot = 3; bytes = [] }
-    ∷ record { slot = 0; bytes = snapshot } ∷ []
+first_puts snapshot = (1, []) ∷ (2, []) ∷ (3, []) ∷ (0, snapshot) ∷ []
 
 -- Each is written where those before it were, up to the first that fails.
 abbrev pub AfterPut : Result Unit StoreFault → StoreStanding → StoreStanding
@@ -83,7 +65,7 @@ abbrev pub PutsAll : List Put → StoreStanding → StoreStanding → Result Uni
 PutsAll [] old new result = (new ≡ old) × (result ≡ Ok tt)
 PutsAll (put ∷ puts) old new result =
     (middle : StoreStanding) × (written : Result Unit StoreFault)
-    × WritesSlot put.slot put.bytes old middle written
+    × WritesSlot put.0 put.1 old middle written
     × AfterPut written middle new result (PutsAll puts middle new result)
 
 -- the cell is written

@@ -1,5 +1,5 @@
 -- How the faults of the devices are told by a first start.
-use Rattle.mm_store.specs.declared.fault.StoreFault.{StoreFault}
+use Rattle.mm_host.specs.Below.{StoreFault}
 use Rattle.mm_store.specs.declared.fault.StoreFault.TheVariants as fault
 use Rattle.mm_host.specs.declared.init_fault.InitFault.{InitFault}
 use Rattle.mm_host.specs.declared.init_fault.InitFault.TheVariants.{Memory, Store}

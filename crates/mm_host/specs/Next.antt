@@ -1,13 +1,7 @@
 -- One more request is asked: its record is written before, and the answer's snapshot after. Nothing
 -- is asked for these steps.
-use Rattle.std.specs.Prelude.{◌≡◌, ◌+◌, ◌%◌, ℕ, List, Result, Ok, Err}
-use Rattle.mm_digest.specs.declared.variant.Variant.{Variant}
-use Rattle.mm_platform.specs.Standing.{Standing}
-use Rattle.mm_module.specs.Meaning.{Meaning}
-use Rattle.mm_store.specs.declared.fault.StoreFault.{StoreFault}
-use Rattle.mm_store.specs.Kept.{StoreStanding}
-use Rattle.mm_store.specs.Calls.{WritesSlot}
-use Rattle.mm_store.specs.Pending.{Pending, pending_spelling}
+use Rattle.mm_host.specs.Below.{◌≡◌, ◌+◌, ◌%◌, ℕ, List, Result, Ok, Err, Variant, Standing, Meaning, WritesSlot, StoreStanding, Pending}
+use Rattle.mm_host.specs.Below.{pending_spelling, StoreFault}
 use Rattle.mm_host.specs.declared.fault.HostFault.{HostFault}
 use Rattle.mm_host.specs.declared.resuming.Resumed.{Resumed}
 use Rattle.mm_host.specs.Faults.{store_fault_as}

@@ -1,32 +1,11 @@
 -- What a host program that goes on after a stop comes to, by lists alone.
-use Rattle.std.specs.Prelude.{◌≡◌, ◌≢◌, ℕ, true, List, [], ◌∷◌, ◌++◌, Option, None, Some, Result, Ok, Err, nat_eq, ◌⊎◌, ◌%◌, IfOk, IsSome}
-use Rattle.std.specs.List.{Contains}
-use Rattle.mm_digest.specs.declared.variant.Variant.{Variant}
-use Rattle.mm_digest.specs.declared.variant.Variant.TheVariants.{Basic, Opt}
-use Rattle.mm_platform.specs.Standing.{Item, Standing}
-use Rattle.mm_module.specs.Meaning.{Meaning}
-use Rattle.mm_module.specs.Batch.{Batch, One}
-use Rattle.mm_model.specs.Instance.{Instance}
-use Rattle.mm_model.specs.InstanceWords.{basic, opt}
-use Rattle.mm_model.specs.History.{History, total_of}
-use Rattle.mm_model.specs.Life.{Life, Spoiled, Lost as LostLife, life_of}
-use Rattle.mm_model.specs.Messages.{Within, IsClear, AreNoGuards}
-use Rattle.mm_model.specs.Standing.{StandsFor}
-use Rattle.mm_model.specs.declared.answer.Answer.{Answer}
-use Rattle.mm_model.specs.declared.refusal.Refusal.{Refusal}
-use Rattle.mm_model.specs.declared.refusal.Refusal.TheVariants.{Device, Lost, Stale}
-use Rattle.mm_call.specs.Answers.{answer_on}
-use Rattle.mm_call.specs.Asked.{IsWithin, right_messages}
-use Rattle.mm_call.specs.Found.{right_content}
-use Rattle.mm_call.specs.Leaving.{whole}
-use Rattle.mm_call.specs.Premises.{AreShown, IsIdle}
-use Rattle.mm_call.specs.Refusals.{fault_of}
-use Rattle.mm_call.specs.Tied.{standing_items}
-use Rattle.mm_store.specs.Kept.{StoreStanding}
-use Rattle.mm_store.specs.Pending.{Pending}
-use Rattle.mm_store.specs.Slots.{Slots, slot_read}
+use Rattle.mm_host.specs.Below.{Contains, ◌≡◌, ◌≢◌, ℕ, true, List, [], ◌∷◌, ◌++◌, Option, None, Some, Result, Ok, Err, nat_eq, ◌⊎◌, ◌%◌}
+use Rattle.mm_host.specs.Below.{IfOk, IsSome, Variant, Basic, Opt, Item, Standing, Batch, One, Meaning, History, total_of, Instance, basic}
+use Rattle.mm_host.specs.Below.{opt, Life, Spoiled, LostLife, life_of, Within, IsClear, AreNoGuards, StandsFor, Answer, Refusal, Device}
+use Rattle.mm_host.specs.Below.{Lost, Stale, answer_on, IsWithin, right_messages, right_content, whole, AreShown, IsIdle, fault_of}
+use Rattle.mm_host.specs.Below.{standing_items, StoreStanding, Pending, Slots, slot_read}
 use Rattle.mm_host.specs.declared.fault.HostFault.{HostFault}
-use Rattle.mm_host.specs.declared.fault.HostFault.TheVariants.{Memory, Store, Refused}
+use Rattle.mm_host.specs.declared.fault.HostFault.TheVariants.{Refused}
 use Rattle.mm_host.specs.declared.resuming.Resumed.{Resumed}
 use Rattle.mm_host.specs.declared.resuming.Resumed.TheVariants.{Start, Answered}
 use Rattle.mm_host.specs.Fitting.{offer_slot, FitsHistory, Holds}
@@ -90,17 +69,14 @@ abbrev pub ComesTo : Instance → History → Slots → Option Pending → Histo
     → Result Resumed HostFault → Type 0
 ComesTo i y slots waiting after (Ok (Start first)) = (waiting ≡ None) × (first ≡ slot_read slots 0)
 ComesTo i y slots waiting after (Ok (Answered answer)) = AnswersAt i y waiting after answer
-ComesTo i y slots waiting after (Err Memory) = Unit {0}
-ComesTo i y slots waiting after (Err Store) = Unit {0}
 ComesTo i y slots waiting after (Err (Refused why)) = IsRefusedAs why (life_of i.variant after)
+ComesTo i y slots waiting after result = Unit {0}
 
 -- A request may have been committed where it is answered, and where memory, the store or a device
 -- failed.
 abbrev pub MayHaveCommitted : {T : Type 0} → Result T HostFault → Type 0
-MayHaveCommitted (Ok it) = Unit {0}
-MayHaveCommitted (Err Memory) = Unit {0}
-MayHaveCommitted (Err Store) = Unit {0}
 MayHaveCommitted (Err (Refused why)) = IsSome (fault_of why)
+MayHaveCommitted result = Unit {0}
 
 -- Whatever it gives, the platform stands for a history that grew by the request that waits or by
 -- nothing, and the slots fit that one; so it may be called again. What was asked of the history

@@ -1,14 +1,6 @@
 -- The steps by which a host program goes on after a stop. Nothing is asked for them.
-use Rattle.std.specs.Prelude.{◌≡◌, ◌-◌, ◌%◌, ℕ, List, Option, None, Some, Result, Ok, Err}
-use Rattle.mm_digest.specs.declared.variant.Variant.{Variant}
-use Rattle.mm_platform.specs.Standing.{Standing}
-use Rattle.mm_module.specs.Meaning.{Meaning}
-use Rattle.mm_model.specs.declared.answer.Answer.{Answer}
-use Rattle.mm_model.specs.declared.refusal.Refusal.{Refusal}
-use Rattle.mm_store.specs.declared.fault.StoreFault.{StoreFault}
-use Rattle.mm_store.specs.Kept.{StoreStanding}
-use Rattle.mm_store.specs.Calls.{ReadsSlot, WritesSlot}
-use Rattle.mm_store.specs.Pending.{Pending}
+use Rattle.mm_host.specs.Below.{◌≡◌, ◌-◌, ◌%◌, ℕ, List, Option, None, Some, Result, Ok, Err, Variant, Standing, Meaning, Answer, Refusal}
+use Rattle.mm_host.specs.Below.{ReadsSlot, WritesSlot, StoreStanding, Pending, StoreFault}
 use Rattle.mm_host.specs.declared.fault.HostFault.{HostFault}
 use Rattle.mm_host.specs.declared.resuming.Resumed.{Resumed}
 use Rattle.mm_host.specs.declared.resuming.Resumed.TheVariants.{Start, Answered}

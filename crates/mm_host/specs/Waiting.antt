@@ -1,10 +1,6 @@
 -- The request that waits in a store.
-use Rattle.std.specs.Prelude.{◌≡◌, ◌≤◌, ℕ, List, Option, None, Some, Result, Ok, Err, ◌⊎◌, nat_le, if◌then◌else◌}
-use Rattle.mm_base.specs.Lines.{MayGrow}
-use Rattle.mm_base.specs.Limits.{longest_request}
-use Rattle.mm_store.specs.declared.fault.StoreFault.{StoreFault}
-use Rattle.mm_store.specs.declared.fault.StoreFault.TheVariants.{Memory}
-use Rattle.mm_store.specs.Pending.{Pending, ReadsPending}
+use Rattle.mm_host.specs.Below.{◌≡◌, ◌≤◌, ℕ, List, Option, None, Some, Result, Ok, Err, ◌⊎◌, nat_le, if◌then◌else◌, longest_request}
+use Rattle.mm_host.specs.Below.{MayGrow, Pending, ReadsPending, StoreFault, Memory}
 
 -- the later of two records
 abbrev pub later : Option Pending → Option Pending → Option Pending

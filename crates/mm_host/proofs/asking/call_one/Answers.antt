@@ -1,4 +1,4 @@
-use Rattle.mm_host.proofs.Below.{One, begun_may_ask}
+use Rattle.mm_host.proofs.Below.{begun_may_ask}
 use Rattle.mm_host.proofs.OneCall.{asked_in, one_output}
 use Rattle.mm_host.proofs.asking.call_one.Goals as goal
 
@@ -8,14 +8,8 @@ finish-requires-clause-room g c =
 
 pub returns-clause-asked : goal.returns-clause-asked
 returns-clause-asked g c =
-    asked_in c.args.hosted.now.variant (g.M.Module.meaning c.args.hosted.now.module.now)
-    (g.met.M.Module.is_lawful c.args.hosted.now.module.now)
-    (g.P.Device.standing c.args.platform.now) (g.P.Device.standing c.finish.new.platform)
-    c.args.offer.now (One c.args.request.now) c.in-Ok.call c.finish.result c.result.result c.requires c.in-Ok.ensures.ok.0 c.finish.ensures
-    c.result.ensures
+    asked_in c.args.hosted.now.variant _ (g.met.M.Module.is_lawful c.args.hosted.now.module.now) _ _ _ _ _ _ _ c.requires
+    c.in-Ok.ensures.ok.0 c.finish.ensures c.result.ensures
 
 pub returns-clause-one : goal.returns-clause-one
-returns-clause-one g c =
-    one_output c.args.hosted.now.variant (g.M.Module.meaning c.args.hosted.now.module.now) (g.P.Device.standing c.args.platform.now)
-    (g.P.Device.standing c.finish.new.platform)
-    c.args.offer.now c.args.request.now c.result.result (returns-clause-asked g c)
+returns-clause-one g c = one_output c.args.hosted.now.variant _ _ _ _ _ _ (returns-clause-asked g c)

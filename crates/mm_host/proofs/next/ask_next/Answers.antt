@@ -1,5 +1,4 @@
-use Rattle.mm_host.proofs.Blaming.{next_told}
-use Rattle.mm_host.proofs.CameWriting.{next_came, request_writes}
+use Rattle.mm_host.proofs.Exits.{next_came, next_told}
 use Rattle.mm_host.proofs.next.ask_next.Goals as goal
 
 pub returns-clause-faults : goal.returns-clause-faults
@@ -9,4 +8,4 @@ pub returns-clause-named : goal.returns-clause-named
 returns-clause-named g c = (next_told _ _ _ _ _ _ _ _ _ c.record_and_ask.ensures.asks).named
 
 pub returns-clause-writes : goal.returns-clause-writes
-returns-clause-writes g c = request_writes _ _ _ _ (next_came _ _ _ _ _ _ _ _ _ c.record_and_ask.ensures.asks)
+returns-clause-writes g c = (next_came _ _ _ _ _ _ _ _ _ c.record_and_ask.ensures.asks).counts

@@ -1,5 +1,5 @@
 use Rattle.std.proofs.Common.{◌∙◌}
-use Rattle.mm_host.proofs.Recording.{record_short}
+use Rattle.mm_host.proofs.Askable.{record_short}
 use Rattle.mm_host.proofs.next.write_record.Goals as goal
 
 pub write-requires-clause-short : goal.write-requires-clause-short

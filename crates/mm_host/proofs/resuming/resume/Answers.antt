@@ -1,6 +1,5 @@
-use Rattle.mm_host.proofs.Blaming.{resumes_told}
-use Rattle.mm_host.proofs.BothRecovering.{recovers}
-use Rattle.mm_host.proofs.CameWriting.{request_writes, resumes_came}
+use Rattle.mm_host.proofs.Recovering.{recovers}
+use Rattle.mm_host.proofs.Exits.{resumes_came, resumes_told}
 use Rattle.mm_host.proofs.resuming.resume.Goals as goal
 
 pub returns-clause-faults : goal.returns-clause-faults
@@ -15,4 +14,4 @@ returns-clause-recovers g c =
     c.resume_by_steps.result c.resume_by_steps.ensures
 
 pub returns-clause-writes : goal.returns-clause-writes
-returns-clause-writes g c = request_writes _ _ _ _ (resumes_came _ _ _ _ _ _ _ c.resume_by_steps.ensures)
+returns-clause-writes g c = (resumes_came _ _ _ _ _ _ _ c.resume_by_steps.ensures).counts

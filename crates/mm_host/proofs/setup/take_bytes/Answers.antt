@@ -1,5 +1,5 @@
 use Rattle.std.proofs.Common.{◌<◌, arith, rules, ◌∙◌}
-use Rattle.mm_host.proofs.Taking.{consumes_more, takes}
+use Rattle.mm_host.proofs.SettingUp.{consumes_more, takes}
 use Rattle.mm_host.proofs.setup.take_bytes.Goals as goal
 
 pub takes-preserved : goal.takes-preserved
