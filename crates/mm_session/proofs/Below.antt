@@ -3,18 +3,17 @@ pub use Rattle.std.specs.Io.KnownBytes.{Appends, Consumes, IsAtEnd}
 pub use Rattle.std.specs.List.{AllByRecursion, Contains, fold}
 pub use Rattle.std.specs.Prelude.{◌⊎◌, if◌then◌else◌, is_some, nat_eq, nat_le}
 pub use Rattle.std.proofs.Common.{◌%◌, ◌++◌, ◌+◌, ◌-◌, ◌<◌, ◌||◌, ◌∙◌, ◌∷◌, ◌≡◌, ◌≢◌, ◌≤◌, [], ap, append_assoc, arith, Bool, drop, Err}
-pub use Rattle.std.proofs.Common.{false, IfOk, inl, inr, IsSome, length, length-append, length-take, List, lit≤, map, None, Ok, Option}
-pub use Rattle.std.proofs.Common.{refl, Result, Some, subst, suc, sym, take, take-append-drop, true, ℕ}
+pub use Rattle.std.proofs.Common.{false, IfOk, inl, inr, IsSome, length, length-append, length-take, List, map, None, Ok, Option, refl}
+pub use Rattle.std.proofs.Common.{Result, Some, subst, suc, sym, take, take-append-drop, true, ℕ}
 pub use Rattle.std.proofs.KnownBytes.{Appends-nil, Appends-trans, Consumes-nil, Consumes-trans}
 pub use Rattle.std.proofs.lemmas.Bool.Decides.{nat_tests}
 pub use Rattle.std.proofs.lemmas.List.{append-nil, append_cancel_left, append_cancel_right, take_all}
 pub use Rattle.std.proofs.lemmas.Result.{err_from_is_err_and}
 pub use Rattle.mm_base.specs.Input.{IsUnbroken, lines_joined, lines_of, onto_first, onto_tail, tail_of}
-pub use Rattle.mm_base.specs.InputLaws.{joined-append, lines_of-append, lines_of-joined, lines_of-line, tail_of-append, tail_of-joined}
-pub use Rattle.mm_base.specs.InputLaws.{tail_of-unbroken}
+pub use Rattle.mm_base.specs.InputLaws.{lines_of-append, lines_of-joined, lines_of-line, tail_of-append, tail_of-joined, tail_of-unbroken}
 pub use Rattle.mm_base.specs.Limits.{last_position, longest_request}
 pub use Rattle.mm_base.specs.Lines.{IsLong, MayGrow}
-pub use Rattle.mm_base.specs.declared.replay_fault.ReplayFault.TheVariants.{BadLine, LineLong, Memory, ReadFault, TooMuch, WriteFault}
+pub use Rattle.mm_base.specs.declared.replay_fault.ReplayFault.TheVariants.{BadLine, LineLong, Memory, TooMuch, WriteFault}
 pub use Rattle.mm_digest.specs.Messages.{extended_message, zero_bytes}
 pub use Rattle.mm_digest.specs.declared.variant.Variant.{Variant}
 pub use Rattle.mm_digest.specs.declared.variant.Variant.TheVariants.{Basic, Opt}
@@ -26,7 +25,7 @@ pub use Rattle.mm_seal.specs.declared.snapshot.Place.TheVariants.{Basic as InBas
 pub use Rattle.mm_platform.specs.Standing.{foreign_item, Item, item_values, Standing}
 pub use Rattle.mm_platform.specs.declared.fault.StepFault.{StepFault}
 pub use Rattle.mm_module.specs.Batch.{Batch, One}
-pub use Rattle.mm_module.specs.Meaning.{IsLawful, Meaning, state_after}
+pub use Rattle.mm_module.specs.Meaning.{IsLawful, Meaning}
 pub use Rattle.mm_model.specs.BatchLaws.{total-nil, total-push}
 pub use Rattle.mm_model.specs.Chains.{after, summary_of, trail}
 pub use Rattle.mm_model.specs.History.{Commit, committed, Entry, first_history, Foreign, History, moved, Own, register_value_of}
@@ -46,7 +45,7 @@ pub use Rattle.mm_model.specs.declared.answer.BatchAnswer.{BatchAnswer}
 pub use Rattle.mm_model.specs.declared.refusal.Refusal.{Refusal}
 pub use Rattle.mm_model.proofs.Above.{opt_digests}
 pub use Rattle.mm_call.specs.Answers.{answer_on}
-pub use Rattle.mm_call.specs.Asked.{counted_part, IsLedTo, IsWithin, IsWithin as IsWithinAll, moves_messages, right_messages}
+pub use Rattle.mm_call.specs.Asked.{counted_part, IsLedTo, IsWithin, moves_messages, right_messages}
 pub use Rattle.mm_call.specs.CallsOn.{CallsOn}
 pub use Rattle.mm_call.specs.Found.{found_at, right_content}
 pub use Rattle.mm_call.specs.Leaving.{Blames, whole, whole_in}
@@ -58,10 +57,10 @@ pub use Rattle.mm_call.specs.Standing.{shown, StandsAt}
 pub use Rattle.mm_call.specs.Tied.{foreign_items, standing_items}
 pub use Rattle.mm_call.specs.WalkLaws.{asks, taking, taking_is}
 pub use Rattle.mm_call.proofs.Above.{agrees_is, Alike, alike_commit, answered_at, bare, clean_open, counted_open, flag_kept, foreign_agrees}
-pub use Rattle.mm_call.proofs.Above.{foreign_all, foreign_may, foreign_messages, GoesOn, grown_by, Hands, hands, holds_made, holds_open}
-pub use Rattle.mm_call.proofs.Above.{idle_again, is_agrees, issued_alike, names_after, names_alike, opened, pushed_open, requests-push}
-pub use Rattle.mm_call.proofs.Above.{said_last, same_closed, shown_back, shown_front, shown_shut, stands_at, stands_for, unless_idle}
-pub use Rattle.mm_call.proofs.Above.{within_items, within_of}
+pub use Rattle.mm_call.proofs.Above.{foreign_all, foreign_may, foreign_messages, grown_by, Hands, hands, holds_made, holds_open, idle_again}
+pub use Rattle.mm_call.proofs.Above.{is_agrees, issued_alike, names_after, names_alike, opened, pushed_open, requests-push, said_last}
+pub use Rattle.mm_call.proofs.Above.{same_closed, shown_back, shown_front, shown_shut, stands_at, stands_for, unless_idle, within_items}
+pub use Rattle.mm_call.proofs.Above.{within_of}
 pub use Rattle.mm_call.proofs.OptAlike.{still}
 pub use Rattle.mm_schedule.specs.Machine.{StepsOn}
 pub use Rattle.mm_store.specs.Calls.{putting, ReadsSlot, WritesSlot}
@@ -83,19 +82,17 @@ pub use Rattle.mm_host.specs.declared.resuming.Resumed.{Resumed}
 pub use Rattle.mm_host.specs.declared.resuming.Resumed.TheVariants.{Answered, Start}
 pub use Rattle.mm_host.proofs.Above.{answered_writes, AnsweredWrites, ask_exit, asked_at, basic_called, basic_content, basic_met}
 pub use Rattle.mm_host.proofs.Above.{both_writes, by_refusal, Called, called_of, CameWrites, counted_most, grows, holds_issued, IsGrownBy}
-pub use Rattle.mm_host.proofs.Above.{IsIssued, IsOffered, IsSame, issued_in_opt, joined, leads_rest, LeadsOn, left_by}
-pub use Rattle.mm_host.proofs.Above.{length-pending_spelling, may_commit, Met, new_most, next_came, next_told, NoMore, not_lost, offered_at}
-pub use Rattle.mm_host.proofs.Above.{one_more, one_waiting, opt_called, opt_grown, opt_met, opt_met_idle, recovers, recovers_by}
-pub use Rattle.mm_host.proofs.Above.{refusal_told, rests, resumes_came, resumes_told, Saw, saw_two, Told, was_powered}
-pub use Rattle.mm_session.specs.AnySlots.{answered_to, AreAmong, AreAskedInTurn, AreFirstOf, AsksNothingNew, EndsRun, IsRefusedFor}
-pub use Rattle.mm_session.specs.AnySlots.{MayStart, offered_after, requests_with, RunsOnce, RunsOnceFrom, says_last, SessionRunsOnce}
+pub use Rattle.mm_host.proofs.Above.{IsOffered, IsSame, issued_in_opt, joined, leads_rest, LeadsOn, left_by, length-pending_spelling, Met}
+pub use Rattle.mm_host.proofs.Above.{new_most, next_came, next_told, NoMore, not_lost, offered_at, one_more, one_waiting, opt_called}
+pub use Rattle.mm_host.proofs.Above.{opt_grown, opt_met, opt_met_idle, recovers, recovers_by, refusal_told, rests, resumes_came}
+pub use Rattle.mm_host.proofs.Above.{resumes_told, Saw, saw_two, Told, was_powered}
+pub use Rattle.mm_session.specs.AnySlots.{answered_to, AreAmong, AreAskedInTurn, AreFirstOf, AsksNothingNew, EndsRun, MayStart}
+pub use Rattle.mm_session.specs.AnySlots.{offered_after, requests_with, RunsOnce, RunsOnceFrom, says_last, SessionRunsOnce}
 pub use Rattle.mm_session.specs.Continuing.{answer_reply, AreToFollow, CanServe, ContinuesTo, HasUntold, history_then, IsInHand}
 pub use Rattle.mm_session.specs.Continuing.{IsNotBeyond, MayBeUntold, RefusesAs, RunsOver, SessionContinues, told_first, told_in}
 pub use Rattle.mm_session.specs.Continuing.{waiting_position}
-pub use Rattle.mm_session.specs.Saying.{comes_as, refusal_text, reply_text, SendsReply, TellsReply, told_cause}
-pub use Rattle.mm_session.specs.Serving.{lines_served, Place, replies_to, Served, Serves, ServesFirst}
-pub use Rattle.mm_session.specs.Sessions.{AfterResume, BeginsWith, EndsSession, IsAtRest, most_lines, Sessions, Stops, StopsAtOnce}
-pub use Rattle.mm_session.specs.Sessions.{StopsInLine}
-pub use Rattle.mm_session.specs.Turns.{goes_on_with, ServedOn, ServesInput, ServesLine, ServesNext, TakesLine}
+pub use Rattle.mm_session.specs.Sessions.{comes_as, refusal_text, reply_text, SendsReply, TellsReply, told_cause, lines_served, Place}
+pub use Rattle.mm_session.specs.Sessions.{replies_to, Served, Serves, AfterResume, BeginsWith, EndsSession, IsAtRest, most_lines, Sessions}
+pub use Rattle.mm_session.specs.Sessions.{StopsAtOnce, StopsInLine, goes_on_with, ServedOn, ServesInput, ServesLine, ServesNext, TakesLine}
 pub use Rattle.mm_session.specs.declared.fault.SessionFault.{SessionFault}
 pub use Rattle.mm_session.specs.declared.fault.SessionFault.TheVariants.{Host, Lines}

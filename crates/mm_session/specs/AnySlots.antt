@@ -1,39 +1,16 @@
 -- What a session comes to whatever the slots hold: old ones that were put back, swapped or altered
 -- ones, ones that can't be read, records of requests that nobody made. What was told is one run of
 -- the module from the history that the platform stands for; a refusal is by the verdict.
-use Rattle.std.specs.Prelude.{◌≡◌, ◌≢◌, ℕ, Bool, false, List, [], ◌∷◌, ◌++◌, Option, None, Some, Result, Err, IsSome, nat_eq, if◌then◌else◌, ◌⊎◌}
-use Rattle.std.specs.List.{Contains}
-use Rattle.mm_base.specs.Input.{lines_of}
-use Rattle.mm_digest.specs.declared.variant.Variant.{Variant}
-use Rattle.mm_digest.specs.declared.variant.Variant.TheVariants.{Basic, Opt}
-use Rattle.mm_platform.specs.Standing.{Item, Standing}
-use Rattle.mm_module.specs.Meaning.{Meaning}
-use Rattle.mm_module.specs.Batch.{Batch, One}
-use Rattle.mm_seal.specs.Snapshot.{Content}
-use Rattle.mm_model.specs.Instance.{Instance}
-use Rattle.mm_model.specs.InstanceWords.{basic, opt}
-use Rattle.mm_model.specs.History.{History, Commit, moved, requests_of, total_of}
-use Rattle.mm_model.specs.Life.{Spoiled, Lost as LostLife, life_of}
-use Rattle.mm_model.specs.Messages.{Within, IsClear, AreNoGuards}
-use Rattle.mm_model.specs.Standing.{StandsFor, IsGenuine, issued_bytes}
-use Rattle.mm_model.specs.declared.refusal.Refusal.{Refusal}
-use Rattle.mm_call.specs.Asked.{IsWithin, right_messages}
-use Rattle.mm_call.specs.Found.{found_at, right_content}
-use Rattle.mm_call.specs.Levels.{by_lists}
-use Rattle.mm_call.specs.Premises.{AreShown, IsIdle}
-use Rattle.mm_call.specs.Refusals.{fault_of}
-use Rattle.mm_call.specs.Tied.{standing_items}
-use Rattle.mm_store.specs.Kept.{StoreStanding}
-use Rattle.mm_store.specs.Pending.{Pending}
-use Rattle.mm_store.specs.Slots.{Slots, slot_read}
+use Rattle.mm_session.specs.Below.{Contains, ◌≡◌, ◌≢◌, ℕ, Bool, false, List, [], ◌∷◌, ◌++◌, Option, None, Some, Result, Err, IsSome, nat_eq}
+use Rattle.mm_session.specs.Below.{if◌then◌else◌, ◌⊎◌, lines_of, Variant, Basic, Opt, Content, Item, Standing, Batch, One, Meaning, History}
+use Rattle.mm_session.specs.Below.{Commit, moved, requests_of, total_of, Instance, basic, opt, Spoiled, LostLife, life_of, Within, IsClear}
+use Rattle.mm_session.specs.Below.{AreNoGuards, StandsFor, IsGenuine, issued_bytes, Refusal, IsWithin, right_messages, found_at}
+use Rattle.mm_session.specs.Below.{right_content, by_lists, AreShown, IsIdle, fault_of, standing_items, StoreStanding, Pending, Slots}
+use Rattle.mm_session.specs.Below.{slot_read, first_offer, IsWaiting, Refused}
 use Rattle.mm_session.specs.declared.fault.SessionFault.{SessionFault}
-use Rattle.mm_host.specs.declared.fault.HostFault.TheVariants.{Refused}
 use Rattle.mm_session.specs.declared.fault.SessionFault.TheVariants.{Host}
 use Rattle.mm_session.specs.Continuing.{HasUntold, IsInHand, RunsOver, told_in}
-use Rattle.mm_session.specs.Serving.{Served, lines_served}
-use Rattle.mm_session.specs.Sessions.{Sessions}
-use Rattle.mm_host.specs.Waiting.{IsWaiting}
-use Rattle.mm_host.specs.Fitting.{first_offer}
+use Rattle.mm_session.specs.Sessions.{Served, lines_served, Sessions}
 
 -- the bytes that are offered next: the last answer's snapshot, and before any answer the first ones
 abbrev pub offered_after : List ℕ → List Served → List ℕ

@@ -1,44 +1,15 @@
 -- What a session comes to by lists alone, in either variant: its replies are those of one run of
 -- the module, and the slots that it leaves fit the history that the platform stands for.
-use Rattle.std.specs.Prelude.{◌≡◌, ◌≢◌, ◌+◌, ◌-◌, ◌<◌, ◌≤◌, ℕ, List, [], ◌∷◌, ◌++◌, Option, None, Some, Result, Ok, Err, true, nat_eq, if◌then◌else◌, ◌⊎◌}
-use Rattle.std.proofs.Common.{inl, inr}
-use Rattle.std.specs.List.{Contains}
-use Rattle.mm_base.specs.Input.{lines_of}
-use Rattle.mm_base.specs.Limits.{last_position}
-use Rattle.mm_digest.specs.declared.variant.Variant.{Variant}
-use Rattle.mm_digest.specs.declared.variant.Variant.TheVariants.{Basic, Opt}
-use Rattle.mm_platform.specs.Standing.{Item, Standing}
-use Rattle.mm_module.specs.Meaning.{Meaning}
-use Rattle.mm_module.specs.Batch.{Batch, One}
-use Rattle.mm_model.specs.Instance.{Instance}
-use Rattle.mm_model.specs.InstanceWords.{basic, opt}
-use Rattle.mm_model.specs.History.{History, Commit, first_history, moved, requests_of, total_of}
-use Rattle.mm_model.specs.Life.{Life, Spoiled, Lost as LostLife, life_of}
-use Rattle.mm_model.specs.Messages.{Within, offer_messages}
-use Rattle.mm_model.specs.Places.{issued}
-use Rattle.mm_model.specs.Standing.{StandsFor}
-use Rattle.mm_model.specs.declared.answer.Answer.{Answer}
-use Rattle.mm_call.specs.Asked.{IsWithin}
-use Rattle.mm_call.specs.Premises.{AreShown}
-use Rattle.mm_call.specs.Tied.{standing_items}
-use Rattle.mm_schedule.specs.declared.reply.Reply.{Reply}
-use Rattle.mm_schedule.specs.declared.reply.Reply.TheVariants.{Told}
-use Rattle.mm_schedule.specs.Machine.{StepsOn}
-use Rattle.mm_store.specs.Kept.{StoreStanding}
-use Rattle.mm_store.specs.Pending.{Pending}
-use Rattle.mm_store.specs.Slots.{Slots, slot_read}
-use Rattle.mm_host.specs.declared.fault.HostFault.{HostFault}
+use Rattle.mm_session.specs.Below.{inl, inr, Contains, ◌≡◌, ◌≢◌, ◌+◌, ◌-◌, ◌<◌, ◌≤◌, ℕ, List, [], ◌∷◌, ◌++◌, Option, None, Some, Result, Ok}
+use Rattle.mm_session.specs.Below.{Err, true, nat_eq, if◌then◌else◌, ◌⊎◌, lines_of, last_position, WriteFault, Variant, Basic, Opt, Item}
+use Rattle.mm_session.specs.Below.{Standing, Batch, One, Meaning, History, Commit, first_history, moved, requests_of, total_of, Instance}
+use Rattle.mm_session.specs.Below.{basic, opt, Life, Spoiled, LostLife, life_of, Within, offer_messages, issued, StandsFor, Answer}
+use Rattle.mm_session.specs.Below.{IsWithin, AreShown, standing_items, StepsOn, Reply, Told, StoreStanding, Pending, Slots, slot_read}
+use Rattle.mm_session.specs.Below.{FitsHistory, AsksIdly, CanRecover, IsRefusedAs, MayHaveCommitted, IsWaiting, HostFault, Store, Refused}
+use Rattle.mm_session.specs.Below.{Resumed, Answered}
 use Rattle.mm_session.specs.declared.fault.SessionFault.{SessionFault}
-use Rattle.mm_host.specs.declared.fault.HostFault.TheVariants.{Memory, Store, Refused}
 use Rattle.mm_session.specs.declared.fault.SessionFault.TheVariants.{Host, Lines}
-use Rattle.mm_base.specs.declared.replay_fault.ReplayFault.TheVariants.{WriteFault}
-use Rattle.mm_host.specs.declared.resuming.Resumed.{Resumed}
-use Rattle.mm_host.specs.declared.resuming.Resumed.TheVariants.{Start, Answered}
-use Rattle.mm_host.specs.Fitting.{FitsHistory}
-use Rattle.mm_host.specs.Recovery.{AsksIdly, CanRecover, IsRefusedAs, MayHaveCommitted}
-use Rattle.mm_session.specs.Serving.{Served}
-use Rattle.mm_session.specs.Sessions.{AfterResume, BeginsWith, Sessions}
-use Rattle.mm_host.specs.Waiting.{IsWaiting}
+use Rattle.mm_session.specs.Sessions.{Served, AfterResume, BeginsWith, Sessions}
 
 -- What is asked of requests that are to follow a history, one after another: each is among those
 -- asked, the messages of a call that offers the snapshot of the end are in the list, and there is a
@@ -79,7 +50,7 @@ pub record IsNotBeyond (slots : Slots) (position : ℕ) : Type 0 where
 
 -- the reply that an answer is
 abbrev pub answer_reply : Answer → Reply
-answer_reply answer = Told answer.again (answer.position - 1) (answer.output ∷ [])
+answer_reply answer = Told answer.again answer.position (answer.output ∷ [])
 
 -- Requests are asked one after another, and these answers are the replies of one run of the module,
 -- from some requests to others.
@@ -91,9 +62,8 @@ RunsOver meaning requests (c ∷ calls) after =
 
 -- what waited, with its answer
 abbrev pub told_first : Option Pending → Resumed → List Served
-told_first None last = []
-told_first (Some p) (Start first) = []
 told_first (Some p) (Answered answer) = record { line = p.request; answer = answer } ∷ []
+told_first _ _ = []
 
 -- the requests that a session told, each with its answer
 abbrev pub told_in : {variant : Variant} {meaning : Meaning} {begun : Result Resumed HostFault}
@@ -123,11 +93,8 @@ MayBeUntold (Err (Lines fault)) = fault ≡ WriteFault
 
 -- A refusal is a device's fault; or in Opt it tells how the history has ended.
 abbrev pub RefusesAs : {T : Type 0} → Result T SessionFault → Life → Type 0
-RefusesAs (Ok it) _ = Unit {0}
-RefusesAs (Err (Host Memory)) _ = Unit {0}
-RefusesAs (Err (Host Store)) _ = Unit {0}
 RefusesAs (Err (Host (Refused why))) how = IsRefusedAs why how
-RefusesAs (Err (Lines fault)) _ = Unit {0}
+RefusesAs _ _ = Unit {0}
 
 -- one request more than those told is committed, the one in hand
 pub record HasUntold (hand : List ℕ → Type 0) (result : Result Unit SessionFault)

@@ -1,7 +1,5 @@
-pub mod Saying
-pub mod Serving
+pub mod Below
 pub mod Sessions
-pub mod Turns
 pub mod SessionBlame
 pub mod Continuing
 pub mod SessionLines

@@ -1,11 +1,8 @@
 -- When the lines of an input are to blame for a session's end.
-use Rattle.std.specs.Prelude.{◌≡◌, ◌≤◌, ℕ, List, [], length, Option, Some, Result, Ok, Err}
-use Rattle.std.specs.List.{AllByRecursion}
-use Rattle.mm_base.specs.Input.{lines_of, tail_of}
-use Rattle.mm_base.specs.Limits.{longest_request}
-use Rattle.mm_play.specs.Plays.{IsUnrefused}
+use Rattle.mm_session.specs.Below.{AllByRecursion, ◌≡◌, ◌≤◌, ℕ, List, [], length, Option, Some, Result, Err, lines_of, tail_of}
+use Rattle.mm_session.specs.Below.{longest_request, IsUnrefused}
 use Rattle.mm_session.specs.declared.fault.SessionFault.{SessionFault}
-use Rattle.mm_session.specs.declared.fault.SessionFault.TheVariants.{Host, Lines}
+use Rattle.mm_session.specs.declared.fault.SessionFault.TheVariants.{Lines}
 use Rattle.mm_session.specs.Sessions.{most_lines}
 
 -- Each line has its LF and no more bytes than a line may have, and there are no more lines than
@@ -17,9 +14,8 @@ pub record AreWithin (input : List ℕ) : Type 0 where
 
 -- no line is to blame
 abbrev pub IsNoLines : {T : Type 0} → Result T SessionFault → Type 0
-IsNoLines (Ok it) = Unit {0}
-IsNoLines (Err (Host fault)) = Unit {0}
 IsNoLines {T} (Err (Lines fault)) = IsUnrefused {T = T} (Err fault)
+IsNoLines _ = Unit {0}
 
 -- An input that tells its bytes, whose lines are within the limits, isn't blamed for them.
 abbrev pub SparesLines : Option (List ℕ) → Result Unit SessionFault → Type 0

@@ -1,18 +1,9 @@
 -- How often a session is to write the cell.
-use Rattle.std.specs.Prelude.{◌≢◌, ◌+◌, ◌≤◌, ℕ, List, [], ◌∷◌, length, Option, Result}
-use Rattle.std.proofs.Common.{inl, inr}
-use Rattle.mm_base.specs.Input.{lines_of}
-use Rattle.mm_digest.specs.declared.variant.Variant.{Variant}
-use Rattle.mm_platform.specs.Standing.{Standing}
-use Rattle.mm_module.specs.Meaning.{Meaning}
-use Rattle.mm_store.specs.Kept.{StoreStanding}
-use Rattle.mm_host.specs.declared.fault.HostFault.{HostFault}
+use Rattle.mm_session.specs.Below.{inl, inr, ◌≢◌, ◌+◌, ◌≤◌, ℕ, List, [], ◌∷◌, length, Option, Result, lines_of, Variant, Standing, Meaning}
+use Rattle.mm_session.specs.Below.{StoreStanding, WritesFor, new_by, new_first, HostFault, Resumed}
 use Rattle.mm_session.specs.declared.fault.SessionFault.{SessionFault}
-use Rattle.mm_host.specs.declared.resuming.Resumed.{Resumed}
-use Rattle.mm_host.specs.CellWrites.{WritesFor, new_by, new_first}
 use Rattle.mm_session.specs.Continuing.{MayBeUntold}
-use Rattle.mm_session.specs.Serving.{Served}
-use Rattle.mm_session.specs.Sessions.{AfterResume, Sessions}
+use Rattle.mm_session.specs.Sessions.{Served, AfterResume, Sessions}
 
 -- the new requests among the lines that were answered
 abbrev pub new_lines : List Served → ℕ

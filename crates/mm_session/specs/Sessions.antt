@@ -1,23 +1,97 @@
--- A session: it goes on after a stop, and then answers each line of its input before it reads the
--- next.
-use Rattle.std.specs.Prelude.{◌≡◌, ◌+◌, ◌<◌, ◌≤◌, ℕ, List, [], ◌∷◌, ◌++◌, length, Option, Result, Ok, Err, ◌⊎◌}
-use Rattle.std.specs.Io.KnownBytes.{Appends, Consumes, IsAtEnd}
-use Rattle.mm_base.specs.Input.{lines_joined}
-use Rattle.mm_base.specs.Lines.{IsLong, MayGrow}
-use Rattle.mm_base.specs.Limits.{longest_request}
-use Rattle.mm_digest.specs.declared.variant.Variant.{Variant}
-use Rattle.mm_platform.specs.Standing.{Standing}
-use Rattle.mm_module.specs.Meaning.{Meaning}
-use Rattle.mm_store.specs.Kept.{StoreStanding}
-use Rattle.mm_host.specs.declared.fault.HostFault.{HostFault}
+-- A session, by its steps: what it writes, the lines that it serves, and each turn.
+use Rattle.mm_session.specs.Below.{Appends, Consumes, IsAtEnd, ◌≡◌, ◌≢◌, ℕ, List, [], ◌∷◌, ◌++◌, codes, Option, None, Some, Result, Ok, Err}
+use Rattle.mm_session.specs.Below.{◌⊎◌, ◌+◌, ◌<◌, ◌≤◌, length, lines_joined, longest_request, MayGrow, IsLong, WriteFault, ReadFault}
+use Rattle.mm_session.specs.Below.{LineLong, BadLine, TooMuch, Variant, Standing, Meaning, Answer, Refusal, cause_text, told_line, Cause}
+use Rattle.mm_session.specs.Below.{StoreStanding, IsFrontOf, AsksNext, Resumes, HostFault, Memory, Refused, Resumed, Answered}
 use Rattle.mm_session.specs.declared.fault.SessionFault.{SessionFault}
 use Rattle.mm_session.specs.declared.fault.SessionFault.TheVariants.{Host, Lines}
-use Rattle.mm_base.specs.declared.replay_fault.ReplayFault.TheVariants.{Memory, ReadFault, WriteFault, LineLong, BadLine, TooMuch}
-use Rattle.mm_host.specs.declared.resuming.Resumed.{Resumed}
-use Rattle.mm_host.specs.Resumes.{Resumes}
-use Rattle.mm_session.specs.Saying.{reply_text, SendsReply}
-use Rattle.mm_host.specs.Next.{AsksNext}
-use Rattle.mm_session.specs.Serving.{Place, Served, Serves, lines_served, replies_to}
+use Rattle.mm_base.specs.declared.replay_fault.ReplayFault.TheVariants.{Memory}
+use Rattle.mm_model.specs.declared.refusal.Refusal.TheVariants as refusal
+use Rattle.mm_schedule.specs.declared.reply.Cause.TheVariants as cause
+
+-- What a session writes.
+
+-- the word of a refusal that is told
+abbrev pub told_cause : Refusal → Option Cause
+told_cause refusal.Form = Some cause.Form
+told_cause refusal.Kind = Some cause.Kind
+told_cause refusal.State = Some cause.State
+told_cause refusal.Tag = Some cause.Tag
+told_cause refusal.Stale = Some cause.Stale
+told_cause refusal.Full = Some cause.Full
+told_cause _ = None
+
+-- the line `no CAUSE`
+abbrev pub refusal_text : Option Cause → List ℕ
+refusal_text None = []
+refusal_text (Some why) = codes "no " ++ cause_text why ++ 10 ∷ []
+
+-- what is written for what a recovery or a line came to: the line of its answer, or of its refusal
+abbrev pub reply_text : Result Resumed HostFault → List ℕ
+reply_text (Ok (Answered answer)) = told_line answer.again answer.position answer.output
+reply_text (Err (Refused why)) = refusal_text (told_cause why)
+reply_text _ = []
+
+abbrev pub comes_as : Result Resumed HostFault → Result Resumed SessionFault
+comes_as (Ok resumed) = Ok resumed
+comes_as (Err fault) = Err (Host fault)
+
+-- All of the text went out, and what came is handed on; or the output failed, and a front of it
+-- went out.
+abbrev pub SendsReply : Result Resumed HostFault → List ℕ → Result Resumed SessionFault → Type 0
+SendsReply came sent result =
+    ((sent ≡ reply_text came) × (result ≡ comes_as came))
+    ⊎ ((result ≡ Err (Lines WriteFault)) × (reply_text came ≢ [])
+    × IsFrontOf sent (reply_text came))
+
+pub record TellsReply (came : Result Resumed HostFault) (received received' : Option (List ℕ))
+    (result : Result Resumed SessionFault) : Type 0 where
+  pub sent : List ℕ
+  pub appended : Appends received received' sent
+  pub says : SendsReply came sent result
+
+-- The lines that a session serves, one after another. Nothing is asked for these steps.
+
+-- where a session stands: its platform, its store, and what it came to last
+pub record Place : Type 0 where
+  pub platform : Standing
+  pub store : StoreStanding
+  pub last : Resumed
+
+-- a line, and the answer to it
+pub record Served : Type 0 where
+  pub line : List ℕ
+  pub answer : Answer
+
+-- The line is asked and answered, and the session goes on.
+pub record ServesFirst (variant : Variant) (meaning : Meaning) (from : Place) (c : Served)
+    (goes : Place → Type 0) : Type 0 where
+  pub within : MayGrow longest_request c.line
+  pub platform : Standing
+  pub store : StoreStanding
+  pub asks : AsksNext variant meaning from.platform platform from.store store from.last c.line
+      (Ok (Answered c.answer))
+  pub rest : goes (record { platform = platform; store = store; last = Answered c.answer })
+
+-- These lines are asked one after another, each with the snapshot of the answer before, and
+-- answered so.
+abbrev pub Serves : Variant → Meaning → Place → List Served → Place → Type 0
+Serves variant meaning from [] to = to ≡ from
+Serves variant meaning from (c ∷ calls) to =
+    ServesFirst variant meaning from c (λ next. Serves variant meaning next calls to)
+
+-- the lines that were served, and what was written for them
+abbrev pub lines_served : List Served → List (List ℕ)
+lines_served [] = []
+lines_served (c ∷ calls) = c.line ∷ lines_served calls
+
+abbrev pub replies_to : List Served → List ℕ
+replies_to [] = []
+replies_to (c ∷ calls) =
+    told_line c.answer.again c.answer.position c.answer.output ++ replies_to calls
+
+-- A session: it goes on after a stop, and then answers each line of its input before it reads the
+-- next.
 
 -- the most lines
 abbrev pub most_lines : ℕ
@@ -142,3 +216,90 @@ pub record Sessions (variant : Variant) (meaning : Meaning) (before after : Stan
     pub store : StoreStanding
     pub resumes : Resumes variant meaning before platform old store begun
     pub goes : AfterResume variant meaning begun platform after store new left' taken sent result
+
+-- One turn of a session: a line is read and served, or it ends.
+
+-- The line of this number is asked, and what comes is told.
+pub record AsksAndTells (variant : Variant) (meaning : Meaning) (at : Place) (after : Standing)
+    (new : StoreStanding)
+    (received received' : Option (List ℕ)) (line : List ℕ)
+    (result : Result Resumed SessionFault) : Type 0 where
+  pub came : Result Resumed HostFault
+  pub asks : AsksNext variant meaning at.platform after at.store new at.last line came
+  pub tells : TellsReply came received received' result
+
+-- the session goes on with what was told
+abbrev pub goes_on_with : Result Resumed SessionFault → Result (Option Resumed) SessionFault
+goes_on_with (Ok next) = Ok (Some next)
+goes_on_with (Err fault) = Err fault
+
+pub record IsOneTooMany (number : ℕ) (at : Place) (after : Standing) (new : StoreStanding)
+    (received received' : Option (List ℕ))
+    (result : Result (Option Resumed) SessionFault) : Type 0 where
+  pub many : most_lines < number
+  pub platform : after ≡ at.platform
+  pub store : new ≡ at.store
+  pub received_same : received' ≡ received
+  pub gives : result ≡ Err (Lines TooMuch)
+
+pub record IsServed (variant : Variant) (meaning : Meaning) (number : ℕ) (at : Place)
+    (after : Standing) (new : StoreStanding)
+    (received received' : Option (List ℕ)) (line : List ℕ)
+    (result : Result (Option Resumed) SessionFault) : Type 0 where
+  pub few : number ≤ most_lines
+  pub told : Result Resumed SessionFault
+  pub asks : AsksAndTells variant meaning at after new received received' line told
+  pub gives : result ≡ goes_on_with told
+
+-- The line of this number is one too many, or it is asked and told.
+abbrev pub TakesLine : Variant → Meaning → ℕ → Place → Standing → StoreStanding → Option (List ℕ)
+    → Option (List ℕ) → List ℕ
+    → Result (Option Resumed) SessionFault → Type 0
+TakesLine variant meaning number at after new received received' line result =
+    IsOneTooMany number at after new received received' result
+    ⊎ IsServed variant meaning number at after new received received' line result
+
+-- The line was answered, and the answer told.
+pub record ServesLine (variant : Variant) (meaning : Meaning) (number : ℕ) (at : Place)
+    (after : Standing) (new : StoreStanding)
+    (bytes held sent : List ℕ) (next : Resumed) : Type 0 where
+  pub line : List ℕ
+  pub begins : BeginsWith bytes line held
+  pub few : number ≤ most_lines
+  pub answer : Answer
+  pub answered : next ≡ Answered answer
+  pub asks : AsksNext variant meaning at.platform after at.store new at.last line
+      (Ok (Answered answer))
+  pub told : sent ≡ reply_text (Ok (Answered answer))
+
+-- By the answer: `bytes` are those held before and those taken, and `held` those held after.
+abbrev pub ServedOn : Variant → Meaning → ℕ → Place → Standing → StoreStanding → Option (List ℕ)
+    → List ℕ → List ℕ → List ℕ
+    → Result (Option Resumed) SessionFault → Type 0
+ServedOn variant meaning number at after new left bytes held sent (Ok (Some next)) =
+    ServesLine variant meaning number at after new bytes held sent next
+ServedOn variant meaning number at after new left bytes held sent (Ok None) =
+    IsAtRest at after new sent × (bytes ≡ []) × IsAtEnd left
+ServedOn variant meaning number at after new left bytes held sent (Err fault) =
+    Stops variant meaning number at after new left bytes sent fault
+
+pub record ServesNext (variant : Variant) (meaning : Meaning) (number : ℕ) (at : Place)
+    (after : Standing) (new : StoreStanding)
+    (left left' : Option (List ℕ)) (held held' : List ℕ) (received received' : Option (List ℕ))
+    (result : Result (Option Resumed) SessionFault) : Type 0 where
+  pub taken : List ℕ
+  pub sent : List ℕ
+  pub consumed : Consumes left left' taken
+  pub appended : Appends received received' sent
+  pub went : ServedOn variant meaning number at after new left' (held ++ taken) held' sent result
+
+-- The lines of an input are served, with what was taken and written for them.
+pub record ServesInput (variant : Variant) (meaning : Meaning) (from : Place) (after : Standing)
+    (new : StoreStanding)
+    (left left' received received' : Option (List ℕ)) (result : Result Unit SessionFault) : Type 0
+  where
+    pub taken : List ℕ
+    pub sent : List ℕ
+    pub consumed : Consumes left left' taken
+    pub appended : Appends received received' sent
+    pub lines : ServesLines variant meaning from after new left' taken sent result

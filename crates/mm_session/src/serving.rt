@@ -10,8 +10,7 @@ ghost use Rattle.mm_session.specs.Continuing.{SessionContinues};
 ghost use Rattle.mm_session.specs.SessionBlame.{IsRefusalNamed, is_platform_fault, is_read_fault, is_store_fault, is_write_fault};
 ghost use Rattle.mm_session.specs.SessionLines.{SparesLines};
 ghost use Rattle.mm_session.specs.SessionWrites.{SessionWrites};
-ghost use Rattle.mm_session.specs.Sessions.{Sessions, most_lines};
-ghost use Rattle.mm_session.specs.Turns.{AsksAndTells, ServesInput, TakesLine, ServesNext};
+ghost use Rattle.mm_session.specs.Sessions.{Sessions, most_lines, AsksAndTells, ServesInput, TakesLine, ServesNext};
 
 use crate::fault::SessionFault;
 use crate::telling::tell;

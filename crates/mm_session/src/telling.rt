@@ -9,7 +9,7 @@ ghost use Rattle.mm_schedule.specs.RepliesWords.{told_line};
 ghost use Rattle.mm_host.specs.declared.fault.HostFault.TheVariants.{Refused};
 ghost use Rattle.mm_host.specs.declared.resuming.Resumed.TheVariants.{Answered};
 ghost use Rattle.mm_host.specs.Last.{IsSized};
-ghost use Rattle.mm_session.specs.Saying.{TellsReply, told_cause, refusal_text};
+ghost use Rattle.mm_session.specs.Sessions.{TellsReply, told_cause, refusal_text};
 ghost use Rattle.mm_session.specs.SessionBlame.{is_write_fault};
 
 use crate::fault::SessionFault;

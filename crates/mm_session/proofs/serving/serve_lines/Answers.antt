@@ -1,17 +1,17 @@
-use Rattle.mm_session.proofs.Below.{◌∙◌, ap, Ok, Err, refl, err_from_is_err_and}
-use Rattle.mm_session.proofs.Lining.{stands_first, stands_on, serves_ended}
+use Rattle.mm_session.proofs.Below.{◌∙◌, ap, Ok, Err, refl, arith, err_from_is_err_and}
+use Rattle.mm_session.proofs.Turning.{one_more_few, rest_ends, rest_on, serves_all}
 use Rattle.mm_session.proofs.serving.serve_lines.Goals as goal
 
 pub returns-in_err-next-clause-serves : goal.returns-in_err-next-clause-serves
 returns-in_err-next-clause-serves g c =
     let p = err_from_is_err_and c.from_residual.result c.from_residual.ensures.1 in
-    rw (p.1, p.2) (serves_ended c.args.hosted.now.variant (g.M.Module.meaning c.args.hosted.now.module.now) _ _ c.lines.turn.number _ _
-    _ _ _ _ _ _ c.lines.reader c.serve_next.new.reader c.serve_next.result (Err _) c.lines.invariant.stands
-    c.serve_next.ensures.turns c.in_err-next.was)
+    rw (p.1, p.2) (serves_all (c.lines.invariant.rests _ _ _ _ _
+    (rest_ends c.serve_next.ensures.turns (Err _) c.lines.invariant.few c.in_err-next.was)))
 
 pub lines-init : goal.lines-init
 lines-init g c = record {
-  stands = rw c.requires.nothing (stands_first _ _ _ _ _);
+  rests = λ after new left received result r. rw c.requires.nothing at r;
+  few = omega arith;
   sized = c.requires.sized;
   input = refl;
   output = refl;
@@ -21,9 +21,9 @@ pub lines-preserved : goal.lines-preserved
 lines-preserved g c =
     let went = c.in_ok-next.was ∙ ap Ok c.in-Some.is in
     record {
-      stands = stands_on c.args.hosted.now.variant (g.M.Module.meaning c.args.hosted.now.module.now) _ _ c.lines.turn.number _ _
-          c.in-Some.next
-          _ _ _ _ _ _ c.lines.reader c.serve_next.new.reader c.serve_next.result c.lines.invariant.stands c.serve_next.ensures.turns went;
+      rests = λ after new left received result r.
+          c.lines.invariant.rests after new left received result (rest_on c.serve_next.ensures.turns c.in-Some.next went r);
+      few = one_more_few c.serve_next.ensures.turns c.in-Some.next went;
       sized = rw c.in-Some.is at c.in_ok-next.ensures.sized;
       input = c.in_ok-next.ensures.read ∙ c.lines.invariant.input;
       output = c.in_ok-next.ensures.wrote ∙ c.lines.invariant.output;
@@ -31,6 +31,5 @@ lines-preserved g c =
 
 pub returns-clause-serves : goal.returns-clause-serves
 returns-clause-serves g c =
-    serves_ended c.args.hosted.now.variant (g.M.Module.meaning c.args.hosted.now.module.now) _ _ c.lines.turn.number _ _
-    _ _ _ _ _ _ c.lines.reader c.serve_next.new.reader c.serve_next.result (Ok _) c.lines.invariant.stands c.serve_next.ensures.turns
-    (c.in_ok-next.was ∙ ap Ok c.in_default.is)
+    serves_all (c.lines.invariant.rests _ _ _ _ _ (rest_ends c.serve_next.ensures.turns (Ok _) c.lines.invariant.few
+    (c.in_ok-next.was ∙ ap Ok c.in_default.is)))

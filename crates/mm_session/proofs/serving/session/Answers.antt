@@ -1,18 +1,17 @@
-use Rattle.mm_session.proofs.RunningOnce.{session_runs_once}
-use Rattle.mm_session.proofs.SessionBlaming.{session_told}
+use Rattle.mm_session.proofs.Counting.{session_counted, session_writes}
+use Rattle.mm_session.proofs.Looking.{session_runs_once}
 use Rattle.mm_session.proofs.SessionRuns.{continues}
-use Rattle.mm_session.proofs.SessionWriting.{session_writes}
-use Rattle.mm_session.proofs.SparingLines.{spares_lines}
+use Rattle.mm_session.proofs.Lines.{spares_lines}
 use Rattle.mm_session.proofs.serving.session.Goals as goal
 
 pub returns-clause-platform : goal.returns-clause-platform
-returns-clause-platform g c = (session_told _ _ _ _ _ _ _ _ _ _ _ c.session_by_steps.ensures.sessions).platform
+returns-clause-platform g c = (session_counted c.session_by_steps.ensures.sessions).says.platform
 
 pub returns-clause-store : goal.returns-clause-store
-returns-clause-store g c = (session_told _ _ _ _ _ _ _ _ _ _ _ c.session_by_steps.ensures.sessions).store
+returns-clause-store g c = (session_counted c.session_by_steps.ensures.sessions).says.store
 
 pub returns-clause-named : goal.returns-clause-named
-returns-clause-named g c = (session_told _ _ _ _ _ _ _ _ _ _ _ c.session_by_steps.ensures.sessions).named
+returns-clause-named g c = (session_counted c.session_by_steps.ensures.sessions).says.named
 
 pub returns-clause-continues : goal.returns-clause-continues
 returns-clause-continues g c =
@@ -20,10 +19,10 @@ returns-clause-continues g c =
     c.session_by_steps.result
 
 pub returns-clause-lines : goal.returns-clause-lines
-returns-clause-lines g c = spares_lines _ _ _ _ _ _ _ _ _ _ _ c.session_by_steps.ensures.sessions
+returns-clause-lines g c = spares_lines c.session_by_steps.ensures.sessions
 
 pub returns-clause-writes : goal.returns-clause-writes
-returns-clause-writes g c = session_writes _ _ _ _ _ _ _ _ _ _ _ c.session_by_steps.ensures.sessions
+returns-clause-writes g c = session_writes c.session_by_steps.ensures.sessions
 
 pub returns-clause-once : goal.returns-clause-once
 returns-clause-once g c =
