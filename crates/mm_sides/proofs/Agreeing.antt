@@ -8,14 +8,15 @@ use Rattle.mm_sides.proofs.Below.{Role, Effect, Invites, Leaves, Enters, Notes, 
 use Rattle.mm_sides.proofs.Below.{MoveCause, FoundMove, Act, Plain, Moves, Entered, move_steps, is_moved, effect_if, effect_of}
 use Rattle.mm_sides.proofs.Below.{stopped_moves, brought_to, affected_if, handed, told, move_ended, moved_if, finding, outcome_here}
 use Rattle.mm_sides.proofs.Below.{noted_if, read_moves, found_moves, command_messages, messages_here, others_in, batches_in, IsGenuineHere}
-use Rattle.mm_sides.proofs.Below.{IsOursIn, history_at}
+use Rattle.mm_sides.proofs.Below.{IsOursIn, history_now}
 use Rattle.mm_sides.proofs.Found.{Fits, FitsFound, FitsIn, finding_fits, IsFine, pushed_last, unbroken, found_is, ended_told, affected_order, EntersSo, enters_so}
-use Rattle.mm_sides.proofs.Outer.{AreOuter, found_outer, stopped_outer, due_among, IsAlike, same_batches, same_open, brought_alike, events_agree, events_keep_names, stop_listed, Lasting, outer_lasting, outer_keeps}
-use Rattle.mm_sides.proofs.InOrder.{not_dead, invites_none, leaves_live, roles_are_one}
+use Rattle.mm_sides.proofs.Outer.{AreOuter, found_outer, stopped_outer, due_among, IsAlike, same_batches, same_open, brought_alike, events_agree, stop_listed, outer_keeps}
+use Rattle.mm_sides.proofs.InOrder.{not_dead, invites_none, leaves_live}
+use Rattle.mm_sides.proofs.OneHistory.{live_history, away_history, affected_history}
 use Rattle.mm_sides.proofs.OneLive.{IsOrdered}
-use Rattle.mm_sides.proofs.Rests.{names_cross, issued_cross, within_cross, cell_cross, digest_rests, says_again, rests_listed, flag_shut, sound_in, issued_names, here_tells, end_of}
+use Rattle.mm_sides.proofs.Rests.{names_cross, alike_names, issued_cross, within_cross, cell_cross, digest_rests, says_again, rests_listed, flag_shut, sound_in, issued_here, here_tells, end_of}
 use Rattle.mm_sides.proofs.Twins.{Twin, twin, IsNamed, Kept, Goes, each_goes, brought_kept, plain_goes}
-use Rattle.mm_sides.proofs.SameFound.{named_of, live_history, finding_same}
+use Rattle.mm_sides.proofs.SameFound.{named_of, finding_same}
 
 module _ (variant : Variant) (meaning : Meaning) (key key' barrier : List ℕ) (all others : List (List ℕ)) (asked : List Batch)
     (clear : IsClear all)
@@ -30,18 +31,15 @@ module _ (variant : Variant) (meaning : Meaning) (key key' barrier : List ℕ) (
 
   -- what an effect that is made tells of the history where the first side was brought to
   abbrev Makes : History → Option Effect → Type 0
-  Makes z None = Unit {0}
-  Makes z (Some (Invites nonce)) = Unit {0}
   Makes z (Some (Leaves ticket)) = (z.is_open ≡ false) × Names me z ticket.content × (ticket.content ≡ issued me z)
-  Makes z (Some (Enters ticket)) = Unit {0}
+  Makes z effect = Unit {0}
 
   -- what by digests says where the module stands once it has entered
   abbrev Entering : Both History History → Twin → Twin → Option Effect → Type 0
   Entering l x at None = at ≡ x
-  Entering l x at (Some (Invites nonce)) = Unit {0}
-  Entering l x at (Some (Leaves ticket)) = Unit {0}
   Entering l x at (Some (Enters ticket)) =
       digests_move.says me at.first ticket.content ≡ issued me (record l.away { items = l.first.at.items })
+  Entering l x at (Some effect) = Unit {0}
 
   -- The effect makes the same of both, and what holds before holds after.
   record Affects (l : Both History History) (x : Twin) (notes : Notes) (effect : Option Effect) : Type 0 where
@@ -53,9 +51,7 @@ module _ (variant : Variant) (meaning : Meaning) (key key' barrier : List ℕ) (
   invites_goes : (l : Both History History) (x : Twin) (notes : Notes) (nonce : List ℕ) → Kept all others asked me them l x notes
       → IsFine l.first.role notes (Some (Invites nonce)) → Affects l x notes (Some (Invites nonce))
   invites_goes l x notes nonce k fine =
-      let dead : is_live l.first.role ≡ false = invites_none l.first.role nonce fine.0 in
-      let N : Bool → Type 0 = λ f. AllByRecursion
-      (IsNamed all me (history_at f (is_live l.second.role) l.first.at l.second.at l.away)) notes.retired in
+      let effect : Option Effect = Some (Invites nonce) in
       record {
         at = x;
         same = refl;
@@ -63,9 +59,9 @@ module _ (variant : Variant) (meaning : Meaning) (key key' barrier : List ℕ) (
           this = record { keeps = k.this.keeps; shut = tt };
           other = k.other;
           left = k.left;
-          order = affected_order lists_move l notes (Some (Invites nonce)) k.order fine;
-          named = subst N dead k.named;
-          last = λ gone left ticket is. k.last dead left ticket is;
+          order = affected_order lists_move l notes effect k.order fine;
+          named = subst (λ y. AllByRecursion (IsNamed all me y) notes.retired) (sym (affected_history l notes effect k.order fine)) k.named;
+          last = λ gone left ticket is. k.last (invites_none l.first.role nonce fine.0) left ticket is;
         };
         entering = tt;
       }
@@ -75,10 +71,8 @@ module _ (variant : Variant) (meaning : Meaning) (key key' barrier : List ℕ) (
       → Affects l x notes (Some (Leaves ticket))
   leaves_goes l x notes ticket k fine made =
       let y : History = l.first.at in
-      let live : is_live l.first.role ≡ true = leaves_live l.first.role ticket fine.0 in
-      let none : is_live l.second.role ≡ false = roles_are_one l.first.role l.second.role notes k.order live in
-      let here : AllByRecursion (IsNamed all me y) notes.retired =
-      subst (λ f. AllByRecursion (IsNamed all me (history_at f (is_live l.second.role) y l.second.at l.away)) notes.retired) live k.named in
+      let effect : Option Effect = Some (Leaves ticket) in
+      let now : history_now l ≡ y = live_history l (leaves_live l.first.role ticket fine.0) in
       let own : IsNamed all me y ticket = (
         made.1,
         subst (λ (c : Content). Within (place_messages c.place) all) (sym made.2) (rests_listed variant meaning key barrier y all made.0),
@@ -90,9 +84,11 @@ module _ (variant : Variant) (meaning : Meaning) (key key' barrier : List ℕ) (
           this = record { keeps = k.this.keeps; shut = made.0 };
           other = k.other;
           left = record { count_is = k.this.keeps.agrees.count; shut = made.0; within = k.this.keeps.within };
-          order = affected_order lists_move l notes (Some (Leaves ticket)) k.order fine;
-          named = subst (λ f. AllByRecursion (IsNamed all me (history_at false f y l.second.at y)) (notes.retired ++ ticket ∷ []))
-              (sym none) (each_append (IsNamed all me y) notes.retired (ticket ∷ []) here (own, tt));
+          order = affected_order lists_move l notes effect k.order fine;
+          named = subst (λ w. AllByRecursion (IsNamed all me w) (notes.retired ++ ticket ∷ []))
+              (sym (affected_history l notes effect k.order fine))
+              (each_append (IsNamed all me (history_now l)) notes.retired (ticket ∷ []) k.named
+              (subst (λ w. IsNamed all me w ticket) (sym now) own, tt));
           last = λ gone left other is. ap (λ (t : TicketContent). t.content) (pushed_last notes.retired ticket other is) ∙ made.2;
         };
         entering = tt;
@@ -108,9 +104,7 @@ module _ (variant : Variant) (meaning : Meaning) (key key' barrier : List ℕ) (
       let digest = ap (λ (c : Content). (summary_in c.place).bytes) is ∙ digest_rests variant meaning key barrier l.away k.left.shut
       ∙ cell_cross variant meaning key key barrier l.away own.items in
       let away_named : AllByRecursion (IsNamed all me l.away) notes.retired =
-      subst (λ f. AllByRecursion (IsNamed all me (history_at false f own l.second.at l.away)) notes.retired) alone.not_there
-      (subst (λ f. AllByRecursion (IsNamed all me (history_at f (is_live l.second.role) own l.second.at l.away)) notes.retired)
-      alone.not_here k.named) in
+      subst (λ y. AllByRecursion (IsNamed all me y) notes.retired) (away_history l alone.not_here alone.not_there) k.named in
       record {
         at = record x { first = digests_move.enters x.first x.away ticket.content };
         same = refl;
@@ -151,9 +145,8 @@ module _ (variant : Variant) (meaning : Meaning) (key key' barrier : List ℕ) (
 
   -- what is told of both sides: of a ticket that was accepted, that where the module stands now it says so
   abbrev Says : Both History History → Twin → Effect → Type 0
-  Says l x (Invites nonce) = Unit {0}
-  Says l x (Leaves ticket) = Unit {0}
   Says l x (Enters ticket) = digests_move.says me x.first ticket.content ≡ issued me l.first.at
+  Says l x effect = Unit {0}
 
   told_goes : (pair : Pair) (l : Both History History) (x : Twin) (notes : Notes) (effect : Effect) (made : Option Effect)
       → Kept all others asked me them l x (noted_if made notes) → Says l x effect → Goes all others asked me them notes
@@ -195,7 +188,6 @@ module _ (variant : Variant) (meaning : Meaning) (key key' barrier : List ℕ) (
   record Brings (y z : History) (d : Digests) : Type 0 where
     keeps : Keeps all others asked me z d
     alike : IsAlike y z
-    names : (c : Content) → Names me y c → Names me z c
 
   brings : (y : History) (d : Digests) (meddles : List Meddle) (stop : Stop) (found : Result FoundMove MoveCause)
       → Keeps all others asked me y d → AllByRecursion (Contains others) (map (λ (m : Meddle). m.value.bytes) meddles)
@@ -210,14 +202,10 @@ module _ (variant : Variant) (meaning : Meaning) (key key' barrier : List ℕ) (
       let middle : History = all_made (by_lists me) y w.moves in
       let there : Digests = all_made (by_digests me) d w.moves in
       let agree = events_agree variant meaning key barrier in
-      let keep = events_keep_names variant meaning key barrier in
-      let a : Lasting me y middle = outer_lasting me keep C w.moves y first (sound_in variant meaning key barrier y k.within.sound) in
-      let b = outer_lasting me keep C (stopped_moves stop w.broken) middle second a.sound in
       record {
         keeps = outer_keeps all others asked me agree clear apart (stopped_moves stop w.broken) middle there second
             (stopped_listed middle stop w.broken) (outer_keeps all others asked me agree clear apart w.moves y d first listed k);
         alike = brought_alike me y meddles stop found;
-        names = λ c n. b.names c (a.names c n);
       }
 
   same_issued : (y z : History) → IsAlike y z → issued me y ≡ issued me z
@@ -226,17 +214,15 @@ module _ (variant : Variant) (meaning : Meaning) (key key' barrier : List ℕ) (
   module _ (notes : Notes) (role : Role) (y z : History) (d e : Digests) (b : Brings y z d) (k : Keeps all others asked me y e) where
     makes_by : (again moved : Bool) (effect : Effect) → Fits lists_move me y notes role again effect
         → Makes z (if again then None else effect_if moved effect)
-    makes_by true moved effect fits = tt
-    makes_by false false effect fits = tt
-    makes_by false true (Invites nonce) fits = tt
-    makes_by false true (Enters ticket) fits = tt
     makes_by false true (Leaves ticket) fits =
         let left = (fits refl).1 in
         let live = (here_tells me y left.offered left.here).live in (
           same_open y z b.alike ∙ left.shut,
-          b.names ticket.content (subst (Names me y) (sym left.says) (issued_names variant meaning key barrier y k.within.sound live)),
+          alike_names variant meaning key barrier y z b.alike ticket.content (subst (Names me y) (sym left.says)
+              (issued_here variant meaning key barrier y (sound_in variant meaning key barrier y k.within.sound) live)),
           left.says ∙ same_issued y z b.alike,
         )
+    makes_by again moved effect fits = tt
 
     makes_of : (fates : ℕ → Fate) (found : Result FoundMove MoveCause) → FitsFound lists_move me y notes role found
         → Makes z (effect_of fates found)
@@ -297,7 +283,7 @@ module _ (variant : Variant) (meaning : Meaning) (key key' barrier : List ℕ) (
       let l1 : Both History History = record l { first = record l.first { at = z } } in
       let x1 : Twin = record x { first = d } in
       let k1 : Kept all others asked me them l1 x1 notes = brought_kept variant meaning key key' barrier all others asked clear apart l x
-      notes z d k b.keeps b.alike (λ live. b.names) in
+      notes z d k b.keeps b.alike in
       let ended = ended_told lists_move pair me (affected_if lists_move l1 effect) stop broken found effect in
       let fine : IsFine l.first.role notes effect = subst (IsFine l.first.role notes) ended.effect_is s.fine in
       let a : Affects l1 x1 notes effect =
@@ -315,8 +301,7 @@ module _ (variant : Variant) (meaning : Meaning) (key key' barrier : List ℕ) (
       → Within (messages_here pair me l act) all → IsGenuineHere me l.first act → IsOursIn pair l.tickets notes act
       → Goes all others asked me them notes (outcome_here lists_move pair me l act) (outcome_here digests_move pair me (twin l x) act)
   here_goes pair l x notes (Plain event) k s outside batches listed genuine ours =
-      plain_goes variant meaning key key' barrier all others asked clear apart l.first.at l.first.issued l.second l.away l.tickets
-      l.committed x notes l.first.role event k outside batches listed genuine
+      plain_goes variant meaning key key' barrier all others asked clear apart l x notes l.first.role event k outside batches listed genuine
   here_goes pair l x notes (Moves meddles stop command) k s outside batches listed genuine ours =
       let found : Option (Result FoundMove MoveCause) = finding lists_move pair me l command in
       let front = each_left (Contains all) (command_messages me l.first command)

@@ -54,6 +54,7 @@ pub use Rattle.mm_run.specs.Offered.{offered_bytes}
 pub use Rattle.mm_run.specs.OneEvent.{EventsAgree, EventsKeepNames, IsSoundIn, Keeps}
 pub use Rattle.mm_run.specs.Premises.{batches_of, event_messages, foreign_of, moves_of}
 pub use Rattle.mm_run.specs.PremisesWords.{AreApartIn, run_messages}
+pub use Rattle.mm_run.proofs.Above.{basic_begins, opt_begins}
 pub use Rattle.mm_run.proofs.Above.{anchor_nil, basic_events_agree, basic_events_keep_names, clear_within, event_steps, opt_events_agree}
 pub use Rattle.mm_run.proofs.Above.{opt_events_keep_names}
 pub use Rattle.mm_sides.specs.Both.{Both, digests_move, First, first_both, first_lists, instance_on, key_of, lists_move, Mover, Pair}
@@ -61,7 +62,7 @@ pub use Rattle.mm_sides.specs.Both.{Second, Side, turned, Which}
 pub use Rattle.mm_sides.specs.Folds.{accepting, Act, affected_if, both_expected, both_followed, both_outcome, BothEvent, BothFollowed}
 pub use Rattle.mm_sides.specs.Folds.{BothOutcome, BothReply, brought_to, effect_if, effect_of, Entered, finding, handed, Invited, is_moved}
 pub use Rattle.mm_sides.specs.Folds.{Left, move_ended, move_steps, moved_by, moved_if, Moves, noted_if, outcome_here, Plain, plain_outcome}
-pub use Rattle.mm_sides.specs.Folds.{retiring, Said, stopped_moves, told, turned_back, unissued}
+pub use Rattle.mm_sides.specs.Folds.{refused_where, retiring, Said, stopped_moves, told, turned_back, unissued}
 pub use Rattle.mm_sides.specs.Laws.{both_continued, counters, EntersAlone, history_at, history_now, IsOneFrom, MovesOnce, one_move}
 pub use Rattle.mm_sides.specs.Laws.{OneIsLive, PairsAgree, PairsAgreeThroughout, PairsGoOn, plain_events, plain_in, plain_replies}
 pub use Rattle.mm_sides.specs.Laws.{plain_reply, SidesIssueNames, SidesRunAsOne, SnapshotsName}

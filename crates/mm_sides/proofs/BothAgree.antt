@@ -6,9 +6,7 @@ use Rattle.mm_sides.proofs.Below.{Second, Pair, instance_on, Both, turned, Mover
 use Rattle.mm_sides.proofs.Below.{BothEvent, BothReply, BothOutcome, outcome_here, both_outcome, BothFollowed, both_followed, noted_if}
 use Rattle.mm_sides.proofs.Below.{both_event_messages, both_messages_from, both_messages, others_in, both_others, batches_in, both_batches}
 use Rattle.mm_sides.proofs.Below.{IsGenuineIn, AreGenuineFrom, IsNew, IsOursIn, AreFreshFrom, PairsAgree, PairsAgreeThroughout}
-use Rattle.mm_sides.proofs.Below.{both_continued, PairsGoOn}
-use Rattle.mm_run.proofs.BasicRuns as basic_runs
-use Rattle.mm_run.proofs.OptRuns as opt_runs
+use Rattle.mm_sides.proofs.Below.{both_continued, PairsGoOn, basic_begins, opt_begins}
 use Rattle.mm_sides.proofs.InOrder.{roles_begin}
 use Rattle.mm_sides.proofs.OneLive.{here_ordered}
 use Rattle.mm_sides.proofs.Twins.{Twin, twin, turned_twin, Kept, Goes, turned_kept}
@@ -24,8 +22,8 @@ starts_by : (variant : Variant) (meaning : Meaning) (key key' barrier : List ℕ
     → Contains all (start_message (instance_by variant meaning key barrier).variant (instance_by variant meaning key barrier).meaning.id)
     → Keeps all others asked (instance_by variant meaning key' barrier) first_history
     (first_digests (instance_by variant meaning key' barrier))
-starts_by Basic meaning key key' barrier all others asked h = basic_runs.starts meaning key' all others asked h
-starts_by Opt meaning key key' barrier all others asked h = opt_runs.starts meaning key' barrier all others asked h
+starts_by Basic meaning key key' barrier all others asked h = basic_begins meaning key' all others asked h
+starts_by Opt meaning key key' barrier all others asked h = opt_begins meaning key' barrier all others asked h
 
 module _ (pair : Pair) (all others : List (List ℕ)) (asked : List Batch) (clear : IsClear all)
     (apart : AreApartIn (instance_on pair First).variant (instance_on pair First) others asked) where

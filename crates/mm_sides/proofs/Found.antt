@@ -27,9 +27,6 @@ pub pushed_last : (retired : List TicketContent) (ticket other : TicketContent) 
     → other ≡ ticket
 pushed_last retired ticket other is = append_last is.front retired other ticket (sym is.is)
 
-two_of : true ≡ false → ⊥
-two_of e = cc
-
 never_none : {A : Type 0} (x : A) → Some x ≡ None → ⊥
 never_none x e = cc
 
@@ -43,7 +40,7 @@ both_done v w (Fails fault made) b e = absurd (never_none fault e)
 -- the walk of a move that isn't broken off made both its steps
 pub unbroken : (fates : ℕ → Fate) (again : Bool) → (walk fates 1 (if again then Reads ∷ [] else Reads ∷ Reads ∷ [])).broken ≡ None
     → again ≡ false → is_moved (fates 1).ends (fates 2).ends ≡ true
-unbroken fates true e f = absurd (two_of f)
+unbroken fates true e f = not_dead f
 unbroken fates false e f = both_done (fates 1).brings (fates 2).brings (fates 1).ends (fates 2).ends e
 
 pub found_is : (f g : FoundMove) → (let r : Result FoundMove MoveCause = Ok f in let s : Result FoundMove MoveCause = Ok g in r ≡ s) → f ≡ g
@@ -196,13 +193,11 @@ pub record IsTold {S A : Type 0} (both after : Both S A) : Type 0 where
 module _ {S A : Type 0} (mover : Mover S A) (pair : Pair) (i : Instance) where
   handed_told : (both : Both S A) (effect : Effect) → IsTold both (handed mover pair i both effect)
   handed_told both (Invites nonce) = record { role = refl; at = refl; second = refl; away = refl; committed = refl }
-  handed_told both (Leaves ticket) = record { role = refl; at = refl; second = refl; away = refl; committed = refl }
-  handed_told both (Enters ticket) = record { role = refl; at = refl; second = refl; away = refl; committed = refl }
+  handed_told both _ = record { role = refl; at = refl; second = refl; away = refl; committed = refl }
 
   told_none : (both : Both S A) (effect : Effect) → plain_reply (told mover i both effect) ≡ []
   told_none both (Invites nonce) = refl
-  told_none both (Leaves ticket) = refl
-  told_none both (Enters ticket) = refl
+  told_none both _ = refl
 
   -- how a move ends
   pub record IsEnded (both : Both S A) (effect : Option Effect) (o : BothOutcome S A) : Type 0 where
@@ -232,17 +227,13 @@ pub affected_order : {S A : Type 0} (mover : Mover S A) (both : Both S A) (notes
 affected_order mover both notes None h fine = h
 affected_order mover both notes (Some (Invites nonce)) h fine =
     roles_go_on both.first.role both.second.role notes (Invites nonce) h fine.0 fine.1
-affected_order mover both notes (Some (Leaves ticket)) h fine =
-    roles_go_on both.first.role both.second.role notes (Leaves ticket) h fine.0 fine.1
-affected_order mover both notes (Some (Enters ticket)) h fine =
-    roles_go_on both.first.role both.second.role notes (Enters ticket) h fine.0 fine.1
+affected_order mover both notes (Some effect) h fine =
+    roles_go_on both.first.role both.second.role notes effect h fine.0 fine.1
 
 -- the module enters alone
 abbrev pub EntersSo : Role → Role → Notes → Option Effect → Type 0
-EntersSo this other notes None = Unit {0}
-EntersSo this other notes (Some (Invites nonce)) = Unit {0}
-EntersSo this other notes (Some (Leaves ticket)) = Unit {0}
 EntersSo this other notes (Some (Enters ticket)) = EntersLast this other notes ticket
+EntersSo this other notes effect = Unit {0}
 
 pub enters_so : (this other : Role) (notes : Notes) (effect : Option Effect) → AreInOrder this other notes → IsFine this notes effect
     → EntersSo this other notes effect

@@ -3,6 +3,7 @@ mod Below
 mod InOrder
 mod Found
 mod Outer
+mod OneHistory
 mod OneLive
 mod OneRun
 mod Rests

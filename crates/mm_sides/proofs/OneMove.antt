@@ -1,29 +1,27 @@
 -- A run in which the module moves once meets the premises.
-use Rattle.mm_sides.proofs.Below.{ℕ, ◌≡◌, Bool, true, false, ◌&&◌, List, [], ◌∷◌, ◌++◌, length, Option, None, Some, Result, Ok, Err, refl}
+use Rattle.mm_sides.proofs.Below.{ℕ, ◌≡◌, Bool, true, false, List, [], ◌∷◌, ◌++◌, length, Option, Some, Result, Ok, refl}
 use Rattle.mm_sides.proofs.Below.{sym, ap, ◌∙◌, subst, arith, if◌then◌else◌, Contains, bytes_eq, Variant, Basic, Opt, start_message}
 use Rattle.mm_sides.proofs.Below.{zero_bytes, Quiet, parts_of, Content, IsContent, variant_of, tag_of, sealed_of, offered_of, Instance}
 use Rattle.mm_sides.proofs.Below.{basic, opt, History, first_history, IsClear, Names, issued, IsGenuine, place_messages, Reads, Refusal}
-use Rattle.mm_sides.proofs.Below.{moves_messages, right_content, by_lists, weighed, instance_by, place_at, summary_in, TicketContent}
+use Rattle.mm_sides.proofs.Below.{moves_messages, by_lists, instance_by, place_at, summary_in, TicketContent}
 use Rattle.mm_sides.proofs.Below.{IsTicket, TaggedTicket, ticket_tag, ticket_of, bytes_are, tickets_are_read, anchor_nil, clear_within}
 use Rattle.mm_sides.proofs.Below.{one_ask, run_messages, AreApartIn, Live, Waiting, Retired, Leaves, Enters, Invites, Notes, no_notes}
 use Rattle.mm_sides.proofs.Below.{noted, First, Second, Pair, Both, lists_move, first_lists, turned, Invite, Retire, Accept, FoundMove}
-use Rattle.mm_sides.proofs.Below.{MoveCause, Nonce, stands_here, verdict_here, left_by, offered_to, ticket_by, ticket_in, entered_as}
-use Rattle.mm_sides.proofs.Below.{BothEvent, BothOutcome, Moves, Invited, Left, Entered, moved_if, turned_back, finding, both_outcome}
-use Rattle.mm_sides.proofs.Below.{both_followed, both_expected, noted_if, read_moves, found_moves, closing_of, offer_closing}
+use Rattle.mm_sides.proofs.Below.{MoveCause, stands_here, ticket_in}
+use Rattle.mm_sides.proofs.Below.{BothEvent, BothOutcome, Moves, Invited, Left, Entered, finding, both_outcome}
+use Rattle.mm_sides.proofs.Below.{both_followed, both_expected, noted_if, read_moves, found_moves, offer_closing}
 use Rattle.mm_sides.proofs.Below.{both_event_messages, both_messages, both_messages_from, AreFreshFrom, IsNew, IsOurs, IsOursIn, one_move}
 use Rattle.mm_sides.proofs.Below.{counters, MovesOnce}
 use Rattle.mm_digest.specs.LengthLaws.{length-zero_bytes, length-start_of, length-hmac_of}
 use Rattle.mm_module.specs.CounterTable.{counter}
 use Rattle.mm_module.specs.CounterLaws.{counter_is_lawful}
 use Rattle.mm_seal.specs.SealLaws.{sealed_parts, sealed_once}
-use Rattle.mm_model.specs.declared.refusal.Refusal.TheVariants as refusal
-use Rattle.mm_model.specs.SegmentLaws.{true_not_false}
-use Rattle.mm_call.specs.FoundWords.{content_if_right}
 use Rattle.mm_call.specs.MoveLaws.{summary-nil}
 use Rattle.mm_move.specs.Tickets.{sealed_ticket}
 use Rattle.mm_schedule.specs.declared.event.Offer.TheVariants.{Last}
 use Rattle.mm_run.specs.HeldWords.{world_barrier}
-use Rattle.mm_sides.proofs.SideNames.{issued_here, first_sound_in, first_lives}
+use Rattle.mm_sides.proofs.Rests.{issued_here}
+use Rattle.mm_sides.proofs.SideNames.{first_sound_in, first_lives}
 
 -- the snapshot of the first history
 
@@ -81,13 +79,9 @@ stands Opt key barrier = refl
 zero_is_zero : bytes_eq zero_bytes zero_bytes ≡ true
 zero_is_zero = bytes_are zero_bytes zero_bytes refl
 
-if_true : {A : Type 0} (test : Bool) (x y : A) → test ≡ true → (if test then x else y) ≡ x
-if_true true x y h = refl
-if_true false x y h = absurd (true_not_false (sym h))
-
 no_closing : (variant : Variant) (key barrier : List ℕ) → place_messages (said variant key barrier).place ≡ []
 no_closing Basic key barrier = refl
-no_closing Opt key barrier = if_true (bytes_eq zero_bytes zero_bytes) [] _ zero_is_zero
+no_closing Opt key barrier = rw zero_is_zero refl
 
 quiet_steps : (i : Instance) (y : History) (again : Bool)
     → moves_messages i y (read_moves [] Quiet (if again then Reads ∷ [] else Reads ∷ Reads ∷ [])) ≡ []
@@ -150,24 +144,6 @@ module _ (variant : Variant) (first_key second_key barrier link nonce : List ℕ
   tagged : bytes_eq (tag_of here.key content) (tag_of here.key content) ≡ true
   tagged = bytes_are (tag_of here.key content) (tag_of here.key content) refl
 
-  abbrev found : FoundMove
-  found = record { again = false; effect = Leaves ticket }
-
-  finds : offered_to lists_move here first_history false nonce (parts_of here.variant here.meaning.id bytes) ≡ Ok found
-  finds = ap (offered_to lists_move here first_history false nonce) parts
-      ∙ ap (λ (s : Bool). left_by lists_move here first_history false nonce content
-      (weighed s (bytes_eq (tag_of here.key content) (tag_of here.key content))
-      (verdict_here (stands_here (by_lists here) first_history content)) true)) (spelled variant first_key barrier)
-      ∙ ap (λ (t : Bool). left_by lists_move here first_history false nonce content
-      (weighed true t (verdict_here (stands_here (by_lists here) first_history content)) true)) tagged
-      ∙ ap (λ (t : Bool). left_by lists_move here first_history false nonce content (weighed true true (verdict_here t) true))
-      (stands variant first_key barrier)
-
-  right : right_content here bytes ≡ Some content
-  right = ap (content_if_right here) parts
-      ∙ if_true (here.meaning.is_spelled content.state && bytes_eq (tag_of here.key content) (tag_of here.key content)) (Some content) None
-      (ap (λ (s : Bool). s && bytes_eq (tag_of here.key content) (tag_of here.key content)) (spelled variant first_key barrier) ∙ tagged)
-
   -- the ticket is read back
   abbrev paper : List ℕ
   paper = sealed_ticket link ticket
@@ -191,16 +167,7 @@ module _ (variant : Variant) (first_key second_key barrier link nonce : List ℕ
   same_tag = bytes_are (ticket_tag link ticket) (ticket_tag link ticket) refl
 
   right_ticket : ticket_in pair paper ≡ Ok ticket
-  right_ticket = ap (ticket_by counter link) read_back ∙ if_true (counter.is_spelled content.state)
-      (if bytes_eq (ticket_tag link ticket) (ticket_tag link ticket) then Ok ticket else Err refusal.Tag)
-      (Err refusal.State) (spelled_there variant first_key barrier)
-      ∙ if_true (bytes_eq (ticket_tag link ticket) (ticket_tag link ticket)) (Ok ticket) (Err refusal.Tag) same_tag
-
-  abbrev entering : FoundMove
-  entering = record { again = false; effect = Enters ticket }
-
-  enters : entered_as nonce (ticket_in pair paper) ≡ Ok entering
-  enters = ap (entered_as nonce) right_ticket ∙ if_true (bytes_eq nonce nonce) (Ok entering) (Err Nonce) (bytes_are nonce nonce refl)
+  right_ticket = rw (read_back, spelled_there variant first_key barrier, same_tag) refl
 
   -- the three events
   abbrev invited : BothEvent
@@ -228,13 +195,11 @@ module _ (variant : Variant) (first_key second_key barrier link nonce : List ℕ
   invites = refl
 
   leaves : both_outcome lists_move pair waiting retired ≡ record { both = gone; reply = Left 0; effect = Some (Leaves ticket) }
-  leaves = ap (λ (f : Result FoundMove MoveCause). turned_back First
-      (moved_if lists_move pair here waiting [] Quiet (Retire nonce Last) (Some f))) finds
+  leaves = rw (parts, spelled variant first_key barrier, tagged, stands variant first_key barrier) refl
 
   comes : both_outcome lists_move pair gone
       accepted ≡ record { both = arrived; reply = Entered (issued there first_history).position; effect = Some (Enters ticket) }
-  comes = ap (λ (f : Result FoundMove MoveCause). turned_back Second
-      (moved_if lists_move pair there (turned gone) [] Quiet (Accept Last) (Some f))) enters
+  comes = rw (read_back, spelled_there variant first_key barrier, same_tag, bytes_are nonce nonce refl) refl
 
   -- the run
   runs : (both_expected pair (one_move nonce)).both ≡ arrived
@@ -243,7 +208,7 @@ module _ (variant : Variant) (first_key second_key barrier link nonce : List ℕ
 
   -- no message but the start message is listed
   closed_by : offer_closing here (Some bytes) ≡ []
-  closed_by = ap closing_of right ∙ no_closing variant first_key barrier
+  closed_by = rw (parts, spelled variant first_key barrier, tagged) (no_closing variant first_key barrier)
 
   none_by_retiring : both_event_messages pair waiting retired ≡ []
   none_by_retiring = ap (λ (m : List (List ℕ)). m

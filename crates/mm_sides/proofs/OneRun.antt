@@ -1,74 +1,35 @@
 -- The replies to the calls of both sides are those of one run.
-use Rattle.mm_sides.proofs.Below.{ℕ, ◌≡◌, ◌≤◌, ◌+◌, Bool, true, false, List, [], ◌∷◌, ◌++◌, length, map, Option, None, Some, Result, Err}
-use Rattle.mm_sides.proofs.Below.{refl, sym, ap, ◌∙◌, subst, arith, length-append, if◌then◌else◌, Batch, One, members_of, Meaning, Meddle}
-use Rattle.mm_sides.proofs.Below.{Stop, Variant, Basic, Opt, Instance, History, Foreign, requests_of, is_long, Reads, Refusal, End, Done}
-use Rattle.mm_sides.proofs.Below.{Fails, Fate, walk, after_step, commits, called_by, by_lists, instance_by, offered_bytes, Outcome, way_of}
-use Rattle.mm_sides.proofs.Below.{course_of, outcome_by, reads_only, asked_in_vain, event_outcome, event_in_vain, event_steps, Role, Blank}
-use Rattle.mm_sides.proofs.Below.{Live, Waiting, Retired, Effect, Invites, Leaves, Enters, is_live, Notes, no_notes, AreInOrder, Which}
-use Rattle.mm_sides.proofs.Below.{First, Second, Pair, key_of, instance_on, Side, Both, turned, lists_move, first_lists, Command, Invite}
-use Rattle.mm_sides.proofs.Below.{Retire, Accept, MoveCause, FoundMove, Act, Plain, Moves, BothEvent, BothOutcome, plain_outcome}
+use Rattle.mm_sides.proofs.Below.{ℕ, ◌≡◌, ◌≤◌, ◌+◌, true, false, List, [], ◌∷◌, ◌++◌, length, Option, None, Some, Result}
+use Rattle.mm_sides.proofs.Below.{refl, sym, ap, ◌∙◌, subst, arith, length-append, Batch, members_of, Meaning, Meddle}
+use Rattle.mm_sides.proofs.Below.{Stop, Variant, Basic, Opt, Instance, History, requests_of, Refusal}
+use Rattle.mm_sides.proofs.Below.{Fate, walk, by_lists, instance_by, Outcome, refused_where}
+use Rattle.mm_sides.proofs.Below.{course_of, event_outcome, event_in_vain, event_steps, Role}
+use Rattle.mm_sides.proofs.Below.{Live, Effect, Invites, Enters, is_live, Notes, no_notes, AreInOrder, Which}
+use Rattle.mm_sides.proofs.Below.{First, Second, Pair, key_of, instance_on, Both, turned, lists_move, first_lists, Command}
+use Rattle.mm_sides.proofs.Below.{Accept, MoveCause, FoundMove, Act, Plain, Moves, BothEvent, BothOutcome, plain_outcome}
 use Rattle.mm_sides.proofs.Below.{affected_if, brought_to, effect_of, move_steps, finding, moved_by, moved_if, unissued, outcome_here}
 use Rattle.mm_sides.proofs.Below.{both_outcome, BothFollowed, both_followed, noted_if, IsNew, IsOursIn, AreFreshFrom, plain_in}
 use Rattle.mm_sides.proofs.Below.{plain_events, plain_reply, plain_replies, history_at, history_now, SidesRunAsOne}
-use Rattle.mm_model.specs.declared.refusal.Refusal.TheVariants as refusal
-use Rattle.mm_call.specs.CalledWords.{kept_at}
 use Rattle.mm_schedule.specs.Events as events
 use Rattle.mm_schedule.specs.Machine.{StepsOn, AsksNone, Steps, Runs}
 use Rattle.mm_schedule.specs.declared.reply.Reply.{Reply}
 use Rattle.mm_schedule.specs.declared.reply.Reply.TheVariants.{Told as ToldReply, Kept}
-use Rattle.mm_schedule.specs.declared.reply.Way.{Way}
-use Rattle.mm_run.specs.FoldsWords.{broken_reply}
-use Rattle.mm_sides.proofs.InOrder.{not_dead, invites_none, leaves_live, roles_begin, roles_swap, roles_are_one}
+use Rattle.mm_sides.proofs.InOrder.{roles_begin, roles_swap}
 use Rattle.mm_sides.proofs.Found.{IsFine, IsTold, IsEnded, ended_told, EntersSo}
-use Rattle.mm_sides.proofs.Outer.{commits-foreign, same_batches, brought_alike}
+use Rattle.mm_sides.proofs.Outer.{in_vain, IsAlike, same_batches, brought_alike}
+use Rattle.mm_sides.proofs.OneHistory.{turned_history, away_history, alike_at, then_history, affected_history}
 use Rattle.mm_sides.proofs.OneLive.{IsOrdered, here_ordered, event_ordered}
-
--- a call in vain runs nothing
-
-vain_reply : (meaning : Meaning) (requests : List (List ℕ)) (b : Batch) (how : Way) (committed : Bool) → committed ≡ false
-    → StepsOn meaning requests b (broken_reply how (kept_at committed 0)) requests × AsksNone requests
-    (broken_reply how (kept_at committed 0)) requests
-vain_reply meaning requests b how true e = cc
-vain_reply meaning requests b how false e = (refl, refl)
-
-module _ (i : Instance) (y : History) (r : List (List ℕ)) (issued : List (List ℕ)) (stop : Stop) (why : Refusal) where
-  vain_by : (b : Batch) (values : List (List ℕ)) (ends : End) → (let o : Outcome History = outcome_by (by_lists i) stop issued
-      (called_by (by_lists i) y y (One []) (Err why)
-      (after_step Reads values ends (record { moves = []; steps = 0; writes = 0; broken = None }))) in
-      StepsOn i.meaning r b o.reply r × AsksNone r o.reply r)
-  vain_by b values Done = (refl, refl)
-  vain_by b values (Fails fault made) = vain_reply i.meaning r b (way_of stop) (commits (map Foreign values)) (commits-foreign values)
-
-  reads_vain : (b : Batch) (meddles : List Meddle) → (let o : Outcome History = reads_only (by_lists i) y issued meddles stop why in
-      StepsOn i.meaning r b o.reply r × AsksNone r o.reply r)
-  reads_vain b meddles = vain_by b ((course_of stop meddles).fates 1).brings ((course_of stop meddles).fates 1).ends
-
-  if_vain : (b : Batch) (long : Bool) (x z : Outcome History) → StepsOn i.meaning r b x.reply r → StepsOn i.meaning r b z.reply r
-      → (let o : Outcome History = if long then x else z in StepsOn i.meaning r b o.reply r)
-  if_vain b true x z p q = p
-  if_vain b false x z p q = q
-
-  asked_vain : (meddles : List Meddle) (bytes : Option (List ℕ)) (b : Batch)
-      → StepsOn i.meaning r b (asked_in_vain (by_lists i) y issued meddles stop why bytes b).reply r
-  asked_vain meddles None b = refl
-  asked_vain meddles (Some bytes) b = if_vain b (is_long b) _ _ refl (reads_vain b meddles).0
-
-event_vain : (i : Instance) (y : History) (r : List (List ℕ)) (issued : List (List ℕ)) (why : Refusal) (event : events.Event)
-    → Steps i.meaning r event (event_in_vain (by_lists i) y issued why event).reply r
-event_vain i y r issued why (events.Ask meddles stop offer b) = asked_vain i y r issued stop why meddles (offered_bytes issued offer) b
-event_vain i y r issued why (events.Checkpoint meddles stop) = (reads_vain i y r issued stop why (One []) meddles).1
-event_vain i y r issued why event = refl
 
 -- a step runs no request backwards
 
 on_longer : (meaning : Meaning) (r s : List (List ℕ)) (b : Batch) (reply : Reply) → StepsOn meaning r b reply s → length r ≤ length s
-on_longer meaning r s b (ToldReply true before outputs) h = omega (arith, ap length h.2)
-on_longer meaning r s b (ToldReply false before outputs) h = omega (arith, ap length h.grown, length-append r (members_of b))
+on_longer meaning r s b (ToldReply true position outputs) h = omega (arith, ap length h.2)
+on_longer meaning r s b (ToldReply false position outputs) h = omega (arith, ap length h.grown, length-append r (members_of b))
 on_longer meaning r s b (Kept way position) h = omega (arith, ap length h.0, length-append r (members_of b))
 on_longer meaning r s b reply h = omega (arith, ap length h)
 
 none_longer : (r s : List (List ℕ)) (reply : Reply) → AsksNone r reply s → length r ≤ length s
-none_longer r s (ToldReply again before outputs) h = absurd h
+none_longer r s (ToldReply again position outputs) h = absurd h
 none_longer r s (Kept way position) h = absurd h
 none_longer r s reply h = omega (arith, ap length h)
 
@@ -96,99 +57,58 @@ record IsRunHere (meaning : Meaning) (both : Both History History) (act : Act) (
   runs : Runs meaning (requests_now both) (plain_in act) (plain_reply o.reply) (requests_now o.both)
   count : both.committed ≡ length (requests_now both) → o.both.committed ≡ length (requests_now o.both)
 
--- where the first side isn't live, where it stands doesn't count
-pub first_unused : (b : Bool) (x y second away : History) → history_at false b x second away ≡ history_at false b y second away
-first_unused true x y second away = refl
-first_unused false x y second away = refl
-
 still : (n m : ℕ) → n ≡ m → n + 0 ≡ m
 still n m e = omega (arith, e)
 
 -- an event of a schedule
-module _ (i : Instance) (at : History) (issued : List (List ℕ)) (second : Side History) (away : History) (tickets : List (List ℕ))
-    (committed : ℕ) where
+module _ (i : Instance) (l : Both History History) where
   abbrev standing : Role → Both History History
-  standing role = record {
-    first = record { role = role; at = at; issued = issued };
-    second = second;
-    away = away;
-    tickets = tickets;
-    committed = committed;
-  }
+  standing role = record l { first = record l.first { role = role } }
 
-  vain_run : (role : Role) (why : Refusal) (event : events.Event) → is_live role ≡ false
-      → (let o : Outcome History = event_in_vain (by_lists i) at issued why event in
-      let now : List (List ℕ) = requests_of (history_at (is_live role) (is_live second.role) at second.at away).batches in
-      let then_now : List (List ℕ) = requests_of (history_at (is_live role) (is_live second.role) o.state second.at away).batches in
+  vain_run : (role : Role) (why : Refusal) (event : events.Event)
+      → (let o : Outcome History = event_in_vain (by_lists i) l.first.at l.first.issued why event in
+      let now : List (List ℕ) = requests_of (history_at (is_live role) (is_live l.second.role) l.first.at l.second.at l.away).batches in
+      let then_now : List (List ℕ) = requests_of (history_at (is_live role) (is_live l.second.role) o.state l.second.at l.away).batches in
       Runs i.meaning now (event ∷ []) (o.reply ∷ []) then_now × (then_now ≡ now))
-  vain_run role why event e =
-      let o : Outcome History = event_in_vain (by_lists i) at issued why event in
-      let b : Bool = is_live second.role in
-      let N : Bool → History → List (List ℕ) = λ f x. requests_of (history_at f b x second.at away).batches in
-      let same : N (is_live role) o.state ≡ N (is_live role) at =
-      ap (λ f. N f o.state) e ∙ ap (λ (y : History). requests_of y.batches) (first_unused b o.state at second.at away) ∙ ap (λ f. N f at)
-      (sym e) in
-      ((N (is_live role) at, event_vain i at (N (is_live role) at) issued why event, same), same)
+  vain_run role why event =
+      let o : Outcome History = event_in_vain (by_lists i) l.first.at l.first.issued why event in
+      let v = in_vain i l.first.at l.first.issued why event in
+      let now : History → History = λ y. history_at (is_live role) (is_live l.second.role) y l.second.at l.away in
+      let r : List (List ℕ) = requests_of (now l.first.at).batches in
+      let same : requests_of (now o.state).batches ≡ r = ap requests_of (same_batches (now l.first.at) (now o.state)
+      (alike_at (is_live role) (is_live l.second.role) l.first.at o.state l.second.at l.away v.alike)) in
+      ((r, v.steps r, same), same)
 
   plain_run : (role : Role) (event : events.Event)
       → IsRunHere i.meaning (standing role) (Plain event) (plain_outcome lists_move i (standing role) event)
   plain_run Live event =
-      let o : Outcome History = event_outcome i (by_lists i) at issued event in
-      let steps = event_steps i at issued event in
-      let more = longer i.meaning event o.reply (requests_of at.batches) (requests_of o.state.batches) steps in
+      let o : Outcome History = event_outcome i (by_lists i) l.first.at l.first.issued event in
+      let steps = event_steps i l.first.at l.first.issued event in
+      let more = longer i.meaning event o.reply (requests_of l.first.at.batches) (requests_of o.state.batches) steps in
       record { runs = (requests_of o.state.batches, steps, refl); count = λ e. omega (arith, e, more) }
-  plain_run Blank event =
-      let r = vain_run Blank refusal.Blank event refl in record { runs = r.0; count = λ e. still committed _ (e ∙ ap length (sym r.1)) }
-  plain_run (Waiting nonce) event =
-      let r = vain_run
-      (Waiting nonce) refusal.Cell event refl in record { runs = r.0; count = λ e. still committed _ (e ∙ ap length (sym r.1)) }
-  plain_run (Retired nonce) event =
-      let r = vain_run
-      (Retired nonce) refusal.Cell event refl in record { runs = r.0; count = λ e. still committed _ (e ∙ ap length (sym r.1)) }
+  plain_run role event =
+      let r = vain_run role (refused_where role) event in
+      record { runs = r.0; count = λ e. still l.committed _ (e ∙ ap length (sym r.1)) }
 
 -- a move changes nothing of the history
 
-alike_now : (a b : Bool) (x y second away : History) → x.batches ≡ y.batches
-    → requests_of (history_at a b x second away).batches ≡ requests_of (history_at a b y second away).batches
-alike_now true b x y second away e = ap requests_of e
-alike_now false true x y second away e = refl
-alike_now false false x y second away e = refl
-
--- by the effect, from where the register was brought to
-affected_now : (both : Both History History) (at : History) (notes : Notes) (effect : Option Effect) → at.batches ≡ both.first.at.batches
-    → AreInOrder both.first.role both.second.role notes → IsFine both.first.role notes effect
-    → EntersSo both.first.role both.second.role notes effect
-    → requests_now (affected_if lists_move (record both { first = record both.first { at = at } }) effect) ≡ requests_now both
-affected_now both at notes None e h fine alone =
-    alike_now (is_live both.first.role) (is_live both.second.role) at both.first.at both.second.at both.away e
-affected_now both at notes (Some (Invites nonce)) e h fine alone =
-    let b : Bool = is_live both.second.role in
-    ap (λ (y : History). requests_of y.batches) (first_unused b at both.first.at both.second.at both.away)
-    ∙ ap (λ f. requests_of (history_at f b both.first.at both.second.at both.away).batches)
-    (sym (invites_none both.first.role nonce fine.0))
-affected_now both at notes (Some (Leaves ticket)) e h fine alone =
-    let live : is_live both.first.role ≡ true = leaves_live both.first.role ticket fine.0 in
-    let none : is_live both.second.role ≡ false = roles_are_one both.first.role both.second.role notes h live in
-    ap (λ f. requests_of (history_at false f at both.second.at at).batches) none ∙ ap requests_of e
-    ∙ ap (λ f. requests_of (history_at f (is_live both.second.role) both.first.at both.second.at both.away).batches) (sym live)
-affected_now both at notes (Some (Enters ticket)) e h fine alone =
-    ap (λ f. requests_of (history_at false f both.first.at both.second.at both.away).batches) (sym alone.not_there)
-    ∙ ap (λ f. requests_of (history_at f (is_live both.second.role) both.first.at both.second.at both.away).batches) (sym alone.not_here)
+then_requests : (both : Both History History) (notes : Notes) (effect : Option Effect)
+    → EntersSo both.first.role both.second.role notes effect → requests_of (then_history both effect).batches ≡ requests_now both
+then_requests both notes (Some (Enters ticket)) alone =
+    ap (λ (y : History). requests_of y.batches) (sym (away_history both alone.not_here alone.not_there))
+then_requests both notes _ alone = refl
 
 told_now : (both after : Both History History) → IsTold both after → requests_now after ≡ requests_now both
 told_now both after t = λ j.
     requests_of (history_at (is_live (t.role j)) (is_live (t.second j).role) (t.at j) (t.second j).at (t.away j)).batches
 
 affected_count : (both : Both History History) (effect : Option Effect) → (affected_if lists_move both effect).committed ≡ both.committed
-affected_count both None = refl
 affected_count both (Some (Invites nonce)) = refl
-affected_count both (Some (Leaves ticket)) = refl
-affected_count both (Some (Enters ticket)) = refl
+affected_count both _ = refl
 
 unissued_none : (command : Command) → plain_reply (unissued command) ≡ []
-unissued_none (Invite nonce) = refl
-unissued_none (Retire nonce offer) = refl
 unissued_none (Accept offer) = refl
+unissued_none command = refl
 
 -- nothing is told, and the requests are the same
 silent : (meaning : Meaning) (replies : List Reply) (r s : List (List ℕ)) → replies ≡ [] → s ≡ r → Runs meaning r [] replies s
@@ -211,10 +131,14 @@ moved_run pair i both notes meddles stop command (Some found) h s =
     let o : BothOutcome History History = moved_by lists_move pair i both meddles stop found in
     let ended : IsEnded lists_move pair i (affected_if lists_move here effect) effect o =
     ended_told lists_move pair i (affected_if lists_move here effect) stop (walk fates 1 (move_steps found)).broken found effect in
+    let alike : IsAlike (history_now both) (history_now here) = alike_at (is_live both.first.role)
+    (is_live both.second.role) both.first.at at
+    both.second.at both.away (brought_alike i both.first.at meddles stop found) in
     let same : requests_now o.both ≡ requests_now both = told_now (affected_if lists_move here effect) o.both ended.tells
-    ∙ affected_now both at notes effect (same_batches both.first.at at (brought_alike i both.first.at meddles stop found)) h
-    (subst (IsFine both.first.role notes) ended.effect_is s.fine)
-    (subst (EntersSo both.first.role both.second.role notes) ended.effect_is s.alone) in
+    ∙ ap (λ (y : History). requests_of y.batches)
+    (affected_history here notes effect h (subst (IsFine both.first.role notes) ended.effect_is s.fine))
+    ∙ then_requests here notes effect (subst (EntersSo both.first.role both.second.role notes) ended.effect_is s.alone)
+    ∙ ap requests_of (same_batches (history_now both) (history_now here) alike) in
     record {
       runs = silent i.meaning (plain_reply o.reply) (requests_now both) (requests_now o.both) ended.none same;
       count = λ e. ended.tells.committed ∙ affected_count here effect ∙ e ∙ ap length (sym same);
@@ -225,29 +149,18 @@ here_run : (pair : Pair) (i : Instance) (both : Both History History) (notes : N
     → IsOrdered both.first.role both.second.role notes (outcome_here lists_move pair i both act)
     → IsRunHere i.meaning both act (outcome_here lists_move pair i both act)
 here_run pair i both notes (Plain event) h s =
-    plain_run i both.first.at both.first.issued both.second both.away both.tickets both.committed both.first.role event
+    plain_run i both both.first.role event
 here_run pair i both notes (Moves meddles stop command) h s =
     moved_run pair i both notes meddles stop command (finding lists_move pair i both command) h s
 
 -- turned
 
-turned_at : (a b : Bool) (first second away : History) → (a ≡ true → b ≡ false)
-    → history_at b a second first away ≡ history_at a b first second away
-turned_at true true first second away one = not_dead (one refl)
-turned_at true false first second away one = refl
-turned_at false true first second away one = refl
-turned_at false false first second away one = refl
-
-pub turned_history : (l : Both History History) (notes : Notes) → AreInOrder l.first.role l.second.role notes
-    → history_now (turned l) ≡ history_now l
-turned_history l notes h = turned_at (is_live l.first.role) (is_live l.second.role) l.first.at l.second.at l.away
-    (roles_are_one l.first.role l.second.role notes h)
-
 turned_now : (both : Both History History) (notes : Notes) → AreInOrder both.first.role both.second.role notes
     → requests_now (turned both) ≡ requests_now both
 turned_now both notes h = ap (λ (y : History). requests_of y.batches) (turned_history both notes h)
 
-same_meaning : (variant : Variant) (meaning : Meaning) (key barrier : List ℕ) → (instance_by variant meaning key barrier).meaning ≡ meaning
+pub same_meaning : (variant : Variant) (meaning : Meaning) (key barrier : List ℕ)
+    → (instance_by variant meaning key barrier).meaning ≡ meaning
 same_meaning Basic meaning key barrier = refl
 same_meaning Opt meaning key barrier = refl
 

@@ -1,25 +1,27 @@
 -- Moves that the core doesn't make: values of others, and losses of power. They change the register's items alone.
 use Rattle.mm_sides.proofs.Below.{ℕ, ◌≡◌, ◌+◌, Bool, true, false, List, [], ◌∷◌, map, Option, None, Some, Result, Ok, Err, refl, ap, ◌∙◌}
 use Rattle.mm_sides.proofs.Below.{◌++◌, sym, subst, if◌then◌else◌, ◌==◌, filter, AllByRecursion, Contains, append-nil, StepFault, Meddle}
-use Rattle.mm_sides.proofs.Below.{Stop, Cut, Instance, History, Move, Commit, Foreign, Placed, Reset, Close, PowerMove, moved, Reads}
+use Rattle.mm_sides.proofs.Below.{Stop, Cut, Instance, History, Move, Foreign, PowerMove, moved, Reads}
 use Rattle.mm_sides.proofs.Below.{each_append, each_left, each_right, End, Done, Fails, Fate, Walked, walk, after_step, commits, by_lists}
 use Rattle.mm_sides.proofs.Below.{all_made, by_digests, after_stop, course_of, Outcome, outcome_by, uncalled, reads_only, asked_in_vain}
 use Rattle.mm_sides.proofs.Below.{event_in_vain, MoveCause, FoundMove, move_steps, stopped_moves, brought_to, lists_move, Variant, Basic}
-use Rattle.mm_sides.proofs.Below.{Opt, Batch, One, Meaning, Content, is_long, Within, IsClear, moving_messages, Digests, made, Names}
+use Rattle.mm_sides.proofs.Below.{Opt, Batch, One, Meaning, is_long, Within, IsClear, moving_messages, Digests, made}
 use Rattle.mm_sides.proofs.Below.{Refusal, moves_messages, called_by, instance_by, Event, Ask, Checkpoint, Power, Extend, offered_bytes}
 use Rattle.mm_sides.proofs.Below.{Keeps, EventsAgree, IsSoundIn, EventsKeepNames, foreign_of, AreApartIn, basic_events_agree}
 use Rattle.mm_sides.proofs.Below.{opt_events_agree, basic_events_keep_names, opt_events_keep_names, read_moves, vain_asked, vain_moves}
 use Rattle.mm_platform.specs.StandingWords.{due}
+use Rattle.mm_call.specs.CalledWords.{kept_at}
+use Rattle.mm_schedule.specs.Machine.{StepsOn, AsksNone, Steps}
+use Rattle.mm_schedule.specs.declared.reply.Way.{Way}
+use Rattle.mm_run.specs.FoldsWords.{broken_reply}
+use Rattle.mm_sides.proofs.Below.{way_of}
 use Rattle.mm_model.specs.MessagesWords.{move_messages}
 
 -- by what is known of the values
 abbrev pub IsOuter : (List ℕ → Type 0) → Move → Type 0
 IsOuter P (Foreign value) = P value
 IsOuter P PowerMove = Unit {0}
-IsOuter P (Commit b) = ⊥
-IsOuter P (Placed b) = ⊥
-IsOuter P Reset = ⊥
-IsOuter P Close = ⊥
+IsOuter P move = ⊥
 
 abbrev pub AreOuter : (List ℕ → Type 0) → List Move → Type 0
 AreOuter P moves = AllByRecursion (IsOuter P) moves
@@ -106,52 +108,77 @@ brought_alike i y meddles stop found =
     (outer_alike P i walked.moves y (found_outer P fates found (λ n. any_value (fates n).brings)))
     (outer_alike P i (stopped_moves stop walked.broken) z (stopped_outer P stop walked.broken))
 
-pub commits-foreign : (values : List (List ℕ)) → commits (map Foreign values) ≡ false
-commits-foreign [] = refl
-commits-foreign (v ∷ values) = commits-foreign values
-
 -- what an event in vain leaves
 
-pub record InVain (y : History) (issued' : List (List ℕ)) (o : Outcome History) : Type 0 where
+record VainCall (i : Instance) (y : History) (issued' : List (List ℕ)) (o : Outcome History) : Type 0 where
+  alike : IsAlike y o.state
+  issued_is : o.issued ≡ issued'
+  runs : (r : List (List ℕ)) (b : Batch) → StepsOn i.meaning r b o.reply r
+  asks : (r : List (List ℕ)) → AsksNone r o.reply r
+
+pub record InVain (i : Instance) (y : History) (issued' : List (List ℕ)) (event : Event) (o : Outcome History) : Type 0 where
   pub alike : IsAlike y o.state
   pub issued_is : o.issued ≡ issued'
+  pub steps : (r : List (List ℕ)) → Steps i.meaning r event o.reply r
+
+commits_outer : (P : List ℕ → Type 0) (moves : List Move) → AreOuter P moves → commits moves ≡ false
+commits_outer P [] h = refl
+commits_outer P (Foreign v ∷ moves) h = commits_outer P moves h.1
+commits_outer P (PowerMove ∷ moves) h = commits_outer P moves h.1
+commits_outer P moves h = absurd h.0
 
 module _ (i : Instance) (y : History) (snapshots : List (List ℕ)) (stop : Stop) (why : Refusal) where
   abbrev Any : List ℕ → Type 0
   Any v = Unit {0}
 
-  left_by_walk : (w : Walked) (broken : Option StepFault) → AreOuter Any w.moves → InVain y snapshots
+  kept_none : (how : Way) (commits : Bool) → commits ≡ false → (r : List (List ℕ)) (b : Batch)
+      → StepsOn i.meaning r b (broken_reply how (kept_at commits 0)) r × AsksNone r (broken_reply how (kept_at commits 0)) r
+  kept_none how true e r b = cc
+  kept_none how false e r b = (refl, refl)
+
+  left_by_walk : (w : Walked) (broken : Option StepFault) → AreOuter Any w.moves → VainCall i y snapshots
       (outcome_by (by_lists i) stop snapshots (called_by (by_lists i) y y (One []) (Err why) (record w { broken = broken })))
-  left_by_walk w None h = record { alike = outer_alike Any i w.moves y h; issued_is = append-nil snapshots }
+  left_by_walk w None h = record {
+    alike = outer_alike Any i w.moves y h;
+    issued_is = append-nil snapshots;
+    runs = λ r b. refl;
+    asks = λ r. refl;
+  }
   left_by_walk w (Some fault) h =
       let z : History = all_made (by_lists i) y w.moves in
       record {
         alike = alike_on y z (all_made (by_lists i) z (after_stop stop)) (outer_alike Any i w.moves y h)
             (outer_alike Any i (after_stop stop) z (stop_outer Any stop));
         issued_is = append-nil snapshots;
+        runs = λ r b. (kept_none (way_of stop) (commits w.moves) (commits_outer Any w.moves h) r b).0;
+        asks = λ r. (kept_none (way_of stop) (commits w.moves) (commits_outer Any w.moves h) r (One [])).1;
       }
 
-  reads_leave : (meddles : List Meddle) → InVain y snapshots (reads_only (by_lists i) y snapshots meddles stop why)
+  reads_leave : (meddles : List Meddle) → VainCall i y snapshots (reads_only (by_lists i) y snapshots meddles stop why)
   reads_leave meddles =
       let fates : ℕ → Fate = (course_of stop meddles).fates in
       let w : Walked = walk fates 1 (Reads ∷ []) in
       left_by_walk w w.broken (read_outer Any fates 1 (λ n. any_value (fates n).brings))
 
-  if_left : (long : Bool) (a b : Outcome History) → InVain y snapshots a → InVain y snapshots b → InVain y snapshots (if long then a else b)
+  if_left : (long : Bool) (a b : Outcome History) → VainCall i y snapshots a → VainCall i y snapshots b
+      → VainCall i y snapshots (if long then a else b)
   if_left true a b p q = p
   if_left false a b p q = q
 
   asked_leaves : (meddles : List Meddle) (bytes : Option (List ℕ)) (b : Batch)
-      → InVain y snapshots (asked_in_vain (by_lists i) y snapshots meddles stop why bytes b)
-  asked_leaves meddles None b = record { alike = record { is = refl }; issued_is = refl }
-  asked_leaves meddles (Some bytes) b =
-      if_left (is_long b) _ _ (record { alike = record { is = refl }; issued_is = refl }) (reads_leave meddles)
+      → VainCall i y snapshots (asked_in_vain (by_lists i) y snapshots meddles stop why bytes b)
+  asked_leaves meddles None b = record { alike = record { is = refl }; issued_is = refl; runs = λ r b. refl; asks = λ r. refl }
+  asked_leaves meddles (Some bytes) b = if_left (is_long b) _ _
+      (record { alike = record { is = refl }; issued_is = refl; runs = λ r b. refl; asks = λ r. refl }) (reads_leave meddles)
 
 pub in_vain : (i : Instance) (y : History) (snapshots : List (List ℕ)) (why : Refusal) (event : Event)
-    → InVain y snapshots (event_in_vain (by_lists i) y snapshots why event)
-in_vain i y snapshots why (Ask meddles stop offer b) = asked_leaves i y snapshots stop why meddles (offered_bytes snapshots offer) b
-in_vain i y snapshots why (Checkpoint meddles stop) = reads_leave i y snapshots stop why meddles
-in_vain i y snapshots why event = record { alike = record { is = refl }; issued_is = refl }
+    → InVain i y snapshots event (event_in_vain (by_lists i) y snapshots why event)
+in_vain i y snapshots why (Ask meddles stop offer b) =
+    let c = asked_leaves i y snapshots stop why meddles (offered_bytes snapshots offer) b in
+    record { alike = c.alike; issued_is = c.issued_is; steps = λ r. c.runs r b }
+in_vain i y snapshots why (Checkpoint meddles stop) =
+    let c = reads_leave i y snapshots stop why meddles in record { alike = c.alike; issued_is = c.issued_is; steps = c.asks }
+in_vain i y snapshots why event = record { alike = record { is = refl }; issued_is = refl; steps = λ r. refl }
 
 -- What others and losses of power keep, by digests and by lists; and what a call in vain comes to.
 
@@ -165,32 +192,23 @@ events_keep_names Basic meaning key barrier = basic_events_keep_names meaning ke
 events_keep_names Opt meaning key barrier = opt_events_keep_names meaning key barrier
 
 power_by : (variant : Variant) (flag : Bool) (i : Instance) (y : History) → moving_messages variant flag i y PowerMove ≡ []
-power_by Basic flag i y = refl
 power_by Opt true i y = refl
-power_by Opt false i y = refl
+power_by _ flag i y = refl
 
 -- a loss of power has no message
 pub stop_listed : (i : Instance) (y : History) (all : List (List ℕ)) (stop : Stop) → Within (moves_messages i y (after_stop stop)) all
 stop_listed i y all (Cut n) = subst (λ m. Within (m ++ []) all) (sym (power_by i.variant y.is_open i y)) tt
 stop_listed i y all stop = tt
 
--- from one history to another
-pub record Lasting (i : Instance) (y z : History) : Type 0 where
-  pub sound : IsSoundIn i.variant z
-  pub names : (c : Content) → Names i y c → Names i z c
-
-module _ (i : Instance) (keep : EventsKeepNames i) where
-  pub outer_lasting : (P : List ℕ → Type 0) (moves : List Move) (y : History) → AreOuter P moves → IsSoundIn i.variant y
-      → Lasting i y (all_made (by_lists i) y moves)
-  outer_lasting P [] y h sound = record { sound = sound; names = λ c n. n }
-  outer_lasting P (Foreign v ∷ moves) y h sound =
-      let k = keep y [] (Extend v) sound in
-      let r = outer_lasting P moves
-      (moved i y (Foreign v)) h.1 k.sound in record { sound = r.sound; names = λ c n. r.names c (k.names c n) }
-  outer_lasting P (PowerMove ∷ moves) y h sound =
-      let k = keep y [] Power sound in
-      let r = outer_lasting P moves (moved i y PowerMove) h.1 k.sound in record { sound = r.sound; names = λ c n. r.names c (k.names c n) }
-  outer_lasting P moves y h sound = absurd h.0
+-- a history stays sound
+pub outer_sound : (i : Instance) → EventsKeepNames i → (P : List ℕ → Type 0) (moves : List Move) (y : History) → AreOuter P moves
+    → IsSoundIn i.variant y → IsSoundIn i.variant (all_made (by_lists i) y moves)
+outer_sound i keep P [] y h sound = sound
+outer_sound i keep P (Foreign v ∷ moves) y h sound =
+    outer_sound i keep P moves (moved i y (Foreign v)) h.1 (keep y [] (Extend v) sound).sound
+outer_sound i keep P (PowerMove ∷ moves) y h sound =
+    outer_sound i keep P moves (moved i y PowerMove) h.1 (keep y [] Power sound).sound
+outer_sound i keep P moves y h sound = absurd h.0
 
 module _ (all others : List (List ℕ)) (asked : List Batch) (i : Instance) (agree : EventsAgree i) (clear : IsClear all)
     (apart : AreApartIn i.variant i others asked) where

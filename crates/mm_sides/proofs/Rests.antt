@@ -4,7 +4,7 @@ use Rattle.mm_sides.proofs.Below.{ℕ, ◌≡◌, ◌+◌, Bool, true, false, �
 use Rattle.mm_sides.proofs.Below.{bytes_eq, AllByRecursion, Contains, bytes_eq-Decides, All-from_recursion, All-contains, Variant, Basic}
 use Rattle.mm_sides.proofs.Below.{Opt, zero_bytes, anchored_message, Batch, One, size_of, Meaning, state_after, Content, Instance, basic}
 use Rattle.mm_sides.proofs.Below.{opt, History, Entry, requests_of, total_of, joined, register_value_of, is_empty, are_own, has_value, Life}
-use Rattle.mm_sides.proofs.Below.{Spoiled, Lost, life_by, life_of, Within, IsClear, AreNoGuards, history_messages, values_in, counting}
+use Rattle.mm_sides.proofs.Below.{life_by, life_of, Within, IsClear, AreNoGuards, history_messages, values_in, counting}
 use Rattle.mm_sides.proofs.Below.{Digests, IsPoint, IsPlaceOf, Names, anchor_after, issued_place, issued, is_new, place_messages, flag_of}
 use Rattle.mm_sides.proofs.Below.{basic_issued, opt_issued, point_kept, basic_stands_here, opt_stands_here, IsLedTo, IsWithin, by_lists}
 use Rattle.mm_sides.proofs.Below.{by_digests, Agrees, instance_by, plain_outside, lives, within_items, summary_in, place_at, IsSoundIn}
@@ -16,6 +16,7 @@ use Rattle.mm_model.specs.Life.{Live}
 use Rattle.mm_model.specs.Judge.{is_last, judge, judged, verdict_by_digests}
 use Rattle.mm_model.specs.PlacesWords.{digest_of}
 use Rattle.mm_model.specs.BatchLaws.{at_the_end}
+use Rattle.mm_sides.proofs.Outer.{IsAlike}
 
 -- the same with other items
 abbrev pub holding : History → List Entry → History
@@ -55,6 +56,12 @@ names_cross Opt meaning key key' barrier y items c n = record {
   state = n.state;
   place = opt_place meaning key key' barrier y items n.named c.place n.place;
 }
+
+pub alike_names : (variant : Variant) (meaning : Meaning) (key barrier : List ℕ) (y z : History) → IsAlike y z → (c : Content)
+    → (let i = instance_by variant meaning key barrier in Names i y c → Names i z c)
+alike_names variant meaning key barrier y z alike c n =
+    subst (λ w. Names (instance_by variant meaning key barrier) w c) (sym alike.is)
+    (names_cross variant meaning key key barrier y z.items c n)
 
 -- nor does what an answer's snapshot says
 
@@ -148,9 +155,7 @@ pub record IsHere (variant : Variant) (y : History) (position : ℕ) : Type 0 wh
 new_live : (life : Life) (at repeat : Bool) → is_new (judged life at repeat) ≡ true → (life ≡ Live) × (at ≡ true)
 new_live Live true repeat e = (refl, refl)
 new_live Live false true e = cc
-new_live Live false false e = cc
-new_live Spoiled at repeat e = cc
-new_live Lost at repeat e = cc
+new_live _ at repeat e = cc
 
 pub here_tells : (i : Instance) (y : History) (c : Content) → stands_here (by_lists i) y c ≡ true → IsHere i.variant y c.position
 here_tells i y c e =
@@ -185,10 +190,10 @@ flag_shut Basic meaning key barrier y shut = refl
 flag_shut Opt meaning key barrier y shut = sym shut
 
 -- the snapshot of a history that goes on names its end
-pub issued_names : (variant : Variant) (meaning : Meaning) (key barrier : List ℕ) (y : History)
-    → (let i = instance_by variant meaning key barrier in IsLedTo i.variant y → life_of i.variant y ≡ Live → Names i y (issued i y))
-issued_names Basic meaning key barrier y sound live = basic_issued meaning key y
-issued_names Opt meaning key barrier y sound live = opt_issued meaning key barrier y sound (lives y live).clean
+pub issued_here : (variant : Variant) (meaning : Meaning) (key barrier : List ℕ) (y : History)
+    → (let i = instance_by variant meaning key barrier in IsSoundIn i.variant y → life_of i.variant y ≡ Live → Names i y (issued i y))
+issued_here Basic meaning key barrier y sound live = basic_issued meaning key y
+issued_here Opt meaning key barrier y sound live = opt_issued meaning key barrier y sound (lives y live).clean
 
 -- the verdicts on an offer agree
 

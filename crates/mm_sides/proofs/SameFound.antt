@@ -7,11 +7,11 @@ use Rattle.mm_sides.proofs.Below.{weighed_alike, weighed_only, TicketContent, of
 use Rattle.mm_sides.proofs.Below.{Enters, Notes, is_live, Pair, Side, Both, lists_move, digests_move, Command, Invite, Retire, Accept}
 use Rattle.mm_sides.proofs.Below.{MoveCause, Refused, Open, Gone, FoundMove, stands_here, verdict_here, left_by, offered_to, retired_on}
 use Rattle.mm_sides.proofs.Below.{ticket_in, entered_again, accepted_on, retiring, accepting, finding, closing_of, offer_closing}
-use Rattle.mm_sides.proofs.Below.{command_messages, IsGenuineTo, IsGenuineCommand, IsOurs, IsOursOffered, IsOursFor, history_at}
-use Rattle.mm_sides.proofs.Below.{history_now}
+use Rattle.mm_sides.proofs.Below.{command_messages, IsGenuineTo, IsGenuineCommand, IsOurs, IsOursOffered, IsOursFor}
 use Rattle.mm_call.specs.OfferLaws.{right_is, is_right}
 use Rattle.mm_sides.proofs.Rests.{says_again, here_tells, end_of, open_same, here_same}
 use Rattle.mm_sides.proofs.Found.{stands_by}
+use Rattle.mm_sides.proofs.OneHistory.{live_history}
 use Rattle.mm_sides.proofs.Twins.{Twin, twin, IsShut, IsNamed, Kept}
 
 if_both : (b : Bool) (p q q' : Result FoundMove MoveCause) → (b ≡ false → q ≡ q') → (if b then p else q) ≡ (if b then p else q')
@@ -26,9 +26,6 @@ pub named_of : (all : List (List ℕ)) (i : Instance) (y : History) (tickets : L
     → AllByRecursion (IsNamed all i y) tickets → Contains tickets ticket → IsNamed all i y ticket
 named_of all i y tickets ticket named h =
     All-contains (IsNamed all i y) tickets ticket (All-from_recursion (IsNamed all i y) tickets named) h
-
-pub live_history : (l : Both History History) → is_live l.first.role ≡ true → history_now l ≡ l.first.at
-live_history l live = ap (λ f. history_at f (is_live l.second.role) l.first.at l.second.at l.away) live
 
 module _ (variant : Variant) (meaning : Meaning) (key barrier : List ℕ) (all others : List (List ℕ)) (asked : List Batch)
     (clear : IsClear all)

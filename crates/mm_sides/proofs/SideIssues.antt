@@ -1,19 +1,20 @@
 -- Moves keep what both sides issued; and so does every schedule.
-use Rattle.mm_sides.proofs.Below.{ℕ, ◌≡◌, Bool, true, false, List, [], ◌∷◌, Option, None, Some, Result, Ok, Err, refl, sym, ap, ◌∙◌, subst}
+use Rattle.mm_sides.proofs.Below.{ℕ, ◌≡◌, Bool, true, false, List, [], ◌∷◌, Option, None, Some, Result, Ok, Err, refl, sym, ◌∙◌, subst}
 use Rattle.mm_sides.proofs.Below.{if◌then◌else◌, AllByRecursion, Variant, Meaning, StepFault, Meddle, Stop, sealed_of, Instance, History}
 use Rattle.mm_sides.proofs.Below.{first_history, LiveHistory, life_of, Names, issued, each_append, Fate, Walked, walk, by_lists, all_made}
-use Rattle.mm_sides.proofs.Below.{instance_by, TicketContent, course_of, IsIssued, IsSoundIn, Role, Effect, Invites, Leaves, Enters, Notes}
+use Rattle.mm_sides.proofs.Below.{instance_by, course_of, IsIssued, IsSoundIn, Role, Effect, Invites, Leaves, Enters, Notes}
 use Rattle.mm_sides.proofs.Below.{no_notes, is_live, Which, First, Second, Pair, instance_on, Both, turned, lists_move, first_lists}
 use Rattle.mm_sides.proofs.Below.{Command, MoveCause, FoundMove, Act, Plain, Moves, BothEvent, BothOutcome, is_moved, effect_if, effect_of}
 use Rattle.mm_sides.proofs.Below.{affected_if, brought_to, stopped_moves, move_steps, handed, move_ended, moved_by, moved_if, finding}
 use Rattle.mm_sides.proofs.Below.{outcome_here, both_outcome, BothFollowed, both_followed, noted_if, IsNew, IsOursIn, AreFreshFrom}
-use Rattle.mm_sides.proofs.Below.{history_at, history_now, SnapshotsName, SidesIssueNames}
-use Rattle.mm_sides.proofs.InOrder.{not_dead, invites_none, leaves_live, roles_begin, roles_are_one}
-use Rattle.mm_sides.proofs.Found.{Fits, FitsFound, FitsIn, finding_fits, IsFine, unbroken, found_is, IsEnded, ended_told, affected_order, EntersSo, enters_so}
-use Rattle.mm_sides.proofs.Outer.{any_value, found_outer, stopped_outer, IsAlike, same_open, brought_alike, events_keep_names, Lasting, outer_lasting}
+use Rattle.mm_sides.proofs.Below.{EntersLast, history_now, SnapshotsName, SidesIssueNames}
+use Rattle.mm_sides.proofs.InOrder.{not_dead, invites_none, roles_begin}
+use Rattle.mm_sides.proofs.Found.{Fits, FitsFound, FitsIn, finding_fits, IsFine, unbroken, found_is, IsEnded, ended_told, affected_order, enters_so}
+use Rattle.mm_sides.proofs.Outer.{any_value, found_outer, stopped_outer, IsAlike, same_open, brought_alike, events_keep_names, outer_sound}
+use Rattle.mm_sides.proofs.OneHistory.{live_history, away_history, affected_history}
 use Rattle.mm_sides.proofs.OneLive.{IsOrdered, here_ordered}
-use Rattle.mm_sides.proofs.Rests.{names_cross, here_tells}
-use Rattle.mm_sides.proofs.SideNames.{sound_holding, life_holding, issued_here, first_sound_in, first_lives, Issues, turned_issues, Leads, mine, theirs, brought_issues, plain_issues}
+use Rattle.mm_sides.proofs.Rests.{here_tells, issued_here}
+use Rattle.mm_sides.proofs.SideNames.{alike_issued, sound_holding, life_holding, first_sound_in, first_lives, Issues, turned_issues, brought_issues, plain_issues}
 
 module _ (variant : Variant) (meaning : Meaning) (key key' barrier : List ℕ) where
   abbrev me : Instance
@@ -27,110 +28,73 @@ module _ (variant : Variant) (meaning : Meaning) (key key' barrier : List ℕ) w
   Answers l = (is_live l.first.role ≡ true) × Names me l.first.at (issued me l.first.at)
 
   abbrev Entered : Both History History → Option Effect → Type 0
-  Entered l None = Unit {0}
-  Entered l (Some (Invites nonce)) = Unit {0}
-  Entered l (Some (Leaves ticket)) = Unit {0}
   Entered l (Some (Enters ticket)) =
       Names me (record l.away { items = l.first.at.items }) (issued me (record l.away { items = l.first.at.items }))
+  Entered l effect = Unit {0}
 
   abbrev RestsOn : History → Type 0
   RestsOn y = (y.is_open ≡ false) × (life_of me.variant y ≡ LiveHistory)
 
   abbrev Left : History → Option Effect → Type 0
-  Left y None = Unit {0}
-  Left y (Some (Invites nonce)) = Unit {0}
   Left y (Some (Leaves ticket)) = RestsOn y
-  Left y (Some (Enters ticket)) = Unit {0}
+  Left y effect = Unit {0}
 
   record Affected (l : Both History History) (notes : Notes) (effect : Option Effect) : Type 0 where
     keeps : Issues me them (affected_if lists_move l effect) (noted_if effect notes)
     entered : Entered l effect
 
-  invites_issues : (l : Both History History) (notes : Notes) (nonce : List ℕ) → Issues me them l notes
-      → IsFine l.first.role notes (Some (Invites nonce)) → Affected l notes (Some (Invites nonce))
-  invites_issues l notes nonce k fine =
-      let dead : is_live l.first.role ≡ false = invites_none l.first.role nonce fine.0 in
-      let now : Bool → History = λ f. history_at f (is_live l.second.role) l.first.at l.second.at l.away in
-      record {
-        keeps = record {
-          order = affected_order lists_move l notes (Some (Invites nonce)) k.order fine;
-          sound = subst (λ f. IsSoundIn me.variant (now f)) dead k.sound;
-          this_here = k.this_here;
-          this_now = subst (λ f. AllByRecursion (IsIssued me (now f)) l.first.issued) dead k.this_now;
-          other_here = k.other_here;
-          other_now = subst (λ f. AllByRecursion (IsIssued them (now f)) l.second.issued) dead k.other_now;
-          rests = λ gone left. k.rests dead left;
-        };
-        entered = tt;
-      }
-
-  leaves_issues : (l : Both History History) (notes : Notes) (ticket : TicketContent) → Issues me them l notes
-      → IsFine l.first.role notes (Some (Leaves ticket)) → RestsOn l.first.at → Affected l notes (Some (Leaves ticket))
-  leaves_issues l notes ticket k fine rests =
-      let y : History = l.first.at in
-      let live : is_live l.first.role ≡ true = leaves_live l.first.role ticket fine.0 in
-      let none : is_live l.second.role ≡ false = roles_are_one l.first.role l.second.role notes k.order live in
-      let now : Bool → History = λ f. history_at f (is_live l.second.role) y l.second.at l.away in
-      let then_now : Bool → History = λ f. history_at false f y l.second.at y in
-      record {
-        keeps = record {
-          order = affected_order lists_move l notes (Some (Leaves ticket)) k.order fine;
-          sound = subst (λ f. IsSoundIn me.variant (then_now f)) (sym none) (subst (λ f. IsSoundIn me.variant (now f)) live k.sound);
-          this_here = k.this_here;
-          this_now = subst (λ f. AllByRecursion (IsIssued me (then_now f)) l.first.issued) (sym none) k.this_here;
-          other_here = k.other_here;
-          other_now = subst (λ f. AllByRecursion (IsIssued them (then_now f)) l.second.issued) (sym none)
-              (subst (λ f. AllByRecursion (IsIssued them (now f)) l.second.issued) live k.other_now);
-          rests = λ gone left. rests;
-        };
-        entered = tt;
-      }
-
-  enters_issues : (l : Both History History) (notes : Notes) (ticket : TicketContent) → Issues me them l notes
-      → IsFine l.first.role notes (Some (Enters ticket))
-      → EntersSo l.first.role l.second.role notes (Some (Enters ticket)) → Affected l notes (Some (Enters ticket))
-  enters_issues l notes ticket k fine alone =
-      let own : History = l.first.at in
-      let z : History = record l.away { items = own.items } in
-      let r = k.rests alone.not_here alone.not_there in
-      let now : Bool → Bool → History = λ f g. history_at f g own l.second.at l.away in
-      let sound : IsSoundIn me.variant l.away = subst (λ g. IsSoundIn me.variant (now false g)) alone.not_there
-      (subst (λ f. IsSoundIn me.variant (now f (is_live l.second.role))) alone.not_here k.sound) in
-      let this : AllByRecursion (IsIssued me l.away) l.first.issued =
-      subst (λ g. AllByRecursion (IsIssued me (now false g)) l.first.issued) alone.not_there
-      (subst (λ f. AllByRecursion (IsIssued me (now f (is_live l.second.role))) l.first.issued) alone.not_here k.this_now) in
-      let other : AllByRecursion (IsIssued them l.away) l.second.issued =
-      subst (λ g. AllByRecursion (IsIssued them (now false g)) l.second.issued) alone.not_there
-      (subst (λ f. AllByRecursion (IsIssued them (now f (is_live l.second.role))) l.second.issued) alone.not_here k.other_now) in
-      let sound' : IsSoundIn me.variant z = sound_holding variant meaning key barrier l.away own.items r.0 sound in
-      let go : Leads variant meaning key key' barrier l.away z =
-      record { sound = λ s. sound'; names = λ c n. names_cross variant meaning key key barrier l.away own.items c n } in
-      let here = mine variant meaning key key' barrier l.away z l.first.issued go this in
-      record {
-        keeps = record {
-          order = affected_order lists_move l notes (Some (Enters ticket)) k.order fine;
-          sound = sound';
-          this_here = here;
-          this_now = here;
-          other_here = k.other_here;
-          other_now = theirs variant meaning key key' barrier l.away z l.second.issued go other;
-          rests = λ gone left. not_dead gone;
-        };
-        entered = issued_here variant meaning key barrier z sound' (life_holding variant meaning key barrier l.away own.items r.0 r.1);
-      }
+  -- where the module has left, and none is live, the history rests
+  affected_rests : (l : Both History History) (notes : Notes) (effect : Option Effect) → Issues me them l notes
+      → IsFine l.first.role notes effect → Left l.first.at effect → (let after = affected_if lists_move l effect in
+      is_live after.first.role ≡ false → is_live after.second.role ≡ false → RestsOn after.away)
+  affected_rests l notes (Some (Invites nonce)) k fine left = λ gone none. k.rests (invites_none l.first.role nonce fine.0) none
+  affected_rests l notes (Some (Leaves ticket)) k fine left = λ gone none. left
+  affected_rests l notes (Some (Enters ticket)) k fine left = λ gone none. not_dead gone
+  affected_rests l notes None k fine left = k.rests
 
   affected : (l : Both History History) (notes : Notes) (effect : Option Effect) → Issues me them l notes → IsFine l.first.role notes effect
       → Left l.first.at effect → Affected l notes effect
-  affected l notes None k fine left = record { keeps = k; entered = tt }
-  affected l notes (Some (Invites nonce)) k fine left = invites_issues l notes nonce k fine
-  affected l notes (Some (Leaves ticket)) k fine left = leaves_issues l notes ticket k fine left
   affected l notes (Some (Enters ticket)) k fine left =
-      enters_issues l notes ticket k fine (enters_so l.first.role l.second.role notes (Some (Enters ticket)) k.order fine)
+      let effect : Option Effect = Some (Enters ticket) in
+      let alone : EntersLast l.first.role l.second.role notes ticket = enters_so l.first.role l.second.role notes effect k.order fine in
+      let away : history_now l ≡ l.away = away_history l alone.not_here alone.not_there in
+      let z : History = record l.away { items = l.first.at.items } in
+      let r = k.rests alone.not_here alone.not_there in
+      let sound : IsSoundIn me.variant z = sound_holding variant meaning key barrier l.away l.first.at.items r.0
+      (subst (λ y. IsSoundIn me.variant y) away k.sound) in
+      let here : AllByRecursion (IsIssued me z) l.first.issued = alike_issued variant meaning key barrier l.away z
+      (record { is = refl }) l.first.issued (subst (λ y. AllByRecursion (IsIssued me y) l.first.issued) away k.this_now) in
+      record {
+        keeps = record {
+          order = affected_order lists_move l notes effect k.order fine;
+          sound = sound;
+          this_here = here;
+          this_now = here;
+          other_here = k.other_here;
+          other_now = alike_issued variant meaning key' barrier l.away z (record { is = refl }) l.second.issued
+              (subst (λ y. AllByRecursion (IsIssued them y) l.second.issued) away k.other_now);
+          rests = affected_rests l notes effect k fine left;
+        };
+        entered = issued_here variant meaning key barrier z sound (life_holding variant meaning key barrier l.away z.items r.0 r.1);
+      }
+  affected l notes effect k fine left =
+      let same = sym (affected_history l notes effect k.order fine) in
+      record {
+        keeps = record {
+          order = affected_order lists_move l notes effect k.order fine;
+          sound = subst (λ y. IsSoundIn me.variant y) same k.sound;
+          this_here = k.this_here;
+          this_now = subst (λ y. AllByRecursion (IsIssued me y) l.first.issued) same k.this_now;
+          other_here = k.other_here;
+          other_now = subst (λ y. AllByRecursion (IsIssued them y) l.second.issued) same k.other_now;
+          rests = affected_rests l notes effect k fine left;
+        };
+        entered = tt;
+      }
 
   abbrev Tellable : Both History History → Effect → Type 0
-  Tellable l (Invites nonce) = Unit {0}
-  Tellable l (Leaves ticket) = Unit {0}
   Tellable l (Enters ticket) = Answers l
+  Tellable l effect = Unit {0}
 
   told_issues : (pair : Pair) (l : Both History History) (notes : Notes) (effect : Effect) → Issues me them l notes → Tellable l effect
       → Issues me them (handed lists_move pair me l effect) notes
@@ -139,7 +103,7 @@ module _ (variant : Variant) (meaning : Meaning) (key key' barrier : List ℕ) w
       let bytes : List ℕ = sealed_of me.key (issued me y) in
       let own : IsIssued me y bytes = record { content = issued me y; sealed = refl; names = told.1 } in
       let now : History = history_now l in
-      let is : now ≡ y = ap (λ f. history_at f (is_live l.second.role) y l.second.at l.away) told.0 in
+      let is : now ≡ y = live_history l told.0 in
       record {
         order = k.order;
         sound = k.sound;
@@ -161,12 +125,9 @@ module _ (variant : Variant) (meaning : Meaning) (key key' barrier : List ℕ) w
 
   left_by_effect : (notes : Notes) (role : Role) (y z : History) (again moved : Bool) (effect : Effect) → (RestsOn y → RestsOn z)
       → Fits lists_move me y notes role again effect → Left z (if again then None else effect_if moved effect)
-  left_by_effect notes role y z true moved effect go fits = tt
-  left_by_effect notes role y z false false effect go fits = tt
-  left_by_effect notes role y z false true (Invites nonce) go fits = tt
-  left_by_effect notes role y z false true (Enters ticket) go fits = tt
   left_by_effect notes role y z false true (Leaves ticket) go fits =
       let left = (fits refl).1 in go (left.shut, (here_tells me y left.offered left.here).live)
+  left_by_effect notes role y z again moved effect go fits = tt
 
   left_of : (notes : Notes) (role : Role) (y z : History) (fates : ℕ → Fate) (found : Result FoundMove MoveCause) → (RestsOn y → RestsOn z)
       → FitsFound lists_move me y notes role found → Left z (effect_of fates found)
@@ -188,8 +149,7 @@ module _ (variant : Variant) (meaning : Meaning) (key key' barrier : List ℕ) w
   again_told l notes y again (Enters ticket) k go fits e =
       let t = fits.1 e in
       let z : History = l.first.at in
-      let sound : IsSoundIn me.variant z =
-      subst (λ f. IsSoundIn me.variant (history_at f (is_live l.second.role) z l.second.at l.away)) t.live k.sound in
+      let sound : IsSoundIn me.variant z = subst (λ y. IsSoundIn me.variant y) (live_history l t.live) k.sound in
       (t.live, issued_here variant meaning key barrier z sound (go (t.shut, (here_tells me y ticket.content t.here).live)).1)
   again_told l notes y again effect k go fits e = tt
 
@@ -209,17 +169,15 @@ module _ (variant : Variant) (meaning : Meaning) (key key' barrier : List ℕ) w
     subst (λ w. life_of me.variant w ≡ LiveHistory) (sym a.is) (life_holding variant meaning key barrier y z.items r.0 r.1),
   )
 
-  brought_leads : (y : History) (meddles : List Meddle) (stop : Stop) (found : Result FoundMove MoveCause) → IsSoundIn me.variant y
-      → Leads variant meaning key key' barrier y (brought_to lists_move me y meddles stop (move_steps found))
-  brought_leads y meddles stop found sound =
+  brought_sound : (y : History) (meddles : List Meddle) (stop : Stop) (found : Result FoundMove MoveCause) → IsSoundIn me.variant y
+      → IsSoundIn me.variant (brought_to lists_move me y meddles stop (move_steps found))
+  brought_sound y meddles stop found sound =
       let P : List ℕ → Type 0 = λ v. Unit {0} in
       let fates : ℕ → Fate = (course_of stop meddles).fates in
       let w : Walked = walk fates 1 (move_steps found) in
       let keep = events_keep_names variant meaning key barrier in
-      let middle : History = all_made (by_lists me) y w.moves in
-      let a : Lasting me y middle = outer_lasting me keep P w.moves y (found_outer P fates found (λ n. any_value (fates n).brings)) sound in
-      let b = outer_lasting me keep P (stopped_moves stop w.broken) middle (stopped_outer P stop w.broken) a.sound in
-      record { sound = λ s. b.sound; names = λ c n. b.names c (a.names c n) }
+      outer_sound me keep P (stopped_moves stop w.broken) (all_made (by_lists me) y w.moves) (stopped_outer P stop w.broken)
+      (outer_sound me keep P w.moves y (found_outer P fates found (λ n. any_value (fates n).brings)) sound)
 
   moved_issues : (pair : Pair) (l : Both History History) (notes : Notes) (meddles : List Meddle) (stop : Stop) (command : Command)
       (found : Option (Result FoundMove MoveCause)) → Issues me them l notes
@@ -235,10 +193,8 @@ module _ (variant : Variant) (meaning : Meaning) (key key' barrier : List ℕ) w
       let z : History = brought_to lists_move me y meddles stop (move_steps found) in
       let alike : IsAlike y z = brought_alike me y meddles stop found in
       let l1 : Both History History = record l { first = record l.first { at = z } } in
-      let sound : is_live l.first.role ≡ true → IsSoundIn me.variant y =
-      λ live. subst (λ f. IsSoundIn me.variant (history_at f (is_live l.second.role) y l.second.at l.away)) live k.sound in
       let k1 : Issues me them l1 notes = brought_issues variant meaning key key' barrier l notes z k alike
-      (λ live. brought_leads y meddles stop found (sound live)) in
+      (λ live. brought_sound y meddles stop found) in
       let l2 : Both History History = affected_if lists_move l1 effect in
       let ended : IsEnded lists_move pair me l2 effect (moved_by lists_move pair me l meddles stop found) =
       ended_told lists_move pair me l2 stop broken found effect in
@@ -253,8 +209,7 @@ module _ (variant : Variant) (meaning : Meaning) (key key' barrier : List ℕ) w
       → IsOrdered l.first.role l.second.role notes (outcome_here lists_move pair me l act) → IsOursIn pair l.tickets notes act
       → (let o = outcome_here lists_move pair me l act in Issues me them o.both (noted_if o.effect notes))
   here_issues pair l notes (Plain event) k s ours =
-      plain_issues variant meaning key key' barrier l.first.at l.first.issued l.second l.away l.tickets l.committed notes l.first.role event
-      k
+      plain_issues variant meaning key key' barrier l notes l.first.role event k
   here_issues pair l notes (Moves meddles stop command) k s ours =
       moved_issues pair l notes meddles stop command (finding lists_move pair me l command) k s
       (finding_fits lists_move pair me notes l command ours)

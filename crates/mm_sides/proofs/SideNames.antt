@@ -1,16 +1,15 @@
 -- What both sides issue names positions of where they stand, and of the one history.
 use Rattle.mm_sides.proofs.Below.{ℕ, ◌≡◌, Bool, true, false, List, [], ◌∷◌, refl, sym, ap, ◌∙◌, subst, AllByRecursion, Variant, Basic, Opt}
 use Rattle.mm_sides.proofs.Below.{Meaning, Content, sealed_of, Instance, History, Entry, joined, first_history, Life, LiveHistory, life_by}
-use Rattle.mm_sides.proofs.Below.{is_empty, are_own, has_value, life_of, Names, issued, Refusal, basic_issued, opt_issued, by_lists}
-use Rattle.mm_sides.proofs.Below.{instance_by, lives, sound_shut, Event, Outcome, event_outcome, event_in_vain, IsIssued, IsSoundIn, Role}
-use Rattle.mm_sides.proofs.Below.{Blank, Live, Waiting, Retired, Notes, is_live, AreInOrder, Side, Both, turned, lists_move, plain_outcome}
-use Rattle.mm_sides.proofs.Below.{history_at, history_now}
-use Rattle.mm_model.specs.declared.refusal.Refusal.TheVariants as refusal
+use Rattle.mm_sides.proofs.Below.{is_empty, are_own, has_value, life_of, Names, Refusal, by_lists}
+use Rattle.mm_sides.proofs.Below.{instance_by, sound_shut, Event, Outcome, event_outcome, event_in_vain, IsIssued, IsSoundIn, Role}
+use Rattle.mm_sides.proofs.Below.{Live, Notes, is_live, AreInOrder, Both, turned, lists_move, plain_outcome}
+use Rattle.mm_sides.proofs.Below.{history_at, history_now, refused_where}
 use Rattle.mm_model.specs.EndLaws.{first_sound}
 use Rattle.mm_sides.proofs.InOrder.{not_dead, roles_swap}
 use Rattle.mm_sides.proofs.Outer.{in_vain, IsAlike, events_keep_names}
-use Rattle.mm_sides.proofs.OneRun.{turned_history}
-use Rattle.mm_sides.proofs.Rests.{holding, names_cross}
+use Rattle.mm_sides.proofs.OneHistory.{turned_history, alike_at}
+use Rattle.mm_sides.proofs.Rests.{holding, names_cross, alike_names}
 
 -- names go along where a history is alike, and from one side to the other
 
@@ -26,6 +25,11 @@ same_variant : (variant : Variant) (meaning : Meaning) (key key' barrier : List 
     → (instance_by variant meaning key barrier).variant ≡ (instance_by variant meaning key' barrier).variant
 same_variant Basic meaning key key' barrier = refl
 same_variant Opt meaning key key' barrier = refl
+
+pub alike_issued : (variant : Variant) (meaning : Meaning) (key barrier : List ℕ) (y z : History) → IsAlike y z → (xs : List (List ℕ))
+    → (let i = instance_by variant meaning key barrier in AllByRecursion (IsIssued i y) xs → AllByRecursion (IsIssued i z) xs)
+alike_issued variant meaning key barrier y z alike xs h =
+    let i = instance_by variant meaning key barrier in each_issued i i y z refl (alike_names variant meaning key barrier y z alike) xs h
 
 -- a history at rest is as sound, and goes on as well, with other items
 pub sound_holding : (variant : Variant) (meaning : Meaning) (key barrier : List ℕ) (y : History) (items : List Entry) → y.is_open ≡ false
@@ -46,13 +50,6 @@ pub life_holding : (variant : Variant) (meaning : Meaning) (key barrier : List �
     → life_of (instance_by variant meaning key barrier).variant (holding y items) ≡ LiveHistory
 life_holding Basic meaning key barrier y items shut h = refl
 life_holding Opt meaning key barrier y items shut h = life_shut y items shut ∙ h
-
--- the snapshot of a history that goes on names its end
-pub issued_here : (variant : Variant) (meaning : Meaning) (key barrier : List ℕ) (y : History)
-    → (let i = instance_by variant meaning key barrier in IsSoundIn i.variant y → life_of i.variant y ≡ LiveHistory
-    → Names i y (issued i y))
-issued_here Basic meaning key barrier y sound live = basic_issued meaning key y
-issued_here Opt meaning key barrier y sound live = opt_issued meaning key barrier y sound (lives y live).clean
 
 pub first_sound_in : (variant : Variant) (meaning : Meaning) (key barrier : List ℕ)
     → IsSoundIn (instance_by variant meaning key barrier).variant first_history
@@ -105,90 +102,66 @@ module _ (variant : Variant) (meaning : Meaning) (key key' barrier : List ℕ) w
   abbrev them : Instance
   them = instance_by variant meaning key' barrier
 
-  -- from one history to another, for this side and for the other
-  pub record Leads (y z : History) : Type 0 where
-    pub sound : IsSoundIn me.variant y → IsSoundIn me.variant z
-    pub names : (c : Content) → Names me y c → Names me z c
-
-  pub mine : (y z : History) (xs : List (List ℕ)) → Leads y z → AllByRecursion (IsIssued me y) xs → AllByRecursion (IsIssued me z) xs
-  mine y z xs a h = each_issued me me y z refl a.names xs h
-
-  pub theirs : (y z : History) (xs : List (List ℕ)) → Leads y z → AllByRecursion (IsIssued them y) xs → AllByRecursion (IsIssued them z) xs
-  theirs y z xs a h = each_issued them them y z refl (λ c n. names_cross variant meaning key key' barrier z z.items c
-      (a.names c (names_cross variant meaning key' key barrier y y.items c n))) xs h
-
-  -- other items
-  alike_names : (y z : History) → IsAlike y z → (c : Content) → Names me y c → Names me z c
-  alike_names y z a c n = subst (λ w. Names me w c) (sym a.is) (names_cross variant meaning key key barrier y z.items c n)
-
   -- where the module is now, once the first side stands elsewhere
-  now_leads : (a b : Bool) (y z second away : History) → (a ≡ true → Leads y z)
-      → Leads (history_at a b y second away) (history_at a b z second away)
-  now_leads true b y z second away h = h refl
-  now_leads false true y z second away h = record { sound = λ s. s; names = λ c n. n }
-  now_leads false false y z second away h = record { sound = λ s. s; names = λ c n. n }
+  sound_at : (a b : Bool) (y z second away : History) → (a ≡ true → IsSoundIn me.variant y → IsSoundIn me.variant z)
+      → IsSoundIn me.variant (history_at a b y second away) → IsSoundIn me.variant (history_at a b z second away)
+  sound_at true b y z second away h s = h refl s
+  sound_at false true y z second away h s = s
+  sound_at false false y z second away h s = s
 
   -- the first side stands elsewhere, and issued no snapshot
-  pub brought_issues : (l : Both History History) (notes : Notes) (z : History) → Issues me them l notes
-      → IsAlike l.first.at z → (is_live l.first.role ≡ true → Leads l.first.at z)
+  pub brought_issues : (l : Both History History) (notes : Notes) (z : History) → Issues me them l notes → IsAlike l.first.at z
+      → (is_live l.first.role ≡ true → IsSoundIn me.variant l.first.at → IsSoundIn me.variant z)
       → Issues me them (record l { first = record l.first { at = z } }) notes
-  brought_issues l notes z k alike leads =
-      let y : History = l.first.at in
-      let go = now_leads (is_live l.first.role) (is_live l.second.role) y z l.second.at l.away leads in
-      let before : History = history_now l in
-      let now : History = history_at (is_live l.first.role) (is_live l.second.role) z l.second.at l.away in
+  brought_issues l notes z k alike sound =
+      let a = is_live l.first.role in
+      let b = is_live l.second.role in
+      let now = alike_at a b l.first.at z l.second.at l.away alike in
       record {
         order = k.order;
-        sound = go.sound k.sound;
-        this_here = each_issued me me y z refl (alike_names y z alike) l.first.issued k.this_here;
-        this_now = mine before now l.first.issued go k.this_now;
+        sound = sound_at a b l.first.at z l.second.at l.away sound k.sound;
+        this_here = alike_issued variant meaning key barrier _ _ alike l.first.issued k.this_here;
+        this_now = alike_issued variant meaning key barrier _ _ now l.first.issued k.this_now;
         other_here = k.other_here;
-        other_now = theirs before now l.second.issued go k.other_now;
+        other_now = alike_issued variant meaning key' barrier _ _ now l.second.issued k.other_now;
         rests = k.rests;
       }
 
   -- an event of a schedule
 
-  module _ (at : History) (snapshots : List (List ℕ)) (second : Side History) (away : History) (tickets : List (List ℕ)) (committed : ℕ)
-      (notes : Notes) where
+  module _ (l : Both History History) (notes : Notes) where
     abbrev standing : Role → Both History History
-    standing role = record {
-      first = record { role = role; at = at; issued = snapshots };
-      second = second;
-      away = away;
-      tickets = tickets;
-      committed = committed;
-    }
+    standing role = record l { first = record l.first { role = role } }
 
     live_issues : (event : Event) → Issues me them (standing Live) notes
-        → (let o : Outcome History = event_outcome me (by_lists me) at snapshots event in
+        → (let o : Outcome History = event_outcome me (by_lists me) l.first.at l.first.issued event in
         Issues me them (record (standing Live) { first = record { role = Live; at = o.state; issued = o.issued } }) notes)
     live_issues event k =
-        let o : Outcome History = event_outcome me (by_lists me) at snapshots event in
-        let n = events_keep_names variant meaning key barrier at snapshots event k.sound in
-        let go : Leads at o.state = record { sound = λ s. n.sound; names = n.names } in
+        let o : Outcome History = event_outcome me (by_lists me) l.first.at l.first.issued event in
+        let n = events_keep_names variant meaning key barrier l.first.at l.first.issued event k.sound in
         record {
           order = k.order;
           sound = n.sound;
           this_here = n.issued k.this_here;
           this_now = n.issued k.this_here;
           other_here = k.other_here;
-          other_now = theirs at o.state second.issued go k.other_now;
+          other_now = each_issued them them l.first.at o.state refl
+              (λ c n'. names_cross variant meaning key key' barrier o.state o.state.items c
+              (n.names c (names_cross variant meaning key' key barrier l.first.at l.first.at.items c n'))) l.second.issued k.other_now;
           rests = λ gone left. not_dead gone;
         }
 
     vain_issues : (role : Role) (why : Refusal) (event : Event) → is_live role ≡ false
-        → Issues me them (standing role) notes → (let o : Outcome History = event_in_vain (by_lists me) at snapshots why event in
+        → Issues me them (standing role) notes → (let o : Outcome History = event_in_vain
+        (by_lists me) l.first.at l.first.issued why event in
         Issues me them (record (standing role) { first = record { role = role; at = o.state; issued = o.issued } }) notes)
     vain_issues role why event dead k =
-        let o : Outcome History = event_in_vain (by_lists me) at snapshots why event in
-        let v = in_vain me at snapshots why event in
+        let o : Outcome History = event_in_vain (by_lists me) l.first.at l.first.issued why event in
+        let v = in_vain me l.first.at l.first.issued why event in
         subst (λ xs. Issues me them (record (standing role) { first = record { role = role; at = o.state; issued = xs } }) notes)
         (sym v.issued_is) (brought_issues (standing role) notes o.state k v.alike (λ live. not_dead (sym live ∙ dead)))
 
     pub plain_issues : (role : Role) (event : Event) → Issues me them (standing role) notes
         → Issues me them (plain_outcome lists_move me (standing role) event).both notes
     plain_issues Live event k = live_issues event k
-    plain_issues Blank event k = vain_issues Blank refusal.Blank event refl k
-    plain_issues (Waiting nonce) event k = vain_issues (Waiting nonce) refusal.Cell event refl k
-    plain_issues (Retired nonce) event k = vain_issues (Retired nonce) refusal.Cell event refl k
+    plain_issues role event k = vain_issues role (refused_where role) event refl k

@@ -1,15 +1,14 @@
 -- Both sides by digests beside both sides by lists: what holds of them before and after each event.
-use Rattle.mm_sides.proofs.Below.{ℕ, ◌≡◌, false, List, [], ◌∷◌, sym, ◌∙◌, subst, ◌+◌, ◌-◌, Bool, true, None, refl, AllByRecursion, Contains}
+use Rattle.mm_sides.proofs.Below.{ℕ, ◌≡◌, false, List, [], ◌∷◌, sym, ◌∙◌, subst, ◌+◌, ◌-◌, None, AllByRecursion, Contains}
 use Rattle.mm_sides.proofs.Below.{Variant, Batch, Meaning, Instance, History, total_of, Within, IsClear, Digests, Names, issued}
-use Rattle.mm_sides.proofs.Below.{place_messages, IsWithin, moves_messages, instance_by, TicketContent, Keeps, Role, Blank, Live, Waiting}
-use Rattle.mm_sides.proofs.Below.{Retired, Notes, is_live, AreInOrder, IsLastTicket, Both, turned, Side, lists_move, digests_move}
-use Rattle.mm_sides.proofs.Below.{BothOutcome, noted_if, Plain, Said, plain_outcome, history_at, history_now, Content, Refusal, each_left}
+use Rattle.mm_sides.proofs.Below.{place_messages, IsWithin, moves_messages, instance_by, TicketContent, Keeps, Role, Live}
+use Rattle.mm_sides.proofs.Below.{Retired, Notes, is_live, AreInOrder, IsLastTicket, Both, turned, lists_move, digests_move}
+use Rattle.mm_sides.proofs.Below.{BothOutcome, noted_if, Plain, Said, plain_outcome, history_at, history_now, Refusal, each_left}
 use Rattle.mm_sides.proofs.Below.{each_right, by_lists, by_digests, Event, Outcome, event_outcome, event_in_vain, foreign_of, batches_of}
-use Rattle.mm_sides.proofs.Below.{event_messages, moves_of, AreApartIn, vain_moves, plain_messages, IsGenuineHere}
+use Rattle.mm_sides.proofs.Below.{event_messages, moves_of, AreApartIn, refused_where, vain_moves, plain_messages, IsGenuineHere}
 use Rattle.mm_sides.proofs.InOrder.{roles_swap, not_dead}
-use Rattle.mm_sides.proofs.OneRun.{turned_history}
-use Rattle.mm_sides.proofs.Rests.{names_cross, issued_cross, within_cross, sound_in}
-use Rattle.mm_model.specs.declared.refusal.Refusal.TheVariants as refusal
+use Rattle.mm_sides.proofs.OneHistory.{turned_history, alike_at}
+use Rattle.mm_sides.proofs.Rests.{names_cross, alike_names, issued_cross, within_cross, sound_in}
 use Rattle.mm_sides.proofs.Outer.{in_vain, IsAlike, same_open, events_agree, events_keep_names, vain_same}
 
 -- what by digests is apart from lists: roles, snapshots, tickets and the count of requests are the same
@@ -32,10 +31,8 @@ twin l x = record {
 
 -- where the module left no segment is open
 abbrev pub IsShut : Role → History → Type 0
-IsShut Blank y = Unit {0}
-IsShut Live y = Unit {0}
-IsShut (Waiting nonce) y = Unit {0}
 IsShut (Retired nonce) y = y.is_open ≡ false
+IsShut role y = Unit {0}
 
 -- a ticket names a position of the history, and its place has no message of its own
 abbrev pub IsNamed : List (List ℕ) → Instance → History → TicketContent → Type 0
@@ -113,15 +110,6 @@ module _ (variant : Variant) (meaning : Meaning) (key key' barrier : List ℕ) (
   abbrev them : Instance
   them = instance_by variant meaning key' barrier
 
-  -- names where the module is now, once the first side stands elsewhere
-  named_at : (a b : Bool) (y z second away : History) (tickets : List TicketContent)
-      → (a ≡ true → (c : Content) → Names me y c → Names me z c) → AllByRecursion (IsNamed all me (history_at a b y second away)) tickets
-      → AllByRecursion (IsNamed all me (history_at a b z second away)) tickets
-  named_at true b y z second away tickets go h =
-      each_goes (IsNamed all me y) (IsNamed all me z) (λ t n. (go refl t.content n.0, n.1)) tickets h
-  named_at false true y z second away tickets go h = h
-  named_at false false y z second away tickets go h = h
-
   shut_alike : (role : Role) (y z : History) → z.is_open ≡ y.is_open → IsShut role y → IsShut role z
   shut_alike (Retired nonce) y z e h = e ∙ h
   shut_alike role y z e h = tt
@@ -129,29 +117,25 @@ module _ (variant : Variant) (meaning : Meaning) (key key' barrier : List ℕ) (
   -- the first side stands elsewhere, as others extended its register
   pub brought_kept : (l : Both History History) (x : Twin) (notes : Notes) (z : History) (d : Digests)
       → Kept all others asked me them l x notes → Keeps all others asked me z d → IsAlike l.first.at z
-      → (is_live l.first.role ≡ true → (c : Content) → Names me l.first.at c → Names me z c)
       → Kept all others asked me them (record l { first = record l.first { at = z } }) (record x { first = d }) notes
-  brought_kept l x notes z d k keeps alike names = record {
-    this = record { keeps = keeps; shut = shut_alike l.first.role l.first.at z (same_open l.first.at z alike) k.this.shut };
-    other = k.other;
-    left = k.left;
-    order = k.order;
-    named = named_at (is_live l.first.role) (is_live l.second.role) l.first.at z l.second.at l.away notes.retired names k.named;
-    last = k.last;
-  }
+  brought_kept l x notes z d k keeps alike =
+      let now = alike_at (is_live l.first.role) (is_live l.second.role) l.first.at z l.second.at l.away alike in
+      record {
+        this = record { keeps = keeps; shut = shut_alike l.first.role l.first.at z (same_open l.first.at z alike) k.this.shut };
+        other = k.other;
+        left = k.left;
+        order = k.order;
+        named = each_goes (IsNamed all me (history_now l))
+            (IsNamed all me (history_at (is_live l.first.role) (is_live l.second.role) z l.second.at l.away))
+            (λ t h. (alike_names variant meaning key barrier _ _ now t.content h.0, h.1)) notes.retired k.named;
+        last = k.last;
+      }
 
   -- an event of a schedule, by the role of its side
 
-  module _ (at : History) (snapshots : List (List ℕ)) (second : Side History) (away : History) (tickets : List (List ℕ)) (committed : ℕ)
-      (x : Twin) (notes : Notes) where
+  module _ (l : Both History History) (x : Twin) (notes : Notes) where
     abbrev standing : Role → Both History History
-    standing role = record {
-      first = record { role = role; at = at; issued = snapshots };
-      second = second;
-      away = away;
-      tickets = tickets;
-      committed = committed;
-    }
+    standing role = record l { first = record l.first { role = role } }
 
     live_goes : (event : Event) → Kept all others asked me them (standing Live) x notes
         → AllByRecursion (Contains others) (foreign_of event)
@@ -160,25 +144,25 @@ module _ (variant : Variant) (meaning : Meaning) (key key' barrier : List ℕ) (
         → Goes all others asked me them notes (plain_outcome lists_move me (standing Live) event)
         (plain_outcome digests_move me (twin (standing Live) x) event)
     live_goes event k outside batches listed genuine =
-        let ol : Outcome History = event_outcome me (by_lists me) at snapshots event in
-        let od : Outcome Digests = event_outcome me (by_digests me) x.first snapshots event in
-        let first = each_left (Contains all) (event_messages me snapshots event)
-        (moves_messages me at (moves_of me at snapshots event)) listed in
-        let then_moves = each_right (Contains all) (event_messages me snapshots event)
-        (moves_messages me at (moves_of me at snapshots event)) listed in
-        let s = events_agree variant meaning key barrier all others asked clear apart at x.first snapshots event k.this.keeps
+        let ol : Outcome History = event_outcome me (by_lists me) l.first.at l.first.issued event in
+        let od : Outcome Digests = event_outcome me (by_digests me) x.first l.first.issued event in
+        let first = each_left (Contains all) (event_messages me l.first.issued event)
+        (moves_messages me l.first.at (moves_of me l.first.at l.first.issued event)) listed in
+        let then_moves = each_right (Contains all) (event_messages me l.first.issued event)
+        (moves_messages me l.first.at (moves_of me l.first.at l.first.issued event)) listed in
+        let s = events_agree variant meaning key barrier all others asked clear apart l.first.at x.first l.first.issued event k.this.keeps
         (record { outside = outside; batches = batches; listed = first; genuine = genuine; messages = then_moves }) in
-        let n = events_keep_names variant meaning key barrier at snapshots event
-        (sound_in variant meaning key barrier at k.this.keeps.within.sound) in
+        let n = events_keep_names variant meaning key barrier l.first.at l.first.issued event
+        (sound_in variant meaning key barrier l.first.at k.this.keeps.within.sound) in
         record {
           at = record x { first = od.state };
           same = λ j. record {
             both = record {
               first = record { role = Live; at = od.state; issued = s.issued j };
-              second = record { role = second.role; at = x.second; issued = second.issued };
+              second = record { role = l.second.role; at = x.second; issued = l.second.issued };
               away = x.away;
-              tickets = tickets;
-              committed = committed + (s.keeps.agrees.count j - k.this.keeps.agrees.count j);
+              tickets = l.tickets;
+              committed = l.committed + (s.keeps.agrees.count j - k.this.keeps.agrees.count j);
             };
             reply = Said (s.reply j);
             effect = None;
@@ -188,45 +172,45 @@ module _ (variant : Variant) (meaning : Meaning) (key key' barrier : List ℕ) (
             other = k.other;
             left = k.left;
             order = k.order;
-            named = each_goes (IsNamed all me at) (IsNamed all me ol.state) (λ t h. (n.names t.content h.0, h.1)) notes.retired k.named;
+            named = each_goes (IsNamed all me l.first.at) (IsNamed all me ol.state) (λ t h.
+                (n.names t.content h.0, h.1)) notes.retired k.named;
             last = λ gone left ticket is. not_dead gone;
           };
         }
 
-    vain_goes : (role : Role) (why : Refusal) (event : Event) → is_live role ≡ false → Kept all others asked me them (standing role) x notes
-        → AllByRecursion (Contains others) (foreign_of event) → Within (moves_messages me at (vain_moves snapshots event)) all
-        → (let ol : Outcome History = event_in_vain (by_lists me) at snapshots why event in
-        let od : Outcome Digests = event_in_vain (by_digests me) x.first snapshots why event in
+    vain_goes : (role : Role) (why : Refusal) (event : Event) → Kept all others asked me them (standing role) x notes
+        → AllByRecursion (Contains others) (foreign_of event) → Within (moves_messages me l.first.at (vain_moves l.first.issued event)) all
+        → (let ol : Outcome History = event_in_vain (by_lists me) l.first.at l.first.issued why event in
+        let od : Outcome Digests = event_in_vain (by_digests me) x.first l.first.issued why event in
         Goes all others asked me them notes (record {
-          both = record (standing role) { first = record { role = role; at = ol.state; issued = ol.issued }; committed = committed + 0 };
+          both = record (standing role) { first = record { role = role; at = ol.state; issued = ol.issued }; committed = l.committed + 0 };
           reply = Said ol.reply;
           effect = None;
         }) (record {
           both = record
-              (twin (standing role) x) { first = record { role = role; at = od.state; issued = od.issued }; committed = committed + 0 };
+              (twin (standing role) x) { first = record { role = role; at = od.state; issued = od.issued }; committed = l.committed + 0 };
           reply = Said od.reply;
           effect = None;
         }))
-    vain_goes role why event dead k outside listed =
-        let ol : Outcome History = event_in_vain (by_lists me) at snapshots why event in
-        let od : Outcome Digests = event_in_vain (by_digests me) x.first snapshots why event in
+    vain_goes role why event k outside listed =
+        let ol : Outcome History = event_in_vain (by_lists me) l.first.at l.first.issued why event in
+        let od : Outcome Digests = event_in_vain (by_digests me) x.first l.first.issued why event in
         let s = vain_same all others asked me
-        (events_agree variant meaning key barrier) clear apart at x.first snapshots why event outside listed k.this.keeps in
+        (events_agree variant meaning key barrier) clear apart l.first.at x.first l.first.issued why event outside listed k.this.keeps in
         record {
           at = record x { first = od.state };
           same = λ j. record {
             both = record {
               first = record { role = role; at = od.state; issued = s.issued j };
-              second = record { role = second.role; at = x.second; issued = second.issued };
+              second = record { role = l.second.role; at = x.second; issued = l.second.issued };
               away = x.away;
-              tickets = tickets;
-              committed = committed + 0;
+              tickets = l.tickets;
+              committed = l.committed + 0;
             };
             reply = Said (s.reply j);
             effect = None;
           };
-          kept = brought_kept (standing role) x notes ol.state od.state k s.keeps (in_vain me at snapshots why event).alike
-              (λ live. not_dead (sym live ∙ dead));
+          kept = brought_kept (standing role) x notes ol.state od.state k s.keeps (in_vain me l.first.at l.first.issued why event).alike;
         }
 
     pub plain_goes : (role : Role) (event : Event) → Kept all others asked me them (standing role) x notes
@@ -236,6 +220,4 @@ module _ (variant : Variant) (meaning : Meaning) (key key' barrier : List ℕ) (
         → Goes all others asked me them notes (plain_outcome lists_move me (standing role) event)
         (plain_outcome digests_move me (twin (standing role) x) event)
     plain_goes Live event k outside batches listed genuine = live_goes event k outside batches listed genuine
-    plain_goes Blank event k outside batches listed genuine = vain_goes Blank refusal.Blank event refl k outside listed
-    plain_goes (Waiting nonce) event k outside batches listed genuine = vain_goes (Waiting nonce) refusal.Cell event refl k outside listed
-    plain_goes (Retired nonce) event k outside batches listed genuine = vain_goes (Retired nonce) refusal.Cell event refl k outside listed
+    plain_goes role event k outside batches listed genuine = vain_goes role (refused_where role) event k outside listed

@@ -1,18 +1,7 @@
 -- Two sides that share a link, what stands on each, and two ways to follow them: by lists and by
 -- digests.
-use Rattle.std.specs.Prelude.{ℕ, false, List, []}
-use Rattle.mm_digest.specs.declared.variant.Variant.{Variant}
-use Rattle.mm_module.specs.Meaning.{Meaning}
-use Rattle.mm_seal.specs.Snapshot.{Content}
-use Rattle.mm_model.specs.Instance.{Instance}
-use Rattle.mm_model.specs.History.{History, first_history}
-use Rattle.mm_model.specs.Moves.{Digests}
-use Rattle.mm_model.specs.Places.{issued}
-use Rattle.mm_model.specs.PlacesWords.{digest_of}
-use Rattle.mm_call.specs.Levels.{Level, by_lists, by_digests}
-use Rattle.mm_call.specs.Standing.{instance_by}
-use Rattle.mm_run.specs.Folds.{first_issued, first_digests}
-use Rattle.mm_move.specs.Tickets.{summary_in, place_at}
+use Rattle.mm_sides.specs.Below.{ℕ, false, List, [], Variant, Content, Meaning, History, first_history, Instance, Digests, issued}
+use Rattle.mm_sides.specs.Below.{digest_of, Level, by_lists, by_digests, instance_by, summary_in, place_at, first_issued, first_digests}
 use Rattle.mm_sides.specs.Roles.{Role, Blank, Live}
 
 -- the first side or the second

@@ -1,22 +1,9 @@
 -- A schedule of both sides: each event's reply, and what stands after it.
-use Rattle.std.specs.Prelude.{ℕ, ◌+◌, ◌-◌, Bool, true, false, List, [], ◌∷◌, ◌++◌, length, Option, None, Some, Result, Ok, Err, if◌then◌else◌}
-use Rattle.mm_platform.specs.declared.fault.StepFault.{StepFault}
-use Rattle.mm_platform.specs.declared.plan.Meddle.{Meddle}
-use Rattle.mm_platform.specs.declared.plan.Stop.{Stop}
-use Rattle.mm_seal.specs.Snapshot.{sealed_of}
-use Rattle.mm_model.specs.History.{History, Move}
-use Rattle.mm_model.specs.Moves.{Digests}
-use Rattle.mm_model.specs.Steps.{Step, Reads}
+use Rattle.mm_sides.specs.Below.{ℕ, ◌+◌, ◌-◌, Bool, true, false, List, [], ◌∷◌, ◌++◌, length, Option, None, Some, Result, Ok, Err}
+use Rattle.mm_sides.specs.Below.{if◌then◌else◌, sealed_of, StepFault, Meddle, Stop, History, Move, Instance, Digests, Step, Reads, Refusal}
+use Rattle.mm_sides.specs.Below.{End, Done, Fails, Fate, walk, all_made, sealed_ticket, Event, Reply, Way, Outcome, way_of, after_stop}
+use Rattle.mm_sides.specs.Below.{course_of, event_outcome, event_in_vain, offered_bytes}
 use Rattle.mm_model.specs.declared.refusal.Refusal.TheVariants as refusal
-use Rattle.mm_model.specs.Instance.{Instance}
-use Rattle.mm_call.specs.Courses.{End, Done, Fails, Fate, walk}
-use Rattle.mm_call.specs.Levels.{all_made}
-use Rattle.mm_move.specs.Tickets.{sealed_ticket}
-use Rattle.mm_schedule.specs.Events.{Event}
-use Rattle.mm_schedule.specs.declared.reply.Reply.{Reply}
-use Rattle.mm_schedule.specs.declared.reply.Way.{Way}
-use Rattle.mm_run.specs.Offered.{offered_bytes}
-use Rattle.mm_run.specs.Folds.{Outcome, way_of, after_stop, course_of, event_outcome, event_in_vain}
 use Rattle.mm_sides.specs.Roles.{Role, Blank, Live, Waiting, Retired, Effect, Invites, Leaves, Enters, Notes, noted}
 use Rattle.mm_sides.specs.Both.{Which, First, Second, Pair, instance_on, Side, Both, turned, facing, Mover, lists_move, digests_move, first_lists, first_both}
 use Rattle.mm_sides.specs.Moves.{Command, Invite, Retire, Accept, MoveCause, FoundMove, invited_on, retired_on, accepted_on, ticket_in}
@@ -51,23 +38,22 @@ pub record BothOutcome (S A : Type 0) : Type 0 where
   pub reply : BothReply
   pub effect : Option Effect
 
+-- as what a call is refused where the module isn't
+abbrev pub refused_where : Role → Refusal
+refused_where Blank = refusal.Blank
+refused_where role = refusal.Cell
+
 -- An event of a schedule on a side, by its role: where the module is, it comes to what it comes to
 -- on one platform; elsewhere the cell is read in vain.
 abbrev pub plain_on : {S A : Type 0} → Mover S A → Instance → Role → Side S → Event → Outcome S
 plain_on mover i Live side event = event_outcome i (mover.level i) side.at side.issued event
-plain_on mover i Blank side event =
-    event_in_vain (mover.level i) side.at side.issued refusal.Blank event
-plain_on mover i (Waiting nonce) side event =
-    event_in_vain (mover.level i) side.at side.issued refusal.Cell event
-plain_on mover i (Retired nonce) side event =
-    event_in_vain (mover.level i) side.at side.issued refusal.Cell event
+plain_on mover i role side event =
+    event_in_vain (mover.level i) side.at side.issued (refused_where role) event
 
 -- how many requests it commits: none where the module isn't
 abbrev pub grown : Role → (before after : ℕ) → ℕ
 grown Live before after = after - before
-grown Blank before after = 0
-grown (Waiting nonce) before after = 0
-grown (Retired nonce) before after = 0
+grown role before after = 0
 
 -- What follows is said of the first side; an event on the second is one on the first of the turned
 -- sides.
@@ -216,9 +202,8 @@ finding mover pair i both (Accept offer) =
     accepting mover pair i both.first (offered_bytes both.tickets offer)
 
 abbrev pub unissued : Command → BothReply
-unissued (Invite nonce) = NoSnapshot
-unissued (Retire nonce offer) = NoSnapshot
 unissued (Accept offer) = NoTicket
+unissued command = NoSnapshot
 
 -- a command: where its number isn't issued nothing is called
 abbrev pub moved_if : {S A : Type 0} → Mover S A → Pair → Instance → Both S A → List Meddle → Stop

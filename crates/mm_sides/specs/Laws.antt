@@ -1,22 +1,11 @@
 -- The laws of two sides.
-use Rattle.std.specs.Prelude.{◌≡◌, ℕ, Bool, true, false, List, [], ◌∷◌, ◌++◌, length, Option, None, Some}
-use Rattle.mm_digest.specs.declared.variant.Variant.{Variant}
-use Rattle.mm_module.specs.CounterTable.{counter}
-use Rattle.mm_platform.specs.declared.plan.Stop.TheVariants.{Quiet}
-use Rattle.mm_schedule.specs.declared.event.Offer.TheVariants.{Last}
-use Rattle.std.specs.List.{AllByRecursion}
-use Rattle.mm_model.specs.History.{History, requests_of}
-use Rattle.mm_model.specs.Moves.{Digests}
-use Rattle.mm_call.specs.Levels.{Agrees}
-use Rattle.mm_schedule.specs.Events.{Event}
-use Rattle.mm_schedule.specs.Machine.{Runs}
-use Rattle.mm_schedule.specs.declared.reply.Reply.{Reply}
-use Rattle.mm_run.specs.Laws.{IsIssued}
-use Rattle.mm_sides.specs.Roles.{Live, Retired, Effect, Invites, Leaves, Enters, is_live, Notes, no_notes}
+use Rattle.mm_sides.specs.Below.{AllByRecursion, ◌≡◌, ℕ, Bool, true, false, List, [], ◌∷◌, ◌++◌, length, Option, Some, Variant, Quiet}
+use Rattle.mm_sides.specs.Below.{counter, History, requests_of, Digests, Agrees, Event, Runs, Last, Reply, IsIssued}
+use Rattle.mm_sides.specs.Roles.{Live, Retired, Effect, Enters, is_live, Notes, no_notes}
 use Rattle.mm_sides.specs.Order.{EntersLast, AtMostOne}
 use Rattle.mm_sides.specs.Both.{Which, First, Second, Pair, instance_on, Side, Both, lists_move, digests_move, first_lists}
 use Rattle.mm_sides.specs.Moves.{Invite, Retire, Accept}
-use Rattle.mm_sides.specs.Folds.{Act, Plain, Moves, BothEvent, BothReply, Said, Invited, Left, Entered, Denied, NoSnapshot, NoTicket, Broken, both_outcome, BothFollowed, both_followed, both_expected, both_by_digests, noted_if}
+use Rattle.mm_sides.specs.Folds.{Act, Plain, Moves, BothEvent, BothReply, Said, both_outcome, BothFollowed, both_followed, both_expected, both_by_digests, noted_if}
 use Rattle.mm_sides.specs.Premises.{IsClearPair, IsGenuinePair, IsFreshPair}
 
 -- Two ways to follow a side agree: its role, its snapshots, and the digests are those of the
@@ -46,11 +35,9 @@ PairsAgreeThroughout = (pair : Pair) (events : List BothEvent) →
 
 -- where the effect of an event is that the module enters a side
 abbrev pub EntersAlone : Notes → Both History History → Option Effect → Type 0
-EntersAlone notes both None = Unit {0}
-EntersAlone notes both (Some (Invites nonce)) = Unit {0}
-EntersAlone notes both (Some (Leaves ticket)) = Unit {0}
 EntersAlone notes both (Some (Enters ticket)) =
     EntersLast both.first.role both.second.role notes ticket
+EntersAlone notes both effect = Unit {0}
 
 -- At each moment at most one side is live; and the module enters a side only where none is, by the
 -- ticket that it left by last.
@@ -78,13 +65,7 @@ plain_events (event ∷ events) = plain_in event.act ++ plain_events events
 
 abbrev pub plain_reply : BothReply → List Reply
 plain_reply (Said reply) = reply ∷ []
-plain_reply Invited = []
-plain_reply (Left number) = []
-plain_reply (Entered position) = []
-plain_reply (Denied cause) = []
-plain_reply NoSnapshot = []
-plain_reply NoTicket = []
-plain_reply (Broken way moved) = []
+plain_reply reply = []
 
 abbrev pub plain_replies : List BothReply → List Reply
 plain_replies [] = []

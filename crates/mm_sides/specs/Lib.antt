@@ -1,3 +1,4 @@
+pub mod Below
 pub mod Roles
 pub mod Order
 pub mod Both

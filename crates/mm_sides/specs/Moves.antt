@@ -1,22 +1,8 @@
 -- The commands that move a module, and what each finds when it has read the cell.
-use Rattle.std.specs.Prelude.{ℕ, Bool, true, false, List, [], Result, Ok, Err, if◌then◌else◌}
-use Rattle.std.specs.Str.{bytes_eq}
-use Rattle.mm_module.specs.Batch.{One}
-use Rattle.mm_module.specs.Meaning.{Meaning}
-use Rattle.mm_seal.specs.declared.snapshot.PartsFault.{PartsFault}
-use Rattle.mm_seal.specs.declared.snapshot.PartsFault.TheVariants.{Form, Kind}
-use Rattle.mm_seal.specs.Parts.{parts_of}
-use Rattle.mm_seal.specs.Snapshot.{Content, Snapshot, tag_of}
-use Rattle.mm_model.specs.StandingHere.{is_new}
-use Rattle.mm_model.specs.declared.refusal.Refusal.{Refusal}
+use Rattle.mm_sides.specs.Below.{ℕ, Bool, true, false, List, [], Result, Ok, Err, if◌then◌else◌, bytes_eq, parts_of, Content, Snapshot}
+use Rattle.mm_sides.specs.Below.{tag_of, PartsFault, Form, Kind, One, Meaning, Instance, is_new, Refusal, Verdict, Fresh, Stale, Level}
+use Rattle.mm_sides.specs.Below.{weighed, TicketContent, TaggedTicket, ticket_tag, ticket_of, Offer}
 use Rattle.mm_model.specs.declared.refusal.Refusal.TheVariants as refusal
-use Rattle.mm_model.specs.declared.verdict.Verdict.{Verdict}
-use Rattle.mm_model.specs.declared.verdict.Verdict.TheVariants.{Fresh, Stale}
-use Rattle.mm_model.specs.Instance.{Instance}
-use Rattle.mm_call.specs.Levels.{Level}
-use Rattle.mm_call.specs.OrderWords.{weighed}
-use Rattle.mm_schedule.specs.declared.event.Offer.{Offer}
-use Rattle.mm_move.specs.Tickets.{TicketContent, TaggedTicket, ticket_tag, ticket_of}
 use Rattle.mm_sides.specs.Roles.{Role, Blank, Live, Waiting, Retired, Effect, Invites, Leaves, Enters}
 use Rattle.mm_sides.specs.Both.{Mover, Pair}
 

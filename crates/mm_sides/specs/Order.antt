@@ -1,8 +1,6 @@
 -- The roles of two sides alone: what holds of them, of the nonces that the module was invited under
 -- and of the tickets that it left by. Nothing here knows a history or a digest.
-use Rattle.std.specs.Prelude.{◌≡◌, ◌≢◌, ℕ, true, false, List, [], ◌∷◌, ◌++◌, map}
-use Rattle.std.specs.List.{AllByRecursion, Contains}
-use Rattle.mm_move.specs.Tickets.{TicketContent}
+use Rattle.mm_sides.specs.Below.{AllByRecursion, Contains, ◌≡◌, ◌≢◌, ℕ, true, false, List, [], ◌∷◌, ◌++◌, map, TicketContent}
 use Rattle.mm_sides.specs.Roles.{Role, Blank, Live, Waiting, Retired, Effect, Invites, Leaves, Enters, role_after, is_live, Notes, no_notes, noted}
 
 abbrev pub nonces_of : List TicketContent → List (List ℕ)
@@ -10,23 +8,17 @@ nonces_of tickets = map (λ (ticket : TicketContent). ticket.nonce) tickets
 
 -- the nonce that a side waits for was invited, and no ticket with it was ever accepted
 abbrev pub IsAwaited : List (List ℕ) → List (List ℕ) → Role → Type 0
-IsAwaited invited spent Blank = Unit {0}
-IsAwaited invited spent Live = Unit {0}
 IsAwaited invited spent (Waiting nonce) = Contains invited nonce × (Contains spent nonce → ⊥)
-IsAwaited invited spent (Retired nonce) = Unit {0}
+IsAwaited invited spent role = Unit {0}
 
 -- two sides don't wait for one nonce
 abbrev pub WaitsElse : List ℕ → Role → Type 0
-WaitsElse nonce Blank = Unit {0}
-WaitsElse nonce Live = Unit {0}
 WaitsElse nonce (Waiting other) = nonce ≢ other
-WaitsElse nonce (Retired other) = Unit {0}
+WaitsElse nonce role = Unit {0}
 
 abbrev pub WaitApart : Role → Role → Type 0
-WaitApart Blank other = Unit {0}
-WaitApart Live other = Unit {0}
 WaitApart (Waiting nonce) other = WaitsElse nonce other
-WaitApart (Retired nonce) other = Unit {0}
+WaitApart role other = Unit {0}
 
 -- Where the module is: on this side, on the other, or on its way. The nonces of the tickets that
 -- were accepted are those of all tickets that it left by; on its way, of all but the last.
@@ -54,17 +46,10 @@ pub record AreInOrder (this other : Role) (notes : Notes) : Type 0 where
 -- is awaited, a retirement where it is, and an acceptance of a ticket that is awaited
 abbrev pub MayTake : Role → Effect → Type 0
 MayTake Blank (Invites nonce) = Unit {0}
-MayTake Live (Invites nonce) = ⊥
-MayTake (Waiting awaited) (Invites nonce) = ⊥
 MayTake (Retired left) (Invites nonce) = Unit {0}
-MayTake Blank (Leaves ticket) = ⊥
 MayTake Live (Leaves ticket) = Unit {0}
-MayTake (Waiting awaited) (Leaves ticket) = ⊥
-MayTake (Retired left) (Leaves ticket) = ⊥
-MayTake Blank (Enters ticket) = ⊥
-MayTake Live (Enters ticket) = ⊥
 MayTake (Waiting awaited) (Enters ticket) = awaited ≡ ticket.nonce
-MayTake (Retired left) (Enters ticket) = ⊥
+MayTake role effect = ⊥
 
 -- What is asked of an effect: nobody is invited twice under one nonce, and a ticket that is
 -- accepted is one that the module left by, as nobody else made one.

@@ -1,31 +1,13 @@
 -- The messages that a run of both sides hashes, as far as a proof looks at them, and what is asked
 -- of the run.
-use Rattle.std.specs.Prelude.{ℕ, List, [], ◌∷◌, ◌++◌, Option, None, Some, Result, Ok, Err, map, if◌then◌else◌}
-use Rattle.std.specs.List.{Contains}
-use Rattle.mm_digest.specs.Messages.{start_message}
-use Rattle.mm_module.specs.Batch.{Batch}
-use Rattle.mm_platform.specs.declared.plan.Meddle.{Meddle}
-use Rattle.mm_platform.specs.declared.plan.Stop.{Stop}
-use Rattle.mm_seal.specs.Snapshot.{Content}
-use Rattle.mm_model.specs.Instance.{Instance}
-use Rattle.mm_model.specs.History.{History, Move, Foreign, Power as PowerMove}
-use Rattle.mm_model.specs.Long.{is_long}
-use Rattle.mm_model.specs.Messages.{IsClear}
-use Rattle.mm_model.specs.StandingHere.{place_messages}
-use Rattle.mm_model.specs.Steps.{Step, Reads}
-use Rattle.mm_model.specs.declared.refusal.Refusal.{Refusal}
-use Rattle.mm_call.specs.Asked.{moves_messages}
-use Rattle.mm_call.specs.Courses.{walk}
-use Rattle.mm_call.specs.Found.{right_content}
-use Rattle.mm_move.specs.Tickets.{TicketContent}
-use Rattle.mm_schedule.specs.Events.{Event, Ask, Checkpoint, Power, Extend}
-use Rattle.mm_run.specs.Offered.{offered_bytes}
-use Rattle.mm_run.specs.Folds.{course_of}
-use Rattle.mm_run.specs.Premises.{moves_of, event_messages, foreign_of, batches_of, IsGenuineEvent}
-use Rattle.mm_run.specs.PremisesWords.{AreApartIn, IsGenuineOffer}
-use Rattle.mm_sides.specs.Roles.{Role, Blank, Live, Waiting, Retired, Effect, Invites, Leaves, Enters, Notes, no_notes}
+use Rattle.mm_sides.specs.Below.{Contains, ℕ, List, [], ◌∷◌, ◌++◌, Option, None, Some, Result, Ok, Err, map, if◌then◌else◌, start_message}
+use Rattle.mm_sides.specs.Below.{Content, Meddle, Stop, Batch, History, Move, Foreign, PowerMove, Instance, is_long, IsClear}
+use Rattle.mm_sides.specs.Below.{place_messages, Step, Reads, Refusal, moves_messages, walk, right_content, TicketContent, Event, Ask}
+use Rattle.mm_sides.specs.Below.{Checkpoint, Power, Extend, course_of, offered_bytes, moves_of, event_messages, foreign_of, batches_of}
+use Rattle.mm_sides.specs.Below.{IsGenuineEvent, AreApartIn, IsGenuineOffer}
+use Rattle.mm_sides.specs.Roles.{Role, Live, Retired, Effect, Invites, Notes, no_notes}
 use Rattle.mm_sides.specs.Both.{First, Pair, instance_on, Side, Both, facing, lists_move, first_lists}
-use Rattle.mm_sides.specs.Moves.{Command, Invite, Retire, Accept, FoundMove, MoveCause, ticket_in}
+use Rattle.mm_sides.specs.Moves.{Command, Retire, Accept, FoundMove, MoveCause, ticket_in}
 use Rattle.mm_sides.specs.Folds.{Act, Plain, Moves, BothEvent, move_steps, finding, both_outcome, noted_if}
 
 -- what others put into a side's register during steps that only read
@@ -51,11 +33,7 @@ abbrev pub plain_messages : Instance → Role → Side History → Event → Lis
 plain_messages i Live side event =
     event_messages i side.issued event ++ moves_messages i side.at
     (moves_of i side.at side.issued event)
-plain_messages i Blank side event = moves_messages i side.at (vain_moves side.issued event)
-plain_messages i (Waiting nonce) side event =
-    moves_messages i side.at (vain_moves side.issued event)
-plain_messages i (Retired nonce) side event =
-    moves_messages i side.at (vain_moves side.issued event)
+plain_messages i role side event = moves_messages i side.at (vain_moves side.issued event)
 
 -- of a retirement's right offer: the closing of its segment, where it is inside one
 abbrev pub closing_of : Option Content → List (List ℕ)
@@ -72,9 +50,8 @@ found_moves meddles stop None = []
 found_moves meddles stop (Some found) = read_moves meddles stop (move_steps found)
 
 abbrev pub command_messages : Instance → Side History → Command → List (List ℕ)
-command_messages i side (Invite nonce) = []
 command_messages i side (Retire nonce offer) = offer_closing i (offered_bytes side.issued offer)
-command_messages i side (Accept offer) = []
+command_messages i side command = []
 
 abbrev pub messages_here : Pair → Instance → Both History History → Act → List (List ℕ)
 messages_here pair i both (Plain event) = plain_messages i both.first.role both.first event
@@ -127,22 +104,18 @@ pub record IsClearPair (pair : Pair) (events : List BothEvent) : Type 0 where
 -- What is asked of an offer: where the module is, and where it has left, a right one names a
 -- position of the history that the side has. So nobody else sealed it.
 abbrev pub IsGenuineTo : Role → Instance → History → Option (List ℕ) → Type 0
-IsGenuineTo Blank i y bytes = Unit {0}
 IsGenuineTo Live i y bytes = IsGenuineOffer i y bytes
-IsGenuineTo (Waiting nonce) i y bytes = Unit {0}
 IsGenuineTo (Retired nonce) i y bytes = IsGenuineOffer i y bytes
+IsGenuineTo role i y bytes = Unit {0}
 
 abbrev pub IsGenuinePlain : Role → Instance → Side History → Event → Type 0
 IsGenuinePlain Live i side event = IsGenuineEvent i side.at side.issued event
-IsGenuinePlain Blank i side event = Unit {0}
-IsGenuinePlain (Waiting nonce) i side event = Unit {0}
-IsGenuinePlain (Retired nonce) i side event = Unit {0}
+IsGenuinePlain role i side event = Unit {0}
 
 abbrev pub IsGenuineCommand : Instance → Side History → Command → Type 0
-IsGenuineCommand i side (Invite nonce) = Unit {0}
 IsGenuineCommand i side (Retire nonce offer) =
     IsGenuineTo side.role i side.at (offered_bytes side.issued offer)
-IsGenuineCommand i side (Accept offer) = Unit {0}
+IsGenuineCommand i side command = Unit {0}
 
 abbrev pub IsGenuineHere : Instance → Side History → Act → Type 0
 IsGenuineHere i side (Plain event) = IsGenuinePlain side.role i side event
@@ -162,10 +135,8 @@ AreGenuineFrom pair both (event ∷ events) =
 -- nobody was invited under before, and each right ticket that is offered is one that the module has
 -- left by.
 abbrev pub IsNew : Notes → Option Effect → Type 0
-IsNew notes None = Unit {0}
 IsNew notes (Some (Invites nonce)) = Contains notes.invited nonce → ⊥
-IsNew notes (Some (Leaves ticket)) = Unit {0}
-IsNew notes (Some (Enters ticket)) = Unit {0}
+IsNew notes effect = Unit {0}
 
 abbrev pub IsOurs : Notes → Result TicketContent Refusal → Type 0
 IsOurs notes (Ok ticket) = Contains notes.retired ticket
@@ -176,9 +147,8 @@ IsOursOffered pair notes None = Unit {0}
 IsOursOffered pair notes (Some bytes) = IsOurs notes (ticket_in pair bytes)
 
 abbrev pub IsOursFor : Pair → List (List ℕ) → Notes → Command → Type 0
-IsOursFor pair tickets notes (Invite nonce) = Unit {0}
-IsOursFor pair tickets notes (Retire nonce offer) = Unit {0}
 IsOursFor pair tickets notes (Accept offer) = IsOursOffered pair notes (offered_bytes tickets offer)
+IsOursFor pair tickets notes command = Unit {0}
 
 abbrev pub IsOursIn : Pair → List (List ℕ) → Notes → Act → Type 0
 IsOursIn pair tickets notes (Plain event) = Unit {0}

@@ -1,6 +1,5 @@
 -- What a side is to the module that moves, and what a move makes of it.
-use Rattle.std.specs.Prelude.{ℕ, Bool, true, false, List, [], ◌∷◌, ◌++◌}
-use Rattle.mm_move.specs.Tickets.{TicketContent}
+use Rattle.mm_sides.specs.Below.{ℕ, Bool, true, false, List, [], ◌∷◌, ◌++◌, TicketContent}
 
 -- Nothing was ever set up here; the module is here; it is awaited by a ticket with this nonce; it
 -- left by one.
@@ -22,10 +21,8 @@ role_after (Leaves ticket) = Retired ticket.nonce
 role_after (Enters ticket) = Live
 
 abbrev pub is_live : Role → Bool
-is_live Blank = false
 is_live Live = true
-is_live (Waiting nonce) = false
-is_live (Retired nonce) = false
+is_live role = false
 
 -- What a run has seen of moves that had their effect: the nonces that the module was invited under,
 -- and the tickets that it left by, in order of time.

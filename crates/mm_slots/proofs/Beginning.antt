@@ -7,15 +7,14 @@ use Rattle.mm_slots.proofs.Below.{digest_in, flag_in, Stands, IsQuiet, extended_
 use Rattle.mm_slots.proofs.Below.{ClosesInFlight, asks_begun, closes_begun, asks_take_in, closes_take_in, may_take_in, Action, Asking}
 use Rattle.mm_slots.proofs.Below.{Closing, CodeFlight, Said, Begun, Replied, CodeSlot, Turned, Asks, Closes, slot_instance, plays, merely}
 use Rattle.mm_slots.proofs.Below.{flying, beginning, begun, acted, acted_by, joined, digests_in, slot_in, flight_in, call_in, instance_in}
-use Rattle.mm_slots.proofs.Below.{FitsFlight, Fits, Comes, flown, HasRegister, within_64}
+use Rattle.mm_slots.proofs.Below.{Fits, Comes, flown, HasRegister, within_64}
 use Rattle.mm_digest.specs.declared.digest.Digest.{Digest}
 use Rattle.mm_schedule.specs.declared.reply.Reply.TheVariants as reply
 use Rattle.mm_opt.specs.declared.stage.CheckpointStage.TheVariants as stage
 use Rattle.mm_slots.specs.declared.event.Action.TheVariants as action
 use Rattle.mm_slots.specs.declared.flight.Flight.TheVariants as code
 use Rattle.mm_slots.specs.Held.{Loses}
-use Rattle.mm_slots.proofs.Fitting.{settled, idle, mine_are}
-use Rattle.mm_slots.proofs.Planned.{flight_of, plan_is, asking_of, closing_of}
+use Rattle.mm_slots.proofs.Fitting.{settled, idle, mine_are, flight_of, plan_is, asking_of, closing_of}
 
 -- what is said by whether a call is in flight
 
@@ -166,24 +165,14 @@ joins_comes old new slot flight value some cell plan fits =
 -- one call in flight, by which it is
 some_flight : (standing : Standing) (slot : CodeSlot) (flight : CodeFlight) → slot.flight ≡ Some flight → Fits standing slot
     → Fits standing (flown slot flight)
-some_flight standing slot flight some fits = record {
-  flight =
-      subst (λ (f : Option CodeFlight). FitsFlight slot.header slot.number (digests_in standing slot) slot.issued.items
-      (vec_capacity slot.issued) standing f) some fits.flight;
-  kept = fits.kept;
-}
+some_flight standing slot flight some fits = subst (λ (x : CodeSlot). Fits standing x) (λ j. record slot { flight = some j }) fits
 
 back_from : (standing : Standing) (slot : CodeSlot) (flight : CodeFlight) → slot.flight ≡ Some flight → Fits standing (flown slot flight)
     → Fits standing slot
-back_from standing slot flight some fits = record {
-  flight =
-      subst (λ (f : Option CodeFlight). FitsFlight slot.header slot.number (digests_in standing slot) slot.issued.items
-      (vec_capacity slot.issued) standing f) (sym some) fits.flight;
-  kept = fits.kept;
-}
+back_from standing slot flight some fits = subst (λ (x : CodeSlot). Fits standing x) (λ j. record slot { flight = sym some j }) fits
 
 -- there is a next step to plan a value for
-pub may_meddle : (standing : Standing) (slot : CodeSlot) (flight : CodeFlight) → Fits standing slot → slot.flight ≡ Some flight
+may_meddle : (standing : Standing) (slot : CodeSlot) (flight : CodeFlight) → Fits standing slot → slot.flight ≡ Some flight
     → (next_plan standing).at < 255
 may_meddle standing slot (code.Asks asking) fits some =
     let a = (asking_of standing slot asking (some_flight standing slot (code.Asks asking) some fits)).flies in
@@ -192,54 +181,66 @@ may_meddle standing slot (code.Closes closing) fits some =
     let a = (closing_of standing slot closing (some_flight standing slot (code.Closes closing) some fits)).flies in
     may_take_in standing (plan_by Quiet (next_plan standing).meddles) a.made a.flies.planned a.flies.few
 
-pub extends_flying : (old new : Standing) (slot : CodeSlot) (flight : CodeFlight) (value : Digest) → Fits old slot
+-- what held of where the slot stood, and of the plan with the value in it, holds of where it stands and of its plan
+record Moved (old new : Standing) (slot : CodeSlot) (value : Digest) : Type 0 where
+  cell : new.cell ≡ old.cell
+  plan : next_plan new ≡ record (next_plan old)
+      { stop = Quiet; meddles = meddled (next_plan old).meddles ((next_plan old).at + 1) value }
+
+moved_by : (old new : Standing) (slot : CodeSlot) (value : Digest) (made : ℕ)
+    → old.plan ≡ Some (record (plan_by Quiet (next_plan old).meddles) { at = made }) → made < 255 → (next_plan old).at + 1 ≡ made + 1
+    → new ≡ record old { plan = option_map (meddling value) old.plan } → Moved old new slot value
+moved_by old new slot value made planned few is e =
+    let p = next_plan old in
+    let known : p ≡ record (plan_by Quiet p.meddles) { at = made } = plan_is old (record (plan_by Quiet p.meddles) { at = made }) planned in
+    record {
+      cell = ap (λ (x : Standing). x.cell) e;
+      plan = meddled_plan old new p.meddles made (p.at + 1) value planned few is e
+          ∙ ap (λ (n : ℕ). record (plan_by Quiet (meddled p.meddles (p.at + 1) value)) { at = n }) (sym (ap (λ (q : Plan). q.at) known));
+    }
+
+moves : (old new : Standing) (slot : CodeSlot) (value : Digest) → Moved old new slot value → (P : Digests → Plan → Type 0)
+    → P (digests_in old slot) (record (next_plan old)
+    { stop = Quiet; meddles = meddled (next_plan old).meddles ((next_plan old).at + 1) value })
+    → P (digests_in new slot) (next_plan new)
+moves old new slot value m P h =
+    let d : digests_in new slot ≡ digests_in old slot = (λ j. record {
+      digest = digest_in (m.cell j);
+      flag = flag_in (m.cell j);
+      register = slot.register.bytes;
+      count = slot.committed;
+    }) in
+    let p : Plan = record (next_plan old)
+    { stop = Quiet; meddles = meddled (next_plan old).meddles ((next_plan old).at + 1) value } in
+    subst (λ (q : Plan). P (digests_in new slot) q) (sym m.plan) (subst (λ (x : Digests). P x p) (sym d) h)
+
+extends_flying : (old new : Standing) (slot : CodeSlot) (flight : CodeFlight) (value : Digest) → Fits old slot
     → slot.flight ≡ Some flight → new ≡ record old { plan = option_map (meddling value) old.plan }
     → Comes new slot slot (acted (instance_in slot) (slot_in old slot) (action.Extend value)) (Replied reply.Extended)
 extends_flying old new slot (code.Asks asking) value fits some e =
     let f = asking_of old slot asking (some_flight old slot (code.Asks asking) some fits) in
     let a = f.flies in
     let p = next_plan old in
-    let known : p ≡ record (plan_by Quiet p.meddles) { at = a.made } = plan_is old (record (plan_by Quiet p.meddles) { at = a.made })
-    a.flies.planned in
+    let m = moved_by old new slot value a.made a.flies.planned a.flies.few a.is_next e in
     let key = rising_from slot.number in
     let barrier = rising_from (128 + slot.number) in
-    let cell : new.cell ≡ old.cell = ap (λ (x : Standing). x.cell) e in
-    let plan : next_plan new ≡ record p { stop = Quiet; meddles = meddled p.meddles (p.at + 1) value } =
-    meddled_plan old new p.meddles a.made (p.at + 1) value a.flies.planned a.flies.few a.is_next e
-    ∙ ap (λ (n : ℕ). record (plan_by Quiet (meddled p.meddles (p.at + 1) value)) { at = n }) (sym (ap (λ (q : Plan). q.at) known)) in
-    let taken = asks_take_in slot.header.variant (meaning_of slot.header.«module») key barrier (digests_in old slot) f.from asking.call old
-    new p.meddles (p.at + 1) asking.bytes (One asking.request) value a e in
-    let d : digests_in new slot ≡ digests_in old slot =
-    (λ j. record { digest = digest_in (cell j); flag = flag_in (cell j); register = slot.register.bytes; count = slot.committed }) in
-    let P : Digests → Plan
-    → Type 0 = λ x q. AsksInFlight slot.header.variant (meaning_of slot.header.«module») key barrier x f.from asking.call new q.meddles
-    (q.at + 1) asking.bytes (One asking.request) in
-    let flies = subst (λ (q : Plan). P (digests_in new slot) q) (sym plan)
-    (subst (λ (x : Digests). P x (record p { stop = Quiet; meddles = meddled p.meddles (p.at + 1) value })) (sym d) taken) in
-    joins_comes old new slot (code.Asks asking) value some cell plan (back_from new slot (code.Asks asking) some
+    let flies = moves old new slot value m (λ x q. AsksInFlight slot.header.variant (meaning_of slot.header.«module») key barrier x f.from
+    asking.call new q.meddles (q.at + 1) asking.bytes (One asking.request)) (asks_take_in slot.header.variant
+    (meaning_of slot.header.«module») key barrier (digests_in old slot) f.from asking.call old new p.meddles (p.at + 1) asking.bytes
+    (One asking.request) value a e) in
+    joins_comes old new slot (code.Asks asking) value some m.cell m.plan (back_from new slot (code.Asks asking) some
     (record { flight = record { from = f.from; flies = flies; offered = f.offered; short = f.short; room = f.room }; kept = fits.kept }))
 extends_flying old new slot (code.Closes closing) value fits some e =
     let f = closing_of old slot closing (some_flight old slot (code.Closes closing) some fits) in
     let a = f.flies in
     let p = next_plan old in
-    let known : p ≡ record (plan_by Quiet p.meddles) { at = a.made } = plan_is old (record (plan_by Quiet p.meddles) { at = a.made })
-    a.flies.planned in
+    let m = moved_by old new slot value a.made a.flies.planned a.flies.few a.is_next e in
     let key = rising_from slot.number in
     let barrier = rising_from (128 + slot.number) in
-    let cell : new.cell ≡ old.cell = ap (λ (x : Standing). x.cell) e in
-    let plan : next_plan new ≡ record p { stop = Quiet; meddles = meddled p.meddles (p.at + 1) value } =
-    meddled_plan old new p.meddles a.made (p.at + 1) value a.flies.planned a.flies.few a.is_next e
-    ∙ ap (λ (n : ℕ). record (plan_by Quiet (meddled p.meddles (p.at + 1) value)) { at = n }) (sym (ap (λ (q : Plan). q.at) known)) in
-    let taken = closes_take_in slot.header.variant (meaning_of slot.header.«module») key barrier (digests_in old slot) f.from closing.call
-    old new p.meddles (p.at + 1) value a e in
-    let d : digests_in new slot ≡ digests_in old slot =
-    (λ j. record { digest = digest_in (cell j); flag = flag_in (cell j); register = slot.register.bytes; count = slot.committed }) in
-    let P : Digests → Plan
-    → Type 0 = λ x q. ClosesInFlight slot.header.variant (meaning_of slot.header.«module») key barrier x f.from closing.call new
-    q.meddles (q.at + 1) in
-    let flies = subst (λ (q : Plan). P (digests_in new slot) q) (sym plan)
-    (subst (λ (x : Digests). P x (record p { stop = Quiet; meddles = meddled p.meddles (p.at + 1) value })) (sym d) taken) in
-    joins_comes old new slot (code.Closes closing) value some cell plan
+    let flies = moves old new slot value m (λ x q. ClosesInFlight slot.header.variant (meaning_of slot.header.«module») key barrier x
+    f.from closing.call new q.meddles (q.at + 1)) (closes_take_in slot.header.variant (meaning_of slot.header.«module») key barrier
+    (digests_in old slot) f.from closing.call old new p.meddles (p.at + 1) value a e) in
+    joins_comes old new slot (code.Closes closing) value some m.cell m.plan
     (back_from new slot (code.Closes closing) some (record { flight = record { from = f.from; flies = flies }; kept = fits.kept }))
 
 -- power is lost
@@ -303,19 +304,16 @@ loses old new slot slot' fits e h n c none k issued r =
     }
 
 -- with some call in flight
+
+some_of : (flight : Option CodeFlight) → IsSome flight → (it : CodeFlight) × (flight ≡ Some it)
+some_of None some = cc
+some_of (Some it) some = (it, refl)
+
 pub extends_some : (old new : Standing) (slot : CodeSlot) (value : Digest) → Fits old slot → IsSome slot.flight
     → new ≡ record old { plan = option_map (meddling value) old.plan }
     → Comes new slot slot (acted (instance_in slot) (slot_in old slot) (action.Extend value)) (Replied reply.Extended)
-extends_some old new slot value fits some e = by_flight slot.flight refl some
-  where
-    by_flight : (f : Option CodeFlight) → slot.flight ≡ f → IsSome f
-        → Comes new slot slot (acted (instance_in slot) (slot_in old slot) (action.Extend value)) (Replied reply.Extended)
-    by_flight None is some = cc
-    by_flight (Some flight) is some = extends_flying old new slot flight value fits is e
+extends_some old new slot value fits some e =
+    let f = some_of slot.flight some in extends_flying old new slot f.0 value fits f.1 e
 
 pub may_meddle_some : (standing : Standing) (slot : CodeSlot) → Fits standing slot → IsSome slot.flight → (next_plan standing).at < 255
-may_meddle_some standing slot fits some = by_flight slot.flight refl some
-  where
-    by_flight : (f : Option CodeFlight) → slot.flight ≡ f → IsSome f → (next_plan standing).at < 255
-    by_flight None is some = cc
-    by_flight (Some flight) is some = may_meddle standing slot flight fits is
+may_meddle_some standing slot fits some = let f = some_of slot.flight some in may_meddle standing slot f.0 fits f.1

@@ -3,14 +3,11 @@ mod Powering
 mod Alone
 mod Running
 mod Fitting
-mod Planned
 mod Stepping
 mod Beginning
 mod Rowing
-mod Answering
 mod Telling
 mod Following
 mod Starting
 mod Totalling
 mod Progressing
-mod Tellings

@@ -1,13 +1,14 @@
 -- A run of slots among its events: what it keeps, and what an event leaves.
 use Rattle.mm_slots.proofs.Below.{◌≡◌, ◌∙◌, ◌+◌, ◌≤◌, ◌<◌, ◌||◌, ℕ, Bool, true, false, List, length, map, nat_le, nat_lt, Option, None}
 use Rattle.mm_slots.proofs.Below.{Some, refl, sym, ap, subst, arith, codes, if◌then◌else◌, nat_tests, longest_line, most_events, Standing}
-use Rattle.mm_slots.proofs.Below.{new_platform, Header, ◌>>=◌, number_at, word_at, Action, SlotEvent, Power, At, CodeSlot, AreFirst}
+use Rattle.mm_slots.proofs.Below.{new_platform, Header, ◌>>=◌, number_at, word_at, SlotEvent, Power, At, CodeSlot, AreFirst}
 use Rattle.mm_slots.proofs.Below.{action_at, within_64, rows_in, AllFit, KeepsAll, IsInside, Follows, Running, kept_in, is_too_much}
 use Rattle.mm_slots.proofs.Below.{after_line, Row, bytes_in}
 use Rattle.std.specs.Str.{bytes_eq}
 use Rattle.mm_replay.specs.Schedule.{most_kept}
 use Rattle.mm_slots.specs.Grammar.{event_at, index_at}
 use Rattle.mm_slots.specs.Stage.{begun}
+use Rattle.mm_slots.proofs.Alone.{bound}
 use Rattle.mm_slots.proofs.Rowing.{rows_length}
 use Rattle.mm_slots.proofs.Starting.{rows_there, all_there, sizes}
 use Rattle.mm_slots.proofs.Totalling.{bytes_are}
@@ -93,27 +94,18 @@ same_number slots number found false is h = let same : number ≡ found = cc in 
 
 index_inside : (slots : ℕ) (word : List ℕ) (found : ℕ) → index_at slots word ≡ Some found → found < slots
 unfolding index_at
-index_inside slots word found h = by_number (number_at word) h
-  where
-    by_number : (number : Option ℕ) → (number >>= λ n. if nat_le slots n then None else Some n) ≡ Some found → found < slots
-    by_number None g = cc
-    by_number (Some n) g = same_number slots n found (nat_le slots n) refl g
-
-same_event : (slots number : ℕ) (what : Option Action) (event : SlotEvent) → number < slots
-    → (what >>= λ w. Some (At number w)) ≡ Some event → IsInside slots event
-same_event slots number None event few h = cc
-same_event slots number (Some what) event few h =
-    let same : At number what ≡ event = cc in subst (λ (e : SlotEvent). IsInside slots e) same few
-
-at_inside : (slots : ℕ) (number : Option ℕ) (what : Option Action) (event : SlotEvent) → ((n : ℕ) → number ≡ Some n → n < slots)
-    → (number >>= λ n. what >>= λ w. Some (At n w)) ≡ Some event → IsInside slots event
-at_inside slots None what event few h = cc
-at_inside slots (Some n) what event few h = same_event slots n what event (few n refl) h
+index_inside slots word found h =
+    let n = bound (number_at word) _ found h in same_number slots n.0 found (nat_le slots n.0) refl n.2
 
 word_inside : (slots : ℕ) (word : Option (List ℕ × List ℕ)) (event : SlotEvent)
     → (word >>= λ w. index_at slots w.0 >>= λ n. action_at w.1 >>= λ what. Some (At n what)) ≡ Some event → IsInside slots event
-word_inside slots None event h = cc
-word_inside slots (Some w) event h = at_inside slots (index_at slots w.0) (action_at w.1) event (λ n is. index_inside slots w.0 n is) h
+word_inside slots word event h =
+    let w = bound word _ event h in
+    let n = bound (index_at slots w.0.0) _ event w.2 in
+    let what = bound (action_at w.0.1) _ event n.2 in
+    let e : Some (At n.0 what.0) ≡ Some event = what.2 in
+    let same : At n.0 what.0 ≡ event = cc in
+    subst (λ (e : SlotEvent). IsInside slots e) same (index_inside slots w.0.0 n.0 n.1)
 
 power_inside : (slots : ℕ) (word : Option (List ℕ × List ℕ)) (event : SlotEvent) (power : Bool)
     → (let x : Option SlotEvent = if power then Some Power

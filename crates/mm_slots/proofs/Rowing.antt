@@ -87,34 +87,30 @@ within_more events more standing slot less f =
 pub all_more : (events more : ℕ) (standings : List Standing) (slots : List CodeSlot) → events ≤ more → AllFit events standings slots
     → AllFit more standings slots
 all_more events more [] [] less fit = tt
-all_more events more [] (slot ∷ slots) less fit = fit
-all_more events more (standing ∷ standings) [] less fit = fit
 all_more events more (standing ∷ standings) (slot ∷ slots) less fit =
     (within_more events more standing slot less fit.0, all_more events more standings slots less fit.1)
+all_more events more _ _ less fit = absurd fit
 
 pub set_fit : (events more n : ℕ) (standings : List Standing) (slots : List CodeSlot) (s : Standing) (c : CodeSlot) → events ≤ more
     → AllFit events standings slots → FitsWithin more s c → AllFit more (slice_set standings n s) (slice_set slots n c)
 set_fit events more n [] [] s c less fit new = tt
-set_fit events more n [] (slot ∷ slots) s c less fit new = absurd fit
-set_fit events more n (standing ∷ standings) [] s c less fit new = absurd fit
 set_fit events more zero (standing ∷ standings) (slot ∷ slots) s c less fit new = (new, all_more events more standings slots less fit.1)
 set_fit events more (suc n) (standing ∷ standings) (slot ∷ slots) s c less fit new =
     (within_more events more standing slot less fit.0, set_fit events more n standings slots s c less fit.1 new)
+set_fit events more n _ _ s c less fit new = absurd fit
 
 pub fit_at : (events n : ℕ) (standings : List Standing) (slots : List CodeSlot) (ds : Standing) (dc : CodeSlot) → n < length slots
     → AllFit events standings slots → FitsWithin events (get_or standings n ds) (get_or slots n dc)
 fit_at events n [] [] ds dc few fit = absurd (omega (arith, few))
-fit_at events n [] (slot ∷ slots) ds dc few fit = absurd fit
-fit_at events n (standing ∷ standings) [] ds dc few fit = absurd fit
 fit_at events zero (standing ∷ standings) (slot ∷ slots) ds dc few fit = fit.0
 fit_at events (suc n) (standing ∷ standings) (slot ∷ slots) ds dc few fit = fit_at events n standings slots ds dc (omega (arith, few)) fit.1
+fit_at events n _ _ ds dc few fit = absurd fit
 
 pub same_length : (events : ℕ) (standings : List Standing) (slots : List CodeSlot) → AllFit events standings slots
     → length standings ≡ length slots
 same_length events [] [] fit = refl
-same_length events [] (slot ∷ slots) fit = absurd fit
-same_length events (standing ∷ standings) [] fit = absurd fit
 same_length events (standing ∷ standings) (slot ∷ slots) fit = ap (λ (n : ℕ). suc n) (same_length events standings slots fit.1)
+same_length events _ _ fit = absurd fit
 
 -- the row of a slot
 pub get_row : (n : ℕ) (standings : List Standing) (slots : List CodeSlot) (ds : Standing) (dc : CodeSlot) → n < length standings
@@ -197,9 +193,8 @@ loses_at events number standings standings' slots slots' new slot' ds dc ps cs f
 pub rows_length : (events : ℕ) (standings : List Standing) (slots : List CodeSlot) → AllFit events standings slots
     → length (rows_in standings slots) ≡ length slots
 rows_length events [] [] fit = refl
-rows_length events [] (slot ∷ slots) fit = absurd fit
-rows_length events (standing ∷ standings) [] fit = absurd fit
 rows_length events (standing ∷ standings) (slot ∷ slots) fit = ap (λ (n : ℕ). suc n) (rows_length events standings slots fit.1)
+rows_length events _ _ fit = absurd fit
 
 pub untouched : (rows : List Row) → touched (λ _. []) rows ≡ rows
 untouched rows = untouched_from (λ _. []) 0 rows (λ k low. refl)

@@ -22,8 +22,7 @@ use Rattle.mm_slots.specs.declared.event.Breaking.{Breaking}
 use Rattle.mm_slots.specs.declared.event.Breaking.TheVariants as breaking
 use Rattle.mm_slots.specs.declared.flight.Flight.TheVariants as code
 use Rattle.mm_call.specs.WalkLaws.{seen_none}
-use Rattle.mm_slots.proofs.Fitting.{mine_are, settled, over_comes, same_instance}
-use Rattle.mm_slots.proofs.Planned.{flight_of, goes_planned, digests_kept, goes_comes, asking_of, closing_of}
+use Rattle.mm_slots.proofs.Fitting.{mine_are, settled, over_comes, same_instance, flight_of, goes_planned, digests_kept, goes_comes, asking_of, closing_of}
 
 -- what holds of the bytes and the request that were lent holds of those that are kept
 for_asked : (asking : Asking) (bytes request : List ℕ) → bytes ≡ asking.bytes → request ≡ asking.request

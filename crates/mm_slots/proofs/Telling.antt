@@ -1,8 +1,8 @@
 -- From a run over lines to what the lines of slots are answered.
 use Rattle.mm_slots.proofs.Below.{◌≡◌, ◌∙◌, ◌+◌, ◌≤◌, ◌<◌, ℕ, Bool, true, false, cond, ◌||◌, ◌==◌, List, [], ◌∷◌, ◌++◌, length, map, nat_lt}
-use Rattle.mm_slots.proofs.Below.{Ok, Err, Option, None, Some, refl, sym, ap, subst, append-nil, arith, inl, inr, ◌⊎◌, if◌then◌else◌, codes}
-use Rattle.mm_slots.proofs.Below.{slice_get, option_map, nat_tests, append_assoc, meaning_of, Variant, Basic, Opt, Meaning, instance_by}
-use Rattle.mm_slots.proofs.Below.{Header, ◌>>=◌, after_prefix, number_at, Runs, promises-kept, behind, NoneIsOver, AreEvents, none_answered}
+use Rattle.mm_slots.proofs.Below.{Ok, Err, Option, None, Some, refl, sym, ap, subst, append-nil, arith, inl, inr, ◌⊎◌, codes}
+use Rattle.mm_slots.proofs.Below.{slice_get, option_map, nat_tests, append_assoc, meaning_of}
+use Rattle.mm_slots.proofs.Below.{Header, after_prefix, number_at, Runs, promises-kept, behind, NoneIsOver, AreEvents, none_answered}
 use Rattle.mm_slots.proofs.Below.{header_first, events_from, refused_over, ends_with, Means, rising_from, SlotEvent, answers_text}
 use Rattle.mm_slots.proofs.Below.{end_lines, event_at, SlotsRun, playing, kept_in, SlotsStage, AtFirst, AtHeads, InEvents, first_answer}
 use Rattle.mm_slots.proofs.Below.{head_answer, are_to_come, behind_heads, slots_answer, slots_closing, Row, first_row, first_rows, answers}
@@ -14,9 +14,9 @@ use Rattle.mm_play.specs.Tells.{Answered, Finished, RefusesMuch}
 use Rattle.mm_slots.specs.Grammar.{first_at}
 use Rattle.mm_slots.specs.Counting.{length-push}
 use Rattle.mm_slots.specs.Stage.{begun}
-use Rattle.mm_slots.specs.Headline.{own_fold, AreOwn, AreContinuous, AreWithinLimits, AnswersSlots, unended, AnswersLines, AnswersAll, IsTooMuch}
-use Rattle.mm_slots.proofs.Alone.{alone, by_place_get}
-use Rattle.mm_slots.proofs.Answering.{length-by_place, takes, follows}
+use Rattle.mm_slots.specs.Headline.{own_fold, AreOwn, AreContinuous, AreWithinLimits, AnswersSlots, unended, AnswersLines, AnswersAll, IsHeading, IsTooMuch}
+use Rattle.mm_slots.proofs.Fitting.{meaning_by}
+use Rattle.mm_slots.proofs.Alone.{alone, by_place_get, bound, length-by_place, takes, follows}
 
 -- each slot's row at first
 first_at_place : (headers : List Header) (number : ℕ) (header : Header) → slice_get headers number ≡ Some header
@@ -29,10 +29,6 @@ own : (headers : List Header) (events : List SlotEvent) → AreOwn headers event
 own headers events = λ number header is.
     (alone (first_rows headers) events number (first_row number header) (first_at_place headers number header is)).said
 
-meaning_is : (variant : Variant) (meaning : Meaning) (key barrier : List ℕ) → (instance_by variant meaning key barrier).meaning ≡ meaning
-meaning_is Basic meaning key barrier = refl
-meaning_is Opt meaning key barrier = refl
-
 -- the headline, of each slot and of each first part of the events
 continuous : SlotsRun → (headers : List Header) (events : List SlotEvent) → AreContinuous headers events
 continuous law headers events = λ number header front rest is split clear genuine.
@@ -41,7 +37,7 @@ continuous law headers events = λ number header front rest is split clear genui
     let meaning = meaning_of header.«module» in
     let it = own_fold headers front number header in
     let run = law header.variant meaning key barrier (met_by number (first_rows headers) front) clear genuine in
-    let ran = subst (λ m. Runs m [] it.events it.replies run.requests) (meaning_is header.variant meaning key barrier) run.runs in
+    let ran = subst (λ m. Runs m [] it.events it.replies run.requests) (meaning_by header.variant meaning key barrier) run.runs in
     record { run = run; promised = promises-kept header.«module» it.events it.replies run.requests ran }
 
 -- The header lines were answered, from some headers on: and others are still to come, or the lines behind them are events.
@@ -146,47 +142,67 @@ counted_by_test number count false is h =
     let both : (0 < number) × (number ≤ 16) = (grind (arith, nat_tests), grind (arith, nat_tests)) in
     subst (λ (n : ℕ). (0 < n) × (n ≤ 16)) same both
 
-counted_word : (found : Option ℕ) (count : ℕ)
-    → (found >>= λ number. if number == 0 || nat_lt 16 number then None else Some number) ≡ Some count → (0 < count) × (count ≤ 16)
-counted_word None count h = cc
-counted_word (Some number) count h = counted_by_test number count (number == 0 || nat_lt 16 number) refl h
-
-counted_behind : (words : Option (List ℕ)) (count : ℕ)
-    → (words >>= λ word. number_at word >>= λ number. if number == 0 || nat_lt 16 number then None else Some number) ≡ Some count
-    → (0 < count) × (count ≤ 16)
-counted_behind None count h = cc
-counted_behind (Some word) count h = counted_word (number_at word) count h
-
 pub few_slots : (line : List ℕ) (count : ℕ) → first_at line ≡ Some count → (0 < count) × (count ≤ 16)
 unfolding first_at
-few_slots line count h = counted_behind (after_prefix (codes "memoir slots 1 ") line) count h
+few_slots line count h =
+    let word = bound (after_prefix (codes "memoir slots 1 ") line) _ count h in
+    let number = bound (number_at word.0) _ count word.2 in
+    counted_by_test number.0 count (number.0 == 0 || nat_lt 16 number.0) refl number.2
 
 -- The lines were answered: none; or the first, and header lines; or all of these, and events.
-record Opened (lines : List (List ℕ)) (written : List ℕ) (p : SlotsStage) : Type 0 where
-  first : List ℕ
-  others : List (List ℕ)
-  count : ℕ
-  split : lines ≡ first ∷ others
-  counted : first_at first ≡ Some count
-  headed : Headed count [] others written p
+record Heading (lines : List (List ℕ)) (written : List ℕ) (p : SlotsStage) : Type 0 where
+  heading : IsHeading lines
+  silent : written ≡ []
+  stands : p ≡ AtHeads heading.count heading.headers
 
-abbrev Begun : List (List ℕ) → List ℕ → SlotsStage → Type 0
-Begun lines written p = ((lines ≡ []) × (written ≡ []) × (p ≡ AtFirst)) ⊎ Opened lines written p
+record Evented (lines : List (List ℕ)) (written : List ℕ) (p : SlotsStage) : Type 0 where
+  first : List ℕ
+  heads : List (List ℕ)
+  others : List (List ℕ)
+  headers : List Header
+  split : lines ≡ first ∷ heads ++ others
+  counted : first_at first ≡ Some (length headers)
+  headed : map head_at heads ≡ map Some headers
+  answers : AreEvents playing (begun headers) others written p
+
+abbrev Opened : List (List ℕ) → List ℕ → SlotsStage → Type 0
+Opened lines written p =
+    ((lines ≡ []) × (written ≡ []) × (p ≡ AtFirst)) ⊎ (Heading lines written p ⊎ Evented lines written p)
 
 opened : (lines : List (List ℕ)) (written : List ℕ) (p : SlotsStage) → run slots_answer 1 AtFirst lines ≡ told written (Ok p)
-    → Begun lines written p
+    → Opened lines written p
 opened [] written p h = let none = none_answered slots_answer 1 AtFirst written p h in inl (refl, none.0, none.1)
 opened (first ∷ others) written p h =
     let one = header_first slots_answer 1 AtFirst first others written p (λ count. count) (λ count. AtHeads count []) (first_at first)
     refl h in
     let few = few_slots first one.0 one.1 in
-    inr (record {
+    inr (by_headed one.0 one.1 (headed_from one.0 others (1 + 1) [] written p few.0 few.1 one.2))
+  where
+    by_headed : (count : ℕ) → first_at first ≡ Some count → Headed count [] others written p
+        → Heading (first ∷ others) written p ⊎ Evented (first ∷ others) written p
+    by_headed count counted (inl h) = inl (record {
+      heading = record {
+        first = first;
+        heads = others;
+        count = count;
+        headers = h.headers;
+        split = refl;
+        counted = counted;
+        headed = h.headed;
+        fewer = h.fewer;
+      };
+      silent = h.silent;
+      stands = h.stands;
+    })
+    by_headed count counted (inr e) = inr (record {
       first = first;
-      others = others;
-      count = one.0;
-      split = refl;
-      counted = one.1;
-      headed = headed_from one.0 others (1 + 1) [] written p few.0 few.1 one.2;
+      heads = e.heads;
+      others = e.others;
+      headers = e.headers;
+      split = ap (λ (x : List (List ℕ)). first ∷ x) e.split;
+      counted = counted ∙ ap Some (sym e.full);
+      headed = e.headed;
+      answers = e.answers;
     })
 
 -- the limits, from the first event on
@@ -207,55 +223,37 @@ within_limits headers others within before line after events split read over =
     (elim over [ inl h ↦ inl (omega (arith, h)) | inr h ↦ inr (omega (arith, h, kept)) ])
 
 -- these lines were answered: what was written, and what any last lines add
-answers_slots : SlotsRun → (first : List ℕ) (heads others : List (List ℕ)) (headers : List Header) (lines : List (List ℕ))
-    (said written : List ℕ) (p : SlotsStage) (last : List Row → List ℕ) → lines ≡ first ∷ heads ++ others
-    → first_at first ≡ Some (length headers) → map head_at heads ≡ map Some headers → (a : AreEvents playing (begun headers) others said p)
-    → written ≡ said ++ last (behind playing (begun headers) others a.events).rows → AnswersSlots lines written last
-answers_slots law first heads others headers lines said written p last split counted headed a whole =
-    let f = follows (event_at (length (first_rows headers))) (begun headers) others a.events a.read in
+answers_slots : SlotsRun → (lines : List (List ℕ)) (said written : List ℕ) (p : SlotsStage) (last : List Row → List ℕ)
+    (o : Evented lines said p) → written ≡ said ++ last (behind playing (begun o.headers) o.others o.answers.events).rows
+    → AnswersSlots lines written last
+answers_slots law lines said written p last o whole =
+    let a = o.answers in
+    let f = follows (event_at (length (first_rows o.headers))) (begun o.headers) o.others a.events a.read in
     record {
-      first = first;
-      heads = heads;
-      others = others;
-      headers = headers;
+      first = o.first;
+      heads = o.heads;
+      others = o.others;
+      headers = o.headers;
       events = a.events;
-      split = split;
-      counted = counted;
-      headed = headed;
-      read = sized headers others ∙ a.read;
-      told = whole ∙ ap (λ (w : List ℕ). w ++ last (behind playing (begun headers) others a.events).rows) (a.sent ∙ f.sent)
-          ∙ ap (λ (rows : List Row). answers_text (answers (first_rows headers) a.events) ++ last rows) f.rows;
-      within = within_limits headers others a.within;
-      own = own headers a.events;
-      headline = continuous law headers a.events;
+      split = o.split;
+      counted = o.counted;
+      headed = o.headed;
+      read = sized o.headers o.others ∙ a.read;
+      told = whole ∙ ap (λ (w : List ℕ). w ++ last (behind playing (begun o.headers) o.others a.events).rows) (a.sent ∙ f.sent)
+          ∙ ap (λ (rows : List Row). answers_text (answers (first_rows o.headers) a.events) ++ last rows) f.rows;
+      within = within_limits o.headers o.others a.within;
+      own = own o.headers a.events;
+      headline = continuous law o.headers a.events;
     }
 
 answers_lines : SlotsRun → (lines : List (List ℕ)) (written : List ℕ) → Answered slots_answer AtFirst lines written
     → AnswersLines lines written
-answers_lines law lines written a = by_begun (opened lines written a.0 a.1)
+answers_lines law lines written a = by_opened (opened lines written a.0 a.1)
   where
-    by_headed : (o : Opened lines written a.0) → Headed o.count [] o.others written a.0 → AnswersLines lines written
-    by_headed o (inl h) = inl (
-      inr (record {
-        first = o.first;
-        heads = o.others;
-        count = o.count;
-        headers = h.headers;
-        split = o.split;
-        counted = o.counted;
-        headed = h.headed;
-        fewer = h.fewer;
-      }),
-      h.silent,
-    )
-    by_headed o (inr e) =
-        inr (answers_slots law o.first e.heads e.others e.headers lines written written a.0 unended
-        (o.split ∙ ap (λ (x : List (List ℕ)). o.first ∷ x) e.split)
-        (o.counted ∙ ap Some (sym e.full)) e.headed e.answers (sym (append-nil written)))
-
-    by_begun : Begun lines written a.0 → AnswersLines lines written
-    by_begun (inl none) = inl (inl none.0, none.1)
-    by_begun (inr o) = by_headed o o.headed
+    by_opened : Opened lines written a.0 → AnswersLines lines written
+    by_opened (inl none) = inl (inl none.0, none.1)
+    by_opened (inr (inl h)) = inl (inr h.heading, h.silent)
+    by_opened (inr (inr o)) = inr (answers_slots law lines written written a.0 unended o (sym (append-nil written)))
 
 -- the last lines need all header lines
 closes_none : (p : SlotsStage) (last : List ℕ) → p ≡ AtFirst → slots_closing p ≡ Some last → ⊥
@@ -269,20 +267,15 @@ closes_heads _ last count headers is h = cc
 
 answers_all : SlotsRun → (lines : List (List ℕ)) (written : List ℕ) → Finished slots_answer slots_closing AtFirst lines written
     → AnswersAll lines written
-answers_all law lines written f = by_begun (opened lines f.said f.next f.ran)
+answers_all law lines written f = by_opened (opened lines f.said f.next f.ran)
   where
-    by_headed : (o : Opened lines f.said f.next) → Headed o.count [] o.others f.said f.next → AnswersAll lines written
-    by_headed o (inl h) = absurd (closes_heads f.next f.last o.count h.headers h.stands f.closed)
-    by_headed o (inr e) =
-        let stands = behind playing (begun e.headers) e.others e.answers.events in
-        answers_slots law o.first e.heads e.others e.headers lines f.said written f.next (end_lines 0)
-        (o.split ∙ ap (λ (x : List (List ℕ)). o.first ∷ x) e.split) (o.counted ∙ ap Some (sym e.full)) e.headed e.answers
-        (f.whole ∙ ap (λ (l : List ℕ). f.said ++ l)
-        (ends_with playing.among slots_closing (λ r. end_lines 0 r.rows) (λ r. refl) stands f.next f.last e.answers.stands f.closed))
-
-    by_begun : Begun lines f.said f.next → AnswersAll lines written
-    by_begun (inl none) = absurd (closes_none f.next f.last none.2 f.closed)
-    by_begun (inr o) = by_headed o o.headed
+    by_opened : Opened lines f.said f.next → AnswersAll lines written
+    by_opened (inl none) = absurd (closes_none f.next f.last none.2 f.closed)
+    by_opened (inr (inl h)) = absurd (closes_heads f.next f.last h.heading.count h.heading.headers h.stands f.closed)
+    by_opened (inr (inr o)) =
+        let stands = behind playing (begun o.headers) o.others o.answers.events in
+        answers_slots law lines f.said written f.next (end_lines 0) o (f.whole ∙ ap (λ (l : List ℕ). f.said ++ l)
+        (ends_with playing.among slots_closing (λ r. end_lines 0 r.rows) (λ r. refl) stands f.next f.last o.answers.stands f.closed))
 
 -- a first line and a header line are no events too many
 first_refuses : (found : Option ℕ) → first_answer found ≡ Err Much → ⊥
@@ -295,37 +288,35 @@ head_refuses count headers (Some header) h = cc
 
 -- the next event is one too many
 too_much : (done rest : List (List ℕ)) → RefusesMuch slots_answer AtFirst done rest → IsTooMuch done rest
-too_much done rest m = by_begun (opened done m.said m.next m.ran)
+too_much done rest m = by_opened (opened done m.said m.next m.ran)
   where
-    by_headed : (o : Opened done m.said m.next) → Headed o.count [] o.others m.said m.next → IsTooMuch done rest
-    by_headed o (inl h) =
-        absurd (head_refuses o.count h.headers (head_at m.line) (ap (λ (p : SlotsStage). slots_answer p m.line) (sym h.stands) ∙ m.refused))
-    by_headed o (inr e) =
-        let a = e.answers in
-        let read = sized e.headers e.others ∙ a.read in
-        let kept = kept_behind e.headers e.others a.events read in
+    by_opened : Opened done m.said m.next → IsTooMuch done rest
+    by_opened (inl none) =
+        absurd (first_refuses (first_at m.line) (ap (λ (p : SlotsStage). slots_answer p m.line) (sym none.2) ∙ m.refused))
+    by_opened (inr (inl h)) = absurd (head_refuses h.heading.count h.heading.headers (head_at m.line)
+        (ap (λ (p : SlotsStage). slots_answer p m.line) (sym h.stands) ∙ m.refused))
+    by_opened (inr (inr o)) =
+        let a = o.answers in
+        let read = sized o.headers o.others ∙ a.read in
+        let kept = kept_behind o.headers o.others a.events read in
         record {
           first = o.first;
-          heads = e.heads;
-          others = e.others;
-          headers = e.headers;
+          heads = o.heads;
+          others = o.others;
+          headers = o.headers;
           events = a.events;
           line = m.line;
           more = m.more;
-          split = o.split ∙ ap (λ (x : List (List ℕ)). o.first ∷ x) e.split;
-          counted = o.counted ∙ ap Some (sym e.full);
-          headed = e.headed;
+          split = o.split;
+          counted = o.counted;
+          headed = o.headed;
           read = read;
           follows = m.follows;
-          over = elim (refused_over playing slots_answer takes (begun e.headers) e.others m.said m.next m.line a m.refused) [
+          over = elim (refused_over playing slots_answer takes (begun o.headers) o.others m.said m.next m.line a m.refused) [
             | inl many ↦ inl (omega (arith, many))
             | inr large ↦ inr (omega (arith, large, kept))
           ];
         }
-
-    by_begun : Begun done m.said m.next → IsTooMuch done rest
-    by_begun (inl none) = absurd (first_refuses (first_at m.line) (ap (λ (p : SlotsStage). slots_answer p m.line) (sym none.2) ∙ m.refused))
-    by_begun (inr o) = by_headed o o.headed
 
 -- what the answers to the lines of slots mean
 pub means : SlotsRun → Means slots_answer slots_closing AtFirst AnswersLines AnswersAll IsTooMuch

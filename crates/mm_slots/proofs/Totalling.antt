@@ -1,109 +1,78 @@
 -- What the slots in code count is what the slots' rows say.
 use Rattle.mm_slots.proofs.Below.{◌≡◌, ◌∙◌, ◌+◌, ◌*◌, ◌^◌, ◌≤◌, ◌<◌, ℕ, List, [], ◌∷◌, ◌++◌, length, take, get_or, refl, sym, ap}
 use Rattle.mm_slots.proofs.Below.{append-nil, arith, append_assoc, length-take-le, take_more, sum_by-cons, most_events, most_members}
-use Rattle.mm_slots.proofs.Below.{Standing, CodeSlot, slot_end_line, end_lines, within_64, committed_in, issued_in, rows_in, AllFit}
-use Rattle.mm_slots.proofs.Below.{FitsWithin, KeepsAll, Running, kept_in, Row, bytes_in, requests_in, snapshots_in, AreCounted, ends_from}
+use Rattle.mm_slots.proofs.Below.{Standing, CodeSlot, slot_end_line, end_lines, within_64, rows_in, AllFit}
+use Rattle.mm_slots.proofs.Below.{FitsWithin, Running, kept_in, Row, bytes_in, requests_in, snapshots_in, AreCounted, ends_from}
+use Rattle.std.specs.List.{All, sum_by}
 use Rattle.std.proofs.lemmas.List.Elements.{All-cons, All-nil}
-use Rattle.mm_slots.proofs.Rowing.{all_more}
+use Rattle.std.proofs.lemmas.List.Sums.{sum_by-le}
+use Rattle.mm_slots.proofs.Below.{row_in}
+
+-- what holds of each slot that fits, and a sum over all
+
+all_slots : (events : ℕ) (P : CodeSlot → Type 0) → ((standing : Standing) (slot : CodeSlot) → FitsWithin events standing slot → P slot)
+    → (standings : List Standing) (slots : List CodeSlot) → AllFit events standings slots → All P slots
+all_slots events P each [] [] fit = All-nil P
+all_slots events P each (standing ∷ standings) (slot ∷ slots) fit =
+    All-cons P slot slots (each standing slot fit.0) (all_slots events P each standings slots fit.1)
+all_slots events P each _ _ fit = absurd fit
+
+sums_are : (f : CodeSlot → ℕ) (g : Row → ℕ) → ((standing : Standing) (slot : CodeSlot) → f slot ≡ g (row_in standing slot)) → (events : ℕ)
+    (standings : List Standing) (slots : List CodeSlot) → AllFit events standings slots
+    → sum_by f slots ≡ sum_by g (rows_in standings slots)
+sums_are f g same events [] [] fit = refl
+sums_are f g same events (standing ∷ standings) (slot ∷ slots) fit =
+    sum_by-cons f slot slots ∙ (λ j. same standing slot j + sums_are f g same events standings slots fit.1 j)
+    ∙ sym (sum_by-cons g (row_in standing slot) (rows_in standings slots))
+sums_are f g same events _ _ fit = absurd fit
 
 -- the bytes of the snapshots
-bytes_more : (events : ℕ) (standing : Standing) (slot : CodeSlot) (standings : List Standing) (slots : List CodeSlot)
-    → FitsWithin events standing slot → within_64 (bytes_in slots) ≡ within_64 (kept_in (rows_in standings slots))
-    → within_64 (bytes_in (slot ∷ slots)) ≡ within_64 (kept_in (rows_in (standing ∷ standings) (slot ∷ slots)))
-bytes_more events standing slot standings slots f rest =
-    let kept = f.fits.kept in
-    let sums : bytes_in (slot ∷ slots) ≡ slot.kept + bytes_in slots = sum_by-cons (λ (s : CodeSlot). s.kept) slot slots in
-    omega (arith, kept, sums, rest)
-
 pub bytes_are : (events : ℕ) (standings : List Standing) (slots : List CodeSlot) → AllFit events standings slots
     → within_64 (bytes_in slots) ≡ within_64 (kept_in (rows_in standings slots))
 bytes_are events [] [] fit = refl
-bytes_are events [] (slot ∷ slots) fit = absurd fit
-bytes_are events (standing ∷ standings) [] fit = absurd fit
 bytes_are events (standing ∷ standings) (slot ∷ slots) fit =
-    bytes_more events standing slot standings slots fit.0 (bytes_are events standings slots fit.1)
-
--- the requests
-pub requests_are : (events : ℕ) (standings : List Standing) (slots : List CodeSlot) → AllFit events standings slots
-    → requests_in slots ≡ committed_in (rows_in standings slots)
-requests_are events [] [] fit = refl
-requests_are events [] (slot ∷ slots) fit = absurd fit
-requests_are events (standing ∷ standings) [] fit = absurd fit
-requests_are events (standing ∷ standings) (slot ∷ slots) fit =
-    sum_by-cons (λ (s : CodeSlot). s.committed) slot slots ∙ ap (λ (n : ℕ). slot.committed + n) (requests_are events standings slots fit.1)
+    let kept = fit.0.fits.kept in
+    let sums : bytes_in (slot ∷ slots) ≡ slot.kept + bytes_in slots = sum_by-cons (λ (s : CodeSlot). s.kept) slot slots in
+    let rows = sum_by-cons (λ (row : Row). sum_by length row.slot.issued) (row_in standing slot) (rows_in standings slots) in
+    omega (arith, kept, sums, rows, bytes_are events standings slots fit.1)
+bytes_are events _ _ fit = absurd fit
 
 pub requests_few : (standings : List Standing) (slots : List CodeSlot) → AllFit most_events standings slots
-    → requests_in slots ≤ most_members * most_events * length slots
-requests_few [] [] fit = omega arith
-requests_few [] (slot ∷ slots) fit = absurd fit
-requests_few (standing ∷ standings) [] fit = absurd fit
-requests_few (standing ∷ standings) (slot ∷ slots) fit =
-    let sums : requests_in (slot ∷ slots) ≡ slot.committed + requests_in slots = sum_by-cons (λ (s : CodeSlot). s.committed) slot slots in
-    let few = fit.0.few in
-    omega (arith, sums, few, requests_few standings slots fit.1)
-
--- the snapshots
-pub snapshots_are : (events : ℕ) (standings : List Standing) (slots : List CodeSlot) → AllFit events standings slots
-    → snapshots_in slots ≡ issued_in (rows_in standings slots)
-snapshots_are events [] [] fit = refl
-snapshots_are events [] (slot ∷ slots) fit = absurd fit
-snapshots_are events (standing ∷ standings) [] fit = absurd fit
-snapshots_are events (standing ∷ standings) (slot ∷ slots) fit =
-    sum_by-cons (λ (s : CodeSlot). length s.issued.items) slot slots
-    ∙ ap (λ (n : ℕ). length slot.issued.items + n) (snapshots_are events standings slots fit.1)
+    → requests_in slots ≤ length slots * (most_members * most_events)
+requests_few standings slots fit = sum_by-le (λ (s : CodeSlot). s.committed) (most_members * most_events) slots
+    (all_slots most_events (λ s. s.committed ≤ most_members * most_events) (λ standing slot f. f.few) standings slots fit)
 
 pub snapshots_few : (standings : List Standing) (slots : List CodeSlot) → AllFit most_events standings slots
-    → snapshots_in slots ≤ (most_events + 1) * length slots
-snapshots_few [] [] fit = omega arith
-snapshots_few [] (slot ∷ slots) fit = absurd fit
-snapshots_few (standing ∷ standings) [] fit = absurd fit
-snapshots_few (standing ∷ standings) (slot ∷ slots) fit =
-    let sums : snapshots_in (slot ∷ slots) ≡ length slot.issued.items + snapshots_in slots =
-    sum_by-cons (λ (s : CodeSlot). length s.issued.items) slot slots in
-    let short = fit.0.short in
-    omega (arith, sums, short, snapshots_few standings slots fit.1)
+    → snapshots_in slots ≤ length slots * (most_events + 1)
+snapshots_few standings slots fit = sum_by-le (λ (s : CodeSlot). length s.issued.items) (most_events + 1) slots
+    (all_slots most_events (λ s. length s.issued.items ≤ most_events + 1) (λ standing slot f. f.short) standings slots fit)
 
 -- what is reported of a run among its events
 abbrev runs : List Row → ℕ → ℕ → Running
 runs rows events read = record { rows = rows; events = events; read = read }
 
-pub reports_requests : (events read : ℕ) (standings : List Standing) (slots : List CodeSlot) (r : Running) (total : ℕ)
-    (lent : List CodeSlot) → runs (rows_in standings slots) events read ≡ r → KeepsAll standings slots events read → lent ≡ slots
-    → total ≡ within_64 (requests_in lent) → total ≡ committed_in r.rows
-reports_requests events read standings slots r total lent view k same is =
-    let fit = k.fit in
-    let few = requests_few standings slots (all_more events most_events standings slots k.few fit) in
-    let most = k.most in
-    let all : total ≡ requests_in slots = omega (arith, is, ap (λ (x : List CodeSlot). requests_in x) same, few, most) in
-    all ∙ requests_are events standings slots fit ∙ ap (λ (x : Running). committed_in x.rows) view
-
-pub reports_snapshots : (events read : ℕ) (standings : List Standing) (slots : List CodeSlot) (r : Running) (total : ℕ)
-    (lent : List CodeSlot) → runs (rows_in standings slots) events read ≡ r → KeepsAll standings slots events read → lent ≡ slots
-    → total ≡ within_64 (snapshots_in lent) → total ≡ issued_in r.rows
-reports_snapshots events read standings slots r total lent view k same is =
-    let fit = k.fit in
-    let few = snapshots_few standings slots (all_more events most_events standings slots k.few fit) in
-    let most = k.most in
-    let all : total ≡ snapshots_in slots = omega (arith, is, ap (λ (x : List CodeSlot). snapshots_in x) same, few, most) in
-    all ∙ snapshots_are events standings slots fit ∙ ap (λ (x : Running). issued_in x.rows) view
+pub reports : (f : CodeSlot → ℕ) (g : Row → ℕ) → ((standing : Standing) (slot : CodeSlot) → f slot ≡ g (row_in standing slot))
+    → (events read : ℕ) (standings : List Standing) (slots : List CodeSlot) (r : Running) (total : ℕ) (lent : List CodeSlot)
+    → sum_by f slots < 2 ^ 64 → runs (rows_in standings slots) events read ≡ r → AllFit events standings slots → lent ≡ slots
+    → total ≡ within_64 (sum_by f lent) → total ≡ sum_by g r.rows
+reports f g each events read standings slots r total lent few view fit same is =
+    let all : total ≡ sum_by f slots = omega (arith, is, ap (λ (x : List CodeSlot). sum_by f x) same, few) in
+    all ∙ sums_are f g each events standings slots fit ∙ ap (λ (x : Running). sum_by g x.rows) view
 
 pub are_counted : (standings : List Standing) (slots : List CodeSlot) → AllFit most_events standings slots → AreCounted slots
-are_counted [] [] fit = All-nil (λ (s : CodeSlot). length s.issued.items < 2 ^ 32)
-are_counted [] (slot ∷ slots) fit = absurd fit
-are_counted (standing ∷ standings) [] fit = absurd fit
-are_counted (standing ∷ standings) (slot ∷ slots) fit =
-    let short = fit.0.short in
-    All-cons (λ (s : CodeSlot). length s.issued.items < 2 ^ 32) slot slots (omega (arith, short)) (are_counted standings slots fit.1)
+are_counted standings slots fit =
+    all_slots most_events (λ s. length s.issued.items < 2 ^ 32) (λ standing slot f. let short = f.short in omega
+    (arith, short)) standings slots
+    fit
 
 -- the last lines
 pub ends_are : (events number : ℕ) (standings : List Standing) (slots : List CodeSlot) → AllFit events standings slots
     → ends_from number slots ≡ end_lines number (rows_in standings slots)
 ends_are events number [] [] fit = refl
-ends_are events number [] (slot ∷ slots) fit = absurd fit
-ends_are events number (standing ∷ standings) [] fit = absurd fit
 ends_are events number (standing ∷ standings) (slot ∷ slots) fit =
     ap (λ (rest : List ℕ). slot_end_line number slot.committed (length slot.issued.items) ++ rest)
     (ends_are events (number + 1) standings slots fit.1)
+ends_are events number _ _ fit = absurd fit
 
 ends_more : (number : ℕ) (slots : List CodeSlot) (slot : CodeSlot) → ends_from number (slots ++ slot ∷ [])
     ≡ ends_from number slots ++ slot_end_line (number + length slots) slot.committed (length slot.issued.items)

@@ -18,11 +18,8 @@ said_text (Replied reply) = text_of_replies reply
 
 -- what has to be met to be said: short outputs, and positions of at most 2^48
 abbrev pub IsSayable : Said → Type 0
-IsSayable Busy = Unit {0}
-IsSayable Idle = Unit {0}
-IsSayable Begun = Unit {0}
-IsSayable (Going step) = Unit {0}
 IsSayable (Replied reply) = IsPrintable reply
+IsSayable said = Unit {0}
 
 -- the line of an answer: what is said for a slot stands behind its number and a space
 abbrev pub answer_text : Answer → List ℕ

@@ -1,17 +1,16 @@
 -- What a run of slots reports.
-use Rattle.std.specs.Prelude.{◌≡◌, ◌+◌, ℕ, List, [], ◌∷◌, length}
+use Rattle.std.specs.Prelude.{◌≡◌, ℕ, List, length}
+use Rattle.std.specs.List.{sum_by}
 use Rattle.mm_slots.specs.declared.report.SlotReport.{SlotReport}
 use Rattle.mm_slots.specs.Stage.{SlotsStage, AtFirst, AtHeads, InEvents}
 use Rattle.mm_slots.specs.Table.{Row}
 
 -- how many requests were committed and snapshots issued in these slots, all together
 abbrev pub committed_in : List Row → ℕ
-committed_in [] = 0
-committed_in (row ∷ rows) = row.slot.digests.count + committed_in rows
+committed_in rows = sum_by (λ (row : Row). row.slot.digests.count) rows
 
 abbrev pub issued_in : List Row → ℕ
-issued_in [] = 0
-issued_in (row ∷ rows) = length row.slot.issued + issued_in rows
+issued_in rows = sum_by (λ (row : Row). length row.slot.issued) rows
 
 abbrev pub Reports : SlotsStage → SlotReport → Type 0
 Reports AtFirst report = (report.committed ≡ 0) × (report.issued ≡ 0)

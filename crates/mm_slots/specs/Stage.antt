@@ -23,8 +23,7 @@ begun headers = record { rows = first_rows headers; events = 0; read = 0 }
 
 -- the bytes of the snapshots issued in all slots
 abbrev pub kept_in : List Row → ℕ
-kept_in [] = 0
-kept_in (row ∷ rows) = sum_by length row.slot.issued + kept_in rows
+kept_in rows = sum_by (λ (row : Row). sum_by length row.slot.issued) rows
 
 abbrev pub after_line : Running → List ℕ → SlotEvent → Running
 after_line r line event =

@@ -1,5 +1,5 @@
 -- The slots of one platform.
-use Rattle.std.specs.Prelude.{ℕ, ◌+◌, ◌==◌, Bool, true, false, List, [], ◌∷◌, ◌++◌, map, Option, None, Some, slice_get, if◌then◌else◌}
+use Rattle.std.specs.Prelude.{ℕ, ◌+◌, ◌==◌, Bool, true, false, List, [], ◌∷◌, ◌++◌, map, Option, Some, slice_get, if◌then◌else◌}
 use Rattle.std.specs.Option.{option_map_or}
 use Rattle.mm_model.specs.Instance.{Instance}
 use Rattle.mm_schedule.specs.declared.header.Header.{Header}
@@ -24,13 +24,7 @@ instance_of row = slot_instance row.header row.number
 -- a cut of a call in flight takes the power of all slots
 abbrev pub is_cut : Option Flight → Action → Bool
 is_cut (Some flight) (action.Break breaking.Cut) = true
-is_cut (Some flight) (action.Break breaking.Drop) = false
-is_cut (Some flight) (action.Break (breaking.Fail done)) = false
-is_cut (Some flight) (action.Begin offer request) = false
-is_cut (Some flight) action.Close = false
-is_cut (Some flight) action.Step = false
-is_cut (Some flight) (action.Extend value) = false
-is_cut None what = false
+is_cut flight what = false
 
 abbrev pub cuts_all : List Row → ℕ → Action → Bool
 cuts_all rows number what =

@@ -74,17 +74,7 @@ ok_never it (Err memory) e r = cc
 
 refused_for : (why : Refusal) (it : Called) (result : Result Called Memory) → result ≡ Ok it → RefusedAs why result → IsRefusedFor it
 refused_for refusal.Memory it result e r = absurd (ok_never it result e r)
-refused_for refusal.Lost it result e r = for_cause (cause_of refusal.Lost) it result e r
-refused_for refusal.Form it result e r = for_cause (cause_of refusal.Form) it result e r
-refused_for refusal.Kind it result e r = for_cause (cause_of refusal.Kind) it result e r
-refused_for refusal.State it result e r = for_cause (cause_of refusal.State) it result e r
-refused_for refusal.Tag it result e r = for_cause (cause_of refusal.Tag) it result e r
-refused_for refusal.Stale it result e r = for_cause (cause_of refusal.Stale) it result e r
-refused_for refusal.Full it result e r = for_cause (cause_of refusal.Full) it result e r
-refused_for refusal.Long it result e r = for_cause (cause_of refusal.Long) it result e r
-refused_for refusal.Blank it result e r = for_cause (cause_of refusal.Blank) it result e r
-refused_for refusal.Cell it result e r = for_cause (cause_of refusal.Cell) it result e r
-refused_for (refusal.Device fault) it result e r = for_cause (cause_of (refusal.Device fault)) it result e r
+refused_for why it result e r = for_cause (cause_of why) it result e r
 
 something : (stop : Stop) (size : ℕ) (ended : Ended) (it : Called) (result : Result Called Memory) → is_broken ended ≡ false
     → result ≡ Ok it → CalledAs stop size ended result → is_nothing it.reply ≡ false

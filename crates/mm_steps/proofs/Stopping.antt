@@ -8,13 +8,9 @@ use Rattle.std.proofs.lemmas.Bool.Decides.{nat_tests}
 use Rattle.mm_platform.specs.Steps.{Act, Goes, fault_at, will_answer}
 use Rattle.mm_platform.specs.StepLaws.{goes}
 
-off_here : (here : Bool) → here ≡ false → (if here then Some Off else None) ≡ None
-off_here true e = cc
-off_here false e = refl
-
-failed_here : (here : Bool) → here ≡ false → (if here then Some Failed else None) ≡ None
-failed_here true e = cc
-failed_here false e = refl
+none_here : (here : Bool) (fault : StepFault) → here ≡ false → (if here then Some fault else None) ≡ None
+none_here true fault e = cc
+none_here false fault e = refl
 
 made_here : (here done : Bool) → here ≡ false → (if here then done else true) ≡ true
 made_here true done e = cc
@@ -28,11 +24,11 @@ same_at : (stop : Stop) (meddles : List Meddle) (n : ℕ) → (stopped_step stop
     → SaySame (plan_by stop meddles) (plan_by Quiet meddles) n
 same_at Quiet meddles n other = record { brings = refl; answers = refl; makes = refl; stays = refl }
 same_at (Cut at) meddles n other = let e = ne_eqb at n other in record
-    { brings = refl; answers = off_here (at == n) e; makes = refl; stays = on_here (at == n) e }
+    { brings = refl; answers = none_here (at == n) Off e; makes = refl; stays = on_here (at == n) e }
 same_at (Drop at) meddles n other = let e = ne_eqb at n other in record
-    { brings = refl; answers = off_here (at == n) e; makes = refl; stays = refl }
+    { brings = refl; answers = none_here (at == n) Off e; makes = refl; stays = refl }
 same_at (Fail at done) meddles n other = let e = ne_eqb at n other in record
-    { brings = refl; answers = failed_here (at == n) e; makes = made_here (at == n) done e; stays = refl }
+    { brings = refl; answers = none_here (at == n) Failed e; makes = made_here (at == n) done e; stays = refl }
 
 earlier : (stop n made : ℕ) → made < stop → n ≤ made → stop ≡ n → ⊥
 earlier stop n made later few e = omega arith
@@ -89,22 +85,18 @@ always_fails stop old b = λ act new fault g none.
 
 -- a stop at the next step breaks it off
 
-off_some : (here : Bool) → here ≡ true → is_some (if here then Some Off else None) ≡ true
-off_some true e = refl
-off_some false e = cc
-
-failed_some : (here : Bool) → here ≡ true → is_some (if here then Some Failed else None) ≡ true
-failed_some true e = refl
-failed_some false e = cc
+some_here : (here : Bool) (fault : StepFault) → here ≡ true → is_some (if here then Some fault else None) ≡ true
+some_here true fault e = refl
+some_here false fault e = cc
 
 quiet_never : (n : ℕ) → 0 ≡ n → 0 < n → ⊥
 quiet_never n e positive = omega arith
 
 fails_at : (stop : Stop) (n : ℕ) → stopped_step stop ≡ n → 0 < n → is_some (fault_at stop n) ≡ true
 fails_at Quiet n e positive = absurd (quiet_never n e positive)
-fails_at (Cut at) n e positive = off_some (at == n) (same_numbers at n e)
-fails_at (Drop at) n e positive = off_some (at == n) (same_numbers at n e)
-fails_at (Fail at done) n e positive = failed_some (at == n) (same_numbers at n e)
+fails_at (Cut at) n e positive = some_here (at == n) Off (same_numbers at n e)
+fails_at (Drop at) n e positive = some_here (at == n) Off (same_numbers at n e)
+fails_at (Fail at done) n e positive = some_here (at == n) Failed (same_numbers at n e)
 
 next_number : (stop next made count : ℕ) → stop ≡ next → next ≡ made + 1 → count ≡ made + 1 → stop ≡ count
 next_number stop next made count at is counts = omega arith

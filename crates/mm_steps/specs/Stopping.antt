@@ -17,7 +17,7 @@ pub record BreaksNext (stop : Stop) (standing : Standing) : Type 0 where
 -- the reply to a call that was broken off with nothing done
 abbrev pub is_nothing : Reply → Bool
 is_nothing (reply.Nothing how) = true
-is_nothing (reply.Told again before outputs) = false
+is_nothing (reply.Told again position outputs) = false
 is_nothing (reply.No cause) = false
 is_nothing (reply.Kept how position) = false
 is_nothing (reply.Closed how) = false

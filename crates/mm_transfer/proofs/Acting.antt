@@ -3,7 +3,7 @@ use Rattle.mm_transfer.proofs.Below.{◌≡◌, ◌∙◌, ◌^◌, ◌<◌, ℕ
 use Rattle.mm_transfer.proofs.Below.{MatchResult, IfOk, OnOk, sum_by, Memory, StepFault, Meddle, Stop, Instance, Digests, walk, course_of}
 use Rattle.mm_transfer.proofs.Below.{meddles_of, Header, Which, First, Second, Pair, instance_on, Side, Both, turned, digests_move, Moves}
 use Rattle.mm_transfer.proofs.Below.{BothEvent, affected_if, brought_to, effect_of, finding, move_ended, move_outcome, move_steps, moved_if}
-use Rattle.mm_transfer.proofs.Below.{Command, Invite, Retire, Accept, FoundMove, MoveCause, Effect, Invites, Between, MoveReply, CodeSide}
+use Rattle.mm_transfer.proofs.Below.{Command, Accept, FoundMove, MoveCause, Effect, Invites, Between, MoveReply, CodeSide}
 use Rattle.mm_transfer.proofs.Below.{Inside, both_with, commanded, FitsBetween, CommandDone, CommandLacks, Commands, act_of, command_of}
 use Rattle.mm_transfer.proofs.Below.{side_event_of, which_of, side_in, within_64, pair_of, reply_said, IsSayable}
 use Rattle.mm_schedule.specs.declared.event.Meddles.{Meddles}
@@ -34,9 +34,8 @@ ended_sayable pair i both stop None (Ok found) effect = told_sayable pair i both
 found_sayable : (pair : Pair) (i : Instance) (both : Both Digests ℕ) (meddles : List Meddle) (stop : Stop) (command : Command)
     (found : Option (Result FoundMove MoveCause))
     → IsSayable (reply_said (moved_if digests_move pair i both meddles stop command found).reply)
-found_sayable pair i both meddles stop (Invite nonce) None = tt
-found_sayable pair i both meddles stop (Retire nonce offer) None = tt
 found_sayable pair i both meddles stop (Accept offer) None = tt
+found_sayable pair i both meddles stop command None = tt
 found_sayable pair i both meddles stop command (Some found) =
     let fates = (course_of stop meddles).fates in
     let effect = effect_of fates found in

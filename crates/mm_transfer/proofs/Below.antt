@@ -71,7 +71,7 @@ pub use Rattle.mm_sides.specs.Both.{turned, Which}
 pub use Rattle.mm_sides.specs.Folds.{accepting, affected_if, both_by_digests, both_expected, both_followed, both_outcome, BothEvent}
 pub use Rattle.mm_sides.specs.Folds.{BothFollowed, BothOutcome, BothReply, brought_to, Denied, effect_if, effect_of, finding, grown}
 pub use Rattle.mm_sides.specs.Folds.{is_moved, is_written, move_ended, move_outcome, move_steps, moved_if, Moves, noted_if, plain_on}
-pub use Rattle.mm_sides.specs.Folds.{retiring, stopped_moves, unissued}
+pub use Rattle.mm_sides.specs.Folds.{handed, refused_where, retiring, stopped_moves, told, unissued}
 pub use Rattle.mm_sides.specs.Laws.{history_now, IsOneFrom, OneIsLive, PairsAgreeThroughout, PairsGoOn, plain_events, plain_replies}
 pub use Rattle.mm_sides.specs.Laws.{SidesRunAsOne}
 pub use Rattle.mm_sides.specs.Moves.{Accept, accepted_on, Already, Command, entered_again, entered_as, FoundMove, Gone, Invite, invited_on}
@@ -79,7 +79,7 @@ pub use Rattle.mm_sides.specs.Moves.{left_by, MoveCause, Nonce, offered_to, Open
 pub use Rattle.mm_sides.specs.Moves.{ticket_in, verdict_here}
 pub use Rattle.mm_sides.specs.Roles.{Blank, Effect, Enters, Invites, is_live, Leaves, Live, no_notes, Notes, Retired, Retired as Left, Role}
 pub use Rattle.mm_sides.specs.Roles.{role_after, Waiting, Waiting as Waits}
-pub use Rattle.mm_sides.proofs.Above.{any_value, AreOuter, found_outer, stopped_outer}
+pub use Rattle.mm_sides.proofs.Above.{any_value, AreOuter, foreign_outer, found_outer, IsOuter, stop_outer, stopped_outer}
 pub use Rattle.mm_world.specs.Calls.{is_cut, SettlesPlan, takes_effect}
 pub use Rattle.mm_world.specs.Held.{digest_in, digests_in, value_in}
 pub use Rattle.mm_world.specs.InVain.{AsksPlanned, CameInVain, ChecksPlanned, IsRead}
@@ -94,13 +94,14 @@ pub use Rattle.mm_transfer.specs.Headline.{AnswersAll, AnswersEvents, AnswersLin
 pub use Rattle.mm_transfer.specs.Headline.{unended}
 pub use Rattle.mm_transfer.specs.Lengths.{length_if}
 pub use Rattle.mm_transfer.specs.OneSide.{at_by, at_in, Comes, digest_by, EndsCall, FitsSide, flag_by, IsBare, IsNew, Lacks, link_of}
-pub use Rattle.mm_transfer.specs.OneSide.{outcome_on, Rests, role_in, role_of, side_in, StandsAs, waiting_on, within_64}
+pub use Rattle.mm_transfer.specs.OneSide.{outcome_on, role_in, role_of, side_in, StandsAs, within_64}
 pub use Rattle.mm_transfer.specs.Pairs.{pair_of}
 pub use Rattle.mm_transfer.specs.Planned.{ended_as, Ends, later_steps, MakesMove, moves_at, MovesPlanned, WantsMemory, written_by}
 pub use Rattle.mm_transfer.specs.Planned.{written_if}
 pub use Rattle.mm_transfer.specs.Replies.{IsSayable, reply_said}
-pub use Rattle.mm_transfer.specs.RoleCells.{cell_of_role, FitsCell, FitsRole, GivesEntry, GivesEntryBy, GivesInvited, GivesTicket}
-pub use Rattle.mm_transfer.specs.RoleCells.{GivesTicketBy, Matches, next_if, refusal_of, retired_at, stood, waiting_at}
+pub use Rattle.mm_transfer.specs.RoleCells.{cell_of_role, FitsCell, FitsEffect, FitsLive, FitsRole, GivesEntry, GivesEntryBy, GivesInvited}
+pub use Rattle.mm_transfer.specs.RoleCells.{GivesInvitedBy, GivesTicket, GivesTicketBy, IsSaid, Matches, next_if, refusal_of, retired_at}
+pub use Rattle.mm_transfer.specs.RoleCells.{stood, waiting_at}
 pub use Rattle.mm_transfer.specs.Stage.{AtHeader, begun, both_end_line, kept_in, playing, Running, running_text, transfer_answer}
 pub use Rattle.mm_transfer.specs.Stage.{transfer_closing, TransferStage}
 pub use Rattle.mm_transfer.specs.declared.between.Between.{Between}

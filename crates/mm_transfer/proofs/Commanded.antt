@@ -1,43 +1,213 @@
--- A command on a side comes to what it comes to by digests.
-use Rattle.mm_transfer.proofs.Below.{◌≡◌, ◌≤◌, ℕ, Bool, true, false, List, length, Option, None, Some, Result, Ok, Err, IsErr, inl, inr}
-use Rattle.mm_transfer.proofs.Below.{refl, sym, ap, ◌∙◌, subst, arith, MatchResult, if◌then◌else◌, sum_by, Memory, Meaning, StepFault}
-use Rattle.mm_transfer.proofs.Below.{Meddle, Stop, Standing, Instance, Digests, register_reads, walk, course_of, way_of, IsQuiet, Invited}
-use Rattle.mm_transfer.proofs.Below.{Link, MoveRefusal, moved_of, waiting_for, invites_in, Role, Blank, Live, Waits, Left, Effect, Invites}
-use Rattle.mm_transfer.proofs.Below.{Leaves, Enters, Which, Pair, key_of, instance_on, Both, digests_move, MoveCause, FoundMove, Invite}
-use Rattle.mm_transfer.proofs.Below.{invited_on, Denied, move_steps, effect_if, effect_of, brought_to, affected_if, move_ended, Between}
-use Rattle.mm_transfer.proofs.Below.{MoveReply, CodeSide, InvitedAs, KeepsDigest, commanded, FitsBetween, CommandDone, CommandLacks}
-use Rattle.mm_transfer.proofs.Below.{link_of, role_in, at_by, at_in, within_64, FitsSide, WantsMemory, MovesPlanned, moves_at, reply_said}
-use Rattle.mm_transfer.proofs.Below.{cell_of_role, GivesInvited, FitsCell}
+-- A command on a side comes to what it comes to by digests: what is common to all commands.
+use Rattle.mm_transfer.proofs.Below.{◌≡◌, ◌≤◌, ◌+◌, ◌&&◌, ℕ, Bool, true, false, not, List, length, Option, None, Some, Result, Ok, Err, IsErr}
+use Rattle.mm_transfer.proofs.Below.{inl, inr, refl, sym, ap, ◌∙◌, subst, arith, MatchResult, if◌then◌else◌, is_some, sum_by, Memory, StepFault}
+use Rattle.mm_transfer.proofs.Below.{Meddle, Stop, Standing, Instance, Digests, register_reads, walk, course_of, way_of, offered_bytes, Offer}
+use Rattle.mm_transfer.proofs.Below.{IsQuiet, Link, Ready, MoveRefusal, Role, Effect, Which, Pair, instance_on, Side, Both, digests_move}
+use Rattle.mm_transfer.proofs.Below.{MoveCause, FoundMove, Command, Denied, move_steps, effect_if, effect_of, brought_to, affected_if}
+use Rattle.mm_transfer.proofs.Below.{finding, moved_if, move_ended, unissued, role_after, Between, MoveReply, CodeSide, RefusedAs, Tried}
+use Rattle.mm_transfer.proofs.Below.{both_with, commanded, FitsBetween, CommandDone, CommandLacks, has_moved, role_in, at_by, at_in, side_in}
+use Rattle.mm_transfer.proofs.Below.{within_64, FitsSide, WantsMemory, MovesPlanned, moves_at, reply_said, refusal_of}
+use Rattle.mm_model.specs.declared.refusal.Refusal.TheVariants as core
+use Rattle.mm_move.specs.declared.refusal.MoveRefusal.TheVariants as refusal
 use Rattle.mm_transfer.specs.declared.reply.MoveReply.TheVariants as reply
-use Rattle.mm_transfer.proofs.Commanding.{variant_by, meaning_by, key_by, IsFormed, KeepsFor, IsSide, side_is, side_was, CameAs, came_by, made_if, MovedBy, moved_by}
-use Rattle.mm_transfer.proofs.Matching.{invites_match}
-use Rattle.mm_transfer.proofs.Plainly.{said_cause, InvitesPlainly, invites_plainly}
-use Rattle.mm_transfer.proofs.Sidewise.{role_then, at_then, away_then, affected_is, FitsEffect, side_then}
-
--- what a side keeps of its digest
-
-keeps_equal : (pair : Pair) (which : Which) (role : Role) (kept : List ℕ) (d : Digests) → kept ≡ d.digest → KeepsFor pair which role kept d
-keeps_equal pair which Blank kept d e = e
-keeps_equal pair which Live kept d e = tt
-keeps_equal pair which (Waits nonce) kept d e = e
-keeps_equal pair which (Left nonce) kept d e = tt
-
-pub keeps_own : (pair : Pair) (which : Which) (role : Role) (standing : Standing) (kept : List ℕ) (position : ℕ)
-    → KeepsFor pair which role kept (at_by role standing kept position)
-keeps_own pair which Blank standing kept position = refl
-keeps_own pair which Live standing kept position = tt
-keeps_own pair which (Waits nonce) standing kept position = refl
-keeps_own pair which (Left nonce) standing kept position = tt
+use Rattle.mm_transfer.proofs.Commanding.{said_cause, never_moved, CameAs, Knows, KnowsOf, Came, made_if, MovedBy, moved_by, role_then, at_then, away_then, both_of, affected_is, within_then, FitsThen, brought_then, side_then}
+use Rattle.mm_transfer.proofs.SideStands.{KeepsFor, same_keeps, side_stays}
 
 -- the effect that was made, whether the move was whole or broken off
-pub record IsMade (found : Result FoundMove MoveCause) (effect : Option Effect) : Type 0 where
-  pub moved : Bool
-  pub is : effect ≡ made_if moved found
 
-pub made_as : (stop : Stop) (broken : Option StepFault) (found : Result FoundMove MoveCause) (effect : Option Effect)
+record IsMade (found : Result FoundMove MoveCause) (effect : Option Effect) : Type 0 where
+  moved : Bool
+  is : effect ≡ made_if moved found
+
+made_as : (stop : Stop) (broken : Option StepFault) (found : Result FoundMove MoveCause) (effect : Option Effect)
     → MovedBy stop broken found effect → IsMade found effect
 made_as stop None found effect e = record { moved = true; is = e }
 made_as stop (Some fault) found effect e = record { moved = moves_at stop; is = e.0 }
+
+-- what holds where a move has no effect, and of the effect that was found, holds of the effect that it had
+pub by_known : {A : Type 0} (gives : FoundMove → A → Type 0) (role : Role) (d : Digests) (P : Option Effect → Type 0) (moved : Bool)
+    (found : Result FoundMove MoveCause) → KnowsOf gives role d found → P None
+    → ((it : FoundMove) → Knows gives role d it → P (Some it.effect)) → P (made_if moved found)
+by_known gives role d P moved (Err cause) k none some = none
+by_known gives role d P moved (Ok found) k none some = by_again found.again moved
+  where
+    by_again : (again moved : Bool) → P (if again then None else effect_if moved found.effect)
+    by_again true moved = none
+    by_again false true = some found k
+    by_again false false = none
+
+-- what the code takes for a count, where it tests whether the move is a new one and has its effect
+
+abbrev pub IsIdle : Bool → Result FoundMove MoveCause → Type 0
+IsIdle moved (Err cause) = moved ≡ false
+IsIdle moved (Ok found) = Unit {0}
+
+pub chosen : {A : Type 0} (gives : FoundMove → A → Type 0) (role : Role) (d : Digests) (moving moved : Bool) (new old : ℕ)
+    (value : Option Effect → ℕ) (found : Result FoundMove MoveCause) → KnowsOf gives role d found → IsIdle moved found → value None ≡ old
+    → ((it : FoundMove) → Knows gives role d it → (moving ≡ not it.again) × (value (Some it.effect) ≡ new))
+    → (if moving && moved then new else old) ≡ value (made_if moved found)
+chosen gives role d moving moved new old value (Err cause) k idle none some =
+    ap (λ b. if moving && b then new else old) idle ∙ never moving ∙ sym none
+  where
+    never : (moving : Bool) → (if moving && false then new else old) ≡ old
+    never true = refl
+    never false = refl
+chosen gives role d moving moved new old value (Ok found) k idle none some =
+    let s = some found k in by_again moving found.again moved s.0 s.1
+  where
+    by_again : (moving again moved : Bool) → moving ≡ not again → value (Some found.effect) ≡ new
+        → (if moving && moved then new else old) ≡ value (if again then None else effect_if moved found.effect)
+    by_again true true moved is e = cc
+    by_again true false true is e = sym e
+    by_again true false false is e = sym none
+    by_again false true moved is e = sym none
+    by_again false false moved is e = cc
+
+pub whole : (moving : Bool) (new old : ℕ) → (if moving then new else old) ≡ (if moving && true then new else old)
+whole true new old = refl
+whole false new old = refl
+
+-- what a move is told as that was refused, or broken off
+
+pub record Refuses (pair : Pair) (i : Instance) (stop : Stop) (broken : Option StepFault) (found : Result FoundMove MoveCause)
+    (effect : Option Effect) (why : MoveRefusal) : Type 0 where
+  pub said : MoveReply
+  pub is : (result : Result MoveReply Memory) → RefusedAs stop why result → result ≡ Ok said
+  pub says : (both : Both Digests ℕ) → said ≡ reply_said (move_ended digests_move pair i both stop broken found effect).reply
+  pub both : (both : Both Digests ℕ) → (move_ended digests_move pair i both stop broken found effect).both ≡ both
+  pub made : effect ≡ made_if (has_moved stop why) found
+  pub idle : IsIdle (has_moved stop why) found
+
+idle_broken : (moved : Bool) (found : Result FoundMove MoveCause) (effect : Option Effect) → effect ≡ made_if moved found
+    → is_some effect ≡ moved → IsIdle moved found
+idle_broken moved (Err cause) effect e some = sym some ∙ ap is_some e
+idle_broken moved (Ok found) effect e some = tt
+
+-- a move was refused or broken off, or gives its answer
+pub tell : {A : Type 0} (gives : FoundMove → A → Type 0) (pair : Pair) (i : Instance) (role : Role) (d : Digests) (stop : Stop)
+    (broken : Option StepFault) (found : Result FoundMove MoveCause) (effect : Option Effect) (came : Result A MoveRefusal)
+    (P : Option StepFault → Result FoundMove MoveCause → Option Effect → Type 0) → CameAs gives broken found came
+    → MovedBy stop broken found effect → KnowsOf gives role d found
+    → ((why : MoveRefusal) → came ≡ Err why → Refuses pair i stop broken found effect why → P broken found effect)
+    → ((it : FoundMove) (answer : A) → came ≡ Ok answer → gives it answer → Knows gives role d it → P None (Ok it) (made_if true (Ok it)))
+    → P broken found effect
+tell gives pair i role d stop (Some fault) found effect came P says moved knows refuse give =
+    refuse (refusal.Core (core.Device fault)) says (record {
+      said = reply.Broken (way_of stop) (moves_at stop);
+      is = λ result told. told;
+      says = λ both. ap (λ b. reply.Broken (way_of stop) b) (sym moved.1);
+      both = λ both. refl;
+      made = moved.0;
+      idle = idle_broken (moves_at stop) found effect moved.0 moved.1;
+    })
+tell gives pair i role d stop None (Err cause) effect came P says moved knows refuse give = refuse (refusal_of cause) says (record {
+  said = reply_said (Denied cause);
+  is = λ result told. said_cause stop cause result knows told;
+  says = λ both. refl;
+  both = λ both. refl;
+  made = moved;
+  idle = never_moved stop cause knows;
+})
+tell gives pair i role d stop None (Ok found) effect came P says moved knows refuse give =
+    subst (P None (Ok found)) (sym moved) (give found says.0 says.1 says.2 knows)
+
+-- What is told of a command that had this effect, and what it leaves.
+pub record Told (pair : Pair) (i : Instance) (stop : Stop) (broken : Option StepFault) (found : Result FoundMove MoveCause)
+    (effect : Option Effect) (result : Result MoveReply Memory) (old new : CodeSide) (was now : Between) (d : Digests) : Type 0 where
+  pub said : MoveReply
+  pub is : result ≡ Ok said
+  pub ends : (both : Both Digests ℕ) → both.first.at.digest ≡ (at_then was.away d effect).digest → both.first.issued ≡ old.issued.items
+      → both.tickets ≡ was.tickets.items → (let o = move_ended digests_move pair i both stop broken found effect in
+      (said ≡ reply_said o.reply)
+      × (o.both ≡ record both { first = record both.first { issued = new.issued.items }; tickets = now.tickets.items }))
+  pub position : new.position ≡ (at_then was.away d effect).count
+  pub away : now.away ≡ away_then was.away d effect
+  pub kept : new.kept ≡ within_64 (sum_by length new.issued.items)
+  pub between : FitsBetween now
+  pub issued : length new.issued.items ≤ length old.issued.items + 1
+  pub tickets : length now.tickets.items ≤ length was.tickets.items + 1
+
+-- nothing was handed out
+pub told_still : (pair : Pair) (i : Instance) (stop : Stop) (broken : Option StepFault) (found : Result FoundMove MoveCause)
+    (effect : Option Effect) (why : MoveRefusal) (result : Result MoveReply Memory) (old new : CodeSide) (was now : Between) (d : Digests)
+    → Refuses pair i stop broken found effect why → RefusedAs stop why result → new.issued.items ≡ old.issued.items
+    → new.kept ≡ old.kept → now.tickets.items ≡ was.tickets.items → now.kept ≡ was.kept
+    → old.kept ≡ within_64 (sum_by length old.issued.items) → FitsBetween was → (let made = made_if (has_moved stop why) found in
+    new.position ≡ (at_then was.away d made).count
+    → now.away ≡ away_then was.away d made → Told pair i stop broken found effect result old new was now d)
+told_still pair i stop broken found effect why result old new was now d r told issued kept tickets counted sum fits position away = record {
+  said = r.said;
+  is = r.is result told;
+  ends = λ both digest own all. (
+    r.says both,
+    r.both both ∙ (λ j. record both {
+      first = record both.first { issued = (own ∙ sym issued) j };
+      tickets = (all ∙ sym tickets) j;
+    }),
+  );
+  position = position ∙ ap (λ e. (at_then was.away d e).count) (sym r.made);
+  away = away ∙ ap (away_then was.away d) (sym r.made);
+  kept = subst (λ (x : List (List ℕ)). new.kept ≡ within_64 (sum_by length x)) (sym issued) (kept ∙ sum);
+  between = subst (λ (x : List (List ℕ)). now.kept ≡ within_64 (sum_by length x)) (sym tickets) (counted ∙ fits);
+  issued = omega (arith, ap length issued);
+  tickets = omega (arith, ap length tickets);
+}
+
+-- a command with its move made
+pub move_done : {A : Type 0} (gives : FoundMove → A → Type 0) (pair : Pair) (which : Which) (stop : Stop) (meddles : List Meddle)
+    (command : Command) (found : Result FoundMove MoveCause) (old new : CodeSide) (was now : Between) (came : Result A MoveRefusal)
+    (result : Result MoveReply Memory) → FitsSide pair which old → (let i = instance_on pair which in
+    let role = role_in old.platform.cell in
+    let d = at_in old in
+    let fates = (course_of stop meddles).fates in
+    Came gives i role d stop meddles found new.platform came
+    → Told pair i stop (walk fates 1 (move_steps found)).broken found (effect_of fates found) result old new was now d
+    → KeepsFor role new.digest.bytes d
+    → ((it : FoundMove) → Knows gives role d it → KeepsFor (role_after it.effect) new.digest.bytes (at_then was.away d (Some it.effect)))
+    → ((other : Side Digests) (committed : ℕ) → finding digests_move pair i (both_with old was other committed) command ≡ Some found)
+    → MatchResult result (CommandDone pair which old new was now (commanded pair which old was meddles stop command))
+    (λ _. CommandLacks pair which old new was now))
+move_done gives pair which stop meddles command found old new was now came result fits c t keeps next finds =
+    let i = instance_on pair which in
+    let role = role_in old.platform.cell in
+    let d = at_in old in
+    let effect = effect_of (course_of stop meddles).fates found in
+    let m = made_as stop _ found effect (moved_by stop meddles found) in
+    let then_fits = subst (FitsThen d) (sym m.is) (by_known gives role d (FitsThen d) m.moved found c.knows tt (λ it k. k.fits)) in
+    let K : Option Effect → Type 0 = λ e. KeepsFor (role_then role e) new.digest.bytes (at_then was.away d e) in
+    let then_keeps = subst K (sym m.is) (by_known gives role d K m.moved found c.knows keeps next) in
+    let s = side_then gives pair which role d stop meddles found new came was.away c fits.stands.fits then_fits t.position then_keeps t.kept
+    in
+    let brought = brought_to digests_move i d meddles stop (move_steps found) in
+    let b = brought_then i d stop meddles found was.away effect in
+    let gone = t.away ∙ b.away_is in
+    let is = λ (other : Side Digests) (committed : ℕ).
+    affected_is role brought old.issued.items was.tickets.items other was.away committed effect in
+    let ends = λ (other : Side Digests) (committed : ℕ).
+    t.ends (affected_if digests_move (both_of role brought old.issued.items was.tickets.items other was.away committed) effect)
+    (ap (λ (x : Both Digests ℕ). x.first.at.digest) (is other committed) ∙ b.digest)
+    (ap (λ (x : Both Digests ℕ). x.first.issued) (is other committed)) (ap (λ (x : Both Digests ℕ). x.tickets) (is other committed)) in
+    ok_match _ _ result t.said t.is (record {
+      fits = s.fits;
+      between = t.between;
+      both = λ other committed.
+          (λ j. both_of (s.role_is j) (s.at_is j) new.issued.items now.tickets.items other (gone j) committed)
+          ∙ ap (λ (x : Both Digests ℕ). record x { first = record x.first { issued = new.issued.items }; tickets = now.tickets.items })
+          (sym (is other committed)) ∙ sym (ends other committed).1
+          ∙ sym (ap (λ x. (moved_if digests_move pair i (both_with old was other committed) meddles stop command x).both)
+          (finds other committed));
+      says = λ other committed. (ends other committed).0
+          ∙ sym (ap (λ x. reply_said (moved_if digests_move pair i (both_with old was other committed) meddles stop command x).reply)
+          (finds other committed));
+      issued = t.issued;
+      tickets = t.tickets;
+      counts = λ most p q.
+          let n = within_then d was.away most effect p q in (omega (arith, t.position, n.0), omega (arith, t.away, n.1));
+    })
+  where
+    ok_match : (P : MoveReply → Type 0) (Q : Type 0) (result : Result MoveReply Memory) (said : MoveReply) → result ≡ Ok said → P said
+        → MatchResult result P (λ _. Q)
+    ok_match P Q result said e p = subst (λ (r : Result MoveReply Memory). MatchResult r P (λ _. Q)) (sym e) p
 
 -- want of memory
 
@@ -45,43 +215,15 @@ pub err_match : (P : MoveReply → Type 0) (Q : Type 0) (result : Result MoveRep
 err_match P Q (Ok said) is q = absurd (cc)
 err_match P Q (Err memory) is q = q
 
-pub ok_match : (P : MoveReply → Type 0) (Q : Type 0) (result : Result MoveReply Memory) (said : MoveReply) → result ≡ Ok said → P said
-    → MatchResult result P (λ _. Q)
-ok_match P Q result said e p = subst (λ (r : Result MoveReply Memory). MatchResult r P (λ _. Q)) (sym e) p
-
-pub record Reads (new : Standing) : Type 0 where
-  pub value : List ℕ
-  pub is : register_reads new ≡ Some value
-
-still_cell : (i : Instance) (role : Role) (d : Digests) (register : List ℕ)
-    → cell_of_role i role d ≡ cell_of_role i role (record d { register = register })
-still_cell i (Waits nonce) d register = refl
-still_cell i _ d register = refl
-
-still_fit : (pair : Pair) (which : Which) (role : Role) (d : Digests) (register : List ℕ) → FitsCell (instance_on pair which)
-    (link_of pair) role d → FitsCell (instance_on pair which) (link_of pair) role (record d { register = register })
-still_fit pair which (Waits nonce) d register fit = record { key = fit.key; barrier = fit.barrier; linked = fit.linked; fits = fit.fits }
-still_fit pair which _ d register fit = record { key = fit.key; barrier = fit.barrier; linked = fit.linked; fits = fit.fits }
-
-still_keeps : (pair : Pair) (which : Which) (role : Role) (d : Digests) (register kept : List ℕ) → KeepsFor pair which role kept d
-    → KeepsFor pair which role kept (record d { register = register })
-still_keeps pair which (Waits nonce) d register kept k = k
-still_keeps pair which _ d register kept k = k
-
 -- a side whose cell is as it was
-pub lacks_side : (pair : Pair) (which : Which) (old new : CodeSide) (was now : Between) (value : List ℕ) → IsFormed pair which
-    → FitsSide pair which old → new.platform.cell ≡ old.platform.cell → register_reads new.platform ≡ Some value → IsQuiet new.platform
-    → new.position ≡ old.position → KeepsFor pair which (role_in old.platform.cell) new.digest.bytes (at_in old)
+lacks_side : (pair : Pair) (which : Which) (old new : CodeSide) (was now : Between) (value : List ℕ) → FitsSide pair which old
+    → new.platform.cell ≡ old.platform.cell → register_reads new.platform ≡ Some value → IsQuiet new.platform
+    → new.position ≡ old.position → KeepsFor (role_in old.platform.cell) new.digest.bytes (at_in old)
     → new.issued.items ≡ old.issued.items → new.kept ≡ old.kept → now.tickets.items ≡ was.tickets.items → now.kept ≡ was.kept
     → now.away ≡ was.away → CommandLacks pair which old new was now
-lacks_side pair which old new was now value formed fits cell register quiet position keeps issued kept tickets counted away =
-    let i = instance_on pair which in
-    let role = role_in old.platform.cell in
+lacks_side pair which old new was now value fits cell register quiet position keeps issued kept tickets counted away =
     let d = at_in old in
-    let w = side_was pair which old formed fits in
-    let is : IsSide pair which role (record d { register = value }) new =
-    side_is pair which role (record d { register = value }) new (still_fit pair which role d value w.0)
-    (cell ∙ w.1 ∙ ap Some (still_cell i role d value)) register quiet position (still_keeps pair which role d value new.digest.bytes keeps)
+    let is = side_stays pair which old new value fits cell register quiet position keeps
     (subst (λ (x : List (List ℕ)). new.kept ≡ within_64 (sum_by length x)) (sym issued) (kept ∙ fits.kept)) in
     record {
       fits = is.fits;
@@ -95,173 +237,106 @@ lacks_side pair which old new was now value formed fits cell register quiet posi
       away = away;
     }
 
-pub wanted : {A : Type 0} (i : Instance) (d : Digests) (stop : Stop) (meddles : List Meddle) (old new : Standing)
-    (came : Result A MoveRefusal) → WantsMemory i d stop meddles old new came → Reads new
-wanted i d stop meddles old new came w = elim w.register [
-  | inl e ↦ record { value = d.register; is = e }
-  | inr e ↦ record { value = _; is = e }
-]
-
--- an invitation
-
-abbrev IsInvited : List ℕ → Digests → Option Effect → Type 0
-IsInvited nonce d None = Unit {0}
-IsInvited nonce d (Some (Invites other)) = (other ≡ nonce) × (d.flag ≡ false)
-IsInvited nonce d (Some (Leaves ticket)) = ⊥
-IsInvited nonce d (Some (Enters ticket)) = ⊥
-
-invited_made : (role : Role) (d : Digests) (nonce : List ℕ) (found : Result FoundMove MoveCause) (moved : Bool)
-    → InvitesPlainly role d nonce found → IsInvited nonce d (made_if moved found)
-invited_made role d nonce (Err cause) moved plain = tt
-invited_made role d nonce (Ok found) moved plain = by_again found.again moved found.effect plain.effect
+pub lacks_done : {A : Type 0} (pair : Pair) (which : Which) (stop : Stop) (meddles : List Meddle) (old new : CodeSide) (was now : Between)
+    (from to : Standing) (came : Result A MoveRefusal) → FitsSide pair which old
+    → WantsMemory (instance_on pair which) (at_in old) stop meddles from to came → from.cell ≡ old.platform.cell → new.platform ≡ to
+    → new.position ≡ old.position → KeepsFor (role_in old.platform.cell) new.digest.bytes (at_in old)
+    → new.issued.items ≡ old.issued.items → new.kept ≡ old.kept → now.tickets.items ≡ was.tickets.items → now.kept ≡ was.kept
+    → now.away ≡ was.away → CommandLacks pair which old new was now
+lacks_done pair which stop meddles old new was now from to came fits w cell platform position keeps issued kept tickets counted away =
+    elim w.register [ inl e ↦ reads _ e | inr e ↦ reads _ e ]
   where
-    by_again : (again moved : Bool) (effect : Effect) → effect ≡ Invites nonce
-        → IsInvited nonce d (if again then None else effect_if moved effect)
-    by_again true moved effect e = tt
-    by_again false false effect e = tt
-    by_again false true effect e = subst (λ x. IsInvited nonce d (Some x)) (sym e) (refl, plain.clear)
+    reads : (value : List ℕ) → register_reads to ≡ Some value → CommandLacks pair which old new was now
+    reads value e = lacks_side pair which old new was now value fits (ap (λ (s : Standing). s.cell) platform ∙ w.cell ∙ cell)
+        (ap register_reads platform ∙ e) (subst IsQuiet (sym platform) w.quiet) position keeps issued kept tickets counted away
 
-invited_fits : (nonce : List ℕ) (d : Digests) (effect : Option Effect) → length nonce ≡ 32 → IsInvited nonce d effect → FitsEffect d effect
-invited_fits nonce d None size is = tt
-invited_fits nonce d (Some (Invites other)) size is = (is.1, ap length is.0 ∙ size)
-invited_fits nonce d (Some (Leaves ticket)) size is = absurd is
-invited_fits nonce d (Some (Enters ticket)) size is = absurd is
+-- nothing happened to a side, but to its platform
 
-invited_keeps : (pair : Pair) (which : Which) (role : Role) (nonce kept : List ℕ) (away : ℕ) (d : Digests) (effect : Option Effect)
-    → kept ≡ d.digest → IsInvited nonce d effect
-    → KeepsFor pair which (role_then role effect) kept (at_then away d effect) × ((at_then away d effect).count ≡ d.count) ×
-    ((x : Digests) → away_then away x effect ≡ away)
-invited_keeps pair which role nonce kept away d None e is = (keeps_equal pair which role kept d e, refl, λ x. refl)
-invited_keeps pair which role nonce kept away d (Some (Invites other)) e is = (e, refl, λ x. refl)
-invited_keeps pair which role nonce kept away d (Some (Leaves ticket)) e is = absurd is
-invited_keeps pair which role nonce kept away d (Some (Enters ticket)) e is = absurd is
+pub record SameSide (old new : CodeSide) : Type 0 where
+  pub digest : new.digest ≡ old.digest
+  pub issued : new.issued.items ≡ old.issued.items
+  pub kept : new.kept ≡ old.kept
+  pub position : new.position ≡ old.position
 
--- What is told of a move, and what its end makes of both sides.
-pub record Told (pair : Pair) (i : Instance) (stop : Stop) (broken : Option StepFault) (found : Result FoundMove MoveCause)
-    (effect : Option Effect)
-    (result : Result MoveReply Memory) (ends : Both Digests ℕ → Both Digests ℕ) (fits : Both Digests ℕ → Type 0) : Type 0 where
-  pub said : MoveReply
-  pub is : result ≡ Ok said
-  pub says : (both : Both Digests ℕ) → fits both → said ≡ reply_said (move_ended digests_move pair i both stop broken found effect).reply
-  pub both : (both : Both Digests ℕ) → fits both → (move_ended digests_move pair i both stop broken found effect).both ≡ ends both
+pub record SameBetween (was now : Between) : Type 0 where
+  pub tickets : now.tickets.items ≡ was.tickets.items
+  pub kept : now.kept ≡ was.kept
+  pub away : now.away ≡ was.away
 
-told_invite : (pair : Pair) (i : Instance) (role : Role) (d : Digests) (nonce : List ℕ) (stop : Stop) (broken : Option StepFault)
-    (found : Result FoundMove MoveCause) (effect : Option Effect) (came : Result Invited MoveRefusal) (result : Result MoveReply Memory)
-    → CameAs GivesInvited broken found came → MovedBy stop broken found effect → InvitesPlainly role d nonce found
-    → InvitedAs stop came result → Told pair i stop broken found effect result (λ both. both) (λ both. Unit {0})
-told_invite pair i role d nonce stop (Some fault) found effect came result says moved plain told = record {
-  said = reply.Broken (way_of stop) (moves_at stop);
-  is = subst (λ (c : Result Invited MoveRefusal). InvitedAs stop c result) says told;
-  says = λ both h. ap (λ b. reply.Broken (way_of stop) b) (sym moved.1);
-  both = λ both h. refl;
-}
-told_invite pair i role d nonce stop None (Err cause) effect came result says moved plain told = record {
-  said = reply_said (Denied cause);
-  is = said_cause stop cause result plain (subst (λ (c : Result Invited MoveRefusal). InvitedAs stop c result) says told);
-  says = λ both h. refl;
-  both = λ both h. refl;
-}
-told_invite pair i role d nonce stop None (Ok found) effect came result says moved plain told =
-    by_effect found.again found.effect plain.effect
-  where
-    by_effect : (again : Bool) (made : Effect) → made ≡ Invites nonce
-        → Told pair i stop None (Ok (record { again = again; effect = made })) effect result (λ both. both) (λ both. Unit {0})
-    by_effect again made e =
-        subst (λ x. Told pair i stop None (Ok (record { again = again; effect = x })) effect result (λ both. both) (λ both. Unit {0}))
-        (sym e) (record {
-          said = reply.Invited;
-          is = subst (λ (c : Result Invited MoveRefusal). InvitedAs stop c result) says.1 told;
-          says = λ both h. refl;
-          both = λ both h. refl;
-        })
+pub still_lacks : (pair : Pair) (which : Which) (old new : CodeSide) (was now : Between) → FitsSide pair which old
+    → new.platform ≡ old.platform → SameSide old new → SameBetween was now → CommandLacks pair which old new was now
+still_lacks pair which old new was now fits platform s b =
+    lacks_side pair which old new was now (at_in old).register fits (ap (λ (x : Standing). x.cell) platform)
+    (ap register_reads platform ∙ fits.stands.register) (subst IsQuiet (sym platform) fits.quiet) s.position (same_keeps old new s.digest)
+    s.issued s.kept b.tickets b.kept b.away
 
--- a side's position and what passes between both stay within any bound of both
-stays_within : (position away new now : ℕ) → new ≡ position → now ≡ away → (most : ℕ) → position ≤ most → away ≤ most
-    → (new ≤ most) × (now ≤ most)
-stays_within position away new now e f most p q = (omega (arith, e), omega (arith, f))
-
--- the call of the code, in terms of the side's instance
-pub invites_planned : (pair : Pair) (which : Which) (nonce : List ℕ) (stop : Stop) (meddles : List Meddle) (link : Link) (id : ℕ)
-    (key : List ℕ) (old new : Standing)
-    (came : Result Invited MoveRefusal) → link ≡ link_of pair → id ≡ pair.meaning.id → key ≡ key_of pair which
-    → MovesPlanned (λ (bytes : List ℕ). invites_in (waiting_for link pair.variant id nonce key) (moved_of bytes)) stop meddles old new came
-    → MovesPlanned (λ (bytes : List ℕ). invites_in
-    (waiting_for (link_of pair) (instance_on pair which).variant (instance_on pair which).meaning.id nonce (instance_on pair which).key)
-    (moved_of bytes)) stop meddles old new came
-invites_planned pair which nonce stop meddles link id key old new came el ei ek planned =
+-- a number that isn't issued: nothing is called
+pub unissued_done : (pair : Pair) (which : Which) (stop : Stop) (meddles : List Meddle) (command : Command) (said : MoveReply)
+    (old new : CodeSide) (was now : Between) → FitsSide pair which old → FitsBetween was → new.platform ≡ old.platform → SameSide old new
+    → SameBetween was now → said ≡ reply_said (unissued command)
+    → ((other : Side Digests) (committed : ℕ) → finding digests_move pair (instance_on pair which)
+    (both_with old was other committed) command ≡ None)
+    → CommandDone pair which old new was now (commanded pair which old was meddles stop command) said
+unissued_done pair which stop meddles command said old new was now fits counted platform s b says none =
     let i = instance_on pair which in
-    let v = variant_by pair.variant pair.meaning (key_of pair which) pair.barrier in
-    let m = meaning_by pair.variant pair.meaning (key_of pair which) pair.barrier in
-    let k = key_by pair.variant pair.meaning (key_of pair which) pair.barrier in
-    let same : waiting_for link pair.variant id nonce key ≡ waiting_for (link_of pair) i.variant i.meaning.id nonce i.key =
-    λ j. waiting_for (el j) (sym v j) ((ei ∙ sym (ap (λ (x : Meaning). x.id) m)) j) nonce ((ek ∙ sym k) j) in
-    subst (λ w. MovesPlanned (λ (bytes : List ℕ). invites_in w (moved_of bytes)) stop meddles old new came) same planned
+    let same : side_in new ≡ side_in old = λ j. record {
+      role = role_in (platform j).cell;
+      at = at_by (role_in (platform j).cell) (platform j) (s.digest j).bytes (s.position j);
+      issued = s.issued j;
+    } in
+    record {
+      fits = (still_lacks pair which old new was now fits platform s b).fits;
+      between = subst (λ (x : List (List ℕ)). now.kept ≡ within_64 (sum_by length x)) (sym b.tickets) (b.kept ∙ counted);
+      both = λ other committed.
+          (λ j. record { first = same j; second = other; away = b.away j; tickets = b.tickets j; committed = committed })
+          ∙ sym (ap (λ x. (moved_if digests_move pair i (both_with old was other committed) meddles stop command x).both)
+          (none other committed));
+      says = λ other committed.
+          says ∙ sym (ap (λ x. reply_said (moved_if digests_move pair i (both_with old was other committed) meddles stop command x).reply)
+          (none other committed));
+      issued = omega (arith, ap length s.issued);
+      tickets = omega (arith, ap length b.tickets);
+      counts = λ most p q. (omega (arith, s.position), omega (arith, b.away));
+    }
 
-pub invited_done : (pair : Pair) (which : Which) (nonce : List ℕ) (stop : Stop) (meddles : List Meddle) (old mid new : CodeSide)
-    (between : Between) (came : Result Invited MoveRefusal) (result : Result MoveReply Memory) → IsFormed pair which → length nonce ≡ 32
-    → KeepsDigest old mid → MovesPlanned (λ (bytes : List ℕ). invites_in
-    (waiting_for (link_of pair) (instance_on pair which).variant (instance_on pair which).meaning.id nonce (instance_on pair which).key)
-    (moved_of bytes)) stop meddles mid.platform new.platform came → new.digest ≡ mid.digest → new.issued.items ≡ mid.issued.items
-    → new.kept ≡ mid.kept → new.position ≡ mid.position → InvitedAs stop came result → FitsSide pair which old → FitsBetween between
-    → MatchResult result (CommandDone pair which old new between between (commanded pair which old between meddles stop (Invite nonce)))
-    (λ _. CommandLacks pair which old new between between)
-invited_done pair which nonce stop meddles old mid new between came result formed size k planned digest issued kept position told fits
-    counted =
-    let i = instance_on pair which in
-    let role = role_in old.platform.cell in
-    let d = at_in old in
-    let w = side_was pair which old formed fits in
-    let cell = ap (λ (s : Standing). s.cell) k.platform ∙ w.1 in
-    let register = ap register_reads k.platform ∙ w.2 in
-    let quiet = subst IsQuiet (sym k.platform) fits.quiet in
-    let keeps : new.digest.bytes ≡ d.digest = ap (λ x. x.bytes) digest ∙ k.digest in
-    let same_issued = issued ∙ k.issued in
-    let same_kept = kept ∙ k.kept in
-    let same_position = position ∙ k.position in
-    elim (planned i d (cell_of_role i role d) cell register quiet) [
-      | inl made ↦
-          let found = invited_on role nonce in
-          let c = came_by GivesInvited i role d stop meddles new.platform came _ found
-          (invites_match i (link_of pair) role d nonce w.0 size) made in
-          let moved = moved_by stop meddles found in
-          let plain = invites_plainly i role d nonce w.0.fits in
-          let t = told_invite pair i role d nonce stop (walk (course_of stop meddles).fates 1 (move_steps found)).broken found
-          (effect_of (course_of stop meddles).fates found) came result c.says moved plain told in
-          let m = made_as stop _ found _ moved in
-          let is = invited_made role d nonce found m.moved plain in
-          let kk = invited_keeps pair which role nonce new.digest.bytes between.away d (made_if m.moved found) keeps is in
-          let sum = subst (λ (x : List (List ℕ)). new.kept ≡ within_64 (sum_by length x)) (sym same_issued) (same_kept ∙ fits.kept) in
-          let s = side_then GivesInvited pair which role d stop meddles found new came between.away (made_if m.moved found) m.is c w.0
-          (invited_fits nonce d (made_if m.moved found) size is) (same_position ∙ sym kk.1) kk.0 sum in
-          ok_match _ _ result t.said t.is (record {
-            fits = s.fits;
-            between = counted;
-            both = λ other committed.
-                (λ j. record {
-                  first = record { role = s.role_is j; at = s.at_is j; issued = same_issued j };
-                  second = other;
-                  away = sym (kk.2 (brought_to digests_move i d meddles stop (move_steps found))) j;
-                  tickets = between.tickets.items;
-                  committed = committed;
-                })
-                ∙ sym (affected_is role (brought_to digests_move i d meddles stop (move_steps found)) old.issued.items between.tickets.items
-                other between.away committed (made_if m.moved found))
-                ∙ ap (λ e. affected_if digests_move (record {
-                  first =
-                      record { role = role; at = brought_to digests_move i d meddles stop (move_steps found); issued = old.issued.items };
-                  second = other;
-                  away = between.away;
-                  tickets = between.tickets.items;
-                  committed = committed;
-                }) e) (sym m.is) ∙ sym (t.both _ tt);
-            says = λ other committed. t.says _ tt;
-            issued = omega (arith, ap length same_issued);
-            tickets = omega arith;
-            counts = stays_within old.position between.away new.position between.away same_position refl;
-          })
-      | inr w' ↦
-          let r = wanted i d stop meddles mid.platform new.platform came w' in
-          err_match _ _ result (subst (λ (c : Result Invited MoveRefusal). InvitedAs stop c result) w'.says told)
-          (lacks_side pair which old new between between r.value formed fits (w'.cell ∙ ap (λ (s : Standing). s.cell) k.platform) r.is
-          w'.quiet same_position (keeps_equal pair which role new.digest.bytes d keeps) same_issued same_kept refl refl refl)
-    ]
+-- a move with what an offer names
+
+pub tried : {A : Type 0} (finds : Link → List ℕ → List ℕ → Result (Ready A) MoveRefusal) (stop : Stop) (meddles : List Meddle)
+    (offered : Option (List ℕ)) (old new : Standing) (came : Result A MoveRefusal) (called link : Link) (lent bytes : List ℕ)
+    → called ≡ link → lent ≡ bytes → Some bytes ≡ offered → MovesPlanned (finds called lent) stop meddles old new came
+    → Tried (finds link) stop meddles offered old new (Ok (Some came))
+tried finds stop meddles offered old new came called link lent bytes same are names planned =
+    subst (λ (x : Option (List ℕ)). Tried (finds link) stop meddles x old new (Ok (Some came))) names
+    (subst (λ (l : Link). MovesPlanned (finds l bytes) stop meddles old new came) same
+    (subst (λ (b : List ℕ). MovesPlanned (finds called b) stop meddles old new came) are planned))
+
+pub record Named {A : Type 0} (finds : List ℕ → List ℕ → Result (Ready A) MoveRefusal) (stop : Stop) (meddles : List Meddle)
+    (offered : Option (List ℕ)) (old new : Standing) (came : Result A MoveRefusal) : Type 0 where
+  pub bytes : List ℕ
+  pub names : offered ≡ Some bytes
+  pub planned : MovesPlanned (finds bytes) stop meddles old new came
+
+-- by the list that was lent, and by what came
+module _ {A : Type 0} (finds : List ℕ → List ℕ → Result (Ready A) MoveRefusal) (stop : Stop) (meddles : List Meddle)
+    (xs lent : List (List ℕ)) (offer : Offer) (old new : Standing) (field : Option (Result A MoveRefusal)) (same : lent ≡ xs)
+    (tries : Tried finds stop meddles (offered_bytes lent offer) old new (Ok field)) where
+  tries_by : (x : Option (Result A MoveRefusal)) → field ≡ x → Tried finds stop meddles (offered_bytes xs offer) old new (Ok x)
+  tries_by x is = subst (λ (y : Option (Result A MoveRefusal)). Tried finds stop meddles (offered_bytes xs offer) old new (Ok y)) is
+      (subst (λ (l : List (List ℕ)). Tried finds stop meddles (offered_bytes l offer) old new (Ok field)) same tries)
+
+  -- the offer named nothing
+  pub nothing_named : field ≡ None → (offered_bytes xs offer ≡ None) × (new ≡ old)
+  nothing_named is = by_offer (offered_bytes xs offer) (tries_by None is)
+    where
+      by_offer : (offered : Option (List ℕ)) → Tried finds stop meddles offered old new (Ok None) → (offered ≡ None) × (new ≡ old)
+      by_offer None h = (refl, h)
+      by_offer (Some bytes) h = absurd h
+
+  -- and what it named
+  pub named_by : (came : Result A MoveRefusal) → field ≡ Some came → Named finds stop meddles (offered_bytes xs offer) old new came
+  named_by came is = by_offer (offered_bytes xs offer) (tries_by (Some came) is)
+    where
+      by_offer : (offered : Option (List ℕ)) → Tried finds stop meddles offered old new (Ok (Some came))
+          → Named finds stop meddles offered old new came
+      by_offer None h = absurd h
+      by_offer (Some bytes) h = record { bytes = bytes; names = refl; planned = h }

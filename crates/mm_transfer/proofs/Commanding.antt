@@ -1,202 +1,19 @@
--- A side and its cell, and what a move that was found makes of them.
-use Rattle.mm_transfer.proofs.Below.{◌≡◌, ℕ, Bool, true, false, List, [], length, Option, None, Some, Result, Ok, Err, refl, sym, ap, ◌∙◌}
-use Rattle.mm_transfer.proofs.Below.{subst, ◌==◌, ◌&&◌, is_some, if◌then◌else◌, sum_by, Variant, Meaning, StepFault, Meddle, Stop, Standing}
-use Rattle.mm_transfer.proofs.Below.{fault_at, is_made_at, Instance, Digests, register_reads, Reads, End, Done, Fails, walk, after_step}
-use Rattle.mm_transfer.proofs.Below.{end_of, instance_by, course_of, takes_effect, digest_in, value_in, Stands, IsQuiet, register_at}
-use Rattle.mm_transfer.proofs.Below.{stopped_at, digests_are, Ready, MoveRefusal, IsWaiting, waiting_spelling, barrier_of, waiting_for}
-use Rattle.mm_transfer.proofs.Below.{three, length-zero_bytes, Role, Blank, Live, Waits, Left, Effect, Which, Pair, instance_on, key_of}
-use Rattle.mm_transfer.proofs.Below.{digests_move, MoveCause, FoundMove, move_steps, is_moved, effect_if, effect_of, brought_to, CodeSide}
-use Rattle.mm_transfer.proofs.Below.{link_of, role_of, role_in, at_by, at_in, waiting_on, StandsAs, within_64, FitsSide, written_if}
-use Rattle.mm_transfer.proofs.Below.{ended_as, MakesMove, moves_at, waiting_at, retired_at, cell_of_role, refusal_of, next_if, Matches}
-use Rattle.mm_transfer.proofs.Below.{FitsRole, FitsCell}
-use Rattle.mm_digest.specs.declared.variant.Variant.TheVariants as variants
+-- What a move that was found makes of a side's cell, and what it gives; where the side stands then.
+use Rattle.mm_transfer.proofs.Below.{◌≡◌, ℕ, Bool, true, false, List, [], Option, None, Some, Result, Ok, Err, refl, sym, ap, ◌∙◌, subst}
+use Rattle.mm_transfer.proofs.Below.{◌==◌, ◌&&◌, is_some, if◌then◌else◌, StepFault, Meddle, Stop, Standing, fault_at, is_made_at, Instance}
+use Rattle.mm_transfer.proofs.Below.{Digests, register_reads, Reads, End, Done, Fails, walk, after_step, end_of, course_of, takes_effect}
+use Rattle.mm_transfer.proofs.Below.{IsQuiet, stopped_at, Ready, MoveRefusal, Role, Effect, digests_move, MoveCause, FoundMove, move_steps}
+use Rattle.mm_transfer.proofs.Below.{is_moved, effect_if, effect_of, brought_to, written_if, ended_as, MakesMove, moves_at, cell_of_role}
+use Rattle.mm_transfer.proofs.Below.{refusal_of, next_if, Matches, Memory, MoveReply, Denied, Refused, reply_said, RefusedAs, has_moved}
+use Rattle.mm_transfer.proofs.Below.{FitsEffect, FitsLive, IsSaid, length, sum_by, by_digests, all_made, Invites, Leaves, Enters}
+use Rattle.mm_transfer.proofs.Below.{role_after, Which, Pair, instance_on, Side, stopped_moves, affected_if, any_value, found_outer}
+use Rattle.mm_transfer.proofs.Below.{stopped_outer, CodeSide, link_of, within_64, FitsRole, FitsCell, ◌≤◌, Both}
 use Rattle.mm_model.specs.declared.refusal.Refusal.TheVariants as core
 use Rattle.mm_move.specs.declared.refusal.MoveRefusal.TheVariants as refusal
-use Rattle.mm_move.specs.Cells.{retired_spelling}
 use Rattle.mm_transfer.specs.RoleCells.{cell_after}
-use Rattle.mm_transfer.proofs.SideCells.{read_as, role_read, is_waiting}
-
--- an instance by its variant
-
-linked_by : (variant : Variant) (meaning : Meaning) (key barrier link : List ℕ)
-    → barrier_of (instance_by variant meaning key barrier).variant (record { key = link; barrier = barrier })
-    ≡ (instance_by variant meaning key barrier).barrier
-linked_by variants.Basic meaning key barrier link = refl
-linked_by variants.Opt meaning key barrier link = refl
-
-waits_by : (variant : Variant) (meaning : Meaning) (key barrier link nonce : List ℕ)
-    → waiting_for (record { key = link; barrier = barrier }) variant meaning.id nonce key ≡ waiting_at
-    (instance_by variant meaning key barrier) nonce
-waits_by variants.Basic meaning key barrier link nonce = refl
-waits_by variants.Opt meaning key barrier link nonce = refl
-
-pub variant_by : (variant : Variant) (meaning : Meaning) (key barrier : List ℕ)
-    → (instance_by variant meaning key barrier).variant ≡ variant
-variant_by variants.Basic meaning key barrier = refl
-variant_by variants.Opt meaning key barrier = refl
-
-pub meaning_by : (variant : Variant) (meaning : Meaning) (key barrier : List ℕ)
-    → (instance_by variant meaning key barrier).meaning ≡ meaning
-meaning_by variants.Basic meaning key barrier = refl
-meaning_by variants.Opt meaning key barrier = refl
-
-pub key_by : (variant : Variant) (meaning : Meaning) (key barrier : List ℕ) → (instance_by variant meaning key barrier).key ≡ key
-key_by variants.Basic meaning key barrier = refl
-key_by variants.Opt meaning key barrier = refl
-
-barrier_by : (variant : Variant) (meaning : Meaning) (key barrier : List ℕ) → length barrier ≡ 32
-    → length (instance_by variant meaning key barrier).barrier ≡ 32
-barrier_by variants.Basic meaning key barrier e = length-zero_bytes
-barrier_by variants.Opt meaning key barrier e = e
-
--- keys and barriers of 32 bytes
-pub record IsFormed (pair : Pair) (which : Which) : Type 0 where
-  pub key : length (key_of pair which) ≡ 32
-  pub barrier : length pair.barrier ≡ 32
-
-same_waiting_on : (pair : Pair) (which : Which) (nonce : List ℕ) → waiting_on pair which nonce ≡ waiting_at (instance_on pair which) nonce
-same_waiting_on pair which nonce = waits_by pair.variant pair.meaning (key_of pair which) pair.barrier pair.link nonce
-
--- what a side's fields keep, by its role
-
-module _ (pair : Pair) (which : Which) where
-  cell_fits : (role : Role) (d : Digests) → IsFormed pair which → FitsRole (instance_on pair which) role d
-      → FitsCell (instance_on pair which) (link_of pair) role d
-  cell_fits role d formed fits = record {
-    key = ap length (key_by pair.variant pair.meaning (key_of pair which) pair.barrier) ∙ formed.key;
-    barrier = barrier_by pair.variant pair.meaning (key_of pair which) pair.barrier formed.barrier;
-    linked = linked_by pair.variant pair.meaning (key_of pair which) pair.barrier pair.link;
-    fits = fits;
-  }
-
-  role_fits : (role : Role) (standing : Standing) (kept : List ℕ) (position : ℕ)
-      → StandsAs pair which role standing (at_by role standing kept position)
-      → FitsRole (instance_on pair which) role (at_by role standing kept position)
-  role_fits Blank standing kept position s = refl
-  role_fits Live standing kept position s = (s.at.spells.variant, s.at.spells.summary)
-  role_fits (Waits nonce) standing kept position s = (refl, s.0.nonce)
-  role_fits (Left nonce) standing kept position s = (refl, s.0.nonce, s.0.summary)
-
-  cell_is : (role : Role) (standing : Standing) (d : Digests) → StandsAs pair which role standing d
-      → standing.cell ≡ Some (cell_of_role (instance_on pair which) role d)
-  cell_is Blank standing d s = s.cell
-  cell_is Live standing d s = s.at.cell
-  cell_is (Waits nonce) standing d s = s.1.cell ∙ ap (λ c. Some (waiting_spelling c)) (same_waiting_on pair which nonce)
-  cell_is (Left nonce) standing d s = s.1.cell
-
-  register_is : (role : Role) (standing : Standing) (d : Digests) → StandsAs pair which role standing d
-      → register_reads standing ≡ Some d.register
-  register_is Blank standing d s = s.register
-  register_is Live standing d s = s.register
-  register_is (Waits nonce) standing d s = s.1.register
-  register_is (Left nonce) standing d s = s.1.register
-
-  -- and back: a platform with such a cell stands there
-  role_back : (role : Role) (d : Digests) → role_of (read_as (instance_on pair which) role d) ≡ role
-  role_back (Waits nonce) d = refl
-  role_back _ d = refl
-
-  stands_as : (role : Role) (standing : Standing) (d : Digests) → FitsCell (instance_on pair which) (link_of pair) role d
-      → standing.cell ≡ Some (cell_of_role (instance_on pair which) role d) → register_reads standing ≡ Some d.register
-      → StandsAs pair which role standing d
-  stands_as Blank standing d fit cell register = record { cell = cell; register = register }
-  stands_as Live standing d fit cell register = record {
-    at = record {
-      spells = record { summary = fit.fits.1; key = fit.key; barrier = fit.barrier; variant = fit.fits.0 };
-      cell = cell;
-      reads = register_at (instance_on pair which).variant (register_reads standing) d.register register;
-    };
-    register = register;
-  }
-  stands_as (Waits nonce) standing d fit cell register = (
-    subst IsWaiting (sym (same_waiting_on pair which nonce))
-        (is_waiting (instance_on pair which) (link_of pair) nonce fit.key fit.barrier fit.linked fit.fits.1),
-    record { cell = cell ∙ ap (λ c. Some (waiting_spelling c)) (sym (same_waiting_on pair which nonce)); register = register },
-  )
-  stands_as (Left nonce) standing d fit cell register = (
-    record { summary = fit.fits.2; key = fit.key; nonce = fit.fits.1 },
-    record { cell = cell; register = register },
-  )
-
-  -- what is kept of the digest, where the cell has none
-  abbrev pub KeepsFor : Role → List ℕ → Digests → Type 0
-  KeepsFor Blank kept d = kept ≡ d.digest
-  KeepsFor Live kept d = Unit {0}
-  KeepsFor (Waits nonce) kept d = kept ≡ d.digest
-  KeepsFor (Left nonce) kept d = Unit {0}
-
-left_digest : (i : Instance) (d : Digests) (nonce : List ℕ) → length d.digest ≡ 32 → length i.key ≡ 32 → length nonce ≡ 32
-    → digest_in (Some (retired_spelling (retired_at i d nonce))) ≡ d.digest
-unfolding retired_spelling
-left_digest i d nonce a b c = (three d.digest i.key nonce a b c).first
-
-at_back : (pair : Pair) (which : Which) (role : Role) (standing : Standing) (kept : List ℕ) (position : ℕ) (d : Digests)
-    → FitsCell (instance_on pair which) (link_of pair) role d → standing.cell ≡ Some (cell_of_role (instance_on pair which) role d)
-    → register_reads standing ≡ Some d.register → position ≡ d.count → KeepsFor pair which role kept d
-    → at_by role standing kept position ≡ d
-at_back pair which Blank standing kept position d fit cell register count keeps = λ j. record {
-  digest = keeps j;
-  flag = sym fit.fits j;
-  register = ap value_in register j;
-  count = count j;
-}
-at_back pair which Live standing kept position d fit cell register count keeps =
-    let s : Stands (instance_on pair which) standing d = stands_as pair which Live standing d fit cell register in
-    digests_are (instance_on pair which) d standing position s ∙ (λ j. record d { count = count j })
-at_back pair which (Waits nonce) standing kept position d fit cell register count keeps = λ j. record {
-  digest = keeps j;
-  flag = sym fit.fits.0 j;
-  register = ap value_in register j;
-  count = count j;
-}
-at_back pair which (Left nonce) standing kept position d fit cell register count keeps =
-    let digest : digest_in standing.cell ≡ d.digest =
-    ap digest_in cell ∙ left_digest (instance_on pair which) d nonce fit.fits.2 fit.key fit.fits.1 in λ j. record {
-      digest = digest j;
-      flag = sym fit.fits.0 j;
-      register = ap value_in register j;
-      count = count j;
-    }
-
--- a side that stands so fits, and is so
-pub record IsSide (pair : Pair) (which : Which) (role : Role) (d : Digests) (side : CodeSide) : Type 0 where
-  pub fits : FitsSide pair which side
-  pub role_is : role_in side.platform.cell ≡ role
-  pub at_is : at_in side ≡ d
-
-pub side_is : (pair : Pair) (which : Which) (role : Role) (d : Digests) (side : CodeSide) → FitsCell (instance_on pair which)
-    (link_of pair) role d → side.platform.cell ≡ Some (cell_of_role (instance_on pair which) role d)
-    → register_reads side.platform ≡ Some d.register → IsQuiet side.platform → side.position ≡ d.count
-    → KeepsFor pair which role side.digest.bytes d → side.kept ≡ within_64 (sum_by length side.issued.items) → IsSide pair which role d side
-side_is pair which role d side fit cell register quiet count keeps kept =
-    let is : role_in side.platform.cell ≡ role =
-    ap role_in cell ∙ ap role_of (role_read (instance_on pair which) (link_of pair) role d fit) ∙ role_back pair which role d in
-    let at : at_in side ≡ d =
-    ap (λ r. at_by r side.platform side.digest.bytes side.position) is
-    ∙ at_back pair which role side.platform side.digest.bytes side.position d fit cell register count keeps in
-    let stands = stands_as pair which role side.platform d fit cell register in
-    record {
-      fits = record {
-        stands =
-            subst (λ r. StandsAs pair which r side.platform (at_in side)) (sym is)
-            (subst (λ (x : Digests). StandsAs pair which role side.platform x) (sym at) stands);
-        quiet = quiet;
-        kept = kept;
-      };
-      role_is = is;
-      at_is = at;
-    }
-
-pub side_was : (pair : Pair) (which : Which) (side : CodeSide) → IsFormed pair which → FitsSide pair which side
-    → FitsCell (instance_on pair which) (link_of pair) (role_in side.platform.cell) (at_in side)
-    × (side.platform.cell ≡ Some (cell_of_role (instance_on pair which) (role_in side.platform.cell) (at_in side)))
-    × (register_reads side.platform ≡ Some (at_in side).register)
-side_was pair which side formed fits =
-    let role = role_in side.platform.cell in (
-      cell_fits pair which role (at_in side) formed (role_fits pair which role side.platform side.digest.bytes side.position fits.stands),
-      cell_is pair which role side.platform (at_in side) fits.stands,
-      register_is pair which role side.platform (at_in side) fits.stands,
-    )
+use Rattle.mm_transfer.proofs.SideCells.{fits_linked, cell_reading, fits_reading}
+use Rattle.mm_transfer.proofs.SideStands.{KeepsFor, keeps_reading, IsSide, side_is}
+use Rattle.mm_transfer.proofs.SideEvents.{outer_digests}
 
 -- what a move that was found makes of the cell, and what it gives
 
@@ -210,9 +27,16 @@ CameAs gives (Some fault) found came = came ≡ Err (refusal.Core (core.Device f
 CameAs gives None (Err cause) came = came ≡ Err (refusal_of cause)
 CameAs {A} gives None (Ok found) came = (answer : A) × (came ≡ Ok answer) × gives found answer
 
-abbrev pub Gave : {A : Type 0} → (FoundMove → A → Type 0) → Result FoundMove MoveCause → Type 0
-Gave {A} gives (Ok found) = (answer : A) × gives found answer
-Gave gives (Err cause) = Unit {0}
+-- What is known of a move that was found, whether it was broken off or not.
+pub record Knows {A : Type 0} (gives : FoundMove → A → Type 0) (role : Role) (d : Digests) (found : FoundMove) : Type 0 where
+  pub answer : A
+  pub gave : gives found answer
+  pub fits : FitsEffect d found.effect
+  pub live : FitsLive role found.again found.effect
+
+abbrev pub KnowsOf : {A : Type 0} → (FoundMove → A → Type 0) → Role → Digests → Result FoundMove MoveCause → Type 0
+KnowsOf gives role d (Ok found) = Knows gives role d found
+KnowsOf gives role d (Err cause) = IsSaid cause
 
 pub record Came {A : Type 0} (gives : FoundMove → A → Type 0) (i : Instance) (role : Role) (d : Digests) (stop : Stop)
     (meddles : List Meddle)
@@ -221,7 +45,7 @@ pub record Came {A : Type 0} (gives : FoundMove → A → Type 0) (i : Instance)
   pub register : register_reads new ≡ Some (brought_to digests_move i d meddles stop (move_steps found)).register
   pub quiet : IsQuiet new
   pub says : CameAs gives (walk (course_of stop meddles).fates 1 (move_steps found)).broken found came
-  pub gave : Gave gives found
+  pub knows : KnowsOf gives role d found
 
 module _ {A : Type 0} (gives : FoundMove → A → Type 0) (i : Instance) (role : Role) (d : Digests) (stop : Stop) (meddles : List Meddle)
     (new : Standing) (came : Result A MoveRefusal) where
@@ -241,10 +65,10 @@ module _ {A : Type 0} (gives : FoundMove → A → Type 0) (i : Instance) (role 
   written_cell false effect = refl
 
   found_by : (again : Bool) (effect : Effect) (next : Option (List ℕ)) (answer : A) → next ≡ next_if again (cell_after i d effect)
-      → gives (record { again = again; effect = effect }) answer
+      → gives (record { again = again; effect = effect }) answer → FitsEffect d effect → FitsLive role again effect
       → MakesMove i d stop meddles (cell_of_role i role d) (Ok (record { next = next; answer = answer })) new came
       → Came gives i role d stop meddles (Ok (record { again = again; effect = effect })) new came
-  found_by true effect next answer is g made =
+  found_by true effect next answer is g fits live made =
       let m : MakesMove i d stop meddles (cell_of_role i role d) (Ok (record { next = None; answer = answer })) new came =
       subst (λ (n : Option (List ℕ)). MakesMove i d stop meddles (cell_of_role i role d) (Ok (record { next = n; answer = answer })) new
       came) is made in
@@ -253,9 +77,9 @@ module _ {A : Type 0} (gives : FoundMove → A → Type 0) (i : Instance) (role 
         register = m.register;
         quiet = m.quiet;
         says = found_came (record { again = true; effect = effect }) None answer _ m.says g;
-        gave = (answer, g);
+        knows = record { answer = answer; gave = g; fits = fits; live = live };
       }
-  found_by false effect next answer is g made =
+  found_by false effect next answer is g fits live made =
       let after : List ℕ = cell_after i d effect in
       let fates = (course_of stop meddles).fates in
       let m : MakesMove i d stop meddles (cell_of_role i role d) (Ok (record { next = Some after; answer = answer })) new came =
@@ -266,18 +90,34 @@ module _ {A : Type 0} (gives : FoundMove → A → Type 0) (i : Instance) (role 
         register = m.register;
         quiet = m.quiet;
         says = found_came (record { again = false; effect = effect }) (Some after) answer _ m.says g;
-        gave = (answer, g);
+        knows = record { answer = answer; gave = g; fits = fits; live = live };
       }
 
-  pub came_by : (expected : Result (Ready A) MoveRefusal) (found : Result FoundMove MoveCause) → Matches gives i d expected found
+  pub came_by : (expected : Result (Ready A) MoveRefusal) (found : Result FoundMove MoveCause) → Matches gives i role d expected found
       → MakesMove i d stop meddles (cell_of_role i role d) expected new came → Came gives i role d stop meddles found new came
   came_by (Err why) (Err cause) match made =
       let m : MakesMove i d stop meddles (cell_of_role i role d) (Err (refusal_of cause)) new came =
-      subst (λ (w : MoveRefusal). MakesMove {A = A} i d stop meddles (cell_of_role i role d) (Err w) new came) match made in
-      record { cell = m.cell; register = m.register; quiet = m.quiet; says = refused_came cause _ m.says; gave = tt }
+      subst (λ (w : MoveRefusal). MakesMove {A = A} i d stop meddles (cell_of_role i role d) (Err w) new came) match.0 made in
+      record { cell = m.cell; register = m.register; quiet = m.quiet; says = refused_came cause _ m.says; knows = match.1 }
   came_by (Err why) (Ok found) match made = absurd match
   came_by (Ok ready) (Err cause) match made = absurd match
-  came_by (Ok ready) (Ok found) match made = found_by found.again found.effect ready.next ready.answer match.next match.answer made
+  came_by (Ok ready) (Ok found) match made =
+      found_by found.again found.effect ready.next ready.answer match.next match.answer match.fits match.live made
+
+-- how a cause is told
+
+pub said_cause : (stop : Stop) (cause : MoveCause) (result : Result MoveReply Memory) → IsSaid cause
+    → RefusedAs stop (refusal_of cause) result → result ≡ Ok (reply_said (Denied cause))
+said_cause stop (Refused core.Memory) result is e = absurd is
+said_cause stop (Refused (core.Device fault)) result is e = absurd is
+said_cause stop (Refused core.Lost) result is e = e
+said_cause stop _ result is e = e
+
+pub never_moved : (stop : Stop) (cause : MoveCause) → IsSaid cause → has_moved stop (refusal_of cause) ≡ false
+never_moved stop (Refused core.Memory) is = absurd is
+never_moved stop (Refused (core.Device fault)) is = absurd is
+never_moved stop (Refused core.Lost) is = refl
+never_moved stop _ is = refl
 
 -- which effect a move had, by how it was stopped
 
@@ -334,3 +174,137 @@ moved_by stop meddles (Ok found) = moved_found found.again found.effect
         (λ moved. refl)
     moved_found false effect =
         two_moved stop _ _ (end_of (fault_at stop 1) (is_made_at stop 1)) (end_of (fault_at stop 2) (is_made_at stop 2)) effect refl refl
+
+-- others change the register alone
+
+pub brought_digests : (i : Instance) (d : Digests) (stop : Stop) (meddles : List Meddle) (found : Result FoundMove MoveCause)
+    → brought_to digests_move i d meddles stop (move_steps found)
+    ≡ record d { register = (brought_to digests_move i d meddles stop (move_steps found)).register }
+brought_digests i d stop meddles found =
+    let P : List ℕ → Type 0 = λ v. Unit {0} in
+    let fates = (course_of stop meddles).fates in
+    let walked = walk fates 1 (move_steps found) in
+    let z : Digests = all_made (by_digests i) d walked.moves in
+    let end : Digests = all_made (by_digests i) z (stopped_moves stop walked.broken) in
+    outer_digests P i (stopped_moves stop walked.broken) z (stopped_outer P stop walked.broken)
+    ∙ ap (λ (x : Digests). record x { register = end.register })
+    (outer_digests P i walked.moves d (found_outer P fates found (λ n. any_value (fates n).brings)))
+
+-- what an effect makes of a side, and of what is kept of where the module left
+
+abbrev pub role_then : Role → Option Effect → Role
+role_then role None = role
+role_then role (Some effect) = role_after effect
+
+abbrev pub at_then : ℕ → Digests → Option Effect → Digests
+at_then away d (Some (Enters ticket)) = digests_move.enters d away ticket.content
+at_then away d effect = d
+
+abbrev pub away_then : ℕ → Digests → Option Effect → ℕ
+away_then away d (Some (Leaves ticket)) = d.count
+away_then away d effect = away
+
+-- both sides, of which the first is so
+abbrev pub both_of : (role : Role) (at : Digests) (issued tickets : List (List ℕ)) (other : Side Digests) (away committed : ℕ)
+    → Both Digests ℕ
+both_of role at issued tickets other away committed = record {
+  first = record { role = role; at = at; issued = issued };
+  second = other;
+  away = away;
+  tickets = tickets;
+  committed = committed;
+}
+
+pub affected_is : (role : Role) (at : Digests) (issued tickets : List (List ℕ)) (other : Side Digests) (away committed : ℕ)
+    (effect : Option Effect) → affected_if digests_move (both_of role at issued tickets other away committed) effect
+    ≡ both_of (role_then role effect) (at_then away at effect) issued tickets other (away_then away at effect) committed
+affected_is role at issued tickets other away committed (Some (Invites nonce)) = refl
+affected_is role at issued tickets other away committed _ = refl
+
+-- no count is greater than the greater of both was
+pub within_then : (d : Digests) (away most : ℕ) (effect : Option Effect) → d.count ≤ most → away ≤ most
+    → ((at_then away d effect).count ≤ most) × (away_then away d effect ≤ most)
+within_then d away most (Some (Enters ticket)) p q = (q, q)
+within_then d away most (Some (Leaves ticket)) p q = (p, p)
+within_then d away most _ p q = (p, q)
+
+-- a side with another value in its register
+abbrev reading : Digests → List ℕ → Digests
+reading d register = record d { register = register }
+
+cell_then : (i : Instance) (role : Role) (d : Digests) (register : List ℕ) (away : ℕ) (effect : Option Effect)
+    → cell_if i role d effect ≡ cell_of_role i (role_then role effect) (at_then away (reading d register) effect)
+cell_then i role d register away None = cell_reading i role d register
+cell_then i role d register away (Some (Invites nonce)) = refl
+cell_then i role d register away _ = refl
+
+abbrev pub FitsThen : Digests → Option Effect → Type 0
+FitsThen d None = Unit {0}
+FitsThen d (Some effect) = FitsEffect d effect
+
+fits_then : (pair : Pair) (which : Which) (role : Role) (d : Digests) (register : List ℕ) (away : ℕ) (effect : Option Effect)
+    → FitsCell (instance_on pair which) (link_of pair) role d → FitsThen d effect
+    → FitsRole (instance_on pair which) (role_then role effect) (at_then away (reading d register) effect)
+fits_then pair which role d register away None fit is = fits_reading (instance_on pair which) role d register fit.fits
+fits_then pair which role d register away (Some (Invites nonce)) fit is = is
+fits_then pair which role d register away (Some (Leaves ticket)) fit is = is
+fits_then pair which role d register away (Some (Enters ticket)) fit is =
+    (fits_linked (instance_on pair which).variant (instance_on pair which).barrier (link_of pair) fit.linked, is)
+
+register_then : (d : Digests) (away : ℕ) (effect : Option Effect) → d.register ≡ (at_then away d effect).register
+register_then d away (Some (Invites nonce)) = refl
+register_then d away _ = refl
+
+-- whatever the register, a side comes to the same digest and count, and as much is kept of where the module left
+pub record SameThen (away : ℕ) (d x : Digests) (effect : Option Effect) : Type 0 where
+  pub digest : (at_then away x effect).digest ≡ (at_then away d effect).digest
+  pub count : (at_then away d effect).count ≡ (at_then away x effect).count
+  pub away_is : away_then away d effect ≡ away_then away x effect
+
+same_then : (away : ℕ) (d : Digests) (register : List ℕ) (effect : Option Effect) → SameThen away d (reading d register) effect
+same_then away d register (Some (Invites nonce)) = record { digest = refl; count = refl; away_is = refl }
+same_then away d register _ = record { digest = refl; count = refl; away_is = refl }
+
+pub brought_then : (i : Instance) (d : Digests) (stop : Stop) (meddles : List Meddle) (found : Result FoundMove MoveCause) (away : ℕ)
+    (effect : Option Effect) → SameThen away d (brought_to digests_move i d meddles stop (move_steps found)) effect
+brought_then i d stop meddles found away effect =
+    let brought : Digests = brought_to digests_move i d meddles stop (move_steps found) in
+    subst (λ (x : Digests). SameThen away d x effect) (sym (brought_digests i d stop meddles found))
+    (same_then away d brought.register effect)
+
+-- a side whose move came to its effect
+pub side_then : {A : Type 0} (gives : FoundMove → A → Type 0) (pair : Pair) (which : Which) (role : Role) (d : Digests) (stop : Stop)
+    (meddles : List Meddle) (found : Result FoundMove MoveCause) (new : CodeSide) (came : Result A MoveRefusal) (away : ℕ)
+    → (let effect = effect_of (course_of stop meddles).fates found in
+    Came gives (instance_on pair which) role d stop meddles found new.platform came
+    → FitsCell (instance_on pair which) (link_of pair) role d → FitsThen d effect → new.position ≡ (at_then away d effect).count
+    → KeepsFor (role_then role effect) new.digest.bytes (at_then away d effect)
+    → new.kept ≡ within_64 (sum_by length new.issued.items) → IsSide pair which (role_then role effect)
+    (at_then away (brought_to digests_move (instance_on pair which) d meddles stop (move_steps found)) effect) new)
+side_then gives pair which role d stop meddles found new came away c fit fits count keeps kept =
+    let i = instance_on pair which in
+    let effect = effect_of (course_of stop meddles).fates found in
+    let brought : Digests = brought_to digests_move i d meddles stop (move_steps found) in
+    let register : List ℕ = brought.register in
+    let to : reading d register ≡ brought = sym (brought_digests i d stop meddles found) in
+    let here : IsSide pair which (role_then role effect) (at_then away (reading d register) effect) new =
+    side_is pair which (role_then role effect) (at_then away (reading d register) effect) new (record {
+      fits =
+          record {
+            key = fit.key;
+            barrier = fit.barrier;
+            linked = fit.linked;
+            fits = fits_then pair which role d register away effect fit
+                fits;
+          };
+      cell = c.cell ∙ ap Some (cell_then i role d register away effect);
+      register = c.register ∙ ap Some (register_then (reading d register) away effect);
+    }) c.quiet (count ∙ (same_then away d register effect).count) (keeps_then role d register away effect new.digest.bytes keeps) kept in
+    subst (λ (x : Digests). IsSide pair which (role_then role effect) (at_then away x effect) new) to here
+  where
+    keeps_then : (role : Role) (d : Digests) (register : List ℕ) (away : ℕ) (effect : Option Effect) (kept : List ℕ)
+        → KeepsFor (role_then role effect) kept (at_then away d effect)
+        → KeepsFor (role_then role effect) kept (at_then away (reading d register) effect)
+    keeps_then role d register away None kept k = keeps_reading role d register kept k
+    keeps_then role d register away (Some (Invites nonce)) kept k = k
+    keeps_then role d register away _ kept k = k

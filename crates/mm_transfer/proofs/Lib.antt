@@ -1,5 +1,4 @@
 mod Below
-mod VainEvents
 mod SideStands
 mod SideEvents
 mod Telling
@@ -8,11 +7,6 @@ mod Matching
 mod Planning
 mod Commanding
 mod Acting
-mod Plainly
-mod Sidewise
 mod Commanded
-mod Formed
-mod Leaving
 mod Retiring
-mod Entering
 mod Accepting

@@ -7,10 +7,10 @@ use Rattle.mm_transfer.proofs.Below.{Link, MoveRefusal, IsWaiting, moved_of, wai
 use Rattle.mm_transfer.proofs.Below.{is_other, waiting_for, same_waiting, invites_in, stands_at, ticket_for, accepted_as, offer_by}
 use Rattle.mm_transfer.proofs.Below.{leaves_by, retires_in, arrives_by, has_arrived_by, accepts_in, refuse_if, TicketContent, TaggedTicket}
 use Rattle.mm_transfer.proofs.Below.{IsTicket, SpellsTicket, summary_in, place_at, sealed_ticket, ticket_of, bytes_are, bytes_tell}
-use Rattle.mm_transfer.proofs.Below.{moved_back, tickets_are_read, Role, Blank, Live, Waits, Left, Enters, digests_move, Refused, Open}
+use Rattle.mm_transfer.proofs.Below.{moved_back, tickets_are_read, Blank, Live, Waits, Left, Enters, digests_move, Refused, Open}
 use Rattle.mm_transfer.proofs.Below.{Gone, stands_here, verdict_here, invited_on, left_by, offered_to, retired_on, ticket_by, entered_as}
 use Rattle.mm_transfer.proofs.Below.{entered_again, accepted_on, waiting_at, retired_at, cell_of_role, next_if, GivesInvited, GivesTicket}
-use Rattle.mm_transfer.proofs.Below.{GivesEntry, Matches, FitsCell}
+use Rattle.mm_transfer.proofs.Below.{GivesEntry, IsSaid, Matches, FitsCell, IsPlace, is_live, Role}
 use Rattle.mm_digest.specs.declared.digest.Digest.{Digest}
 use Rattle.mm_digest.specs.declared.variant.Variant.TheVariants as variants
 use Rattle.mm_seal.specs.ReadingLaws.{spells_read}
@@ -26,9 +26,7 @@ use Rattle.mm_transfer.proofs.SideCells.{read_as, is_waiting, role_read, no_othe
 
 abbrev waits_nonce : List ℕ → Result MovedCell CellFault → List ℕ
 waits_nonce other (Ok (moved.Waiting cell)) = cell.nonce
-waits_nonce other (Ok (moved.Live cell)) = other
-waits_nonce other (Ok (moved.Retired cell)) = other
-waits_nonce other (Err why) = other
+waits_nonce other read = other
 
 same_nonces : (i : Instance) (one other : List ℕ) → IsWaiting (waiting_at i one) → IsWaiting (waiting_at i other)
     → same_waiting (waiting_at i one) (waiting_at i other) ≡ bytes_eq one other
@@ -52,30 +50,31 @@ next_waiting i link nonce e = λ j. record {
 }
 
 invites : (i : Instance) (link : Link) (role : Role) (d : Digests) (nonce : List ℕ) → FitsCell i link role d → length nonce ≡ 32
-    → Matches GivesInvited i d (invites_in (waiting_at i nonce) (read_as i role d)) (invited_on role nonce)
-invites i link Blank d nonce fit size = record { next = refl; answer = (nonce, refl) }
-invites i link Live d nonce fit size = refl
-invites i link (Left left) d nonce fit size = record { next = refl; answer = (nonce, refl) }
+    → Matches GivesInvited i role d (invites_in (waiting_at i nonce) (read_as i role d)) (invited_on role nonce)
+invites i link Blank d nonce fit size = record { next = refl; answer = tt; fits = (fit.fits, size); live = tt }
+invites i link Live d nonce fit size = (refl, tt)
+invites i link (Left left) d nonce fit size = record { next = refl; answer = tt; fits = (fit.fits.0, size); live = tt }
 invites i link (Waits awaited) d nonce fit size =
-    by_not GivesInvited i d (same_waiting (waiting_at i awaited) (waiting_at i nonce)) (bytes_eq awaited nonce) _ _ _ _
+    by_not GivesInvited i (Waits awaited) d (same_waiting (waiting_at i awaited) (waiting_at i nonce)) (bytes_eq awaited nonce) _ _ _ _
     (same_nonces i awaited nonce (is_waiting i link awaited fit.key fit.barrier fit.linked fit.fits.1)
-    (is_waiting i link nonce fit.key fit.barrier fit.linked size)) (record { next = refl; answer = (nonce, refl) }) refl
+    (is_waiting i link nonce fit.key fit.barrier fit.linked size))
+    (record { next = refl; answer = tt; fits = (fit.fits.0, size); live = tt }) (refl, tt)
 
 pub invites_match : (i : Instance) (link : Link) (role : Role) (d : Digests) (nonce : List ℕ) → FitsCell i link role d → length nonce ≡ 32
-    → Matches GivesInvited i d (invites_in (waiting_for link i.variant i.meaning.id nonce i.key) (moved_of (cell_of_role i role d)))
+    → Matches GivesInvited i role d (invites_in (waiting_for link i.variant i.meaning.id nonce i.key) (moved_of (cell_of_role i role d)))
     (invited_on role nonce)
 invites_match i link role d nonce fit size =
-    subst (λ c. Matches GivesInvited i d (invites_in c (moved_of (cell_of_role i role d))) (invited_on role nonce))
+    subst (λ c. Matches GivesInvited i role d (invites_in c (moved_of (cell_of_role i role d))) (invited_on role nonce))
     (sym (next_waiting i link nonce fit.linked))
-    (subst (λ r. Matches GivesInvited i d (invites_in (waiting_at i nonce) r) (invited_on role nonce)) (sym (role_read i link role d fit))
+    (subst (λ r. Matches GivesInvited i role d (invites_in (waiting_at i nonce) r) (invited_on role nonce)) (sym
+    (role_read i link role d fit))
     (invites i link role d nonce fit size))
 
 -- where an offer stands, by the verdict under a clear flag
 
 new_by : (fresh again : Bool) → is_new (verdict_by false fresh again) ≡ fresh
-new_by true again = refl
 new_by false true = refl
-new_by false false = refl
+new_by _ again = refl
 
 new_at : (barrier digest register : List ℕ) (place : Place) (b : Batch)
     → is_new (verdict_by_digests barrier false digest register place b) ≡ stands_at (digest_of digest) place
@@ -103,57 +102,59 @@ left_content i d nonce content e = λ j. record {
   };
 }
 
-module _ (i : Instance) (link : Link) (d : Digests) (again : Bool) (next : Option (List ℕ)) (nonce : List ℕ) where
+module _ (i : Instance) (link : Link) (role : Role) (d : Digests) (again : Bool) (next : Option (List ℕ)) (nonce : List ℕ)
+    (live : is_live role ≡ not again) (fits : (d.flag ≡ false) × (length nonce ≡ 32) × (length d.digest ≡ 32)) where
   left_match : (content : Content) (spelled tagged fresh : Bool) → next ≡ next_if again (retired_spelling (retired_at i d nonce))
-      → content.id ≡ i.meaning.id → fresh ≡ stands_at (digest_of d.digest) content.place → Matches (GivesTicket link.key) i d
+      → content.id ≡ i.meaning.id → fresh ≡ stands_at (digest_of d.digest) content.place → Matches (GivesTicket link.key) i role d
       (leaves_by i.variant link nonce (digest_of d.digest) next
       (refuse_if (not spelled) (refusal.Core core.State) (refuse_if (not tagged) (refusal.Core core.Tag) (Ok content))))
       (left_by digests_move i d again nonce content (weighed spelled tagged (verdict_here fresh) true))
-  left_match content false tagged fresh n e s = refl
-  left_match content true false fresh n e s = refl
+  left_match content false tagged fresh n e s = (refl, tt)
+  left_match content true false fresh n e s = (refl, tt)
   left_match content true true true n e s =
-      past (GivesTicket link.key) i d (not (stands_at (digest_of d.digest) content.place)) _ _ _ (ap not (sym s))
-      (record { next = n; answer = ap (sealed_ticket link.key) (left_content i d nonce content e) })
+      past (GivesTicket link.key) i role d (not (stands_at (digest_of d.digest) content.place)) _ _ _ (ap not (sym s))
+      (record { next = n; answer = ap (sealed_ticket link.key) (left_content i d nonce content e); fits = fits; live = live })
   left_match content true true false n e s =
-      is_refused (GivesTicket link.key) i d (stands_at (digest_of d.digest) content.place) (refusal.Core core.Stale)
+      is_refused (GivesTicket link.key) i role d (stands_at (digest_of d.digest) content.place) (refusal.Core core.Stale)
       (Ok (record { next = next; answer = sealed_ticket link.key (ticket_for i.variant nonce (digest_of d.digest) content) }))
-      (Refused core.Stale) (sym s) refl
+      (Refused core.Stale) (sym s) (refl, tt)
 
   offer_match : (parts : Result Snapshot PartsFault) → ((snapshot : Snapshot) → parts ≡ Ok snapshot → snapshot.content.id ≡ i.meaning.id)
-      → next ≡ next_if again (retired_spelling (retired_at i d nonce)) → d.flag ≡ false
-      → Matches (GivesTicket link.key) i d (leaves_by i.variant link nonce (digest_of d.digest) next (offer_by i.meaning i.key parts))
+      → next ≡ next_if again (retired_spelling (retired_at i d nonce))
+      → Matches (GivesTicket link.key) i role d (leaves_by i.variant link nonce (digest_of d.digest) next (offer_by i.meaning i.key parts))
       (offered_to digests_move i d again nonce parts)
-  offer_match (Err Form) id n clear = refl
-  offer_match (Err Kind) id n clear = refl
-  offer_match (Ok snapshot) id n clear =
+  offer_match (Err Form) id n = (refl, tt)
+  offer_match (Err Kind) id n = (refl, tt)
+  offer_match (Ok snapshot) id n =
       left_match snapshot.content (i.meaning.is_spelled snapshot.content.state) (bytes_eq snapshot.tag (tag_of i.key snapshot.content))
-      (stands_here (by_digests i) d snapshot.content) n (id snapshot refl) (stands_alike i d snapshot.content clear)
+      (stands_here (by_digests i) d snapshot.content) n (id snapshot refl) (stands_alike i d snapshot.content fits.0)
 
-retires : (i : Instance) (link : Link) (role : Role) (d : Digests) (nonce bytes : List ℕ) → FitsCell i link role d
-    → Matches (GivesTicket link.key) i d (retires_in i.meaning i.variant link nonce bytes (read_as i role d))
+retires : (i : Instance) (link : Link) (role : Role) (d : Digests) (nonce bytes : List ℕ) → FitsCell i link role d → length nonce ≡ 32
+    → Matches (GivesTicket link.key) i role d (retires_in i.meaning i.variant link nonce bytes (read_as i role d))
     (retired_on digests_move i role d nonce bytes)
-retires i link Blank d nonce bytes fit = refl
-retires i link (Waits awaited) d nonce bytes fit = refl
-retires i link Live d nonce bytes fit =
+retires i link Blank d nonce bytes fit size = (refl, tt)
+retires i link (Waits awaited) d nonce bytes fit size = (refl, tt)
+retires i link Live d nonce bytes fit size =
     let gives = GivesTicket link.key in
-    past gives i d (is_other i.variant i.meaning.id i.variant i.meaning.id) _ _ _ (no_other i.variant i.meaning.id)
-    (past gives i d (is_barred i.variant i.barrier link) _ _ _ (not_barred i.variant i.barrier link fit.linked)
-    (by_both gives i d d.flag _ _ _ Open refl (λ clear.
-    offer_match i link d false _ nonce (parts_of i.variant i.meaning.id bytes)
-    (λ snapshot e. (spells_read i.variant i.meaning.id bytes snapshot e).1.1) refl clear)))
-retires i link (Left left) d nonce bytes fit =
+    past gives i Live d (is_other i.variant i.meaning.id i.variant i.meaning.id) _ _ _ (no_other i.variant i.meaning.id)
+    (past gives i Live d (is_barred i.variant i.barrier link) _ _ _ (not_barred i.variant i.barrier link fit.linked)
+    (by_both gives i Live d d.flag _ _ _ Open (refl, tt) (λ clear.
+    offer_match i link Live d false _ nonce refl (clear, size, fit.fits.1) (parts_of i.variant i.meaning.id bytes)
+    (λ snapshot e. (spells_read i.variant i.meaning.id bytes snapshot e).1.1) refl)))
+retires i link (Left left) d nonce bytes fit size =
     let gives = GivesTicket link.key in
-    past gives i d (is_other i.variant i.meaning.id i.variant i.meaning.id) _ _ _ (no_other i.variant i.meaning.id)
-    (by_not gives i d (bytes_eq left nonce) (bytes_eq left nonce) _ _ _ Gone refl
-    (offer_match i link d true _ nonce (parts_of i.variant i.meaning.id bytes)
-    (λ snapshot e. (spells_read i.variant i.meaning.id bytes snapshot e).1.1) refl fit.fits.0) refl)
+    past gives i (Left left) d (is_other i.variant i.meaning.id i.variant i.meaning.id) _ _ _ (no_other i.variant i.meaning.id)
+    (by_not gives i (Left left) d (bytes_eq left nonce) (bytes_eq left nonce) _ _ _ Gone refl
+    (offer_match i link (Left left) d true _ nonce refl (fit.fits.0, size, fit.fits.2) (parts_of i.variant i.meaning.id bytes)
+    (λ snapshot e. (spells_read i.variant i.meaning.id bytes snapshot e).1.1) refl) (refl, tt))
 
 pub retires_match : (i : Instance) (link : Link) (role : Role) (d : Digests) (nonce bytes : List ℕ) → FitsCell i link role d
-    → Matches (GivesTicket link.key) i d (retires_in i.meaning i.variant link nonce bytes (moved_of (cell_of_role i role d)))
+    → length nonce ≡ 32
+    → Matches (GivesTicket link.key) i role d (retires_in i.meaning i.variant link nonce bytes (moved_of (cell_of_role i role d)))
     (retired_on digests_move i role d nonce bytes)
-retires_match i link role d nonce bytes fit =
-    subst (λ r. Matches (GivesTicket link.key) i d (retires_in i.meaning i.variant link nonce bytes r)
-    (retired_on digests_move i role d nonce bytes)) (sym (role_read i link role d fit)) (retires i link role d nonce bytes fit)
+retires_match i link role d nonce bytes fit size =
+    subst (λ r. Matches (GivesTicket link.key) i role d (retires_in i.meaning i.variant link nonce bytes r)
+    (retired_on digests_move i role d nonce bytes)) (sym (role_read i link role d fit)) (retires i link role d nonce bytes fit size)
 
 -- acceptances
 
@@ -165,8 +166,7 @@ by_tests : (spelled tagged : Bool) (ticket : TicketContent)
     → refuse_if (not spelled) (refusal.Core core.State) (refuse_if (not tagged) (refusal.Core core.Tag) (Ok ticket))
     ≡ refused_core (if spelled then (if tagged then Ok ticket else Err core.Tag) else Err core.State)
 by_tests true true ticket = refl
-by_tests true false ticket = refl
-by_tests false tagged ticket = refl
+by_tests _ tagged ticket = refl
 
 same_ticket : (meaning : Meaning) (key : List ℕ) (read : Result TaggedTicket PartsFault)
     → orders.ticket_by meaning key read ≡ refused_core (ticket_by meaning key read)
@@ -182,7 +182,7 @@ pub record IsFor (i : Instance) (ticket : TicketContent) : Type 0 where
 
 abbrev pub AreFor : Instance → Result TicketContent Refusal → Type 0
 AreFor i (Ok ticket) = IsFor i ticket
-AreFor i (Err why) = Unit {0}
+AreFor i (Err why) = IsSaid (Refused why)
 
 for_by : (i : Instance) (tagged : TaggedTicket) (spelled right : Bool) → IsFor i tagged.ticket
     → AreFor i (if spelled then (if right then Ok tagged.ticket else Err core.Tag) else Err core.State)
@@ -220,12 +220,22 @@ said_content i digest ticket is stands =
       state = ticket.content.state;
     }
 
+place_size : (place : Place) → IsPlace place → length (summary_in place).bytes ≡ 32
+place_size (InBasic s) is = is
+place_size (InOpt a e) is = is.0
+
 entered_match : (i : Instance) (d : Digests) (awaited : List ℕ) (read : Result TicketContent Refusal) → AreFor i read
-    → Matches (GivesEntry i d) i d (arrives_by (waiting_at i awaited) (refused_core read)) (entered_as awaited read)
-entered_match i d awaited (Err why) is = refl
+    → Matches (GivesEntry i d) i (Waits awaited) d (arrives_by (waiting_at i awaited) (refused_core read)) (entered_as awaited read)
+entered_match i d awaited (Err why) is = (refl, is)
 entered_match i d awaited (Ok ticket) is =
-    by_not (GivesEntry i d) i d (bytes_eq ticket.nonce awaited) (bytes_eq awaited ticket.nonce) _ _ _ _ (eq_turned ticket.nonce awaited)
-    (record { next = refl; answer = ap (accepted_as i.key) (said_content i (summary_in ticket.content.place).bytes ticket is refl) }) refl
+    by_not (GivesEntry i d) i (Waits awaited) d (bytes_eq ticket.nonce awaited) (bytes_eq awaited ticket.nonce) _ _ _ _
+    (eq_turned ticket.nonce awaited)
+    (record {
+      next = refl;
+      answer = ap (accepted_as i.key) (said_content i (summary_in ticket.content.place).bytes ticket is refl);
+      fits = place_size ticket.content.place is.is.content.place;
+      live = refl;
+    }) (refl, tt)
 
 -- where a place at an anchor stands
 
@@ -253,53 +263,55 @@ ticket_stands i d ticket is clear =
     ∙ anchor_stands (variant_of ticket.content.place) (summary_in ticket.content.place) d.digest)
 
 again_by : (i : Instance) (d : Digests) (ticket : TicketContent) → IsFor i ticket → (flag here stands : Bool) → d.flag ≡ flag
-    → bytes_eq (summary_in ticket.content.place).bytes d.digest ≡ here → (flag ≡ false → here ≡ stands) → Matches (GivesEntry i d) i d
+    → bytes_eq (summary_in ticket.content.place).bytes d.digest ≡ here → (flag ≡ false → here ≡ stands) → Matches (GivesEntry i d) i Live d
     (refuse_if (flag || not here) (refusal.Core core.Stale) (Ok (record { next = None; answer = accepted_as i.key ticket.content })))
     (if flag then Err (Refused core.Stale)
     else (if stands then Ok (record { again = true; effect = Enters ticket }) else Err (Refused core.Stale)))
-again_by i d ticket is true here stands f h s = refl
+again_by i d ticket is true here stands f h s = (refl, tt)
 again_by i d ticket is false true true f h s =
     record {
       next = refl;
       answer = ap (accepted_as i.key) (said_content i d.digest ticket is (bytes_tell (summary_in ticket.content.place).bytes d.digest h));
+      fits = place_size ticket.content.place is.is.content.place;
+      live = refl;
     }
-again_by i d ticket is false false false f h s = refl
+again_by i d ticket is false false false f h s = (refl, tt)
 again_by i d ticket is false true false f h s = let e = s refl in cc
 again_by i d ticket is false false true f h s = let e = s refl in cc
 
 again_match : (i : Instance) (d : Digests) (read : Result TicketContent Refusal) → AreFor i read
-    → Matches (GivesEntry i d) i d (has_arrived_by (cell_at i d) (refused_core read)) (entered_again (by_digests i) d read)
-again_match i d (Err why) is = refl
+    → Matches (GivesEntry i d) i Live d (has_arrived_by (cell_at i d) (refused_core read)) (entered_again (by_digests i) d read)
+again_match i d (Err why) is = (refl, is)
 again_match i d (Ok ticket) is =
     again_by i d ticket is d.flag (bytes_eq (summary_in ticket.content.place).bytes d.digest) (stands_here (by_digests i) d ticket.content)
     refl refl (ticket_stands i d ticket is)
 
 accepts : (i : Instance) (link : Link) (role : Role) (d : Digests) (bytes : List ℕ) → FitsCell i link role d
-    → Matches (GivesEntry i d) i d (accepts_in i.meaning i.variant link bytes (read_as i role d))
+    → Matches (GivesEntry i d) i role d (accepts_in i.meaning i.variant link bytes (read_as i role d))
     (accepted_on (by_digests i) role d (ticket_by i.meaning link.key (ticket_of i.variant i.meaning.id bytes)))
-accepts i link Blank d bytes fit = refl
-accepts i link (Left left) d bytes fit = refl
+accepts i link Blank d bytes fit = (refl, tt)
+accepts i link (Left left) d bytes fit = (refl, tt)
 accepts i link (Waits awaited) d bytes fit =
     let gives = GivesEntry i d in
     let read = ticket_by i.meaning link.key (ticket_of i.variant i.meaning.id bytes) in
-    past gives i d (is_other i.variant i.meaning.id i.variant i.meaning.id) _ _ _ (no_other i.variant i.meaning.id)
-    (past gives i d (is_barred i.variant i.barrier link) _ _ _ (not_barred i.variant i.barrier link fit.linked)
-    (subst (λ r. Matches gives i d (arrives_by (waiting_at i awaited) r) (entered_as awaited read))
+    past gives i (Waits awaited) d (is_other i.variant i.meaning.id i.variant i.meaning.id) _ _ _ (no_other i.variant i.meaning.id)
+    (past gives i (Waits awaited) d (is_barred i.variant i.barrier link) _ _ _ (not_barred i.variant i.barrier link fit.linked)
+    (subst (λ r. Matches gives i (Waits awaited) d (arrives_by (waiting_at i awaited) r) (entered_as awaited read))
     (sym (same_ticket i.meaning link.key (ticket_of i.variant i.meaning.id bytes)))
     (entered_match i d awaited read (ticket_for_side i link.key bytes))))
 accepts i link Live d bytes fit =
     let gives = GivesEntry i d in
     let read = ticket_by i.meaning link.key (ticket_of i.variant i.meaning.id bytes) in
-    past gives i d (is_other i.variant i.meaning.id i.variant i.meaning.id) _ _ _ (no_other i.variant i.meaning.id)
-    (past gives i d (is_barred i.variant i.barrier link) _ _ _ (not_barred i.variant i.barrier link fit.linked)
-    (subst (λ r. Matches gives i d (has_arrived_by (cell_at i d) r) (entered_again (by_digests i) d read))
+    past gives i Live d (is_other i.variant i.meaning.id i.variant i.meaning.id) _ _ _ (no_other i.variant i.meaning.id)
+    (past gives i Live d (is_barred i.variant i.barrier link) _ _ _ (not_barred i.variant i.barrier link fit.linked)
+    (subst (λ r. Matches gives i Live d (has_arrived_by (cell_at i d) r) (entered_again (by_digests i) d read))
     (sym (same_ticket i.meaning link.key (ticket_of i.variant i.meaning.id bytes)))
     (again_match i d read (ticket_for_side i link.key bytes))))
 
 pub accepts_match : (i : Instance) (link : Link) (role : Role) (d : Digests) (bytes : List ℕ) → FitsCell i link role d
-    → Matches (GivesEntry i d) i d (accepts_in i.meaning i.variant link bytes (moved_of (cell_of_role i role d)))
+    → Matches (GivesEntry i d) i role d (accepts_in i.meaning i.variant link bytes (moved_of (cell_of_role i role d)))
     (accepted_on (by_digests i) role d (ticket_by i.meaning link.key (ticket_of i.variant i.meaning.id bytes)))
 accepts_match i link role d bytes fit =
-    subst (λ r. Matches (GivesEntry i d) i d (accepts_in i.meaning i.variant link bytes r)
+    subst (λ r. Matches (GivesEntry i d) i role d (accepts_in i.meaning i.variant link bytes r)
     (accepted_on (by_digests i) role d (ticket_by i.meaning link.key (ticket_of i.variant i.meaning.id bytes))))
     (sym (role_read i link role d fit)) (accepts i link role d bytes fit)

@@ -17,8 +17,8 @@ use Rattle.mm_platform.specs.StandingWords.{due}
 use Rattle.mm_model.specs.declared.refusal.Refusal.TheVariants.{Memory, Device}
 use Rattle.mm_call.specs.Ended.{StaysOn}
 use Rattle.mm_call.specs.TrailLaws.{all_made-append}
-use Rattle.mm_seal.specs.declared.cell.CellFault.TheVariants.{Blank, Cell as Unspelled}
-use Rattle.mm_move.specs.declared.cell.MovedCell.TheVariants.{Live, Waiting as Waits, Retired}
+use Rattle.mm_seal.specs.declared.cell.CellFault.TheVariants.{Blank}
+use Rattle.mm_move.specs.declared.cell.MovedCell.TheVariants.{Waiting as Waits}
 use Rattle.mm_move.specs.declared.cell.Waiting.{Waiting}
 use Rattle.mm_move.specs.declared.refusal.MoveRefusal.TheVariants.{Core}
 use Rattle.mm_move.specs.Moves.{answered, Makes, GoesOn, AfterRead, MovedAs}
@@ -87,16 +87,6 @@ module _ (i : Instance) (d : Digests) (stop : Stop) (meddles : List Meddle) wher
         plan = goes.plan ∙ ap (option_map plan_after) plan;
       }
 
-  read_by : (at : ℕ) (old new : Standing) (fault : Option StepFault) → old.is_on ≡ true → old.plan ≡ Some (At at)
-      → register_reads old ≡ Some d.register → Goes ReadCell old new fault → StepsBy i d stop meddles (counted at) ReadCell old new fault
-  read_by at old new fault on plan register goes = step_by at ReadCell old new fault (λ made items. refl) on plan register goes
-
-  write_by : (at : ℕ) (next : List ℕ) (old new : Standing) (fault : Option StepFault) → old.is_on ≡ true → old.plan ≡ Some (At at)
-      → register_reads old ≡ Some d.register → Goes (WriteCell next) old new fault
-      → StepsBy i d stop meddles (counted at) (WriteCell next) old new fault
-  write_by at next old new fault on plan register goes =
-      step_by at (WriteCell next) old new fault (λ made items. refl) on plan register goes
-
 -- a plan that is over, and perhaps power lost and back
 settled_by : (i : Instance) (s : Digests) (stop : Stop) (fault : Option StepFault) (mid new : Standing)
     → register_reads mid ≡ Some s.register
@@ -134,14 +124,12 @@ unwritten (Ok ready) bytes = never_written ready.next bytes
 
 -- a step that is done by its plan has its effect
 done_made : (stop : Stop) (n : ℕ) → None ≡ fault_at stop n → is_made_at stop n ≡ true
-done_made Quiet n e = refl
-done_made (Cut at) n e = refl
-done_made (Drop at) n e = refl
 done_made (Fail at done) n e = unfailed (at == n) e
   where
     unfailed : (here : Bool) → None ≡ (if here then Some Failed else None) → (if here then done else true) ≡ true
     unfailed true e = cc
     unfailed false e = refl
+done_made stop n e = refl
 
 -- where the register stands behind the first step; how the second ends; and a platform with its plan
 abbrev seen_first : Instance → Digests → List Meddle → Digests
@@ -273,8 +261,8 @@ module _ {A : Type 0} (i : Instance) (d : Digests) (stop : Stop) (meddles : List
       subst (λ (r : Result A MoveRefusal). MakesMove i d stop meddles bytes (Ok (record { next = None; answer = answer })) new r)
       (sym makes.1) (one_made (Ok (record { next = None; answer = answer })) middle cell s here (λ moved. refl))
   made_by (Some next) answer result middle mid broken cell s on makes is settles =
-      let t = write_by i (all_made (by_digests i) d (map Foreign (due 1 meddles))) stop meddles 1 next middle mid makes.fault on s.plan
-      s.register makes.goes in
+      let t = step_by i (all_made (by_digests i) d (map Foreign (due 1 meddles))) stop meddles 1 (WriteCell next) middle mid makes.fault
+      (λ made items. refl) on s.plan s.register makes.goes in
       let breaks : broken ≡ is_some makes.fault =
       is ∙ ap (λ (r : Result A MoveRefusal). is_some (move_fault_in r)) makes.gives ∙ ap is_some (answered_fault answer makes.fault) in
       subst (λ (r : Result A MoveRefusal). MakesMove i d stop meddles bytes (Ok (record { next = Some next; answer = answer })) new r)
@@ -322,12 +310,12 @@ module _ {A : Type 0} (i : Instance) (d : Digests) (stop : Stop) (meddles : List
       → AfterRead finds fault (over old stop meddles) middle mid result → broken ≡ is_some (move_fault_in result)
       → SettlesPlan stop broken mid new → Goal (finds bytes) result
   after_read finds result (Some fault) middle mid broken none cell register on goes after breaks settles =
-      let s = read_by i d stop meddles 0 (over old stop meddles) middle (Some fault) on refl register goes in
+      let s = step_by i d stop meddles 0 ReadCell (over old stop meddles) middle (Some fault) (λ made items. refl) on refl register goes in
       let whole : broken ≡ true = breaks ∙ ap (λ (r : Result A MoveRefusal). is_some (move_fault_in r)) after.1 in
       inl (failed (finds bytes) result fault middle cell s
       (subst (λ (m : Standing). SettlesPlan stop true m new) after.0 (subst (λ b. SettlesPlan stop b mid new) whole settles)) after.1)
   after_read finds result None middle mid broken none cell register on goes after breaks settles =
-      let s = read_by i d stop meddles 0 (over old stop meddles) middle None on refl register goes in
+      let s = step_by i d stop meddles 0 ReadCell (over old stop meddles) middle None (λ made items. refl) on refl register goes in
       let same : after.bytes ≡ bytes = after.told bytes cell in
       found_by (finds bytes) after.found result middle mid broken cell s goes.ends.is_on (none bytes)
       (subst (λ xs. OrNoMemory (finds xs) after.found) same after.found_is) after.goes_on breaks settles
@@ -351,7 +339,5 @@ no_fault_if false refused rest p q = q
 
 pub invites_no_fault : (next : Waiting) (read : Result MovedCell CellFault) → move_fault_in (invites_in next read) ≡ None
 invites_no_fault next (Err Blank) = refl
-invites_no_fault next (Err Unspelled) = refl
-invites_no_fault next (Ok (Live cell)) = refl
-invites_no_fault next (Ok (Retired cell)) = refl
 invites_no_fault next (Ok (Waits cell)) = no_fault_if (not (same_waiting cell next)) _ _ refl refl
+invites_no_fault next _ = refl

@@ -1,103 +1,142 @@
--- A retirement of a side comes to what it comes to by digests.
-use Rattle.mm_transfer.proofs.Below.{◌≡◌, ◌≤◌, ◌+◌, ℕ, Bool, List, [], ◌∷◌, ◌++◌, length, Option, None, Some, Result, Ok, Err, inl, inr}
-use Rattle.mm_transfer.proofs.Below.{refl, sym, ap, ◌∙◌, subst, arith, length-append, ◌&&◌, not, MatchResult, if◌then◌else◌, sum_by, Memory}
-use Rattle.mm_transfer.proofs.Below.{Meaning, StepFault, Meddle, Stop, Standing, Instance, Digests, register_reads, walk, course_of, way_of}
-use Rattle.mm_transfer.proofs.Below.{offered_bytes, Offer, IsQuiet, Link, Ready, MoveRefusal, moved_of, retires_in, sealed_ticket, Role}
-use Rattle.mm_transfer.proofs.Below.{Effect, Invites, Leaves, Enters, is_live, Which, Pair, key_of, instance_on, Side, Both, digests_move}
-use Rattle.mm_transfer.proofs.Below.{MoveCause, FoundMove, Command, Retire, retired_on, Denied, move_steps, effect_of, brought_to}
-use Rattle.mm_transfer.proofs.Below.{affected_if, BothOutcome, moved_if, retiring, finding, unissued, Between, MoveReply, CodeSide, LeftAs}
-use Rattle.mm_transfer.proofs.Below.{Tried, both_with, commanded, FitsBetween, CommandDone, CommandLacks, has_moved, link_of, role_in}
-use Rattle.mm_transfer.proofs.Below.{at_by, at_in, side_in, within_64, FitsSide, MovesPlanned, moves_at, reply_said, cell_of_role}
-use Rattle.mm_transfer.proofs.Below.{GivesTicket, GivesTicketBy}
+-- An invitation to a side, and a retirement of it, come to what they come to by digests.
+use Rattle.mm_transfer.proofs.Below.{◌≡◌, ◌+◌, ◌&&◌, ℕ, Bool, true, not, List, [], ◌∷◌, ◌++◌, length, None, Some, Result, Ok}
+use Rattle.mm_transfer.proofs.Below.{inl, inr, refl, sym, ap, ◌∙◌, subst, arith, length-append, MatchResult, if◌then◌else◌, Memory, Meaning}
+use Rattle.mm_transfer.proofs.Below.{Meddle, Stop, Standing, Digests, register_reads, walk, course_of, offered_bytes, Offer, IsQuiet}
+use Rattle.mm_transfer.proofs.Below.{Link, MoveRefusal, moved_of, waiting_for, invites_in, retires_in, Invited, Role, Effect}
+use Rattle.mm_transfer.proofs.Below.{Invites, Leaves, is_live, Which, Pair, key_of, instance_on, Both, digests_move, FoundMove, MoveCause}
+use Rattle.mm_transfer.proofs.Below.{Invite, Retire, invited_on, retired_on, move_steps, effect_of, handed, told, retiring, role_after, Between}
+use Rattle.mm_transfer.proofs.Below.{MoveReply, CodeSide, InvitedAs, KeepsDigest, LeftAs, both_with, commanded, FitsBetween, CommandDone}
+use Rattle.mm_transfer.proofs.Below.{CommandLacks, has_moved, link_of, role_in, at_in, FitsSide, MovesPlanned, reply_said, cell_of_role}
+use Rattle.mm_transfer.proofs.Below.{GivesInvited, GivesInvitedBy, GivesTicket, GivesTicketBy, FitsLive, Instance, within_64, sum_by, false}
 use Rattle.mm_transfer.specs.declared.reply.MoveReply.TheVariants as reply
-use Rattle.mm_transfer.proofs.Commanded.{keeps_own, made_as, err_match, ok_match, lacks_side, wanted, Told}
-use Rattle.mm_transfer.proofs.Commanding.{variant_by, meaning_by, IsFormed, KeepsFor, side_was, CameAs, came_by, made_if, MovedBy}
-use Rattle.mm_transfer.proofs.Commanding as commanding
-use Rattle.mm_transfer.proofs.Matching.{retires_match}
-use Rattle.mm_transfer.proofs.Plainly.{said_cause, never_moved, RetiresPlainly, retires_plainly, LeavesTo}
-use Rattle.mm_transfer.proofs.Sidewise.{brought_digests, away_then, affected_is, side_then}
-use Rattle.mm_transfer.proofs.Leaving.{IsLeft, left_made, left_fits, left_keeps, away_none, away_made, away_broken, kept_one_more}
+use Rattle.mm_transfer.proofs.Commanded.{by_known, IsIdle, chosen, whole, tell, Told, told_still, move_done, err_match, lacks_done, SameSide, SameBetween, unissued_done, Named}
+use Rattle.mm_transfer.proofs.Commanding.{Knows, KnowsOf, came_by, made_if, moved_by, at_then, away_then}
+use Rattle.mm_transfer.proofs.Matching.{invites_match, retires_match}
+use Rattle.mm_transfer.proofs.SideStands.{variant_by, meaning_by, key_by, KeepsFor, keeps_equal, same_keeps, kept_more}
 
-record ToldLeft (pair : Pair) (i : Instance) (d : Digests) (stop : Stop) (broken : Option StepFault) (found : Result FoundMove MoveCause)
-    (effect : Option Effect) (was now : Between) (result : Result MoveReply Memory) : Type 0 where
-  told : Told pair i stop broken found effect result (λ both. record both { tickets = now.tickets.items })
-      (λ both. both.tickets ≡ was.tickets.items)
-  away : now.away ≡ away_then was.away d effect
-  kept : FitsBetween now
-  few : length now.tickets.items ≤ length was.tickets.items + 1
+-- an invitation
 
-told_left : (pair : Pair) (i : Instance) (role : Role) (d : Digests) (nonce : List ℕ) (stop : Stop) (broken : Option StepFault)
-    (found : Result FoundMove MoveCause) (effect : Option Effect) (live : Bool) (was now : Between) (came : Result (List ℕ) MoveRefusal)
-    (result : Result MoveReply Memory) → CameAs (GivesTicket pair.link) broken found came → MovedBy stop broken found effect
-    → RetiresPlainly role d nonce found → live ≡ is_live role → FitsBetween was → LeftAs live d.count stop came was now result
-    → ToldLeft pair i d stop broken found effect was now result
-told_left pair i role d nonce stop (Some fault) found effect live was now came result says moved plain l counted left =
-    let t = subst (λ (c : Result (List ℕ) MoveRefusal). LeftAs live d.count stop c was now result) says left in record {
-      told = record {
-        said = reply.Broken (way_of stop) (moves_at stop);
-        is = t.says;
-        says = λ both h. ap (λ b. reply.Broken (way_of stop) b) (sym moved.1);
-        both = λ both h. λ j. record both { tickets = (h ∙ sym t.tickets) j };
-      };
-      away = t.away ∙ away_broken role d nonce was.away live (moves_at stop) found effect moved.0 moved.1 plain l;
-      kept = subst (λ (x : List (List ℕ)). now.kept ≡ within_64 (sum_by length x)) (sym t.tickets) (t.kept ∙ counted);
-      few = omega (arith, ap length t.tickets);
-    }
-told_left pair i role d nonce stop None (Err cause) effect live was now came result says moved plain l counted left =
-    let t = subst (λ (c : Result (List ℕ) MoveRefusal). LeftAs live d.count stop c was now result) says left in record {
-      told = record {
-        said = reply_said (Denied cause);
-        is = said_cause stop cause result plain t.says;
-        says = λ both h. refl;
-        both = λ both h. λ j. record both { tickets = (h ∙ sym t.tickets) j };
-      };
-      away = t.away ∙ ap (λ b. if live && b then d.count else was.away) (never_moved stop cause plain) ∙ away_none live d.count was.away
-          ∙ sym (ap (away_then was.away d) moved);
-      kept = subst (λ (x : List (List ℕ)). now.kept ≡ within_64 (sum_by length x)) (sym t.tickets) (t.kept ∙ counted);
-      few = omega (arith, ap length t.tickets);
-    }
-told_left pair i role d nonce stop None (Ok found) effect live was now came result says moved plain l counted left =
-    let t = subst (λ (c : Result (List ℕ) MoveRefusal). LeftAs live d.count stop c was now result) says.1 left in
-    by_effect found.again found.effect says.0 says.2 plain.effect (l ∙ plain.live) moved t.tickets t.kept t.away t.says
-  where
-    by_effect : (again : Bool) (made : Effect) (ticket : List ℕ) → GivesTicketBy pair.link made ticket → LeavesTo nonce made
-        → live ≡ not again → effect ≡ (if again then None else Some made) → now.tickets.items ≡ was.tickets.items ++ ticket ∷ []
-        → now.kept ≡ within_64 (was.kept + length ticket)
-        → now.away ≡ (if live then d.count else was.away) → result ≡ Ok (reply.Left (length was.tickets.items))
-        → ToldLeft pair i d stop None (Ok (record { again = again; effect = made })) effect was now result
-    by_effect again (Invites other) ticket gives to lives e tickets kept away is = absurd to
-    by_effect again (Enters content) ticket gives to lives e tickets kept away is = absurd to
-    by_effect again (Leaves content) ticket gives to lives e tickets kept away is = record {
-      told = record {
-        said = reply.Left (length was.tickets.items);
-        is = is;
-        says = λ both h. ap (λ (x : List (List ℕ)). reply.Left (length x)) (sym h);
-        both = λ both h. λ j. record both {
-          tickets = (ap (λ (x : List (List ℕ)). x ++ sealed_ticket pair.link content ∷ []) h
-              ∙ ap (λ x. was.tickets.items ++ x ∷ []) (sym gives) ∙ sym tickets) j;
-        };
-      };
-      away = away ∙ away_made nonce d was.away live again (Leaves content) lives to ∙ sym (ap (away_then was.away d) e);
-      kept = kept_one_more was.kept now.kept was.tickets.items now.tickets.items ticket counted tickets kept;
-      few = let n = ap length tickets in let m = length-append was.tickets.items (ticket ∷ []) in omega (arith, n, m);
-    }
+-- its effect changes no count
+record Waits (d : Digests) (away : ℕ) (kept : List ℕ) (effect : Effect) : Type 0 where
+  count : d.count ≡ (at_then away d (Some effect)).count
+  away_is : away ≡ away_then away d (Some effect)
+  keeps : KeepsFor (role_after effect) kept (at_then away d (Some effect))
 
--- all together
+waits : (d : Digests) (away : ℕ) (kept : List ℕ) (effect : Effect) → kept ≡ d.digest → GivesInvitedBy effect → Waits d away kept effect
+waits d away kept (Invites nonce) e g = record { count = refl; away_is = refl; keeps = e }
+waits d away kept effect e g = absurd g
 
-away_same : (away : ℕ) (d x : Digests) (effect : Option Effect) → x.count ≡ d.count → away_then away d effect ≡ away_then away x effect
-away_same away d x None e = refl
-away_same away d x (Some (Invites nonce)) e = refl
-away_same away d x (Some (Leaves ticket)) e = sym e
-away_same away d x (Some (Enters ticket)) e = refl
+same_counts : (role : Role) (d : Digests) (away : ℕ) (kept : List ℕ) → kept ≡ d.digest → (moved : Bool)
+    (found : Result FoundMove MoveCause) → KnowsOf GivesInvited role d found
+    → (d.count ≡ (at_then away d (made_if moved found)).count) × (away ≡ away_then away d (made_if moved found))
+same_counts role d away kept e moved found k = (
+  by_known GivesInvited role d (λ x. d.count ≡ (at_then away d x).count) moved found k refl
+      (λ it k. (waits d away kept it.effect e k.gave).count),
+  by_known GivesInvited role d (λ x. away ≡ away_then away d x) moved found k refl (λ it k. (waits d away kept it.effect e k.gave).away_is),
+)
 
-away_within : (nonce : List ℕ) (d : Digests) (away most : ℕ) (effect : Option Effect) → d.count ≤ most → away ≤ most → IsLeft nonce d effect
-    → away_then away d effect ≤ most
-away_within nonce d away most None p q is = q
-away_within nonce d away most (Some (Leaves ticket)) p q is = p
-away_within nonce d away most (Some (Invites other)) p q is = absurd is
-away_within nonce d away most (Some (Enters ticket)) p q is = absurd is
+-- nor is anything handed out
+handed_none : (pair : Pair) (i : Instance) (both : Both Digests ℕ) (effect : Effect) → GivesInvitedBy effect
+    → (reply.Invited ≡ reply_said (told digests_move i both effect)) × (handed digests_move pair i both effect ≡ both)
+handed_none pair i both (Invites nonce) g = (refl, refl)
+handed_none pair i both effect g = absurd g
 
-pub retires_planned : (pair : Pair) (which : Which) (nonce bytes : List ℕ) (stop : Stop) (meddles : List Meddle) (old new : Standing)
+-- the call of the code, in terms of the side's instance
+pub invites_planned : (pair : Pair) (which : Which) (nonce : List ℕ) (stop : Stop) (meddles : List Meddle) (link : Link) (id : ℕ)
+    (key : List ℕ) (old new : Standing)
+    (came : Result Invited MoveRefusal) → link ≡ link_of pair → id ≡ pair.meaning.id → key ≡ key_of pair which
+    → MovesPlanned (λ (bytes : List ℕ). invites_in (waiting_for link pair.variant id nonce key) (moved_of bytes)) stop meddles old new came
+    → MovesPlanned (λ (bytes : List ℕ). invites_in
+    (waiting_for (link_of pair) (instance_on pair which).variant (instance_on pair which).meaning.id nonce (instance_on pair which).key)
+    (moved_of bytes)) stop meddles old new came
+invites_planned pair which nonce stop meddles link id key old new came el ei ek planned =
+    let i = instance_on pair which in
+    let v = variant_by pair.variant pair.meaning (key_of pair which) pair.barrier in
+    let m = meaning_by pair.variant pair.meaning (key_of pair which) pair.barrier in
+    let k = key_by pair.variant pair.meaning (key_of pair which) pair.barrier in
+    let same : waiting_for link pair.variant id nonce key ≡ waiting_for (link_of pair) i.variant i.meaning.id nonce i.key =
+    λ j. waiting_for (el j) (sym v j) ((ei ∙ sym (ap (λ (x : Meaning). x.id) m)) j) nonce ((ek ∙ sym k) j) in
+    subst (λ w. MovesPlanned (λ (bytes : List ℕ). invites_in w (moved_of bytes)) stop meddles old new came) same planned
+
+pub invited_done : (pair : Pair) (which : Which) (nonce : List ℕ) (stop : Stop) (meddles : List Meddle) (old mid new : CodeSide)
+    (between : Between) (came : Result Invited MoveRefusal) (result : Result MoveReply Memory) → length nonce ≡ 32
+    → KeepsDigest old mid → MovesPlanned (λ (bytes : List ℕ). invites_in
+    (waiting_for (link_of pair) (instance_on pair which).variant (instance_on pair which).meaning.id nonce (instance_on pair which).key)
+    (moved_of bytes)) stop meddles mid.platform new.platform came → SameSide mid new → InvitedAs stop came result → FitsSide pair which old
+    → FitsBetween between
+    → MatchResult result (CommandDone pair which old new between between (commanded pair which old between meddles stop (Invite nonce)))
+    (λ _. CommandLacks pair which old new between between)
+invited_done pair which nonce stop meddles old mid new between came result size k planned s says fits counted =
+    let i = instance_on pair which in
+    let role = role_in old.platform.cell in
+    let d = at_in old in
+    let same_cell = ap (λ (x : Standing). x.cell) k.platform in
+    let digest : new.digest.bytes ≡ d.digest = ap (λ x. x.bytes) s.digest ∙ k.digest in
+    let keeps = keeps_equal role new.digest.bytes d digest in
+    let issued = s.issued ∙ k.issued in
+    let kept = s.kept ∙ k.kept in
+    let position = s.position ∙ k.position in
+    elim (planned i d (cell_of_role i role d) (same_cell ∙ fits.stands.cell) (ap register_reads k.platform ∙ fits.stands.register)
+    (subst IsQuiet (sym k.platform) fits.quiet)) [
+      | inl made ↦
+          let found = invited_on role nonce in
+          let fates = (course_of stop meddles).fates in
+          let c = came_by GivesInvited i role d stop meddles new.platform came _ found
+          (invites_match i (link_of pair) role d nonce fits.stands.fits size) made in
+          let effect = effect_of fates found in
+          let n = same_counts role d between.away new.digest.bytes digest in
+          let sum = subst (λ (x : List (List ℕ)). new.kept ≡ within_64 (sum_by length x)) (sym issued) (kept ∙ fits.kept) in
+          let t = tell GivesInvited pair i role d stop (walk fates 1 (move_steps found)).broken found effect came
+          (λ b f e. Told pair i stop b f e result old new between between d) c.says (moved_by stop meddles found) c.knows
+          (λ why e r. let m = n (has_moved stop why) found c.knows in
+          told_still pair i stop _ found effect why result old new between between d r
+          (subst (λ (c : Result Invited MoveRefusal). InvitedAs stop c result) e says) issued kept refl refl fits.kept counted
+          (position ∙ m.0) m.1)
+          (λ it answer e g k. let m = n true (Ok it) k in
+          record {
+            said = reply.Invited;
+            is = subst (λ (c : Result Invited MoveRefusal). InvitedAs stop c result) e says;
+            ends = λ both h own all. let x = handed_none pair i both it.effect g in (
+              x.0,
+              x.1 ∙ (λ j. record both { first = record both.first { issued = (own ∙ sym issued) j }; tickets = all j }),
+            );
+            position = position ∙ m.0;
+            away = m.1;
+            kept = sum;
+            between = counted;
+            issued = omega (arith, ap length issued);
+            tickets = omega arith;
+          }) in
+          move_done GivesInvited pair which stop meddles (Invite nonce) found old new between between came result fits c t keeps
+          (λ it k. (waits d between.away new.digest.bytes it.effect digest k.gave).keeps) (λ other committed. refl)
+      | inr w ↦
+          err_match _ _ result (subst (λ (c : Result Invited MoveRefusal). InvitedAs stop c result) w.says says)
+          (lacks_done pair which stop meddles old new between between mid.platform new.platform came fits w same_cell refl position keeps
+          issued
+          kept refl refl refl)
+    ]
+
+-- a retirement
+
+-- its effect is that the module leaves
+record IsLeft (role : Role) (d : Digests) (away : ℕ) (kept : List ℕ) (again : Bool) (effect : Effect) : Type 0 where
+  live : is_live role ≡ not again
+  count : d.count ≡ (at_then away d (Some effect)).count
+  away_is : away_then away d (Some effect) ≡ d.count
+  keeps : KeepsFor (role_after effect) kept (at_then away d (Some effect))
+
+is_left : (link : List ℕ) (role : Role) (d : Digests) (away : ℕ) (kept : List ℕ) (again : Bool) (effect : Effect) (bytes : List ℕ)
+    → GivesTicketBy link effect bytes → FitsLive role again effect → IsLeft role d away kept again effect
+is_left link role d away kept again (Leaves ticket) bytes g live = record { live = live; count = refl; away_is = refl; keeps = tt }
+is_left link role d away kept again effect bytes g live = absurd g
+
+handed_ticket : (pair : Pair) (i : Instance) (both : Both Digests ℕ) (effect : Effect) (bytes : List ℕ)
+    → GivesTicketBy pair.link effect bytes → (reply.Left (length both.tickets) ≡ reply_said (told digests_move i both effect))
+    × (handed digests_move pair i both effect ≡ record both { tickets = both.tickets ++ bytes ∷ [] })
+handed_ticket pair i both (Leaves ticket) bytes g = (refl, λ j. record both { tickets = both.tickets ++ sym g j ∷ [] })
+handed_ticket pair i both effect bytes g = absurd g
+
+retires_planned : (pair : Pair) (which : Which) (nonce bytes : List ℕ) (stop : Stop) (meddles : List Meddle) (old new : Standing)
     (came : Result (List ℕ) MoveRefusal)
     → MovesPlanned (λ (cell : List ℕ). retires_in pair.meaning pair.variant (link_of pair) nonce bytes (moved_of cell)) stop meddles old new
     came
@@ -111,233 +150,85 @@ retires_planned pair which nonce bytes stop meddles old new came planned =
     new came) v (subst (λ (meaning : Meaning). MovesPlanned
     (λ (cell : List ℕ). retires_in meaning pair.variant (link_of pair) nonce bytes (moved_of cell)) stop meddles old new came) m planned)
 
-abbrev offered_by : Pair → Which → CodeSide → Between → List Meddle → Stop → List ℕ → Offer → Option (List ℕ) → Side Digests → ℕ
-    → BothOutcome Digests ℕ
-offered_by pair which old was meddles stop nonce offer x other committed =
-    let both = both_with old was other committed in
-    moved_if digests_move pair (instance_on pair which) both meddles stop (Retire nonce offer)
-    (retiring digests_move (instance_on pair which) both.first nonce x)
-
-pub tickets_same : (role : Role) (at : Digests) (issued tickets : List (List ℕ)) (other : Side Digests) (away committed : ℕ)
-    (effect : Option Effect)
-    → (affected_if digests_move (record {
-      first = record { role = role; at = at; issued = issued };
-      second = other;
-      away = away;
-      tickets = tickets;
-      committed = committed;
-    }) effect).tickets ≡ tickets
-tickets_same role at issued tickets other away committed (Some (Invites n)) = refl
-tickets_same role at issued tickets other away committed _ = refl
-
-pub left_done : (pair : Pair) (which : Which) (nonce bytes : List ℕ) (offer : Offer) (stop : Stop) (meddles : List Meddle)
-    (old new : CodeSide) (was now : Between)
-    (live : Bool) (came : Result (List ℕ) MoveRefusal) (result : Result MoveReply Memory) → IsFormed pair which → length nonce ≡ 32
-    → offered_bytes old.issued.items offer ≡ Some bytes → live ≡ is_live (role_in old.platform.cell)
-    → MovesPlanned (λ (cell : List ℕ). retires_in pair.meaning pair.variant (link_of pair) nonce bytes (moved_of cell)) stop meddles
-    old.platform new.platform came
-    → new.digest ≡ old.digest → new.issued.items ≡ old.issued.items → new.kept ≡ old.kept → new.position ≡ old.position
-    → LeftAs live old.position stop came was now result → FitsSide pair which old → FitsBetween was
+-- with what the offer named, over a list with room for the ticket
+pub retired_done : (pair : Pair) (which : Which) (nonce : List ℕ) (offer : Offer) (stop : Stop) (meddles : List Meddle) (old new : CodeSide)
+    (was mid now : Between) (live : Bool) (cell : List ℕ) (came : Result (List ℕ) MoveRefusal) (result : Result MoveReply Memory)
+    → length nonce ≡ 32
+    → Named (λ bytes (cell : List ℕ). retires_in pair.meaning pair.variant (link_of pair) nonce bytes (moved_of cell)) stop meddles
+    (offered_bytes old.issued.items offer) old.platform new.platform came → live ≡ is_live (role_in (Some cell))
+    → old.platform.cell ≡ Some cell → SameSide old new → SameBetween was mid → LeftAs live old.position stop came mid now result
+    → FitsSide pair which old → FitsBetween was
     → MatchResult result (CommandDone pair which old new was now (commanded pair which old was meddles stop (Retire nonce offer)))
     (λ _. CommandLacks pair which old new was now)
-left_done pair which nonce bytes offer stop meddles old new was now live came result formed size names lives planned digest issued kept
-    position left fits counted =
+retired_done pair which nonce offer stop meddles old new was mid now live cell came result size named lives holds s b left fits counted =
     let i = instance_on pair which in
     let role = role_in old.platform.cell in
     let d = at_in old in
-    let w = side_was pair which old formed fits in
-    let keeps : KeepsFor pair which role new.digest.bytes d =
-    subst (λ x. KeepsFor pair which role x.bytes d) (sym digest) (keeps_own pair which role old.platform old.digest.bytes old.position) in
-    elim (retires_planned pair which nonce bytes stop meddles old.platform new.platform came planned i d (cell_of_role i role d) w.1 w.2
-    fits.quiet) [
+    let gives = GivesTicket pair.link in
+    let keeps = same_keeps old new s.digest in
+    let lives' : live ≡ is_live role = lives ∙ ap (λ x. is_live (role_in x)) (sym holds) in
+    elim (retires_planned pair which nonce named.bytes stop meddles old.platform new.platform came named.planned i d (cell_of_role i role d)
+    fits.stands.cell fits.stands.register fits.quiet) [
       | inl made ↦
-          let found = retired_on digests_move i role d nonce bytes in
-          let c = came_by (GivesTicket pair.link) i role d stop meddles new.platform came _ found
-          (retires_match i (link_of pair) role d nonce bytes w.0) made in
-          let moved = commanding.moved_by stop meddles found in
-          let plain = retires_plainly i role d nonce bytes w.0.fits in
-          let t = told_left pair i role d nonce stop (walk (course_of stop meddles).fates 1 (move_steps found)).broken found
-          (effect_of (course_of stop meddles).fates found) live was now came result c.says moved plain lives counted left in
-          let m = made_as stop _ found _ moved in
-          let effect = made_if m.moved found in
-          let is = left_made role d nonce found m.moved plain in
-          let kk = left_keeps pair which role nonce new.digest.bytes was.away d effect keeps is in
-          let sum = subst (λ (x : List (List ℕ)). new.kept ≡ within_64 (sum_by length x)) (sym issued) (kept ∙ fits.kept) in
-          let s = side_then (GivesTicket pair.link) pair which role d stop meddles found new came was.away effect m.is c w.0
-          (left_fits nonce d effect size is) (position ∙ kk.1) kk.0 sum in
-          let brought = brought_to digests_move i d meddles stop (move_steps found) in
-          let count : brought.count ≡ d.count = ap (λ (x : Digests). x.count) (brought_digests i d stop meddles found) in
-          let gone : now.away ≡ away_then was.away brought effect = t.away ∙ ap (away_then was.away d) m.is
-          ∙ away_same was.away d brought effect count in
-          ok_match _ _ result t.told.said t.told.is (record {
-            fits = s.fits;
-            between = t.kept;
-            both = λ other committed.
-                (λ j. record {
-                  first = record { role = s.role_is j; at = s.at_is j; issued = issued j };
-                  second = other;
-                  away = gone j;
-                  tickets = now.tickets.items;
-                  committed = committed;
-                })
-                ∙ ap (λ (b : Both Digests ℕ). record b { tickets = now.tickets.items })
-                (sym (affected_is role brought old.issued.items was.tickets.items other was.away committed effect)
-                ∙ ap (λ e. affected_if digests_move (record {
-                  first = record { role = role; at = brought; issued = old.issued.items };
-                  second = other;
-                  away = was.away;
-                  tickets = was.tickets.items;
-                  committed = committed;
-                }) e) (sym m.is))
-                ∙ sym (t.told.both _ (tickets_same role brought old.issued.items was.tickets.items other was.away committed
-                (effect_of (course_of stop meddles).fates found)))
-                ∙ sym (ap (λ (x : Option (List ℕ)). (offered_by pair which old was meddles stop nonce offer x other committed).both) names);
-            says = λ other committed. t.told.says _ (tickets_same role brought old.issued.items was.tickets.items other was.away committed
-                (effect_of (course_of stop meddles).fates found)) ∙ sym (ap (λ (x : Option (List ℕ)). reply_said
-                (offered_by pair which old was meddles stop nonce offer x other committed).reply) names);
-            issued = omega (arith, ap length issued);
-            tickets = t.few;
-            counts = λ most p q. (
-              omega (arith, position),
-              (let here = away_within nonce d was.away most effect p q is in
-                  let gone' = t.away ∙ ap (away_then was.away d) m.is in omega (arith, here, gone')),
+          let found = retired_on digests_move i role d nonce named.bytes in
+          let fates = (course_of stop meddles).fates in
+          let effect = effect_of fates found in
+          let c = came_by gives i role d stop meddles new.platform came _ found
+          (retires_match i (link_of pair) role d nonce named.bytes fits.stands.fits size) made in
+          let leaves = λ (it : FoundMove) (k : Knows gives role d it).
+          is_left pair.link role d was.away new.digest.bytes it.again it.effect k.answer k.gave k.live in
+          let count = λ (moved : Bool) (f : Result FoundMove MoveCause) (k : KnowsOf gives role d f).
+          by_known gives role d (λ e. d.count ≡ (at_then was.away d e).count) moved f k refl (λ it k. (leaves it k).count) in
+          let gone = λ (moved : Bool) (f : Result FoundMove MoveCause) (k : KnowsOf gives role d f) (idle : IsIdle moved f).
+          chosen gives role d live moved d.count was.away (away_then was.away d) f k idle refl
+          (λ it k. (lives' ∙ (leaves it k).live, (leaves it k).away_is)) in
+          let t = tell gives pair i role d stop (walk fates 1 (move_steps found)).broken found effect came
+          (λ b f e. Told pair i stop b f e result old new was now d) c.says (moved_by stop meddles found) c.knows
+          (λ why e r. let t = subst (λ (c : Result (List ℕ) MoveRefusal). LeftAs live old.position stop c mid now result) e left in
+          told_still pair i stop _ found effect why result old new was now d r t.says s.issued s.kept (t.tickets ∙ b.tickets)
+          (t.kept ∙ b.kept) fits.kept counted (s.position ∙ count (has_moved stop why) found c.knows)
+          (t.away ∙ ap (λ n. if live && has_moved stop why then d.count else n) b.away ∙ gone (has_moved stop why) found c.knows r.idle))
+          (λ it ticket e g k.
+          let t = subst (λ (c : Result (List ℕ) MoveRefusal). LeftAs live old.position stop c mid now result) e left in
+          let tickets = t.tickets ∙ ap (λ (x : List (List ℕ)). x ++ ticket ∷ []) b.tickets in
+          record {
+            said = reply.Left (length was.tickets.items);
+            is = t.says ∙ ap (λ (x : List (List ℕ)). Ok (reply.Left (length x))) b.tickets;
+            ends = λ both h own all. let x = handed_ticket pair i both it.effect ticket g in (
+              ap (λ (y : List (List ℕ)). reply.Left (length y)) (sym all) ∙ x.0,
+              x.1 ∙ (λ j. record both {
+                first = record both.first { issued = (own ∙ sym s.issued) j };
+                tickets = (ap (λ (y : List (List ℕ)). y ++ ticket ∷ []) all ∙ sym tickets) j;
+              }),
             );
-          })
-      | inr w' ↦
-          let r = wanted i d stop meddles old.platform new.platform came w' in
-          let t = subst (λ (c : Result (List ℕ) MoveRefusal). LeftAs live old.position stop c was now result) w'.says left in
+            position = s.position ∙ count true (Ok it) k;
+            away = t.away ∙ ap (λ n. if live then d.count else n) b.away ∙ whole live d.count was.away ∙ gone true (Ok it) k tt;
+            kept = subst (λ (x : List (List ℕ)). new.kept ≡ within_64 (sum_by length x)) (sym s.issued) (s.kept ∙ fits.kept);
+            between = kept_more was.kept now.kept was.tickets.items now.tickets.items (Some ticket) counted tickets
+                (t.kept ∙ ap (λ n. within_64 (n + length ticket)) b.kept);
+            issued = omega (arith, ap length s.issued);
+            tickets = let n = ap length tickets in let m = length-append was.tickets.items (ticket ∷ []) in omega (arith, n, m);
+          }) in
+          move_done gives pair which stop meddles (Retire nonce offer) found old new was now came result fits c t keeps
+          (λ it k. (leaves it k).keeps) (λ other committed. ap (retiring digests_move i (both_with old was other committed).first nonce)
+          named.names)
+      | inr w ↦
+          let t = subst (λ (c : Result (List ℕ) MoveRefusal). LeftAs live old.position stop c mid now result) w.says left in
           err_match _ _ result t.says
-          (lacks_side pair which old new was now r.value formed fits w'.cell r.is w'.quiet position keeps issued kept t.tickets t.kept
-          (t.away ∙ away_none live old.position was.away))
+          (lacks_done pair which stop meddles old new was now old.platform new.platform came fits w refl refl s.position keeps s.issued
+          s.kept
+          (t.tickets ∙ b.tickets) (t.kept ∙ b.kept) (t.away ∙ never live old.position mid.away ∙ b.away))
     ]
+  where
+    never : (live : Bool) (position away : ℕ) → (if live && false then position else away) ≡ away
+    never true position away = refl
+    never false position away = refl
 
--- a move with what an offer names
-pub tried : {A : Type 0} (finds : Link → List ℕ → List ℕ → Result (Ready A) MoveRefusal) (stop : Stop) (meddles : List Meddle)
-    (offered : Option (List ℕ)) (old new : Standing) (came : Result A MoveRefusal) (called link : Link) (lent bytes : List ℕ)
-    → called ≡ link → lent ≡ bytes → Some bytes ≡ offered → MovesPlanned (finds called lent) stop meddles old new came
-    → Tried (finds link) stop meddles offered old new (Ok (Some came))
-tried finds stop meddles offered old new came called link lent bytes same are names planned =
-    subst (λ (x : Option (List ℕ)). Tried (finds link) stop meddles x old new (Ok (Some came))) names
-    (subst (λ (l : Link). MovesPlanned (finds l bytes) stop meddles old new came) same
-    (subst (λ (b : List ℕ). MovesPlanned (finds called b) stop meddles old new came) are planned))
-
--- the offer named nothing
-pub nothing_named : {A : Type 0} (finds : List ℕ → List ℕ → Result (Ready A) MoveRefusal) (stop : Stop) (meddles : List Meddle)
-    (offered : Option (List ℕ)) (old new : Standing) → Tried finds stop meddles offered old new (Ok None) → (offered ≡ None) × (new ≡ old)
-nothing_named finds stop meddles None old new h = (refl, h)
-nothing_named finds stop meddles (Some bytes) old new h = absurd h
-
--- and what it named
-pub record Named {A : Type 0} (finds : List ℕ → List ℕ → Result (Ready A) MoveRefusal) (stop : Stop) (meddles : List Meddle)
-    (offered : Option (List ℕ))
-    (old new : Standing) (came : Result A MoveRefusal) : Type 0 where
-  pub bytes : List ℕ
-  pub names : offered ≡ Some bytes
-  pub planned : MovesPlanned (finds bytes) stop meddles old new came
-
-pub named_by : {A : Type 0} (finds : List ℕ → List ℕ → Result (Ready A) MoveRefusal) (stop : Stop) (meddles : List Meddle)
-    (offered : Option (List ℕ)) (old new : Standing) (came : Result A MoveRefusal)
-    → Tried finds stop meddles offered old new (Ok (Some came)) → Named finds stop meddles offered old new came
-named_by finds stop meddles None old new came h = absurd h
-named_by finds stop meddles (Some bytes) old new came h = record { bytes = bytes; names = refl; planned = h }
-
--- nothing happened to a side
-pub still_lacks : (pair : Pair) (which : Which) (old new : CodeSide) (was now : Between) → IsFormed pair which → FitsSide pair which old
-    → new.platform ≡ old.platform → new.digest ≡ old.digest → new.issued.items ≡ old.issued.items → new.kept ≡ old.kept
-    → new.position ≡ old.position
-    → now.tickets.items ≡ was.tickets.items → now.kept ≡ was.kept → now.away ≡ was.away → CommandLacks pair which old new was now
-still_lacks pair which old new was now formed fits platform digest issued kept position tickets counted away =
-    let role = role_in old.platform.cell in
-    let w = side_was pair which old formed fits in
-    lacks_side pair which old new was now (at_in old).register formed fits (ap (λ (s : Standing). s.cell) platform)
-    (ap register_reads platform ∙ w.2) (subst IsQuiet (sym platform) fits.quiet) position
-    (subst (λ x. KeepsFor pair which role x.bytes (at_in old)) (sym digest)
-    (keeps_own pair which role old.platform old.digest.bytes old.position)) issued kept tickets counted away
-
--- a number that isn't issued: nothing is called
-pub unissued_done : (pair : Pair) (which : Which) (stop : Stop) (meddles : List Meddle) (command : Command) (said : MoveReply)
-    (old new : CodeSide) (was now : Between) → IsFormed pair which → FitsSide pair which old → FitsBetween was → new.platform ≡ old.platform
-    → new.digest ≡ old.digest → new.issued.items ≡ old.issued.items → new.kept ≡ old.kept → new.position ≡ old.position
-    → now.tickets.items ≡ was.tickets.items → now.kept ≡ was.kept → now.away ≡ was.away → said ≡ reply_said (unissued command) →
-    ((other : Side Digests) (committed : ℕ) → finding digests_move pair (instance_on pair which)
-    (both_with old was other committed) command ≡ None) → CommandDone pair which old new was now
-    (commanded pair which old was meddles stop command) said
-unissued_done pair which stop meddles command said old new was now formed fits counted platform digest issued kept position tickets kept'
-    away says none =
-    let l = still_lacks pair which old new was now formed fits platform digest issued kept position tickets kept' away in
-    let i = instance_on pair which in
-    let same : side_in new ≡ side_in old = λ j. record {
-      role = role_in (platform j).cell;
-      at = at_by (role_in (platform j).cell) (platform j) (digest j).bytes (position j);
-      issued = issued j;
-    } in
-    record {
-      fits = l.fits;
-      between = subst (λ (x : List (List ℕ)). now.kept ≡ within_64 (sum_by length x)) (sym tickets) (kept' ∙ counted);
-      both = λ other committed.
-          (λ j. record { first = same j; second = other; away = away j; tickets = tickets j; committed = committed })
-          ∙ sym (ap (λ x. (moved_if digests_move pair i (both_with old was other committed) meddles stop command x).both)
-          (none other committed));
-      says = λ other committed.
-          says ∙ sym (ap (λ x. reply_said (moved_if digests_move pair i (both_with old was other committed) meddles stop command x).reply)
-          (none other committed));
-      issued = omega (arith, ap length issued);
-      tickets = omega (arith, ap length tickets);
-      counts = λ most p q. (omega (arith, position), omega (arith, away));
-    }
-
-pub retired_unissued : (pair : Pair) (which : Which) (finds : List ℕ → List ℕ → Result (Ready (List ℕ)) MoveRefusal) (nonce : List ℕ)
-    (offer : Offer) (stop : Stop) (meddles : List Meddle) (old new : CodeSide) (was now : Between) (lent : List (List ℕ))
-    (field : Option (Result (List ℕ) MoveRefusal)) → IsFormed pair which → lent ≡ old.issued.items
-    → Tried finds stop meddles (offered_bytes lent offer) old.platform new.platform (Ok field) → field ≡ None → new.digest ≡ old.digest
-    → new.issued.items ≡ old.issued.items → new.kept ≡ old.kept → new.position ≡ old.position → now.tickets.items ≡ was.tickets.items
-    → now.kept ≡ was.kept → now.away ≡ was.away → FitsSide pair which old → FitsBetween was
+-- a snapshot that isn't issued
+pub retired_unissued : (pair : Pair) (which : Which) (nonce : List ℕ) (offer : Offer) (stop : Stop) (meddles : List Meddle)
+    (old new : CodeSide) (was now : Between) → (offered_bytes old.issued.items offer ≡ None) × (new.platform ≡ old.platform)
+    → SameSide old new → SameBetween was now → FitsSide pair which old → FitsBetween was
     → CommandDone pair which old new was now (commanded pair which old was meddles stop (Retire nonce offer)) reply.NoSnapshot
-retired_unissued pair which finds nonce offer stop meddles old new was now lent field formed same tries is digest issued kept position
-    tickets kept' away fits counted =
-    let n = nothing_named finds stop meddles (offered_bytes lent offer) old.platform new.platform
-    (subst (λ (x : Option (Result (List ℕ) MoveRefusal)). Tried finds stop meddles (offered_bytes lent offer) old.platform new.platform
-    (Ok x)) is tries) in
-    unissued_done pair which stop meddles (Retire nonce offer) reply.NoSnapshot old new was now formed fits counted n.1 digest issued kept
-    position tickets kept' away refl
-    (λ other committed. ap (retiring digests_move (instance_on pair which) (both_with old was other committed).first nonce)
-    (ap (λ (x : List (List ℕ)). offered_bytes x offer) (sym same) ∙ n.0))
-
--- the same over a list with room for the ticket
-left_from : (live : Bool) (position : ℕ) (stop : Stop) (came : Result (List ℕ) MoveRefusal) (was mid now : Between)
-    (result : Result MoveReply Memory) → mid.tickets.items ≡ was.tickets.items → mid.kept ≡ was.kept → mid.away ≡ was.away
-    → LeftAs live position stop came mid now result → LeftAs live position stop came was now result
-left_from live position stop (Ok ticket) was mid now result tickets kept away left = record {
-  tickets = left.tickets ∙ ap (λ (x : List (List ℕ)). x ++ ticket ∷ []) tickets;
-  kept = left.kept ∙ ap (λ n. within_64 (n + length ticket)) kept;
-  away = left.away ∙ ap (λ n. if live then position else n) away;
-  says = left.says ∙ ap (λ (x : List (List ℕ)). Ok (reply.Left (length x))) tickets;
-}
-left_from live position stop (Err why) was mid now result tickets kept away left = record {
-  tickets = left.tickets ∙ tickets;
-  kept = left.kept ∙ kept;
-  away = left.away ∙ ap (λ n. if live && has_moved stop why then position else n) away;
-  says = left.says;
-}
-
--- a retirement with what the offer named
-pub retired_done : (pair : Pair) (which : Which) (nonce : List ℕ) (offer : Offer) (stop : Stop) (meddles : List Meddle) (old new : CodeSide)
-    (was mid now : Between) (live : Bool) (cell : List ℕ) (lent : List (List ℕ)) (field : Option (Result (List ℕ) MoveRefusal))
-    (came : Result (List ℕ) MoveRefusal) (result : Result MoveReply Memory) → IsFormed pair which → length nonce ≡ 32
-    → lent ≡ old.issued.items
-    → Tried (λ bytes (cell : List ℕ). retires_in pair.meaning pair.variant (link_of pair) nonce bytes (moved_of cell)) stop meddles
-    (offered_bytes lent offer) old.platform new.platform (Ok field) → field ≡ Some came → live ≡ is_live (role_in (Some cell))
-    → old.platform.cell ≡ Some cell → new.digest ≡ old.digest → new.issued.items ≡ old.issued.items → new.kept ≡ old.kept
-    → new.position ≡ old.position → mid.tickets.items ≡ was.tickets.items → mid.kept ≡ was.kept → mid.away ≡ was.away
-    → LeftAs live old.position stop came mid now result → FitsSide pair which old → FitsBetween was
-    → MatchResult result (CommandDone pair which old new was now (commanded pair which old was meddles stop (Retire nonce offer)))
-    (λ _. CommandLacks pair which old new was now)
-retired_done pair which nonce offer stop meddles old new was mid now live cell lent field came result formed size same tries is lives holds
-    digest issued kept position tickets kept' away left fits counted =
-    let finds = λ (bytes cell : List ℕ). retires_in pair.meaning pair.variant (link_of pair) nonce bytes (moved_of cell) in
-    let n = named_by finds stop meddles (offered_bytes lent offer) old.platform new.platform came
-    (subst (λ (x : Option (Result (List ℕ) MoveRefusal)). Tried finds stop meddles (offered_bytes lent offer) old.platform new.platform
-    (Ok x)) is tries) in
-    left_done pair which nonce n.bytes offer stop meddles old new was now live came result formed size
-    (ap (λ (x : List (List ℕ)). offered_bytes x offer) (sym same) ∙ n.names) (lives ∙ ap (λ x. is_live (role_in x)) (sym holds)) n.planned
-    digest issued kept position (left_from live old.position stop came was mid now result tickets kept' away left) fits counted
+retired_unissued pair which nonce offer stop meddles old new was now none s b fits counted =
+    unissued_done pair which stop meddles (Retire nonce offer) reply.NoSnapshot old new was now fits counted none.1 s b refl
+    (λ other committed. ap (retiring digests_move (instance_on pair which) (both_with old was other committed).first nonce) none.0)

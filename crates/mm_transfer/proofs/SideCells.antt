@@ -3,7 +3,7 @@ use Rattle.mm_transfer.proofs.Below.{◌≡◌, ℕ, Bool, true, false, List, le
 use Rattle.mm_transfer.proofs.Below.{if◌then◌else◌, bytes_eq, Variant, CellFault, FitsVariant, blank_cell, Instance, Digests, cell_at}
 use Rattle.mm_transfer.proofs.Below.{MovedCell, Link, Ready, MoveRefusal, IsWaiting, moved_of, barrier_of, is_barred, is_other, refuse_if}
 use Rattle.mm_transfer.proofs.Below.{bytes_are, bytes_tell, eq_is, moved_back, blank_read, Role, Blank, Live, Waits, Left, MoveCause}
-use Rattle.mm_transfer.proofs.Below.{FoundMove, waiting_at, retired_at, cell_of_role, refusal_of, Matches, FitsCell}
+use Rattle.mm_transfer.proofs.Below.{FoundMove, waiting_at, retired_at, cell_of_role, refusal_of, IsSaid, Matches, FitsRole, FitsCell}
 use Rattle.mm_digest.specs.declared.variant.Variant.TheVariants as variants
 use Rattle.mm_seal.specs.declared.cell.CellFault.TheVariants as fault
 use Rattle.mm_seal.specs.PartsWords.{same_variant}
@@ -35,6 +35,17 @@ role_read i link (Waits nonce) d fit =
 role_read i link (Left nonce) d fit =
     moved_back (moved.Retired (retired_at i d nonce)) (record { summary = fit.fits.2; key = fit.key; nonce = fit.fits.1 })
 
+-- a side with another value in its register
+pub cell_reading : (i : Instance) (role : Role) (d : Digests) (register : List ℕ)
+    → cell_of_role i role d ≡ cell_of_role i role (record d { register = register })
+cell_reading i (Waits nonce) d register = refl
+cell_reading i _ d register = refl
+
+pub fits_reading : (i : Instance) (role : Role) (d : Digests) (register : List ℕ) → FitsRole i role d
+    → FitsRole i role (record d { register = register })
+fits_reading i (Waits nonce) d register fits = fits
+fits_reading i _ d register fits = fits
+
 -- tests that come out one way, and two choices by one test
 
 pub same_is : (v : Variant) → same_variant v v ≡ true
@@ -59,11 +70,14 @@ eq_turned xs ys =
     same_tests (bytes_eq xs ys) (bytes_eq ys xs) (λ e. bytes_are ys xs (sym (bytes_tell xs ys e)))
     (λ e. bytes_are xs ys (sym (bytes_tell ys xs e)))
 
-module _ {A : Type 0} (gives : FoundMove → A → Type 0) (i : Instance) (d : Digests) where
+module _ {A : Type 0} (gives : FoundMove → A → Type 0) (i : Instance) (role : Role) (d : Digests) where
+  abbrev Says : MoveRefusal → MoveCause → Type 0
+  Says why cause = (why ≡ refusal_of cause) × IsSaid cause
+
   -- one is refused where the other goes on
   pub by_not : (one other : Bool) (why : MoveRefusal) (rest : Result (Ready A) MoveRefusal) (found : Result FoundMove MoveCause)
-      (cause : MoveCause) → one ≡ other → Matches gives i d rest found → why ≡ refusal_of cause
-      → Matches gives i d (refuse_if (not one) why rest) (if other then found else Err cause)
+      (cause : MoveCause) → one ≡ other → Matches gives i role d rest found → Says why cause
+      → Matches gives i role d (refuse_if (not one) why rest) (if other then found else Err cause)
   by_not true true why rest found cause e m r = m
   by_not true false why rest found cause e m r = cc
   by_not false true why rest found cause e m r = cc
@@ -71,18 +85,18 @@ module _ {A : Type 0} (gives : FoundMove → A → Type 0) (i : Instance) (d : D
 
   pub by_both : (one : Bool) (why : MoveRefusal) (rest : Result (Ready A) MoveRefusal) (found : Result FoundMove MoveCause)
       (cause : MoveCause)
-      → why ≡ refusal_of cause → (one ≡ false → Matches gives i d rest found)
-      → Matches gives i d (refuse_if one why rest) (if one then Err cause else found)
+      → Says why cause → (one ≡ false → Matches gives i role d rest found)
+      → Matches gives i role d (refuse_if one why rest) (if one then Err cause else found)
   by_both true why rest found cause r m = r
   by_both false why rest found cause r m = m refl
 
   -- no other module's cell, and no other barrier
   pub past : (one : Bool) (why : MoveRefusal) (rest : Result (Ready A) MoveRefusal) (found : Result FoundMove MoveCause) → one ≡ false
-      → Matches gives i d rest found → Matches gives i d (refuse_if one why rest) found
+      → Matches gives i role d rest found → Matches gives i role d (refuse_if one why rest) found
   past true why rest found e m = cc
   past false why rest found e m = m
 
   pub is_refused : (one : Bool) (why : MoveRefusal) (rest : Result (Ready A) MoveRefusal) (cause : MoveCause) → one ≡ false
-      → why ≡ refusal_of cause → Matches gives i d (refuse_if (not one) why rest) (Err cause)
+      → Says why cause → Matches gives i role d (refuse_if (not one) why rest) (Err cause)
   is_refused true why rest cause e r = cc
   is_refused false why rest cause e r = r

@@ -1,23 +1,116 @@
--- A side in code goes on as its events say.
+-- A side in code goes on as its events say; what an event comes to where the module isn't.
 use Rattle.mm_transfer.proofs.Below.{◌≡◌, ◌∙◌, ◌+◌, ◌^◌, ◌≤◌, ◌<◌, ℕ, List, ◌++◌, length, Option, Some, Result, Ok, Err, inl, inr, refl}
-use Rattle.mm_transfer.proofs.Below.{sym, ap, subst, arith, append-nil, option_to_list, MatchResult, sum_by, Memory, Variant, Basic, Opt}
-use Rattle.mm_transfer.proofs.Below.{Batch, Meaning, IsLawful, meaning_of, Meddle, Stop, Standing, cell_spelling, Instance, Digests}
-use Rattle.mm_transfer.proofs.Below.{seen_in, reading_steps, by_digests, all_made, instance_by, cell_at, Event, Ask, Checkpoint}
-use Rattle.mm_transfer.proofs.Below.{IsPrintable, Header, Offer, Reply, Outcome, course_of, event_outcome, event_in_vain, offered_bytes}
-use Rattle.mm_transfer.proofs.Below.{few_committed, printable, issues_one, CameInVain, AsksPlanned, ChecksPlanned, Stands, IsQuiet, Role}
-use Rattle.mm_transfer.proofs.Below.{Blank, Live, Waiting, Retired, Which, Pair, key_of, instance_on, digests_move, plain_on, grown}
-use Rattle.mm_transfer.proofs.Below.{CodeSide, pair_of, length_if, role_in, at_in, side_in, waiting_on, StandsAs, within_64, FitsSide}
-use Rattle.mm_transfer.proofs.Below.{Comes, Lacks, EndsCall, outcome_on}
+use Rattle.mm_transfer.proofs.Below.{sym, ap, subst, arith, append-nil, option_to_list, MatchResult, sum_by, Memory, Batch, IsLawful}
+use Rattle.mm_transfer.proofs.Below.{meaning_of, Meddle, Stop, Standing, cell_spelling, Instance, Digests, seen_in, reading_steps}
+use Rattle.mm_transfer.proofs.Below.{by_digests, all_made, cell_at, Event, Ask, Checkpoint, IsPrintable, Header, Offer, Reply, Outcome}
+use Rattle.mm_transfer.proofs.Below.{course_of, event_outcome, event_in_vain, offered_bytes, few_committed, printable, issues_one}
+use Rattle.mm_transfer.proofs.Below.{CameInVain, AsksPlanned, ChecksPlanned, Stands, IsQuiet, Role, Live, Which, Pair, key_of, instance_on}
+use Rattle.mm_transfer.proofs.Below.{digests_move, plain_on, grown, CodeSide, pair_of, length_if, role_in, at_in, side_in, refused_where}
+use Rattle.mm_transfer.proofs.Below.{StandsAs, within_64, FitsSide, Comes, Lacks, EndsCall, outcome_on, Bool, true, false, [], ◌∷◌, map}
+use Rattle.mm_transfer.proofs.Below.{None, if◌then◌else◌, One, Move, Commit, Foreign, PowerMove, made, Step, Reads, Refusal, Walked, End}
+use Rattle.mm_transfer.proofs.Below.{Done, Fails, Fate, after_step, commits, called_by, Power, Extend, way_of, after_stop, uncalled}
+use Rattle.mm_transfer.proofs.Below.{reads_only, asked_in_vain, outcome_by, broken_reply, any_value, AreOuter, IsOuter, foreign_outer}
+use Rattle.mm_transfer.proofs.Below.{stop_outer}
+use Rattle.mm_world.specs.Asks as asks
+use Rattle.mm_schedule.specs.declared.reply.Reply.TheVariants as reply
+use Rattle.mm_schedule.specs.declared.reply.Cause.TheVariants as cause
 use Rattle.mm_base.specs.Limits.{most_members}
 use Rattle.mm_modules.specs.ModulesLaws.{any_is_lawful}
-use Rattle.mm_seal.specs.declared.cell.CellFault.TheVariants as fault
-use Rattle.mm_model.specs.declared.refusal.Refusal.TheVariants as refusal
 use Rattle.mm_world.specs.declared.call.Called.{Called}
 use Rattle.mm_world.specs.Asks.{Came, AsksAs, ChecksAs, quiet_as}
-use Rattle.mm_world.specs.Asks as asks
-use Rattle.mm_transfer.specs.OneSide.{retired_on}
-use Rattle.mm_transfer.proofs.VainEvents.{IsRegister, others_made, seen_others, IsVain, event_vain}
-use Rattle.mm_transfer.proofs.SideStands.{role_live, at_same, still_fits, kept_more, live_fits, Stays, register_as, stays_same, blank_reads, waiting_reads, retired_reads}
+use Rattle.mm_transfer.proofs.SideStands.{meaning_by, live_stands, stands_live, same_keeps, side_is, side_stays, kept_more, Stays, stays_same, fault_where, vain_reads}
+use Rattle.mm_model.specs.ListLaws.{each_append}
+use Rattle.mm_model.specs.Long.{is_long}
+use Rattle.mm_call.specs.CalledWords.{kept_at}
+use Rattle.mm_schedule.specs.declared.reply.Way.{Way}
+
+-- values of others and losses of power change the register alone
+
+abbrev pub IsRegister : Digests → Digests → Type 0
+IsRegister d d' = d' ≡ record d { register = d'.register }
+
+abbrev Any : List ℕ → Type 0
+Any v = Unit {0}
+
+pub outer_digests : (P : List ℕ → Type 0) (i : Instance) (moves : List Move) (d : Digests) → AreOuter P moves
+    → IsRegister d (all_made (by_digests i) d moves)
+outer_digests P i [] d h = refl
+outer_digests P i (Foreign v ∷ moves) d h = outer_digests P i moves (made i d (Foreign v)) h.1
+outer_digests P i (PowerMove ∷ moves) d h = outer_digests P i moves (made i d PowerMove) h.1
+outer_digests P i (Commit b ∷ moves) d h = absurd h.0
+outer_digests P i _ d h = absurd h.0
+
+brought_outer : (fate : Fate) → AreOuter Any (map Foreign fate.brings)
+brought_outer fate = foreign_outer Any fate.brings (any_value fate.brings)
+
+pub seen_digests : (i : Instance) (d : Digests) (fates : ℕ → Fate) (steps : List Step) (n : ℕ)
+    → IsRegister d (all_made (by_digests i) d (seen_in fates steps n))
+seen_digests i d fates steps n = outer_digests Any i (seen_in fates steps n) d (seen_outer steps n)
+  where
+    seen_outer : (steps : List Step) (n : ℕ) → AreOuter Any (seen_in fates steps n)
+    seen_outer [] n = tt
+    seen_outer (step ∷ steps) n =
+        each_append (IsOuter Any) (map Foreign (fates n).brings) (seen_in fates steps (n + 1)) (brought_outer (fates n))
+        (seen_outer steps (n + 1))
+
+-- what an event in vain comes to
+
+-- Nothing is issued, the reply can be printed, and the register alone has changed.
+pub record IsVain (d : Digests) (before : List (List ℕ)) (o : Outcome Digests) : Type 0 where
+  pub state : IsRegister d o.state
+  pub issued : o.issued ≡ before
+  pub printable : IsPrintable o.reply
+
+then_made : (i : Instance) (d mid : Digests) (moves : List Move) → IsRegister d mid → AreOuter Any moves
+    → IsRegister d (all_made (by_digests i) mid moves)
+then_made i d mid moves is are =
+    let after : Digests = all_made (by_digests i) mid moves in
+    outer_digests Any i moves mid are ∙ ap (λ (x : Digests). record x { register = after.register }) is
+
+kept_printed : (how : Way) (kept : Option ℕ) → IsPrintable (broken_reply how kept)
+kept_printed how None = tt
+kept_printed how (Some position) = tt
+
+read_vain : (i : Instance) (d : Digests) (issued : List (List ℕ)) (stop : Stop) (why : Refusal) (fate : Fate) (ends : End)
+    → fate.ends ≡ ends → (let nothing : Walked = record { moves = []; steps = 0; writes = 0; broken = None } in
+    IsVain d issued (outcome_by (by_digests i) stop issued
+    (called_by (by_digests i) d d (One []) (Err why) (after_step Reads fate.brings ends nothing))))
+read_vain i d issued stop why fate Done is = record {
+  state = outer_digests Any i (map Foreign fate.brings ++ []) d
+      (each_append (IsOuter Any) (map Foreign fate.brings) [] (brought_outer fate) tt);
+  issued = append-nil issued;
+  printable = tt;
+}
+read_vain i d issued stop why fate (Fails why_broken is_made) is = record {
+  state = then_made i d _ (after_stop stop) (outer_digests Any i (map Foreign fate.brings) d (brought_outer fate)) (stop_outer Any stop);
+  issued = append-nil issued;
+  printable = kept_printed (way_of stop) (kept_at (commits (map Foreign fate.brings)) 0);
+}
+
+reads_vain : (i : Instance) (d : Digests) (issued : List (List ℕ)) (meddles : List Meddle) (stop : Stop) (why : Refusal)
+    → IsVain d issued (reads_only (by_digests i) d issued meddles stop why)
+reads_vain i d issued meddles stop why =
+    read_vain i d issued stop why ((course_of stop meddles).fates 1) ((course_of stop meddles).fates 1).ends refl
+
+uncalled_vain : (d : Digests) (issued : List (List ℕ)) (said : Reply) → IsPrintable said → IsVain d issued (uncalled d issued said)
+uncalled_vain d issued said p = record { state = refl; issued = refl; printable = p }
+
+ask_vain : (i : Instance) (d : Digests) (issued : List (List ℕ)) (meddles : List Meddle) (stop : Stop) (why : Refusal) (long : Bool)
+    → IsVain d issued (if long then uncalled d issued (reply.No cause.Long) else reads_only (by_digests i) d issued meddles stop why)
+ask_vain i d issued meddles stop why true = uncalled_vain d issued _ tt
+ask_vain i d issued meddles stop why false = reads_vain i d issued meddles stop why
+
+asked_vain : (i : Instance) (d : Digests) (issued : List (List ℕ)) (meddles : List Meddle) (stop : Stop) (why : Refusal)
+    (bytes : Option (List ℕ)) (b : Batch) → IsVain d issued (asked_in_vain (by_digests i) d issued meddles stop why bytes b)
+asked_vain i d issued meddles stop why None b = uncalled_vain d issued _ tt
+asked_vain i d issued meddles stop why (Some bytes) b = ask_vain i d issued meddles stop why (is_long b)
+
+pub event_vain : (i : Instance) (d : Digests) (issued : List (List ℕ)) (why : Refusal) (event : Event)
+    → IsVain d issued (event_in_vain (by_digests i) d issued why event)
+event_vain i d issued why (Ask meddles stop offer b) = asked_vain i d issued meddles stop why (offered_bytes issued offer) b
+event_vain i d issued why (Checkpoint meddles stop) = reads_vain i d issued meddles stop why
+event_vain i d issued why Power = record { state = refl; issued = refl; printable = tt }
+event_vain i d issued why (Extend value) = record { state = refl; issued = refl; printable = tt }
 
 -- A side whose call is over, over the platform as the call left it.
 pub record Ended (old new : CodeSide) (it : Called) : Type 0 where
@@ -41,13 +134,13 @@ live_comes pair which old new o it live f bound few c e =
     let most = few.count in
     let position : new.position ≡ o.state.count = omega (arith, e.position, count, most, bound) in
     let kept = kept_more old.kept new.kept old.issued.items new.issued.items it.snapshot f.kept e.issued e.kept in
-    let both = live_fits pair which new o.state c.stands c.quiet position kept in
-    let role = role_live (instance_on pair which) o.state new.platform c.stands ∙ sym live in
+    let side = side_is pair which Live o.state new (live_stands pair which new.platform o.state c.stands) c.quiet position tt kept in
+    let role = side.role_is ∙ sym live in
     let issued : new.issued.items ≡ o.issued = e.issued ∙ c.issues in
-    let at = both.1 in
+    let at = side.at_is in
     record {
       goes = record {
-        fits = both.0;
+        fits = side.fits;
         few = omega (arith, position, most);
         one = subst (λ (x : List (List ℕ)). length x ≤ length old.issued.items + 1) (sym issued) few.one;
       };
@@ -59,10 +152,8 @@ live_comes pair which old new o it live f bound few c e =
     }
 
 none_grown : (role : Role) (n m : ℕ) → m ≡ n → grown role n m ≡ 0
-none_grown Blank n m e = refl
 none_grown Live n m e = omega (arith, e)
-none_grown (Waiting nonce) n m e = refl
-none_grown (Retired nonce) n m e = refl
+none_grown _ n m e = refl
 
 vain_comes : (pair : Pair) (which : Which) (old new : CodeSide) (o : Outcome Digests) (it : Called) → FitsSide pair which old
     → old.position < 2 ^ 63 → IsVain (at_in old) old.issued.items o → CameInVain o old.issued.items old.platform new.platform it
@@ -72,14 +163,15 @@ vain_comes pair which old new o it f bound v c e =
     let position : new.position ≡ old.position = omega (arith, e.position, none, bound) in
     let kept = kept_more old.kept new.kept old.issued.items new.issued.items it.snapshot f.kept e.issued e.kept in
     let issued : new.issued.items ≡ o.issued = e.issued ∙ c.issues in
-    let at : at_in new ≡ o.state = at_same old new o.state.register c.cell e.digest position c.register ∙ sym v.state in
+    let side = side_stays pair which old new o.state.register f c.cell c.register c.quiet position (same_keeps old new e.digest) kept in
+    let at : at_in new ≡ o.state = side.at_is ∙ sym v.state in
     let role = ap role_in c.cell in
     let same : new.issued.items ≡ old.issued.items = issued ∙ v.issued in
     let count : o.state.count ≡ old.position = ap (λ (d : Digests). d.count) v.state in
     let grows = none_grown (role_in old.platform.cell) old.position o.state.count count in
     record {
       goes = record {
-        fits = still_fits pair which old new o.state.register f c.cell e.digest position c.register c.quiet kept;
+        fits = side.fits;
         few = omega (arith, position);
         one = subst (λ (x : List (List ℕ)). length x ≤ length old.issued.items + 1) (sym same) (omega arith);
       };
@@ -92,19 +184,11 @@ vain_comes pair which old new o it f bound v c e =
 -- what a call came to, by the role of its side
 
 abbrev CameBy : Pair → Which → Role → Digests → List (List ℕ) → Standing → Standing → Event → Called → Type 0
-CameBy pair which Blank d issued old new event it =
-    CameInVain (event_in_vain (by_digests (instance_on pair which)) d issued refusal.Blank event) issued old new it
 CameBy pair which Live d issued old new event it =
     Came (instance_on pair which) (event_outcome (instance_on pair which) (by_digests (instance_on pair which)) d issued event) d.count
     issued old new it
-CameBy pair which (Waiting nonce) d issued old new event it =
-    CameInVain (event_in_vain (by_digests (instance_on pair which)) d issued refusal.Cell event) issued old new it
-CameBy pair which (Retired nonce) d issued old new event it =
-    CameInVain (event_in_vain (by_digests (instance_on pair which)) d issued refusal.Cell event) issued old new it
-
-meaning_by : (variant : Variant) (meaning : Meaning) (key barrier : List ℕ) → (instance_by variant meaning key barrier).meaning ≡ meaning
-meaning_by Basic meaning key barrier = refl
-meaning_by Opt meaning key barrier = refl
+CameBy pair which role d issued old new event it =
+    CameInVain (event_in_vain (by_digests (instance_on pair which)) d issued (refused_where role) event) issued old new it
 
 few_live : (header : Header) (which : Which) (d : Digests) (issued : List (List ℕ)) (event : Event)
     → (let i = instance_on (pair_of header) which in IsFew d.count issued (event_outcome i (by_digests i) d issued event))
@@ -121,15 +205,9 @@ comes_as : (header : Header) (which : Which) (role : Role) (old new : CodeSide) 
     → Comes (pair_of header) which old new (plain_on digests_move (instance_on (pair_of header) which) role (side_in old) event) it.reply
 comes_as header which Live old new event it is f bound c e =
     live_comes (pair_of header) which old new _ it is f bound (few_live header which (at_in old) old.issued.items event) c e
-comes_as header which Blank old new event it is f bound c e =
+comes_as header which role old new event it is f bound c e =
     vain_comes (pair_of header) which old new _ it f bound
-    (event_vain (instance_on (pair_of header) which) (at_in old) old.issued.items refusal.Blank event) c e
-comes_as header which (Waiting nonce) old new event it is f bound c e =
-    vain_comes (pair_of header) which old new _ it f bound
-    (event_vain (instance_on (pair_of header) which) (at_in old) old.issued.items refusal.Cell event) c e
-comes_as header which (Retired nonce) old new event it is f bound c e =
-    vain_comes (pair_of header) which old new _ it f bound
-    (event_vain (instance_on (pair_of header) which) (at_in old) old.issued.items refusal.Cell event) c e
+    (event_vain (instance_on (pair_of header) which) (at_in old) old.issued.items (refused_where role) event) c e
 
 -- a call that asks
 
@@ -137,13 +215,10 @@ asks_by : (pair : Pair) (which : Which) (role : Role) (d : Digests) (old new : S
     (stop : Stop) (offer : Offer) (b : Batch) (it : Called) → StandsAs pair which role old d → IsQuiet old
     → AsksPlanned pair.variant pair.meaning old new issued meddles stop (offered_bytes issued offer) b (Ok it)
     → CameBy pair which role d issued old new (Ask meddles stop offer b) it
-asks_by pair which Live d old new issued meddles stop offer b it s q asks = asks.own (key_of pair which) pair.barrier d s q
-asks_by pair which Blank d old new issued meddles stop offer b it s q asks =
-    asks.vain (instance_on pair which) d (Err fault.Blank) refusal.Blank (blank_reads old d s q) refl
-asks_by pair which (Waiting nonce) d old new issued meddles stop offer b it s q asks =
-    asks.vain (instance_on pair which) d (Err fault.Cell) refusal.Cell (waiting_reads (waiting_on pair which nonce) old d s.1 q) refl
-asks_by pair which (Retired nonce) d old new issued meddles stop offer b it s q asks =
-    asks.vain (instance_on pair which) d (Err fault.Cell) refusal.Cell (retired_reads (retired_on pair which d nonce) old d s.1 q) refl
+asks_by pair which Live d old new issued meddles stop offer b it s q asks =
+    asks.own (key_of pair which) pair.barrier d (stands_live pair which old d s) q
+asks_by pair which role d old new issued meddles stop offer b it s q asks =
+    asks.vain (instance_on pair which) d (Err (fault_where role)) (refused_where role) (vain_reads pair which role old d refl s q) refl
 
 pub asked_comes : (header : Header) (which : Which) (old mid new : CodeSide) (lent : List (List ℕ)) (meddles : List Meddle) (stop : Stop)
     (offer : Offer) (b : Batch) (it : Called) (said : Reply) → old.position < 2 ^ 63 → mid.digest ≡ old.digest → mid.kept ≡ old.kept
@@ -180,9 +255,7 @@ live_stays i d meddles stop old new s q l = elim l.called [
   | inr e ↦
       let seen = all_made (by_digests i) d (seen_in (course_of stop meddles).fates (reading_steps i.variant) 1) in
       let there : Stands i new seen = e.0 in
-      let is : IsRegister d seen =
-      others_made i d (seen_in (course_of stop meddles).fates (reading_steps i.variant) 1)
-      (seen_others (course_of stop meddles).fates (reading_steps i.variant) 1) in
+      let is : IsRegister d seen = seen_digests i d (course_of stop meddles).fates (reading_steps i.variant) 1 in
       record {
         value = seen.register;
         cell = there.at.cell ∙ ap (λ (x : Digests). Some (cell_spelling (cell_at i x))) is ∙ sym s.at.cell;
@@ -195,16 +268,11 @@ lacks_by : (pair : Pair) (which : Which) (role : Role) (d : Digests) (old new : 
     (stop : Stop) (bytes : Option (List ℕ)) (b : Batch) (memory : Memory) → StandsAs pair which role old d → IsQuiet old
     → AsksPlanned pair.variant pair.meaning old new issued meddles stop bytes b (Err memory) → Stays old new
 lacks_by pair which Live d old new issued meddles stop bytes b memory s q asks =
-    live_stays (instance_on pair which) d meddles stop old new s q (asks.own (key_of pair which) pair.barrier d s q)
-lacks_by pair which Blank d old new issued meddles stop bytes b memory s q asks =
-    stays_same old new d.register s.register q (asks.vain (instance_on pair which) d (Err fault.Blank) refusal.Blank
-    (blank_reads old d s q) refl)
-lacks_by pair which (Waiting nonce) d old new issued meddles stop bytes b memory s q asks =
-    stays_same old new d.register s.1.register q (asks.vain (instance_on pair which) d (Err fault.Cell) refusal.Cell
-    (waiting_reads (waiting_on pair which nonce) old d s.1 q) refl)
-lacks_by pair which (Retired nonce) d old new issued meddles stop bytes b memory s q asks =
-    stays_same old new d.register s.1.register q (asks.vain (instance_on pair which) d (Err fault.Cell) refusal.Cell
-    (retired_reads (retired_on pair which d nonce) old d s.1 q) refl)
+    let l = stands_live pair which old d s in
+    live_stays (instance_on pair which) d meddles stop old new l q (asks.own (key_of pair which) pair.barrier d l q)
+lacks_by pair which role d old new issued meddles stop bytes b memory s q asks =
+    stays_same old new d.register s.register q (asks.vain (instance_on pair which) d (Err (fault_where role)) (refused_where role)
+    (vain_reads pair which role old d refl s q) refl)
 
 lacks_as : (pair : Pair) (which : Which) (old new : CodeSide) → FitsSide pair which old → Stays old.platform new.platform
     → new.digest ≡ old.digest
@@ -214,7 +282,7 @@ lacks_as pair which old new f s digest issued kept position =
     subst (λ (x : List (List ℕ)). new.kept ≡ within_64 (sum_by length x)) (sym issued) (kept ∙ f.kept) in
     record {
       goes = record {
-        fits = still_fits pair which old new s.value f s.cell digest position s.register s.quiet sum;
+        fits = (side_stays pair which old new s.value f s.cell s.register s.quiet position (same_keeps old new digest) sum).fits;
         few = omega (arith, position);
         one = subst (λ (x : List (List ℕ)). length x ≤ length old.issued.items + 1) (sym issued) (omega arith);
       };
@@ -241,25 +309,17 @@ checks_by : (pair : Pair) (which : Which) (role : Role) (d : Digests) (old new :
     (stop : Stop) (said : Reply) → StandsAs pair which role old d → IsQuiet old → ChecksPlanned old new issued meddles stop (Ok said)
     → CameBy pair which role d issued old new (Checkpoint meddles stop) (quiet_as said)
 checks_by pair which Live d old new issued meddles stop said s q checks =
-    checks.own pair.variant pair.meaning (key_of pair which) pair.barrier d s q
-checks_by pair which Blank d old new issued meddles stop said s q checks =
-    checks.vain (instance_on pair which) d fault.Blank (blank_reads old d s q)
-checks_by pair which (Waiting nonce) d old new issued meddles stop said s q checks =
-    checks.vain (instance_on pair which) d fault.Cell (waiting_reads (waiting_on pair which nonce) old d s.1 q)
-checks_by pair which (Retired nonce) d old new issued meddles stop said s q checks =
-    checks.vain (instance_on pair which) d fault.Cell (retired_reads (retired_on pair which d nonce) old d s.1 q)
+    checks.own pair.variant pair.meaning (key_of pair which) pair.barrier d (stands_live pair which old d s) q
+checks_by pair which role d old new issued meddles stop said s q checks =
+    checks.vain (instance_on pair which) d (fault_where role) (vain_reads pair which role old d refl s q)
 
 checks_want : (pair : Pair) (which : Which) (role : Role) (d : Digests) (old new : Standing) (issued : List (List ℕ))
     (meddles : List Meddle) (stop : Stop) (memory : Memory)
     → StandsAs pair which role old d → IsQuiet old → ChecksPlanned old new issued meddles stop (Err memory) → new ≡ old
 checks_want pair which Live d old new issued meddles stop memory s q checks =
-    checks.own pair.variant pair.meaning (key_of pair which) pair.barrier d s q
-checks_want pair which Blank d old new issued meddles stop memory s q checks =
-    checks.vain (instance_on pair which) d fault.Blank (blank_reads old d s q)
-checks_want pair which (Waiting nonce) d old new issued meddles stop memory s q checks =
-    checks.vain (instance_on pair which) d fault.Cell (waiting_reads (waiting_on pair which nonce) old d s.1 q)
-checks_want pair which (Retired nonce) d old new issued meddles stop memory s q checks =
-    checks.vain (instance_on pair which) d fault.Cell (retired_reads (retired_on pair which d nonce) old d s.1 q)
+    checks.own pair.variant pair.meaning (key_of pair which) pair.barrier d (stands_live pair which old d s) q
+checks_want pair which role d old new issued meddles stop memory s q checks =
+    checks.vain (instance_on pair which) d (fault_where role) (vain_reads pair which role old d refl s q)
 
 ended_quiet : (pair : Pair) (which : Which) (old new : CodeSide) (said : Reply) → FitsSide pair which old → old.position < 2 ^ 63
     → new.digest ≡ old.digest
@@ -288,5 +348,6 @@ checked header which old new meddles stop (Err memory) bound digest kept positio
     let role = role_in old.platform.cell in
     let same = checks_want pair which role (at_in old) old.platform new.platform old.issued.items meddles stop memory f.stands f.quiet
     checks in
-    let r = register_as pair which role (at_in old) old.platform f.stands in
-    lacks_as pair which old new f (stays_same old.platform new.platform (at_in old).register r f.quiet same) digest issued kept position
+    lacks_as pair which old new f (stays_same old.platform new.platform
+    (at_in old).register f.stands.register f.quiet same) digest issued kept
+    position

@@ -1,10 +1,6 @@
 -- What happens on one side in code, whichever it is: an event of a schedule, or a command.
-use Rattle.std.specs.Prelude.{◌≡◌, ◌≤◌, ◌<◌, ◌+◌, ◌^◌, ℕ, length, Result, MatchResult}
-use Rattle.mm_base.specs.declared.fault.Memory.{Memory}
-use Rattle.mm_base.specs.Limits.{most_members}
-use Rattle.mm_model.specs.Moves.{Digests}
-use Rattle.mm_sides.specs.Both.{Which, Pair, instance_on, Side, digests_move}
-use Rattle.mm_sides.specs.Folds.{Act, BothOutcome, outcome_here}
+use Rattle.mm_transfer.specs.Below.{◌≡◌, ◌≤◌, ◌<◌, ◌+◌, ◌^◌, ℕ, length, Result, MatchResult, most_members, Memory, Digests, Which, Pair}
+use Rattle.mm_transfer.specs.Below.{instance_on, Side, digests_move, Act, BothOutcome, outcome_here}
 use Rattle.mm_transfer.specs.declared.between.Between.{Between}
 use Rattle.mm_transfer.specs.declared.reply.MoveReply.{MoveReply}
 use Rattle.mm_transfer.specs.declared.side.Side.{Side as CodeSide}

@@ -1,22 +1,10 @@
 -- What passes between both sides, and what a command makes of a side and of it.
-use Rattle.std.specs.Prelude.{◌≡◌, ◌≤◌, ◌+◌, ◌&&◌, ℕ, Bool, not, List, [], ◌∷◌, ◌++◌, length, Option, None, Some, Result, Ok, Err, IsErr, MatchResult, is_some, if◌then◌else◌}
-use Rattle.std.specs.List.{sum_by}
-use Rattle.mm_base.specs.declared.fault.Memory.{Memory}
-use Rattle.mm_platform.specs.declared.plan.Meddle.{Meddle}
-use Rattle.mm_platform.specs.declared.plan.Stop.{Stop}
-use Rattle.mm_platform.specs.Standing.{Standing}
-use Rattle.mm_model.specs.Moves.{Digests}
-use Rattle.mm_model.specs.declared.refusal.Refusal.{Refusal}
+use Rattle.mm_transfer.specs.Below.{sum_by, ◌≡◌, ◌≤◌, ◌+◌, ◌&&◌, ℕ, Bool, not, List, [], ◌∷◌, ◌++◌, length, Option, None, Some, Result, Ok}
+use Rattle.mm_transfer.specs.Below.{Err, IsErr, MatchResult, is_some, if◌then◌else◌, Memory, Standing, Meddle, Stop, Digests, Refusal}
+use Rattle.mm_transfer.specs.Below.{move_fault_of, Accepted, Ready, MoveRefusal, cause_of, way_of, Which, Pair, instance_on, Side, Both}
+use Rattle.mm_transfer.specs.Below.{digests_move, BothOutcome, move_outcome, Command}
 use Rattle.mm_model.specs.declared.refusal.Refusal.TheVariants as core
-use Rattle.mm_run.specs.Folds.{cause_of, way_of}
-use Rattle.mm_move.specs.declared.accepting.Accepted.{Accepted}
-use Rattle.mm_move.specs.declared.ready.Ready.{Ready}
-use Rattle.mm_move.specs.declared.refusal.MoveRefusal.{MoveRefusal}
 use Rattle.mm_move.specs.declared.refusal.MoveRefusal.TheVariants as refusal
-use Rattle.mm_move.specs.Refusals.{move_fault_of}
-use Rattle.mm_sides.specs.Both.{Which, Pair, instance_on, Side, Both, digests_move}
-use Rattle.mm_sides.specs.Folds.{BothOutcome, move_outcome}
-use Rattle.mm_sides.specs.Moves.{Command}
 use Rattle.mm_transfer.specs.declared.between.Between.{Between}
 use Rattle.mm_transfer.specs.declared.reply.MoveCause.TheVariants as cause
 use Rattle.mm_transfer.specs.declared.reply.MoveReply.{MoveReply}

@@ -1,5 +1,5 @@
 -- Events of two sides as contracts see them.
-use Rattle.mm_schedule.specs.Events.{event_of, meddles_of}
+use Rattle.mm_transfer.specs.Below.{event_of, meddles_of}
 use Rattle.mm_sides.specs.Both as both
 use Rattle.mm_sides.specs.Folds as folds
 use Rattle.mm_sides.specs.Moves as moves

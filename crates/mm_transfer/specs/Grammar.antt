@@ -1,21 +1,8 @@
 -- The grammar of the lines of two sides, as a reading of the bytes.
-use Rattle.std.specs.Prelude.{ℕ, List, Option, Some, None, if◌then◌else◌, codes}
-use Rattle.std.specs.Option.{option_map_or}
-use Rattle.std.specs.Str.{bytes_eq}
-use Rattle.mm_module.specs.Batch.{One}
-use Rattle.mm_module.specs.Values.{value_at}
-use Rattle.mm_platform.specs.declared.plan.Meddle.{Meddle}
-use Rattle.mm_platform.specs.declared.plan.Stop.{Stop}
-use Rattle.mm_schedule.specs.declared.event.Offer.{Offer}
-use Rattle.mm_schedule.specs.declared.event.Offer.TheVariants.{Number, Last, Flip, Raw}
-use Rattle.mm_schedule.specs.declared.header.Header.{Header}
-use Rattle.mm_schedule.specs.Events.{Ask, Checkpoint, Power, Extend}
-use Rattle.mm_schedule.specs.Grammar.{meddles_at, stop_at, offer_at}
-use Rattle.mm_schedule.specs.Headers.{head_at}
-use Rattle.mm_schedule.specs.Words.{◌>>=◌, after_prefix, bytes_at, number_at, word_at}
-use Rattle.mm_sides.specs.Both.{Which, First, Second}
-use Rattle.mm_sides.specs.Folds.{Act, Plain, Moves, BothEvent}
-use Rattle.mm_sides.specs.Moves.{Command, Invite, Retire, Accept}
+use Rattle.mm_transfer.specs.Below.{option_map_or, ℕ, List, Option, Some, None, if◌then◌else◌, codes, bytes_eq, Meddle, Stop, One, value_at}
+use Rattle.mm_transfer.specs.Below.{Ask, Checkpoint, Power, Extend, meddles_at, stop_at, offer_at, head_at, ◌>>=◌, after_prefix, bytes_at}
+use Rattle.mm_transfer.specs.Below.{number_at, word_at, Offer, Number, Last, Flip, Raw, Header, Which, First, Second, Act, Plain, Moves}
+use Rattle.mm_transfer.specs.Below.{BothEvent, Command, Invite, Retire, Accept}
 
 -- the header that the first line names, as `memoir transfer 1 basic counter`
 unfoldable pub first_at : List ℕ → Option Header

@@ -1,19 +1,8 @@
 -- What the lines of two sides are answered: the whole run, and not its lines one by one.
-use Rattle.std.specs.Prelude.{◌≡◌, ◌≤◌, ◌<◌, ◌+◌, ℕ, List, [], ◌∷◌, ◌++◌, length, map, Some, ◌⊎◌}
-use Rattle.std.specs.List.{sum_by}
-use Rattle.mm_base.specs.Limits.{most_events}
-use Rattle.mm_model.specs.Moves.{Digests}
-use Rattle.mm_modules.specs.Modules.{meaning_of}
-use Rattle.mm_replay.specs.Schedule.{most_kept}
-use Rattle.mm_schedule.specs.declared.header.Header.{Header}
-use Rattle.mm_schedule.specs.Machine.{Runs}
-use Rattle.mm_schedule.specs.Promises.{Promises}
-use Rattle.mm_sides.specs.Roles.{no_notes}
-use Rattle.mm_sides.specs.Order.{AtMostOne}
-use Rattle.mm_sides.specs.Both.{Both, digests_move, first_lists}
-use Rattle.mm_sides.specs.Folds.{BothEvent, BothFollowed, both_followed, both_expected, both_by_digests}
-use Rattle.mm_sides.specs.Laws.{IsOneFrom, plain_events, plain_replies, both_continued}
-use Rattle.mm_sides.specs.Premises.{IsClearPair, IsGenuinePair, IsFreshPair}
+use Rattle.mm_transfer.specs.Below.{sum_by, ◌≡◌, ◌≤◌, ◌<◌, ◌+◌, ℕ, List, [], ◌∷◌, ◌++◌, length, map, Some, ◌⊎◌, most_events, meaning_of}
+use Rattle.mm_transfer.specs.Below.{Digests, Runs, Promises, Header, Both, digests_move, first_lists, BothEvent, BothFollowed}
+use Rattle.mm_transfer.specs.Below.{both_followed, both_expected, both_by_digests, IsOneFrom, plain_events, plain_replies, both_continued}
+use Rattle.mm_transfer.specs.Below.{AtMostOne, IsClearPair, IsGenuinePair, IsFreshPair, no_notes, most_kept}
 use Rattle.mm_transfer.specs.Answers.{answers_text}
 use Rattle.mm_transfer.specs.Grammar.{first_at, event_at}
 use Rattle.mm_transfer.specs.Pairs.{pair_of}

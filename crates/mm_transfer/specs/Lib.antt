@@ -1,3 +1,4 @@
+pub mod Below
 pub mod Pairs
 pub mod Events
 pub mod Replies

@@ -1,37 +1,13 @@
 -- One side in code, and what it is by digests.
-use Rattle.std.specs.Prelude.{◌≡◌, ◌≤◌, ◌+◌, ◌-◌, ◌^◌, ◌++◌, ℕ, Bool, false, List, [], length, min, Option, None, Some, Result, Ok, Err, MatchResult, option_to_list}
-use Rattle.std.specs.List.{sum_by}
-use Rattle.mm_base.specs.declared.fault.Memory.{Memory}
-use Rattle.mm_base.specs.Limits.{most_members}
-use Rattle.mm_digest.specs.Messages.{start_of}
-use Rattle.mm_seal.specs.declared.cell.CellFault.{CellFault}
-use Rattle.mm_seal.specs.Cell.{blank_cell}
-use Rattle.mm_platform.specs.Memory.{new_platform}
-use Rattle.mm_platform.specs.Standing.{Standing}
-use Rattle.mm_modules.specs.Modules.{meaning_of}
-use Rattle.mm_model.specs.Moves.{Digests}
-use Rattle.mm_model.specs.Standing.{register_reads}
-use Rattle.mm_call.specs.Standing.{cell_at}
-use Rattle.mm_schedule.specs.Events.{Event}
-use Rattle.mm_schedule.specs.Replies.{IsPrintable}
-use Rattle.mm_schedule.specs.declared.header.Header.{Header}
-use Rattle.mm_schedule.specs.declared.reply.Reply.{Reply}
-use Rattle.mm_run.specs.Folds.{Outcome}
-use Rattle.mm_world.specs.declared.call.Called.{Called}
-use Rattle.mm_world.specs.Held.{digest_in, flag_in, value_in}
-use Rattle.mm_world.specs.Stands.{Stands, IsQuiet}
-use Rattle.mm_move.specs.declared.cell.MovedCell.{MovedCell}
+use Rattle.mm_transfer.specs.Below.{sum_by, ◌≡◌, ◌≤◌, ◌+◌, ◌-◌, ◌^◌, ◌++◌, ℕ, Bool, false, List, [], length, min, Option, None, Some}
+use Rattle.mm_transfer.specs.Below.{Result, Ok, Err, MatchResult, option_to_list, most_members, Memory, start_of, CellFault, new_platform}
+use Rattle.mm_transfer.specs.Below.{Standing, meaning_of, Digests, register_reads, moved_of, MovedCell, Link, Event, IsPrintable, Header}
+use Rattle.mm_transfer.specs.Below.{Reply, Outcome, Which, Pair, instance_on, Side, digests_move, plain_on, grown, Role, Blank, Live}
+use Rattle.mm_transfer.specs.Below.{Waiting, Retired, digest_in, flag_in, value_in, IsQuiet, Called}
 use Rattle.mm_move.specs.declared.cell.MovedCell.TheVariants as moved
-use Rattle.mm_move.specs.declared.cell.Retired.{Retired as RetiredCell}
-use Rattle.mm_move.specs.declared.cell.Waiting.{Waiting as WaitingCell}
-use Rattle.mm_move.specs.declared.link.Link.{Link}
-use Rattle.mm_move.specs.Cells.{moved_of, waiting_spelling, retired_spelling, IsWaiting, IsRetired}
-use Rattle.mm_move.specs.Orders.{waiting_for, retired_from}
-use Rattle.mm_sides.specs.Roles.{Role, Blank, Live, Waiting, Retired}
-use Rattle.mm_sides.specs.Both.{Which, Pair, key_of, instance_on, Side, digests_move}
-use Rattle.mm_sides.specs.Folds.{plain_on, grown}
 use Rattle.mm_transfer.specs.declared.side.Side.{Side as CodeSide}
 use Rattle.mm_transfer.specs.Pairs.{pair_of}
+use Rattle.mm_transfer.specs.RoleCells.{cell_of_role, FitsCell}
 use Rattle.mm_transfer.specs.Lengths.{length_if}
 
 -- nothing of a side has changed, but that its register may have another value
@@ -56,16 +32,13 @@ role_in (Some bytes) = role_of (moved_of bytes)
 -- The summary or anchor where a side stands or last stood, and its flag: a cell has them where the
 -- module is or left, and elsewhere the digest is kept.
 abbrev pub digest_by : Role → List ℕ → Option (List ℕ) → List ℕ
-digest_by Blank kept cell = kept
 digest_by Live kept cell = digest_in cell
-digest_by (Waiting nonce) kept cell = kept
 digest_by (Retired nonce) kept cell = digest_in cell
+digest_by role kept cell = kept
 
 abbrev pub flag_by : Role → Option (List ℕ) → Bool
-flag_by Blank cell = false
 flag_by Live cell = flag_in cell
-flag_by (Waiting nonce) cell = false
-flag_by (Retired nonce) cell = false
+flag_by role cell = false
 
 abbrev pub at_by : Role → Standing → (kept : List ℕ) → (position : ℕ) → Digests
 at_by role standing kept position = record {
@@ -84,30 +57,13 @@ abbrev pub side_in : CodeSide → Side Digests
 side_in side =
     record { role = role_in side.platform.cell; at = at_in side; issued = side.issued.items }
 
--- the cell of a side that waits for a ticket with this nonce, and that of one that the module left
--- for this nonce
-abbrev pub waiting_on : Pair → Which → List ℕ → WaitingCell
-waiting_on pair which nonce =
-    waiting_for (link_of pair) pair.variant pair.meaning.id nonce (key_of pair which)
-
-abbrev pub retired_on : Pair → Which → Digests → List ℕ → RetiredCell
-retired_on pair which d nonce = retired_from (cell_at (instance_on pair which) d) nonce
-
--- the platform has exactly these bytes in its cell, and this value in its register
-pub record Rests (bytes : List ℕ) (standing : Standing) (d : Digests) : Type 0 where
-  pub cell : standing.cell ≡ Some bytes
+-- The platform of a side stands there: its cell is by the side's role, and the register has this
+-- value.
+pub record StandsAs (pair : Pair) (which : Which) (role : Role) (standing : Standing)
+    (d : Digests) : Type 0 where
+  pub fits : FitsCell (instance_on pair which) (link_of pair) role d
+  pub cell : standing.cell ≡ Some (cell_of_role (instance_on pair which) role d)
   pub register : register_reads standing ≡ Some d.register
-
--- the platform of a side stands there, by the side's role
-abbrev pub StandsAs : Pair → Which → Role → Standing → Digests → Type 0
-StandsAs pair which Blank standing d = Rests blank_cell standing d
-StandsAs pair which Live standing d = Stands (instance_on pair which) standing d
-StandsAs pair which (Waiting nonce) standing d =
-    IsWaiting (waiting_on pair which nonce) × Rests (waiting_spelling (waiting_on pair which nonce))
-    standing d
-StandsAs pair which (Retired nonce) standing d =
-    IsRetired (retired_on pair which d nonce) × Rests
-    (retired_spelling (retired_on pair which d nonce)) standing d
 
 -- a count of 64 bits stays at the greatest once it is there
 abbrev pub within_64 : ℕ → ℕ

@@ -1,9 +1,5 @@
 -- The two sides that a header sets up.
-use Rattle.mm_modules.specs.Modules.{meaning_of}
-use Rattle.mm_run.specs.Held.{rising_from}
-use Rattle.mm_run.specs.HeldWords.{world_key, world_barrier}
-use Rattle.mm_schedule.specs.declared.header.Header.{Header}
-use Rattle.mm_sides.specs.Both.{Pair}
+use Rattle.mm_transfer.specs.Below.{meaning_of, Header, rising_from, world_key, world_barrier, Pair}
 
 -- its variant and module; each key, and the barrier, are 32 bytes in rising order
 abbrev pub pair_of : Header → Pair

@@ -1,23 +1,9 @@
 -- A move over a platform in memory, under the plan of an event.
-use Rattle.std.specs.Prelude.{◌≡◌, ◌==◌, ◌&&◌, ℕ, Bool, true, false, List, [], ◌∷◌, Option, None, Some, Result, Ok, Err, ◌⊎◌}
-use Rattle.mm_platform.specs.declared.fault.StepFault.{StepFault}
-use Rattle.mm_platform.specs.declared.plan.Meddle.{Meddle}
-use Rattle.mm_platform.specs.declared.plan.Stop.{Stop}
-use Rattle.mm_platform.specs.Standing.{Standing}
-use Rattle.mm_model.specs.Instance.{Instance}
-use Rattle.mm_model.specs.Moves.{Digests}
-use Rattle.mm_model.specs.Standing.{register_reads}
-use Rattle.mm_model.specs.Steps.{Step, Reads}
-use Rattle.mm_model.specs.declared.refusal.Refusal.TheVariants.{Memory, Device}
-use Rattle.mm_call.specs.Courses.{Walked, walk}
-use Rattle.mm_call.specs.Levels.{by_digests, all_made}
-use Rattle.mm_run.specs.Folds.{course_of}
-use Rattle.mm_world.specs.Calls.{takes_effect, stopped_step}
-use Rattle.mm_world.specs.Stands.{IsQuiet}
-use Rattle.mm_move.specs.declared.ready.Ready.{Ready}
-use Rattle.mm_move.specs.declared.refusal.MoveRefusal.{MoveRefusal}
-use Rattle.mm_move.specs.declared.refusal.MoveRefusal.TheVariants.{Core}
-use Rattle.mm_sides.specs.Folds.{is_moved, stopped_moves}
+use Rattle.mm_transfer.specs.Below.{◌≡◌, ◌==◌, ◌&&◌, ℕ, Bool, true, false, List, [], ◌∷◌, Option, None, Some, Result, Ok, Err, ◌⊎◌}
+use Rattle.mm_transfer.specs.Below.{Standing, StepFault, Meddle, Stop, Instance, Digests, register_reads, Step, Reads, Device, Walked, walk}
+use Rattle.mm_transfer.specs.Below.{by_digests, all_made, Ready, MoveRefusal, Core, course_of, is_moved, stopped_moves, takes_effect}
+use Rattle.mm_transfer.specs.Below.{stopped_step, IsQuiet}
+use Rattle.mm_model.specs.declared.refusal.Refusal.TheVariants.{Memory}
 
 -- the steps behind the first one: where the cell is to be written there is a second
 abbrev pub steps_to : Option (List ℕ) → List Step

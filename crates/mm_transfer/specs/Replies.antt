@@ -1,8 +1,7 @@
 -- Replies of two sides as the code has them.
-use Rattle.mm_run.specs.Folds.{cause_of}
+use Rattle.mm_transfer.specs.Below.{IsPrintable, cause_of}
 use Rattle.mm_sides.specs.Folds as folds
 use Rattle.mm_sides.specs.Moves as moves
-use Rattle.mm_schedule.specs.Replies.{IsPrintable}
 use Rattle.mm_transfer.specs.declared.reply.MoveCause.{MoveCause}
 use Rattle.mm_transfer.specs.declared.reply.MoveCause.TheVariants as cause
 use Rattle.mm_transfer.specs.declared.reply.MoveReply.{MoveReply}
@@ -30,10 +29,4 @@ reply_said (folds.Broken way moved) = reply.Broken way moved
 -- what a reply has to meet to be printed, as one of a schedule
 abbrev pub IsSayable : MoveReply → Type 0
 IsSayable (reply.Said said) = IsPrintable said
-IsSayable reply.Invited = Unit {0}
-IsSayable (reply.Left number) = Unit {0}
-IsSayable (reply.Entered position) = Unit {0}
-IsSayable (reply.Denied why) = Unit {0}
-IsSayable reply.NoSnapshot = Unit {0}
-IsSayable reply.NoTicket = Unit {0}
-IsSayable (reply.Broken way moved) = Unit {0}
+IsSayable said = Unit {0}

@@ -1,24 +1,14 @@
 -- What a side's cell holds, by what the side is to the module; and what a move finds there.
-use Rattle.std.specs.Prelude.{◌≡◌, ℕ, Bool, true, false, List, length, Option, None, Some, Result, Ok, Err, if◌then◌else◌}
-use Rattle.mm_seal.specs.Cell.{FitsVariant, cell_spelling, blank_cell}
-use Rattle.mm_model.specs.Instance.{Instance}
-use Rattle.mm_model.specs.Moves.{Digests}
-use Rattle.mm_model.specs.PlacesWords.{digest_of}
-use Rattle.mm_call.specs.Standing.{cell_at}
-use Rattle.mm_move.specs.declared.accepting.Accepted.{Accepted}
+use Rattle.mm_transfer.specs.Below.{◌≡◌, ℕ, Bool, true, false, not, List, length, Option, None, Some, Result, Ok, Err, if◌then◌else◌}
+use Rattle.mm_transfer.specs.Below.{FitsVariant, cell_spelling, blank_cell, Instance, Digests, digest_of, cell_at, waiting_spelling}
+use Rattle.mm_transfer.specs.Below.{retired_spelling, barrier_of, accepted_as, sealed_ticket, summary_in, Accepted, Invited, Link, Ready}
+use Rattle.mm_transfer.specs.Below.{MoveRefusal, digests_move, MoveCause, Already, Open, Gone, Nonce, FoundMove, Role, Blank, Live, Waits}
+use Rattle.mm_transfer.specs.Below.{Left, is_live, Effect, Invites, Leaves, Enters}
+use Rattle.mm_model.specs.declared.refusal.Refusal.TheVariants as core
 use Rattle.mm_move.specs.declared.cell.Retired.{Retired}
 use Rattle.mm_move.specs.declared.cell.Waiting.{Waiting}
-use Rattle.mm_move.specs.declared.inviting.Invited.{Invited}
-use Rattle.mm_move.specs.declared.link.Link.{Link}
-use Rattle.mm_move.specs.declared.ready.Ready.{Ready}
-use Rattle.mm_move.specs.declared.refusal.MoveRefusal.{MoveRefusal}
 use Rattle.mm_move.specs.declared.refusal.MoveRefusal.TheVariants as refusal
-use Rattle.mm_move.specs.Cells.{waiting_spelling, retired_spelling}
-use Rattle.mm_move.specs.Orders.{barrier_of, accepted_as}
-use Rattle.mm_move.specs.Tickets.{sealed_ticket}
-use Rattle.mm_sides.specs.Roles.{Role, Blank, Live, Waiting as Waits, Retired as Left, Effect, Invites, Leaves, Enters}
-use Rattle.mm_sides.specs.Both.{digests_move}
-use Rattle.mm_sides.specs.Moves.{MoveCause, Refused, Already, Open, Gone, Nonce, FoundMove}
+use Rattle.mm_sides.specs.Moves.{Refused}
 
 -- the cell of an instance that is awaited under a nonce
 abbrev pub waiting_at : Instance → List ℕ → Waiting
@@ -50,9 +40,8 @@ cell_of_role i (Left nonce) d = retired_spelling (retired_at i d nonce)
 
 -- where a side stands after an effect, as far as its cell goes
 abbrev pub at_after : Digests → Effect → Digests
-at_after d (Invites nonce) = d
-at_after d (Leaves ticket) = d
 at_after d (Enters ticket) = digests_move.enters d d.count ticket.content
+at_after d effect = d
 
 abbrev pub cell_after : Instance → Digests → Effect → List ℕ
 cell_after i d (Invites nonce) = cell_of_role i (Waits nonce) d
@@ -78,39 +67,63 @@ stood d found = if found.again then d else at_after d found.effect
 
 -- The answers: an invitation says nothing more; a retirement gives its ticket, sealed under the
 -- link's key; an acceptance the snapshot of where the module stands, sealed under the side's.
+abbrev pub GivesInvitedBy : Effect → Type 0
+GivesInvitedBy (Invites nonce) = Unit {0}
+GivesInvitedBy effect = ⊥
+
 abbrev pub GivesInvited : FoundMove → Invited → Type 0
-GivesInvited found answer = (nonce : List ℕ) × (found.effect ≡ Invites nonce)
+GivesInvited found answer = GivesInvitedBy found.effect
 
 abbrev pub GivesTicketBy : List ℕ → Effect → List ℕ → Type 0
-GivesTicketBy link (Invites nonce) bytes = ⊥
 GivesTicketBy link (Leaves ticket) bytes = bytes ≡ sealed_ticket link ticket
-GivesTicketBy link (Enters ticket) bytes = ⊥
+GivesTicketBy link effect bytes = ⊥
 
 abbrev pub GivesTicket : List ℕ → FoundMove → List ℕ → Type 0
 GivesTicket link found bytes = GivesTicketBy link found.effect bytes
 
 abbrev pub GivesEntryBy : Instance → Digests → Effect → Accepted → Type 0
-GivesEntryBy i d (Invites nonce) accepted = ⊥
-GivesEntryBy i d (Leaves ticket) accepted = ⊥
 GivesEntryBy i d (Enters ticket) accepted =
     accepted ≡ accepted_as i.key (digests_move.says i d ticket.content)
+GivesEntryBy i d effect accepted = ⊥
 
 abbrev pub GivesEntry : Instance → Digests → FoundMove → Accepted → Type 0
 GivesEntry i d found accepted = GivesEntryBy i (stood d found) found.effect accepted
 
+-- A cell that waits, or that the module left, has a clear flag and a nonce of 32 bytes; and where
+-- it left, as where it enters, there is a digest.
+abbrev pub FitsEffect : Digests → Effect → Type 0
+FitsEffect d (Invites nonce) = (d.flag ≡ false) × (length nonce ≡ 32)
+FitsEffect d (Leaves ticket) =
+    (d.flag ≡ false) × (length ticket.nonce ≡ 32) × (length d.digest ≡ 32)
+FitsEffect d (Enters ticket) = length (summary_in ticket.content.place).bytes ≡ 32
+
+-- the module leaves anew a live side, and enters anew one that isn't
+abbrev pub FitsLive : Role → Bool → Effect → Type 0
+FitsLive role again (Invites nonce) = Unit {0}
+FitsLive role again (Leaves ticket) = is_live role ≡ not again
+FitsLive role again (Enters ticket) = not (is_live role) ≡ not again
+
 -- What is ready is what was found: by the cell that it writes, if any, and by its answer.
-pub record IsReady {A : Type 0} (gives : FoundMove → A → Type 0) (i : Instance) (d : Digests)
-    (ready : Ready A) (found : FoundMove) : Type 0 where
+pub record IsReady {A : Type 0} (gives : FoundMove → A → Type 0) (i : Instance) (role : Role)
+    (d : Digests) (ready : Ready A) (found : FoundMove) : Type 0 where
   pub next : ready.next ≡ next_if found.again (cell_after i d found.effect)
   pub answer : gives found ready.answer
+  pub fits : FitsEffect d found.effect
+  pub live : FitsLive role found.again found.effect
+
+-- no move finds want of memory, nor a device's fault
+abbrev pub IsSaid : MoveCause → Type 0
+IsSaid (Refused core.Memory) = ⊥
+IsSaid (Refused (core.Device fault)) = ⊥
+IsSaid cause = Unit {0}
 
 -- what a move finds in the cell is what it finds by the role
-abbrev pub Matches : {A : Type 0} → (FoundMove → A → Type 0) → Instance → Digests
+abbrev pub Matches : {A : Type 0} → (FoundMove → A → Type 0) → Instance → Role → Digests
     → Result (Ready A) MoveRefusal → Result FoundMove MoveCause → Type 0
-Matches gives i d (Err why) (Err cause) = why ≡ refusal_of cause
-Matches gives i d (Err why) (Ok found) = ⊥
-Matches gives i d (Ok ready) (Err cause) = ⊥
-Matches gives i d (Ok ready) (Ok found) = IsReady gives i d ready found
+Matches gives i role d (Err why) (Err cause) = (why ≡ refusal_of cause) × IsSaid cause
+Matches gives i role d (Err why) (Ok found) = ⊥
+Matches gives i role d (Ok ready) (Err cause) = ⊥
+Matches gives i role d (Ok ready) (Ok found) = IsReady gives i role d ready found
 
 -- a role with where its side stands: nonces have 32 bytes, and digests where a cell has one; a
 -- segment is open on a live side alone, and in Opt

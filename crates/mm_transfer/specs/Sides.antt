@@ -1,10 +1,6 @@
 -- Both sides in code, as contracts see them.
-use Rattle.std.specs.Prelude.{◌≡◌, ◌≤◌, ◌<◌, ◌+◌, ◌-◌, ◌^◌, ℕ, length}
-use Rattle.mm_base.specs.Limits.{most_members}
-use Rattle.mm_model.specs.Moves.{Digests}
-use Rattle.mm_schedule.specs.declared.header.Header.{Header}
-use Rattle.mm_sides.specs.Both.{Both, digests_move, first_both}
-use Rattle.mm_sides.specs.Folds.{BothEvent, BothOutcome, both_outcome}
+use Rattle.mm_transfer.specs.Below.{◌≡◌, ◌≤◌, ◌<◌, ◌+◌, ◌-◌, ◌^◌, ℕ, length, most_members, Digests, Header, Both, digests_move, first_both}
+use Rattle.mm_transfer.specs.Below.{BothEvent, BothOutcome, both_outcome}
 use Rattle.mm_transfer.specs.declared.between.Between.{Between}
 use Rattle.mm_transfer.specs.declared.side.Side.{Side as CodeSide}
 use Rattle.mm_transfer.specs.Between.{both_with}

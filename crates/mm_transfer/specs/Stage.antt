@@ -1,14 +1,7 @@
 -- A transfer line by line: the first line, and then the events.
-use Rattle.std.specs.Prelude.{ℕ, ◌+◌, ◌-◌, Bool, List, length, Option, None, Some, Result}
-use Rattle.std.specs.List.{sum_by}
-use Rattle.mm_base.specs.Limits.{most_events}
-use Rattle.mm_model.specs.Moves.{Digests}
-use Rattle.mm_play.specs.Events.{EventPlayer, is_over, event_answer as answer_by, header_answer as begins_by}
-use Rattle.mm_play.specs.declared.player.Refused.{Refused}
-use Rattle.mm_replay.specs.Schedule.{most_kept}
-use Rattle.mm_schedule.specs.declared.header.Header.{Header}
-use Rattle.mm_sides.specs.Both.{Both, digests_move, first_both}
-use Rattle.mm_sides.specs.Folds.{BothEvent, BothOutcome, both_outcome}
+use Rattle.mm_transfer.specs.Below.{sum_by, ℕ, ◌+◌, ◌-◌, Bool, List, length, Option, None, Some, Result, most_events, Digests, Header, Both}
+use Rattle.mm_transfer.specs.Below.{digests_move, first_both, BothEvent, BothOutcome, both_outcome, most_kept, EventPlayer, is_over}
+use Rattle.mm_transfer.specs.Below.{answer_by, begins_by, Refused}
 use Rattle.mm_transfer.specs.Answers.{answer_text, end_line}
 use Rattle.mm_transfer.specs.Grammar.{first_at, event_at}
 use Rattle.mm_transfer.specs.Pairs.{pair_of}

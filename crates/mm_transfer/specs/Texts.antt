@@ -1,9 +1,6 @@
 -- Events of two sides whose bytes still lie in their line.
-use Rattle.mm_module.specs.Batch.{One}
-use Rattle.mm_schedule.specs.Events.{Ask, Checkpoint, Power, Extend, meddles_of}
-use Rattle.mm_schedule.specs.Texts.{offer_of}
-use Rattle.mm_sides.specs.Folds.{Act, Plain, Moves, BothEvent}
-use Rattle.mm_sides.specs.Moves.{Command, Invite, Retire, Accept}
+use Rattle.mm_transfer.specs.Below.{One, Ask, Checkpoint, Power, Extend, meddles_of, offer_of, Act, Plain, Moves, BothEvent, Command}
+use Rattle.mm_transfer.specs.Below.{Invite, Retire, Accept}
 use Rattle.mm_transfer.specs.declared.read.ActText.{ActText}
 use Rattle.mm_transfer.specs.declared.read.ActText.TheVariants as text
 use Rattle.mm_transfer.specs.declared.read.CommandText.{CommandText}

@@ -1,6 +1,5 @@
 use Rattle.mm_transfer.proofs.Below.{refl, which_of, pair_of}
-use Rattle.mm_transfer.proofs.Commanded.{invited_done, invites_planned}
-use Rattle.mm_transfer.proofs.Formed.{formed_of}
+use Rattle.mm_transfer.proofs.Retiring.{invited_done, invites_planned}
 use Rattle.mm_transfer.proofs.commands.invite.Goals as goal
 
 pub returns : goal.returns
@@ -9,9 +8,10 @@ returns c = λ between fits counted.
     let which = which_of c.args.which in
     invited_done pair which c.args.nonce.now c.args.course.now.stop c.args.course.now.meddles.now c.args.here.now c.keep_digest.new.here _
     between
-    c.planned_invite-came.result c.invited.result (formed_of c.args.header.now which) c.told-nonce c.keep_digest.ensures
+    c.planned_invite-came.result c.invited.result c.told-nonce c.keep_digest.ensures
     (invites_planned pair which c.args.nonce.now c.args.course.now.stop c.args.course.now.meddles.now c.link.result c.id.result
     c.key_on.result
     c.keep_digest.new.here.platform
     c.planned_invite-came.new.platform c.planned_invite-came.result (c.link.ensures c.args.header.now) c.id.ensures
-    (c.key_on.ensures c.args.header.now) c.planned_invite-came.ensures) refl refl refl refl c.invited.ensures fits counted
+    (c.key_on.ensures c.args.header.now) c.planned_invite-came.ensures)
+    (record { digest = refl; issued = refl; kept = refl; position = refl }) c.invited.ensures fits counted

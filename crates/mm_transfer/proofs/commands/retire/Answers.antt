@@ -1,31 +1,35 @@
 use Rattle.mm_transfer.proofs.Below.{List, ℕ, refl, moved_of, retires_in, link_of, pair_of}
-use Rattle.mm_transfer.proofs.Formed.{formed_of}
-use Rattle.mm_transfer.proofs.Retiring.{still_lacks, retired_unissued, retired_done}
+use Rattle.mm_transfer.proofs.Commanded.{still_lacks, nothing_named, named_by}
+use Rattle.mm_transfer.proofs.Retiring.{retired_unissued, retired_done}
 use Rattle.mm_transfer.proofs.commands.retire.Goals as goal
 
 pub returns-in-Err : goal.returns-in-Err
 returns-in-Err c = λ which fits counted.
     let pair = pair_of c.args.header.now in
-    still_lacks pair which c.args.here.now _ c.args.between.now _ (formed_of c.args.header.now which) fits
-    (c.in-Err.ensures (link_of pair) refl) refl refl refl refl c.reserve.ensures.items refl refl
+    still_lacks pair which c.args.here.now _ c.args.between.now _ fits (c.in-Err.ensures (link_of pair) refl)
+    (record { digest = refl; issued = refl; kept = refl; position = refl })
+    (record { tickets = c.reserve.ensures.items; kept = refl; away = refl })
 
 pub returns-in-Ok-None : goal.returns-in-Ok-None
 returns-in-Ok-None c = λ which fits counted.
     let pair = pair_of c.args.header.now in
-    retired_unissued pair which
-    (λ bytes (cell : List ℕ). retires_in pair.meaning pair.variant (link_of pair) c.args.nonce.now bytes (moved_of cell)) c.args.nonce.now
-    c.args.offer.now c.args.course.now.stop c.args.course.now.meddles.now c.args.here.now _ c.args.between.now _ c.as_slice.result.now
-    c.in-Ok-None.field-0
-    (formed_of c.args.header.now which)
-    c.as_slice.ensures.value (c.in-Ok-None.ensures (link_of pair) refl) c.in-Ok-None.field-0-is refl refl refl refl c.reserve.ensures.items
-    refl refl fits counted
+    retired_unissued pair which c.args.nonce.now c.args.offer.now c.args.course.now.stop c.args.course.now.meddles.now c.args.here.now _
+    c.args.between.now _ (nothing_named
+    (λ bytes (cell : List ℕ). retires_in pair.meaning pair.variant (link_of pair) c.args.nonce.now bytes (moved_of cell))
+    c.args.course.now.stop c.args.course.now.meddles.now c.args.here.now.issued.items c.as_slice.result.now c.args.offer.now
+    c.args.here.now.platform _ c.in-Ok-None.field-0 c.as_slice.ensures.value (c.in-Ok-None.ensures (link_of pair) refl)
+    c.in-Ok-None.field-0-is) (record { digest = refl; issued = refl; kept = refl; position = refl })
+    (record { tickets = c.reserve.ensures.items; kept = refl; away = refl }) fits counted
 
 pub returns-in-Ok-Some : goal.returns-in-Ok-Some
 returns-in-Ok-Some c = λ which fits counted.
     let pair = pair_of c.args.header.now in
     retired_done pair which c.args.nonce.now c.args.offer.now c.args.course.now.stop c.args.course.now.meddles.now c.args.here.now _
-    c.args.between.now _
-    c.leave.new.self c.is_live-was_live.result c.cell.result.now c.as_slice.result.now c.in-Ok-Some.field-0 c.in-Ok-Some.came c.leave.result
-    (formed_of c.args.header.now which) c.told-nonce
-    c.as_slice.ensures.value (c.in-Ok-Some.ensures (link_of pair) refl) c.in-Ok-Some.field-0-is c.is_live-was_live.ensures c.cell.ensures
-    refl refl refl refl c.reserve.ensures.items refl refl c.leave.ensures fits counted
+    c.args.between.now _ c.leave.new.self c.is_live-was_live.result c.cell.result.now c.in-Ok-Some.came c.leave.result c.told-nonce
+    (named_by
+    (λ bytes (cell : List ℕ). retires_in pair.meaning pair.variant (link_of pair) c.args.nonce.now bytes (moved_of cell))
+    c.args.course.now.stop c.args.course.now.meddles.now c.args.here.now.issued.items c.as_slice.result.now c.args.offer.now
+    c.args.here.now.platform _ c.in-Ok-Some.field-0 c.as_slice.ensures.value (c.in-Ok-Some.ensures (link_of pair) refl) c.in-Ok-Some.came
+    c.in-Ok-Some.field-0-is) c.is_live-was_live.ensures c.cell.ensures
+    (record { digest = refl; issued = refl; kept = refl; position = refl })
+    (record { tickets = c.reserve.ensures.items; kept = refl; away = refl }) c.leave.ensures fits counted

@@ -1,5 +1,5 @@
 use Rattle.mm_transfer.proofs.Below.{◌∙◌, List, ℕ, Some, ap, sym, refl, meaning_of, moved_of, accepts_in}
-use Rattle.mm_transfer.proofs.Retiring.{tried}
+use Rattle.mm_transfer.proofs.Commanded.{tried}
 use Rattle.mm_transfer.proofs.commands.try_accept.Goals as goal
 
 pub returns-in-Ok-Some : goal.returns-in-Ok-Some

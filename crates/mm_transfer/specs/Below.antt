@@ -1,0 +1,83 @@
+-- The words that the definitions of this crate take from the crates below.
+pub use Rattle.std.proofs.Common.{arith, refl}
+pub use Rattle.std.proofs.Props.{props}
+pub use Rattle.std.specs.Fmt.{decimal}
+pub use Rattle.std.specs.List.{sum_by}
+pub use Rattle.std.specs.Option.{option_map_or}
+pub use Rattle.std.specs.Prelude.{Bool, Err, IsErr, List, MatchResult, None, Ok, Option, Result, Some, [], codes, false, if◌then◌else◌}
+pub use Rattle.std.specs.Prelude.{is_some, length, map, min, not, option_to_list, true, ℕ, ◌&&◌, ◌++◌, ◌+◌, ◌-◌, ◌<◌, ◌==◌, ◌^◌, ◌∷◌, ◌≡◌}
+pub use Rattle.std.specs.Prelude.{◌≤◌, ◌⊎◌}
+pub use Rattle.std.specs.Str.{bytes_eq}
+pub use Rattle.mm_base.specs.Limits.{most_events, most_members}
+pub use Rattle.mm_base.specs.declared.fault.Memory.{Memory}
+pub use Rattle.mm_base.specs.declared.replay_fault.ReplayFault.{ReplayFault}
+pub use Rattle.mm_digest.specs.Messages.{start_of}
+pub use Rattle.mm_digest.specs.declared.variant.Variant.{Variant}
+pub use Rattle.mm_digest.specs.declared.variant.Variant.TheVariants.{Basic, Opt}
+pub use Rattle.mm_seal.specs.Cell.{FitsVariant, blank_cell, cell_spelling}
+pub use Rattle.mm_seal.specs.declared.cell.CellFault.{CellFault}
+pub use Rattle.mm_platform.specs.Memory.{new_platform}
+pub use Rattle.mm_platform.specs.Standing.{Standing}
+pub use Rattle.mm_platform.specs.declared.fault.StepFault.{StepFault}
+pub use Rattle.mm_platform.specs.declared.plan.Meddle.{Meddle}
+pub use Rattle.mm_platform.specs.declared.plan.Stop.{Stop}
+pub use Rattle.mm_module.specs.Batch.{One}
+pub use Rattle.mm_module.specs.Values.{value_at}
+pub use Rattle.mm_modules.specs.Modules.{meaning_of}
+pub use Rattle.mm_model.specs.Instance.{Instance}
+pub use Rattle.mm_model.specs.Moves.{Digests}
+pub use Rattle.mm_model.specs.PlacesWords.{digest_of}
+pub use Rattle.mm_model.specs.Standing.{register_reads}
+pub use Rattle.mm_model.specs.Steps.{Reads, Step}
+pub use Rattle.mm_model.specs.declared.refusal.Refusal.{Refusal}
+pub use Rattle.mm_model.specs.declared.refusal.Refusal.TheVariants.{Device}
+pub use Rattle.mm_call.specs.Courses.{Walked, walk}
+pub use Rattle.mm_call.specs.Levels.{all_made, by_digests}
+pub use Rattle.mm_call.specs.Standing.{cell_at}
+pub use Rattle.mm_move.specs.Cells.{moved_of, retired_spelling, waiting_spelling}
+pub use Rattle.mm_move.specs.Orders.{accepted_as, barrier_of}
+pub use Rattle.mm_move.specs.Refusals.{move_fault_of}
+pub use Rattle.mm_move.specs.Tickets.{sealed_ticket, summary_in}
+pub use Rattle.mm_move.specs.declared.accepting.Accepted.{Accepted}
+pub use Rattle.mm_move.specs.declared.cell.MovedCell.{MovedCell}
+pub use Rattle.mm_move.specs.declared.inviting.Invited.{Invited}
+pub use Rattle.mm_move.specs.declared.link.Link.{Link}
+pub use Rattle.mm_move.specs.declared.ready.Ready.{Ready}
+pub use Rattle.mm_move.specs.declared.refusal.MoveRefusal.{MoveRefusal}
+pub use Rattle.mm_move.specs.declared.refusal.MoveRefusal.TheVariants.{Core}
+pub use Rattle.mm_schedule.specs.Events.{Ask, Checkpoint, Event, Extend, Power, event_of, meddles_of}
+pub use Rattle.mm_schedule.specs.Grammar.{meddles_at, offer_at, stop_at}
+pub use Rattle.mm_schedule.specs.Headers.{head_at}
+pub use Rattle.mm_schedule.specs.Machine.{Runs}
+pub use Rattle.mm_schedule.specs.Promises.{Promises}
+pub use Rattle.mm_schedule.specs.Replies.{IsPrintable, cause_text, way_text}
+pub use Rattle.mm_schedule.specs.Texts.{offer_of}
+pub use Rattle.mm_schedule.specs.Words.{after_prefix, bytes_at, number_at, word_at, ◌>>=◌}
+pub use Rattle.mm_schedule.specs.declared.event.Offer.{Offer}
+pub use Rattle.mm_schedule.specs.declared.event.Offer.TheVariants.{Flip, Last, Number, Raw}
+pub use Rattle.mm_schedule.specs.declared.header.Header.{Header}
+pub use Rattle.mm_schedule.specs.declared.reply.Reply.{Reply}
+pub use Rattle.mm_run.specs.Folds.{Outcome, cause_of, course_of, way_of}
+pub use Rattle.mm_run.specs.Held.{rising_from}
+pub use Rattle.mm_run.specs.HeldWords.{world_barrier, world_key}
+pub use Rattle.mm_sides.specs.Both.{Both, First, Pair, Second, Side, Which, digests_move, first_both, first_lists, instance_on}
+pub use Rattle.mm_sides.specs.Folds.{Act, BothEvent, BothFollowed, BothOutcome, BothReply, Moves, Plain, both_by_digests, both_expected}
+pub use Rattle.mm_sides.specs.Folds.{both_followed, both_outcome, grown, is_moved, move_outcome, outcome_here, plain_on, stopped_moves}
+pub use Rattle.mm_sides.specs.Laws.{IsOneFrom, both_continued, plain_events, plain_replies}
+pub use Rattle.mm_sides.specs.Moves.{Accept, Already, Command, FoundMove, Gone, Invite, MoveCause, Nonce, Open, Retire}
+pub use Rattle.mm_sides.specs.Order.{AtMostOne}
+pub use Rattle.mm_sides.specs.Premises.{IsClearPair, IsFreshPair, IsGenuinePair}
+pub use Rattle.mm_sides.specs.Roles.{Blank, Effect, Enters, Invites, Leaves, Live, Retired, Retired as Left, Role, Waiting}
+pub use Rattle.mm_sides.specs.Roles.{Waiting as Waits, is_live, no_notes}
+pub use Rattle.mm_world.specs.Calls.{stopped_step, takes_effect}
+pub use Rattle.mm_world.specs.Held.{digest_in, flag_in, value_in}
+pub use Rattle.mm_world.specs.Stands.{IsQuiet}
+pub use Rattle.mm_world.specs.declared.call.Called.{Called}
+pub use Rattle.mm_replay.specs.Schedule.{most_kept}
+pub use Rattle.mm_replay.specs.TextWords.{text_of_replies}
+pub use Rattle.mm_play.specs.Counting.{event_counts, header_counts}
+pub use Rattle.mm_play.specs.Events.{EventPlayer, event_answer as answer_by, header_answer as begins_by, is_over}
+pub use Rattle.mm_play.specs.Tells.{PlaysWhole}
+pub use Rattle.mm_play.specs.declared.player.Refused.{Refused}
+pub use Rattle.mm_play.specs.declared.player.Refused.TheVariants.{Bad, Much}
+pub use Rattle.mm_play.specs.declared.player.ReplyFault.{ReplyFault}
