@@ -1,29 +1,20 @@
 -- Whom the status of each command blames.
 use Rattle.mm_app.proofs.Below.{◌≡◌, ◌∙◌, ℕ, Bool, true, false, List, Option, None, Some, Result, Ok, Err, refl, sym, ap, subst, inl, inr}
-use Rattle.mm_app.proofs.Below.{is_some, ◌⊎◌, Rose, ReplayFault, BulkFault, Summary, BlamesDevice, Devices, InitFault, SessionFault}
-use Rattle.mm_app.proofs.Below.{Refusal, module_with, AnyModule, Variant, Checkpointed, CheckpointRefusal, closing_fault_in, StepFault}
+use Rattle.mm_app.proofs.Below.{arith, is_some, Rose, ReplayFault, BulkFault, Summary, BlamesDevice, Devices, InitFault, SessionFault}
+use Rattle.mm_app.proofs.Below.{Checkpointed, CheckpointRefusal, closing_fault_in, StepFault}
 use Rattle.mm_app.proofs.Below.{Standing, Header, Held, CellFault, Command, Init, Run, Checkpoint, Power, Replay, Check, Gen, Bulk, Slots}
 use Rattle.mm_app.proofs.Below.{Receipts, Transfer, Help, BlamesSource, source_faults, tells_platform_fault, tells_read_fault}
 use Rattle.mm_app.proofs.Below.{tells_store_fault, bulk_told, checkpoint_told, Does, DoesOrLacks, ReadsInput, UsesPlatform, UsesStore}
-use Rattle.mm_app.proofs.Below.{StoreStanding, Outside, IsStill, power_told, ServesIfFound, FindsInstance, header_found, instance_found}
-use Rattle.mm_app.proofs.Below.{refused_at, session_status, init_told, status_of, EndsAtOnce, GivesText, StopsAs, Tells, status_by, Status}
-use Rattle.mm_app.proofs.Below.{Done, Memory, WriteFault, PlatformFault, Blank, Cell}
+use Rattle.mm_app.proofs.Below.{StoreStanding, Outside, IsStill, power_told, ServesIfFound, FindsInstance, instance_found}
+use Rattle.mm_app.proofs.Below.{session_status, init_told, status_of, GivesText, StopsAs, Tells, status_by, Status}
+use Rattle.mm_app.proofs.Below.{Done, Memory, WriteFault, PlatformFault}
 use Rattle.mm_base.specs.declared.fault.WriteFault as write
-use Rattle.mm_base.specs.declared.replay_fault.ReplayFault.TheVariants as fault
-use Rattle.mm_gen.specs.declared.fault.BulkFault.TheVariants as much
 use Rattle.mm_call.specs.Leaving.{Blames}
-use Rattle.mm_call.specs.Refusals.{fault_of}
-use Rattle.mm_host.specs.declared.fault.HostFault.TheVariants as host
 use Rattle.mm_session.specs.SessionBlame as session_blame
 use Rattle.mm_host.specs.declared.init_fault.InitFault.TheVariants as init
-use Rattle.mm_session.specs.declared.fault.SessionFault.TheVariants as session
-use Rattle.mm_model.specs.declared.refusal.Refusal.TheVariants as refused
-use Rattle.mm_opt.specs.declared.segment.Checkpointed.TheVariants as said
-use Rattle.mm_opt.specs.declared.segment.CheckpointRefusal.TheVariants as refusal
 use Rattle.mm_platform.specs.declared.fault.StepFault.TheVariants.{Failed, Off}
 use Rattle.mm_platform.specs.Steps.{EndsBy, EndsCycle}
 use Rattle.mm_play.specs.Plays as plays
-use Rattle.mm_seal.specs.declared.cell.CellFault.TheVariants as unheld
 
 -- of the platform, the store and the source, a status blames these
 pub record BlamesAs (status : Status) (platform store source : Bool) : Type 0 where
@@ -45,20 +36,15 @@ module _ (status : Status) (p s q : Bool) where
 
   -- a status that tells of a write blames what Done does
   wrote_as : (r : Result (Unit {0}) write.WriteFault) → status ≡ status_by r → BlamesAs Done p s q → BlamesAs status p s q
-  wrote_as (Ok done) e b = blames_as Done e b
-  wrote_as (Err fault) e b =
-      blames_as WriteFault e (record { platform_is = b.platform_is; store_is = b.store_is; source_is = b.source_is })
+  wrote_as r e b = grind arith
 
   told_as : (told : Result (List ℕ) Status) (received received' : Option (List ℕ)) (writes writes' : ℕ)
       → Tells told received received' writes writes' status → BlamesAs (end_of told) p s q → BlamesAs status p s q
   told_as (Ok text) received received' writes writes' t b = wrote_as t.result t.ends b
   told_as (Err end) received received' writes writes' t b = blames_as end t.ends b
 
-pub done_none : BlamesNone Done
-done_none = record { platform_is = refl; store_is = refl; source_is = refl }
-
 pub memory_none : BlamesNone Memory
-memory_none = record { platform_is = refl; store_is = refl; source_is = refl }
+memory_none = grind arith
 
 -- what is blamed for one status is for another that blames the same
 blamed_as : (one other : Bool) (before now : ℕ) → one ≡ other → plays.IsBlamed other before now → plays.IsBlamed one before now
@@ -66,16 +52,13 @@ blamed_as one other before now e b = subst (λ (x : Bool). plays.IsBlamed x befo
 
 -- what an answer to lines blames, by its status
 played_as : {T : Type 0} (answer : Result T ReplayFault) → BlamesAs (status_of answer) false false (plays.is_read_fault answer)
-played_as (Err fault.Memory) = record { platform_is = refl; store_is = refl; source_is = refl }
-played_as _ = record { platform_is = refl; store_is = refl; source_is = refl }
+played_as answer = grind arith
 
 bulk_none : (count : ℕ) (answer : Result Summary BulkFault) → BlamesNone (end_of (bulk_told count answer))
-bulk_none count (Err much.Memory) = record { platform_is = refl; store_is = refl; source_is = refl }
-bulk_none count _ = record { platform_is = refl; store_is = refl; source_is = refl }
+bulk_none count answer = grind arith
 
 power_as : (fault : Option StepFault) → BlamesAs (end_of (power_told fault)) (is_some fault) false false
-power_as None = record { platform_is = refl; store_is = refl; source_is = refl }
-power_as (Some fault) = record { platform_is = refl; store_is = refl; source_is = refl }
+power_as fault = grind arith
 
 power_blames : (fault : Option StepFault) (before after : Standing) (emptied : Bool) → EndsCycle fault before after emptied
     → plays.IsBlamed (is_some fault) before.faults after.faults
@@ -84,9 +67,7 @@ power_blames (Some fault) before after emptied e = e
 
 checkpoint_as : (answer : Result Checkpointed CheckpointRefusal)
     → BlamesAs (end_of (checkpoint_told answer)) (is_some (closing_fault_in answer)) false false
-checkpoint_as (Ok said.Done) = record { platform_is = refl; store_is = refl; source_is = refl }
-checkpoint_as (Err refusal.Blank) = record { platform_is = refl; store_is = refl; source_is = refl }
-checkpoint_as _ = record { platform_is = refl; store_is = refl; source_is = refl }
+checkpoint_as answer = grind arith
 
 blames_some : (fault : Option StepFault) (before after : ℕ) → Blames fault before after → plays.IsBlamed (is_some fault) before after
 blames_some None before after b = b
@@ -107,48 +88,18 @@ start_blames _ _ _ b = record { platform = b.platform; store = b.store; source =
 
 -- a session
 
-pub record RefusedAs (why : Refusal) : Type 0 where
-  pub blames : BlamesAs (refused_at why) (is_some (fault_of why)) false false
-  pub other : refused_at why ≡ WriteFault → ⊥
-  pub undone : refused_at why ≡ Done → ⊥
-
-pub refused_as : (why : Refusal) → RefusedAs why
-refused_as refused.Memory =
-    record { blames = record { platform_is = refl; store_is = refl; source_is = refl }; other = λ h. cc; undone = λ h. cc }
-refused_as _ = record { blames = record { platform_is = refl; store_is = refl; source_is = refl }; other = λ h. cc; undone = λ h. cc }
-
 served_as : (answer : Result (Unit {0}) SessionFault)
     → BlamesAs (session_status answer) (session_blame.is_platform_fault answer) (session_blame.is_store_fault answer)
     (session_blame.is_read_fault answer)
-served_as (Err (session.Host (host.Refused why))) = (refused_as why).blames
-served_as (Err (session.Lines fault)) = played_as {T = Unit {0}} (Err fault)
-served_as _ = record { platform_is = refl; store_is = refl; source_is = refl }
+served_as answer = grind arith
 
 -- what a cell holds that no session is served over
 pub record UnheldAs (end : Status) : Type 0 where
   pub blames : BlamesNone end
   pub other : end ≡ WriteFault → ⊥
 
-unheld_at : (end : Status) → end ≡ Cell → UnheldAs end
-unheld_at end e =
-    record {
-      blames = blames_as end false false false Cell e (record { platform_is = refl; store_is = refl; source_is = refl });
-      other = λ h. cc;
-    }
-
-headed_end : (variant : Variant) (found : Option AnyModule) (end : Status) → Err end ≡ header_found variant found → UnheldAs end
-headed_end variant None end e = unheld_at end cc
-headed_end variant (Some it) end e = cc
-
 pub unheld_as : (read : Result Held CellFault) (end : Status) → Err end ≡ instance_found read → UnheldAs end
-unheld_as (Err unheld.Blank) end e =
-    let blank : end ≡ Blank = cc in
-    record {
-      blames = blames_as end false false false Blank blank (record { platform_is = refl; store_is = refl; source_is = refl });
-      other = λ h. cc;
-    }
-unheld_as (Err unheld.Cell) end e = unheld_at end cc
-unheld_as (Ok held) end e = headed_end held.variant (module_with held.module) end e
+unheld_as read end e = grind arith
 
 -- what no session is served over, by the first step's fault
 pub platform_end : (end : Status) → (let r : Result Header Status = Err end in r ≡ Err PlatformFault) → end ≡ PlatformFault
@@ -203,7 +154,7 @@ module _ (command : Command) (old new : Outside) (status : Status) where
   stopped_blamed end none still s = still_blamed still (blames_as status false false false end s.ends none)
 
   given_blamed : (text : List ℕ) → GivesText text old new status → Blamed command old new status
-  given_blamed text g = still_blamed g.still (wrote_as status false false false g.given.result g.given.ends done_none)
+  given_blamed text g = still_blamed g.still (wrote_as status false false false g.given.result g.given.ends (grind arith))
 
   -- a command that answers the lines of the input, and uses neither the platform nor the store
   lines_blamed : {T : Type 0} (answer : Result T ReplayFault) → Frames command old new → (UsesPlatform command → ⊥)

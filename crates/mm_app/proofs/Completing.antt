@@ -1,15 +1,15 @@
 -- A command of the host isn't refused where it may be done.
-use Rattle.mm_app.proofs.Below.{◌≡◌, ◌≢◌, ◌∙◌, ◌+◌, ◌≤◌, ◌<◌, ℕ, Bool, true, false, List, [], ◌∷◌, ◌++◌, length, Option, None, Some, Result}
-use Rattle.mm_app.proofs.Below.{Ok, Err, refl, sym, ap, subst, inl, inr, ◌⊎◌, arith, length-append, Consumes, IsAtEnd, Variant, TellsUse}
-use Rattle.mm_app.proofs.Below.{AfterLooking, AfterPuts, AfterTaking, Devices, Inits, SetsUp, TakesBytes, devices, instance_from}
+use Rattle.mm_app.proofs.Below.{◌≡◌, ◌∙◌, ◌+◌, ◌≤◌, ◌<◌, ℕ, Bool, true, false, List, length, Option, None, Some, Result}
+use Rattle.mm_app.proofs.Below.{Ok, Err, refl, sym, ap, subst, inl, inr, arith, length-append, Consumes, IsAtEnd, Variant, TellsUse}
+use Rattle.mm_app.proofs.Below.{AfterLooking, AfterPuts, AfterTaking, Devices, SetsUp, TakesBytes, devices, instance_from}
 use Rattle.mm_app.proofs.Below.{written_as, SessionFault, InitFault, Instance, Refusal, meaning_of, module_with, any_is_found, AnyModule}
 use Rattle.mm_app.proofs.Below.{ClosesSegment, EndsClosing, EndsLooking, FindsClosing, FindsSegment, Looks, Weighs, closing_by}
-use Rattle.mm_app.proofs.Below.{closing_handed_on, segment_by, segment_in, Checkpointed, CheckpointRefusal, StepFault, Item, Standing}
-use Rattle.mm_app.proofs.Below.{item_values, register_after, Header, CellFault, StoreStanding, Command, Init, Run, Checkpoint, Power, Gen}
-use Rattle.mm_app.proofs.Below.{Help, Replay, Check, Bulk, Slots, Receipts, Transfer, checkpoint_told, Does, DoesOrLacks, IsDoneOrFailed}
-use Rattle.mm_app.proofs.Below.{CanStart, CanClose, CanRun, CanBeDone, ShowsPower, Outside, power_told, FindsInstance, RunsInstance}
+use Rattle.mm_app.proofs.Below.{closing_handed_on, segment_by, segment_in, Checkpointed, CheckpointRefusal, StepFault, Standing}
+use Rattle.mm_app.proofs.Below.{Header, StoreStanding, Command, Init, Run, Checkpoint, Power, Gen}
+use Rattle.mm_app.proofs.Below.{Help, checkpoint_told, Does, DoesOrLacks, IsDoneOrFailed}
+use Rattle.mm_app.proofs.Below.{CanClose, CanRun, CanBeDone, ShowsPower, Outside, power_told, FindsInstance}
 use Rattle.mm_app.proofs.Below.{SeesInstance, ServesAndStops, ServesIfFound, header_found, instance_found, session_status, init_told, Tells}
-use Rattle.mm_app.proofs.Below.{WritesText, status_by, Status, PlatformFault}
+use Rattle.mm_app.proofs.Below.{status_by, Status}
 use Rattle.std.specs.Str.{bytes_eq}
 use Rattle.std.proofs.lemmas.Slice.Eq.{bytes_eq-Decides}
 use Rattle.mm_base.specs.declared.fault.Failed.{Failed}
@@ -32,19 +32,17 @@ use Rattle.mm_module.specs.Meaning.{Meaning}
 use Rattle.mm_opt.specs.declared.segment.Checkpointed.TheVariants as said
 use Rattle.mm_opt.specs.declared.segment.CheckpointRefusal.TheVariants as refusal
 use Rattle.mm_opt.specs.declared.segment.Segment.{Segment}
-use Rattle.mm_opt.specs.declared.segment.Segment.TheVariants.{Open, Shut}
+use Rattle.mm_opt.specs.declared.segment.Segment.TheVariants.{Open}
 use Rattle.mm_seal.specs.Cell.{IsCell, blank_cell, cell_spelling}
 use Rattle.mm_seal.specs.declared.cell.Cell.{Cell}
 use Rattle.mm_seal.specs.CellLaws.{reads_cell-same}
 use Rattle.mm_store.specs.declared.fault.StoreFault.{StoreFault}
-use Rattle.mm_store.specs.declared.fault.StoreFault.TheVariants as unstored
 use Rattle.mm_app.proofs.Blame.{end_of}
 
 -- what was told
 
 written_ends : (r : Result (Unit {0}) write.WriteFault) (status : Status) → status ≡ status_by r → IsDoneOrFailed status
-written_ends (Ok done) status e = subst IsDoneOrFailed (sym e) tt
-written_ends (Err fault) status e = subst IsDoneOrFailed (sym e) tt
+written_ends r status e = grind arith
 
 told_ends : (told : Result (List ℕ) Status) (received received' : Option (List ℕ)) (writes writes' : ℕ) (status : Status)
     → Tells told received received' writes writes' status → IsDoneOrFailed (end_of told) → IsDoneOrFailed status
@@ -54,8 +52,7 @@ told_ends (Err end) received received' writes writes' status t h = subst IsDoneO
 -- `power`
 
 power_ends : (fault : Option StepFault) → IsDoneOrFailed (end_of (power_told fault))
-power_ends None = tt
-power_ends (Some fault) = tt
+power_ends fault = grind arith
 
 -- `init`: with 64 bytes the source isn't too short
 
@@ -72,13 +69,11 @@ Shorts result got = result ≡ Err (init.Short got)
 
 written_whole : (written : Result (Unit {0}) StepFault) (result : Result (Unit {0}) InitFault) (got : ℕ) → result ≡ written_as written
     → Shorts result got → ⊥
-written_whole (Ok done) result got e s = cc
-written_whole (Err fault) result got e s = cc
+written_whole written result got e s = grind arith
 
 unstored_whole : (why : StoreFault) (result : Result (Unit {0}) InitFault) (got : ℕ) → result ≡ Err (store_failed_as why)
     → Shorts result got → ⊥
-unstored_whole unstored.Memory result got e s = cc
-unstored_whole unstored.Failed result got e s = cc
+unstored_whole why result got e s = grind arith
 
 put_whole : (cell : List ℕ) (before after : Standing) (stored : Result (Unit {0}) StoreFault) (result : Result (Unit {0}) InitFault)
     (got : ℕ) → AfterPuts cell before after stored result → Shorts result got → ⊥
@@ -141,19 +136,16 @@ segment_is held standing found formed told variant f =
 
 not_refused : (flag : Bool) (held : Cell) (why : CheckpointRefusal)
     → (let r : Result Segment CheckpointRefusal = Err why in r ≡ segment_by Opt flag held) → ⊥
-not_refused true held why e = cc
-not_refused false held why e = cc
+not_refused flag held why e = grind arith
 
 is_open : (flag : Bool) (held cell : Cell) → (let r : Result Segment CheckpointRefusal = Ok (Open cell) in r ≡ segment_by Opt flag held)
     → flag ≡ true
-is_open true held cell e = refl
-is_open false held cell e = cc
+is_open flag held cell e = grind arith
 
 -- what is found in the register
 is_zero : (zero : Bool) (cell : Cell) (register : List ℕ) (why : CheckpointRefusal)
     → (let r : Result (List ℕ) CheckpointRefusal = Err why in r ≡ closing_by zero cell register) → (zero ≡ true) × (why ≡ refusal.Lost)
-is_zero true cell register why e = (refl, cc)
-is_zero false cell register why e = cc
+is_zero zero cell register why e = grind arith
 
 unlost : (cell : Cell) (standing : Standing) (why : CheckpointRefusal) → ShowsPower standing → FindsClosing cell standing (Err why) → ⊥
 unlost cell standing why shows f =
@@ -168,27 +160,15 @@ handed_ends _ answer e = subst Ends (sym e) tt
 weighed_ends : (cell : Cell) (old middle new : Standing) (found : Result (List ℕ) CheckpointRefusal) (answer : Result Checkpointed
     CheckpointRefusal) → ShowsPower new → Weighs cell old middle found → EndsClosing found middle new answer → Ends answer
 weighed_ends cell old middle new (Err (refusal.Device fault)) answer shows w e = subst Ends (sym e.1) tt
-weighed_ends cell old middle new (Err refusal.Blank) answer shows w e =
-    absurd (unlost cell middle refusal.Blank (subst ShowsPower e.0 shows) (w.finds refl))
-weighed_ends cell old middle new (Err refusal.Cell) answer shows w e =
-    absurd (unlost cell middle refusal.Cell (subst ShowsPower e.0 shows) (w.finds refl))
-weighed_ends cell old middle new (Err refusal.Kind) answer shows w e =
-    absurd (unlost cell middle refusal.Kind (subst ShowsPower e.0 shows) (w.finds refl))
-weighed_ends cell old middle new (Err refusal.Lost) answer shows w e =
-    absurd (unlost cell middle refusal.Lost (subst ShowsPower e.0 shows) (w.finds refl))
+weighed_ends cell old middle new (Err why) answer shows w e =
+    absurd (unlost cell middle why (subst ShowsPower e.0 shows) (w.finds refl))
 weighed_ends cell old middle new (Ok next) answer shows w e = handed_ends e.written answer e.gives
 
 looked_ends : (held : Cell) (old middle new : Standing) (found : Result Segment CheckpointRefusal) (answer : Result Checkpointed
     CheckpointRefusal) → ((seen : FindsSegment old found) → found ≡ segment_by Opt held.flag held) → (held.flag ≡ true → ShowsPower new)
     → Looks old middle found → EndsLooking found middle new answer → Ends answer
-looked_ends held old middle new (Err refusal.Blank) answer is shows l e =
-    absurd (not_refused held.flag held refusal.Blank (is (l.finds refl)))
-looked_ends held old middle new (Err refusal.Cell) answer is shows l e =
-    absurd (not_refused held.flag held refusal.Cell (is (l.finds refl)))
-looked_ends held old middle new (Err refusal.Kind) answer is shows l e =
-    absurd (not_refused held.flag held refusal.Kind (is (l.finds refl)))
-looked_ends held old middle new (Err refusal.Lost) answer is shows l e =
-    absurd (not_refused held.flag held refusal.Lost (is (l.finds refl)))
+looked_ends held old middle new (Err (refusal.Device fault)) answer is shows l e = subst Ends (sym e.1) tt
+looked_ends held old middle new (Err why) answer is shows l e = absurd (not_refused held.flag held why (is (l.finds refl)))
 looked_ends held old middle new (Ok (Open cell)) answer is shows l e =
     weighed_ends cell middle e.middle new e.found answer (shows (is_open held.flag held cell (is (l.finds refl)))) e.weighs e.ends
 looked_ends held old middle new _ answer is shows l e = subst Ends (sym e.1) tt
@@ -212,16 +192,11 @@ refused_ends refused.Stale r = absurd (cc)
 refused_ends _ r = absurd r
 
 session_ends : (answer : Result (Unit {0}) SessionFault) → IsNoLines answer → RefusesAs answer Live → IsDoneOrFailed (session_status answer)
-session_ends (Ok done) lines r = tt
-session_ends (Err (session.Host host.Memory)) lines r = tt
-session_ends (Err (session.Host host.Store)) lines r = tt
 session_ends (Err (session.Host (host.Refused why))) lines r = refused_ends why r
-session_ends (Err (session.Lines replay.Memory)) lines r = tt
-session_ends (Err (session.Lines replay.ReadFault)) lines r = tt
-session_ends (Err (session.Lines replay.WriteFault)) lines r = tt
 session_ends (Err (session.Lines (replay.LineLong line))) lines r = absurd lines
 session_ends (Err (session.Lines (replay.BadLine line))) lines r = absurd lines
 session_ends (Err (session.Lines replay.TooMuch)) lines r = absurd lines
+session_ends _ lines r = tt
 
 -- what is found in the cell
 instance_is : (old : Outside) (can : CanRun old) (found : Result Header Status) (bytes : List ℕ)

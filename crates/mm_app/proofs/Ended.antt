@@ -3,6 +3,8 @@ use Rattle.mm_app.proofs.Below.{◌≡◌, ◌∙◌, ℕ, ◌==◌, Bool, true,
 use Rattle.mm_app.proofs.Below.{refl, sym, ap, IsAtEnd, lines_of, onto_first, onto_tail, tail_of, ReplayFault, Settles, not_ok, Report}
 use Rattle.mm_app.proofs.Below.{TellsBy, AnswersAll, AnswersLines, IsTooMuch, header_at, status_of, Done}
 use Rattle.std.proofs.lemmas.Bool.{eqb-true}
+use Rattle.std.proofs.Common.{append-nil, append_assoc, arith}
+use Rattle.mm_base.specs.Input.{lines_joined}
 use Rattle.mm_base.specs.Limits.{longest_line}
 use Rattle.mm_base.specs.declared.replay_fault.ReplayFault.TheVariants as fault
 use Rattle.mm_play.specs.Play.{Told, told, stopped, ended, goes_on, run, run_of}
@@ -14,8 +16,7 @@ outcome_is t u h = ap (λ (x : Told ReplayStage). x.outcome) h
 -- bytes behind the last LF stop a run
 stops_at_tail : (number : ℕ) (long : Bool) (next : ReplayStage)
     → (cond long (stopped {P = ReplayStage} (fault.LineLong number)) (stopped (fault.BadLine number))).outcome ≡ Ok next → ⊥
-stops_at_tail number true next h = not_ok (fault.LineLong number) next h
-stops_at_tail number false next h = not_ok (fault.BadLine number) next h
+stops_at_tail number long next h = grind arith
 
 no_tail : (number : ℕ) (tail : List ℕ) (at next : ReplayStage) → (ended schedule_closing number tail at).outcome ≡ Ok next → tail ≡ []
 no_tail number [] at next h = refl
@@ -26,48 +27,34 @@ whole_then : (number : ℕ) (tail written : List ℕ) (outcome : Result ReplaySt
 whole_then number tail written (Ok at) next h = no_tail number tail at next h
 whole_then number tail written (Err why) next h = absurd (not_ok why next h)
 
--- where no line was taken, all is tail
-none_by : (is_break : Bool) (byte : ℕ) (rest : List ℕ) → (lines_of rest ≡ [] → tail_of rest ≡ rest)
-    → cond is_break ([] ∷ lines_of rest) (onto_first (byte ∷ []) (lines_of rest)) ≡ []
-    → cond is_break (tail_of rest) (onto_tail (byte ∷ []) (lines_of rest) (tail_of rest)) ≡ byte ∷ rest
-none_by true byte rest later h = cc
-none_by false byte rest later h = by_lines (lines_of rest) refl h where
-  by_lines : (lines : List (List ℕ)) → lines_of rest ≡ lines → onto_first (byte ∷ []) lines ≡ []
-      → onto_tail (byte ∷ []) lines (tail_of rest) ≡ byte ∷ rest
-  by_lines [] is g = ap (λ (bytes : List ℕ). byte ∷ bytes) (later is)
-  by_lines (line ∷ lines) is g = cc
+-- an input is its lines and its tail
+whole_by : (is_break : Bool) (byte : ℕ) (lines : List (List ℕ)) (tail : List ℕ) → (is_break ≡ true → byte ≡ 10)
+    → byte ∷ (lines_joined lines ++ tail)
+    ≡ lines_joined (cond is_break ([] ∷ lines) (onto_first (byte ∷ []) lines)) ++ cond is_break tail (onto_tail (byte ∷ []) lines tail)
+whole_by true byte lines tail lf = ap (λ n. n ∷ (lines_joined lines ++ tail)) (lf refl)
+whole_by false byte [] tail lf = refl
+whole_by false byte (line ∷ lines) tail lf = refl
 
-all_tail : (bytes : List ℕ) → lines_of bytes ≡ [] → tail_of bytes ≡ bytes
-all_tail [] h = refl
-all_tail (byte ∷ rest) h = none_by (byte == 10) byte rest (λ g. all_tail rest g) h
+whole : (bytes : List ℕ) → bytes ≡ lines_joined (lines_of bytes) ++ tail_of bytes
+whole [] = refl
+whole (byte ∷ rest) =
+    ap (λ (l : List ℕ). byte ∷ l) (whole rest) ∙ whole_by (byte == 10) byte (lines_of rest) (tail_of rest) (λ h. eqb-true byte 10 h)
 
 -- the bytes end with an LF
 abbrev EndsLine : List ℕ → Type 0
 EndsLine bytes = (before : List ℕ) × (bytes ≡ before ++ 10 ∷ [])
 
-abbrev Ending : List ℕ → Type 0
-Ending bytes = (first : List ℕ) (others : List (List ℕ)) → tail_of bytes ≡ [] → lines_of bytes ≡ first ∷ others → EndsLine bytes
+joined_ends : (first : List ℕ) (others : List (List ℕ)) → EndsLine (lines_joined (first ∷ others))
+joined_ends first [] = (first, refl)
+joined_ends first (line ∷ others) =
+    let e = joined_ends line others in
+    (first ++ 10 ∷ e.0, ap (λ (l : List ℕ). first ++ 10 ∷ l) e.1 ∙ sym (append_assoc first (10 ∷ e.0) (10 ∷ [])))
 
-ends_more : (byte : ℕ) (rest : List ℕ) → EndsLine rest → EndsLine (byte ∷ rest)
-ends_more byte rest e = (byte ∷ e.0, ap (λ (bytes : List ℕ). byte ∷ bytes) e.1)
-
-ends_by : (is_break : Bool) (byte : ℕ) (rest : List ℕ) → (is_break ≡ true → byte ≡ 10) → Ending rest
-    → (first : List ℕ) (others : List (List ℕ)) → cond is_break (tail_of rest) (onto_tail (byte ∷ []) (lines_of rest) (tail_of rest)) ≡ []
-    → cond is_break ([] ∷ lines_of rest) (onto_first (byte ∷ []) (lines_of rest)) ≡ first ∷ others → EndsLine (byte ∷ rest)
-ends_by true byte rest lf later first others none is = by_lines (lines_of rest) refl where
-  by_lines : (lines : List (List ℕ)) → lines_of rest ≡ lines → EndsLine (byte ∷ rest)
-  by_lines [] so = ([], λ j. lf refl j ∷ (sym (all_tail rest so) ∙ none) j)
-  by_lines (line ∷ lines) so = ends_more byte rest (later line lines none so)
-ends_by false byte rest lf later first others none is = by_lines (lines_of rest) refl none is where
-  by_lines : (lines : List (List ℕ)) → lines_of rest ≡ lines → onto_tail (byte ∷ []) lines (tail_of rest) ≡ []
-      → onto_first (byte ∷ []) lines ≡ first ∷ others → EndsLine (byte ∷ rest)
-  by_lines [] so e g = cc
-  by_lines (line ∷ lines) so e g = ends_more byte rest (later line lines e so)
-
-ends_line : (bytes : List ℕ) → Ending bytes
-ends_line [] first others none is = cc
-ends_line (byte ∷ rest) first others none is =
-    ends_by (byte == 10) byte rest (λ h. eqb-true byte 10 h) (λ f os t l. ends_line rest f os t l) first others none is
+ends_line : (bytes : List ℕ) (first : List ℕ) (others : List (List ℕ)) → tail_of bytes ≡ [] → lines_of bytes ≡ first ∷ others
+    → EndsLine bytes
+ends_line bytes first others none is =
+    let e = joined_ends first others in
+    (e.0, whole bytes ∙ rw (is, none) (append-nil (lines_joined (first ∷ others)) ∙ e.1))
 
 -- by how the replay ended
 pub ended_so : (next : ReplayStage) (left : Option (List ℕ)) (taken sent : List ℕ) (answer : Result Report ReplayFault)

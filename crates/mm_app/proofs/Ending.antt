@@ -1,5 +1,5 @@
 -- How the program ends by the answer of a command that plays lines.
-use Rattle.mm_app.proofs.Below.{Result, Ok, Err, ReplayFault, IsUnrefused, EndsUnrefused, status_of}
+use Rattle.mm_app.proofs.Below.{Result, Err, ReplayFault, IsUnrefused, EndsUnrefused, status_of}
 use Rattle.mm_base.specs.declared.replay_fault.ReplayFault.TheVariants as fault
 
 -- an answer that refuses no line ends so

@@ -1,6 +1,6 @@
 -- Fronts of an input and of an output.
 use Rattle.mm_app.proofs.Below.{◌≡◌, ◌∙◌, ℕ, ◌==◌, Bool, true, false, cond, List, [], ◌∷◌, ◌++◌, Option, refl, ap, subst, append-nil, inl}
-use Rattle.mm_app.proofs.Below.{inr, lines_of, onto_first, ForWhole, Status, Done, WriteFault}
+use Rattle.mm_app.proofs.Below.{inr, lines_of, onto_first, ForWhole}
 
 -- lines in front stay so, whatever comes before the first or behind the last
 onto_front : (byte : ℕ) (lines rest : List (List ℕ))
@@ -33,6 +33,3 @@ sent_none (byte ∷ sent) unsent h = cc
 
 pub unsent_after : (sent stop unsent : List ℕ) → [] ≡ stop ++ unsent → sent ++ stop ≡ sent
 unsent_after sent stop unsent h = ap (λ (s : List ℕ). sent ++ s) (sent_none stop unsent h) ∙ append-nil sent
-
-pub undone : {A : Type 0} → (let s : Status = WriteFault in s ≡ Done) → A
-undone h = let no : ⊥ = cc in absurd no

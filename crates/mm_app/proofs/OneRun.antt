@@ -19,7 +19,7 @@ use Rattle.mm_schedule.specs.Replies.{end_line}
 use Rattle.mm_schedule.specs.declared.reply.Reply.{Reply}
 use Rattle.mm_app.specs.Headline.{AreLeft, IsOver, IsSent, IsUnbegun, ReplaysOneRun, TellsOneRun}
 use Rattle.mm_app.proofs.Ended.{ended_so}
-use Rattle.mm_app.proofs.Fronts.{for_taken, front_lines, undone, unsent_after}
+use Rattle.mm_app.proofs.Fronts.{for_taken, front_lines, unsent_after}
 
 -- a reply comes to each event
 one_each : {S : Type 0} (i : Instance) (level : Level S) (events : List Event) (s : S) (issued : List (List ℕ))
@@ -110,7 +110,7 @@ module _ (lines : List (List ℕ)) where
   cut_short : (rest all : List (List ℕ)) (written sent : List ℕ) → all ≡ lines ++ rest → IsFrontOf sent written
       → AnswersLines header_at lines written → WhatIsOut all sent WriteFault
   cut_short rest all written sent is front (inl none) =
-      inl (record { undone = λ h. undone h; left = tt; went = inl (front.0, front.1 ∙ none.1) })
+      inl (record { undone = λ h. cc; left = tt; went = inl (front.0, front.1 ∙ none.1) })
   cut_short rest all written sent is front (inr answers) =
       inr (continues rest all written sent unended WriteFault is answers tt
       (inl (front.0, front.1 ∙ answers.told ∙ append-nil (text_after answers.header answers.events))))
@@ -124,40 +124,24 @@ module _ (lines : List (List ℕ)) where
   finished : (sent : List ℕ) → AnswersAll header_at lines sent → WhatIsOut lines sent Done
   finished sent answers = inr (continues [] lines sent sent end_line Done (sym (append-nil lines)) answers refl answers.told)
 
-same_first : (a b : List ℕ) (us vs : List (List ℕ)) → a ∷ us ≡ b ∷ vs → a ≡ b
-same_first a b us vs h = cc
-
-same_others : (a b : List ℕ) (us vs : List (List ℕ)) → a ∷ us ≡ b ∷ vs → us ≡ vs
-same_others a b us vs h = cc
-
-same_header : (a b : Header) → Some a ≡ Some b → a ≡ b
-same_header a b h = cc
-
-event_head : (a b : Event) (us vs : List (Option Event)) → Some a ∷ us ≡ Some b ∷ vs → a ≡ b
-event_head a b us vs h = cc
-
-event_tail : (a b : Event) (us vs : List (Option Event)) → Some a ∷ us ≡ Some b ∷ vs → us ≡ vs
-event_tail a b us vs h = cc
-
 same_events : (es fs : List Event) → map Some es ≡ map Some fs → es ≡ fs
 same_events [] [] h = refl
 same_events (e ∷ es) (f ∷ fs) h =
-    let head = event_head e f (map Some es) (map Some fs) h in
-    let tail = same_events es fs (event_tail e f (map Some es) (map Some fs) h) in
+    let head : e ≡ f = cc in
+    let rest : map Some es ≡ map Some fs = cc in
+    let tail = same_events es fs rest in
     λ j. head j ∷ tail j
 same_events _ _ h = cc
-
-none_headed : (first : List ℕ) (others done : List (List ℕ)) → done ≡ first ∷ others → done ≡ [] → ⊥
-none_headed first others done is none = cc
 
 -- the next line is one too many behind those that were answered
 over_behind : (done rest : List (List ℕ)) (written : List ℕ) (answers : AnswersEvents header_at done written unended)
     → (much : IsTooMuch header_at done rest) → IsOver answers.others (issued_after answers.header answers.events) much.line
 over_behind done rest written answers much =
     let split = sym much.split ∙ answers.split in
-    let first = same_first much.first answers.first much.others answers.others split in
-    let others = same_others much.first answers.first much.others answers.others split in
-    let header = same_header much.header answers.header (sym much.headed ∙ ap header_at first ∙ answers.headed) in
+    let first : much.first ≡ answers.first = cc in
+    let others : much.others ≡ answers.others = cc in
+    let headed : Some much.header ≡ Some answers.header = sym much.headed ∙ ap header_at first ∙ answers.headed in
+    let header : much.header ≡ answers.header = cc in
     let events = same_events much.events answers.events
     (sym much.read ∙ ap (λ (ls : List (List ℕ)). map event_at ls) others ∙ answers.read) in
     subst (λ (ls : List (List ℕ)). IsOver ls (issued_after answers.header answers.events) much.line) others
@@ -168,7 +152,7 @@ over_behind done rest written answers much =
 at_much : (taken sent stop : List ℕ) → IsFrontOf stop (stop_line TooMuch) → AnswersFirst (AnswersLines header_at) (IsTooMuch header_at)
     (lines_of taken) sent → WhatIsOut (lines_of taken) (sent ++ stop) TooMuch
 at_much taken sent stop parts first = elim first.answered [
-  | inl none ↦ absurd (none_headed first.stopped.first first.stopped.others first.done first.stopped.split none.0)
+  | inl none ↦ let split = first.stopped.split in let empty = none.0 in cc
   | inr answers ↦ inr (continues first.done first.rest (lines_of taken) sent (sent ++ stop) unended TooMuch first.split answers
       (first.stopped.line, first.stopped.more, first.stopped.follows, over_behind first.done first.rest sent answers first.stopped)
       (stop, parts, ap (λ (w : List ℕ). w ++ stop) (answers.told ∙ append-nil (text_after answers.header answers.events))))
@@ -241,11 +225,9 @@ lacks_at left received received' result sends = record {
   sent = sends.sent;
   consumed = Consumes-nil left;
   appended = sends.appended;
-  ended = λ done. absurd (unfinished done);
-  continues = inl (record { undone = λ h. unfinished h; left = tt; went = (sends.sent, (sends.unsent, sym sends.parts), refl) });
-} where
-  unfinished : Memory ≡ Done → ⊥
-  unfinished h = cc
+  ended = λ done. cc;
+  continues = inl (record { undone = λ h. cc; left = tt; went = (sends.sent, (sends.unsent, sym sends.parts), refl) });
+}
 
 pub lacks_one_run : (left received received' : Option (List ℕ)) (result : Result (Unit {0}) write.WriteFault) (status : Status)
     → status ≡ Memory → Sends received received' (stop_line Memory) result → ReplaysOneRun left left received received' status

@@ -1,20 +1,19 @@
 -- What the status of each command tells of the output.
-use Rattle.mm_app.proofs.Below.{◌≡◌, ◌∙◌, ℕ, List, Option, None, Some, Result, Ok, Err, refl, sym, ap, subst, inl, inr, ◌⊎◌, counted}
+use Rattle.mm_app.proofs.Below.{◌≡◌, ◌∙◌, ℕ, List, Option, None, Some, Result, Ok, Err, refl, sym, ap, subst, inl, inr, ◌⊎◌, counted, arith}
 use Rattle.mm_app.proofs.Below.{CountsFaults, Rose, ReplayFault, BulkFault, Summary, SessionFault, Checkpointed, CheckpointRefusal}
-use Rattle.mm_app.proofs.Below.{StepFault, Standing, Header, Command, Init, Run, Checkpoint, Power, Replay, Check, Gen, Bulk, Slots}
-use Rattle.mm_app.proofs.Below.{Receipts, Transfer, Help, BlamesOutput, bulk_told, checkpoint_told, Does, DoesOrLacks, StoreStanding}
+use Rattle.mm_app.proofs.Below.{StepFault, Standing, Header, Command, Init, Run, Checkpoint, Power, Gen, Bulk}
+use Rattle.mm_app.proofs.Below.{Help, BlamesOutput, bulk_told, checkpoint_told, Does, DoesOrLacks, StoreStanding}
 use Rattle.mm_app.proofs.Below.{Outside, power_told, ServesIfFound, FindsInstance, session_status, init_told, status_of, EndsAtOnce}
 use Rattle.mm_app.proofs.Below.{GivesText, TellsStop, StopsAs, Tells, status_by, Status, Usage, Memory, WriteFault}
 use Rattle.mm_base.specs.declared.fault.WriteFault as write
 use Rattle.mm_base.specs.declared.replay_fault.ReplayFault.TheVariants as fault
-use Rattle.mm_gen.specs.declared.fault.BulkFault.TheVariants as much
-use Rattle.mm_host.specs.declared.fault.HostFault.TheVariants as host
+use Rattle.mm_host.specs.declared.fault.HostFault.{HostFault}
 use Rattle.mm_session.specs.SessionBlame as session_blame
 use Rattle.mm_session.specs.declared.fault.SessionFault.TheVariants as session
-use Rattle.mm_opt.specs.declared.segment.Checkpointed.TheVariants as said
-use Rattle.mm_opt.specs.declared.segment.CheckpointRefusal.TheVariants as refusal
 use Rattle.mm_play.specs.Plays as plays
-use Rattle.mm_app.proofs.Blame.{end_of, start_blames, refused_as, unheld_as, platform_end}
+use Rattle.mm_app.specs.Running.{session_at}
+use Rattle.mm_app.specs.declared.status.Status.TheVariants.{Done}
+use Rattle.mm_app.proofs.Blame.{end_of, start_blames, unheld_as, platform_end}
 
 -- the output
 
@@ -26,8 +25,8 @@ told_once (Err fault) writes count writes' same c = inr (c.failed ∙ ap counted
 
 output_by : (r : Result (Unit {0}) write.WriteFault) (status : Status) (writes writes' : ℕ) → CountsFaults writes writes' r
     → status ≡ status_by r → BlamesOutput status writes writes'
-output_by (Ok done) status writes writes' c e = record { failed = λ h. absurd (cc); done = λ h. c.kept; once = inl c.kept }
-output_by (Err fault) status writes writes' c e = record { failed = λ h. c.failed; done = λ h. absurd (cc); once = inr c.failed }
+output_by (Ok done) status writes writes' c e = record { failed = λ h. cc; done = λ h. c.kept; once = inl c.kept }
+output_by (Err fault) status writes writes' c e = record { failed = λ h. c.failed; done = λ h. cc; once = inr c.failed }
 
 pub output_stopped : (end status : Status) (received received' : Option (List ℕ)) (writes writes' : ℕ) → (end ≡ WriteFault → ⊥)
     → StopsAs end received received' writes writes' status → BlamesOutput status writes writes'
@@ -58,24 +57,25 @@ output_told : (told : Result (List ℕ) Status) (received received' : Option (Li
 output_told (Ok text) received received' writes writes' status other t = output_by t.result status writes writes' t.counts t.ends
 output_told (Err end) received received' writes writes' status other t = output_stopped end status received received' writes writes' other t
 
+record HostAs (why : HostFault) : Type 0 where
+  other : session_at (session.Host why) ≡ WriteFault → ⊥
+  undone : session_at (session.Host why) ≡ Done → ⊥
+
+host_as : (why : HostFault) → HostAs why
+host_as why = grind arith
+
 output_served : (answer : Result (Unit {0}) SessionFault) (status : Status) (middle received' : Option (List ℕ)) (writes count writes' : ℕ)
     → plays.IsBlamed (session_blame.is_write_fault answer) writes count → status ≡ session_status answer
     → TellsStop middle received' count writes' status → BlamesOutput status writes writes'
 output_served (Ok it) status middle received' writes count writes' b e s =
-    record { failed = λ h. absurd (cc); done = λ h. s.done h ∙ b; once = told_once s.result writes count writes' b s.counts }
-output_served (Err (session.Host (host.Refused why))) status middle received' writes count writes' b e s =
-    let as_told = refused_as why in
-    record {
-      failed = λ h. absurd (as_told.other (sym e ∙ h));
-      done = λ h. absurd (as_told.undone (sym e ∙ h));
-      once = told_once s.result writes count writes' b s.counts;
-    }
-output_served (Err (session.Host host.Memory)) status middle received' writes count writes' b e s =
-    record { failed = λ h. absurd (cc); done = λ h. absurd (cc); once = told_once s.result writes count writes' b s.counts }
-output_served (Err (session.Host host.Store)) status middle received' writes count writes' b e s =
-    record { failed = λ h. absurd (cc); done = λ h. absurd (cc); once = told_once s.result writes count writes' b s.counts }
+    output_played (Ok it) status middle received' writes count writes' b e s
 output_served (Err (session.Lines fault)) status middle received' writes count writes' b e s =
     output_played {T = Unit {0}} (Err fault) status middle received' writes count writes' b e s
+output_served (Err (session.Host why)) status middle received' writes count writes' b e s = record {
+  failed = λ h. absurd ((host_as why).other (sym e ∙ h));
+  done = λ h. absurd ((host_as why).undone (sym e ∙ h));
+  once = told_once s.result writes count writes' b s.counts;
+}
 
 -- what no session is served over is no fault of the output
 unserved : (fault : Option StepFault) (before : Standing) (end : Status) → FindsInstance fault before (Err end) → end ≡ WriteFault → ⊥
@@ -92,17 +92,13 @@ output_run fault (Err end) before middle after old new left left' received recei
     output_stopped end status received received' writes writes' (unserved fault before end f) a.stops
 
 bulk_no_write : (count : ℕ) (answer : Result Summary BulkFault) → end_of (bulk_told count answer) ≡ WriteFault → ⊥
-bulk_no_write count (Err much.Memory) h = cc
-bulk_no_write count _ h = cc
+bulk_no_write count answer h = grind arith
 
 power_no_write : (fault : Option StepFault) → end_of (power_told fault) ≡ WriteFault → ⊥
-power_no_write None h = cc
-power_no_write (Some fault) h = cc
+power_no_write fault h = grind arith
 
 checkpoint_no_write : (answer : Result Checkpointed CheckpointRefusal) → end_of (checkpoint_told answer) ≡ WriteFault → ⊥
-checkpoint_no_write (Ok said.Done) h = cc
-checkpoint_no_write (Err refusal.Blank) h = cc
-checkpoint_no_write _ h = cc
+checkpoint_no_write answer h = grind arith
 
 -- the output, for each command
 

@@ -6,7 +6,7 @@ use Rattle.mm_base.specs.declared.fault.WriteFault as write
 use Rattle.mm_base.specs.declared.replay_fault.ReplayFault.TheVariants as fault
 use Rattle.mm_play.specs.declared.player.Refused.{Refused}
 use Rattle.mm_app.specs.Played.{AnswersInput, TellsAnswers}
-use Rattle.mm_app.proofs.Fronts.{for_taken, front_lines, undone, unsent_after}
+use Rattle.mm_app.proofs.Fronts.{for_taken, front_lines, unsent_after}
 
 -- what was written for all lines is the text that answers them, and what comes behind it
 pub record Parts (some : List (List ℕ) → List ℕ → Type 0) (lines : List (List ℕ)) (written : List ℕ) : Type 0 where
@@ -46,7 +46,7 @@ cut_short some all lines rest whole written sent is front answered = record {
   answered = answered;
   closes = inr refl;
   written = (front.0, front.1 ∙ sym (append-nil written));
-  whole = λ done. undone done;
+  whole = λ done. cc;
 }
 
 -- all lines were answered, and a front of what was written for them went out
@@ -77,7 +77,7 @@ at_write : (some all : List (List ℕ) → List ℕ → Type 0) → IsParted som
 at_write some all parted taken sent (written, front, inl first) =
     cut_short some all first.done first.rest (lines_of taken) written sent first.split front first.answered
 at_write some all parted taken sent (written, front, inr told) =
-    all_answered some all parted (lines_of taken) written sent WriteFault front told (λ done. undone done)
+    all_answered some all parted (lines_of taken) written sent WriteFault front told (λ done. cc)
 
 -- what one that a line stopped says
 abbrev StopsAt : (some : List (List ℕ) → List ℕ → Type 0) (stops : List (List ℕ) → List (List ℕ) → Type 0) → List ℕ → List ℕ → Type 0
@@ -136,9 +136,6 @@ answers_input some all much parted {left' = left'} {received = received} {middle
           ∙ sends.parts));
     }
 
-undone_memory : Memory ≡ Done → ⊥
-undone_memory h = cc
-
 -- memory was wanting before anything was read
 pub lacks_input : (some all : List (List ℕ) → List ℕ → Type 0) → some [] [] → (left received received' : Option (List ℕ))
     (result : Result (Unit {0}) write.WriteFault) (status : Status)
@@ -149,7 +146,7 @@ lacks_input some all none left received received' result status is sends =
       sent = sends.sent;
       consumed = Consumes-nil left;
       appended = sends.appended;
-      tells = stopped_behind some all [] [] [] [] sends.sent sends.unsent Memory refl none sends.parts undone_memory;
+      tells = stopped_behind some all [] [] [] [] sends.sent sends.unsent Memory refl none sends.parts (λ h. cc);
     })
 
 -- the same, where the command ended at once

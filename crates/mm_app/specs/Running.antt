@@ -27,7 +27,7 @@ use Rattle.mm_store.specs.Kept.{StoreStanding}
 use Rattle.mm_app.specs.Status.{status_at}
 use Rattle.mm_app.specs.Telling.{TellsStop, StopsAs}
 use Rattle.mm_app.specs.declared.status.Status.{Status}
-use Rattle.mm_app.specs.declared.status.Status.TheVariants.{Done, ReadFault, WriteFault, Memory, PlatformFault, StoreFault, Blank, Cell, Lost, Refused, BadLine, LineLong, TooMuch}
+use Rattle.mm_app.specs.declared.status.Status.TheVariants.{Done, Memory, PlatformFault, StoreFault, Blank, Cell, Lost, Refused}
 
 -- how the program ends where a call was refused so: of a device, the cell or lost power each has
 -- its own status

@@ -1,6 +1,6 @@
 -- What a command writes: its text, or the stop line of the status that it ended with.
-use Rattle.std.specs.Prelude.{◌≡◌, ◌≤◌, ◌⊎◌, ℕ, List, Option, Result, Ok, Err}
-use Rattle.mm_base.specs.Faults.{CountsFaults, Rose}
+use Rattle.std.specs.Prelude.{◌≡◌, ◌⊎◌, ℕ, List, Option, Result, Ok, Err}
+use Rattle.mm_base.specs.Faults.{CountsFaults}
 use Rattle.mm_base.specs.Streams.{Sends}
 use Rattle.mm_base.specs.declared.fault.WriteFault as write
 use Rattle.mm_app.specs.Outside.{Outside, IsStill}
