@@ -1,21 +1,15 @@
 //! Calls of a core over a platform in memory, one after another, by the counter.
 
-ghost use Rattle.std.specs.Prelude.{◌≤◌, length};
-ghost use Rattle.mm_base.specs.Limits.{last_position};
-
 use crate::notes::Notes;
+use crate::offers::{BARRIER, KEY, batch_of, cell_of, offer_of};
+use crate::ways::{ask_in_parts, ask_in_turns, ask_many, ask_one, close_in_turns};
 use mm_base::{Bytes, CELL_LENGTH, Memory, put_decimal, read_decimal};
-use mm_digest::{Digest, Variant, start, zero};
+use mm_digest::{Digest, Variant};
 use mm_model::{Answer, BatchAnswer, Refusal};
 use mm_module::{Batch, Counter, Outputs};
-use mm_opt::{CheckpointRefusal, CheckpointTurn, Checkpointed, begin_checkpoint, checkpoint};
+use mm_opt::{CheckpointRefusal, Checkpointed, checkpoint};
 use mm_platform::{Meddle, MemPlatform, Platform, Stop};
-use mm_seal::{Body, Cell, Place, cell_bytes, seal};
 use std::alloc::Global;
-
-const KEY: [u8; 32] = [7; 32];
-
-const BARRIER: [u8; 32] = [9; 32];
 
 const FOREIGN: Digest = Digest { bytes: [255; 32] };
 
@@ -146,151 +140,6 @@ fn keep_many(host: &mut Host, came: Result<BatchAnswer, Refusal>) -> Result<(), 
     }
 }
 
-// Asks for a request.
-fn ask_one(
-    alloc: Global,
-    variant: Variant,
-    platform: &mut MemPlatform,
-    offer: &[u8],
-    request: &[u8],
-) -> Result<Answer, Refusal> {
-    match variant {
-        Variant::Basic => mm_basic::ask(alloc, &Counter, platform, offer, request),
-        Variant::Opt => mm_opt::ask(alloc, &Counter, platform, offer, request),
-    }
-}
-
-// Asks for a batch.
-fn ask_many(
-    alloc: Global,
-    variant: Variant,
-    platform: &mut MemPlatform,
-    offer: &[u8],
-    batch: Batch<'_>,
-) -> Result<BatchAnswer, Refusal> {
-    match variant {
-        Variant::Basic => mm_basic::ask_batch(alloc, &Counter, platform, offer, batch),
-        Variant::Opt => mm_opt::ask_batch(alloc, &Counter, platform, offer, batch),
-    }
-}
-
-// The same of one request of Basic, in the call's parts.
-fn ask_basic_in_parts(
-    alloc: Global,
-    platform: &mut MemPlatform,
-    offer: &[u8],
-    request: &[u8],
-) -> Result<BatchAnswer, Refusal> {
-    let prepared = mm_basic::prepare(alloc, &Counter, platform, offer, request)?;
-    match prepared.commit(platform) {
-        Err(fault) => Err(Refusal::Device(fault)),
-        Ok(committed) => Ok(committed.answer()),
-    }
-}
-
-// The same of Opt.
-fn ask_opt_in_parts(
-    alloc: Global,
-    platform: &mut MemPlatform,
-    offer: &[u8],
-    request: &[u8],
-) -> Result<BatchAnswer, Refusal> {
-    let prepared = mm_opt::prepare(alloc, &Counter, platform, offer, request)?;
-    match prepared.commit(platform) {
-        Err(fault) => Err(Refusal::Device(fault)),
-        Ok(committed) => Ok(committed.answer()),
-    }
-}
-
-fn ask_in_parts(
-    alloc: Global,
-    variant: Variant,
-    platform: &mut MemPlatform,
-    offer: &[u8],
-    request: &[u8],
-) -> Result<BatchAnswer, Refusal> {
-    match variant {
-        Variant::Basic => ask_basic_in_parts(alloc, platform, offer, request),
-        Variant::Opt => ask_opt_in_parts(alloc, platform, offer, request),
-    }
-}
-
-/// The digits of the steps so far and of the next: its number, and how often the cell was to be written before it.
-fn noted(steps: u64, step: u8, writes: u64) -> u64 {
-    let next = (10 * u64::from(step)).saturating_add(writes);
-    steps.saturating_mul(100).saturating_add(next)
-}
-
-// Asks a step at a time.
-fn ask_basic_in_turns(
-    steps: &mut u64,
-    alloc: Global,
-    platform: &mut MemPlatform,
-    offer: &[u8],
-    batch: Batch<'_>,
-) -> Result<BatchAnswer, Refusal> {
-    let mut call = mm_basic::begin(batch)?;
-    for _ in 0..2 {
-        *steps = noted(*steps, call.next_step(), platform.nv_writes());
-        match call.advance(alloc, &Counter, platform, offer, batch) {
-            mm_basic::Turn::Going(next) => call = next,
-            mm_basic::Turn::Done(answer) => return Ok(answer),
-            mm_basic::Turn::Refused(refusal) => return Err(refusal),
-        }
-    }
-    Err(Refusal::Long)
-}
-
-// The same of Opt.
-fn ask_opt_in_turns(
-    steps: &mut u64,
-    alloc: Global,
-    platform: &mut MemPlatform,
-    offer: &[u8],
-    batch: Batch<'_>,
-) -> Result<BatchAnswer, Refusal> {
-    let mut call = mm_opt::begin(batch)?;
-    for _ in 0..5 {
-        *steps = noted(*steps, call.next_step(), platform.nv_writes());
-        match call.advance(alloc, &Counter, platform, offer, batch) {
-            mm_opt::Turn::Going(next) => call = next,
-            mm_opt::Turn::Done(answer) => return Ok(answer),
-            mm_opt::Turn::Refused(refusal) => return Err(refusal),
-        }
-    }
-    Err(Refusal::Long)
-}
-
-fn ask_in_turns(
-    steps: &mut u64,
-    alloc: Global,
-    variant: Variant,
-    platform: &mut MemPlatform,
-    offer: &[u8],
-    batch: Batch<'_>,
-) -> Result<BatchAnswer, Refusal> {
-    match variant {
-        Variant::Basic => ask_basic_in_turns(steps, alloc, platform, offer, batch),
-        Variant::Opt => ask_opt_in_turns(steps, alloc, platform, offer, batch),
-    }
-}
-
-fn close_in_turns(
-    steps: &mut u64,
-    platform: &mut MemPlatform,
-) -> Result<Checkpointed, CheckpointRefusal> {
-    let mut call = begin_checkpoint();
-    for _ in 0..3 {
-        *steps = noted(*steps, call.next_step(), platform.nv_writes());
-        match call.advance(platform) {
-            CheckpointTurn::Going(next) => call = next,
-            CheckpointTurn::Done(checkpointed) => return Ok(checkpointed),
-            CheckpointTurn::Refused(refusal) => return Err(refusal),
-        }
-    }
-    Err(CheckpointRefusal::Blank)
-}
-
 // Puts what came of a checkpoint.
 fn put_closed(
     alloc: Global,
@@ -304,111 +153,6 @@ fn put_closed(
             let text = format!(in alloc; "no {refusal}")?;
             said.append(text.as_bytes())
         }
-    }
-}
-
-fn opt_cell(module: u8, flag: bool) -> [u8; CELL_LENGTH] {
-    cell_bytes(&Cell {
-        variant: Variant::Opt,
-        module,
-        flag,
-        summary: start(Variant::Opt, module),
-        key: KEY,
-        barrier: BARRIER,
-    })
-}
-
-fn basic_cell() -> [u8; CELL_LENGTH] {
-    let barrier = zero().bytes;
-    cell_bytes(&Cell {
-        variant: Variant::Basic,
-        module: 1,
-        flag: false,
-        summary: start(Variant::Basic, 1),
-        key: KEY,
-        barrier,
-    })
-}
-
-fn cell_of(word: &str) -> [u8; CELL_LENGTH] {
-    match word {
-        "blank" => [0; CELL_LENGTH],
-        "noise" => [1; CELL_LENGTH],
-        "basic" => basic_cell(),
-        "module-2" => opt_cell(2, false),
-        "open" => opt_cell(1, true),
-        _ => opt_cell(1, false),
-    }
-}
-
-fn sealed(
-    alloc: Global,
-    key: &[u8; 32],
-    place: Place,
-    position: u64,
-    state: &[u8],
-) -> Result<Bytes, Memory>
-    requires position { position ≤ last_position }
-    requires state { length state.now ≤ 8 }
-{
-    let body = Body {
-        module: 1,
-        place,
-        position,
-        state,
-    };
-    seal(alloc, key, &body)
-}
-
-// A place of Opt with this anchor and no extension.
-fn at_anchor(anchor: Digest) -> Place {
-    Place::Opt {
-        anchor,
-        extension: zero(),
-    }
-}
-
-// An offer that Basic refuses for what this word says, and for what the words behind it do.
-fn basic_offer(alloc: Global, word: &str) -> Result<Bytes, Memory> {
-    let here = Place::Basic(start(Variant::Basic, 1));
-    match word {
-        "kind" => sealed(alloc, &KEY, at_anchor(zero()), 0, &[0; 8]),
-        "state" => sealed(alloc, &BARRIER, here, 0, &[1, 2, 3]),
-        "tag" => sealed(alloc, &BARRIER, here, 0, &[0; 8]),
-        "stale" => sealed(alloc, &KEY, Place::Basic(zero()), 0, &[0; 8]),
-        "full" => sealed(alloc, &KEY, here, 1 << 48, &[0; 8]),
-        "first" => sealed(alloc, &KEY, here, 0, &[0; 8]),
-        _ => Bytes::copy_of(alloc, b"MMS1"),
-    }
-}
-
-// The same of Opt.
-fn opt_offer(alloc: Global, word: &str) -> Result<Bytes, Memory> {
-    let here = at_anchor(start(Variant::Opt, 1));
-    let there = at_anchor(zero());
-    match word {
-        "kind" => sealed(alloc, &BARRIER, Place::Basic(zero()), 1 << 48, b"no state"),
-        "state" => sealed(alloc, &BARRIER, there, 1 << 48, b"odd"),
-        "tag" => sealed(alloc, &BARRIER, there, 1 << 48, &[0; 8]),
-        "stale" => sealed(alloc, &KEY, there, 1 << 48, &[0; 8]),
-        "full" => sealed(alloc, &KEY, here, 1 << 48, &[0; 8]),
-        _ => Bytes::copy_of(alloc, b"MMS1"),
-    }
-}
-
-fn offer_of(alloc: Global, variant: Variant, word: &str) -> Result<Bytes, Memory> {
-    match variant {
-        Variant::Basic => basic_offer(alloc, word),
-        Variant::Opt => opt_offer(alloc, word),
-    }
-}
-
-fn batch_of(word: &str) -> Batch<'_> {
-    match word {
-        "long" => Batch::One(b"read\n"),
-        "longer" => Batch::One(&[b'a'; 4097]),
-        "many" => Batch::Many(&[b'\t'; 64]),
-        _ => Batch::One(b"read"),
     }
 }
 

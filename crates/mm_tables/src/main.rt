@@ -9,10 +9,12 @@ mod failing;
 mod faults;
 mod lines;
 mod notes;
+mod offers;
 mod scene;
 mod setup;
 mod steps;
 mod table;
+mod ways;
 
 use crate::faults::put_faults;
 use crate::notes::Notes;
