@@ -5,7 +5,7 @@ use Rattle.mm_check.proofs.Below.{zero_bytes, anchored_message, anchored_of, sta
 use Rattle.mm_check.proofs.Below.{History, Move, Commit, Foreign, Close, moved, first_history, is_long, moving_messages, form_messages}
 use Rattle.mm_check.proofs.Below.{offer_messages, Step, Reads, Changes, Writes, ask_steps, checkpoint_steps, right_messages, End, Done}
 use Rattle.mm_check.proofs.Below.{Fails, Fate, Walked, step_moves, after_step, walk, right_content, by_lists, CodeEvent, Event, Ask}
-use Rattle.mm_check.proofs.Below.{Checkpoint, Power, Extend, event_of, meddles_of, offered_bytes, course_of, event_outcome, first_issued}
+use Rattle.mm_check.proofs.Below.{Checkpoint, event_of, meddles_of, offered_bytes, course_of, event_outcome, first_issued}
 use Rattle.mm_check.proofs.Below.{moves_of, event_messages, ask_moves, asking_messages, messages_if, messages_where, numbered_event, listed}
 use Rattle.mm_check.proofs.Below.{numbered_from, numbered, events_of}
 use Rattle.mm_check.proofs.Below.{Many, One}
