@@ -1,6 +1,7 @@
 -- What a call answers, and what it writes.
-use Rattle.mm_basic.specs.Below.{ℕ, Bool, true, false, List, Result, Ok, Err, cell_spelling, Content, Cell, Blank, Unspelled, Form, Kind}
-use Rattle.mm_basic.specs.Below.{Batch, normal, Meaning, link, digest_of, BatchAnswer, Refusal, answer_at, examined}
+use Rattle.std.specs.Prelude.{ℕ, Bool, true, false, List, Result, Ok, Err}
+use Rattle.mm_basic.specs.Below.{cell_spelling, Content, Cell, Blank, Unspelled, Form, Kind, Batch, normal, Meaning, link, digest_of}
+use Rattle.mm_basic.specs.Below.{BatchAnswer, Refusal, answer_at, examined}
 use Rattle.mm_seal.specs.declared.snapshot.Place.TheVariants.{Basic}
 use Rattle.mm_model.specs.declared.refusal.Refusal.TheVariants as refusal
 use Rattle.mm_basic.specs.declared.found.Found.{Found}

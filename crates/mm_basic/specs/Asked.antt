@@ -1,6 +1,7 @@
 -- What a whole call of Basic promises.
-use Rattle.mm_basic.specs.Below.{◌≡◌, ℕ, false, List, Result, IfOk, Basic, Standing, Batch, Meaning, IsFit, is_long, BatchAnswer, Refusal}
-use Rattle.mm_basic.specs.Below.{Calls, CallsOn, LeavesUntouched, Blames, fault_in}
+use Rattle.std.specs.Prelude.{◌≡◌, ℕ, false, List, Result, IfOk}
+use Rattle.mm_basic.specs.Below.{Basic, Standing, Batch, Meaning, IsFit, is_long, BatchAnswer, Refusal, Calls, CallsOn, LeavesUntouched}
+use Rattle.mm_basic.specs.Below.{Blames, fault_in}
 use Rattle.mm_basic.specs.Asks.{basic_call, StepsBy}
 use Rattle.mm_basic.specs.Complete.{IsComplete}
 

@@ -1,7 +1,7 @@
 -- What a whole call does to the platform, and what it answers.
-use Rattle.mm_basic.specs.Below.{◌≡◌, ℕ, Bool, true, false, List, [], ◌∷◌, Option, None, Some, Result, Ok, Err, ◌⊎◌, counted, Basic}
-use Rattle.mm_basic.specs.Below.{Standing, Act, WriteCell, StepFault, Batch, Meaning, BatchAnswer, Refusal, CallOf, StepsTo, AsksTo}
-use Rattle.mm_basic.specs.Below.{fault_of, Ended}
+use Rattle.std.specs.Prelude.{◌≡◌, ℕ, Bool, true, false, List, [], ◌∷◌, Option, None, Some, Result, Ok, Err, ◌⊎◌}
+use Rattle.mm_basic.specs.Below.{counted, Basic, Standing, Act, WriteCell, StepFault, Batch, Meaning, BatchAnswer, Refusal, CallOf, StepsTo}
+use Rattle.mm_basic.specs.Below.{AsksTo, fault_of, Ended}
 use Rattle.mm_basic.specs.declared.found.Found.{Found}
 use Rattle.mm_basic.specs.declared.found.Found.TheVariants.{Repeat, Change}
 use Rattle.mm_basic.specs.declared.found.Ready.{Ready}

@@ -1,6 +1,4 @@
 -- The words that the definitions of this crate take from the crates below.
-pub use Rattle.std.specs.Prelude.{Bool, Err, IfOk, List, None, Ok, Option, Result, Some, [], false, true, ℕ, ◌+◌, ◌∷◌, ◌≡◌, ◌≤◌, ◌⊎◌}
-pub use Rattle.std.specs.Result.{result_err}
 pub use Rattle.mm_base.specs.Faults.{counted}
 pub use Rattle.mm_base.specs.Limits.{last_position}
 pub use Rattle.mm_digest.specs.declared.variant.Variant.TheVariants.{Basic}

@@ -1,7 +1,7 @@
 -- When a call of Basic is answered.
-use Rattle.mm_basic.specs.Below.{◌≡◌, ℕ, ◌+◌, ◌≤◌, false, List, Result, last_position, Basic, Content, Standing, Batch, size_of, normal}
-use Rattle.mm_basic.specs.Below.{Meaning, History, basic, judge, is_long, IsClearFor, Names, StandsFor, IsRight, BatchAnswer, Refusal}
-use Rattle.mm_basic.specs.Below.{IsAccepted, IsAnswered}
+use Rattle.std.specs.Prelude.{◌≡◌, ℕ, ◌+◌, ◌≤◌, false, List, Result}
+use Rattle.mm_basic.specs.Below.{last_position, Basic, Content, Standing, Batch, size_of, normal, Meaning, History, basic, judge, is_long}
+use Rattle.mm_basic.specs.Below.{IsClearFor, Names, StandsFor, IsRight, BatchAnswer, Refusal, IsAccepted, IsAnswered}
 
 -- Completeness: a right offer that names the last position, or the one before the batch that was
 -- committed last and is asked again, is answered, while there are positions left.

@@ -1,5 +1,6 @@
 -- What a call of Basic promises that is moved by one step, or to its end.
-use Rattle.mm_basic.specs.Below.{◌≡◌, ℕ, List, Option, None, Basic, Standing, Batch, Meaning, CallsTo, result_of, Blames, fault_in, Ended}
+use Rattle.std.specs.Prelude.{◌≡◌, ℕ, List, Option, None}
+use Rattle.mm_basic.specs.Below.{Basic, Standing, Batch, Meaning, CallsTo, result_of, Blames, fault_in, Ended}
 use Rattle.mm_basic.specs.declared.call.Turn.{Turn}
 use Rattle.mm_basic.specs.declared.found.Ready.{Ready}
 use Rattle.mm_basic.specs.Asks.{Finishes}

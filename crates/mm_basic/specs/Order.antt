@@ -1,5 +1,6 @@
 -- The order in which an offer is refused.
-use Rattle.mm_basic.specs.Below.{ℕ, List, Snapshot, Cell, Place, Opt, Batch, normal, basic_verdict, Verdict}
+use Rattle.std.specs.Prelude.{ℕ, List}
+use Rattle.mm_basic.specs.Below.{Snapshot, Cell, Place, Opt, Batch, normal, basic_verdict, Verdict}
 use Rattle.mm_seal.specs.declared.snapshot.Place.TheVariants.{Basic}
 
 -- the summary of an offered place; no offer to Basic has a place of Opt

@@ -1,5 +1,6 @@
 -- What a call finds in the cell's bytes and in the offered bytes.
-use Rattle.mm_basic.specs.Below.{◌≡◌, ℕ, List, Ok, Err, Basic, SpellsCell, ReadsCell, Snapshot, ReadsParts, Cell, CellFault, PartsFault}
+use Rattle.std.specs.Prelude.{◌≡◌, ℕ, List, Ok, Err}
+use Rattle.mm_basic.specs.Below.{Basic, SpellsCell, ReadsCell, Snapshot, ReadsParts, Cell, CellFault, PartsFault}
 
 -- the cell is one of Basic and of this module
 abbrev pub IsCellOf : ℕ → Cell → Type 0

@@ -1,6 +1,8 @@
 -- The device steps of a call: what each does to the platform, and what it gives.
-use Rattle.mm_basic.specs.Below.{◌≡◌, ℕ, List, Option, None, Some, Result, IfOk, result_err, Standing, Act, ReadCell, WriteCell, Goes}
-use Rattle.mm_basic.specs.Below.{StepFault, Batch, Meaning, BatchAnswer, Refusal, fault_in, OrMemory}
+use Rattle.std.specs.Prelude.{◌≡◌, ℕ, List, Option, None, Some, Result, IfOk}
+use Rattle.std.specs.Result.{result_err}
+use Rattle.mm_basic.specs.Below.{Standing, Act, ReadCell, WriteCell, Goes, StepFault, Batch, Meaning, BatchAnswer, Refusal, fault_in}
+use Rattle.mm_basic.specs.Below.{OrMemory}
 use Rattle.mm_basic.specs.declared.found.Found.{Found}
 use Rattle.mm_basic.specs.declared.found.Ready.{Ready}
 use Rattle.mm_basic.specs.Seen.{Seen, IsSeen}

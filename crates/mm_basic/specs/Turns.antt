@@ -1,6 +1,6 @@
 -- What each turn of a call does and gives.
-use Rattle.mm_basic.specs.Below.{◌≡◌, ℕ, List, Option, None, Some, Result, Ok, Err, Standing, StepFault, Batch, Meaning, BatchAnswer}
-use Rattle.mm_basic.specs.Below.{Refusal, Device, fault_of}
+use Rattle.std.specs.Prelude.{◌≡◌, ℕ, List, Option, None, Some, Result, Ok, Err}
+use Rattle.mm_basic.specs.Below.{Standing, StepFault, Batch, Meaning, BatchAnswer, Refusal, Device, fault_of}
 use Rattle.mm_basic.specs.declared.found.Found.{Found}
 use Rattle.mm_basic.specs.declared.found.Found.TheVariants.{Repeat, Change}
 use Rattle.mm_basic.specs.declared.found.Ready.{Ready}

@@ -1,7 +1,7 @@
 -- What holds of each move of a walk holds of all of them: so a call closes no segment, and a checkpoint commits nothing.
-use Rattle.mm_call.specs.Below.{◌+◌, map, refl, ap, ◌∙◌, Variant, Basic, Opt, Batch, History, Move, Commit, Foreign, Close, moved}
-use Rattle.mm_call.specs.Below.{committed, Instance, Step, Reads, Changes, Writes, checkpoint_steps}
-use Rattle.std.proofs.Common.{ℕ, ◌≡◌, Bool, true, false, List, [], ◌∷◌, ◌++◌}
+use Rattle.std.proofs.Common.{◌+◌, map, refl, ap, ◌∙◌, ℕ, ◌≡◌, Bool, true, false, List, [], ◌∷◌, ◌++◌}
+use Rattle.mm_call.specs.Below.{Variant, Basic, Opt, Batch, History, Move, Commit, Foreign, Close, moved, committed, Instance, Step, Reads}
+use Rattle.mm_call.specs.Below.{Changes, Writes, checkpoint_steps}
 use Rattle.mm_call.specs.Levels.{by_lists, all_made}
 use Rattle.mm_call.specs.Called.{reading_steps}
 use Rattle.mm_call.specs.Courses.{End, Done, Fails, Fate, Walked, step_moves, after_step, walk, closes}

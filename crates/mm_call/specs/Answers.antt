@@ -1,7 +1,7 @@
 -- What a call answers: by what was offered, and by what stands at the end.
-use Rattle.mm_call.specs.Below.{ℕ, ◌-◌, Bool, List, drop, Content, sealed_of, Place, Batch, members_of, size_of, Meaning, outputs_from}
-use Rattle.mm_call.specs.Below.{state_from, History, requests_of, total_of, Instance, issued, BatchAnswer}
-use Rattle.std.specs.Prelude.{◌+◌}
+use Rattle.std.specs.Prelude.{ℕ, ◌-◌, Bool, List, drop, ◌+◌}
+use Rattle.mm_call.specs.Below.{Content, sealed_of, Place, Batch, members_of, size_of, Meaning, outputs_from, state_from, History}
+use Rattle.mm_call.specs.Below.{requests_of, total_of, Instance, issued, BatchAnswer}
 
 -- what the new snapshot says, at this place: the batch was run from the offered state
 abbrev pub content_at : Meaning → Content → Place → Batch → Content

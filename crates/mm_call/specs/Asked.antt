@@ -1,8 +1,10 @@
 -- What is asked of a history and of the moves of a call, that the call be by digests what it is by
 -- lists.
-use Rattle.mm_call.specs.Below.{AllByRecursion, Contains, option_map_or, ◌≡◌, ℕ, Bool, true, false, List, [], ◌∷◌, ◌++◌, Option}
-use Rattle.mm_call.specs.Below.{if◌then◌else◌, Variant, Basic, Opt, Content, Batch, History, Move, Foreign, Reset, moved, Instance, Within}
-use Rattle.mm_call.specs.Below.{IsClear, AreNoGuards, history_messages, moving_messages, offer_messages, IsOutside, IsSound, IsGenuine}
+use Rattle.std.specs.Prelude.{◌≡◌, ℕ, Bool, true, false, List, [], ◌∷◌, ◌++◌, Option, if◌then◌else◌}
+use Rattle.std.specs.List.{AllByRecursion, Contains}
+use Rattle.std.specs.Option.{option_map_or}
+use Rattle.mm_call.specs.Below.{Variant, Basic, Opt, Content, Batch, History, Move, Foreign, Reset, moved, Instance, Within, IsClear}
+use Rattle.mm_call.specs.Below.{AreNoGuards, history_messages, moving_messages, offer_messages, IsOutside, IsSound, IsGenuine}
 use Rattle.mm_call.specs.Found.{right_content}
 
 -- a history of Basic, which has no segments

@@ -1,16 +1,4 @@
 -- The words that the definitions of this crate take from the crates below.
-pub use Rattle.std.proofs.Common.{ap, append_assoc, arith, map, refl, subst, sym, ◌+◌, ◌∙◌}
-pub use Rattle.std.proofs.lemmas.Bool.Decides.{nat_tests}
-pub use Rattle.std.proofs.lemmas.Iterator.Adapters.{option_map_id}
-pub use Rattle.std.proofs.lemmas.List.{append-nil, map-append}
-pub use Rattle.std.proofs.lemmas.List.Sums.{fold-append}
-pub use Rattle.std.proofs.lemmas.Slice.Eq.{bytes_eq-Decides}
-pub use Rattle.std.specs.List.{AllByRecursion, Contains}
-pub use Rattle.std.specs.Option.{option_and_then, option_map, option_map_or}
-pub use Rattle.std.specs.Prelude.{Bool, Err, IsOk, IsSome, IsTrue, List, None, Ok, Option, Result, Some, [], drop, false, filter, fold}
-pub use Rattle.std.specs.Prelude.{if◌then◌else◌, nat_le, suc, true, zero, ℕ, ◌&&◌, ◌++◌, ◌-◌, ◌==◌, ◌∷◌, ◌≡◌, ◌≤◌, ◌⊎◌}
-pub use Rattle.std.specs.Result.{result_and, result_err, result_map_both, result_ok}
-pub use Rattle.std.specs.Str.{bytes_eq}
 pub use Rattle.mm_base.specs.Faults.{Rose, counted}
 pub use Rattle.mm_base.specs.Limits.{last_position}
 pub use Rattle.mm_digest.specs.LengthLaws.{length-zero_bytes}

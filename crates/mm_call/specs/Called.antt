@@ -1,7 +1,9 @@
 -- What a call comes to on a course, by either level.
-use Rattle.mm_call.specs.Below.{option_map_or, ℕ, true, false, List, [], ◌∷◌, Option, None, Some, Result, Ok, Err, fold, if◌then◌else◌}
-use Rattle.mm_call.specs.Below.{result_ok, result_and, Variant, Basic, Opt, StepFault, Batch, Move, Instance, Step, Reads, ask_steps}
-use Rattle.mm_call.specs.Below.{BatchAnswer, Refusal, Device, Memory}
+use Rattle.std.specs.Prelude.{ℕ, true, false, List, [], ◌∷◌, Option, None, Some, Result, Ok, Err, fold, if◌then◌else◌}
+use Rattle.std.specs.Option.{option_map_or}
+use Rattle.std.specs.Result.{result_ok, result_and}
+use Rattle.mm_call.specs.Below.{Variant, Basic, Opt, StepFault, Batch, Move, Instance, Step, Reads, ask_steps, BatchAnswer, Refusal, Device}
+use Rattle.mm_call.specs.Below.{Memory}
 use Rattle.mm_call.specs.Levels.{Level}
 use Rattle.mm_call.specs.Found.{Found, found_at}
 use Rattle.mm_call.specs.Courses.{Course, Walked, walk, seen_in, commits}

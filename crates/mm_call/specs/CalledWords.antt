@@ -1,5 +1,6 @@
 -- Words of the laws and proofs, each of which says a thing of Called in short.
-use Rattle.mm_call.specs.Below.{ℕ, Bool, Option, None, Some, Result, if◌then◌else◌, Batch, Instance, ask_steps, Refusal}
+use Rattle.std.specs.Prelude.{ℕ, Bool, Option, None, Some, Result, if◌then◌else◌}
+use Rattle.mm_call.specs.Below.{Batch, Instance, ask_steps, Refusal}
 use Rattle.mm_call.specs.Levels.{Level}
 use Rattle.mm_call.specs.Found.{Found}
 use Rattle.mm_call.specs.FoundWords.{is_fresh}

@@ -1,7 +1,7 @@
 -- A call over a platform in either variant: its reading steps, by what they find; and the steps
 -- that commit what was found, by how the call ended.
-use Rattle.mm_call.specs.Below.{◌≡◌, ℕ, true, false, List, [], ◌∷◌, Option, None, Some, Result, Ok, Err, Variant, Standing, Act, Goes}
-use Rattle.mm_call.specs.Below.{StepFault, Batch, Meaning, is_long, BatchAnswer, Refusal, Long}
+use Rattle.std.specs.Prelude.{◌≡◌, ℕ, true, false, List, [], ◌∷◌, Option, None, Some, Result, Ok, Err}
+use Rattle.mm_call.specs.Below.{Variant, Standing, Act, Goes, StepFault, Batch, Meaning, is_long, BatchAnswer, Refusal, Long}
 use Rattle.mm_call.specs.declared.ended.Ended.{Ended}
 use Rattle.mm_call.specs.declared.ended.Ended.TheVariants.{Answered, Broken}
 use Rattle.mm_call.specs.CallsOn.{CallsOn}

@@ -1,6 +1,8 @@
 -- What a call over a platform is: the walk of its steps on some course, by digests and by lists.
-use Rattle.mm_call.specs.Below.{option_map, ◌≡◌, ℕ, List, Result, Variant, Standing, Batch, normal, Meaning, History, Instance, Digests}
-use Rattle.mm_call.specs.Below.{digests_of, StandsFor, BatchAnswer, Refusal}
+use Rattle.std.specs.Prelude.{◌≡◌, ℕ, List, Result}
+use Rattle.std.specs.Option.{option_map}
+use Rattle.mm_call.specs.Below.{Variant, Standing, Batch, normal, Meaning, History, Instance, Digests, digests_of, StandsFor, BatchAnswer}
+use Rattle.mm_call.specs.Below.{Refusal}
 use Rattle.mm_call.specs.Levels.{by_lists, by_digests}
 use Rattle.mm_call.specs.Courses.{Course, AreTold}
 use Rattle.mm_call.specs.Called.{Called, called, given_for}

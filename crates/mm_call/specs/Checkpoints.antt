@@ -1,6 +1,9 @@
 -- What a checkpoint comes to on a course, by either level; and its laws.
-use Rattle.mm_call.specs.Below.{AllByRecursion, Contains, option_map_or, ◌≡◌, ℕ, Bool, true, false, List, fold, Variant, Basic, Opt}
-use Rattle.mm_call.specs.Below.{StepFault, Batch, Meaning, History, Move, Instance, basic, opt, Within, IsClear, Digests, checkpoint_steps}
+use Rattle.std.specs.Prelude.{◌≡◌, ℕ, Bool, true, false, List, fold}
+use Rattle.std.specs.List.{AllByRecursion, Contains}
+use Rattle.std.specs.Option.{option_map_or}
+use Rattle.mm_call.specs.Below.{Variant, Basic, Opt, StepFault, Batch, Meaning, History, Move, Instance, basic, opt, Within, IsClear}
+use Rattle.mm_call.specs.Below.{Digests, checkpoint_steps}
 use Rattle.mm_call.specs.Levels.{Level, by_lists, by_digests, Agrees}
 use Rattle.mm_call.specs.Courses.{Course, Walked, walk, closes}
 use Rattle.mm_call.specs.Called.{seen_at}

@@ -1,5 +1,7 @@
 -- Words of the laws and proofs, each of which says a thing of Checkpoints in short.
-use Rattle.mm_call.specs.Below.{option_map_or, Bool, Option, StepFault, Instance, checkpoint_steps}
+use Rattle.std.specs.Prelude.{Bool, Option}
+use Rattle.std.specs.Option.{option_map_or}
+use Rattle.mm_call.specs.Below.{StepFault, Instance, checkpoint_steps}
 use Rattle.mm_call.specs.Levels.{Level}
 use Rattle.mm_call.specs.Courses.{Course, walk}
 use Rattle.mm_call.specs.Checkpoints.{Stops, Closing, Checkpointed, closing_of, checkpointed_by}

@@ -1,6 +1,6 @@
 -- What one call comes to by lists.
-use Rattle.mm_call.specs.Below.{◌≡◌, ℕ, true, false, List, [], ◌∷◌, ◌++◌, Result, Ok, Content, Batch, History, total_of, Instance, IsRight}
-use Rattle.mm_call.specs.Below.{BatchAnswer, Refusal}
+use Rattle.std.specs.Prelude.{◌≡◌, ℕ, true, false, List, [], ◌∷◌, ◌++◌, Result, Ok}
+use Rattle.mm_call.specs.Below.{Content, Batch, History, total_of, Instance, IsRight, BatchAnswer, Refusal}
 use Rattle.mm_call.specs.Answers.{answer_on}
 
 -- the batches end with this one

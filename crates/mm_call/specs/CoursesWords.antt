@@ -1,5 +1,7 @@
 -- Words of the laws and proofs, each of which says a thing of Courses in short.
-use Rattle.mm_call.specs.Below.{option_map_or, Bool, List, [], ◌∷◌, Option, if◌then◌else◌, StepFault, Move}
+use Rattle.std.specs.Prelude.{Bool, List, [], ◌∷◌, Option, if◌then◌else◌}
+use Rattle.std.specs.Option.{option_map_or}
+use Rattle.mm_call.specs.Below.{StepFault, Move}
 use Rattle.mm_call.specs.Courses.{Fails, Done, End}
 
 -- the move of one step, where its effect is made

@@ -1,6 +1,7 @@
 -- How a call ended over a platform, with the position that the step that failed would commit.
-use Rattle.mm_call.specs.Below.{◌≡◌, ℕ, Bool, true, false, List, Option, None, Some, Result, Ok, Err, IsSome, Variant, Plan, Standing}
-use Rattle.mm_call.specs.Below.{StepFault, Stop, Cut, Batch, normal, Meaning, Digests, BatchAnswer, Refusal, Device}
+use Rattle.std.specs.Prelude.{◌≡◌, ℕ, Bool, true, false, List, Option, None, Some, Result, Ok, Err, IsSome}
+use Rattle.mm_call.specs.Below.{Variant, Plan, Standing, StepFault, Stop, Cut, Batch, normal, Meaning, Digests, BatchAnswer, Refusal}
+use Rattle.mm_call.specs.Below.{Device}
 use Rattle.mm_call.specs.declared.ended.Ended.{Ended}
 use Rattle.mm_call.specs.declared.ended.Ended.TheVariants.{Answered, Refused, Broken}
 use Rattle.mm_call.specs.Refusals.{fault_of}

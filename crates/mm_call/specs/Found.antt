@@ -1,7 +1,9 @@
 -- What a call finds when it has made its reading steps.
-use Rattle.mm_call.specs.Below.{option_and_then, ℕ, Bool, ◌&&◌, List, Option, None, Some, Result, Ok, Err, if◌then◌else◌, result_ok}
-use Rattle.mm_call.specs.Below.{result_map_both, bytes_eq, parts_of, Content, Snapshot, tag_of, PartsFault, Form, Kind, Batch, Instance}
-use Rattle.mm_call.specs.Below.{Refusal}
+use Rattle.std.specs.Prelude.{ℕ, Bool, ◌&&◌, List, Option, None, Some, Result, Ok, Err, if◌then◌else◌}
+use Rattle.std.specs.Option.{option_and_then}
+use Rattle.std.specs.Result.{result_ok, result_map_both}
+use Rattle.std.specs.Str.{bytes_eq}
+use Rattle.mm_call.specs.Below.{parts_of, Content, Snapshot, tag_of, PartsFault, Form, Kind, Batch, Instance, Refusal}
 use Rattle.mm_model.specs.declared.refusal.Refusal.TheVariants as refusal
 use Rattle.mm_call.specs.Order.{examined}
 use Rattle.mm_call.specs.Levels.{Level}

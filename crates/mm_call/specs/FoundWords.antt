@@ -1,6 +1,9 @@
 -- Words of the laws and proofs, each of which says a thing of Found in short.
-use Rattle.mm_call.specs.Below.{option_and_then, option_map_or, Bool, true, false, ◌&&◌, Option, None, Some, Result, Err, if◌then◌else◌}
-use Rattle.mm_call.specs.Below.{result_ok, result_and, result_map_both, bytes_eq, Content, Snapshot, tag_of, PartsFault, Instance, Refusal}
+use Rattle.std.specs.Prelude.{Bool, true, false, ◌&&◌, Option, None, Some, Result, Err, if◌then◌else◌}
+use Rattle.std.specs.Option.{option_and_then, option_map_or}
+use Rattle.std.specs.Result.{result_ok, result_and, result_map_both}
+use Rattle.std.specs.Str.{bytes_eq}
+use Rattle.mm_call.specs.Below.{Content, Snapshot, tag_of, PartsFault, Instance, Refusal}
 use Rattle.mm_model.specs.declared.refusal.Refusal.TheVariants as refusal
 use Rattle.mm_call.specs.Order.{examined}
 use Rattle.mm_call.specs.Found.{Found}

@@ -1,5 +1,6 @@
 -- The laws of calls: by digests a call is what it is by lists, on every course.
-use Rattle.mm_call.specs.Below.{◌≡◌, ℕ, List, Batch, Meaning, History, Instance, basic, opt, Digests}
+use Rattle.std.specs.Prelude.{◌≡◌, ℕ, List}
+use Rattle.mm_call.specs.Below.{Batch, Meaning, History, Instance, basic, opt, Digests}
 use Rattle.mm_call.specs.Levels.{by_lists, by_digests, Agrees}
 use Rattle.mm_call.specs.Courses.{Course}
 use Rattle.mm_call.specs.Called.{Called, called}

@@ -1,6 +1,6 @@
 -- What a whole call leaves and counts, in either core.
-use Rattle.mm_call.specs.Below.{◌≡◌, ◌∷◌, ℕ, ◌≤◌, List, [], Option, None, Some, IsSome, Result, Ok, Err, IsOk, ◌⊎◌, Rose, Standing, beside}
-use Rattle.mm_call.specs.Below.{StepFault, Answer, BatchAnswer, Refusal, Memory, Verdict, Fresh, Again}
+use Rattle.std.specs.Prelude.{◌≡◌, ◌∷◌, ℕ, ◌≤◌, List, [], Option, None, Some, IsSome, Result, Ok, Err, IsOk, ◌⊎◌}
+use Rattle.mm_call.specs.Below.{Rose, Standing, beside, StepFault, Answer, BatchAnswer, Refusal, Memory, Verdict, Fresh, Again}
 use Rattle.mm_call.specs.Refusals.{fault_of, fault_in}
 
 -- The platform is as before, but for the count of steps, the values of others in the register, and

@@ -1,7 +1,7 @@
 -- What a whole call leaves and counts.
-use Rattle.mm_call.specs.Below.{refl, sym, ◌∙◌, subst, arith, result_err, beside-none, Standing, ReadCell, EndsBy, Goes, StepFault, Failed}
-use Rattle.mm_call.specs.Below.{Answer, BatchAnswer}
-use Rattle.std.proofs.Common.{◌≡◌, ℕ, Bool, [], ◌∷◌, Option, None, Some, Result, Ok, Err}
+use Rattle.std.proofs.Common.{refl, sym, ◌∙◌, subst, arith, ◌≡◌, ℕ, Bool, [], ◌∷◌, Option, None, Some, Result, Ok, Err}
+use Rattle.std.specs.Result.{result_err}
+use Rattle.mm_call.specs.Below.{beside-none, Standing, ReadCell, EndsBy, Goes, StepFault, Failed, Answer, BatchAnswer}
 use Rattle.mm_call.specs.Refusals.{fault_in, handed_on}
 use Rattle.mm_call.specs.Leaving.{IsUntouched, Blames, whole}
 

@@ -1,8 +1,9 @@
 -- Two ways to follow a call: by lists, which know no digest, and by digests, which know no list.
-use Rattle.mm_call.specs.Below.{◌≡◌, ℕ, Bool, true, false, ◌&&◌, List, if◌then◌else◌, bytes_eq, zero_bytes, extended_of, Variant, Basic}
-use Rattle.mm_call.specs.Below.{Opt, Content, Place, InBasic, InOpt, Batch, link, guard, History, Move, moved, total_of, register_value_of}
-use Rattle.mm_call.specs.Below.{cell_digest_of, Instance, judge, verdict_by_digests, life_of, is_lost, Digests, made, digest_of, flag_of}
-use Rattle.mm_call.specs.Below.{BatchAnswer, Verdict}
+use Rattle.std.specs.Prelude.{◌≡◌, ℕ, Bool, true, false, ◌&&◌, List, if◌then◌else◌}
+use Rattle.std.specs.Str.{bytes_eq}
+use Rattle.mm_call.specs.Below.{zero_bytes, extended_of, Variant, Basic, Opt, Content, Place, InBasic, InOpt, Batch, link, guard, History}
+use Rattle.mm_call.specs.Below.{Move, moved, total_of, register_value_of, cell_digest_of, Instance, judge, verdict_by_digests, life_of}
+use Rattle.mm_call.specs.Below.{is_lost, Digests, made, digest_of, flag_of, BatchAnswer, Verdict}
 use Rattle.std.specs.List.{fold}
 use Rattle.mm_call.specs.Answers.{answer_at, answer_on}
 

@@ -1,8 +1,9 @@
 -- Basic: moves keep the agreement of a history and its digests. And the batches that moves commit, in each variant.
-use Rattle.mm_call.specs.Below.{refl, subst, sym, ap, ◌∙◌, append_assoc, append-nil, AllByRecursion, start_of, Variant, Basic, Opt, Batch}
-use Rattle.mm_call.specs.Below.{Meaning, basic_digests, History, Move, Commit, Foreign, Close, Power, committed, moved, Instance, basic}
-use Rattle.mm_call.specs.Below.{Digests, digests_of, made, MayMove}
-use Rattle.std.proofs.Common.{ℕ, ◌≡◌, Bool, true, List, [], ◌∷◌, ◌++◌}
+use Rattle.std.proofs.Common.{refl, subst, sym, ap, ◌∙◌, append_assoc, ℕ, ◌≡◌, Bool, true, List, [], ◌∷◌, ◌++◌}
+use Rattle.std.proofs.lemmas.List.{append-nil}
+use Rattle.std.specs.List.{AllByRecursion}
+use Rattle.mm_call.specs.Below.{start_of, Variant, Basic, Opt, Batch, Meaning, basic_digests, History, Move, Commit, Foreign, Close, Power}
+use Rattle.mm_call.specs.Below.{committed, moved, Instance, basic, Digests, digests_of, made, MayMove}
 use Rattle.mm_model.specs.Chains.{anchor_of, summary_of}
 use Rattle.mm_call.specs.Asked.{IsPlain}
 use Rattle.mm_call.specs.Levels.{by_lists, by_digests, all_made, Agrees}

@@ -1,10 +1,13 @@
 -- What a right offer says, and the snapshot of the last position.
-use Rattle.mm_call.specs.Below.{refl, sym, ap, ◌∙◌, subst, bytes_eq-Decides, if◌then◌else◌, bytes_eq, last_position, length-zero_bytes, Opt}
-use Rattle.mm_call.specs.Below.{parts_of, spells_read, sealed_once, Content, Snapshot, IsContent, IsPlace, snapshot_front, tag_of}
-use Rattle.mm_call.specs.Below.{PartsFault, Batch, Meaning, IsLawful, state_after, state_after-is_spelled, length-anchor_of}
-use Rattle.mm_call.specs.Below.{length-register_of, length-summary_of, History, requests_of, total_of, Instance, basic, opt, Within, issued}
-use Rattle.mm_call.specs.Below.{issued_place, IsRight, issued_bytes}
-use Rattle.std.proofs.Common.{◌≡◌, ℕ, ◌≤◌, ◌&&◌, Bool, true, false, List, ◌++◌, Option, None, Some, Result, Ok, Err}
+use Rattle.std.specs.Prelude.{if◌then◌else◌}
+use Rattle.std.proofs.Common.{refl, sym, ap, ◌∙◌, subst, ◌≡◌, ℕ, ◌≤◌, ◌&&◌, Bool, true, false, List, ◌++◌, Option, None, Some, Result, Ok}
+use Rattle.std.proofs.Common.{Err}
+use Rattle.std.proofs.lemmas.Slice.Eq.{bytes_eq-Decides}
+use Rattle.std.specs.Str.{bytes_eq}
+use Rattle.mm_call.specs.Below.{last_position, length-zero_bytes, Opt, parts_of, spells_read, sealed_once, Content, Snapshot, IsContent}
+use Rattle.mm_call.specs.Below.{IsPlace, snapshot_front, tag_of, PartsFault, Batch, Meaning, IsLawful, state_after, state_after-is_spelled}
+use Rattle.mm_call.specs.Below.{length-anchor_of, length-register_of, length-summary_of, History, requests_of, total_of, Instance, basic}
+use Rattle.mm_call.specs.Below.{opt, Within, issued, issued_place, IsRight, issued_bytes}
 use Rattle.mm_seal.specs.Snapshot.{sealed_of}
 use Rattle.mm_call.specs.Asked.{right_messages}
 use Rattle.mm_call.specs.FoundWords.{content_if_right}

@@ -1,7 +1,7 @@
 -- The order in which an offer is refused.
-use Rattle.mm_call.specs.Below.{ℕ, Bool, true, false, List, Result, Ok, Err, nat_le, if◌then◌else◌, bytes_eq, last_position, Snapshot}
-use Rattle.mm_call.specs.Below.{tag_of, Batch, size_of, Meaning, Refusal, Verdict, Fresh, Again, Lost, Stale}
-use Rattle.std.specs.Prelude.{◌+◌}
+use Rattle.std.specs.Prelude.{ℕ, Bool, true, false, List, Result, Ok, Err, nat_le, if◌then◌else◌, ◌+◌}
+use Rattle.std.specs.Str.{bytes_eq}
+use Rattle.mm_call.specs.Below.{last_position, Snapshot, tag_of, Batch, size_of, Meaning, Refusal, Verdict, Fresh, Again, Lost, Stale}
 use Rattle.mm_model.specs.declared.refusal.Refusal.TheVariants as refusal
 
 -- by the verdict, and by whether there are positions left for the batch: whether it is a repeat

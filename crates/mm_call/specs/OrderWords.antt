@@ -1,5 +1,6 @@
 -- Words of the laws and proofs, each of which says a thing of Order in short.
-use Rattle.mm_call.specs.Below.{Bool, Result, Err, if◌then◌else◌, Refusal, Verdict}
+use Rattle.std.specs.Prelude.{Bool, Result, Err, if◌then◌else◌}
+use Rattle.mm_call.specs.Below.{Refusal, Verdict}
 use Rattle.mm_model.specs.declared.refusal.Refusal.TheVariants as refusal
 use Rattle.mm_call.specs.Order.{admitted}
 

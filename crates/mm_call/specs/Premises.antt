@@ -1,7 +1,9 @@
 -- What is asked of who calls, before anything is known of moves: of a history, an offer and a
 -- batch; and of what the register shows.
-use Rattle.mm_call.specs.Below.{AllByRecursion, Contains, ◌≡◌, ℕ, false, List, extended_message, Item, item_values, Batch, trail, History}
-use Rattle.mm_call.specs.Below.{register_value_of, Instance, Within, IsClear, AreNoGuards, IsGenuine}
+use Rattle.std.specs.Prelude.{◌≡◌, ℕ, false, List}
+use Rattle.std.specs.List.{AllByRecursion, Contains}
+use Rattle.mm_call.specs.Below.{extended_message, Item, item_values, Batch, trail, History, register_value_of, Instance, Within, IsClear}
+use Rattle.mm_call.specs.Below.{AreNoGuards, IsGenuine}
 use Rattle.mm_call.specs.Asked.{counted_part, right_messages, IsWithin}
 use Rattle.mm_call.specs.Found.{right_content, found_at}
 use Rattle.mm_call.specs.FoundWords.{is_fresh}

@@ -1,5 +1,6 @@
 -- A batch that runs member by member.
-use Rattle.mm_call.specs.Below.{◌≡◌, ℕ, List, ◌++◌, drop, IsTrue, Meaning, outputs_from, state_from}
+use Rattle.std.specs.Prelude.{◌≡◌, ℕ, List, ◌++◌, drop, IsTrue}
+use Rattle.mm_call.specs.Below.{Meaning, outputs_from, state_from}
 
 -- These are the state and the outputs once the first members were run, from a state: what is left
 -- leads to the end.

@@ -1,5 +1,6 @@
 -- What a refusal hands on, and what may come in its place.
-use Rattle.mm_call.specs.Below.{◌≡◌, Option, None, Some, Result, Ok, Err, ◌⊎◌, StepFault, BatchAnswer, Refusal, Memory, Device}
+use Rattle.std.specs.Prelude.{◌≡◌, Option, None, Some, Result, Ok, Err, ◌⊎◌}
+use Rattle.mm_call.specs.Below.{StepFault, BatchAnswer, Refusal, Memory, Device}
 
 -- the fault of a device step that a refusal hands on
 abbrev pub fault_of : Refusal → Option StepFault

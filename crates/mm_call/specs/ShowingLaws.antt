@@ -1,8 +1,10 @@
 -- Opt: what counts of the moves of a call is what the register shows, and so is asked of that.
-use Rattle.mm_call.specs.Below.{sym, ap, ◌∙◌, subst, append-nil, AllByRecursion, Contains, option_map, extended_message, Item, Standing}
-use Rattle.mm_call.specs.Below.{item_values, Batch, Meaning, trail, History, Move, register_value_of, Instance, opt, Within, Digests}
-use Rattle.mm_call.specs.Below.{digests_of}
-use Rattle.std.proofs.Common.{◌≡◌, ℕ, Bool, true, List, [], ◌∷◌, ◌++◌, Option, None, Some}
+use Rattle.std.proofs.Common.{sym, ap, ◌∙◌, subst, ◌≡◌, ℕ, Bool, true, List, [], ◌∷◌, ◌++◌, Option, None, Some}
+use Rattle.std.proofs.lemmas.List.{append-nil}
+use Rattle.std.specs.List.{AllByRecursion, Contains}
+use Rattle.std.specs.Option.{option_map}
+use Rattle.mm_call.specs.Below.{extended_message, Item, Standing, item_values, Batch, Meaning, trail, History, Move, register_value_of}
+use Rattle.mm_call.specs.Below.{Instance, opt, Within, Digests, digests_of}
 use Rattle.mm_call.specs.Asked.{counted_part, counted_moves, moves_messages, foreign_in, IsAsked}
 use Rattle.mm_call.specs.Premises.{AreAsked, AreShown}
 use Rattle.mm_call.specs.Standing.{shown}

@@ -1,7 +1,8 @@
 -- Where a platform stands by digests, and what its register shows of the moves of a call.
-use Rattle.mm_call.specs.Below.{◌≡◌, ℕ, zero, suc, Bool, true, List, [], ◌∷◌, ◌++◌, Option, Some, counted, zero_bytes, Variant, Basic, Opt}
-use Rattle.mm_call.specs.Below.{IsCell, cell_spelling, Cell, Item, own_item, foreign_item, Standing, Meaning, guard, Move, Commit, Foreign}
-use Rattle.mm_call.specs.Below.{Placed, Reset, Power, Instance, Digests, made, digest_of, register_reads}
+use Rattle.std.specs.Prelude.{◌≡◌, ℕ, zero, suc, Bool, true, List, [], ◌∷◌, ◌++◌, Option, Some}
+use Rattle.mm_call.specs.Below.{counted, zero_bytes, Variant, Basic, Opt, IsCell, cell_spelling, Cell, Item, own_item, foreign_item}
+use Rattle.mm_call.specs.Below.{Standing, Meaning, guard, Move, Commit, Foreign, Placed, Reset, Power, Instance, Digests, made, digest_of}
+use Rattle.mm_call.specs.Below.{register_reads}
 
 -- the instance of a variant; Basic has no barrier, and ignores it
 abbrev pub instance_by : Variant → Meaning → (key barrier : List ℕ) → Instance

@@ -1,9 +1,11 @@
 -- How a trail is put together from its steps, and the course that a call took: the fates of the steps that were made are
 -- read off them, and the others are the plan's.
-use Rattle.mm_call.specs.Below.{◌+◌, refl, sym, ap, ◌∙◌, arith, nat_tests, option_map, ◌==◌, if◌then◌else◌, counted, Plan, Standing}
-use Rattle.mm_call.specs.Below.{plan_after, due, known_plan, Act, Goes, will_answer, will_be_made, will_bring, fault_at, is_made_at}
-use Rattle.mm_call.specs.Below.{next_plan, StepFault, Instance, Digests, Step}
-use Rattle.std.proofs.Common.{◌≡◌, ℕ, Bool, true, false, List, [], ◌∷◌, Option, None, Some}
+use Rattle.std.specs.Prelude.{◌==◌, if◌then◌else◌}
+use Rattle.std.proofs.Common.{◌+◌, refl, sym, ap, ◌∙◌, arith, ◌≡◌, ℕ, Bool, true, false, List, [], ◌∷◌, Option, None, Some}
+use Rattle.std.proofs.lemmas.Bool.Decides.{nat_tests}
+use Rattle.std.specs.Option.{option_map}
+use Rattle.mm_call.specs.Below.{counted, Plan, Standing, plan_after, due, known_plan, Act, Goes, will_answer, will_be_made, will_bring}
+use Rattle.mm_call.specs.Below.{fault_at, is_made_at, next_plan, StepFault, Instance, Digests, Step}
 use Rattle.mm_call.specs.Levels.{all_made, by_digests}
 use Rattle.mm_call.specs.Courses.{Fate, step_moves, planned, AreTold}
 use Rattle.mm_call.specs.CoursesWords.{end_of}

@@ -1,6 +1,7 @@
 -- What counts of the moves of a call of Opt is what the register shows of them.
-use Rattle.mm_call.specs.Below.{◌≡◌, ℕ, Bool, true, false, List, [], ◌∷◌, ◌++◌, if◌then◌else◌, extended_message, Item, item_values, Batch}
-use Rattle.mm_call.specs.Below.{Meaning, trail, History, Move, register_value_of, Instance, opt, Digests}
+use Rattle.std.specs.Prelude.{◌≡◌, ℕ, Bool, true, false, List, [], ◌∷◌, ◌++◌, if◌then◌else◌}
+use Rattle.mm_call.specs.Below.{extended_message, Item, item_values, Batch, Meaning, trail, History, Move, register_value_of, Instance, opt}
+use Rattle.mm_call.specs.Below.{Digests}
 use Rattle.mm_call.specs.Levels.{by_digests}
 use Rattle.mm_call.specs.Courses.{Course}
 use Rattle.mm_call.specs.Called.{called}

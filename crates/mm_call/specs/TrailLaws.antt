@@ -1,10 +1,14 @@
 -- A trail of device steps leads where its walk leads.
-use Rattle.mm_call.specs.Below.{◌+◌, map, refl, sym, ap, ◌∙◌, subst, append_assoc, option_map_id, append-nil, map-append, fold-append}
-use Rattle.mm_call.specs.Below.{option_map, counted, zero_bytes, extended_of, Variant, Basic, Opt, IsCell, cell_spelling, Cell, Item}
-use Rattle.mm_call.specs.Below.{Standing, own_item, foreign_item, item_values, register_after, Act, ReadCell, WriteCell, ReadRegister}
-use Rattle.mm_call.specs.Below.{ResetRegister, ExtendRegister, beside, cell_after, items_after, writes_after, StepFault, Move, Foreign}
-use Rattle.mm_call.specs.Below.{Instance, Digests, made, Step, Reads, Changes, Writes}
-use Rattle.std.proofs.Common.{◌≡◌, ℕ, Bool, true, false, List, [], ◌∷◌, ◌++◌, Option, None, Some}
+use Rattle.std.proofs.Common.{◌+◌, map, refl, sym, ap, ◌∙◌, subst, append_assoc, ◌≡◌, ℕ, Bool, true, false, List, [], ◌∷◌, ◌++◌, Option}
+use Rattle.std.proofs.Common.{None, Some}
+use Rattle.std.proofs.lemmas.Iterator.Adapters.{option_map_id}
+use Rattle.std.proofs.lemmas.List.{append-nil, map-append}
+use Rattle.std.proofs.lemmas.List.Sums.{fold-append}
+use Rattle.std.specs.Option.{option_map}
+use Rattle.mm_call.specs.Below.{counted, zero_bytes, extended_of, Variant, Basic, Opt, IsCell, cell_spelling, Cell, Item, Standing}
+use Rattle.mm_call.specs.Below.{own_item, foreign_item, item_values, register_after, Act, ReadCell, WriteCell, ReadRegister, ResetRegister}
+use Rattle.mm_call.specs.Below.{ExtendRegister, beside, cell_after, items_after, writes_after, StepFault, Move, Foreign, Instance, Digests}
+use Rattle.mm_call.specs.Below.{made, Step, Reads, Changes, Writes}
 use Rattle.std.specs.List.{fold}
 use Rattle.mm_call.specs.Levels.{all_made, by_digests}
 use Rattle.mm_call.specs.Courses.{End, Done, Fails, Fate, Walked, walk, after_step, step_moves, writes_then}

@@ -1,8 +1,9 @@
 -- How the device steps of a call make the steps of a walk.
-use Rattle.mm_call.specs.Below.{option_map, ◌≡◌, ℕ, true, List, [], ◌∷◌, ◌++◌, Option, None, Some, zero_bytes, extended_of, IsCell}
-use Rattle.mm_call.specs.Below.{cell_spelling, Item, own_item, Standing, Act, ReadCell, WriteCell, ReadRegister, ResetRegister}
-use Rattle.mm_call.specs.Below.{ExtendRegister, Goes, StepFault, Move, Instance, Digests, made, Step, Reads, Changes, Writes}
-use Rattle.std.specs.Prelude.{◌+◌}
+use Rattle.std.specs.Prelude.{◌≡◌, ℕ, true, List, [], ◌∷◌, ◌++◌, Option, None, Some, ◌+◌}
+use Rattle.std.specs.Option.{option_map}
+use Rattle.mm_call.specs.Below.{zero_bytes, extended_of, IsCell, cell_spelling, Item, own_item, Standing, Act, ReadCell, WriteCell}
+use Rattle.mm_call.specs.Below.{ReadRegister, ResetRegister, ExtendRegister, Goes, StepFault, Move, Instance, Digests, made, Step, Reads}
+use Rattle.mm_call.specs.Below.{Changes, Writes}
 use Rattle.mm_call.specs.Levels.{all_made, by_digests}
 use Rattle.mm_call.specs.Courses.{Fate, Walked, walk, step_moves}
 use Rattle.mm_call.specs.CoursesWords.{end_of}

@@ -1,8 +1,9 @@
 -- What a walk over the steps of a call gives: what it commits, and which of its moves others made.
-use Rattle.mm_call.specs.Below.{◌+◌, map, refl, sym, ap, ◌∙◌, subst, append_assoc, append-nil, fold-append, Variant, Basic, Opt, Batch}
-use Rattle.mm_call.specs.Below.{Value, History, Move, Commit, Foreign, Placed, Reset, moved, Instance, move_messages, Step, Reads, Changes}
-use Rattle.mm_call.specs.Below.{Writes, ask_steps}
-use Rattle.std.proofs.Common.{ℕ, ◌≡◌, Bool, true, false, List, [], ◌∷◌, ◌++◌, None}
+use Rattle.std.proofs.Common.{◌+◌, map, refl, sym, ap, ◌∙◌, subst, append_assoc, ℕ, ◌≡◌, Bool, true, false, List, [], ◌∷◌, ◌++◌, None}
+use Rattle.std.proofs.lemmas.List.{append-nil}
+use Rattle.std.proofs.lemmas.List.Sums.{fold-append}
+use Rattle.mm_call.specs.Below.{Variant, Basic, Opt, Batch, Value, History, Move, Commit, Foreign, Placed, Reset, moved, Instance}
+use Rattle.mm_call.specs.Below.{move_messages, Step, Reads, Changes, Writes, ask_steps}
 use Rattle.mm_call.specs.Levels.{Level, by_lists, all_made}
 use Rattle.mm_call.specs.Courses.{End, Done, Fails, Fate, Walked, step_moves, after_step, walk, seen_in, commits}
 use Rattle.mm_call.specs.Asked.{moves_messages, foreign_in, from_reset}

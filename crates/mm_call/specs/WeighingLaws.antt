@@ -1,6 +1,6 @@
 -- The order in which an offer is refused: when it is accepted.
-use Rattle.mm_call.specs.Below.{refl, sym, ap, subst, Content, Snapshot, tag_of, Refusal, Verdict, Fresh, Again}
-use Rattle.std.proofs.Common.{◌≡◌, Bool, true, false, List, ℕ, Result, Ok}
+use Rattle.std.proofs.Common.{refl, sym, ap, subst, ◌≡◌, Bool, true, false, List, ℕ, Result, Ok}
+use Rattle.mm_call.specs.Below.{Content, Snapshot, tag_of, Refusal, Verdict, Fresh, Again}
 use Rattle.mm_call.specs.Order.{admitted}
 use Rattle.mm_call.specs.OrderWords.{weighed}
 use Rattle.mm_call.specs.Leaving.{IsAccepted}

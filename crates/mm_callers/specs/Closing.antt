@@ -1,9 +1,10 @@
 -- What a caller of Opt gets that closes the segment between a request and the same request once
 -- more, by lists.
-use Rattle.mm_callers.specs.Below.{◌≡◌, ℕ, true, List, [], ◌∷◌, Option, None, Some, Result, Ok, Err, extended_of, anchored_message, Opt}
-use Rattle.mm_callers.specs.Below.{Item, Standing, item_values, StepFault, Batch, One, Meaning, History, register_value_of, cell_digest_of}
-use Rattle.mm_callers.specs.Below.{Instance, life_of, is_lost, Within, Answer, BatchAnswer, Refusal, counted_part, CallsOn, whole, AreShown}
-use Rattle.mm_callers.specs.Below.{IsIdle, fault_of, ChecksOn, CheckpointRefusal, Device, Blank, Cell, Kind, Lost, Checkpointed}
+use Rattle.std.specs.Prelude.{◌≡◌, ℕ, true, List, [], ◌∷◌, Option, None, Some, Result, Ok, Err}
+use Rattle.mm_callers.specs.Below.{extended_of, anchored_message, Opt, Item, Standing, item_values, StepFault, Batch, One, Meaning, History}
+use Rattle.mm_callers.specs.Below.{register_value_of, cell_digest_of, Instance, life_of, is_lost, Within, Answer, BatchAnswer, Refusal}
+use Rattle.mm_callers.specs.Below.{counted_part, CallsOn, whole, AreShown, IsIdle, fault_of, ChecksOn, CheckpointRefusal, Device, Blank}
+use Rattle.mm_callers.specs.Below.{Cell, Kind, Lost, Checkpointed}
 use Rattle.mm_callers.specs.Basic.{IsOnce, AnswersOnce, finds, SaysFound, Stays, Refuses}
 use Rattle.mm_callers.specs.Opt.{OnEach}
 use Rattle.mm_callers.specs.declared.closing.Replies.{Replies}

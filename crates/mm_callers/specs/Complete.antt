@@ -1,7 +1,7 @@
 -- When a call is answered: by lists, on every course.
-use Rattle.mm_callers.specs.Below.{◌≡◌, ℕ, ◌+◌, ◌≤◌, Bool, true, false, List, [], ◌∷◌, ◌++◌, last_position, Content, Batch, size_of}
-use Rattle.mm_callers.specs.Below.{Meaning, History, total_of, Instance, basic, opt, Live, life_of, IsRight, answer_on, Answers, Called}
-use Rattle.mm_callers.specs.Below.{called, seen_at, EndsWith, Done, Course, by_lists}
+use Rattle.std.specs.Prelude.{◌≡◌, ℕ, ◌+◌, ◌≤◌, Bool, true, false, List, [], ◌∷◌, ◌++◌}
+use Rattle.mm_callers.specs.Below.{last_position, Content, Batch, size_of, Meaning, History, total_of, Instance, basic, opt, Live, life_of}
+use Rattle.mm_callers.specs.Below.{IsRight, answer_on, Answers, Called, called, seen_at, EndsWith, Done, Course, by_lists}
 
 -- no step fails, and memory isn't wanting
 pub record IsSmooth (course : Course) : Type 0 where

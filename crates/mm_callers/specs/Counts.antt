@@ -1,7 +1,7 @@
 -- What callers count: their calls' steps, and the faults of devices, told and recovered.
-use Rattle.mm_callers.specs.Below.{◌≡◌, Bool, true, false, None, Result, Ok, Err, Variant, Basic, Opt, Standing, StepFault, Batch, is_long}
-use Rattle.mm_callers.specs.Below.{Answer, BatchAnswer, Refusal, Long, Blames, whole, fault_in, BasicSteps, OptSteps, ClosingStepsBy}
-use Rattle.mm_callers.specs.Below.{closing_fault_in, CheckpointRefusal, Checkpointed}
+use Rattle.std.specs.Prelude.{◌≡◌, Bool, true, false, None, Result, Ok, Err}
+use Rattle.mm_callers.specs.Below.{Variant, Basic, Opt, Standing, StepFault, Batch, is_long, Answer, BatchAnswer, Refusal, Long, Blames}
+use Rattle.mm_callers.specs.Below.{whole, fault_in, BasicSteps, OptSteps, ClosingStepsBy, closing_fault_in, CheckpointRefusal, Checkpointed}
 use Rattle.mm_model.specs.declared.refusal.Refusal.TheVariants.{Device}
 use Rattle.mm_callers.specs.declared.closing.Replies.{Replies}
 use Rattle.mm_callers.specs.declared.closing.Halted.{Halted}

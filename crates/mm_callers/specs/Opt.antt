@@ -1,9 +1,10 @@
 -- What callers of Opt get, by lists alone. What is asked of what others do is asked of the
 -- register's items at exit.
-use Rattle.mm_callers.specs.Below.{Contains, ◌≡◌, ℕ, Bool, true, false, List, [], ◌++◌, Some, Result, Ok, Err, extended_message, Item}
-use Rattle.mm_callers.specs.Below.{Standing, quiet_plan, Batch, One, Meaning, guard, History, Commit, moved, register_value_of, Instance}
-use Rattle.mm_callers.specs.Below.{opt, is_long, Within, offer_messages, issued, StandsFor, BatchAnswer, Refusal, Memory, counted_part}
-use Rattle.mm_callers.specs.Below.{IsAnswered, AreAsked, AreShown, IsIdle, standing_items, foreign_items}
+use Rattle.std.specs.Prelude.{◌≡◌, ℕ, Bool, true, false, List, [], ◌++◌, Some, Result, Ok, Err}
+use Rattle.std.specs.List.{Contains}
+use Rattle.mm_callers.specs.Below.{extended_message, Item, Standing, quiet_plan, Batch, One, Meaning, guard, History, Commit, moved}
+use Rattle.mm_callers.specs.Below.{register_value_of, Instance, opt, is_long, Within, offer_messages, issued, StandsFor, BatchAnswer}
+use Rattle.mm_callers.specs.Below.{Refusal, Memory, counted_part, IsAnswered, AreAsked, AreShown, IsIdle, standing_items, foreign_items}
 use Rattle.mm_callers.specs.Basic.{EndsOnce, EndsNext, IsOfRun}
 use Rattle.mm_callers.specs.Complete.{IsWelcome, batches_then}
 

@@ -1,17 +1,4 @@
 -- The words that the definitions of this crate take from the crates below.
-pub use Rattle.std.proofs.Common.{arith, inl, inr, refl, subst, sym}
-pub use Rattle.std.proofs.lemmas.Bool.Decides.{nat_tests}
-pub use Rattle.std.proofs.lemmas.Slice.Eq.{bytes_eq-Decides}
-pub use Rattle.std.specs.BTreeSet.{BTreeSet, contains, keys}
-pub use Rattle.std.specs.Cmp.Lexicographic.{slice_cmp}
-pub use Rattle.std.specs.Fmt.{decimal}
-pub use Rattle.std.specs.Io.KnownBytes.{Appends, Consumes, IsAtEnd}
-pub use Rattle.std.specs.List.{flat_map, fold, list_any, slice_get, sum_by}
-pub use Rattle.std.specs.Option.{option_map}
-pub use Rattle.std.specs.Ordering.{nat_cmp}
-pub use Rattle.std.specs.Prelude.{Bool, Err, List, None, Ok, Option, Result, Some, Vec, [], codes, false, if◌then◌else◌, length, map}
-pub use Rattle.std.specs.Prelude.{nat_le, nat_lt, true, ℕ, ◌++◌, ◌+◌, ◌-◌, ◌<◌, ◌^◌, ◌∷◌, ◌≡◌, ◌≤◌, ◌⊎◌}
-pub use Rattle.std.specs.Str.{bytes_eq}
 pub use Rattle.sha2.specs.Sha256.{sha256}
 pub use Rattle.mm_base.specs.Input.{lines_of}
 pub use Rattle.mm_base.specs.Limits.{most_events}

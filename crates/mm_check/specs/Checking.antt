@@ -1,9 +1,11 @@
 -- A recorded run line by line: the header, the events, and at will the line `replies` and the
 -- recorded lines.
-use Rattle.mm_check.specs.Below.{slice_get, sum_by, ℕ, ◌+◌, ◌-◌, Bool, true, false, nat_le, List, [], ◌∷◌, ◌++◌, codes, length, Option}
-use Rattle.mm_check.specs.Below.{None, Some, Result, Ok, Err, if◌then◌else◌, bytes_eq, most_events, Event, event_at, lines_of_reply, Header}
-use Rattle.mm_check.specs.Below.{world_of, Running, begun, most_kept, running_outcome, after_event, EventPlayer, event_answer}
-use Rattle.mm_check.specs.Below.{header_answer, Refused, Much}
+use Rattle.std.specs.Prelude.{ℕ, ◌+◌, ◌-◌, Bool, true, false, nat_le, List, [], ◌∷◌, ◌++◌, codes, length, Option, None, Some, Result, Ok}
+use Rattle.std.specs.Prelude.{Err, if◌then◌else◌}
+use Rattle.std.specs.List.{slice_get, sum_by}
+use Rattle.std.specs.Str.{bytes_eq}
+use Rattle.mm_check.specs.Below.{most_events, Event, event_at, lines_of_reply, Header, world_of, Running, begun, most_kept, running_outcome}
+use Rattle.mm_check.specs.Below.{after_event, EventPlayer, event_answer, header_answer, Refused, Much}
 use Rattle.mm_check.specs.Numbering.{expected_lines}
 
 -- the line between the events and the recorded lines

@@ -1,7 +1,8 @@
 -- The check of a recorded run: what it says of the lines of an input.
-use Rattle.mm_check.specs.Below.{Appends, Consumes, IsAtEnd, ◌≡◌, ℕ, List, [], ◌∷◌, ◌++◌, map, Option, Some, Result, Ok, Err, ◌⊎◌, lines_of}
-use Rattle.mm_check.specs.Below.{ReplayFault, Memory, ReadFault, WriteFault, Event, event_at, header_at, Header, world_of, Told, run}
-use Rattle.mm_check.specs.Below.{run_of, ForWhole, IsTailShort, IsFrontOf}
+use Rattle.std.specs.Prelude.{◌≡◌, ℕ, List, [], ◌∷◌, ◌++◌, map, Option, Some, Result, Ok, Err, ◌⊎◌}
+use Rattle.std.specs.Io.KnownBytes.{Appends, Consumes, IsAtEnd}
+use Rattle.mm_check.specs.Below.{lines_of, ReplayFault, Memory, ReadFault, WriteFault, Event, event_at, header_at, Header, world_of, Told}
+use Rattle.mm_check.specs.Below.{run, run_of, ForWhole, IsTailShort, IsFrontOf}
 use Rattle.mm_check.specs.Checking.{CheckStage, AtHeader, check_answer, check_closing, section_line}
 use Rattle.mm_check.specs.Verdicts.{AreVerdicts, run_lines, verdicts_text}
 use Rattle.mm_check.specs.declared.verdicts.Verdicts.{Verdicts}

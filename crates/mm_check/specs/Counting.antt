@@ -1,7 +1,11 @@
 -- A recorded run ends: each answered line leaves fewer.
-use Rattle.mm_check.specs.Below.{refl, sym, subst, inl, inr, arith, nat_tests, bytes_eq-Decides, ◌≡◌, ◌⊎◌, ℕ, ◌+◌, ◌<◌, ◌^◌, Bool, true}
-use Rattle.mm_check.specs.Below.{false, nat_le, List, [], Option, Result, Ok, Err, if◌then◌else◌, bytes_eq, most_events, event_at, Header}
-use Rattle.mm_check.specs.Below.{begins_fewer, few_events, no_answer, same_answer, taken, Taken, Refused, Much}
+use Rattle.std.specs.Prelude.{◌≡◌, ◌⊎◌, ℕ, ◌+◌, ◌<◌, ◌^◌, Bool, true, false, nat_le, List, [], Option, Result, Ok, Err, if◌then◌else◌}
+use Rattle.std.proofs.Common.{refl, sym, subst, inl, inr, arith}
+use Rattle.std.proofs.lemmas.Bool.Decides.{nat_tests}
+use Rattle.std.proofs.lemmas.Slice.Eq.{bytes_eq-Decides}
+use Rattle.std.specs.Str.{bytes_eq}
+use Rattle.mm_check.specs.Below.{most_events, event_at, Header, begins_fewer, few_events, no_answer, same_answer, taken, Taken, Refused}
+use Rattle.mm_check.specs.Below.{Much}
 use Rattle.mm_check.specs.Checking.{Read, first_read, Compared, first_compared, after_compared, CheckStage, AtHeader, InEvents, InReplies, checking, read_event, read_line, compare_line, check_answer, check_left, most_recorded, section_line}
 
 few_recorded : (count : ℕ) → nat_le most_recorded count ≡ false → count < most_recorded

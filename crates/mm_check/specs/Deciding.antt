@@ -1,6 +1,6 @@
 -- What the code that decides holds behind some first events.
-use Rattle.mm_check.specs.Below.{◌≡◌, ℕ, ◌+◌, ◌≤◌, Bool, true, false, List, length, Option, None, Some, Instance, Event, Header, expected}
-use Rattle.mm_check.specs.Below.{world_of, IsGenuineRun, IsAfter}
+use Rattle.std.specs.Prelude.{◌≡◌, ℕ, ◌+◌, ◌≤◌, Bool, true, false, List, length, Option, None, Some}
+use Rattle.mm_check.specs.Below.{Instance, Event, Header, expected, world_of, IsGenuineRun, IsAfter}
 use Rattle.mm_check.specs.Lists.{Lists}
 use Rattle.mm_check.specs.Numbering.{numbered, lines_of_all, IsForgedAt, Decides, expected_lines}
 use Rattle.mm_check.specs.declared.deciding.Deciding.{Deciding}

@@ -1,7 +1,11 @@
 -- The guards of batches in code.
-use Rattle.mm_check.specs.Below.{BTreeSet, contains, slice_cmp, list_any, nat_cmp, ◌≡◌, ℕ, List, [], ◌∷◌, map, Option, None, Some}
-use Rattle.mm_check.specs.Below.{if◌then◌else◌, bytes_eq, Digest, Variant, Basic, Opt, Batch, normal, own_values, is_long, Event, event_of}
-use Rattle.mm_check.specs.Below.{CodeEvent, asked_batches}
+use Rattle.std.specs.Prelude.{◌≡◌, ℕ, List, [], ◌∷◌, map, Option, None, Some, if◌then◌else◌}
+use Rattle.std.specs.BTreeSet.{BTreeSet, contains}
+use Rattle.std.specs.Cmp.Lexicographic.{slice_cmp}
+use Rattle.std.specs.List.{list_any}
+use Rattle.std.specs.Ordering.{nat_cmp}
+use Rattle.std.specs.Str.{bytes_eq}
+use Rattle.mm_check.specs.Below.{Digest, Variant, Basic, Opt, Batch, normal, own_values, is_long, Event, event_of, CodeEvent, asked_batches}
 use Rattle.mm_check.specs.Listing.{first_where}
 use Rattle.mm_check.specs.Numbering.{is_secured}
 

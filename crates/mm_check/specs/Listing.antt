@@ -1,6 +1,9 @@
 -- Messages with their numbers: each once, in the order of its first coming.
-use Rattle.mm_check.specs.Below.{list_any, option_map, ℕ, ◌+◌, nat_lt, Bool, List, [], ◌∷◌, ◌++◌, map, Option, None, Some, if◌then◌else◌}
-use Rattle.mm_check.specs.Below.{bytes_eq, sha256, zero_bytes}
+use Rattle.std.specs.Prelude.{ℕ, ◌+◌, nat_lt, Bool, List, [], ◌∷◌, ◌++◌, map, Option, None, Some, if◌then◌else◌}
+use Rattle.std.specs.List.{list_any}
+use Rattle.std.specs.Option.{option_map}
+use Rattle.std.specs.Str.{bytes_eq}
+use Rattle.mm_check.specs.Below.{sha256, zero_bytes}
 
 -- the number, from 1, of the first that passes
 abbrev pub first_where : {A : Type 0} → (A → Bool) → List A → Option ℕ

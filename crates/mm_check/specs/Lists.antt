@@ -1,5 +1,10 @@
 -- What the numbers in code say of a list.
-use Rattle.mm_check.specs.Below.{keys, slice_cmp, list_any, nat_cmp, ◌≡◌, ℕ, Bool, List, length, Option, None, Some, Vec, bytes_eq}
+use Rattle.std.specs.Prelude.{◌≡◌, ℕ, Bool, List, length, Option, None, Some, Vec}
+use Rattle.std.specs.BTreeSet.{keys}
+use Rattle.std.specs.Cmp.Lexicographic.{slice_cmp}
+use Rattle.std.specs.List.{list_any}
+use Rattle.std.specs.Ordering.{nat_cmp}
+use Rattle.std.specs.Str.{bytes_eq}
 use Rattle.std.specs.BTreeMap as tree
 use Rattle.mm_check.specs.Listing.{first_where, message_digests, shared_in, zero_in}
 use Rattle.mm_check.specs.declared.digests.Pair.{Pair}

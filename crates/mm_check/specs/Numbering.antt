@@ -1,6 +1,8 @@
 -- The premises of the headline for a run of events, as they are told: by the numbers of messages
 -- and of events.
-use Rattle.mm_check.specs.Below.{flat_map, fold, list_any, ◌≡◌, ℕ, ◌+◌, Bool, List, [], ◌∷◌, ◌++◌, length, Option, None, Some, bytes_eq}
+use Rattle.std.specs.Prelude.{◌≡◌, ℕ, ◌+◌, Bool, List, [], ◌∷◌, ◌++◌, length, Option, None, Some}
+use Rattle.std.specs.List.{flat_map, fold, list_any}
+use Rattle.std.specs.Str.{bytes_eq}
 use Rattle.mm_check.specs.Below.{start_message, Opt, own_values, History, first_history, total_of, Instance, IsClear, by_lists, Event}
 use Rattle.mm_check.specs.Below.{lines_of_reply, end_line, Reply, Followed, event_outcome, first_issued, expected, foreign_of, IsClearRun}
 use Rattle.mm_check.specs.Below.{IsGenuineEvent, IsGenuineRun, asked_batches, run_messages, numbered_event}

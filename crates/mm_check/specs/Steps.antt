@@ -1,6 +1,6 @@
 -- What one line did to a recorded run that is read.
-use Rattle.mm_check.specs.Below.{◌≡◌, ℕ, List, [], Option, None, Some, Result, Ok, Err, Event, event_of, CodeEvent, Refused, Bad, Much}
-use Rattle.mm_check.specs.Below.{ReplyFault}
+use Rattle.std.specs.Prelude.{◌≡◌, ℕ, List, [], Option, None, Some, Result, Ok, Err}
+use Rattle.mm_check.specs.Below.{Event, event_of, CodeEvent, Refused, Bad, Much, ReplyFault}
 use Rattle.mm_play.specs.declared.player.ReplyFault.TheVariants as fault
 use Rattle.mm_check.specs.Checking.{CheckStage, AtHeader, InEvents, InReplies}
 use Rattle.mm_check.specs.declared.player.Phase.{Phase}

@@ -1,6 +1,8 @@
 -- What a check comes to.
-use Rattle.mm_check.specs.Below.{decimal, ◌≡◌, ℕ, ◌+◌, ◌≤◌, Bool, false, nat_le, List, [], ◌∷◌, ◌++◌, length, codes, Option, None, Some}
-use Rattle.mm_check.specs.Below.{if◌then◌else◌, bytes_eq, most_events, Instance, Event, Header, replies_by_digests, world_of, Running}
+use Rattle.std.specs.Prelude.{◌≡◌, ℕ, ◌+◌, ◌≤◌, Bool, false, nat_le, List, [], ◌∷◌, ◌++◌, length, codes, Option, None, Some, if◌then◌else◌}
+use Rattle.std.specs.Fmt.{decimal}
+use Rattle.std.specs.Str.{bytes_eq}
+use Rattle.mm_check.specs.Below.{most_events, Instance, Event, Header, replies_by_digests, world_of, Running}
 use Rattle.mm_check.specs.Numbering.{Decides, lines_of_all, lines_with, expected_lines}
 use Rattle.mm_check.specs.Checking.{Compared, differs_then, CheckStage, AtHeader, InEvents, InReplies}
 use Rattle.mm_check.specs.declared.verdicts.Premise.{Premise}

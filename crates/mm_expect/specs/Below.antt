@@ -1,8 +1,4 @@
 -- The words that the definitions of this crate take from the crates below.
-pub use Rattle.std.specs.List.{AllByRecursion, list_any}
-pub use Rattle.std.specs.Prelude.{Bool, Err, IsTrue, List, None, Ok, Option, Result, Some, [], false, map, option_to_list, slice_get, true}
-pub use Rattle.std.specs.Prelude.{ℕ, ◌++◌, ◌+◌, ◌∷◌, ◌≡◌, ◌≤◌}
-pub use Rattle.std.specs.Str.{bytes_eq}
 pub use Rattle.mm_base.specs.Limits.{last_position}
 pub use Rattle.mm_digest.specs.Messages.{anchored_message, extended_message, zero_bytes}
 pub use Rattle.mm_digest.specs.declared.variant.Variant.{Variant}

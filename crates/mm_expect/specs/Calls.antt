@@ -1,8 +1,8 @@
 -- What a call comes to, as a chronicle goes on by it.
-use Rattle.mm_expect.specs.Below.{◌≡◌, ℕ, ◌+◌, ◌≤◌, Bool, true, false, List, [], ◌∷◌, Option, None, Some, Result, Ok, Err, last_position}
-use Rattle.mm_expect.specs.Below.{Variant, Basic, Opt, StepFault, Meddle, Stop, Batch, size_of, History, Move, Commit, Placed, Reset}
-use Rattle.mm_expect.specs.Below.{total_of, is_last, Step, Changes, Writes, Refusal, answer_on, Ending, Answers, Refuses, Breaks, Called}
-use Rattle.mm_expect.specs.Below.{kept_at, Walked, planned, walk, commits, Found, Ended, Answered, Refused, Broken, plan_of}
+use Rattle.std.specs.Prelude.{◌≡◌, ℕ, ◌+◌, ◌≤◌, Bool, true, false, List, [], ◌∷◌, Option, None, Some, Result, Ok, Err}
+use Rattle.mm_expect.specs.Below.{last_position, Variant, Basic, Opt, StepFault, Meddle, Stop, Batch, size_of, History, Move, Commit}
+use Rattle.mm_expect.specs.Below.{Placed, Reset, total_of, is_last, Step, Changes, Writes, Refusal, answer_on, Ending, Answers, Refuses}
+use Rattle.mm_expect.specs.Below.{Breaks, Called, kept_at, Walked, planned, walk, commits, Found, Ended, Answered, Refused, Broken, plan_of}
 use Rattle.mm_expect.specs.Recorded.{Recorded, Went, recorded_instance}
 use Rattle.mm_expect.specs.Walking.{Walks}
 

@@ -1,5 +1,6 @@
 -- What a checkpoint comes to, as a chronicle goes on by it.
-use Rattle.mm_expect.specs.Below.{◌≡◌, Bool, true, false, History, Walked}
+use Rattle.std.specs.Prelude.{◌≡◌, Bool, true, false}
+use Rattle.mm_expect.specs.Below.{History, Walked}
 use Rattle.mm_call.specs.Checkpoints as ghost_closing
 use Rattle.mm_call.specs.CheckpointsWords as ghost_closing_words
 use Rattle.mm_expect.specs.declared.calls.Closing.{Closing}

@@ -1,7 +1,7 @@
 -- What an event comes to, as a chronicle goes on by it.
-use Rattle.mm_expect.specs.Below.{◌≡◌, ℕ, Bool, true, false, List, [], ◌++◌, option_to_list, Meddle, Stop, Batch, History, Move}
-use Rattle.mm_expect.specs.Below.{right_messages, Called, called, right_content, by_lists, all_made, Event, Outcome, course_of, way_of}
-use Rattle.mm_expect.specs.Below.{reply_of, snapshots_of, moves_then, event_outcome}
+use Rattle.std.specs.Prelude.{◌≡◌, ℕ, Bool, true, false, List, [], ◌++◌, option_to_list}
+use Rattle.mm_expect.specs.Below.{Meddle, Stop, Batch, History, Move, right_messages, Called, called, right_content, by_lists, all_made}
+use Rattle.mm_expect.specs.Below.{Event, Outcome, course_of, way_of, reply_of, snapshots_of, moves_then, event_outcome}
 use Rattle.mm_expect.specs.declared.replies.Said.{Said}
 use Rattle.mm_expect.specs.Numbered.{messages_where, numbered_event}
 use Rattle.mm_expect.specs.Recorded.{Recorded, recorded_instance}

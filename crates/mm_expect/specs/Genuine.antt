@@ -1,6 +1,8 @@
 -- Whether an offer is genuine, by whether what it says names a position.
-use Rattle.mm_expect.specs.Below.{AllByRecursion, ◌≡◌, ℕ, ◌≤◌, Bool, List, Some, None, slice_get, last_position, Content, Meaning, IsLawful}
-use Rattle.mm_expect.specs.Below.{History, total_of, Instance, basic, opt, Names, IsGenuine, right_content, IsDecided, IsIssued}
+use Rattle.std.specs.Prelude.{◌≡◌, ℕ, ◌≤◌, Bool, List, Some, None, slice_get}
+use Rattle.std.specs.List.{AllByRecursion}
+use Rattle.mm_expect.specs.Below.{last_position, Content, Meaning, IsLawful, History, total_of, Instance, basic, opt, Names, IsGenuine}
+use Rattle.mm_expect.specs.Below.{right_content, IsDecided, IsIssued}
 
 -- An offer that isn't right is genuine; a right one exactly where what it says names a position.
 pub record OffersAreDecided (i : Instance) : Type 0 where

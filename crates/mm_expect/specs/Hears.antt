@@ -1,5 +1,6 @@
 -- What is heard of an event.
-use Rattle.mm_expect.specs.Below.{◌≡◌, ℕ, List, History, Instance, by_lists, Event, event_outcome}
+use Rattle.std.specs.Prelude.{◌≡◌, ℕ, List}
+use Rattle.mm_expect.specs.Below.{History, Instance, by_lists, Event, event_outcome}
 use Rattle.mm_expect.specs.declared.expecting.Heard.{Heard}
 use Rattle.mm_expect.specs.Numbered.{numbered_event}
 

@@ -1,5 +1,7 @@
 -- Whether an offer is genuine, as it is decided beside the fold by lists.
-use Rattle.mm_expect.specs.Below.{AllByRecursion, ◌≡◌, ℕ, ◌≤◌, Bool, false, List, Option, None, Some, Result, Ok, Err, slice_get, bytes_eq}
+use Rattle.std.specs.Prelude.{◌≡◌, ℕ, ◌≤◌, Bool, false, List, Option, None, Some, Result, Ok, Err, slice_get}
+use Rattle.std.specs.List.{AllByRecursion}
+use Rattle.std.specs.Str.{bytes_eq}
 use Rattle.mm_expect.specs.Below.{last_position, Content, Snapshot, PartsFault, History, total_of, Instance, IsGenuine, right_content}
 use Rattle.mm_expect.specs.Below.{Event, Offer, Header, IsDecided, world_of, IsIssued, offered_bytes, IsGenuineEvent, IsGenuineOffer}
 use Rattle.mm_expect.specs.Traced.{Traced, IsAfter}

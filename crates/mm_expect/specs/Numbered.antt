@@ -1,6 +1,6 @@
 -- The messages of an event, in the order of their numbers.
-use Rattle.mm_expect.specs.Below.{ℕ, Bool, true, false, List, [], ◌++◌, ◌∷◌, History, Move, Close, moved, Instance, move_messages, Event}
-use Rattle.mm_expect.specs.Below.{moves_of, event_messages}
+use Rattle.std.specs.Prelude.{ℕ, Bool, true, false, List, [], ◌++◌, ◌∷◌}
+use Rattle.mm_expect.specs.Below.{History, Move, Close, moved, Instance, move_messages, Event, moves_of, event_messages}
 
 -- the messages of a move, by whether those of moves that close a segment are asked for, or those of
 -- all others

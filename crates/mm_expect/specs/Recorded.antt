@@ -1,7 +1,8 @@
 -- A chronicle as contracts see it.
-use Rattle.mm_expect.specs.Below.{◌≡◌, ℕ, true, false, List, [], ◌∷◌, ◌++◌, zero_bytes, extended_message, anchored_message, Variant, Basic}
-use Rattle.mm_expect.specs.Below.{Opt, Batch, members_of, state_after, state_from, meaning_of, AnyModule, History, Move, requests_of}
-use Rattle.mm_expect.specs.Below.{first_history, Instance, by_lists, all_made, world_key, world_barrier}
+use Rattle.std.specs.Prelude.{◌≡◌, ℕ, true, false, List, [], ◌∷◌, ◌++◌}
+use Rattle.mm_expect.specs.Below.{zero_bytes, extended_message, anchored_message, Variant, Basic, Opt, Batch, members_of, state_after}
+use Rattle.mm_expect.specs.Below.{state_from, meaning_of, AnyModule, History, Move, requests_of, first_history, Instance, by_lists}
+use Rattle.mm_expect.specs.Below.{all_made, world_key, world_barrier}
 use Rattle.mm_expect.specs.Numbered.{messages_where}
 
 -- a variant and a module, and a history of them; and the messages of the moves since they were last

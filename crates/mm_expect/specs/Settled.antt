@@ -1,6 +1,7 @@
 -- What the fields of a chronicle keep.
-use Rattle.mm_expect.specs.Below.{list_any, ◌≡◌, ℕ, false, List, [], ◌∷◌, ◌++◌, IsTrue, Variant, Batch, state_after, meaning_of, AnyModule}
-use Rattle.mm_expect.specs.Below.{History, requests_of, is_long, marks_of, Marks}
+use Rattle.std.specs.Prelude.{◌≡◌, ℕ, false, List, [], ◌∷◌, ◌++◌, IsTrue}
+use Rattle.std.specs.List.{list_any}
+use Rattle.mm_expect.specs.Below.{Variant, Batch, state_after, meaning_of, AnyModule, History, requests_of, is_long, marks_of, Marks}
 use Rattle.mm_expect.specs.Recorded.{barrier_of, instance_with}
 
 -- the barrier and the marks are those of the history; and the module's states those after its

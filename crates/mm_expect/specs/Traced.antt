@@ -1,6 +1,6 @@
 -- A schedule followed by lists, as contracts see it.
-use Rattle.mm_expect.specs.Below.{◌≡◌, ℕ, List, [], ◌∷◌, ◌++◌, History, first_history, by_lists, Event, Header, Outcome, event_outcome}
-use Rattle.mm_expect.specs.Below.{expected, first_issued, world_of}
+use Rattle.std.specs.Prelude.{◌≡◌, ℕ, List, [], ◌∷◌, ◌++◌}
+use Rattle.mm_expect.specs.Below.{History, first_history, by_lists, Event, Header, Outcome, event_outcome, expected, first_issued, world_of}
 
 -- the header; the history; and the issued snapshots by their numbers
 pub record Traced : Type 0 where

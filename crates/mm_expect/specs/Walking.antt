@@ -1,5 +1,6 @@
 -- The steps of a call in code, and the walk of them.
-use Rattle.mm_expect.specs.Below.{◌≡◌, false, List, [], ◌∷◌, map, Option, StepFault, batch_of, is_long, Walked}
+use Rattle.std.specs.Prelude.{◌≡◌, false, List, [], ◌∷◌, map, Option}
+use Rattle.mm_expect.specs.Below.{StepFault, batch_of, is_long, Walked}
 use Rattle.mm_model.specs.History as history
 use Rattle.mm_model.specs.Steps as steps
 use Rattle.mm_expect.specs.declared.course.Move.{Move}

@@ -1,7 +1,7 @@
 -- One call of either variant.
-use Rattle.mm_host.specs.Below.{◌≢◌, ℕ, List, Result, Err, IfOk, Variant, Basic, Opt, Standing, Batch, One, Meaning, IsFit, Answer}
-use Rattle.mm_host.specs.Below.{BatchAnswer, Refusal, Long, CallsOn, LeavesUntouched, Blames, whole, whole_in, fault_in, AskedInBasic}
-use Rattle.mm_host.specs.Below.{AskedInOpt}
+use Rattle.std.specs.Prelude.{◌≢◌, ℕ, List, Result, Err, IfOk}
+use Rattle.mm_host.specs.Below.{Variant, Basic, Opt, Standing, Batch, One, Meaning, IsFit, Answer, BatchAnswer, Refusal, Long, CallsOn}
+use Rattle.mm_host.specs.Below.{LeavesUntouched, Blames, whole, whole_in, fault_in, AskedInBasic, AskedInOpt}
 use Rattle.mm_host.specs.CellWrites.{CallWrites}
 
 -- what a whole call promises, in either core

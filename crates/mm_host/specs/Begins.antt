@@ -1,7 +1,10 @@
 -- What a first start comes to.
-use Rattle.mm_host.specs.Below.{Consumes, Contains, option_map, ◌≡◌, ◌≢◌, ℕ, Bool, true, false, List, [], map, length, None, Some, Result}
-use Rattle.mm_host.specs.Below.{Ok, Err, ◌⊎◌, Rose, start_message, Variant, Basic, Opt, blank_cell, Standing, item_values, Batch, Meaning}
-use Rattle.mm_host.specs.Below.{History, Value, first_history, Instance, StandsFor, issued_bytes, IsWithin, Slots, Unsynced, all_synced}
+use Rattle.std.specs.Prelude.{◌≡◌, ◌≢◌, ℕ, Bool, true, false, List, [], map, length, None, Some, Result, Ok, Err, ◌⊎◌}
+use Rattle.std.specs.Io.KnownBytes.{Consumes}
+use Rattle.std.specs.List.{Contains}
+use Rattle.std.specs.Option.{option_map}
+use Rattle.mm_host.specs.Below.{Rose, start_message, Variant, Basic, Opt, blank_cell, Standing, item_values, Batch, Meaning, History, Value}
+use Rattle.mm_host.specs.Below.{first_history, Instance, StandsFor, issued_bytes, IsWithin, Slots, Unsynced, all_synced}
 use Rattle.mm_host.specs.declared.init_fault.InitFault.{InitFault}
 use Rattle.mm_host.specs.declared.init_fault.InitFault.TheVariants.{Platform, Already, ReadFault, Store}
 use Rattle.mm_host.specs.Fitting.{FitsHistory}

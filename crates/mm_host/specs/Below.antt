@@ -1,11 +1,4 @@
 -- The words that the definitions of this crate take from the crates below.
-pub use Rattle.std.specs.Io.KnownBytes.{Consumes, IsAtEnd}
-pub use Rattle.std.specs.List.{Contains}
-pub use Rattle.std.specs.Option.{option_map}
-pub use Rattle.std.specs.Prelude.{Bool, Err, IfOk, IsSome, IsTrue, List, MatchResult, None, Ok, Option, Result, Some, [], drop, false}
-pub use Rattle.std.specs.Prelude.{if◌then◌else◌, length, map, nat_eq, nat_le, suc, take, true, zero, ℕ, ◌%◌, ◌++◌, ◌+◌, ◌-◌, ◌<◌, ◌↔◌, ◌∷◌}
-pub use Rattle.std.specs.Prelude.{◌≡◌, ◌≢◌, ◌≤◌, ◌⊎◌}
-pub use Rattle.std.specs.Result.{result_err}
 pub use Rattle.mm_base.specs.Faults.{CountsFaults, Rose}
 pub use Rattle.mm_base.specs.Limits.{last_position, longest_request}
 pub use Rattle.mm_base.specs.Lines.{MayGrow}

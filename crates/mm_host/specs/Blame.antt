@@ -1,5 +1,6 @@
 -- Whose fault it is that a host program can't go on.
-use Rattle.mm_host.specs.Below.{◌≡◌, ◌≢◌, Result, Err, Rose, Standing, Blames, fault_of, StoreStanding}
+use Rattle.std.specs.Prelude.{◌≡◌, ◌≢◌, Result, Err}
+use Rattle.mm_host.specs.Below.{Rose, Standing, Blames, fault_of, StoreStanding}
 use Rattle.mm_model.specs.declared.refusal.Refusal.TheVariants as refusal
 use Rattle.mm_host.specs.declared.fault.HostFault.{HostFault}
 use Rattle.mm_host.specs.declared.fault.HostFault.TheVariants.{Store, Refused}

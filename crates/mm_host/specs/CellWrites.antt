@@ -1,7 +1,7 @@
 -- How often the cell is to be written: by one call, and by calls that are made one after another.
-use Rattle.mm_host.specs.Below.{◌≡◌, ◌+◌, ◌≤◌, ℕ, zero, suc, Bool, true, false, List, Option, None, Some, Result, Ok, Err, Variant, Basic}
-use Rattle.mm_host.specs.Below.{Opt, IsCell, cell_spelling, Cell, Standing, StepFault, Answer, Refusal, fault_of, counted_by}
-use Rattle.mm_host.specs.Below.{WritesAtMostOnce}
+use Rattle.std.specs.Prelude.{◌≡◌, ◌+◌, ◌≤◌, ℕ, zero, suc, Bool, true, false, List, Option, None, Some, Result, Ok, Err}
+use Rattle.mm_host.specs.Below.{Variant, Basic, Opt, IsCell, cell_spelling, Cell, Standing, StepFault, Answer, Refusal, fault_of}
+use Rattle.mm_host.specs.Below.{counted_by, WritesAtMostOnce}
 use Rattle.mm_host.specs.declared.fault.HostFault.{HostFault}
 use Rattle.mm_host.specs.declared.fault.HostFault.TheVariants.{Refused}
 use Rattle.mm_host.specs.declared.resuming.Resumed.{Resumed}

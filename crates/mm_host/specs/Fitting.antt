@@ -1,6 +1,6 @@
 -- Which slots fit a history: from them the host goes on.
-use Rattle.mm_host.specs.Below.{◌≡◌, ◌+◌, ◌-◌, ◌%◌, ℕ, List, Option, None, Some, ◌⊎◌, Content, One, History, total_of, Instance, Names}
-use Rattle.mm_host.specs.Below.{IsRight, EndsWith, Pending, Slots, slot_read}
+use Rattle.std.specs.Prelude.{◌≡◌, ◌+◌, ◌-◌, ◌%◌, ℕ, List, Option, None, Some, ◌⊎◌}
+use Rattle.mm_host.specs.Below.{Content, One, History, total_of, Instance, Names, IsRight, EndsWith, Pending, Slots, slot_read}
 use Rattle.mm_host.specs.Waiting.{IsWaiting}
 
 -- the slot of the snapshot before the position of a request that waits

@@ -1,9 +1,11 @@
 -- The steps by which a platform with a blank cell, and a store, are set up. Nothing is asked for
 -- them.
-use Rattle.mm_host.specs.Below.{Consumes, IsAtEnd, ◌≡◌, ◌≤◌, ◌<◌, ◌↔◌, ℕ, Bool, true, false, IsTrue, List, [], ◌∷◌, length, take, drop}
-use Rattle.mm_host.specs.Below.{Option, Some, Result, Ok, Err, IfOk, MatchResult, ◌⊎◌, result_err, CountsFaults, Failed, Variant}
-use Rattle.mm_host.specs.Below.{blank_cell, cell_spelling, Standing, ReadCell, WriteCell, Goes, StepFault, Meaning, first_history, Instance}
-use Rattle.mm_host.specs.Below.{cell_of, issued_bytes, instance_by, WritesSlot, StoreStanding, StoreFault}
+use Rattle.std.specs.Prelude.{◌≡◌, ◌≤◌, ◌<◌, ◌↔◌, ℕ, Bool, true, false, IsTrue, List, [], ◌∷◌, length, take, drop, Option, Some, Result, Ok}
+use Rattle.std.specs.Prelude.{Err, IfOk, MatchResult, ◌⊎◌}
+use Rattle.std.specs.Io.KnownBytes.{Consumes, IsAtEnd}
+use Rattle.std.specs.Result.{result_err}
+use Rattle.mm_host.specs.Below.{CountsFaults, Failed, Variant, blank_cell, cell_spelling, Standing, ReadCell, WriteCell, Goes, StepFault}
+use Rattle.mm_host.specs.Below.{Meaning, first_history, Instance, cell_of, issued_bytes, instance_by, WritesSlot, StoreStanding, StoreFault}
 use Rattle.mm_host.specs.declared.init_fault.InitFault.{InitFault}
 use Rattle.mm_host.specs.declared.init_fault.InitFault.TheVariants.{Memory, Platform, Already, ReadFault, Short}
 use Rattle.mm_host.specs.InitFaults.{store_failed_as}

@@ -1,5 +1,6 @@
 -- Where the host program stands: at its last answer, or at the start.
-use Rattle.mm_host.specs.Below.{◌≤◌, ℕ, List, [], length, last_position, longest_request}
+use Rattle.std.specs.Prelude.{◌≤◌, ℕ, List, [], length}
+use Rattle.mm_host.specs.Below.{last_position, longest_request}
 use Rattle.mm_host.specs.declared.resuming.Resumed.{Resumed}
 use Rattle.mm_host.specs.declared.resuming.Resumed.TheVariants.{Start, Answered}
 

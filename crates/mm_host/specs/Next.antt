@@ -1,7 +1,7 @@
 -- One more request is asked: its record is written before, and the answer's snapshot after. Nothing
 -- is asked for these steps.
-use Rattle.mm_host.specs.Below.{◌≡◌, ◌+◌, ◌%◌, ℕ, List, Result, Ok, Err, Variant, Standing, Meaning, WritesSlot, StoreStanding, Pending}
-use Rattle.mm_host.specs.Below.{pending_spelling, StoreFault}
+use Rattle.std.specs.Prelude.{◌≡◌, ◌+◌, ◌%◌, ℕ, List, Result, Ok, Err}
+use Rattle.mm_host.specs.Below.{Variant, Standing, Meaning, WritesSlot, StoreStanding, Pending, pending_spelling, StoreFault}
 use Rattle.mm_host.specs.declared.fault.HostFault.{HostFault}
 use Rattle.mm_host.specs.declared.resuming.Resumed.{Resumed}
 use Rattle.mm_host.specs.Faults.{store_fault_as}

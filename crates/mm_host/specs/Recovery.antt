@@ -1,9 +1,10 @@
 -- What a host program that goes on after a stop comes to, by lists alone.
-use Rattle.mm_host.specs.Below.{Contains, ◌≡◌, ◌≢◌, ℕ, true, List, [], ◌∷◌, ◌++◌, Option, None, Some, Result, Ok, Err, nat_eq, ◌⊎◌, ◌%◌}
-use Rattle.mm_host.specs.Below.{IfOk, IsSome, Variant, Basic, Opt, Item, Standing, Batch, One, Meaning, History, total_of, Instance, basic}
-use Rattle.mm_host.specs.Below.{opt, Life, Spoiled, LostLife, life_of, Within, IsClear, AreNoGuards, StandsFor, Answer, Refusal, Device}
-use Rattle.mm_host.specs.Below.{Lost, Stale, answer_on, IsWithin, right_messages, right_content, whole, AreShown, IsIdle, fault_of}
-use Rattle.mm_host.specs.Below.{standing_items, StoreStanding, Pending, Slots, slot_read}
+use Rattle.std.specs.Prelude.{◌≡◌, ◌≢◌, ℕ, true, List, [], ◌∷◌, ◌++◌, Option, None, Some, Result, Ok, Err, nat_eq, ◌⊎◌, ◌%◌, IfOk, IsSome}
+use Rattle.std.specs.List.{Contains}
+use Rattle.mm_host.specs.Below.{Variant, Basic, Opt, Item, Standing, Batch, One, Meaning, History, total_of, Instance, basic, opt, Life}
+use Rattle.mm_host.specs.Below.{Spoiled, LostLife, life_of, Within, IsClear, AreNoGuards, StandsFor, Answer, Refusal, Device, Lost, Stale}
+use Rattle.mm_host.specs.Below.{answer_on, IsWithin, right_messages, right_content, whole, AreShown, IsIdle, fault_of, standing_items}
+use Rattle.mm_host.specs.Below.{StoreStanding, Pending, Slots, slot_read}
 use Rattle.mm_host.specs.declared.fault.HostFault.{HostFault}
 use Rattle.mm_host.specs.declared.fault.HostFault.TheVariants.{Refused}
 use Rattle.mm_host.specs.declared.resuming.Resumed.{Resumed}

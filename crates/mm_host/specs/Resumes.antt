@@ -1,6 +1,6 @@
 -- The steps by which a host program goes on after a stop. Nothing is asked for them.
-use Rattle.mm_host.specs.Below.{◌≡◌, ◌-◌, ◌%◌, ℕ, List, Option, None, Some, Result, Ok, Err, Variant, Standing, Meaning, Answer, Refusal}
-use Rattle.mm_host.specs.Below.{ReadsSlot, WritesSlot, StoreStanding, Pending, StoreFault}
+use Rattle.std.specs.Prelude.{◌≡◌, ◌-◌, ◌%◌, ℕ, List, Option, None, Some, Result, Ok, Err}
+use Rattle.mm_host.specs.Below.{Variant, Standing, Meaning, Answer, Refusal, ReadsSlot, WritesSlot, StoreStanding, Pending, StoreFault}
 use Rattle.mm_host.specs.declared.fault.HostFault.{HostFault}
 use Rattle.mm_host.specs.declared.resuming.Resumed.{Resumed}
 use Rattle.mm_host.specs.declared.resuming.Resumed.TheVariants.{Start, Answered}

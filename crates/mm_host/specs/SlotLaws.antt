@@ -1,7 +1,8 @@
 -- The laws of slots that fit a history.
-use Rattle.mm_host.specs.Below.{Contains, ◌≡◌, ℕ, true, false, List, [], ◌∷◌, Option, None, Some, start_message, Variant, Basic, Opt, Batch}
-use Rattle.mm_host.specs.Below.{Meaning, History, Move, moved, Instance, IsClear, AreNoGuards, MayMove, IsSound, IsGenuine, commits}
-use Rattle.mm_host.specs.Below.{instance_by, Pending, Slots}
+use Rattle.std.specs.Prelude.{◌≡◌, ℕ, true, false, List, [], ◌∷◌, Option, None, Some}
+use Rattle.std.specs.List.{Contains}
+use Rattle.mm_host.specs.Below.{start_message, Variant, Basic, Opt, Batch, Meaning, History, Move, moved, Instance, IsClear, AreNoGuards}
+use Rattle.mm_host.specs.Below.{MayMove, IsSound, IsGenuine, commits, instance_by, Pending, Slots}
 use Rattle.mm_host.specs.Fitting.{first_offer, FitsHistory}
 use Rattle.mm_host.specs.Init.{Devices, instance_from}
 use Rattle.mm_host.specs.Begins.{first_on, first_slots, ShowsValues, Begins}

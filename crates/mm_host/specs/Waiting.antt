@@ -1,6 +1,6 @@
 -- The request that waits in a store.
-use Rattle.mm_host.specs.Below.{◌≡◌, ◌≤◌, ℕ, List, Option, None, Some, Result, Ok, Err, ◌⊎◌, nat_le, if◌then◌else◌, longest_request}
-use Rattle.mm_host.specs.Below.{MayGrow, Pending, ReadsPending, StoreFault, Memory}
+use Rattle.std.specs.Prelude.{◌≡◌, ◌≤◌, ℕ, List, Option, None, Some, Result, Ok, Err, ◌⊎◌, nat_le, if◌then◌else◌}
+use Rattle.mm_host.specs.Below.{longest_request, MayGrow, Pending, ReadsPending, StoreFault, Memory}
 
 -- the later of two records
 abbrev pub later : Option Pending → Option Pending → Option Pending

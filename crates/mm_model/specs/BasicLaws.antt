@@ -1,7 +1,10 @@
 -- Basic: the verdict by digests is the verdict on the history.
-use Rattle.mm_model.specs.Below.{◌≡◌, ◌+◌, ◌&&◌, ◌++◌, refl, sym, ap, ◌∙◌, subst, bytes_eq-Decides, Contains, nat_eq, bytes_eq, zero_bytes}
-use Rattle.mm_model.specs.Below.{start_message, start_of, Basic, Content, Place, InBasic, InOpt, Batch, size_of, Meaning}
-use Rattle.std.proofs.Common.{ℕ, Bool, true, false, List, [], ◌∷◌}
+use Rattle.std.specs.Prelude.{nat_eq}
+use Rattle.std.proofs.Common.{◌≡◌, ◌+◌, ◌&&◌, ◌++◌, refl, sym, ap, ◌∙◌, subst, ℕ, Bool, true, false, List, [], ◌∷◌}
+use Rattle.std.proofs.lemmas.Slice.Eq.{bytes_eq-Decides}
+use Rattle.std.specs.List.{Contains}
+use Rattle.std.specs.Str.{bytes_eq}
+use Rattle.mm_model.specs.Below.{zero_bytes, start_message, start_of, Basic, Content, Place, InBasic, InOpt, Batch, size_of, Meaning}
 use Rattle.mm_model.specs.Chains.{trail, link_message, link, summary_of}
 use Rattle.mm_model.specs.InstanceWords.{basic}
 use Rattle.mm_model.specs.History.{History, total_of}

@@ -1,7 +1,12 @@
 -- Batches: their tests, and counts of requests that tell how far a list of batches goes.
-use Rattle.mm_model.specs.Below.{◌≡◌, ◌+◌, ◌&&◌, ◌++◌, refl, sym, ap, ◌∙◌, subst, arith, length-append, and_parts, and_from, Decides-eqb}
-use Rattle.mm_model.specs.Below.{append-nil, bytes_eq-Decides, Decides, nat_eq, Batch, One, Many, members_of, size_of, size_of-pos}
-use Rattle.std.proofs.Common.{Bool, true, false, List, [], ◌∷◌}
+use Rattle.std.specs.Prelude.{nat_eq}
+use Rattle.std.proofs.Common.{◌≡◌, ◌+◌, ◌&&◌, ◌++◌, refl, sym, ap, ◌∙◌, subst, arith, length-append, Bool, true, false, List, [], ◌∷◌}
+use Rattle.std.proofs.lemmas.Bool.{and_parts, and_from}
+use Rattle.std.proofs.lemmas.Bool.Decides.{Decides-eqb}
+use Rattle.std.proofs.lemmas.List.{append-nil}
+use Rattle.std.proofs.lemmas.Slice.Eq.{bytes_eq-Decides}
+use Rattle.std.specs.Bool.{Decides}
+use Rattle.mm_model.specs.Below.{Batch, One, Many, members_of, size_of, size_of-pos}
 use Rattle.mm_model.specs.History.{requests_of, total_of}
 use Rattle.mm_model.specs.Life.{same_batch}
 use Rattle.mm_model.specs.Judge.{is_last}

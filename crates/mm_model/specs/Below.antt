@@ -1,19 +1,4 @@
 -- The words that the definitions of this crate take from the crates below.
-pub use Rattle.std.proofs.Common.{IsTrue, Some, ap, append_assoc, arith, inl, inr, length, length-append, refl, subst, sym, ◌&&◌, ◌++◌, ◌+◌}
-pub use Rattle.std.proofs.Common.{◌<◌, ◌||◌, ◌∙◌, ◌≡◌, ◌≢◌, ◌≤◌, ◌⊎◌}
-pub use Rattle.std.proofs.lemmas.Bool.{and_from, and_parts, or_parts}
-pub use Rattle.std.proofs.lemmas.Bool.Decides.{Decides-and, Decides-eqb, leb_tells, nat_tests}
-pub use Rattle.std.proofs.lemmas.List.{append-nil, append_cancel_left, map-append, same_from_push}
-pub use Rattle.std.proofs.lemmas.List.Elements.{All-cons, All-contains_itself, All-from_recursion, All-nil, Contains-append_right}
-pub use Rattle.std.proofs.lemmas.List.Elements.{recursion_from_All}
-pub use Rattle.std.proofs.lemmas.List.Folds.{list_any-append}
-pub use Rattle.std.proofs.lemmas.Slice.Eq.{bytes_eq-Decides}
-pub use Rattle.std.specs.Bool.{Decides}
-pub use Rattle.std.specs.List.{AllByRecursion, Contains, flat_map, fold, join_with_byte, list_any, slice_get}
-pub use Rattle.std.specs.Option.{option_map}
-pub use Rattle.std.specs.Prelude.{All, Bool, List, Option, Vec, [], drop, false, if◌then◌else◌, map, nat_eq, nat_lt, suc, take, true, zero}
-pub use Rattle.std.specs.Prelude.{ℕ, ◌-◌, ◌==◌, ◌∷◌}
-pub use Rattle.std.specs.Str.{bytes_eq}
 pub use Rattle.sha2.proofs.Facts256.{length-sha256}
 pub use Rattle.sha2.specs.Sha256.{sha256}
 pub use Rattle.mm_base.specs.FieldLaws.{append-injective}

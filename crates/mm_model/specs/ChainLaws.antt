@@ -1,7 +1,8 @@
 -- Chains of digests: one more item, and equal ends of equal lists.
-use Rattle.mm_model.specs.Below.{◌≡◌, ◌≢◌, ◌++◌, length, refl, sym, ap, ◌∙◌, subst, inl, inr, AllByRecursion, Contains, length-sha256}
-use Rattle.mm_model.specs.Below.{sha256, length-zero_bytes, length-start_of, zero_bytes, start_of, extended_message, Basic, Opt, Batch}
-use Rattle.std.proofs.Common.{ℕ, List, [], ◌∷◌}
+use Rattle.std.proofs.Common.{◌≡◌, ◌≢◌, ◌++◌, length, refl, sym, ap, ◌∙◌, subst, inl, inr, ℕ, List, [], ◌∷◌}
+use Rattle.std.specs.List.{AllByRecursion, Contains}
+use Rattle.mm_model.specs.Below.{length-sha256, sha256, length-zero_bytes, length-start_of, zero_bytes, start_of, extended_message, Basic}
+use Rattle.mm_model.specs.Below.{Opt, Batch}
 use Rattle.mm_model.specs.Chains.{after, trail, link, link_message, closing_message, summary_of, anchor_of, register_of}
 use Rattle.mm_model.specs.Messages.{Within, IsClear}
 use Rattle.mm_model.specs.ListLaws.{ends, by_last, each_left, each_right, each_append}

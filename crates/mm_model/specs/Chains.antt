@@ -1,8 +1,7 @@
 -- What the digests stand for: the summary of a list of batches, the value of a register and the
 -- anchor
-use Rattle.mm_model.specs.Below.{ℕ, List, [], ◌∷◌, sha256, zero_bytes, start_of, extended_message, anchored_message, Basic, Opt, Batch, One}
-use Rattle.mm_model.specs.Below.{Many}
-use Rattle.std.specs.Prelude.{◌++◌}
+use Rattle.std.specs.Prelude.{ℕ, List, [], ◌∷◌, ◌++◌}
+use Rattle.mm_model.specs.Below.{sha256, zero_bytes, start_of, extended_message, anchored_message, Basic, Opt, Batch, One, Many}
 
 -- of a list of segments. Each is one chain: every item is hashed with the digest before it.
 

@@ -1,5 +1,5 @@
 -- The numbers of the refusals.
-use Rattle.mm_model.specs.Below.{ℕ}
+use Rattle.std.specs.Prelude.{ℕ}
 use Rattle.mm_model.specs.declared.refusal.Refusal.{Refusal}
 use Rattle.mm_model.specs.declared.refusal.Refusal.TheVariants.{Memory, Long, Device, Blank, Cell, Lost, Form, Kind, State, Tag, Stale, Full}
 

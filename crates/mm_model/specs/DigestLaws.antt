@@ -1,8 +1,9 @@
 -- What equal digests tell of lists, where no two listed messages share a digest and none is zero.
-use Rattle.mm_model.specs.Below.{◌≡◌, ◌≢◌, ◌++◌, length, refl, sym, ap, ◌∙◌, arith, append_cancel_left, AllByRecursion, Contains, fold}
+use Rattle.std.proofs.Common.{◌≡◌, ◌≢◌, ◌++◌, length, refl, sym, ap, ◌∙◌, arith, ℕ, List, [], ◌∷◌, map}
+use Rattle.std.proofs.lemmas.List.{append_cancel_left}
+use Rattle.std.specs.List.{AllByRecursion, Contains, fold}
 use Rattle.mm_model.specs.Below.{sha256, append-injective, length-zero_bytes, length-start_of, zero_bytes, start_message, extended_message}
 use Rattle.mm_model.specs.Below.{Basic, Opt, Batch, One, Many}
-use Rattle.std.proofs.Common.{ℕ, List, [], ◌∷◌, map}
 use Rattle.mm_digest.specs.Messages.{start_of, extended_of, anchored_of}
 use Rattle.mm_platform.specs.Standing as platform
 use Rattle.mm_model.specs.Chains.{after, trail, link_message, guard_message, closing_message, link, guard, summary_of, register_of, anchor_of}

@@ -1,7 +1,9 @@
 -- Corollaries of the verdicts.
-use Rattle.mm_model.specs.Below.{◌≡◌, ◌+◌, ◌&&◌, ◌++◌, refl, sym, ap, inl, inr, recursion_from_All, All-contains_itself, Contains, nat_eq}
+use Rattle.std.specs.Prelude.{nat_eq}
+use Rattle.std.proofs.Common.{◌≡◌, ◌+◌, ◌&&◌, ◌++◌, refl, sym, ap, inl, inr, ℕ, List, ◌∷◌}
+use Rattle.std.proofs.lemmas.List.Elements.{recursion_from_All, All-contains_itself}
+use Rattle.std.specs.List.{Contains}
 use Rattle.mm_model.specs.Below.{start_of, Basic, Opt, Place, Batch, size_of, Meaning}
-use Rattle.std.proofs.Common.{ℕ, List, ◌∷◌}
 use Rattle.mm_model.specs.Chains.{link_message, summary_of}
 use Rattle.mm_model.specs.Instance.{Instance}
 use Rattle.mm_model.specs.InstanceWords.{basic}

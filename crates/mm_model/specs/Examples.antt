@@ -1,6 +1,6 @@
 -- Small histories, and what is said of each of their positions.
-use Rattle.mm_model.specs.Below.{ℕ, zero, suc, List, [], ◌∷◌, map, Variant, Basic, Batch, One}
-use Rattle.std.specs.Prelude.{◌++◌}
+use Rattle.std.specs.Prelude.{ℕ, zero, suc, List, [], ◌∷◌, map, ◌++◌}
+use Rattle.mm_model.specs.Below.{Variant, Basic, Batch, One}
 use Rattle.mm_model.specs.History.{History, first_history, total_of}
 use Rattle.mm_model.specs.Judge.{judge}
 use Rattle.mm_model.specs.declared.verdict.Verdict.{Verdict}

@@ -1,6 +1,6 @@
 -- The sizes of an answer.
-use Rattle.mm_model.specs.Below.{All, last_position, Batch, size_of, IsLine}
-use Rattle.std.specs.Prelude.{◌≡◌, ◌≤◌, length}
+use Rattle.std.specs.Prelude.{All, ◌≡◌, ◌≤◌, length}
+use Rattle.mm_model.specs.Below.{last_position, Batch, size_of, IsLine}
 use Rattle.mm_model.specs.declared.answer.BatchAnswer.{BatchAnswer}
 
 -- The answer to the batch has a position from 1 to 2^48, a line for each request, and a snapshot

@@ -1,9 +1,10 @@
 -- An answer that was run from a spelled state, with positions left for it, is fit.
-use Rattle.mm_model.specs.Below.{◌≡◌, ◌+◌, ◌≤◌, ◌<◌, length, IsTrue, arith, length-append, All-nil, All-cons, All, nat_lt, if◌then◌else◌}
+use Rattle.std.specs.Prelude.{All, nat_lt, if◌then◌else◌}
+use Rattle.std.proofs.Common.{◌≡◌, ◌+◌, ◌≤◌, ◌<◌, length, IsTrue, arith, length-append, ℕ, Bool, true, false, List, [], ◌∷◌}
+use Rattle.std.proofs.lemmas.List.Elements.{All-nil, All-cons}
 use Rattle.mm_model.specs.Below.{last_position, limit_of, length-hmac_of, Variant, Basic, Opt, place_length, Content, IsPlace, IsContent}
 use Rattle.mm_model.specs.Below.{variant_of, snapshot_front, length-snapshot_front, Place, Batch, members_of, size_of, size_of-pos, Meaning}
 use Rattle.mm_model.specs.Below.{IsLine, IsLawful, outputs_from, state_from, length-outputs_from, state_from-is_spelled}
-use Rattle.std.proofs.Common.{ℕ, Bool, true, false, List, [], ◌∷◌}
 use Rattle.mm_seal.specs.Snapshot.{sealed_of}
 use Rattle.mm_model.specs.Fit.{IsFit}
 

@@ -1,8 +1,11 @@
 -- Opt: what the tests of the verdict by digests say of lists of values.
-use Rattle.mm_model.specs.Below.{◌≡◌, ◌++◌, refl, sym, ap, ◌∙◌, subst, Decides-and, bytes_eq-Decides, Decides, AllByRecursion, Contains}
-use Rattle.mm_model.specs.Below.{bytes_eq, zero_bytes, start_message, start_of, extended_message, extended_of, anchored_message}
-use Rattle.mm_model.specs.Below.{anchored_of, Opt}
-use Rattle.std.proofs.Common.{ℕ, Bool, true, false, List, [], ◌∷◌}
+use Rattle.std.proofs.Common.{◌≡◌, ◌++◌, refl, sym, ap, ◌∙◌, subst, ℕ, Bool, true, false, List, [], ◌∷◌}
+use Rattle.std.proofs.lemmas.Bool.Decides.{Decides-and}
+use Rattle.std.proofs.lemmas.Slice.Eq.{bytes_eq-Decides}
+use Rattle.std.specs.Bool.{Decides}
+use Rattle.std.specs.List.{AllByRecursion, Contains}
+use Rattle.std.specs.Str.{bytes_eq}
+use Rattle.mm_model.specs.Below.{zero_bytes, start_message, start_of, extended_message, extended_of, anchored_message, anchored_of, Opt}
 use Rattle.mm_model.specs.Chains.{trail, closing_message, register_of, anchor_of}
 use Rattle.mm_model.specs.Judge.{Point, fits_fresh, fits_again}
 use Rattle.mm_model.specs.Messages.{Within, IsClear, register_trail, form_messages}

@@ -1,6 +1,7 @@
 -- The history of one instance as lists, with no digest in it, and the moves that change it.
-use Rattle.mm_model.specs.Below.{flat_map, ℕ, Bool, true, false, List, [], ◌∷◌, map, Variant, Basic, Opt, Batch, members_of}
-use Rattle.std.specs.Prelude.{◌++◌, length}
+use Rattle.std.specs.Prelude.{ℕ, Bool, true, false, List, [], ◌∷◌, map, ◌++◌, length}
+use Rattle.std.specs.List.{flat_map}
+use Rattle.mm_model.specs.Below.{Variant, Basic, Opt, Batch, members_of}
 use Rattle.mm_model.specs.Chains.{guard, register_of}
 use Rattle.mm_model.specs.Instance.{Instance}
 

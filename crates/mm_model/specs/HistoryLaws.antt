@@ -1,7 +1,11 @@
 -- Histories as lists: batches, entries and values, and what soundness tells of them.
-use Rattle.mm_model.specs.Below.{◌≡◌, ◌||◌, ◌++◌, length, refl, sym, ap, ◌∙◌, inl, inr, arith, append_assoc, and_parts, map-append}
-use Rattle.mm_model.specs.Below.{same_from_push, Contains-append_right, Contains, extended_of, Batch}
-use Rattle.std.proofs.Common.{ℕ, true, false, List, [], ◌∷◌, map}
+use Rattle.std.proofs.Common.{◌≡◌, ◌||◌, ◌++◌, length, refl, sym, ap, ◌∙◌, inl, inr, arith, append_assoc, ℕ, true, false, List, [], ◌∷◌}
+use Rattle.std.proofs.Common.{map}
+use Rattle.std.proofs.lemmas.Bool.{and_parts}
+use Rattle.std.proofs.lemmas.List.{map-append, same_from_push}
+use Rattle.std.proofs.lemmas.List.Elements.{Contains-append_right}
+use Rattle.std.specs.List.{Contains}
+use Rattle.mm_model.specs.Below.{extended_of, Batch}
 use Rattle.mm_model.specs.Chains.{guard, register_of}
 use Rattle.mm_model.specs.ChainsWords.{own_values}
 use Rattle.mm_model.specs.History.{Entry, Own, Value, joined, value_of, renamed}

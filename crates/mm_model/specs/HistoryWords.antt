@@ -1,5 +1,6 @@
 -- Words of the laws and proofs, each of which says a thing of History in short.
-use Rattle.mm_model.specs.Below.{ℕ, List, map, Variant, Basic, Opt}
+use Rattle.std.specs.Prelude.{ℕ, List, map}
+use Rattle.mm_model.specs.Below.{Variant, Basic, Opt}
 use Rattle.mm_model.specs.Chains.{summary_of, anchor_of}
 use Rattle.mm_model.specs.Instance.{Instance}
 use Rattle.mm_model.specs.History.{Entry, History, value_of}

@@ -1,5 +1,6 @@
 -- Words of the laws and proofs, each of which says a thing of Instance in short.
-use Rattle.mm_model.specs.Below.{ℕ, List, zero_bytes, Basic, Opt, Meaning}
+use Rattle.std.specs.Prelude.{ℕ, List}
+use Rattle.mm_model.specs.Below.{zero_bytes, Basic, Opt, Meaning}
 use Rattle.mm_model.specs.Instance.{Instance}
 
 -- an instance of Basic, which has no barrier

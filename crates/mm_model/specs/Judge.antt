@@ -1,8 +1,9 @@
 -- The verdict on an offered position: from a history, which knows no digest, and from digests
 -- alone.
-use Rattle.mm_model.specs.Below.{list_any, ℕ, Bool, true, false, List, [], ◌∷◌, if◌then◌else◌, nat_eq, bytes_eq, zero_bytes, anchored_of}
-use Rattle.mm_model.specs.Below.{extended_of, Variant, Place, InBasic, InOpt, Batch, size_of}
-use Rattle.std.specs.Prelude.{◌+◌, ◌&&◌}
+use Rattle.std.specs.Prelude.{ℕ, Bool, true, false, List, [], ◌∷◌, if◌then◌else◌, nat_eq, ◌+◌, ◌&&◌}
+use Rattle.std.specs.List.{list_any}
+use Rattle.std.specs.Str.{bytes_eq}
+use Rattle.mm_model.specs.Below.{zero_bytes, anchored_of, extended_of, Variant, Place, InBasic, InOpt, Batch, size_of}
 use Rattle.mm_model.specs.Chains.{link, guard}
 use Rattle.mm_model.specs.History.{History, total_of}
 use Rattle.mm_model.specs.Life.{Life, Live, Lost as LostLife, life_of, same_batch}

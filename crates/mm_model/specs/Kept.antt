@@ -1,5 +1,6 @@
 -- Owned batches and entries, as the lists of a history.
-use Rattle.mm_model.specs.Below.{Bool, false, List, Vec, map, Variant}
+use Rattle.std.specs.Prelude.{Bool, false, List, Vec, map}
+use Rattle.mm_model.specs.Below.{Variant}
 use Rattle.mm_module.specs.Batch as ghost_batch
 use Rattle.mm_model.specs.History.{Entry, Own, Value, History}
 use Rattle.mm_model.specs.Life.{same_batch}

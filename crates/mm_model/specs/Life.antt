@@ -1,6 +1,7 @@
 -- Whether a history goes on.
-use Rattle.mm_model.specs.Below.{Bool, true, false, List, [], ◌∷◌, bytes_eq, Variant, Basic, Opt, Batch, One, Many}
-use Rattle.std.specs.Prelude.{◌&&◌}
+use Rattle.std.specs.Prelude.{Bool, true, false, List, [], ◌∷◌, ◌&&◌}
+use Rattle.std.specs.Str.{bytes_eq}
+use Rattle.mm_model.specs.Below.{Variant, Basic, Opt, Batch, One, Many}
 use Rattle.mm_model.specs.History.{Entry, Own, Value, History, joined}
 
 abbrev pub same_batch : Batch → Batch → Bool

@@ -1,7 +1,8 @@
 -- Lists that grow at the end, and what holds of each item.
-use Rattle.mm_model.specs.Below.{◌≡◌, ◌++◌, refl, sym, ap, subst, ◌⊎◌, inl, inr, append_assoc, arith, append-nil, Contains-append_right}
-use Rattle.mm_model.specs.Below.{AllByRecursion, Contains}
-use Rattle.std.proofs.Common.{List, [], ◌∷◌}
+use Rattle.std.proofs.Common.{◌≡◌, ◌++◌, refl, sym, ap, subst, ◌⊎◌, inl, inr, append_assoc, arith, List, [], ◌∷◌}
+use Rattle.std.proofs.lemmas.List.{append-nil}
+use Rattle.std.proofs.lemmas.List.Elements.{Contains-append_right}
+use Rattle.std.specs.List.{AllByRecursion, Contains}
 
 pub record HasLast {A : Type 0} (xs : List A) : Type 0 where
   pub front : List A

@@ -1,6 +1,7 @@
 -- Which batches are too long to be asked.
-use Rattle.mm_model.specs.Below.{list_any, Bool, ◌==◌, nat_lt, longest_request, most_members, Batch, batch_text, size_of}
-use Rattle.std.specs.Prelude.{◌||◌, length}
+use Rattle.std.specs.Prelude.{Bool, ◌==◌, nat_lt, ◌||◌, length}
+use Rattle.std.specs.List.{list_any}
+use Rattle.mm_model.specs.Below.{longest_request, most_members, Batch, batch_text, size_of}
 
 -- its text has more than 4,096 bytes or an LF, which is 10, or it has more than 64 requests
 abbrev pub is_long : Batch → Bool

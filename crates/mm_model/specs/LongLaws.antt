@@ -1,8 +1,13 @@
 -- A batch that isn't too long has at most 64 requests, each of them a line.
-use Rattle.mm_model.specs.Below.{◌≡◌, ◌≢◌, ◌≤◌, ◌||◌, ◌++◌, length, length-append, sym, ap, ◌∙◌, subst, arith, Some, or_parts, nat_tests}
-use Rattle.mm_model.specs.Below.{All-from_recursion, list_any-append, list_any, slice_get, join_with_byte, AllByRecursion, nat_lt}
+use Rattle.std.specs.Prelude.{nat_lt}
+use Rattle.std.proofs.Common.{◌≡◌, ◌≢◌, ◌≤◌, ◌||◌, ◌++◌, length, length-append, sym, ap, ◌∙◌, subst, arith, Some, ℕ, false, List, [], ◌∷◌}
+use Rattle.std.proofs.Common.{zero, suc}
+use Rattle.std.proofs.lemmas.Bool.{or_parts}
+use Rattle.std.proofs.lemmas.Bool.Decides.{nat_tests}
+use Rattle.std.proofs.lemmas.List.Elements.{All-from_recursion}
+use Rattle.std.proofs.lemmas.List.Folds.{list_any-append}
+use Rattle.std.specs.List.{list_any, slice_get, join_with_byte, AllByRecursion}
 use Rattle.mm_model.specs.Below.{longest_request, most_members, Batch, members_of, batch_text, size_of, text_of-members_of, IsLine}
-use Rattle.std.proofs.Common.{ℕ, false, List, [], ◌∷◌, zero, suc}
 use Rattle.mm_model.specs.Long.{is_long}
 use Rattle.mm_model.specs.LongWords.{is_lf}
 

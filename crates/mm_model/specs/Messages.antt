@@ -1,9 +1,10 @@
 -- The messages that are hashed, as far as a proof looks at them, and what is asked of their
 -- digests.
-use Rattle.mm_model.specs.Below.{flat_map, AllByRecursion, Contains, ℕ, ◌-◌, Bool, true, List, [], ◌∷◌, map, take, drop, if◌then◌else◌}
-use Rattle.mm_model.specs.Below.{bytes_eq, sha256, zero_bytes, start_message, start_of, extended_message, extended_of, anchored_message}
-use Rattle.mm_model.specs.Below.{anchored_of, Variant, Basic, Opt, Place, InBasic, InOpt, Batch}
-use Rattle.std.specs.Prelude.{◌≡◌, ◌≢◌, ◌++◌, length}
+use Rattle.std.specs.Prelude.{ℕ, ◌-◌, Bool, true, List, [], ◌∷◌, map, take, drop, if◌then◌else◌, ◌≡◌, ◌≢◌, ◌++◌, length}
+use Rattle.std.specs.List.{flat_map, AllByRecursion, Contains}
+use Rattle.std.specs.Str.{bytes_eq}
+use Rattle.mm_model.specs.Below.{sha256, zero_bytes, start_message, start_of, extended_message, extended_of, anchored_message, anchored_of}
+use Rattle.mm_model.specs.Below.{Variant, Basic, Opt, Place, InBasic, InOpt, Batch}
 use Rattle.mm_model.specs.Chains.{trail, link_message, guard_message, closing_message, guard}
 use Rattle.mm_model.specs.ChainsWords.{own_values}
 use Rattle.mm_model.specs.Instance.{Instance}

@@ -1,5 +1,5 @@
 -- Words of the laws and proofs, each of which says a thing of Messages in short.
-use Rattle.mm_model.specs.Below.{ℕ, List}
+use Rattle.std.specs.Prelude.{ℕ, List}
 use Rattle.mm_model.specs.Instance.{Instance}
 use Rattle.mm_model.specs.History.{History, Move}
 use Rattle.mm_model.specs.Messages.{moving_messages}

@@ -1,7 +1,7 @@
 -- When a move is made, and what it does to the digests.
-use Rattle.mm_model.specs.Below.{AllByRecursion, Contains, ℕ, Bool, true, false, List, [], ◌∷◌, zero_bytes, extended_message, extended_of}
-use Rattle.mm_model.specs.Below.{anchored_of, Variant, Basic, Opt, Batch, size_of}
-use Rattle.std.specs.Prelude.{◌≡◌, ◌+◌, ◌++◌}
+use Rattle.std.specs.Prelude.{ℕ, Bool, true, false, List, [], ◌∷◌, ◌≡◌, ◌+◌, ◌++◌}
+use Rattle.std.specs.List.{AllByRecursion, Contains}
+use Rattle.mm_model.specs.Below.{zero_bytes, extended_message, extended_of, anchored_of, Variant, Basic, Opt, Batch, size_of}
 use Rattle.mm_model.specs.Chains.{link, guard, guard_message, register_of}
 use Rattle.mm_model.specs.ChainsWords.{own_values}
 use Rattle.mm_model.specs.Instance.{Instance}

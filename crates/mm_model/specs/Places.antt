@@ -1,7 +1,6 @@
 -- Which places the positions of a history have, and what a snapshot names.
-use Rattle.mm_model.specs.Below.{ℕ, Bool, true, false, List, [], ◌∷◌, map, zero_bytes, Variant, Basic, Opt, Content, Place, InBasic, InOpt}
-use Rattle.mm_model.specs.Below.{Batch, state_after}
-use Rattle.std.specs.Prelude.{◌≤◌, ◌≡◌, ◌++◌, length, ◌⊎◌}
+use Rattle.std.specs.Prelude.{ℕ, Bool, true, false, List, [], ◌∷◌, map, ◌≤◌, ◌≡◌, ◌++◌, length, ◌⊎◌}
+use Rattle.mm_model.specs.Below.{zero_bytes, Variant, Basic, Opt, Content, Place, InBasic, InOpt, Batch, state_after}
 use Rattle.mm_model.specs.Chains.{guard, summary_of, register_of, anchor_of}
 use Rattle.mm_model.specs.Instance.{Instance}
 use Rattle.mm_model.specs.History.{Entry, History, requests_of, total_of, value_of, joined}

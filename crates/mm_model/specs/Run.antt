@@ -1,6 +1,6 @@
 -- A run of a module on a list of requests.
-use Rattle.mm_model.specs.Below.{ℕ, List, Meaning, state_after, said_after}
-use Rattle.std.specs.Prelude.{◌≡◌}
+use Rattle.std.specs.Prelude.{ℕ, List, ◌≡◌}
+use Rattle.mm_model.specs.Below.{Meaning, state_after, said_after}
 
 -- a module, and the requests that it ran
 pub record Run (M : Type 0) : Type 0 where

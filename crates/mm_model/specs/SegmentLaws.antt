@@ -1,7 +1,9 @@
 -- Lists of segments, one after another: when two ways to cut one list are the same.
-use Rattle.mm_model.specs.Below.{◌≡◌, ◌+◌, ◌≤◌, ◌++◌, length, refl, sym, ap, ◌∙◌, subst, ◌⊎◌, inl, inr, arith, append_assoc, length-append}
-use Rattle.mm_model.specs.Below.{leb_tells, append-nil, append_cancel_left, AllByRecursion}
-use Rattle.std.proofs.Common.{ℕ, Bool, true, false, List, [], ◌∷◌}
+use Rattle.std.proofs.Common.{◌≡◌, ◌+◌, ◌≤◌, ◌++◌, length, refl, sym, ap, ◌∙◌, subst, ◌⊎◌, inl, inr, arith, append_assoc, length-append, ℕ}
+use Rattle.std.proofs.Common.{Bool, true, false, List, [], ◌∷◌}
+use Rattle.std.proofs.lemmas.Bool.Decides.{leb_tells}
+use Rattle.std.proofs.lemmas.List.{append-nil, append_cancel_left}
+use Rattle.std.specs.List.{AllByRecursion}
 use Rattle.mm_model.specs.History.{joined}
 use Rattle.mm_model.specs.Life.{is_empty}
 

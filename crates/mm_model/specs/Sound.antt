@@ -1,6 +1,7 @@
 -- What holds of each history of Opt that calls, others and losses of power lead to.
-use Rattle.mm_model.specs.Below.{AllByRecursion, true, false, List, [], ◌∷◌, Batch}
-use Rattle.std.specs.Prelude.{◌≡◌, ◌++◌, ◌⊎◌}
+use Rattle.std.specs.Prelude.{true, false, List, [], ◌∷◌, ◌≡◌, ◌++◌, ◌⊎◌}
+use Rattle.std.specs.List.{AllByRecursion}
+use Rattle.mm_model.specs.Below.{Batch}
 use Rattle.mm_model.specs.History.{Entry, Own, Value, History, joined}
 use Rattle.mm_model.specs.Life.{is_empty, has_value, are_own}
 

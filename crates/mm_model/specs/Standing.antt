@@ -1,7 +1,8 @@
 -- What a platform stands for, and what is asked of an offer.
-use Rattle.mm_model.specs.Below.{option_map, ℕ, Bool, false, List, Option, Variant, Basic, Opt, IsCell, cell_spelling, Content, IsContent}
-use Rattle.mm_model.specs.Below.{variant_of, sealed_of, Cell, Standing, item_values, register_after}
-use Rattle.std.specs.Prelude.{◌≡◌, Some, IsTrue}
+use Rattle.std.specs.Prelude.{ℕ, Bool, false, List, Option, ◌≡◌, Some, IsTrue}
+use Rattle.std.specs.Option.{option_map}
+use Rattle.mm_model.specs.Below.{Variant, Basic, Opt, IsCell, cell_spelling, Content, IsContent, variant_of, sealed_of, Cell, Standing}
+use Rattle.mm_model.specs.Below.{item_values, register_after}
 use Rattle.mm_model.specs.Instance.{Instance}
 use Rattle.mm_model.specs.History.{History, register_value_of}
 use Rattle.mm_model.specs.HistoryWords.{cell_digest_of}

@@ -1,6 +1,7 @@
 -- Where an offer stands, told by the verdict alone.
-use Rattle.mm_model.specs.Below.{ℕ, Bool, true, false, List, [], ◌∷◌, if◌then◌else◌, bytes_eq, zero_bytes, anchored_message, Place, InBasic}
-use Rattle.mm_model.specs.Below.{InOpt}
+use Rattle.std.specs.Prelude.{ℕ, Bool, true, false, List, [], ◌∷◌, if◌then◌else◌}
+use Rattle.std.specs.Str.{bytes_eq}
+use Rattle.mm_model.specs.Below.{zero_bytes, anchored_message, Place, InBasic, InOpt}
 use Rattle.mm_model.specs.declared.verdict.Verdict.{Verdict}
 use Rattle.mm_model.specs.declared.verdict.Verdict.TheVariants.{Fresh}
 

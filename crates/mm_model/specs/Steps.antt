@@ -1,5 +1,6 @@
 -- The device steps of a call, each with the move that it makes.
-use Rattle.mm_model.specs.Below.{Bool, true, false, List, [], ◌∷◌, Variant, Basic, Opt, Batch}
+use Rattle.std.specs.Prelude.{Bool, true, false, List, [], ◌∷◌}
+use Rattle.mm_model.specs.Below.{Variant, Basic, Opt, Batch}
 use Rattle.mm_model.specs.History.{Move, Commit, Placed, Reset, Close}
 
 -- a step reads; or changes the register, after what others put there before it; or writes the cell,

@@ -1,6 +1,6 @@
 -- What a commit does as a whole.
-use Rattle.mm_model.specs.Below.{Bool, true, false, List, [], ◌∷◌, Variant, Basic, Opt, Batch}
-use Rattle.std.specs.Prelude.{◌++◌}
+use Rattle.std.specs.Prelude.{Bool, true, false, List, [], ◌∷◌, ◌++◌}
+use Rattle.mm_model.specs.Below.{Variant, Basic, Opt, Batch}
 use Rattle.mm_model.specs.Instance.{Instance}
 use Rattle.mm_model.specs.History.{Own, History, Move, Commit, Placed, moved}
 

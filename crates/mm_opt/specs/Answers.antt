@@ -1,6 +1,7 @@
 -- What a call answers, and what it writes.
-use Rattle.mm_opt.specs.Below.{ℕ, Bool, true, false, List, Result, Ok, Err, zero_bytes, extended_of, cell_spelling, Content, Snapshot, Cell}
-use Rattle.mm_opt.specs.Below.{PartsFault, Form, Kind, Place, Batch, Meaning, digest_of, BatchAnswer, Refusal, answer_at, examined}
+use Rattle.std.specs.Prelude.{ℕ, Bool, true, false, List, Result, Ok, Err}
+use Rattle.mm_opt.specs.Below.{zero_bytes, extended_of, cell_spelling, Content, Snapshot, Cell, PartsFault, Form, Kind, Place, Batch}
+use Rattle.mm_opt.specs.Below.{Meaning, digest_of, BatchAnswer, Refusal, answer_at, examined}
 use Rattle.mm_digest.specs.declared.variant.Variant.TheVariants as variants
 use Rattle.mm_seal.specs.declared.snapshot.Place.TheVariants.{Opt}
 use Rattle.mm_model.specs.declared.refusal.Refusal.TheVariants as refusal

@@ -1,6 +1,7 @@
 -- What a whole call of Opt promises.
-use Rattle.mm_opt.specs.Below.{◌≡◌, ℕ, false, List, Result, IfOk, Opt, Standing, Batch, Meaning, IsFit, is_long, BatchAnswer, Refusal}
-use Rattle.mm_opt.specs.Below.{Calls, CallsOn, LeavesUntouched, Blames, fault_in}
+use Rattle.std.specs.Prelude.{◌≡◌, ℕ, false, List, Result, IfOk}
+use Rattle.mm_opt.specs.Below.{Opt, Standing, Batch, Meaning, IsFit, is_long, BatchAnswer, Refusal, Calls, CallsOn, LeavesUntouched, Blames}
+use Rattle.mm_opt.specs.Below.{fault_in}
 use Rattle.mm_opt.specs.Asks.{opt_call, StepsBy, WritesBy}
 use Rattle.mm_opt.specs.Complete.{AnswersAccepted}
 

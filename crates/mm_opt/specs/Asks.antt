@@ -1,7 +1,7 @@
 -- What a whole call does to the platform, and what it answers.
-use Rattle.mm_opt.specs.Below.{◌≡◌, ℕ, Bool, true, false, List, [], ◌∷◌, Some, Result, Ok, Err, ◌⊎◌, counted, Opt, IsCell, cell_spelling}
-use Rattle.mm_opt.specs.Below.{Cell, Standing, Act, WriteCell, ResetRegister, ExtendRegister, Batch, Meaning, BatchAnswer, Refusal, Long}
-use Rattle.mm_opt.specs.Below.{Device, Blank, OtherCell, CallOf}
+use Rattle.std.specs.Prelude.{◌≡◌, ℕ, Bool, true, false, List, [], ◌∷◌, Some, Result, Ok, Err, ◌⊎◌}
+use Rattle.mm_opt.specs.Below.{counted, Opt, IsCell, cell_spelling, Cell, Standing, Act, WriteCell, ResetRegister, ExtendRegister, Batch}
+use Rattle.mm_opt.specs.Below.{Meaning, BatchAnswer, Refusal, Long, Device, Blank, OtherCell, CallOf}
 use Rattle.mm_opt.specs.declared.found.Found.{Found}
 use Rattle.mm_opt.specs.declared.found.Found.TheVariants.{Repeat, Inside, Opens}
 use Rattle.mm_opt.specs.Steps.{IsReady, ReadsOwnCell, ReadsRegister}

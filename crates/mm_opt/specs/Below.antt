@@ -1,9 +1,4 @@
 -- The words that the definitions of this crate take from the crates below.
-pub use Rattle.std.specs.Option.{option_map}
-pub use Rattle.std.specs.Prelude.{Bool, Err, IfOk, List, None, Ok, Option, Result, Some, [], false, is_some, length, nat_eq, true, ℕ, ◌&&◌}
-pub use Rattle.std.specs.Prelude.{◌++◌, ◌+◌, ◌^◌, ◌∷◌, ◌≡◌, ◌≤◌, ◌⊎◌}
-pub use Rattle.std.specs.Result.{result_err}
-pub use Rattle.std.specs.Str.{bytes_eq}
 pub use Rattle.mm_base.specs.Faults.{counted}
 pub use Rattle.mm_digest.specs.Messages.{anchored_of, extended_of, zero_bytes}
 pub use Rattle.mm_digest.specs.declared.variant.Variant.{Variant}

@@ -1,7 +1,9 @@
 -- The device steps of a checkpoint: what each does to the platform, and what it gives.
-use Rattle.mm_opt.specs.Below.{◌≡◌, ℕ, Bool, true, false, List, Option, None, Some, Result, Ok, Err, bytes_eq, counted, zero_bytes}
-use Rattle.mm_opt.specs.Below.{anchored_of, Variant, Basic, Opt, ReadsCell, cell_spelling, Cell, CellFault, Item, Standing, item_values}
-use Rattle.mm_opt.specs.Below.{register_after, Act, ReadCell, WriteCell, ReadRegister, Goes, StepFault, digest_of, IsUntouched}
+use Rattle.std.specs.Prelude.{◌≡◌, ℕ, Bool, true, false, List, Option, None, Some, Result, Ok, Err}
+use Rattle.std.specs.Str.{bytes_eq}
+use Rattle.mm_opt.specs.Below.{counted, zero_bytes, anchored_of, Variant, Basic, Opt, ReadsCell, cell_spelling, Cell, CellFault, Item}
+use Rattle.mm_opt.specs.Below.{Standing, item_values, register_after, Act, ReadCell, WriteCell, ReadRegister, Goes, StepFault, digest_of}
+use Rattle.mm_opt.specs.Below.{IsUntouched}
 use Rattle.mm_seal.specs.declared.cell.CellFault.TheVariants as fault
 use Rattle.mm_opt.specs.declared.segment.Checkpointed.{Checkpointed}
 use Rattle.mm_opt.specs.declared.segment.Checkpointed.TheVariants.{Done, NoSegment}

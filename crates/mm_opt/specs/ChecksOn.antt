@@ -1,8 +1,9 @@
 -- That a checkpoint over a platform is the checkpoint on some course, by digests and by lists.
-use Rattle.mm_opt.specs.Below.{option_map, ◌≡◌, ℕ, List, Result, Ok, Err, is_some, Variant, Standing, Batch, Meaning, History, Instance}
-use Rattle.mm_opt.specs.Below.{Digests, digests_of, StandsFor, IsWithin, Closing, Closes, HasNone, NoSegment, LostPower, Stops}
-use Rattle.mm_opt.specs.Below.{Checkpointed, checkpointed, IsClosedWithin, Course, AreTold, StaysPlanned, by_lists, by_digests, instance_by}
-use Rattle.mm_opt.specs.Below.{StandsAt, shown, counted_by}
+use Rattle.std.specs.Prelude.{◌≡◌, ℕ, List, Result, Ok, Err, is_some}
+use Rattle.std.specs.Option.{option_map}
+use Rattle.mm_opt.specs.Below.{Variant, Standing, Batch, Meaning, History, Instance, Digests, digests_of, StandsFor, IsWithin, Closing}
+use Rattle.mm_opt.specs.Below.{Closes, HasNone, NoSegment, LostPower, Stops, Checkpointed, checkpointed, IsClosedWithin, Course, AreTold}
+use Rattle.mm_opt.specs.Below.{StaysPlanned, by_lists, by_digests, instance_by, StandsAt, shown, counted_by}
 use Rattle.mm_opt.specs.declared.segment.Checkpointed.{Checkpointed as Said}
 use Rattle.mm_opt.specs.declared.segment.Checkpointed.TheVariants as said
 use Rattle.mm_opt.specs.declared.segment.CheckpointRefusal.{CheckpointRefusal}

@@ -1,5 +1,6 @@
 -- What a whole checkpoint promises.
-use Rattle.mm_opt.specs.Below.{Result, Standing, Blames}
+use Rattle.std.specs.Prelude.{Result}
+use Rattle.mm_opt.specs.Below.{Standing, Blames}
 use Rattle.mm_opt.specs.declared.segment.Checkpointed.{Checkpointed}
 use Rattle.mm_opt.specs.declared.segment.CheckpointRefusal.{CheckpointRefusal}
 use Rattle.mm_opt.specs.Checkpoints.{closing_fault_in, ClosesSegment, LeavesStill, ClosingStepsBy}

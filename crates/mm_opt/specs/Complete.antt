@@ -1,7 +1,8 @@
 -- When a call of Opt is answered.
-use Rattle.mm_opt.specs.Below.{◌≡◌, ℕ, ◌+◌, ◌≤◌, ◌^◌, true, false, List, [], ◌++◌, Some, Result, Opt, Content, Item, Standing, Batch}
-use Rattle.mm_opt.specs.Below.{size_of, normal, Meaning, History, opt, judge, is_long, StandsFor, IsRight, BatchAnswer, Refusal, Again}
-use Rattle.mm_opt.specs.Below.{IsAccepted, IsAnswered, AreAsked, AreShown, standing_items, foreign_items}
+use Rattle.std.specs.Prelude.{◌≡◌, ℕ, ◌+◌, ◌≤◌, ◌^◌, true, false, List, [], ◌++◌, Some, Result}
+use Rattle.mm_opt.specs.Below.{Opt, Content, Item, Standing, Batch, size_of, normal, Meaning, History, opt, judge, is_long, StandsFor}
+use Rattle.mm_opt.specs.Below.{IsRight, BatchAnswer, Refusal, Again, IsAccepted, IsAnswered, AreAsked, AreShown, standing_items}
+use Rattle.mm_opt.specs.Below.{foreign_items}
 
 -- Completeness: a right offer of the last position of a live history, or of the one before the
 -- batch that was committed last and is asked again, is answered, while there are positions left;

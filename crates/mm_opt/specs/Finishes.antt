@@ -1,6 +1,7 @@
 -- What is left of a call, by where it stands, and how the call ended.
-use Rattle.mm_opt.specs.Below.{ℕ, List, [], ◌∷◌, Result, Cell, Standing, Act, WriteCell, ResetRegister, ExtendRegister, Batch, Meaning}
-use Rattle.mm_opt.specs.Below.{BatchAnswer, Refusal, StepsTo, EndsTo, AsksTo, Ended}
+use Rattle.std.specs.Prelude.{ℕ, List, [], ◌∷◌, Result}
+use Rattle.mm_opt.specs.Below.{Cell, Standing, Act, WriteCell, ResetRegister, ExtendRegister, Batch, Meaning, BatchAnswer, Refusal, StepsTo}
+use Rattle.mm_opt.specs.Below.{EndsTo, AsksTo, Ended}
 use Rattle.mm_opt.specs.declared.found.Found.{Found}
 use Rattle.mm_opt.specs.declared.stage.Stage.{Stage}
 use Rattle.mm_opt.specs.declared.stage.Stage.TheVariants as stage

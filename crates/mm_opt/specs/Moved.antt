@@ -1,5 +1,6 @@
 -- What a call of Opt promises that is moved by one step, or to its end.
-use Rattle.mm_opt.specs.Below.{◌≡◌, ℕ, List, Opt, Standing, Batch, Meaning, CallsTo, result_of, Blames, fault_in, Ended}
+use Rattle.std.specs.Prelude.{◌≡◌, ℕ, List}
+use Rattle.mm_opt.specs.Below.{Opt, Standing, Batch, Meaning, CallsTo, result_of, Blames, fault_in, Ended}
 use Rattle.mm_opt.specs.declared.call.Turn.{Turn}
 use Rattle.mm_opt.specs.declared.stage.Stage.{Stage}
 use Rattle.mm_opt.specs.declared.stage.Stage.TheVariants.{Begun}

@@ -1,6 +1,7 @@
 -- What an offered place is compared with, and the verdict by digests on it.
-use Rattle.mm_opt.specs.Below.{ℕ, Bool, ◌&&◌, List, bytes_eq, zero_bytes, Snapshot, Cell, Place, Batch, normal, guard, Point, forms_of}
-use Rattle.mm_opt.specs.Below.{opt_verdict, Verdict}
+use Rattle.std.specs.Prelude.{ℕ, Bool, ◌&&◌, List}
+use Rattle.std.specs.Str.{bytes_eq}
+use Rattle.mm_opt.specs.Below.{zero_bytes, Snapshot, Cell, Place, Batch, normal, guard, Point, forms_of, opt_verdict, Verdict}
 use Rattle.mm_seal.specs.declared.snapshot.Place.TheVariants.{Basic, Opt}
 
 -- the anchor and the extension of an offered place; no offer to Opt has a place of Basic

@@ -1,6 +1,6 @@
 -- What a call finds in the cell's bytes.
-use Rattle.mm_opt.specs.Below.{◌≡◌, ℕ, Bool, true, false, ◌&&◌, List, Result, Ok, Err, nat_eq, Variant, Basic, Opt, ReadsCell, Cell}
-use Rattle.mm_opt.specs.Below.{CellFault, Unspelled, Refusal}
+use Rattle.std.specs.Prelude.{◌≡◌, ℕ, Bool, true, false, ◌&&◌, List, Result, Ok, Err, nat_eq}
+use Rattle.mm_opt.specs.Below.{Variant, Basic, Opt, ReadsCell, Cell, CellFault, Unspelled, Refusal}
 use Rattle.mm_seal.specs.declared.cell.CellFault.TheVariants.{Blank}
 use Rattle.mm_model.specs.declared.refusal.Refusal.TheVariants as refusal
 

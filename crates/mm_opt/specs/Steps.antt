@@ -1,8 +1,9 @@
 -- The device steps of a call: what each does to the platform, and what it gives.
-use Rattle.mm_opt.specs.Below.{◌≡◌, ℕ, ◌≤◌, List, length, None, Some, Result, Ok, IfOk, result_err, Opt, Snapshot, ReadsParts, Cell}
-use Rattle.mm_opt.specs.Below.{PartsFault, Item, Standing, item_values, register_after, Act, ReadCell, WriteCell, ReadRegister}
-use Rattle.mm_opt.specs.Below.{ResetRegister, ExtendRegister, Goes, Readies, StepFault, Batch, Meaning, BatchAnswer, Refusal, fault_in}
-use Rattle.mm_opt.specs.Below.{OrMemory}
+use Rattle.std.specs.Prelude.{◌≡◌, ℕ, ◌≤◌, List, length, None, Some, Result, Ok, IfOk}
+use Rattle.std.specs.Result.{result_err}
+use Rattle.mm_opt.specs.Below.{Opt, Snapshot, ReadsParts, Cell, PartsFault, Item, Standing, item_values, register_after, Act, ReadCell}
+use Rattle.mm_opt.specs.Below.{WriteCell, ReadRegister, ResetRegister, ExtendRegister, Goes, Readies, StepFault, Batch, Meaning}
+use Rattle.mm_opt.specs.Below.{BatchAnswer, Refusal, fault_in, OrMemory}
 use Rattle.mm_opt.specs.declared.found.Ready.{Ready}
 use Rattle.mm_opt.specs.declared.found.Opening.{Opening}
 use Rattle.mm_opt.specs.declared.found.Found.{Found}

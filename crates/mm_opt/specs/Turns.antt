@@ -1,6 +1,6 @@
 -- What each turn of a call does and gives.
-use Rattle.mm_opt.specs.Below.{◌≡◌, ℕ, List, Option, None, Some, Result, Ok, Err, Cell, Standing, Goes, StepFault, Batch, Meaning}
-use Rattle.mm_opt.specs.Below.{BatchAnswer, Refusal, Device, fault_of}
+use Rattle.std.specs.Prelude.{◌≡◌, ℕ, List, Option, None, Some, Result, Ok, Err}
+use Rattle.mm_opt.specs.Below.{Cell, Standing, Goes, StepFault, Batch, Meaning, BatchAnswer, Refusal, Device, fault_of}
 use Rattle.mm_opt.specs.declared.found.Opening.{Opening}
 use Rattle.mm_opt.specs.declared.found.Found.{Found}
 use Rattle.mm_opt.specs.declared.found.Found.TheVariants.{Repeat, Inside, Opens}

@@ -1,8 +1,4 @@
 -- The words that the definitions of this crate take from the crates below.
-pub use Rattle.std.specs.List.{AllByRecursion, Contains, range_with_len}
-pub use Rattle.std.specs.Option.{option_map, option_map_or}
-pub use Rattle.std.specs.Prelude.{Bool, Err, IfSome, List, None, Option, Some, [], bit_xor, codes, false, flat_map, if◌then◌else◌, length}
-pub use Rattle.std.specs.Prelude.{map, min, replicate, slice_get, slice_index, slice_set, true, ℕ, ◌%◌, ◌++◌, ◌+◌, ◌-◌, ◌^◌, ◌∷◌, ◌≡◌, ◌⊎◌}
 pub use Rattle.mm_digest.specs.Messages.{start_message, start_of, zero_bytes}
 pub use Rattle.mm_digest.specs.declared.variant.Variant.{Variant}
 pub use Rattle.mm_digest.specs.declared.variant.Variant.TheVariants.{Basic, Opt}

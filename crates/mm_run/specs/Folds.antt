@@ -1,10 +1,11 @@
 -- A schedule followed by a level: each event's reply, and what stands after it.
-use Rattle.mm_run.specs.Below.{option_map_or, ℕ, ◌+◌, false, List, [], ◌∷◌, ◌++◌, Option, None, Some, Err, if◌then◌else◌, zero_bytes}
-use Rattle.mm_run.specs.Below.{start_of, Meddle, Stop, Quiet, Cut, Drop, Fail, Batch, One, normal, History, Move, Foreign, PowerMove}
-use Rattle.mm_run.specs.Below.{first_history, Instance, is_long, Digests, issued_bytes, Reads, Refusal, Ending, Answers, Refuses, Breaks}
-use Rattle.mm_run.specs.Below.{Called, called, called_by, Closing, Closes, HasNone, NoSegment, LostPower, Stops, Checkpointed, checkpointed}
-use Rattle.mm_run.specs.Below.{Course, planned, walk, Level, all_made, by_lists, by_digests, Event, Ask, Checkpoint, Power, Extend, Cause}
-use Rattle.mm_run.specs.Below.{Reply, Way}
+use Rattle.std.specs.Prelude.{ℕ, ◌+◌, false, List, [], ◌∷◌, ◌++◌, Option, None, Some, Err, if◌then◌else◌}
+use Rattle.std.specs.Option.{option_map_or}
+use Rattle.mm_run.specs.Below.{zero_bytes, start_of, Meddle, Stop, Quiet, Cut, Drop, Fail, Batch, One, normal, History, Move, Foreign}
+use Rattle.mm_run.specs.Below.{PowerMove, first_history, Instance, is_long, Digests, issued_bytes, Reads, Refusal, Ending, Answers, Refuses}
+use Rattle.mm_run.specs.Below.{Breaks, Called, called, called_by, Closing, Closes, HasNone, NoSegment, LostPower, Stops, Checkpointed}
+use Rattle.mm_run.specs.Below.{checkpointed, Course, planned, walk, Level, all_made, by_lists, by_digests, Event, Ask, Checkpoint, Power}
+use Rattle.mm_run.specs.Below.{Extend, Cause, Reply, Way}
 use Rattle.mm_model.specs.declared.refusal.Refusal.TheVariants as refusal
 use Rattle.mm_schedule.specs.declared.reply.Way.TheVariants as way
 use Rattle.mm_schedule.specs.declared.reply.Cause.TheVariants as cause

@@ -1,5 +1,7 @@
 -- Words of the laws and proofs, each of which says a thing of Folds in short.
-use Rattle.mm_run.specs.Below.{option_map_or, ℕ, Bool, List, Option, if◌then◌else◌, Plan, Meddle, Stop, BatchAnswer, Reply, Way}
+use Rattle.std.specs.Prelude.{ℕ, Bool, List, Option, if◌then◌else◌}
+use Rattle.std.specs.Option.{option_map_or}
+use Rattle.mm_run.specs.Below.{Plan, Meddle, Stop, BatchAnswer, Reply, Way}
 use Rattle.mm_schedule.specs.declared.reply.Reply.TheVariants as reply
 
 -- what a schedule plans for a call

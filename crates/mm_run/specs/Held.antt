@@ -1,7 +1,8 @@
 -- A world as contracts see it: a platform with a module on it that follows a schedule, by digests.
-use Rattle.mm_run.specs.Below.{range_with_len, ◌≡◌, ℕ, ◌-◌, ◌^◌, List, length, min, ◌⊎◌, Meddle, Stop, meaning_of, Instance, Digests}
-use Rattle.mm_run.specs.Below.{seen_at, reading_steps, by_digests, instance_by, counted_by, Event, Ask, Checkpoint, Power, Extend, Header}
-use Rattle.mm_run.specs.Below.{Reply}
+use Rattle.std.specs.Prelude.{◌≡◌, ℕ, ◌-◌, ◌^◌, List, length, min, ◌⊎◌}
+use Rattle.std.specs.List.{range_with_len}
+use Rattle.mm_run.specs.Below.{Meddle, Stop, meaning_of, Instance, Digests, seen_at, reading_steps, by_digests, instance_by, counted_by}
+use Rattle.mm_run.specs.Below.{Event, Ask, Checkpoint, Power, Extend, Header, Reply}
 use Rattle.mm_run.specs.Folds.{Outcome, course_of, event_outcome, first_issued, first_digests}
 
 -- 32 bytes in rising order, from this one on

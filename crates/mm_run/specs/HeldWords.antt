@@ -1,5 +1,5 @@
 -- Words of the laws and proofs, each of which says a thing of Held in short.
-use Rattle.mm_run.specs.Below.{ℕ, List}
+use Rattle.std.specs.Prelude.{ℕ, List}
 use Rattle.mm_run.specs.Held.{rising_from}
 
 -- the key of each world, and its barrier

@@ -1,7 +1,8 @@
 -- The laws of whole runs.
-use Rattle.mm_run.specs.Below.{AllByRecursion, ◌≡◌, ℕ, ◌+◌, true, List, [], ◌∷◌, ◌++◌, codes, replicate, Content, sealed_of, Quiet, One}
-use Rattle.mm_run.specs.Below.{Meaning, History, Own, requests_of, Instance, basic, opt, Digests, Names, by_lists, by_digests, Agrees}
-use Rattle.mm_run.specs.Below.{Event, Ask, Checkpoint, Extend, Runs, Last}
+use Rattle.std.specs.Prelude.{◌≡◌, ℕ, ◌+◌, true, List, [], ◌∷◌, ◌++◌, codes, replicate}
+use Rattle.std.specs.List.{AllByRecursion}
+use Rattle.mm_run.specs.Below.{Content, sealed_of, Quiet, One, Meaning, History, Own, requests_of, Instance, basic, opt, Digests, Names}
+use Rattle.mm_run.specs.Below.{by_lists, by_digests, Agrees, Event, Ask, Checkpoint, Extend, Runs, Last}
 use Rattle.mm_run.specs.Folds.{Followed, followed, expected, replies_by_digests}
 use Rattle.mm_run.specs.Premises.{messages_from, IsClearRun, IsGenuineRun}
 

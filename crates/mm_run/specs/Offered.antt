@@ -1,6 +1,7 @@
 -- The bytes that an event offers.
-use Rattle.mm_run.specs.Below.{option_map, ℕ, ◌-◌, ◌%◌, List, length, Option, Some, slice_index, slice_set, slice_get, bit_xor, Offer}
-use Rattle.mm_run.specs.Below.{Number, Last, Flip, Raw}
+use Rattle.std.specs.Prelude.{ℕ, ◌-◌, ◌%◌, List, length, Option, Some, slice_index, slice_set, slice_get, bit_xor}
+use Rattle.std.specs.Option.{option_map}
+use Rattle.mm_run.specs.Below.{Offer, Number, Last, Flip, Raw}
 
 -- the bytes with the lowest bit of one byte turned, at this offset modulo their number
 abbrev pub flipped : ℕ → List ℕ → List ℕ

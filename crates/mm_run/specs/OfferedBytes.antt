@@ -1,5 +1,5 @@
 -- The offered bytes of the code.
-use Rattle.mm_run.specs.Below.{ℕ, List}
+use Rattle.std.specs.Prelude.{ℕ, List}
 use Rattle.mm_run.specs.declared.offer.OfferedBytes.{OfferedBytes}
 use Rattle.mm_run.specs.declared.offer.OfferedBytes.TheVariants.{Lent, Made}
 

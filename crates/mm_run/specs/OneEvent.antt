@@ -1,7 +1,8 @@
 -- The laws of one event.
-use Rattle.mm_run.specs.Below.{AllByRecursion, Contains, ◌≡◌, ℕ, List, Variant, Basic, Opt, Content, Batch, History, requests_of, Instance}
-use Rattle.mm_run.specs.Below.{Within, IsClear, Digests, Names, IsSound, moves_messages, IsWithin, by_lists, by_digests, Agrees, Event}
-use Rattle.mm_run.specs.Below.{Steps}
+use Rattle.std.specs.Prelude.{◌≡◌, ℕ, List}
+use Rattle.std.specs.List.{AllByRecursion, Contains}
+use Rattle.mm_run.specs.Below.{Variant, Basic, Opt, Content, Batch, History, requests_of, Instance, Within, IsClear, Digests, Names}
+use Rattle.mm_run.specs.Below.{IsSound, moves_messages, IsWithin, by_lists, by_digests, Agrees, Event, Steps}
 use Rattle.mm_run.specs.Folds.{Outcome, event_outcome}
 use Rattle.mm_run.specs.Laws.{IsIssued}
 use Rattle.mm_run.specs.Premises.{moves_of, event_messages, foreign_of, batches_of, IsGenuineEvent}

@@ -1,5 +1,6 @@
 -- One run of the module, of all events and of each first part of them.
-use Rattle.mm_run.specs.Below.{◌≡◌, ℕ, List, [], ◌++◌, length, Instance, Digests, by_digests, Event, Runs, Reply}
+use Rattle.std.specs.Prelude.{◌≡◌, ℕ, List, [], ◌++◌, length}
+use Rattle.mm_run.specs.Below.{Instance, Digests, by_digests, Event, Runs, Reply}
 use Rattle.mm_run.specs.Folds.{Followed, followed, expected, replies_by_digests}
 use Rattle.mm_run.specs.Laws.{continued}
 use Rattle.mm_run.specs.Premises.{IsClearRun, IsGenuineRun}

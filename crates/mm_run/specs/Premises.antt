@@ -1,9 +1,10 @@
 -- The messages that a run of events hashes, as far as a proof looks at them, and what is asked of
 -- the run.
-use Rattle.mm_run.specs.Below.{option_map_or, ◌≡◌, ℕ, List, [], ◌∷◌, ◌++◌, IfSome, map, flat_map, if◌then◌else◌, start_message, Opt, Batch}
-use Rattle.mm_run.specs.Below.{normal, History, Move, Foreign, PowerMove, first_history, Instance, is_long, IsClear, AreNoGuards}
-use Rattle.mm_run.specs.Below.{issued_bytes, IsGenuine, moves_messages, right_messages, called, checkpointed, right_content, by_lists}
-use Rattle.mm_run.specs.Below.{Event, Ask, Checkpoint, Power, Extend}
+use Rattle.std.specs.Prelude.{◌≡◌, ℕ, List, [], ◌∷◌, ◌++◌, IfSome, map, flat_map, if◌then◌else◌}
+use Rattle.std.specs.Option.{option_map_or}
+use Rattle.mm_run.specs.Below.{start_message, Opt, Batch, normal, History, Move, Foreign, PowerMove, first_history, Instance, is_long}
+use Rattle.mm_run.specs.Below.{IsClear, AreNoGuards, issued_bytes, IsGenuine, moves_messages, right_messages, called, checkpointed}
+use Rattle.mm_run.specs.Below.{right_content, by_lists, Event, Ask, Checkpoint, Power, Extend}
 use Rattle.mm_run.specs.Offered.{offered_bytes}
 use Rattle.mm_run.specs.Folds.{course_of, event_outcome}
 

@@ -1,7 +1,8 @@
 -- Words of the laws and proofs, each of which says a thing of Premises in short.
-use Rattle.mm_run.specs.Below.{option_map_or, ◌≡◌, ℕ, List, [], ◌∷◌, Option, IfSome, flat_map, if◌then◌else◌, start_message, Variant, Opt}
-use Rattle.mm_run.specs.Below.{Meddle, Stop, Batch, normal, History, Move, first_history, Instance, is_long, AreNoGuards, IsGenuine}
-use Rattle.mm_run.specs.Below.{right_messages, called, right_content, by_lists, Event}
+use Rattle.std.specs.Prelude.{◌≡◌, ℕ, List, [], ◌∷◌, Option, IfSome, flat_map, if◌then◌else◌}
+use Rattle.std.specs.Option.{option_map_or}
+use Rattle.mm_run.specs.Below.{start_message, Variant, Opt, Meddle, Stop, Batch, normal, History, Move, first_history, Instance, is_long}
+use Rattle.mm_run.specs.Below.{AreNoGuards, IsGenuine, right_messages, called, right_content, by_lists, Event}
 use Rattle.mm_run.specs.Folds.{course_of, first_issued}
 use Rattle.mm_run.specs.Premises.{messages_from, foreign_of, batches_of}
 

@@ -1,9 +1,4 @@
 -- The words that the definitions of this crate take from the crates below.
-pub use Rattle.std.proofs.Common.{inl, inr}
-pub use Rattle.std.specs.Io.KnownBytes.{Appends, Consumes, IsAtEnd}
-pub use Rattle.std.specs.List.{AllByRecursion, Contains}
-pub use Rattle.std.specs.Prelude.{Bool, Err, IsSome, List, None, Ok, Option, Result, Some, [], codes, false, if◌then◌else◌, is_some, length}
-pub use Rattle.std.specs.Prelude.{nat_eq, true, ℕ, ◌++◌, ◌+◌, ◌-◌, ◌<◌, ◌∷◌, ◌≡◌, ◌≢◌, ◌≤◌, ◌⊎◌}
 pub use Rattle.mm_base.specs.Input.{lines_joined, lines_of, tail_of}
 pub use Rattle.mm_base.specs.Limits.{last_position, longest_request}
 pub use Rattle.mm_base.specs.Lines.{IsLong, MayGrow}

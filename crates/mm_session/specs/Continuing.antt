@@ -1,12 +1,14 @@
 -- What a session comes to by lists alone, in either variant: its replies are those of one run of
 -- the module, and the slots that it leaves fit the history that the platform stands for.
-use Rattle.mm_session.specs.Below.{inl, inr, Contains, ◌≡◌, ◌≢◌, ◌+◌, ◌-◌, ◌<◌, ◌≤◌, ℕ, List, [], ◌∷◌, ◌++◌, Option, None, Some, Result, Ok}
-use Rattle.mm_session.specs.Below.{Err, true, nat_eq, if◌then◌else◌, ◌⊎◌, lines_of, last_position, WriteFault, Variant, Basic, Opt, Item}
-use Rattle.mm_session.specs.Below.{Standing, Batch, One, Meaning, History, Commit, first_history, moved, requests_of, total_of, Instance}
-use Rattle.mm_session.specs.Below.{basic, opt, Life, Spoiled, LostLife, life_of, Within, offer_messages, issued, StandsFor, Answer}
-use Rattle.mm_session.specs.Below.{IsWithin, AreShown, standing_items, StepsOn, Reply, Told, StoreStanding, Pending, Slots, slot_read}
-use Rattle.mm_session.specs.Below.{FitsHistory, AsksIdly, CanRecover, IsRefusedAs, MayHaveCommitted, IsWaiting, HostFault, Store, Refused}
-use Rattle.mm_session.specs.Below.{Resumed, Answered}
+use Rattle.std.specs.Prelude.{◌≡◌, ◌≢◌, ◌+◌, ◌-◌, ◌<◌, ◌≤◌, ℕ, List, [], ◌∷◌, ◌++◌, Option, None, Some, Result, Ok, Err, true, nat_eq}
+use Rattle.std.specs.Prelude.{if◌then◌else◌, ◌⊎◌}
+use Rattle.std.proofs.Common.{inl, inr}
+use Rattle.std.specs.List.{Contains}
+use Rattle.mm_session.specs.Below.{lines_of, last_position, WriteFault, Variant, Basic, Opt, Item, Standing, Batch, One, Meaning, History}
+use Rattle.mm_session.specs.Below.{Commit, first_history, moved, requests_of, total_of, Instance, basic, opt, Life, Spoiled, LostLife}
+use Rattle.mm_session.specs.Below.{life_of, Within, offer_messages, issued, StandsFor, Answer, IsWithin, AreShown, standing_items, StepsOn}
+use Rattle.mm_session.specs.Below.{Reply, Told, StoreStanding, Pending, Slots, slot_read, FitsHistory, AsksIdly, CanRecover, IsRefusedAs}
+use Rattle.mm_session.specs.Below.{MayHaveCommitted, IsWaiting, HostFault, Store, Refused, Resumed, Answered}
 use Rattle.mm_session.specs.declared.fault.SessionFault.{SessionFault}
 use Rattle.mm_session.specs.declared.fault.SessionFault.TheVariants.{Host, Lines}
 use Rattle.mm_session.specs.Sessions.{Served, AfterResume, BeginsWith, Sessions}

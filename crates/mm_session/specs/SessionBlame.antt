@@ -1,6 +1,7 @@
 -- Whose fault it is that a session ends: the count of each device that was handed in rose exactly
 -- where it is told.
-use Rattle.mm_session.specs.Below.{◌≢◌, Bool, true, false, is_some, Result, Err, fault_of, Store, Refused}
+use Rattle.std.specs.Prelude.{◌≢◌, Bool, true, false, is_some, Result, Err}
+use Rattle.mm_session.specs.Below.{fault_of, Store, Refused}
 use Rattle.mm_base.specs.declared.replay_fault.ReplayFault.TheVariants as replay
 use Rattle.mm_model.specs.declared.refusal.Refusal.TheVariants as refusal
 use Rattle.mm_play.specs.Plays as plays

@@ -1,6 +1,7 @@
 -- When the lines of an input are to blame for a session's end.
-use Rattle.mm_session.specs.Below.{AllByRecursion, ◌≡◌, ◌≤◌, ℕ, List, [], length, Option, Some, Result, Err, lines_of, tail_of}
-use Rattle.mm_session.specs.Below.{longest_request, IsUnrefused}
+use Rattle.std.specs.Prelude.{◌≡◌, ◌≤◌, ℕ, List, [], length, Option, Some, Result, Err}
+use Rattle.std.specs.List.{AllByRecursion}
+use Rattle.mm_session.specs.Below.{lines_of, tail_of, longest_request, IsUnrefused}
 use Rattle.mm_session.specs.declared.fault.SessionFault.{SessionFault}
 use Rattle.mm_session.specs.declared.fault.SessionFault.TheVariants.{Lines}
 use Rattle.mm_session.specs.Sessions.{most_lines}

@@ -1,6 +1,7 @@
 -- How often a session is to write the cell.
-use Rattle.mm_session.specs.Below.{inl, inr, ◌≢◌, ◌+◌, ◌≤◌, ℕ, List, [], ◌∷◌, length, Option, Result, lines_of, Variant, Standing, Meaning}
-use Rattle.mm_session.specs.Below.{StoreStanding, WritesFor, new_by, new_first, HostFault, Resumed}
+use Rattle.std.specs.Prelude.{◌≢◌, ◌+◌, ◌≤◌, ℕ, List, [], ◌∷◌, length, Option, Result}
+use Rattle.std.proofs.Common.{inl, inr}
+use Rattle.mm_session.specs.Below.{lines_of, Variant, Standing, Meaning, StoreStanding, WritesFor, new_by, new_first, HostFault, Resumed}
 use Rattle.mm_session.specs.declared.fault.SessionFault.{SessionFault}
 use Rattle.mm_session.specs.Continuing.{MayBeUntold}
 use Rattle.mm_session.specs.Sessions.{Served, AfterResume, Sessions}

@@ -1,8 +1,9 @@
 -- A session, by its steps: what it writes, the lines that it serves, and each turn.
-use Rattle.mm_session.specs.Below.{Appends, Consumes, IsAtEnd, ◌≡◌, ◌≢◌, ℕ, List, [], ◌∷◌, ◌++◌, codes, Option, None, Some, Result, Ok, Err}
-use Rattle.mm_session.specs.Below.{◌⊎◌, ◌+◌, ◌<◌, ◌≤◌, length, lines_joined, longest_request, MayGrow, IsLong, WriteFault, ReadFault}
-use Rattle.mm_session.specs.Below.{LineLong, BadLine, TooMuch, Variant, Standing, Meaning, Answer, Refusal, cause_text, told_line, Cause}
-use Rattle.mm_session.specs.Below.{StoreStanding, IsFrontOf, AsksNext, Resumes, HostFault, Memory, Refused, Resumed, Answered}
+use Rattle.std.specs.Prelude.{◌≡◌, ◌≢◌, ℕ, List, [], ◌∷◌, ◌++◌, codes, Option, None, Some, Result, Ok, Err, ◌⊎◌, ◌+◌, ◌<◌, ◌≤◌, length}
+use Rattle.std.specs.Io.KnownBytes.{Appends, Consumes, IsAtEnd}
+use Rattle.mm_session.specs.Below.{lines_joined, longest_request, MayGrow, IsLong, WriteFault, ReadFault, LineLong, BadLine, TooMuch}
+use Rattle.mm_session.specs.Below.{Variant, Standing, Meaning, Answer, Refusal, cause_text, told_line, Cause, StoreStanding, IsFrontOf}
+use Rattle.mm_session.specs.Below.{AsksNext, Resumes, HostFault, Memory, Refused, Resumed, Answered}
 use Rattle.mm_session.specs.declared.fault.SessionFault.{SessionFault}
 use Rattle.mm_session.specs.declared.fault.SessionFault.TheVariants.{Host, Lines}
 use Rattle.mm_base.specs.declared.replay_fault.ReplayFault.TheVariants.{Memory}

@@ -1,8 +1,4 @@
 -- The words that the definitions of this crate take from the crates below.
-pub use Rattle.std.specs.List.{AllByRecursion, Contains}
-pub use Rattle.std.specs.Prelude.{Bool, Err, List, None, Ok, Option, Result, Some, [], false, if◌then◌else◌, length, map, true, ℕ, ◌++◌}
-pub use Rattle.std.specs.Prelude.{◌+◌, ◌-◌, ◌∷◌, ◌≡◌, ◌≢◌}
-pub use Rattle.std.specs.Str.{bytes_eq}
 pub use Rattle.mm_digest.specs.Messages.{start_message}
 pub use Rattle.mm_digest.specs.declared.variant.Variant.{Variant}
 pub use Rattle.mm_seal.specs.Parts.{parts_of}

@@ -1,7 +1,8 @@
 -- Two sides that share a link, what stands on each, and two ways to follow them: by lists and by
 -- digests.
-use Rattle.mm_sides.specs.Below.{ℕ, false, List, [], Variant, Content, Meaning, History, first_history, Instance, Digests, issued}
-use Rattle.mm_sides.specs.Below.{digest_of, Level, by_lists, by_digests, instance_by, summary_in, place_at, first_issued, first_digests}
+use Rattle.std.specs.Prelude.{ℕ, false, List, []}
+use Rattle.mm_sides.specs.Below.{Variant, Content, Meaning, History, first_history, Instance, Digests, issued, digest_of, Level, by_lists}
+use Rattle.mm_sides.specs.Below.{by_digests, instance_by, summary_in, place_at, first_issued, first_digests}
 use Rattle.mm_sides.specs.Roles.{Role, Blank, Live}
 
 -- the first side or the second

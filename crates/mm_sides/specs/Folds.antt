@@ -1,8 +1,9 @@
 -- A schedule of both sides: each event's reply, and what stands after it.
-use Rattle.mm_sides.specs.Below.{ℕ, ◌+◌, ◌-◌, Bool, true, false, List, [], ◌∷◌, ◌++◌, length, Option, None, Some, Result, Ok, Err}
-use Rattle.mm_sides.specs.Below.{if◌then◌else◌, sealed_of, StepFault, Meddle, Stop, History, Move, Instance, Digests, Step, Reads, Refusal}
-use Rattle.mm_sides.specs.Below.{End, Done, Fails, Fate, walk, all_made, sealed_ticket, Event, Reply, Way, Outcome, way_of, after_stop}
-use Rattle.mm_sides.specs.Below.{course_of, event_outcome, event_in_vain, offered_bytes}
+use Rattle.std.specs.Prelude.{ℕ, ◌+◌, ◌-◌, Bool, true, false, List, [], ◌∷◌, ◌++◌, length, Option, None, Some, Result, Ok, Err}
+use Rattle.std.specs.Prelude.{if◌then◌else◌}
+use Rattle.mm_sides.specs.Below.{sealed_of, StepFault, Meddle, Stop, History, Move, Instance, Digests, Step, Reads, Refusal, End, Done}
+use Rattle.mm_sides.specs.Below.{Fails, Fate, walk, all_made, sealed_ticket, Event, Reply, Way, Outcome, way_of, after_stop, course_of}
+use Rattle.mm_sides.specs.Below.{event_outcome, event_in_vain, offered_bytes}
 use Rattle.mm_model.specs.declared.refusal.Refusal.TheVariants as refusal
 use Rattle.mm_sides.specs.Roles.{Role, Blank, Live, Waiting, Retired, Effect, Invites, Leaves, Enters, Notes, noted}
 use Rattle.mm_sides.specs.Both.{Which, First, Second, Pair, instance_on, Side, Both, turned, facing, Mover, lists_move, digests_move, first_lists, first_both}

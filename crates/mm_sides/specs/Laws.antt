@@ -1,6 +1,7 @@
 -- The laws of two sides.
-use Rattle.mm_sides.specs.Below.{AllByRecursion, ◌≡◌, ℕ, Bool, true, false, List, [], ◌∷◌, ◌++◌, length, Option, Some, Variant, Quiet}
-use Rattle.mm_sides.specs.Below.{counter, History, requests_of, Digests, Agrees, Event, Runs, Last, Reply, IsIssued}
+use Rattle.std.specs.Prelude.{◌≡◌, ℕ, Bool, true, false, List, [], ◌∷◌, ◌++◌, length, Option, Some}
+use Rattle.std.specs.List.{AllByRecursion}
+use Rattle.mm_sides.specs.Below.{Variant, Quiet, counter, History, requests_of, Digests, Agrees, Event, Runs, Last, Reply, IsIssued}
 use Rattle.mm_sides.specs.Roles.{Live, Retired, Effect, Enters, is_live, Notes, no_notes}
 use Rattle.mm_sides.specs.Order.{EntersLast, AtMostOne}
 use Rattle.mm_sides.specs.Both.{Which, First, Second, Pair, instance_on, Side, Both, lists_move, digests_move, first_lists}

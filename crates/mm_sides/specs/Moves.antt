@@ -1,7 +1,8 @@
 -- The commands that move a module, and what each finds when it has read the cell.
-use Rattle.mm_sides.specs.Below.{ℕ, Bool, true, false, List, [], Result, Ok, Err, if◌then◌else◌, bytes_eq, parts_of, Content, Snapshot}
-use Rattle.mm_sides.specs.Below.{tag_of, PartsFault, Form, Kind, One, Meaning, Instance, is_new, Refusal, Verdict, Fresh, Stale, Level}
-use Rattle.mm_sides.specs.Below.{weighed, TicketContent, TaggedTicket, ticket_tag, ticket_of, Offer}
+use Rattle.std.specs.Prelude.{ℕ, Bool, true, false, List, [], Result, Ok, Err, if◌then◌else◌}
+use Rattle.std.specs.Str.{bytes_eq}
+use Rattle.mm_sides.specs.Below.{parts_of, Content, Snapshot, tag_of, PartsFault, Form, Kind, One, Meaning, Instance, is_new, Refusal}
+use Rattle.mm_sides.specs.Below.{Verdict, Fresh, Stale, Level, weighed, TicketContent, TaggedTicket, ticket_tag, ticket_of, Offer}
 use Rattle.mm_model.specs.declared.refusal.Refusal.TheVariants as refusal
 use Rattle.mm_sides.specs.Roles.{Role, Blank, Live, Waiting, Retired, Effect, Invites, Leaves, Enters}
 use Rattle.mm_sides.specs.Both.{Mover, Pair}

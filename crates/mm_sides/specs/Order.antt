@@ -1,6 +1,8 @@
 -- The roles of two sides alone: what holds of them, of the nonces that the module was invited under
 -- and of the tickets that it left by. Nothing here knows a history or a digest.
-use Rattle.mm_sides.specs.Below.{AllByRecursion, Contains, ◌≡◌, ◌≢◌, ℕ, true, false, List, [], ◌∷◌, ◌++◌, map, TicketContent}
+use Rattle.std.specs.Prelude.{◌≡◌, ◌≢◌, ℕ, true, false, List, [], ◌∷◌, ◌++◌, map}
+use Rattle.std.specs.List.{AllByRecursion, Contains}
+use Rattle.mm_sides.specs.Below.{TicketContent}
 use Rattle.mm_sides.specs.Roles.{Role, Blank, Live, Waiting, Retired, Effect, Invites, Leaves, Enters, role_after, is_live, Notes, no_notes, noted}
 
 abbrev pub nonces_of : List TicketContent → List (List ℕ)

@@ -1,7 +1,8 @@
 -- The messages that a run of both sides hashes, as far as a proof looks at them, and what is asked
 -- of the run.
-use Rattle.mm_sides.specs.Below.{Contains, ℕ, List, [], ◌∷◌, ◌++◌, Option, None, Some, Result, Ok, Err, map, if◌then◌else◌, start_message}
-use Rattle.mm_sides.specs.Below.{Content, Meddle, Stop, Batch, History, Move, Foreign, PowerMove, Instance, is_long, IsClear}
+use Rattle.std.specs.Prelude.{ℕ, List, [], ◌∷◌, ◌++◌, Option, None, Some, Result, Ok, Err, map, if◌then◌else◌}
+use Rattle.std.specs.List.{Contains}
+use Rattle.mm_sides.specs.Below.{start_message, Content, Meddle, Stop, Batch, History, Move, Foreign, PowerMove, Instance, is_long, IsClear}
 use Rattle.mm_sides.specs.Below.{place_messages, Step, Reads, Refusal, moves_messages, walk, right_content, TicketContent, Event, Ask}
 use Rattle.mm_sides.specs.Below.{Checkpoint, Power, Extend, course_of, offered_bytes, moves_of, event_messages, foreign_of, batches_of}
 use Rattle.mm_sides.specs.Below.{IsGenuineEvent, AreApartIn, IsGenuineOffer}

@@ -1,5 +1,6 @@
 -- What a side is to the module that moves, and what a move makes of it.
-use Rattle.mm_sides.specs.Below.{ℕ, Bool, true, false, List, [], ◌∷◌, ◌++◌, TicketContent}
+use Rattle.std.specs.Prelude.{ℕ, Bool, true, false, List, [], ◌∷◌, ◌++◌}
+use Rattle.mm_sides.specs.Below.{TicketContent}
 
 -- Nothing was ever set up here; the module is here; it is awaited by a ticket with this nonce; it
 -- left by one.

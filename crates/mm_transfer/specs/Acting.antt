@@ -1,6 +1,7 @@
 -- What happens on one side in code, whichever it is: an event of a schedule, or a command.
-use Rattle.mm_transfer.specs.Below.{◌≡◌, ◌≤◌, ◌<◌, ◌+◌, ◌^◌, ℕ, length, Result, MatchResult, most_members, Memory, Digests, Which, Pair}
-use Rattle.mm_transfer.specs.Below.{instance_on, Side, digests_move, Act, BothOutcome, outcome_here}
+use Rattle.std.specs.Prelude.{◌≡◌, ◌≤◌, ◌<◌, ◌+◌, ◌^◌, ℕ, length, Result, MatchResult}
+use Rattle.mm_transfer.specs.Below.{most_members, Memory, Digests, Which, Pair, instance_on, Side, digests_move, Act, BothOutcome}
+use Rattle.mm_transfer.specs.Below.{outcome_here}
 use Rattle.mm_transfer.specs.declared.between.Between.{Between}
 use Rattle.mm_transfer.specs.declared.reply.MoveReply.{MoveReply}
 use Rattle.mm_transfer.specs.declared.side.Side.{Side as CodeSide}

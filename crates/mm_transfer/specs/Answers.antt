@@ -1,6 +1,7 @@
 -- The lines that answer events of two sides.
-use Rattle.mm_transfer.specs.Below.{decimal, ℕ, Bool, true, false, List, [], ◌∷◌, ◌++◌, codes, cause_text, way_text, Which, First, Second}
-use Rattle.mm_transfer.specs.Below.{BothEvent, BothReply, text_of_replies}
+use Rattle.std.specs.Prelude.{ℕ, Bool, true, false, List, [], ◌∷◌, ◌++◌, codes}
+use Rattle.std.specs.Fmt.{decimal}
+use Rattle.mm_transfer.specs.Below.{cause_text, way_text, Which, First, Second, BothEvent, BothReply, text_of_replies}
 use Rattle.mm_transfer.specs.declared.reply.MoveCause.{MoveCause}
 use Rattle.mm_transfer.specs.declared.reply.MoveCause.TheVariants.{Refused, Already, Open, Gone, Nonce, Barrier}
 use Rattle.mm_transfer.specs.declared.reply.MoveReply.{MoveReply}

@@ -1,13 +1,4 @@
 -- The words that the definitions of this crate take from the crates below.
-pub use Rattle.std.proofs.Common.{arith, refl}
-pub use Rattle.std.proofs.Props.{props}
-pub use Rattle.std.specs.Fmt.{decimal}
-pub use Rattle.std.specs.List.{sum_by}
-pub use Rattle.std.specs.Option.{option_map_or}
-pub use Rattle.std.specs.Prelude.{Bool, Err, IsErr, List, MatchResult, None, Ok, Option, Result, Some, [], codes, false, if◌then◌else◌}
-pub use Rattle.std.specs.Prelude.{is_some, length, map, min, not, option_to_list, true, ℕ, ◌&&◌, ◌++◌, ◌+◌, ◌-◌, ◌<◌, ◌==◌, ◌^◌, ◌∷◌, ◌≡◌}
-pub use Rattle.std.specs.Prelude.{◌≤◌, ◌⊎◌}
-pub use Rattle.std.specs.Str.{bytes_eq}
 pub use Rattle.mm_base.specs.Limits.{most_events, most_members}
 pub use Rattle.mm_base.specs.declared.fault.Memory.{Memory}
 pub use Rattle.mm_base.specs.declared.replay_fault.ReplayFault.{ReplayFault}

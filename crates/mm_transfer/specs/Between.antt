@@ -1,8 +1,9 @@
 -- What passes between both sides, and what a command makes of a side and of it.
-use Rattle.mm_transfer.specs.Below.{sum_by, ◌≡◌, ◌≤◌, ◌+◌, ◌&&◌, ℕ, Bool, not, List, [], ◌∷◌, ◌++◌, length, Option, None, Some, Result, Ok}
-use Rattle.mm_transfer.specs.Below.{Err, IsErr, MatchResult, is_some, if◌then◌else◌, Memory, Standing, Meddle, Stop, Digests, Refusal}
-use Rattle.mm_transfer.specs.Below.{move_fault_of, Accepted, Ready, MoveRefusal, cause_of, way_of, Which, Pair, instance_on, Side, Both}
-use Rattle.mm_transfer.specs.Below.{digests_move, BothOutcome, move_outcome, Command}
+use Rattle.std.specs.Prelude.{◌≡◌, ◌≤◌, ◌+◌, ◌&&◌, ℕ, Bool, not, List, [], ◌∷◌, ◌++◌, length, Option, None, Some, Result, Ok, Err, IsErr}
+use Rattle.std.specs.Prelude.{MatchResult, is_some, if◌then◌else◌}
+use Rattle.std.specs.List.{sum_by}
+use Rattle.mm_transfer.specs.Below.{Memory, Standing, Meddle, Stop, Digests, Refusal, move_fault_of, Accepted, Ready, MoveRefusal, cause_of}
+use Rattle.mm_transfer.specs.Below.{way_of, Which, Pair, instance_on, Side, Both, digests_move, BothOutcome, move_outcome, Command}
 use Rattle.mm_model.specs.declared.refusal.Refusal.TheVariants as core
 use Rattle.mm_move.specs.declared.refusal.MoveRefusal.TheVariants as refusal
 use Rattle.mm_transfer.specs.declared.between.Between.{Between}

@@ -1,5 +1,7 @@
 -- A transfer ends: each answered line leaves fewer.
-use Rattle.mm_transfer.specs.Below.{refl, arith, ◌≡◌, ℕ, ◌<◌, ◌^◌, List, Ok, header_counts, event_counts}
+use Rattle.std.specs.Prelude.{◌≡◌, ℕ, ◌<◌, ◌^◌, List, Ok}
+use Rattle.std.proofs.Common.{refl, arith}
+use Rattle.mm_transfer.specs.Below.{header_counts, event_counts}
 use Rattle.mm_transfer.specs.Grammar.{first_at}
 use Rattle.mm_transfer.specs.Stage.{begun, playing, TransferStage, AtHeader, InEvents, transfer_answer, lines_left_at}
 

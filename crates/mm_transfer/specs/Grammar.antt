@@ -1,8 +1,10 @@
 -- The grammar of the lines of two sides, as a reading of the bytes.
-use Rattle.mm_transfer.specs.Below.{option_map_or, ℕ, List, Option, Some, None, if◌then◌else◌, codes, bytes_eq, Meddle, Stop, One, value_at}
-use Rattle.mm_transfer.specs.Below.{Ask, Checkpoint, Power, Extend, meddles_at, stop_at, offer_at, head_at, ◌>>=◌, after_prefix, bytes_at}
-use Rattle.mm_transfer.specs.Below.{number_at, word_at, Offer, Number, Last, Flip, Raw, Header, Which, First, Second, Act, Plain, Moves}
-use Rattle.mm_transfer.specs.Below.{BothEvent, Command, Invite, Retire, Accept}
+use Rattle.std.specs.Prelude.{ℕ, List, Option, Some, None, if◌then◌else◌, codes}
+use Rattle.std.specs.Option.{option_map_or}
+use Rattle.std.specs.Str.{bytes_eq}
+use Rattle.mm_transfer.specs.Below.{Meddle, Stop, One, value_at, Ask, Checkpoint, Power, Extend, meddles_at, stop_at, offer_at, head_at}
+use Rattle.mm_transfer.specs.Below.{◌>>=◌, after_prefix, bytes_at, number_at, word_at, Offer, Number, Last, Flip, Raw, Header, Which, First}
+use Rattle.mm_transfer.specs.Below.{Second, Act, Plain, Moves, BothEvent, Command, Invite, Retire, Accept}
 
 -- the header that the first line names, as `memoir transfer 1 basic counter`
 unfoldable pub first_at : List ℕ → Option Header

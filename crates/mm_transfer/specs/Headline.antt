@@ -1,8 +1,9 @@
 -- What the lines of two sides are answered: the whole run, and not its lines one by one.
-use Rattle.mm_transfer.specs.Below.{sum_by, ◌≡◌, ◌≤◌, ◌<◌, ◌+◌, ℕ, List, [], ◌∷◌, ◌++◌, length, map, Some, ◌⊎◌, most_events, meaning_of}
-use Rattle.mm_transfer.specs.Below.{Digests, Runs, Promises, Header, Both, digests_move, first_lists, BothEvent, BothFollowed}
-use Rattle.mm_transfer.specs.Below.{both_followed, both_expected, both_by_digests, IsOneFrom, plain_events, plain_replies, both_continued}
-use Rattle.mm_transfer.specs.Below.{AtMostOne, IsClearPair, IsGenuinePair, IsFreshPair, no_notes, most_kept}
+use Rattle.std.specs.Prelude.{◌≡◌, ◌≤◌, ◌<◌, ◌+◌, ℕ, List, [], ◌∷◌, ◌++◌, length, map, Some, ◌⊎◌}
+use Rattle.std.specs.List.{sum_by}
+use Rattle.mm_transfer.specs.Below.{most_events, meaning_of, Digests, Runs, Promises, Header, Both, digests_move, first_lists, BothEvent}
+use Rattle.mm_transfer.specs.Below.{BothFollowed, both_followed, both_expected, both_by_digests, IsOneFrom, plain_events, plain_replies}
+use Rattle.mm_transfer.specs.Below.{both_continued, AtMostOne, IsClearPair, IsGenuinePair, IsFreshPair, no_notes, most_kept}
 use Rattle.mm_transfer.specs.Answers.{answers_text}
 use Rattle.mm_transfer.specs.Grammar.{first_at, event_at}
 use Rattle.mm_transfer.specs.Pairs.{pair_of}

@@ -1,5 +1,5 @@
 -- How many bytes there are, if any.
-use Rattle.mm_transfer.specs.Below.{ℕ, List, length, Option, None, Some}
+use Rattle.std.specs.Prelude.{ℕ, List, length, Option, None, Some}
 
 abbrev pub length_if : Option (List ℕ) → ℕ
 length_if None = 0

@@ -1,5 +1,7 @@
 -- What a side in code keeps has one proof at most, so that it may be said of a field.
-use Rattle.mm_transfer.specs.Below.{props, ℕ, Bool, List, Variant, Basic, Opt, FitsVariant, Instance, Digests, Which, Pair, Role, Live}
+use Rattle.std.specs.Prelude.{ℕ, Bool, List}
+use Rattle.std.proofs.Props.{props}
+use Rattle.mm_transfer.specs.Below.{Variant, Basic, Opt, FitsVariant, Instance, Digests, Which, Pair, Role, Live}
 use Rattle.mm_transfer.specs.declared.side.Side.{Side as CodeSide}
 use Rattle.mm_transfer.specs.OneSide.{FitsSide}
 use Rattle.mm_transfer.specs.RoleCells.{FitsRole}

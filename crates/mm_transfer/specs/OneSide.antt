@@ -1,9 +1,11 @@
 -- One side in code, and what it is by digests.
-use Rattle.mm_transfer.specs.Below.{sum_by, ◌≡◌, ◌≤◌, ◌+◌, ◌-◌, ◌^◌, ◌++◌, ℕ, Bool, false, List, [], length, min, Option, None, Some}
-use Rattle.mm_transfer.specs.Below.{Result, Ok, Err, MatchResult, option_to_list, most_members, Memory, start_of, CellFault, new_platform}
-use Rattle.mm_transfer.specs.Below.{Standing, meaning_of, Digests, register_reads, moved_of, MovedCell, Link, Event, IsPrintable, Header}
-use Rattle.mm_transfer.specs.Below.{Reply, Outcome, Which, Pair, instance_on, Side, digests_move, plain_on, grown, Role, Blank, Live}
-use Rattle.mm_transfer.specs.Below.{Waiting, Retired, digest_in, flag_in, value_in, IsQuiet, Called}
+use Rattle.std.specs.Prelude.{◌≡◌, ◌≤◌, ◌+◌, ◌-◌, ◌^◌, ◌++◌, ℕ, Bool, false, List, [], length, min, Option, None, Some, Result, Ok, Err}
+use Rattle.std.specs.Prelude.{MatchResult, option_to_list}
+use Rattle.std.specs.List.{sum_by}
+use Rattle.mm_transfer.specs.Below.{most_members, Memory, start_of, CellFault, new_platform, Standing, meaning_of, Digests, register_reads}
+use Rattle.mm_transfer.specs.Below.{moved_of, MovedCell, Link, Event, IsPrintable, Header, Reply, Outcome, Which, Pair, instance_on, Side}
+use Rattle.mm_transfer.specs.Below.{digests_move, plain_on, grown, Role, Blank, Live, Waiting, Retired, digest_in, flag_in, value_in}
+use Rattle.mm_transfer.specs.Below.{IsQuiet, Called}
 use Rattle.mm_move.specs.declared.cell.MovedCell.TheVariants as moved
 use Rattle.mm_transfer.specs.declared.side.Side.{Side as CodeSide}
 use Rattle.mm_transfer.specs.Pairs.{pair_of}

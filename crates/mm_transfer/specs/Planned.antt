@@ -1,5 +1,5 @@
 -- A move over a platform in memory, under the plan of an event.
-use Rattle.mm_transfer.specs.Below.{◌≡◌, ◌==◌, ◌&&◌, ℕ, Bool, true, false, List, [], ◌∷◌, Option, None, Some, Result, Ok, Err, ◌⊎◌}
+use Rattle.std.specs.Prelude.{◌≡◌, ◌==◌, ◌&&◌, ℕ, Bool, true, false, List, [], ◌∷◌, Option, None, Some, Result, Ok, Err, ◌⊎◌}
 use Rattle.mm_transfer.specs.Below.{Standing, StepFault, Meddle, Stop, Instance, Digests, register_reads, Step, Reads, Device, Walked, walk}
 use Rattle.mm_transfer.specs.Below.{by_digests, all_made, Ready, MoveRefusal, Core, course_of, is_moved, stopped_moves, takes_effect}
 use Rattle.mm_transfer.specs.Below.{stopped_step, IsQuiet}

@@ -1,5 +1,6 @@
 -- A transfer, whole.
-use Rattle.mm_transfer.specs.Below.{◌≡◌, ℕ, List, [], ◌∷◌, length, Option, Result, ReplayFault, PlaysWhole}
+use Rattle.std.specs.Prelude.{◌≡◌, ℕ, List, [], ◌∷◌, length, Option, Result}
+use Rattle.mm_transfer.specs.Below.{ReplayFault, PlaysWhole}
 use Rattle.mm_transfer.specs.declared.report.TransferReport.{TransferReport}
 use Rattle.mm_transfer.specs.Headline.{AnswersLines, AnswersAll, IsTooMuch}
 use Rattle.mm_transfer.specs.Stage.{TransferStage, AtHeader, InEvents, transfer_answer, transfer_closing}

@@ -1,6 +1,6 @@
 -- A transfer among its events, as contracts see it.
-use Rattle.mm_transfer.specs.Below.{◌≡◌, ℕ, true, false, List, [], Option, None, Some, Result, Ok, Err, BothEvent, Refused, Bad, Much}
-use Rattle.mm_transfer.specs.Below.{ReplyFault}
+use Rattle.std.specs.Prelude.{◌≡◌, ℕ, true, false, List, [], Option, None, Some, Result, Ok, Err}
+use Rattle.mm_transfer.specs.Below.{BothEvent, Refused, Bad, Much, ReplyFault}
 use Rattle.mm_play.specs.declared.player.ReplyFault.TheVariants as fault
 use Rattle.mm_transfer.specs.declared.progress.Progress.{Progress}
 use Rattle.mm_transfer.specs.declared.reply.MoveReply.{MoveReply}

@@ -1,5 +1,5 @@
 -- What a side's cell holds, by what the side is to the module; and what a move finds there.
-use Rattle.mm_transfer.specs.Below.{◌≡◌, ℕ, Bool, true, false, not, List, length, Option, None, Some, Result, Ok, Err, if◌then◌else◌}
+use Rattle.std.specs.Prelude.{◌≡◌, ℕ, Bool, true, false, not, List, length, Option, None, Some, Result, Ok, Err, if◌then◌else◌}
 use Rattle.mm_transfer.specs.Below.{FitsVariant, cell_spelling, blank_cell, Instance, Digests, digest_of, cell_at, waiting_spelling}
 use Rattle.mm_transfer.specs.Below.{retired_spelling, barrier_of, accepted_as, sealed_ticket, summary_in, Accepted, Invited, Link, Ready}
 use Rattle.mm_transfer.specs.Below.{MoveRefusal, digests_move, MoveCause, Already, Open, Gone, Nonce, FoundMove, Role, Blank, Live, Waits}

@@ -1,6 +1,6 @@
 -- Both sides in code, as contracts see them.
-use Rattle.mm_transfer.specs.Below.{◌≡◌, ◌≤◌, ◌<◌, ◌+◌, ◌-◌, ◌^◌, ℕ, length, most_members, Digests, Header, Both, digests_move, first_both}
-use Rattle.mm_transfer.specs.Below.{BothEvent, BothOutcome, both_outcome}
+use Rattle.std.specs.Prelude.{◌≡◌, ◌≤◌, ◌<◌, ◌+◌, ◌-◌, ◌^◌, ℕ, length}
+use Rattle.mm_transfer.specs.Below.{most_members, Digests, Header, Both, digests_move, first_both, BothEvent, BothOutcome, both_outcome}
 use Rattle.mm_transfer.specs.declared.between.Between.{Between}
 use Rattle.mm_transfer.specs.declared.side.Side.{Side as CodeSide}
 use Rattle.mm_transfer.specs.Between.{both_with}

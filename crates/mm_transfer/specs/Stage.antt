@@ -1,7 +1,8 @@
 -- A transfer line by line: the first line, and then the events.
-use Rattle.mm_transfer.specs.Below.{sum_by, ℕ, ◌+◌, ◌-◌, Bool, List, length, Option, None, Some, Result, most_events, Digests, Header, Both}
-use Rattle.mm_transfer.specs.Below.{digests_move, first_both, BothEvent, BothOutcome, both_outcome, most_kept, EventPlayer, is_over}
-use Rattle.mm_transfer.specs.Below.{answer_by, begins_by, Refused}
+use Rattle.std.specs.Prelude.{ℕ, ◌+◌, ◌-◌, Bool, List, length, Option, None, Some, Result}
+use Rattle.std.specs.List.{sum_by}
+use Rattle.mm_transfer.specs.Below.{most_events, Digests, Header, Both, digests_move, first_both, BothEvent, BothOutcome, both_outcome}
+use Rattle.mm_transfer.specs.Below.{most_kept, EventPlayer, is_over, answer_by, begins_by, Refused}
 use Rattle.mm_transfer.specs.Answers.{answer_text, end_line}
 use Rattle.mm_transfer.specs.Grammar.{first_at, event_at}
 use Rattle.mm_transfer.specs.Pairs.{pair_of}
