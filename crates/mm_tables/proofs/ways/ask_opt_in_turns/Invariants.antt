@@ -1,5 +1,5 @@
 use Rattle.mm_opt.specs.Steps.{MayGoOn}
-use Rattle.mm_tables.proofs.cores.ask_opt_in_turns.Given as goal
+use Rattle.mm_tables.proofs.ways.ask_opt_in_turns.Given as goal
 
 -- the next step may be made
 abbrev pub invariant-loop : goal.invariant-loop
