@@ -56,4 +56,4 @@ pub use Rattle.mm_app.specs.Starting.{init_told}
 pub use Rattle.mm_app.specs.Status.{EndsUnrefused, status_of, stop_line}
 pub use Rattle.mm_app.specs.Telling.{EndsAtOnce, GivesText, status_by, StopsAs, Tells, TellsStop, WritesText}
 pub use Rattle.mm_app.specs.declared.status.Status.{Status}
-pub use Rattle.mm_app.specs.declared.status.Status.TheVariants.{Blank, Cell, Done, Memory, PlatformFault, TooMuch, Usage, WriteFault}
+pub use Rattle.mm_app.specs.declared.status.Status.TheVariants.{BadLine, Blank, Cell, Done, LineLong, Memory, PlatformFault, TooMuch, Usage, WriteFault}

@@ -5,10 +5,9 @@ mod Completing
 mod Ended
 mod Ending
 mod Fronts
-mod Interleaving
-mod Moving
 mod OneRun
 mod Played
 mod Sending
 mod Stopping
+mod Theorems
 mod RunningOnce

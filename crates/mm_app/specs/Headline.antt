@@ -4,7 +4,6 @@ use Rattle.std.specs.Io.KnownBytes.{Appends, Consumes, IsAtEnd}
 use Rattle.std.specs.List.{sum_by}
 use Rattle.mm_base.specs.Input.{lines_of}
 use Rattle.mm_base.specs.Limits.{most_events}
-use Rattle.mm_play.specs.Takes.{IsFrontOf}
 use Rattle.mm_replay.specs.Schedule.{most_kept}
 use Rattle.mm_replay.specs.Text.{texts_of}
 use Rattle.mm_run.specs.Held.{world_of}
@@ -16,9 +15,9 @@ use Rattle.mm_schedule.specs.Headers.{header_at}
 use Rattle.mm_schedule.specs.Replies.{end_line}
 use Rattle.mm_schedule.specs.declared.header.Header.{Header}
 use Rattle.mm_schedule.specs.declared.reply.Reply.{Reply}
-use Rattle.mm_app.specs.Status.{stop_line}
+use Rattle.mm_app.specs.Played.{AreLeft, WentOut}
 use Rattle.mm_app.specs.declared.status.Status.{Status}
-use Rattle.mm_app.specs.declared.status.Status.TheVariants.{Done, ReadFault, WriteFault, Memory, BadLine, LineLong, TooMuch}
+use Rattle.mm_app.specs.declared.status.Status.TheVariants.{Done}
 
 -- The lines begin with a header, and with these events, one in each line; the rest is left.
 pub record BeginWith (lines : List (List ℕ)) (header : Header) (events : List Event) : Type 0 where
@@ -35,30 +34,16 @@ abbrev pub IsOver : (before issued : List (List ℕ)) → List ℕ → Type 0
 IsOver before issued line = (most_events ≤ length before)
     ⊎ (most_kept < sum_by length before + length line + sum_by length issued)
 
--- By the status, the lines that are left where so many were answered. After Done and a failed input
--- there is none; a bad or a long line is the first, by its number; after "too much" the first is
--- one too many. After want of memory and a failed output there may be any. A replay has no other
--- status.
-abbrev pub AreLeft : Status → ℕ → List (List ℕ) → (List ℕ → Type 0) → Type 0
-AreLeft Done answered rest over = rest ≡ []
-AreLeft ReadFault answered rest over = rest ≡ []
-AreLeft (BadLine number) answered rest over = number ≡ answered + 1
-AreLeft (LineLong number) answered rest over = number ≡ answered + 1
-AreLeft TooMuch answered rest over =
-    (line : List ℕ) × (more : List (List ℕ)) × (rest ≡ line ∷ more) × over line
-AreLeft Memory answered rest over = Unit {0}
-AreLeft WriteFault answered rest over = Unit {0}
-AreLeft _ answered rest over = ⊥
+-- the first line of the rest is one too many
+abbrev pub StartsOver : (before issued rest : List (List ℕ)) → Type 0
+StartsOver before issued rest =
+    (line : List ℕ) × (more : List (List ℕ)) × (rest ≡ line ∷ more) × IsOver before issued line
 
--- By the status, what went out of the text of the replies and the closing line. After Done it is
--- both; after a failed output a front of the text, or of both where no line is left; else the text,
--- and behind it the stop line or a front of that.
+-- So it went out, where this text answers the lines, and with this closing line behind it all lines.
 abbrev pub IsSent : Status → (rest : List (List ℕ)) → (text closing sent : List ℕ) → Type 0
-IsSent Done rest text closing sent = sent ≡ text ++ closing
-IsSent WriteFault rest text closing sent =
-    IsFrontOf sent text ⊎ ((rest ≡ []) × IsFrontOf sent (text ++ closing))
 IsSent status rest text closing sent =
-    (stop : List ℕ) × IsFrontOf stop (stop_line status) × (sent ≡ text ++ stop)
+    WentOut (λ done written. written ≡ text) (λ done written. written ≡ text ++ closing) status []
+    rest sent
 
 -- Of the lines a header and events were answered, with a reply to each event and, at the end, the
 -- counts of the requests committed and of the snapshots issued. And of each first part of the
@@ -75,7 +60,7 @@ pub record TellsOneRun (lines : List (List ℕ)) (sent : List ℕ) (status : Sta
   pub begins : BeginWith lines header events
   pub each : length replies ≡ length events
   pub left : AreLeft status (length (begins.first ∷ begins.others)) begins.rest
-      (IsOver begins.others (issued events))
+      (StartsOver begins.others (issued events))
   -- none of the event lines is one too many
   pub within : (before : List (List ℕ)) (line : List ℕ) (after : List (List ℕ))
       (front : List Event) → begins.others ≡ before ++ line ∷ after
@@ -90,7 +75,7 @@ pub record TellsOneRun (lines : List (List ℕ)) (sent : List ℕ) (status : Sta
 -- Not even a header was answered: nothing went out but the stop line or a front of it.
 pub record IsUnbegun (lines : List (List ℕ)) (sent : List ℕ) (status : Status) : Type 0 where
   pub undone : status ≡ Done → ⊥
-  pub left : AreLeft status 0 lines (λ line. ⊥)
+  pub left : AreLeft status 0 lines (λ rest. ⊥)
   pub went : IsSent status lines [] [] sent
 
 -- The headline of a replay, by what is left of the input and what the output received. After Done

@@ -1,6 +1,6 @@
 -- What is said of the command `slots`.
 use Rattle.std.specs.Prelude.{ℕ, List, Option}
-use Rattle.mm_slots.specs.Headline.{AnswersAll, AnswersLines}
+use Rattle.mm_slots.specs.Headline.{AnswersAll, AnswersLines, IsTooMuch}
 use Rattle.mm_app.specs.Played.{AnswersInput}
 use Rattle.mm_app.specs.declared.status.Status.{Status}
 
@@ -10,4 +10,4 @@ use Rattle.mm_app.specs.declared.status.Status.{Status}
 -- module on one list of requests, under the premises on its own run.
 abbrev pub InterleavesRuns : (left left' received received' : Option (List ℕ)) → Status → Type 0
 InterleavesRuns left left' received received' status =
-    AnswersInput AnswersLines AnswersAll left left' received received' status
+    AnswersInput AnswersLines AnswersAll IsTooMuch left left' received received' status

@@ -1,6 +1,6 @@
 -- What is said of the command `transfer`.
 use Rattle.std.specs.Prelude.{ℕ, List, Option}
-use Rattle.mm_transfer.specs.Headline.{AnswersAll, AnswersLines}
+use Rattle.mm_transfer.specs.Headline.{AnswersAll, AnswersLines, IsTooMuch}
 use Rattle.mm_app.specs.Played.{AnswersInput}
 use Rattle.mm_app.specs.declared.status.Status.{Status}
 
@@ -10,4 +10,4 @@ use Rattle.mm_app.specs.declared.status.Status.{Status}
 -- and at most one side was live at each moment.
 abbrev pub MovesOneRun : (left left' received received' : Option (List ℕ)) → Status → Type 0
 MovesOneRun left left' received received' status =
-    AnswersInput AnswersLines AnswersAll left left' received received' status
+    AnswersInput AnswersLines AnswersAll IsTooMuch left left' received received' status

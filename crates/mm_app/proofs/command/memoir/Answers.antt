@@ -5,9 +5,7 @@ use Rattle.mm_words.specs.Commands.{SpellsCommand}
 use Rattle.mm_app.proofs.Blame.{Blamed, Frames, blamed, memory_none, stopped_blamed}
 use Rattle.mm_app.proofs.OutputBlame.{no_memory, no_usage, output_blamed, output_stopped}
 use Rattle.mm_app.proofs.Completing.{may_be_done}
-use Rattle.mm_app.proofs.Interleaving.{interleaved_by, lacks_interleaved}
-use Rattle.mm_app.proofs.Moving.{lacks_moving, moved_by}
-use Rattle.mm_app.proofs.OneRun.{headline_of, lacks_one_run}
+use Rattle.mm_app.proofs.Theorems.{headline_of, interleaved_by, lacks_interleaved, lacks_moving, lacks_one_run, moved_by}
 use Rattle.mm_app.proofs.command.memoir.Given.{Over}
 use Rattle.mm_app.proofs.command.memoir.Goals.{After-done}
 use Rattle.mm_app.proofs.command.memoir.Goals as goal
