@@ -1,8 +1,8 @@
 -- The words and laws that the proofs of this crate take from specs/ and from the crates below.
 pub use Rattle.std.specs.Io.KnownBytes.{Appends, Consumes, IsAtEnd}
-pub use Rattle.std.proofs.Common.{◌++◌, ◌+◌, ◌<◌, ◌==◌, ◌∙◌, ◌∷◌, ◌≡◌, ◌≢◌, ◌≤◌, ◌⊎◌, [], ap, append-nil, append_assoc, arith, Bool, cond}
-pub use Rattle.std.proofs.Common.{Err, false, inl, inr, is_some, length, length-append, List, map, nat_lt, None, Ok, OnOk, Option, refl}
-pub use Rattle.std.proofs.Common.{Result, Some, subst, suc, sym, take, true, ℕ}
+pub use Rattle.std.proofs.Common.{◌++◌, ◌+◌, ◌<◌, ◌==◌, ◌∙◌, ◌∷◌, ◌≡◌, ◌≤◌, ◌⊎◌, [], ap, append-nil, append_assoc, arith, Bool, cond, Err}
+pub use Rattle.std.proofs.Common.{false, inl, inr, is_some, length, length-append, List, map, nat_lt, None, Ok, OnOk, Option, refl, Result}
+pub use Rattle.std.proofs.Common.{Some, subst, suc, sym, take, true, ℕ}
 pub use Rattle.std.proofs.KnownBytes.{Appends-trans, Consumes-nil}
 pub use Rattle.mm_base.specs.Faults.{counted, CountsFaults, Rose}
 pub use Rattle.mm_base.specs.Input.{lines_of, onto_first, onto_tail, tail_of}
@@ -11,7 +11,7 @@ pub use Rattle.mm_base.specs.declared.replay_fault.ReplayFault.{ReplayFault}
 pub use Rattle.mm_digest.specs.declared.variant.Variant.{Variant}
 pub use Rattle.mm_seal.specs.declared.cell.Cell.{Cell as Held}
 pub use Rattle.mm_seal.specs.declared.cell.CellFault.{CellFault}
-pub use Rattle.mm_platform.specs.Standing.{Item, item_values, register_after, Standing}
+pub use Rattle.mm_platform.specs.Standing.{Standing}
 pub use Rattle.mm_platform.specs.declared.fault.StepFault.{StepFault}
 pub use Rattle.mm_modules.specs.Modules.{any_is_found, meaning_of, module_with}
 pub use Rattle.mm_modules.specs.declared.any.AnyModule.{AnyModule}
@@ -28,8 +28,6 @@ pub use Rattle.mm_play.specs.Takes.{IsFrontOf}
 pub use Rattle.mm_play.specs.Tells.{AnswersFirst, anywhere, before_line, PlaysWhole, TellsBy}
 pub use Rattle.mm_play.proofs.Above.{not_ok}
 pub use Rattle.mm_replay.specs.Headline.{AnswersAll, AnswersEvents, AnswersLines, IsTooMuch, unended}
-pub use Rattle.mm_replay.specs.Replays.{Replays}
-pub use Rattle.mm_replay.specs.declared.report.Report.{Report}
 pub use Rattle.mm_store.specs.Kept.{StoreStanding}
 pub use Rattle.mm_words.specs.declared.command.Command.{Command}
 pub use Rattle.mm_words.specs.declared.command.Command.TheVariants.{Bulk, Check, Checkpoint, Gen, Help, Init, Power, Receipts, Replay, Run}
@@ -38,8 +36,7 @@ pub use Rattle.mm_words.proofs.Above.{one_command}
 pub use Rattle.mm_gen.specs.declared.fault.BulkFault.{BulkFault}
 pub use Rattle.mm_gen.specs.declared.summary.Summary.{Summary}
 pub use Rattle.mm_host.specs.Begins.{BlamesDevice, TellsUse}
-pub use Rattle.mm_host.specs.Init.{AfterLooking, AfterPuts, AfterTaking, Devices, devices, Inits, instance_from, SetsUp, TakesBytes}
-pub use Rattle.mm_host.specs.Init.{written_as}
+pub use Rattle.mm_host.specs.Init.{AfterLooking, AfterPuts, AfterTaking, Devices, devices, instance_from, SetsUp, TakesBytes, written_as}
 pub use Rattle.mm_host.specs.declared.init_fault.InitFault.{InitFault}
 pub use Rattle.mm_session.specs.declared.fault.SessionFault.{SessionFault}
 pub use Rattle.mm_session.proofs.Above.{runs_once_from}
@@ -47,13 +44,13 @@ pub use Rattle.mm_app.specs.Blame.{BlamesOutput, BlamesSource, source_faults, te
 pub use Rattle.mm_app.specs.Bulk.{bulk_told}
 pub use Rattle.mm_app.specs.Checkpoint.{checkpoint_told}
 pub use Rattle.mm_app.specs.Commands.{Does, DoesOrLacks, ReadsInput, UsesPlatform, UsesStore}
-pub use Rattle.mm_app.specs.Completeness.{CanBeDone, CanClose, CanRun, CanStart, IsDoneOrFailed, ShowsPower}
+pub use Rattle.mm_app.specs.Completeness.{CanBeDone, CanClose, CanRun, IsDoneOrFailed, ShowsPower}
 pub use Rattle.mm_app.specs.Outside.{IsStill, Outside, outside}
 pub use Rattle.mm_app.specs.Power.{power_told}
-pub use Rattle.mm_app.specs.Running.{FindsInstance, header_found, instance_found, LooksAtInstance, refused_at, RunsInstance}
-pub use Rattle.mm_app.specs.Running.{RunsOnceIfFound, SeesInstance, ServesAndStops, ServesIfFound, session_status}
+pub use Rattle.mm_app.specs.Running.{FindsInstance, header_found, instance_found, LooksAtInstance, RunsOnceIfFound, SeesInstance}
+pub use Rattle.mm_app.specs.Running.{ServesAndStops, ServesIfFound, session_status}
 pub use Rattle.mm_app.specs.Starting.{init_told}
 pub use Rattle.mm_app.specs.Status.{EndsUnrefused, status_of, stop_line}
-pub use Rattle.mm_app.specs.Telling.{EndsAtOnce, GivesText, status_by, StopsAs, Tells, TellsStop, WritesText}
+pub use Rattle.mm_app.specs.Telling.{EndsAtOnce, GivesText, status_by, StopsAs, Tells, TellsStop}
 pub use Rattle.mm_app.specs.declared.status.Status.{Status}
-pub use Rattle.mm_app.specs.declared.status.Status.TheVariants.{BadLine, Blank, Cell, Done, LineLong, Memory, PlatformFault, TooMuch, Usage, WriteFault}
+pub use Rattle.mm_app.specs.declared.status.Status.TheVariants.{BadLine, Done, LineLong, Memory, PlatformFault, TooMuch, Usage, WriteFault}

@@ -43,7 +43,7 @@ module _ (status : Status) (p s q : Bool) where
   told_as (Ok text) received received' writes writes' t b = wrote_as t.result t.ends b
   told_as (Err end) received received' writes writes' t b = blames_as end t.ends b
 
-pub memory_none : BlamesNone Memory
+memory_none : BlamesNone Memory
 memory_none = grind arith
 
 -- what is blamed for one status is for another that blames the same
@@ -149,7 +149,7 @@ module _ (command : Command) (old new : Outside) (status : Status) where
       blamed_so false false false b (ap (λ (x : Standing). x.faults) s.standing) (same_kept old new s.kept) (same_source s)
 
   -- nothing was done but to write a stop line
-  pub stopped_blamed : (end : Status) → BlamesNone end → IsStill old new
+  stopped_blamed : (end : Status) → BlamesNone end → IsStill old new
       → StopsAs end old.received new.received old.writes new.writes status → Blamed command old new status
   stopped_blamed end none still s = still_blamed still (blames_as status false false false end s.ends none)
 

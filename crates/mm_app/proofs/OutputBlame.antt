@@ -4,7 +4,7 @@ use Rattle.mm_app.proofs.Below.{CountsFaults, Rose, ReplayFault, BulkFault, Summ
 use Rattle.mm_app.proofs.Below.{StepFault, Standing, Header, Command, Init, Run, Checkpoint, Power, Gen, Bulk}
 use Rattle.mm_app.proofs.Below.{Help, BlamesOutput, bulk_told, checkpoint_told, Does, DoesOrLacks, StoreStanding}
 use Rattle.mm_app.proofs.Below.{Outside, power_told, ServesIfFound, FindsInstance, session_status, init_told, status_of, EndsAtOnce}
-use Rattle.mm_app.proofs.Below.{GivesText, TellsStop, StopsAs, Tells, status_by, Status, Usage, Memory, WriteFault}
+use Rattle.mm_app.proofs.Below.{GivesText, TellsStop, StopsAs, Tells, status_by, Status, Memory, WriteFault}
 use Rattle.mm_base.specs.declared.fault.WriteFault as write
 use Rattle.mm_base.specs.declared.replay_fault.ReplayFault.TheVariants as fault
 use Rattle.mm_host.specs.declared.fault.HostFault.{HostFault}
@@ -28,7 +28,7 @@ output_by : (r : Result (Unit {0}) write.WriteFault) (status : Status) (writes w
 output_by (Ok done) status writes writes' c e = record { failed = λ h. cc; done = λ h. c.kept; once = inl c.kept }
 output_by (Err fault) status writes writes' c e = record { failed = λ h. c.failed; done = λ h. cc; once = inr c.failed }
 
-pub output_stopped : (end status : Status) (received received' : Option (List ℕ)) (writes writes' : ℕ) → (end ≡ WriteFault → ⊥)
+output_stopped : (end status : Status) (received received' : Option (List ℕ)) (writes writes' : ℕ) → (end ≡ WriteFault → ⊥)
     → StopsAs end received received' writes writes' status → BlamesOutput status writes writes'
 output_stopped end status received received' writes writes' other s = record {
   failed = λ h. absurd (other (sym s.ends ∙ h));
@@ -106,10 +106,7 @@ output_ended : (old new : Outside) (end status : Status) → (end ≡ WriteFault
     → BlamesOutput status old.writes new.writes
 output_ended old new end status other e = output_stopped end status old.received new.received old.writes new.writes other e.stops
 
-pub no_usage : Usage ≡ WriteFault → ⊥
-no_usage h = cc
-
-pub no_memory : Memory ≡ WriteFault → ⊥
+no_memory : Memory ≡ WriteFault → ⊥
 no_memory h = cc
 
 output_given : (old new : Outside) (text : List ℕ) (status : Status) → GivesText text old new status

@@ -103,24 +103,12 @@ module _ (some all : List (List ℕ) → List ℕ → Type 0) (much : List (List
     consumed = Consumes-nil left;
     appended = sends.appended;
     ended = λ done. cc;
-    tells = record {
-      done = [];
-      rest = [];
-      split = refl;
-      left = tt;
-      went = ([], sends.sent, none, (sends.unsent, sym sends.parts), refl);
-    };
+    tells = record { done = []; rest = []; split = refl; left = tt; went = ([], sends.sent, none, (sends.unsent, sym sends.parts), refl) };
   }
 
-  pub lacks_input : some [] [] → (left received received' : Option (List ℕ)) (result : Result (Unit {0}) write.WriteFault)
-      (status : Status) → status ≡ Memory → Sends received received' (stop_line Memory) result
-      → AnswersInput some all much left left received received' status
-  lacks_input none left received received' result status is sends =
-      subst (λ s. AnswersInput some all much left left received received' s) (sym is) (lacks_at none left received received' result sends)
-
-  -- the same, where the command ended at once
   pub ended_input : some [] [] → (old new : Outside) (status : Status) → EndsAtOnce old new Memory status
       → AnswersInput some all much old.left new.left old.received new.received status
   ended_input none old new status ends =
       subst (λ l. AnswersInput some all much old.left l old.received new.received status) (sym ends.still.left)
-      (lacks_input none old.left old.received new.received ends.stops.stops.result status ends.stops.ends ends.stops.stops.sends)
+      (subst (λ s. AnswersInput some all much old.left old.left old.received new.received s) (sym ends.stops.ends)
+      (lacks_at none old.left old.received new.received ends.stops.stops.result ends.stops.stops.sends))

@@ -1,14 +1,12 @@
 -- The theorems of the commands `replay`, `slots` and `transfer`, by what the command did.
-use Rattle.mm_app.proofs.Below.{◌≡◌, ℕ, List, Option, Result, refl, inl, inr, Sends, Replay, Slots, Transfer, DoesOrLacks, Outside}
-use Rattle.mm_app.proofs.Below.{stop_line, Status, Memory, header_at, AnswersAll, AnswersLines, IsTooMuch}
-use Rattle.mm_base.specs.declared.fault.WriteFault as write
+use Rattle.mm_app.proofs.Below.{refl, inl, inr, Replay, Slots, Transfer, DoesOrLacks, Outside, Status, header_at, AnswersAll, AnswersLines, IsTooMuch}
 use Rattle.mm_slots.specs.Headline as slots
 use Rattle.mm_transfer.specs.Headline as transfer
 use Rattle.mm_app.specs.Headline.{ReplaysOneRun}
 use Rattle.mm_app.specs.Slots.{InterleavesRuns}
 use Rattle.mm_app.specs.Transfer.{MovesOneRun}
 use Rattle.mm_app.proofs.OneRun.{replays_one_run}
-use Rattle.mm_app.proofs.Played.{answers_input, ended_input, lacks_input}
+use Rattle.mm_app.proofs.Played.{answers_input, ended_input}
 
 pub headline_of : (old new : Outside) (status : Status) → DoesOrLacks Replay old new status
     → ReplaysOneRun old.left new.left old.received new.received status
@@ -33,15 +31,3 @@ moved_by old new status (inl does) =
     does.played.plays does.played.ends does.stops.sends
 moved_by old new status (inr lacks) =
     ended_input transfer.AnswersLines transfer.AnswersAll transfer.IsTooMuch (inl (refl, refl)) old new status lacks
-
--- memory was wanting before anything was read
-module _ (left received received' : Option (List ℕ)) (result : Result (Unit {0}) write.WriteFault) (status : Status) (is : status ≡ Memory)
-    (sends : Sends received received' (stop_line Memory) result) where
-  pub lacks_one_run : ReplaysOneRun left left received received' status
-  lacks_one_run = replays_one_run (lacks_input _ _ _ (inl (refl, refl)) left received received' result status is sends)
-
-  pub lacks_interleaved : InterleavesRuns left left received received' status
-  lacks_interleaved = lacks_input _ _ _ (inl (inl refl, refl)) left received received' result status is sends
-
-  pub lacks_moving : MovesOneRun left left received received' status
-  lacks_moving = lacks_input _ _ _ (inl (refl, refl)) left received received' result status is sends

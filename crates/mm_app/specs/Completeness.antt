@@ -1,6 +1,7 @@
 -- When a command isn't refused, by what the objects that it is handed tell.
-use Rattle.std.specs.Prelude.{◌≡◌, ◌≢◌, ◌≤◌, ℕ, true, List, length, Some}
+use Rattle.std.specs.Prelude.{◌≡◌, ◌≢◌, ◌≤◌, ℕ, true, List, length, Option, Some, Result, Ok}
 use Rattle.mm_base.specs.Input.{lines_of}
+use Rattle.mm_check.specs.Checking as checked
 use Rattle.mm_digest.specs.Messages.{zero_bytes}
 use Rattle.mm_digest.specs.declared.variant.Variant.TheVariants.{Opt}
 use Rattle.mm_session.specs.Continuing.{CanServe}
@@ -11,11 +12,18 @@ use Rattle.mm_model.specs.InstanceWords.{basic}
 use Rattle.mm_modules.specs.Modules.{meaning_of}
 use Rattle.mm_modules.specs.declared.any.AnyModule.{AnyModule}
 use Rattle.mm_platform.specs.Standing.{Item, Standing, item_values, register_after}
+use Rattle.mm_play.specs.Play.{run_of}
+use Rattle.mm_play.specs.declared.player.Refused.{Refused}
+use Rattle.mm_receipts.specs.Checking.{first_checking, receipts_answer, receipts_closing}
+use Rattle.mm_replay.specs.Schedule as replayed
+use Rattle.mm_schedule.specs.Headers.{header_at}
 use Rattle.mm_seal.specs.Cell.{IsCell, blank_cell, cell_spelling}
 use Rattle.mm_seal.specs.declared.cell.Cell.{Cell}
-use Rattle.mm_store.specs.Slots.{Slots}
+use Rattle.mm_slots.specs.Stage as slotted
+use Rattle.mm_store.specs.Slots as kept
+use Rattle.mm_transfer.specs.Stage as moved
 use Rattle.mm_words.specs.declared.command.Command.{Command}
-use Rattle.mm_words.specs.declared.command.Command.TheVariants.{Init, Run, Checkpoint, Power, Gen, Help}
+use Rattle.mm_words.specs.declared.command.Command.TheVariants.{Init, Run, Checkpoint, Power, Gen, Help, Replay, Check, Slots, Receipts, Transfer}
 use Rattle.mm_app.specs.Outside.{Outside}
 use Rattle.mm_app.specs.declared.status.Status.{Status}
 use Rattle.mm_app.specs.declared.status.Status.TheVariants.{Done, ReadFault, WriteFault, Memory, PlatformFault, StoreFault}
@@ -58,7 +66,7 @@ pub record CanRun (old : Outside) : Type 0 where
   pub it : AnyModule
   pub key : List ℕ
   pub y : History
-  pub slots : Slots
+  pub slots : kept.Slots
   pub all : List (List ℕ)
   pub others : List (List ℕ)
   pub asked : List Batch
@@ -68,7 +76,7 @@ pub record CanRun (old : Outside) : Type 0 where
   pub serves : CanServe all others asked (basic (meaning_of it) key) y slots old.standing old.kept
       (lines_of input)
 
--- What is asked, by the command. Those that play lines, and `bulk`, have clauses of their own.
+-- What is asked, by the command. Of those that play lines see below.
 abbrev pub CanBeDone : Command → (old new : Outside) → Type 0
 CanBeDone (Init header) old new = CanStart old
 CanBeDone Run old new = CanRun old
@@ -77,3 +85,23 @@ CanBeDone Power old new = Unit {0}
 CanBeDone (Gen it) old new = Unit {0}
 CanBeDone Help old new = Unit {0}
 CanBeDone _ old new = ⊥
+
+-- a player answers this input to its end
+abbrev pub AnswersToEnd : {P : Type 0} → (P → List ℕ → Result (List ℕ × P) Refused)
+    → (P → Option (List ℕ)) → P → Option (List ℕ) → Type 0
+AnswersToEnd {P} answer closing first left = (bytes : List ℕ) × (next : P) × (left ≡ Some bytes)
+    × ((run_of answer closing first bytes).outcome ≡ Ok next)
+
+-- The input of a command that plays lines is within the grammar and the limits.
+abbrev pub CanBeAnswered : Command → (left : Option (List ℕ)) → Type 0
+CanBeAnswered Replay left =
+    AnswersToEnd (replayed.schedule_answer header_at) replayed.schedule_closing replayed.AtHeader left
+CanBeAnswered Check left =
+    AnswersToEnd (checked.check_answer header_at) checked.check_closing checked.AtHeader left
+CanBeAnswered Slots left =
+    AnswersToEnd slotted.slots_answer slotted.slots_closing slotted.AtFirst left
+CanBeAnswered (Receipts key) left =
+    AnswersToEnd receipts_answer receipts_closing (first_checking key) left
+CanBeAnswered Transfer left =
+    AnswersToEnd moved.transfer_answer moved.transfer_closing moved.AtHeader left
+CanBeAnswered _ left = ⊥

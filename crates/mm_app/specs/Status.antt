@@ -3,6 +3,8 @@ use Rattle.std.specs.Prelude.{ℕ, List, [], ◌∷◌, ◌++◌, codes, Result,
 use Rattle.std.specs.Fmt.{decimal}
 use Rattle.mm_base.specs.declared.replay_fault.ReplayFault.{ReplayFault}
 use Rattle.mm_base.specs.declared.replay_fault.ReplayFault.TheVariants as fault
+use Rattle.mm_words.specs.declared.fault.WordsFault.{WordsFault}
+use Rattle.mm_words.specs.declared.fault.WordsFault.TheVariants as words
 use Rattle.mm_app.specs.declared.status.Status.{Status}
 use Rattle.mm_app.specs.declared.status.Status.TheVariants.{Done, Usage, ReadFault, WriteFault, Memory, PlatformFault, StoreFault, Blank, Already, Cell, Lost, Refused, BadLine, LineLong, TooMuch, Short, Kind}
 
@@ -34,6 +36,11 @@ status_at fault.WriteFault = WriteFault
 status_at (fault.BadLine line) = BadLine line
 status_at (fault.LineLong line) = LineLong line
 status_at fault.TooMuch = TooMuch
+
+-- how it ends where the words gave no command
+abbrev pub words_status : WordsFault → Status
+words_status words.Usage = Usage
+words_status words.Memory = Memory
 
 -- how the program ends by the answer of a command that plays lines
 abbrev pub status_of : {T : Type 0} → Result T ReplayFault → Status

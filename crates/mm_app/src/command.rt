@@ -1,20 +1,13 @@
 //! What the words of the command line do.
 
-ghost use Rattle.std.specs.Prelude.{◌≡◌, ℕ, List, Some, Ok, map};
-ghost use Rattle.mm_check.specs.Checking as checked;
-ghost use Rattle.mm_play.specs.Play.{run_of};
+ghost use Rattle.std.specs.Prelude.{◌≡◌, map};
 ghost use Rattle.mm_play.specs.Plays.{IsBlamed};
-ghost use Rattle.mm_receipts.specs.Checking.{Checking, first_checking, receipts_answer, receipts_closing};
-ghost use Rattle.mm_replay.specs.Schedule.{ReplayStage, AtHeader, schedule_answer, schedule_closing};
-ghost use Rattle.mm_schedule.specs.Headers.{header_at};
-ghost use Rattle.mm_slots.specs.Stage.{SlotsStage, AtFirst, slots_answer, slots_closing};
-ghost use Rattle.mm_transfer.specs.Stage as moved;
 ghost use Rattle.mm_words.specs.Commands.{IsInBounds, SpellsCommand};
 ghost use Rattle.mm_words.specs.declared.command.Command.{Command as Told};
-ghost use Rattle.mm_words.specs.declared.command.Command.TheVariants.{Check, Receipts, Replay, Slots, Transfer};
+ghost use Rattle.mm_words.specs.declared.command.Command.TheVariants.{Replay, Slots, Transfer};
 ghost use Rattle.mm_app.specs.Blame.{BlamesOutput, BlamesSource, tells_platform_fault, tells_store_fault};
 ghost use Rattle.mm_app.specs.Commands.{DoesOrLacks, ReadsInput, SpellNo, SpellNone, TakesEntropy, UsesPlatform, UsesStore};
-ghost use Rattle.mm_app.specs.Completeness.{CanBeDone, IsDoneOrFailed};
+ghost use Rattle.mm_app.specs.Completeness.{CanBeAnswered, CanBeDone, IsDoneOrFailed};
 ghost use Rattle.mm_app.specs.Headline.{ReplaysOneRun};
 ghost use Rattle.mm_app.specs.Outside.{outside};
 ghost use Rattle.mm_app.specs.Slots.{InterleavesRuns};
@@ -40,7 +33,7 @@ use crate::transfer::play_transfer;
 use mm_base::{Sink, Source};
 use mm_platform::Platform;
 use mm_store::Store;
-use mm_words::{Command, WordsFault, read_words};
+use mm_words::{Command, read_words};
 use std::alloc::Global;
 
 // Does what a command says.
@@ -61,27 +54,7 @@ fn done<P: Platform, T: Store, S: Source, E: Source, K: Sink>(
         (S.faults input.new) (E.left entropy.new) (E.faults entropy.new) (K.received out.new)
         (K.faults out.new) in
         DoesOrLacks command.now old new result }
-    ensures complete { command.now ≡ Replay → (bytes : List ℕ) → (next : ReplayStage)
-        → S.left input.old ≡ Some bytes
-        → (run_of (schedule_answer header_at) schedule_closing AtHeader bytes).outcome ≡ Ok next
-        → EndsUnrefused result }
-    ensures receipts { (key : List ℕ) → command.now ≡ Receipts key
-        → (bytes : List ℕ) → (next : Checking) → S.left input.old ≡ Some bytes
-        → (run_of receipts_answer receipts_closing (first_checking key) bytes).outcome ≡ Ok next
-        → EndsUnrefused result }
-    ensures check { command.now ≡ Check → (bytes : List ℕ) → (next : checked.CheckStage)
-        → S.left input.old ≡ Some bytes
-        → (run_of (checked.check_answer header_at) checked.check_closing checked.AtHeader
-        bytes).outcome ≡ Ok next
-        → EndsUnrefused result }
-    ensures slots { command.now ≡ Slots → (bytes : List ℕ) → (next : SlotsStage)
-        → S.left input.old ≡ Some bytes
-        → (run_of slots_answer slots_closing AtFirst bytes).outcome ≡ Ok next
-        → EndsUnrefused result }
-    ensures transfer { command.now ≡ Transfer → (bytes : List ℕ) → (next : moved.TransferStage)
-        → S.left input.old ≡ Some bytes
-        → (run_of moved.transfer_answer moved.transfer_closing moved.AtHeader bytes).outcome ≡ Ok next
-        → EndsUnrefused result }
+    ensures complete { CanBeAnswered command.now (S.left input.old) → EndsUnrefused result }
     ensures usage { result ≡ Usage → ⊥ }
     ensures platform { (UsesPlatform command.now → ⊥) → platform.new ≡ platform.old }
     ensures store { (UsesStore command.now → ⊥) → store.new ≡ store.old }
@@ -133,36 +106,9 @@ pub fn memoir<P: Platform, T: Store, S: Source, E: Source, K: Sink>(
         (command : Told) → SpellsCommand command (map (λ s. s.now) words.now)
         → DoesOrLacks command old new result }
 
-    // A schedule within the grammar and the limits is not refused.
-    ensures complete { SpellsCommand Replay (map (λ s. s.now) words.now)
-        → (bytes : List ℕ) → (next : ReplayStage) → S.left input.old ≡ Some bytes
-        → (run_of (schedule_answer header_at) schedule_closing AtHeader bytes).outcome ≡ Ok next
-        → EndsUnrefused result }
-
-    // Lines that are pairs within the limits are not refused.
-    ensures receipts { (key : List ℕ) → SpellsCommand (Receipts key) (map (λ s. s.now) words.now)
-        → (bytes : List ℕ) → (next : Checking) → S.left input.old ≡ Some bytes
-        → (run_of receipts_answer receipts_closing (first_checking key) bytes).outcome ≡ Ok next
-        → EndsUnrefused result }
-
-    // Nor is a recorded run within the grammar and the limits.
-    ensures check { SpellsCommand Check (map (λ s. s.now) words.now)
-        → (bytes : List ℕ) → (next : checked.CheckStage) → S.left input.old ≡ Some bytes
-        → (run_of (checked.check_answer header_at) checked.check_closing checked.AtHeader
-        bytes).outcome ≡ Ok next
-        → EndsUnrefused result }
-
-    // Nor are lines of slots within the grammar and the limits.
-    ensures slots { SpellsCommand Slots (map (λ s. s.now) words.now)
-        → (bytes : List ℕ) → (next : SlotsStage) → S.left input.old ≡ Some bytes
-        → (run_of slots_answer slots_closing AtFirst bytes).outcome ≡ Ok next
-        → EndsUnrefused result }
-
-    // Nor is a schedule of two platforms within the grammar and the limits.
-    ensures transfer { SpellsCommand Transfer (map (λ s. s.now) words.now)
-        → (bytes : List ℕ) → (next : moved.TransferStage) → S.left input.old ≡ Some bytes
-        → (run_of moved.transfer_answer moved.transfer_closing moved.AtHeader bytes).outcome ≡ Ok next
-        → EndsUnrefused result }
+    // An input within the grammar and the limits is not refused.
+    ensures complete { (command : Told) → SpellsCommand command (map (λ s. s.now) words.now)
+        → CanBeAnswered command (S.left input.old) → EndsUnrefused result }
 
     // Nor is a command of the host, where what the objects tell allows it.
     ensures host { let old = outside (P.standing platform.old) (T.kept store.old) (S.left input.old)
@@ -221,7 +167,6 @@ pub fn memoir<P: Platform, T: Store, S: Source, E: Source, K: Sink>(
 {
     match read_words(alloc, words) {
         Ok(command) => done(alloc, &command, platform, store, input, entropy, out),
-        Err(WordsFault::Usage) => stopped(Status::Usage, out),
-        Err(WordsFault::Memory) => stopped(Status::Memory, out),
+        Err(fault) => stopped(Status::of_words(fault), out),
     }
 }

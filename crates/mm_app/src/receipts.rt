@@ -1,10 +1,9 @@
 //! The command `receipts`: an input's receipts are checked under a key.
 
-ghost use Rattle.std.specs.Prelude.{◌≡◌, ℕ, List, Some, Ok};
-ghost use Rattle.mm_play.specs.Play.{run_of};
 ghost use Rattle.mm_receipts.specs.Reports.{ChecksHonestly};
-ghost use Rattle.mm_receipts.specs.Checking.{Checking, first_checking, receipts_answer, receipts_closing};
+ghost use Rattle.mm_words.specs.declared.command.Command.TheVariants.{Receipts};
 ghost use Rattle.mm_app.specs.Answering.{PlaysAndStops};
+ghost use Rattle.mm_app.specs.Completeness.{CanBeAnswered};
 ghost use Rattle.mm_app.specs.Status.{EndsUnrefused};
 
 use crate::status::Status;
@@ -23,9 +22,7 @@ pub fn check_receipts<S: Source, K: Sink>(
     ensures checks { PlaysAndStops (ChecksHonestly key.now) (S.left input.old) (S.left input.new)
         (K.received out.old) (K.received out.new) (S.faults input.old) (S.faults input.new)
         (K.faults out.old) (K.faults out.new) result }
-    ensures complete { (bytes : List ℕ) → (next : Checking) → S.left input.old ≡ Some bytes
-        → (run_of receipts_answer receipts_closing (first_checking key.now) bytes).outcome ≡ Ok next
-        → EndsUnrefused result }
+    ensures complete { CanBeAnswered (Receipts key.now) (S.left input.old) → EndsUnrefused result }
 {
     let answer = receipts(alloc, key, input, out);
     answered(&answer, out)

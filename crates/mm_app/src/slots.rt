@@ -1,10 +1,9 @@
 //! The command `slots`: an input's lines of several modules on one platform are played.
 
-ghost use Rattle.std.specs.Prelude.{◌≡◌, ℕ, List, Some, Ok};
 ghost use Rattle.mm_slots.specs.Plays.{PlaysSlots};
-ghost use Rattle.mm_play.specs.Play.{run_of};
-ghost use Rattle.mm_slots.specs.Stage.{SlotsStage, AtFirst, slots_answer, slots_closing};
+ghost use Rattle.mm_words.specs.declared.command.Command.TheVariants.{Slots};
 ghost use Rattle.mm_app.specs.Answering.{PlaysAndStops};
+ghost use Rattle.mm_app.specs.Completeness.{CanBeAnswered};
 ghost use Rattle.mm_app.specs.Status.{EndsUnrefused};
 
 use crate::status::Status;
@@ -18,9 +17,7 @@ pub fn play_slots<S: Source, K: Sink>(alloc: Global, input: &mut S, out: &mut K)
     ensures plays { PlaysAndStops PlaysSlots (S.left input.old) (S.left input.new)
         (K.received out.old) (K.received out.new) (S.faults input.old) (S.faults input.new)
         (K.faults out.old) (K.faults out.new) result }
-    ensures complete { (bytes : List ℕ) → (next : SlotsStage) → S.left input.old ≡ Some bytes
-        → (run_of slots_answer slots_closing AtFirst bytes).outcome ≡ Ok next
-        → EndsUnrefused result }
+    ensures complete { CanBeAnswered Slots (S.left input.old) → EndsUnrefused result }
 {
     let answer = slots(alloc, input, out);
     answered(&answer, out)

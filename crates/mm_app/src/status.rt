@@ -4,6 +4,7 @@ use mm_base::ReplayFault;
 use mm_host::HostFault;
 use mm_model::Refusal;
 use mm_session::SessionFault;
+use mm_words::WordsFault;
 
 /// How the program ends. Lines are numbered from 1.
 #[derive(Clone, Copy, Debug, PartialEq, Eq)]
@@ -47,7 +48,7 @@ pub enum Status {
 impl Status {
     ghost use Rattle.std.specs.Prelude.{◌≡◌};
     ghost use Rattle.mm_app.specs.Running.{refused_at, session_at, session_status};
-    ghost use Rattle.mm_app.specs.Status.{exit_code, status_at};
+    ghost use Rattle.mm_app.specs.Status.{exit_code, status_at, words_status};
 
     /// The program's exit status.
     pub fn code(&self) -> u8
@@ -71,6 +72,16 @@ impl Status {
             Status::TooMuch => 15,
             Status::Short { .. } => 16,
             Status::Kind => 17,
+        }
+    }
+
+    /// How the program ends where the words gave no command.
+    pub fn of_words(fault: WordsFault) -> Status
+        ensures { result ≡ words_status fault }
+    {
+        match fault {
+            WordsFault::Usage => Status::Usage,
+            WordsFault::Memory => Status::Memory,
         }
     }
 

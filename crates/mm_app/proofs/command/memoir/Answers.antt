@@ -1,13 +1,15 @@
-use Rattle.mm_app.proofs.Below.{ap, map, refl, subst, sym, IsBlamed, Command, Check, Receipts, Replay, Slots, Transfer, one_command}
-use Rattle.mm_app.proofs.Below.{BlamesSource, tells_platform_fault, tells_store_fault, DoesOrLacks, IsDoneOrFailed, Outside, outside}
-use Rattle.mm_app.proofs.Below.{EndsUnrefused, Status}
+use Rattle.mm_app.proofs.Below.{◌≡◌, ◌∙◌, ℕ, List, Option, ap, map, refl, subst, inr, Result, Err, Command, Replay, Slots, Transfer, one_command}
+use Rattle.mm_app.proofs.Below.{BlamesSource, DoesOrLacks, Outside, outside, Status, Usage, Memory, StopsAs}
+use Rattle.mm_words.specs.declared.fault.WordsFault.{WordsFault}
+use Rattle.mm_words.specs.declared.fault.WordsFault.TheVariants as words
+use Rattle.mm_app.specs.Status.{words_status}
 use Rattle.mm_words.specs.Commands.{SpellsCommand}
-use Rattle.mm_app.proofs.Blame.{Blamed, Frames, blamed, memory_none, stopped_blamed}
-use Rattle.mm_app.proofs.OutputBlame.{no_memory, no_usage, output_blamed, output_stopped}
+use Rattle.mm_app.proofs.Blame.{Blamed, Frames, blamed}
+use Rattle.mm_app.proofs.OutputBlame.{output_blamed}
 use Rattle.mm_app.proofs.Completing.{may_be_done}
-use Rattle.mm_app.proofs.Theorems.{headline_of, interleaved_by, lacks_interleaved, lacks_moving, lacks_one_run, moved_by}
+use Rattle.mm_app.proofs.Theorems.{headline_of, interleaved_by, moved_by}
 use Rattle.mm_app.proofs.command.memoir.Given.{Over}
-use Rattle.mm_app.proofs.command.memoir.Goals.{After-done}
+use Rattle.mm_app.proofs.command.memoir.Goals.{After-done, After-stopped}
 use Rattle.mm_app.proofs.command.memoir.Goals as goal
 
 -- what the objects told before the command, and after it
@@ -40,20 +42,25 @@ blames g c =
     } in
     blamed c.in-Ok.command (told_before g c) (told_after g c) c.done.result frames c.done.ensures.does
 
-pub returns-in-Ok-clause-does : goal.returns-in-Ok-clause-does
-returns-in-Ok-clause-does g c command spells = did g (goal.at.returns-in-Ok-clause-does g c).After-done command spells
-
-pub returns-in-Ok-clause-complete : goal.returns-in-Ok-clause-complete
-returns-in-Ok-clause-complete g c spells = c.done.ensures.complete (one_command _ c.in-Ok.command Replay c.in-Ok.ensures.ok spells)
-
-pub returns-in-Ok-clause-receipts : goal.returns-in-Ok-clause-receipts
-returns-in-Ok-clause-receipts g c key spells =
-    c.done.ensures.receipts key (one_command _ c.in-Ok.command (Receipts key) c.in-Ok.ensures.ok spells)
+pub returns-in-Ok-clause-host : goal.returns-in-Ok-clause-host
+returns-in-Ok-clause-host g c command spells can =
+    let it = (goal.at.returns-in-Ok-clause-host g c).After-done in
+    may_be_done command (told_before g it) (told_after g it) c.done.result can (did g it command spells)
 
 pub returns-in-Ok-clause-headline : goal.returns-in-Ok-clause-headline
 returns-in-Ok-clause-headline g c spells =
     let it = (goal.at.returns-in-Ok-clause-headline g c).After-done in
     headline_of (told_before g it) (told_after g it) c.done.result (did g it Replay spells)
+
+pub returns-in-Ok-clause-interleaved : goal.returns-in-Ok-clause-interleaved
+returns-in-Ok-clause-interleaved g c spells =
+    let it = (goal.at.returns-in-Ok-clause-interleaved g c).After-done in
+    interleaved_by (told_before g it) (told_after g it) c.done.result (did g it Slots spells)
+
+pub returns-in-Ok-clause-one_transfer : goal.returns-in-Ok-clause-one_transfer
+returns-in-Ok-clause-one_transfer g c spells =
+    let it = (goal.at.returns-in-Ok-clause-one_transfer g c).After-done in
+    moved_by (told_before g it) (told_after g it) c.done.result (did g it Transfer spells)
 
 pub returns-in-Ok-clause-device : goal.returns-in-Ok-clause-device
 returns-in-Ok-clause-device g c = (blames g (goal.at.returns-in-Ok-clause-device g c).After-done).platform
@@ -72,146 +79,34 @@ returns-in-Ok-clause-wrote g c =
     let it = (goal.at.returns-in-Ok-clause-wrote g c).After-done in
     output_blamed c.in-Ok.command (told_before g it) (told_after g it) c.done.result c.done.ensures.does
 
-pub returns-in-Err-Usage-clause-complete : goal.returns-in-Err-Usage-clause-complete
-returns-in-Err-Usage-clause-complete g c spells bytes next left run =
-    absurd (c.in-Err-Usage.ensures.usage (rw c.in-Err-Usage.field-0-is refl) Replay spells)
+-- words that spell a command, but memory was wanting
+is_memory : (fault : WordsFault) → ((let r : Result Command WordsFault = Err fault in r ≡ Err words.Usage) → ⊥) → words_status fault ≡ Memory
+is_memory words.Usage other = absurd (other refl)
+is_memory words.Memory other = refl
 
-pub returns-in-Err-Usage-clause-receipts : goal.returns-in-Err-Usage-clause-receipts
-returns-in-Err-Usage-clause-receipts g c key spells bytes next left run =
-    absurd (c.in-Err-Usage.ensures.usage (rw c.in-Err-Usage.field-0-is refl) (Receipts key) spells)
+-- what the objects tell, where the output alone was used
+abbrev only_out : (g : Over) → After-stopped g → Option (List ℕ) → ℕ → Outside
+only_out g c received writes =
+    outside (g.P.Device.standing c.args.platform.now) (g.T.Store.kept c.args.store.now) (g.S.Source.left c.args.input.now)
+    (g.S.Source.faults c.args.input.now) (g.E.Source.left c.args.entropy.now) (g.E.Source.faults c.args.entropy.now) received writes
 
-pub returns-in-Err-Usage-clause-headline : goal.returns-in-Err-Usage-clause-headline
-returns-in-Err-Usage-clause-headline g c spells = absurd (c.in-Err-Usage.ensures.usage (rw c.in-Err-Usage.field-0-is refl) Replay spells)
+lacked : (g : Over) (c : After-stopped g) (command : Command) → SpellsCommand command (map (λ s. s.now) c.args.words.now)
+    → DoesOrLacks command (only_out g c (g.K.Sink.received c.args.out.now) (g.K.Sink.faults c.args.out.now))
+    (only_out g c (g.K.Sink.received c.stopped.new.out) (g.K.Sink.faults c.stopped.new.out)) c.stopped.result
+lacked g c command spells = inr (record {
+  still = record { standing = refl; kept = refl; left = refl; reads = refl; entropy = refl; takes = refl };
+  stops = subst (λ (s : Status). StopsAs s (g.K.Sink.received c.args.out.now) (g.K.Sink.received c.stopped.new.out)
+      (g.K.Sink.faults c.args.out.now) (g.K.Sink.faults c.stopped.new.out) c.stopped.result)
+      (c.of_words.ensures ∙ is_memory c.in-Err.fault (λ is. c.in-Err.ensures.usage is command spells)) c.stopped.ensures.told;
+})
 
-pub returns-in-Err-Usage-clause-source : goal.returns-in-Err-Usage-clause-source
-returns-in-Err-Usage-clause-source g c command spells =
-    absurd (c.in-Err-Usage.ensures.usage (rw c.in-Err-Usage.field-0-is refl) command spells)
+pub returns-in-Err-clause-headline : goal.returns-in-Err-clause-headline
+returns-in-Err-clause-headline g c spells = headline_of _ _ _ (lacked g (goal.at.returns-in-Err-clause-headline g c).After-stopped Replay spells)
 
-pub returns-in-Err-Memory-clause-complete : goal.returns-in-Err-Memory-clause-complete
-returns-in-Err-Memory-clause-complete g c spells bytes next left run = subst EndsUnrefused (sym c.stopped-in-Err-Memory.ensures.status) tt
+pub returns-in-Err-clause-interleaved : goal.returns-in-Err-clause-interleaved
+returns-in-Err-clause-interleaved g c spells =
+    interleaved_by _ _ _ (lacked g (goal.at.returns-in-Err-clause-interleaved g c).After-stopped Slots spells)
 
-pub returns-in-Err-Memory-clause-receipts : goal.returns-in-Err-Memory-clause-receipts
-returns-in-Err-Memory-clause-receipts g c key spells bytes next left run =
-    subst EndsUnrefused (sym c.stopped-in-Err-Memory.ensures.status) tt
-
-pub returns-in-Err-Memory-clause-headline : goal.returns-in-Err-Memory-clause-headline
-returns-in-Err-Memory-clause-headline g c spells =
-    lacks_one_run _ _ _ _ _ c.stopped-in-Err-Memory.ensures.status c.stopped-in-Err-Memory.ensures.told.stops.sends
-
-pub returns-in-Err-Memory-clause-source : goal.returns-in-Err-Memory-clause-source
-returns-in-Err-Memory-clause-source g c command spells =
-    let old = outside (g.P.Device.standing c.args.platform.now) (g.T.Store.kept c.args.store.now) (g.S.Source.left c.args.input.now)
-    (g.S.Source.faults c.args.input.now) (g.E.Source.left c.args.entropy.now) (g.E.Source.faults c.args.entropy.now)
-    (g.K.Sink.received c.args.out.now) (g.K.Sink.faults c.args.out.now) in
-    let new = outside (g.P.Device.standing c.args.platform.now) (g.T.Store.kept c.args.store.now) (g.S.Source.left c.args.input.now)
-    (g.S.Source.faults c.args.input.now) (g.E.Source.left c.args.entropy.now) (g.E.Source.faults c.args.entropy.now)
-    (g.K.Sink.received c.stopped-in-Err-Memory.new.out) (g.K.Sink.faults c.stopped-in-Err-Memory.new.out) in
-    (stopped_blamed command old new c.stopped-in-Err-Memory.result _ memory_none (record {
-      standing = refl;
-      kept = refl;
-      left = refl;
-      reads
-          = refl;
-      entropy = refl;
-      takes = refl;
-    }) c.stopped-in-Err-Memory.ensures.told).source
-
-pub returns-in-Err-Usage-clause-device : goal.returns-in-Err-Usage-clause-device
-returns-in-Err-Usage-clause-device g c =
-    subst (λ (s : Status). IsBlamed (tells_platform_fault s) (g.P.Device.standing c.args.platform.now).faults
-    (g.P.Device.standing c.args.platform.now).faults) (sym c.stopped.ensures.status) refl
-
-pub returns-in-Err-Usage-clause-disk : goal.returns-in-Err-Usage-clause-disk
-returns-in-Err-Usage-clause-disk g c =
-    subst (λ (s : Status). IsBlamed (tells_store_fault s) (g.T.Store.kept c.args.store.now).faults (g.T.Store.kept c.args.store.now).faults)
-    (sym c.stopped.ensures.status) refl
-
-pub returns-in-Err-Usage-clause-wrote : goal.returns-in-Err-Usage-clause-wrote
-returns-in-Err-Usage-clause-wrote g c = output_stopped _ c.stopped.result _ _ _ _ no_usage c.stopped.ensures.told
-
-pub returns-in-Err-Memory-clause-device : goal.returns-in-Err-Memory-clause-device
-returns-in-Err-Memory-clause-device g c =
-    subst (λ (s : Status). IsBlamed (tells_platform_fault s) (g.P.Device.standing c.args.platform.now).faults
-    (g.P.Device.standing c.args.platform.now).faults) (sym c.stopped-in-Err-Memory.ensures.status) refl
-
-pub returns-in-Err-Memory-clause-disk : goal.returns-in-Err-Memory-clause-disk
-returns-in-Err-Memory-clause-disk g c =
-    subst (λ (s : Status). IsBlamed (tells_store_fault s) (g.T.Store.kept c.args.store.now).faults (g.T.Store.kept c.args.store.now).faults)
-    (sym c.stopped-in-Err-Memory.ensures.status) refl
-
-pub returns-in-Err-Memory-clause-wrote : goal.returns-in-Err-Memory-clause-wrote
-returns-in-Err-Memory-clause-wrote g c =
-    output_stopped _ c.stopped-in-Err-Memory.result _ _ _ _ no_memory c.stopped-in-Err-Memory.ensures.told
-
-pub returns-in-Ok-clause-none : goal.returns-in-Ok-clause-none
-returns-in-Ok-clause-none g c unspelled = absurd (unspelled c.in-Ok.command c.in-Ok.ensures.ok)
-
-pub returns-in-Ok-clause-usage : goal.returns-in-Ok-clause-usage
-returns-in-Ok-clause-usage g c is = absurd (c.done.ensures.usage is)
-
-pub returns-in-Ok-clause-check : goal.returns-in-Ok-clause-check
-returns-in-Ok-clause-check g c spells = c.done.ensures.check (one_command _ c.in-Ok.command Check c.in-Ok.ensures.ok spells)
-
-pub returns-in-Err-Usage-clause-check : goal.returns-in-Err-Usage-clause-check
-returns-in-Err-Usage-clause-check g c spells bytes next left run =
-    absurd (c.in-Err-Usage.ensures.usage (rw c.in-Err-Usage.field-0-is refl) Check spells)
-
-pub returns-in-Err-Memory-clause-check : goal.returns-in-Err-Memory-clause-check
-returns-in-Err-Memory-clause-check g c spells bytes next left run = subst EndsUnrefused (sym c.stopped-in-Err-Memory.ensures.status) tt
-
-pub returns-in-Ok-clause-host : goal.returns-in-Ok-clause-host
-returns-in-Ok-clause-host g c command spells can =
-    let it = (goal.at.returns-in-Ok-clause-host g c).After-done in
-    may_be_done command (told_before g it) (told_after g it) c.done.result can (did g it command spells)
-
-pub returns-in-Err-Usage-clause-host : goal.returns-in-Err-Usage-clause-host
-returns-in-Err-Usage-clause-host g c command spells can =
-    absurd (c.in-Err-Usage.ensures.usage (rw c.in-Err-Usage.field-0-is refl) command spells)
-
-pub returns-in-Err-Memory-clause-host : goal.returns-in-Err-Memory-clause-host
-returns-in-Err-Memory-clause-host g c command spells can = subst IsDoneOrFailed (sym c.stopped-in-Err-Memory.ensures.status) tt
-
-pub returns-in-Ok-clause-slots : goal.returns-in-Ok-clause-slots
-returns-in-Ok-clause-slots g c spells = c.done.ensures.slots (one_command _ c.in-Ok.command Slots c.in-Ok.ensures.ok spells)
-
-pub returns-in-Err-Usage-clause-slots : goal.returns-in-Err-Usage-clause-slots
-returns-in-Err-Usage-clause-slots g c spells bytes next left run =
-    absurd (c.in-Err-Usage.ensures.usage (rw c.in-Err-Usage.field-0-is refl) Slots spells)
-
-pub returns-in-Err-Memory-clause-slots : goal.returns-in-Err-Memory-clause-slots
-returns-in-Err-Memory-clause-slots g c spells bytes next left run = subst EndsUnrefused (sym c.stopped-in-Err-Memory.ensures.status) tt
-
-pub returns-in-Ok-clause-interleaved : goal.returns-in-Ok-clause-interleaved
-returns-in-Ok-clause-interleaved g c spells =
-    let it = (goal.at.returns-in-Ok-clause-interleaved g c).After-done in
-    interleaved_by (told_before g it) (told_after g it) c.done.result (did g it Slots spells)
-
-pub returns-in-Err-Usage-clause-interleaved : goal.returns-in-Err-Usage-clause-interleaved
-returns-in-Err-Usage-clause-interleaved g c spells = absurd (c.in-Err-Usage.ensures.usage (rw c.in-Err-Usage.field-0-is refl) Slots spells)
-
-pub returns-in-Err-Memory-clause-interleaved : goal.returns-in-Err-Memory-clause-interleaved
-returns-in-Err-Memory-clause-interleaved g c spells =
-    lacks_interleaved _ _ _ _ _ c.stopped-in-Err-Memory.ensures.status c.stopped-in-Err-Memory.ensures.told.stops.sends
-
-pub returns-in-Ok-clause-transfer : goal.returns-in-Ok-clause-transfer
-returns-in-Ok-clause-transfer g c spells = c.done.ensures.transfer (one_command _ c.in-Ok.command Transfer c.in-Ok.ensures.ok spells)
-
-pub returns-in-Err-Usage-clause-transfer : goal.returns-in-Err-Usage-clause-transfer
-returns-in-Err-Usage-clause-transfer g c spells bytes next left run =
-    absurd (c.in-Err-Usage.ensures.usage (rw c.in-Err-Usage.field-0-is refl) Transfer spells)
-
-pub returns-in-Err-Memory-clause-transfer : goal.returns-in-Err-Memory-clause-transfer
-returns-in-Err-Memory-clause-transfer g c spells bytes next left run = subst EndsUnrefused (sym c.stopped-in-Err-Memory.ensures.status) tt
-
-pub returns-in-Ok-clause-one_transfer : goal.returns-in-Ok-clause-one_transfer
-returns-in-Ok-clause-one_transfer g c spells =
-    let it = (goal.at.returns-in-Ok-clause-one_transfer g c).After-done in
-    moved_by (told_before g it) (told_after g it) c.done.result (did g it Transfer spells)
-
-pub returns-in-Err-Usage-clause-one_transfer : goal.returns-in-Err-Usage-clause-one_transfer
-returns-in-Err-Usage-clause-one_transfer g c spells =
-    absurd (c.in-Err-Usage.ensures.usage (rw c.in-Err-Usage.field-0-is refl) Transfer spells)
-
-pub returns-in-Err-Memory-clause-one_transfer : goal.returns-in-Err-Memory-clause-one_transfer
-returns-in-Err-Memory-clause-one_transfer g c spells =
-    lacks_moving _ _ _ _ _ c.stopped-in-Err-Memory.ensures.status c.stopped-in-Err-Memory.ensures.told.stops.sends
+pub returns-in-Err-clause-one_transfer : goal.returns-in-Err-clause-one_transfer
+returns-in-Err-clause-one_transfer g c spells =
+    moved_by _ _ _ (lacked g (goal.at.returns-in-Err-clause-one_transfer g c).After-stopped Transfer spells)
