@@ -15,15 +15,15 @@ pub use Rattle.mm_call.proofs.Finding.{admitted_tells, Asking, found_with_tells,
 pub use Rattle.mm_call.proofs.Going.{brought_digests, finds, sees}
 pub use Rattle.mm_call.proofs.Idle.{asked_for, asked_idle, idle_again, idle_moves, unless_idle}
 pub use Rattle.mm_call.proofs.Keeping.{planned_broken, planned_done, refused_result}
-pub use Rattle.mm_call.proofs.OptAgree.{opt_calls_agree, opt_calls_agree_by_lists}
 pub use Rattle.mm_call.proofs.OptAlike.{Alike, alike_commit, alike_foreign, alike_still, clean_open, grown_by, issued_alike, names_after}
 pub use Rattle.mm_call.proofs.OptAlike.{names_alike, opened, same_closed}
 pub use Rattle.mm_call.proofs.OptFinding.{each_at, found_same, live_found, lives, not_lost}
 pub use Rattle.mm_call.proofs.OptHolding.{agrees_is, foreign_fine, foreign_may, holds_moved, is_agrees, opt_agrees_moved, power_brings}
 pub use Rattle.mm_call.proofs.OptHolding.{power_fine, power_may}
-pub use Rattle.mm_call.proofs.OptLaw.{before, names_foreign, reset_messages, sight, sight_is, sound_foreign}
+pub use Rattle.mm_call.proofs.OptLaw.{before, names_foreign, opt_calls_agree, opt_calls_agree_by_lists, reset_messages, sight, sight_is}
+pub use Rattle.mm_call.proofs.OptLaw.{sound_foreign}
 pub use Rattle.mm_call.proofs.OptLeaves.{alike_call, alike_of, answered_clean_as, call_goes_on, DigestMoves, GoesOn, hands, Hands, Left}
-pub use Rattle.mm_call.proofs.OptLeaves.{left_call, left_reading, Pushed, seen_closes}
+pub use Rattle.mm_call.proofs.OptLeaves.{left_reading, Pushed, seen_closes}
 pub use Rattle.mm_call.proofs.OptMay.{AllMay, ask_may, first_in, may_of}
 pub use Rattle.mm_call.proofs.OptReady.{ready_closing}
 pub use Rattle.mm_call.proofs.OptShapes.{Brought, cut, none_counted, past, reading, reads_only, reset, shape, Shape, two_reads}

@@ -5,7 +5,7 @@ use Rattle.mm_call.proofs.Below.{link_message, summary_of, Instance, basic, Entr
 use Rattle.mm_call.proofs.Below.{Within, values_in, Digests, IsPlaceOf, Names, digest_of, Refusal, each_append, IsGenuine, by_lists}
 use Rattle.mm_call.proofs.Below.{by_digests, all_made, Agrees, Found, found_at, right_content, found_unless_wanting, is_fresh, Fate, Course}
 use Rattle.mm_call.proofs.Below.{Walked, walk, called, called_with, IsPlain, IsWithin, right_messages, IsSameCall, BasicCallsAgree}
-use Rattle.mm_call.proofs.Below.{IsBasicMove, agrees-made, plain-made, same_batches, more_batches, Commits, nothing, batch, basic_commits}
+use Rattle.mm_call.proofs.Below.{IsBasicMove, agrees-made, plain-made, same_batches, more_batches, Commits, nothing, batch, call_commits}
 use Rattle.mm_call.proofs.Below.{foreign_first, GoesAlong, walk_along}
 use Rattle.mm_call.proofs.Finding.{Holds, Asking, found_same, placed, Placed}
 use Rattle.mm_call.proofs.Calling.{summary_then, listed_push, listed_same, called_message}
@@ -148,7 +148,7 @@ module _ (meaning : Meaning) (key : List ℕ) where
   walked_same all others asked y sees d seen course b found s =
       let w : Walked = walk course.fates 1 (ask_steps Basic false (is_fresh found) b) in
       let moves = walk_basic course.fates false (is_fresh found) b in
-      let commits = basic_commits course.fates false (is_fresh found) b in record {
+      let commits = call_commits Basic course.fates false (is_fresh found) b in record {
         ending = ending_same I y sees seen (all_made (by_digests I) d w.moves) b w w.broken found refl
             (ends_of all others asked y d seen b w found s commits) commits;
         moves = refl;
@@ -205,4 +205,5 @@ module _ (meaning : Meaning) (key : List ℕ) where
 pub basic_calls_agree : BasicCallsAgree
 basic_calls_agree meaning key all others asked y d course offer b agrees a =
     basic_same meaning key all others asked y d course offer b agrees
-    (record { clear = a.clear; within = a.within; is_asked = a.is_asked; genuine = a.genuine; offered = a.offered })
+    (let q = a.asks in
+    record { clear = q.clear; within = q.within; is_asked = q.is_asked; genuine = q.genuine; offered = q.offered })

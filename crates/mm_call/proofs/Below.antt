@@ -62,9 +62,10 @@ pub use Rattle.mm_model.proofs.Above.{opt_digests, opt_is_judged, opt_messages, 
 pub use Rattle.mm_model.proofs.Above.{sound_items, sound_moved}
 pub use Rattle.mm_call.specs.AlongLaws.{closes-foreign, closes_first, commit_keeps, EachMove, GoesAlong, opt_closes, walk_along}
 pub use Rattle.mm_call.specs.Answers.{answer_at, answer_on}
-pub use Rattle.mm_call.specs.Asked.{counted_moves, counted_part, foreign_in, from_reset, IsAsked, IsPlain, IsWithin, moves_messages}
+pub use Rattle.mm_call.specs.Asked.{AreAsked, counted_moves, counted_part, foreign_in, from_reset, IsAsked, IsPlain, IsWithin, moves_messages}
 pub use Rattle.mm_call.specs.Asked.{right_messages}
-pub use Rattle.mm_call.specs.Called.{Answers, Breaks, called, Called, called_by, ended_by, given_for, position_of, seen_at}
+pub use Rattle.mm_call.specs.Called.{Answers, Breaks, called, Called, called_by, came_to, CameTo, ended_by, Ending, given_for, position_of}
+pub use Rattle.mm_call.specs.Called.{seen_at}
 pub use Rattle.mm_call.specs.CalledWords.{called_with, kept_at}
 pub use Rattle.mm_call.specs.Calls.{Asks, AsksTo, breaks_off, CallOf, Calls, commits_before, EndsTo, goes_on, IsCallSoFar, StepsTo, StepTo}
 pub use Rattle.mm_call.specs.CallsOn.{CallContinues, CallsOn, GoesBy}
@@ -73,13 +74,13 @@ pub use Rattle.mm_call.specs.Courses.{after_step, closes, commits, Course, Done,
 pub use Rattle.mm_call.specs.Ended.{CallsTo, ended_with, is_broken, KeepsAs, kept_by, refused_as, result_of, StaysOn}
 pub use Rattle.mm_call.specs.Found.{Found, found_at, found_by_verdict, right_content}
 pub use Rattle.mm_call.specs.FoundWords.{found_unless_wanting, found_with, is_fresh}
-pub use Rattle.mm_call.specs.Laws.{BasicCallsAgree, CallsAgree, IsSameCall, OptCallsAgree}
+pub use Rattle.mm_call.specs.Laws.{BasicCallsAgree, CallsAgree, IsSame, IsSameCall, OptCallsAgree}
 pub use Rattle.mm_call.specs.Leaving.{Blames, IsUntouched, LeavesUntouched}
 pub use Rattle.mm_call.specs.LeavingLaws.{blamed, blamed_later, fault_handed, same_untouched}
 pub use Rattle.mm_call.specs.Levels.{Agrees, all_made, by_digests, by_lists, Level, place_then}
 pub use Rattle.mm_call.specs.MoveLaws.{agrees-made, batches-made, commit_adds, committed_in, IsBasicMove, more_batches, plain-made}
 pub use Rattle.mm_call.specs.MoveLaws.{same_batches}
-pub use Rattle.mm_call.specs.Premises.{AreAsked, AreShown, IsIdle}
+pub use Rattle.mm_call.specs.Premises.{AreShown, IsIdle}
 pub use Rattle.mm_call.specs.Ran.{RanSome}
 pub use Rattle.mm_call.specs.Refusals.{fault_in, fault_of, handed_on}
 pub use Rattle.mm_call.specs.ShowingLaws.{asked_by, asked_of, Counts, counts_open, same_rest}
@@ -88,7 +89,7 @@ pub use Rattle.mm_call.specs.TellingLaws.{AreMet, begins_at, IsAt, met, met_at, 
 pub use Rattle.mm_call.specs.Tied.{foreign_items, OptTied, shows, standing_items, Tied}
 pub use Rattle.mm_call.specs.TrailLaws.{all_made-append, leads, shown-append}
 pub use Rattle.mm_call.specs.Trails.{Leads, MakesStep, Rest, Stepped, Trail}
-pub use Rattle.mm_call.specs.WalkLaws.{asks, basic_commits, batch, call_commits, changing, Commits, commits-none, committed-foreign}
+pub use Rattle.mm_call.specs.WalkLaws.{asks, batch, call_commits, changing, Commits, commits-none, committed-foreign}
 pub use Rattle.mm_call.specs.WalkLaws.{finished, foreign_first, foreign_in-append, foreign_in-first, foreign_in-foreign, foreign_made}
 pub use Rattle.mm_call.specs.WalkLaws.{from_reset-foreign, made-append, messages-made, nothing, nothing as none, opt_commits, taking}
 pub use Rattle.mm_call.specs.WalkLaws.{taking_is}

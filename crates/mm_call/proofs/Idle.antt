@@ -7,8 +7,7 @@ use Rattle.mm_call.proofs.Below.{counted_moves, IsAsked, called, seen_at}
 use Rattle.mm_call.proofs.Below.{Fate, Course, walk, Found, found_at, found_unless_wanting, is_fresh, by_lists, by_digests, AreAsked}
 use Rattle.mm_call.proofs.Below.{AreShown, IsIdle, shown, standing_items, asked_by, asked_of}
 use Rattle.mm_call.proofs.OptHolding.{is_agrees}
-use Rattle.mm_call.proofs.OptLaw.{sight_is}
-use Rattle.mm_call.proofs.OptAgree.{opt_calls_agree_by_lists}
+use Rattle.mm_call.proofs.OptLaw.{sight_is, opt_calls_agree_by_lists}
 use Rattle.mm_call.proofs.OptShapes.{Brought, none_counted, reads_only}
 use Rattle.mm_call.proofs.OptShut.{bare, found_lists}
 use Rattle.mm_call.proofs.Tied.{opt_tied}

@@ -14,7 +14,6 @@ mod BasicLaw
 pub mod OptShapes
 mod OptShut
 mod OptLaw
-mod OptAgree
 mod OptMay
 mod Continuing
 mod Checkpoints

@@ -10,18 +10,16 @@ use Rattle.mm_call.proofs.Below.{committed_in, asked_by, same_rest, Counts, coun
 use Rattle.mm_call.proofs.Below.{opt_commits, taking, foreign_first, committed-foreign, opt_closes, closes_first, closes-foreign, Comes}
 use Rattle.mm_call.proofs.Below.{kept, GoesBy}
 use Rattle.mm_model.specs.Chains as chains
-use Rattle.mm_call.proofs.Idle.{asked_for}
 use Rattle.mm_call.proofs.BasicLaw.{unlacked}
 use Rattle.mm_call.proofs.Continuing.{stands_at}
 use Rattle.mm_call.proofs.OptFinding.{lives}
 use Rattle.mm_call.proofs.OptHolding.{is_agrees}
-use Rattle.mm_call.proofs.OptAgree.{opt_calls_agree}
 use Rattle.mm_call.proofs.OptShapes.{none_counted, Shape, shape}
 use Rattle.mm_call.proofs.OptShut.{bare, within_items}
 use Rattle.mm_call.proofs.Tied.{opt_tied}
 use Rattle.mm_call.proofs.Finding.{placed}
 use Rattle.mm_call.proofs.Coming.{answered_only, opt_comes as comes}
-use Rattle.mm_call.proofs.OptLaw.{seen_asking}
+use Rattle.mm_call.proofs.OptLaw.{seen_asking, opt_calls_agree}
 use Rattle.mm_call.proofs.OptAlike.{alike_still, alike_one, digests_still, Alike, still, grown_by, same_closed}
 use Rattle.mm_call.proofs.OptShown.{Way, only_reads, breaks_off, commits_it, way, pushed_open, counts_opening, flag_kept, flag_set}
 use Rattle.mm_call.proofs.OptShown.{shown_front, shown_back, shown_shut, register_then, stands_with}
@@ -137,16 +135,6 @@ module _ (meaning : Meaning) (key barrier : List ℕ) (all others : List (List �
         };
         flag = same.agrees.flag;
       }
-
-  -- a call that shows at its end what is asked, unless it is idle
-  pub left_call : (y : History) (old new : Standing) (offer request : List ℕ) (result : Result BatchAnswer Refusal)
-      (items more : List Item) → CallsOn Opt meaning old new offer (One request) result → StandsFor I old y → old.items ≡ Some items
-      → new.items ≡ Some (standing_items y.is_open items ++ more) → AreAsked all others asked I y offer (One request)
-      → ((IsIdle I y offer (One request) → ⊥) → AreShown all others I y more) → Left y new offer request result
-  left_call y old new offer request result items more c s known ends a shown_so =
-      let g = c.goes key barrier (digests_of I y) (stands_at I old y s) in
-      (by_law y old new offer request result c s a
-      (asked_for meaning key barrier all others asked y c.course offer (One request) old new items more a shown_so known g.items ends)).left
 
   -- From a set flag all that the register had shown stays in front.
   abbrev pub GoesOn : Standing → Standing → Type 0

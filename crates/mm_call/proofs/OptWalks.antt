@@ -5,7 +5,7 @@ use Rattle.mm_call.proofs.Below.{move_messages, Digests, made, Step, Reads, Chan
 use Rattle.mm_call.proofs.Below.{each_right, by_lists, by_digests, all_made, End, Done, Fails, Fate, Walked, after_step, walk}
 use Rattle.mm_call.proofs.Below.{moves_messages, foreign_in, taking, taking_is, foreign_made, foreign_in-first, foreign_in-append}
 use Rattle.mm_call.proofs.Below.{foreign_in-foreign}
-use Rattle.mm_call.proofs.Below.{append-nil, made-append, step_moves, EachMove}
+use Rattle.mm_call.proofs.Below.{append-nil, made-append, step_moves, EachMove, changing, asks, sym}
 use Rattle.mm_call.proofs.OptHolding.{Holds, IsFine, holds_moved, foreign_fine}
 
 -- what holds of each of the moves, at the history from which it is made
@@ -166,15 +166,13 @@ module _ (meaning : Meaning) (key barrier : List ℕ) (all others : List (List �
       → AllFine all others asked I y (map Foreign values)
   foreign_all = each_foreign (IsFine all others asked I) others I (foreign_fine meaning key barrier all others asked)
 
-  -- moves behind foreign values
-  pub foreign_then : (values : List (List ℕ)) (moves : List Move) (y : History) → AllByRecursion (Contains others) values
-      → AllFine all others asked I (taking y values) moves → AllFine all others asked I y (map Foreign values ++ moves)
-  foreign_then = each_then (IsFine all others asked I) others I (foreign_fine meaning key barrier all others asked)
+pub own_changing : (flag fresh : Bool) (b : Batch) → AreOwn (changing flag fresh b)
+own_changing true true b = (refl, tt)
+own_changing false true b = (refl, (refl, (refl, tt)))
+own_changing _ false b = tt
 
 pub own_asked : (flag fresh : Bool) (b : Batch) → AreOwn (ask_steps Opt flag fresh b)
-own_asked true true b = (refl, tt)
-own_asked false true b = (refl, (refl, (refl, tt)))
-own_asked _ false b = tt
+own_asked flag fresh b = subst AreOwn (sym (asks flag fresh b)) (own_changing flag fresh b)
 
 pub own_checked : (flag lost : Bool) → AreOwn (checkpoint_steps Opt flag lost)
 own_checked true false = (refl, tt)

@@ -12,8 +12,7 @@ use Rattle.mm_model.specs.Chains.{register_of}
 use Rattle.mm_call.specs.Tied.{nothing}
 use Rattle.mm_call.proofs.OptShapes.{none_counted, Shape, still, reset, shape, opening}
 use Rattle.mm_call.proofs.OptShut.{bare, bare_digests}
-use Rattle.mm_call.proofs.OptLaw.{own_inside}
-use Rattle.mm_call.proofs.OptWalks.{AreOwn, Each, ReadyFor, walk_each}
+use Rattle.mm_call.proofs.OptWalks.{AreOwn, Each, ReadyFor, walk_each, own_changing}
 use Rattle.mm_call.proofs.Below.{each_self, renamed, Step, taking}
 use Rattle.mm_call.proofs.Going.{brought_digests}
 
@@ -209,7 +208,7 @@ module _ (meaning : Meaning) (key barrier : List ℕ) where
   tied_by : (flag : Bool) (y : History) (d : Digests) (fates : ℕ → Fate) (fresh : Bool) (b : Batch) → y.is_open ≡ flag → d.flag ≡ flag
       → Tied I y d (walk fates 1 (Reads ∷ Reads ∷ changing flag fresh b)).moves
   tied_by true y d fates fresh b e f =
-      inside_tied y d _ e (walk_pushed fates 1 (Reads ∷ Reads ∷ changing true fresh b) y d (f ∙ sym e) (own_inside fresh b)
+      inside_tied y d _ e (walk_pushed fates 1 (Reads ∷ Reads ∷ changing true fresh b) y d (f ∙ sym e) (own_changing true fresh b)
       (λ o p. inside_ready _ fates fresh b (taking (taking y (fates 1).brings) (fates 2).brings) e))
   tied_by false y d fates fresh b e f = shut_tied y d fates fresh b _ f e (shape fates fresh b)
 
