@@ -7,9 +7,9 @@ use Rattle.mm_call.proofs.Below.{by_digests, all_made, Agrees, Found, found_at, 
 use Rattle.mm_call.proofs.Below.{Walked, walk, called, called_with, IsPlain, IsWithin, right_messages, IsSameCall, BasicCallsAgree}
 use Rattle.mm_call.proofs.Below.{IsBasicMove, agrees-made, plain-made, same_batches, more_batches, Commits, nothing, batch, call_commits}
 use Rattle.mm_call.proofs.Below.{foreign_first, GoesAlong, walk_along}
-use Rattle.mm_call.proofs.Finding.{Holds, Asking, found_same, placed, Placed}
+use Rattle.mm_call.proofs.Finding.{BasicHolds, Asking, basic_found_same, placed, Placed}
 use Rattle.mm_call.proofs.Calling.{summary_then, listed_push, listed_same, called_message}
-use Rattle.mm_call.proofs.OptShut.{foreign_digests}
+use Rattle.mm_call.proofs.OptHolding.{foreign_digests}
 use Rattle.mm_call.proofs.Endings.{Points, Ends, again_of, fresh_of, ending_same}
 
 abbrev pub AreBasic : List Move → Type 0
@@ -172,7 +172,7 @@ module _ (meaning : Meaning) (key : List ℕ) where
       let seen : Digests = all_made (by_digests I) d moves in
       let quiet : AreBasic moves = each_append IsBasicMove (map Foreign values) [] (basic-foreign values) tt in
       let same : sees.batches ≡ y.batches = same_batches I moves y (foreign_first values []) in
-      let holds : Holds all I sees seen = record {
+      let holds : BasicHolds all I sees seen = record {
         agrees = agrees-made meaning key moves y d quiet agrees;
         plain = plain-made meaning key moves y quiet a.within.sound;
         listed = listed_same meaning key all y sees a.within.listed same;
@@ -185,7 +185,7 @@ module _ (meaning : Meaning) (key : List ℕ) where
       let lists : Result Found Refusal = found_at I (by_lists I) sees b offer in
       let found : Result Found Refusal = found_unless_wanting lists course.lacks in
       let agree : found_unless_wanting (found_at I (by_digests I) seen b offer) course.lacks ≡ found =
-      ap (λ x. found_unless_wanting x course.lacks) (found_same meaning key all sees seen offer b holds asking) in
+      ap (λ x. found_unless_wanting x course.lacks) (basic_found_same meaning key all sees seen offer b holds asking) in
       let starts : Starts all others asked I y d seen b found = record {
         agrees = agrees;
         within = a.within;

@@ -1,19 +1,17 @@
 -- A checkpoint is by digests what it is by lists, on every course.
-use Rattle.mm_call.proofs.Below.{ℕ, ◌≡◌, Bool, true, false, List, [], ◌∷◌, map, Option, Some, refl, sym, ap, ◌∙◌, subst}
-use Rattle.mm_call.proofs.Below.{append-nil, Opt, StepFault, Meaning, Batch, Instance, basic, opt, History}
-use Rattle.mm_call.proofs.Below.{Move, Foreign, Close, life_of, is_lost, is_empty, Digests, Step, Reads, Writes, checkpoint_steps, by_lists}
-use Rattle.mm_call.proofs.Below.{by_digests, all_made, Agrees, End, Done, Fails, Fate, Course, Walked, after_step, walk, closes, IsPlain}
-use Rattle.mm_call.proofs.Below.{IsWithin, agrees-made, plain-made, committed_in, same_batches, committed-foreign, finished}
+use Rattle.mm_call.proofs.Below.{ℕ, ◌≡◌, Bool, true, false, List, [], ◌∷◌, map, refl, sym, ap, ◌∙◌, subst, append-nil, Opt, Meaning, Batch}
+use Rattle.mm_call.proofs.Below.{Instance, basic, opt, History, Foreign, Close, life_of, is_lost, is_empty, Digests, Step, Reads, Writes}
+use Rattle.mm_call.proofs.Below.{checkpoint_steps, by_lists, by_digests, all_made, Agrees, End, Done, Fails, Fate, Course, Walked}
+use Rattle.mm_call.proofs.Below.{after_step, walk, closes, IsPlain, IsWithin, agrees-made, plain-made, committed_in, same_batches}
+use Rattle.mm_call.proofs.Below.{committed-foreign, finished}
 use Rattle.mm_call.specs.Checkpoints.{Closing, NoSegment, closing_of, checkpointed_by, checkpointed, IsClosedWithin, IsSameCheckpoint}
-use Rattle.mm_call.proofs.OptHolding.{Holds}
 use Rattle.mm_call.specs.Checkpoints.{BasicCheckpointsAgree, OptCheckpointsAgree}
+use Rattle.mm_call.proofs.OptHolding.{Holds, holds_open}
 use Rattle.mm_call.specs.CheckpointsWords.{closed_by}
-use Rattle.mm_call.proofs.OptFinding.{lost_same, not_lost}
-use Rattle.mm_call.proofs.OptWalks.{Ready, AreOwn}
-use Rattle.mm_call.proofs.OptReady.{ready_closing}
-use Rattle.mm_call.proofs.OptShut.{holds_open}
+use Rattle.mm_call.proofs.Finding.{lost_same, not_lost}
+use Rattle.mm_call.proofs.OptWalks.{Ready, AreOwn, ready_closing, before, sight, sight_is}
 use Rattle.mm_call.proofs.BasicLaw.{AreBasic, basic-foreign, within_same}
-use Rattle.mm_call.proofs.OptLaw.{before, counts_at, foreign_stands, same_on, same_walks, sight, sight_is}
+use Rattle.mm_call.proofs.OptLaw.{counts_at, foreign_stands, same_on, same_walks}
 
 -- the moves of a reading step alone are others' values
 pub read_moves : (values : List (List ℕ)) (ends : End) → (after_step Reads values ends finished).moves ≡ map Foreign values

@@ -1,12 +1,12 @@
 -- The device steps that commit what a call found, one after another: their fates, and what is known of all of them.
 use Rattle.mm_call.proofs.Below.{◌≡◌, ℕ, ◌+◌, suc, Bool, true, false, List, [], ◌∷◌, ◌++◌, length, map, Option, None, Some, Result, Ok, Err}
 use Rattle.mm_call.proofs.Below.{refl, sym, ap, ◌∙◌, subst, arith, append_assoc, option_map, ◌==◌, IsSome, if◌then◌else◌, counted}
-use Rattle.mm_call.proofs.Below.{StepFault, Plan, Standing, plan_after, Act, Goes, will_be_on, Instance, Move, Commit, Foreign}
-use Rattle.mm_call.proofs.Below.{Digests, Step, Reads, Changes, Writes, BatchAnswer, Refusal, Ended, Answered, Refused}
-use Rattle.mm_call.proofs.Below.{Broken, CallOf, commits_before, goes_on, breaks_off, StepsTo, EndsTo, kept_at, End, Done, Fails}
-use Rattle.mm_call.proofs.Below.{Fate, Walked, walk, after_step, step_moves, commits, planned, result_of, ended_with, kept_by, is_broken}
-use Rattle.mm_call.proofs.Below.{StaysOn, Blames, blamed, blamed_later, all_made, by_digests, fault_of, fault_in, met, AreMet, IsAt, met_at}
-use Rattle.mm_call.proofs.Below.{then_at, room_at, stepped, trail_on, trail_fails, MakesStep, Stepped, Rest, Trail}
+use Rattle.mm_call.proofs.Below.{StepFault, Plan, Standing, plan_after, Act, Goes, will_be_on, Instance, Move, Commit, Foreign, Digests}
+use Rattle.mm_call.proofs.Below.{Step, Reads, Changes, Writes, BatchAnswer, Refusal, Ended, Answered, Refused, Broken, CallOf}
+use Rattle.mm_call.proofs.Below.{commits_before, goes_on, breaks_off, StepsTo, EndsTo, kept_at, End, Done, Fails, Fate, Walked, walk}
+use Rattle.mm_call.proofs.Below.{after_step, step_moves, commits, planned, result_of, ended_with, kept_by, is_broken, StaysOn, Blames}
+use Rattle.mm_call.proofs.Below.{blamed, blamed_later, all_made, by_digests, fault_of, fault_in, met, AreMet, IsAt, met_at, then_at}
+use Rattle.mm_call.proofs.Below.{room_at, stepped, trail_on, trail_fails, MakesStep, Stepped, Rest, Trail}
 use Rattle.std.specs.Prelude.{◌≤◌, ◌&&◌}
 use Rattle.std.proofs.Math.Nat.{min-eq_left}
 use Rattle.std.proofs.lemmas.Bool.Decides.{nat_tests}

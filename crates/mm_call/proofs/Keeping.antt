@@ -1,8 +1,7 @@
 -- What a call that ended so gives, and what its moves committed.
-use Rattle.mm_call.proofs.Below.{◌≡◌, ℕ, Bool, true, false, List, [], ◌∷◌, ◌++◌, map, Option, None, Some, Err, refl, sym, ap}
-use Rattle.mm_call.proofs.Below.{◌∙◌, IsSome, option_map, counted, StepFault, Plan, Standing, plan_after, Act, Goes, is_on_at}
-use Rattle.mm_call.proofs.Below.{will_be_on, Move, Foreign, Refusal, Device}
-use Rattle.mm_call.proofs.Below.{fault_of, commits, result_of, ended_with, refused_as, StaysOn, IsAt}
+use Rattle.mm_call.proofs.Below.{◌≡◌, ℕ, Bool, true, false, List, [], ◌∷◌, ◌++◌, map, Option, None, Some, Err, refl, sym, ap, ◌∙◌, IsSome}
+use Rattle.mm_call.proofs.Below.{option_map, counted, StepFault, Plan, Standing, plan_after, Act, Goes, is_on_at, will_be_on, Move, Foreign}
+use Rattle.mm_call.proofs.Below.{Refusal, Device, fault_of, commits, result_of, ended_with, refused_as, StaysOn, IsAt}
 use Rattle.mm_platform.specs.declared.plan.Stop.{Stop}
 use Rattle.mm_platform.specs.declared.plan.Stop.TheVariants.{Cut}
 

@@ -1,11 +1,10 @@
 -- Opt: histories that differ in the register's items alone, and what a call does to all but these.
 use Rattle.mm_call.proofs.Below.{◌≡◌, ℕ, Bool, true, false, List, [], ◌∷◌, ◌++◌, map, refl, sym, ap, ◌∙◌, subst, inl, inr, Opt, Meaning}
 use Rattle.mm_call.proofs.Below.{Batch, Place, InBasic, InOpt, Content, guard, Instance, opt, Entry, Value, History, Move, Commit, Foreign}
-use Rattle.mm_call.proofs.Below.{Placed, Reset, Close, moved, committed, joined, is_empty, has_value, IsSound, Digests, MayMove}
-use Rattle.mm_call.proofs.Below.{IsAllowed, IsOpening, made, IsPlaceOf, Names, issued, issued_place, sound_moved, opt_names, point_items}
-use Rattle.mm_call.proofs.Below.{by_lists, by_digests, all_made, closes, committed_in, closes-foreign, commit_keeps, committed-foreign}
-use Rattle.mm_call.proofs.OptHolding.{foreign_may}
-use Rattle.mm_call.proofs.OptShut.{bare, bare_digests, reset_may}
+use Rattle.mm_call.proofs.Below.{Placed, Reset, Close, moved, committed, joined, is_empty, has_value, IsSound, Digests, MayMove, IsAllowed}
+use Rattle.mm_call.proofs.Below.{IsOpening, made, IsPlaceOf, Names, issued, issued_place, sound_moved, opt_names, point_items, by_lists}
+use Rattle.mm_call.proofs.Below.{by_digests, all_made, closes, committed_in, closes-foreign, commit_keeps, committed-foreign}
+use Rattle.mm_call.proofs.OptHolding.{foreign_may, bare, bare_digests, reset_may}
 
 -- with a segment open no closed one holds a value that stands for no batch
 pub clean_open : (y : History) → IsSound y → y.is_open ≡ true → has_value (joined y.closed) ≡ false

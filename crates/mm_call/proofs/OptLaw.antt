@@ -1,42 +1,27 @@
 -- Opt: what a call sees, and what counts of it; and so a call is by digests what it is by lists, on every course.
-use Rattle.mm_call.proofs.Below.{ℕ, ◌≡◌, Bool, true, false, List, [], ◌∷◌, ◌++◌, map, Some, Result, Ok, Err, refl, sym, ap, ◌∙◌, subst, inl, inr}
-use Rattle.mm_call.proofs.Below.{not, if◌then◌else◌, AllByRecursion, Contains, fold, Opt, extended_of, StepFault, Meaning, Batch, Content}
-use Rattle.mm_call.proofs.Below.{Instance, opt, History, Move, Foreign, Reset, Value, moved, Step, Reads, ask_steps, Within, move_messages}
-use Rattle.mm_call.proofs.Below.{moving_messages, Digests, Names, issued_place, IsSound, IsGenuine, Refusal, each_left, each_right, opt_names}
-use Rattle.mm_call.proofs.Below.{sound_moved, fresh_lists, by_lists, by_digests, all_made, Agrees, Found, found_at, found_unless_wanting}
-use Rattle.mm_call.proofs.Below.{is_fresh, Done, Fate, Course, Walked, walk, Ending, ended_by, called_by, called, CameTo, came_to, counted_part}
-use Rattle.mm_call.proofs.Below.{counted_moves, from_reset, moves_messages, foreign_in, IsWithin, AreAsked, IsAsked, IsSame, IsSameCall}
-use Rattle.mm_call.proofs.Below.{OptCallsAgree, committed_in, opt_commits, committed-foreign, commits-none, changing, asks, taking, taking_is}
-use Rattle.mm_call.proofs.Below.{foreign_made, made-append, foreign_in-foreign, from_reset-foreign, messages-made}
-use Rattle.mm_call.proofs.Finding.{Asking, Placed, placed}
-use Rattle.mm_call.proofs.OptHolding.{Holds, foreign_may}
-use Rattle.mm_call.proofs.OptFinding.{clear_for, IsApart, IsLive, lives, found_same}
-use Rattle.mm_call.proofs.OptWalks.{AllFine, holds_made, foreign_all, front_outside, Ready, AreOwn, own_changing, walk_fine, path_end, path_is}
-use Rattle.mm_call.proofs.OptReady.{IsDue, ready_third, ready_opening}
-use Rattle.mm_call.proofs.OptPlaces.{end_place}
+use Rattle.mm_call.proofs.Below.{ℕ, ◌≡◌, Bool, true, false, List, [], ◌∷◌, ◌++◌, map, Some, Result, Ok, Err, refl, sym, ap, ◌∙◌, subst, inl}
+use Rattle.mm_call.proofs.Below.{inr, not, if◌then◌else◌, AllByRecursion, Contains, fold, Opt, extended_of, StepFault, Meaning, Batch}
+use Rattle.mm_call.proofs.Below.{Content, Instance, opt, History, Move, Foreign, Reset, Value, moved, Step, Reads, ask_steps, Within}
+use Rattle.mm_call.proofs.Below.{move_messages, moving_messages, Digests, Names, issued_place, IsSound, IsGenuine, Refusal, each_left}
+use Rattle.mm_call.proofs.Below.{each_right, opt_names, sound_moved, fresh_lists, by_lists, by_digests, all_made, Agrees, Found, found_at}
+use Rattle.mm_call.proofs.Below.{found_unless_wanting, is_fresh, Done, Fate, Course, Walked, walk, Ending, ended_by, called_by, called}
+use Rattle.mm_call.proofs.Below.{came_to, counted_part, counted_moves, from_reset, moves_messages, foreign_in, IsWithin, AreAsked, IsAsked}
+use Rattle.mm_call.proofs.Below.{IsSame, IsSameCall, OptCallsAgree, committed_in, opt_commits, committed-foreign, commits-none, changing}
+use Rattle.mm_call.proofs.Below.{asks, taking, taking_is, foreign_made, made-append, foreign_in-foreign, from_reset-foreign, messages-made}
+use Rattle.mm_call.proofs.Finding.{Asking, Placed, placed, clear_for, IsApart, IsLive, lives, found_same}
+use Rattle.mm_call.proofs.OptHolding.{Holds, foreign_may, bare, bare_digests, found_lists, found_digests, foreign_digests, foreign_reset}
+use Rattle.mm_call.proofs.OptHolding.{foreign_agrees, holds_open, holds_shut, within_items, within_of, reset_may}
+use Rattle.mm_call.proofs.OptWalks.{AllFine, holds_made, foreign_all, front_outside, Ready, AreOwn, own_changing, walk_fine, path_end}
+use Rattle.mm_call.proofs.OptWalks.{path_is, IsDue, ready_third, ready_opening, end_place, before, sight, sight_is}
 use Rattle.mm_call.proofs.Endings.{fresh_of, ending_same}
 use Rattle.mm_call.proofs.OptShapes.{two_reads, reading, past, cut, opening, Shape, still, reset, shape}
-use Rattle.mm_call.proofs.OptShut.{bare, bare_digests, found_lists, found_digests, foreign_digests, foreign_reset, foreign_agrees, holds_open}
-use Rattle.mm_call.proofs.OptShut.{holds_shut, within_items, within_of, reset_may}
 use Rattle.mm_call.proofs.BasicLaw.{points_of, unlacked}
 
 fresh_is : (again : Bool) → (if again then false else true) ≡ not again
 fresh_is true = refl
 fresh_is false = refl
 
--- the moves that come before the last reading step
-abbrev pub before : Course → List Move
-before c = map Foreign (c.fates 1).brings ++ (map Foreign (c.fates 2).brings ++ [])
-
--- what is seen by lists, and by digests
-abbrev pub sight : History → Course → History
-sight y c = taking (taking y (c.fates 1).brings) (c.fates 2).brings
-
-pub sight_is : (i : Instance) (y : History) (c : Course) → all_made (by_lists i) y (before c) ≡ sight y c
-sight_is i y c =
-    foreign_made i (c.fates 1).brings (map Foreign (c.fates 2).brings ++ []) y
-    ∙ foreign_made i (c.fates 2).brings [] (taking y (c.fates 1).brings)
-
+-- what a call sees by digests
 seen_is : (i : Instance) (d : Digests) (c : Course) → all_made (by_digests i) d (before c)
     ≡ all_made (by_digests i) (all_made (by_digests i) d (map Foreign (c.fates 1).brings)) (map Foreign (c.fates 2).brings)
 seen_is i d c =

@@ -1,28 +1,24 @@
 -- Opt: what one call leaves by lists, and what it hands on to the next.
 use Rattle.mm_call.proofs.Below.{◌≡◌, ℕ, Bool, true, false, List, [], ◌∷◌, ◌++◌, map, Option, None, Some, Result, Ok, refl, sym, ap, ◌∙◌}
-use Rattle.mm_call.proofs.Below.{subst, append_assoc, option_map, Opt, StepFault, extended_message, Item}
-use Rattle.mm_call.proofs.Below.{Standing, item_values, Meaning, Batch, One, Instance, opt, Entry, History, Move, Foreign, joined}
-use Rattle.mm_call.proofs.Below.{register_value_of, has_value, Digests, digests_of, StandsFor, Reads, ask_steps, BatchAnswer}
-use Rattle.mm_call.proofs.Below.{Refusal, Level, by_lists, by_digests, all_made, Found, found_at, found_unless_wanting, is_fresh, Course}
-use Rattle.mm_call.proofs.Below.{Walked, walk, closes, called, seen_at, ended_by, given_for, CallsOn, StandsAt, shown, counted_part}
-use Rattle.mm_call.proofs.Below.{counted_moves, IsWithin, IsAsked, AreAsked, AreShown, IsIdle, standing_items}
-use Rattle.mm_call.proofs.Below.{committed_in, asked_by, same_rest, Counts, counts_open, Commits, nothing, batch, changing, asks}
-use Rattle.mm_call.proofs.Below.{opt_commits, taking, foreign_first, committed-foreign, opt_closes, closes_first, closes-foreign, Comes}
-use Rattle.mm_call.proofs.Below.{kept, GoesBy}
-use Rattle.mm_model.specs.Chains as chains
+use Rattle.mm_call.proofs.Below.{subst, append_assoc, option_map, Opt, StepFault, extended_message, Item, Standing, item_values, Meaning}
+use Rattle.mm_call.proofs.Below.{Batch, One, Instance, opt, Entry, History, Move, Foreign, joined, register_value_of, has_value, Digests}
+use Rattle.mm_call.proofs.Below.{digests_of, StandsFor, Reads, ask_steps, BatchAnswer, Refusal, Level, by_lists, by_digests, all_made}
+use Rattle.mm_call.proofs.Below.{Found, found_at, found_unless_wanting, is_fresh, Course, Walked, walk, closes, called, seen_at, ended_by}
+use Rattle.mm_call.proofs.Below.{given_for, CallsOn, StandsAt, shown, counted_part, counted_moves, IsWithin, IsAsked, AreAsked, AreShown}
+use Rattle.mm_call.proofs.Below.{standing_items, committed_in, asked_by, same_rest, Counts, counts_open, Commits, nothing, batch, changing}
+use Rattle.mm_call.proofs.Below.{asks, opt_commits, taking, foreign_first, committed-foreign, opt_closes, closes_first, closes-foreign}
+use Rattle.mm_call.proofs.Below.{Comes, kept, GoesBy}
 use Rattle.mm_call.proofs.BasicLaw.{unlacked}
-use Rattle.mm_call.proofs.Continuing.{stands_at}
-use Rattle.mm_call.proofs.OptFinding.{lives}
-use Rattle.mm_call.proofs.OptHolding.{is_agrees}
-use Rattle.mm_call.proofs.OptShapes.{none_counted, Shape, shape}
-use Rattle.mm_call.proofs.OptShut.{bare, within_items}
-use Rattle.mm_call.proofs.Tied.{opt_tied}
-use Rattle.mm_call.proofs.Finding.{placed}
+use Rattle.mm_call.proofs.Going.{stands_at}
+use Rattle.mm_call.proofs.Finding.{lives, placed}
+use Rattle.mm_call.proofs.OptHolding.{is_agrees, bare, within_items}
+use Rattle.mm_call.proofs.OptShapes.{none_counted, Shape, shape, opt_tied}
 use Rattle.mm_call.proofs.Coming.{answered_only, opt_comes as comes}
 use Rattle.mm_call.proofs.OptLaw.{seen_asking, opt_calls_agree}
 use Rattle.mm_call.proofs.OptAlike.{alike_still, alike_one, digests_still, Alike, still, grown_by, same_closed}
 use Rattle.mm_call.proofs.OptShown.{Way, only_reads, breaks_off, commits_it, way, pushed_open, counts_opening, flag_kept, flag_set}
 use Rattle.mm_call.proofs.OptShown.{shown_front, shown_back, shown_shut, register_then, stands_with}
+use Rattle.mm_model.specs.Chains as chains
 
 -- what one call leaves: the history after it, and what is asked of that
 pub record OptAfter (all others : List (List ℕ)) (asked : List Batch) (meaning : Meaning) (key barrier : List ℕ) (y : History)

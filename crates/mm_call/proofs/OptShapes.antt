@@ -1,9 +1,20 @@
--- Opt: what the moves of a walk are. A call inside a segment reads, and goes on or is cut off; one with no segment open
--- lets others extend the register, and then may reset it and go on.
+-- Opt: what the moves of a walk are, and that what counts of them is what the register shows. A call inside a segment reads, and
+-- goes on or is cut off; one with no segment open lets others extend the register, and then may reset it and go on.
 use Rattle.mm_call.proofs.Below.{ℕ, ◌≡◌, Bool, true, false, List, [], ◌∷◌, ◌++◌, map, Some, refl, sym, ap, ◌∙◌, append_assoc, ◌⊎◌, inl, inr}
 use Rattle.mm_call.proofs.Below.{append-nil, map-append, StepFault, Batch, Move, Commit, Foreign, Placed, Reset, Step, Reads, Changes}
-use Rattle.mm_call.proofs.Below.{History, counted_moves, from_reset, from_reset-foreign}
-use Rattle.mm_call.proofs.Below.{Writes, End, Done, Fails, Fate, Walked, after_step, walk, finished, changing}
+use Rattle.mm_call.proofs.Below.{History, counted_moves, from_reset, from_reset-foreign, Writes, End, Done, Fails, Fate, Walked, after_step}
+use Rattle.mm_call.proofs.Below.{walk, finished, changing, if◌then◌else◌, Opt, zero_bytes, extended_message, Item, own_item, foreign_item}
+use Rattle.mm_call.proofs.Below.{item_values, Meaning, after, trail, guard, Instance, opt, Entry, Own, Value, moved, committed}
+use Rattle.mm_call.proofs.Below.{register_value_of, entry_values, moving_messages, move_messages, Digests, made, committing, after-append}
+use Rattle.mm_call.proofs.Below.{trail-append, values_of-append, values_renamed, by_lists, by_digests, all_made, found_at}
+use Rattle.mm_call.proofs.Below.{found_unless_wanting, is_fresh, seen_at, shown, shown_by, moves_messages, foreign_in, foreign_items, Tied}
+use Rattle.mm_call.proofs.Below.{shows, OptTied, all_made-append, shown-append, made-append, foreign_in-append, messages-made, asks}
+use Rattle.mm_call.proofs.Below.{each_self, renamed, taking}
+use Rattle.mm_model.specs.Chains.{register_of}
+use Rattle.mm_call.specs.Tied.{nothing}
+use Rattle.mm_call.proofs.OptHolding.{bare, bare_digests}
+use Rattle.mm_call.proofs.OptWalks.{AreOwn, Each, ReadyFor, walk_each, own_changing}
+use Rattle.mm_call.proofs.Going.{brought_digests}
 
 -- two reading steps, and the rest
 abbrev pub two_reads : List (List ℕ) → End → List (List ℕ) → End → Walked → Walked
@@ -80,3 +91,206 @@ pub none_counted : (y : History) (values : List (List ℕ)) (moves : List Move) 
     → counted_moves y.is_open moves ≡ []
 none_counted y values moves e is =
     ap (λ (f : Bool). counted_moves f moves) e ∙ ap from_reset (is ∙ sym (append-nil (map Foreign values))) ∙ from_reset-foreign values []
+
+pub foreign_of-append : (xs ys : List Item) → foreign_items (xs ++ ys) ≡ foreign_items xs ++ foreign_items ys
+foreign_of-append [] ys = refl
+foreign_of-append (x ∷ xs) ys =
+    item_then x.own x.value (foreign_items xs) (foreign_items ys) (foreign_items (xs ++ ys)) (foreign_of-append xs ys) where
+      item_then : (own : Bool) (v : List ℕ) (a b c : List (List ℕ)) → c ≡ a ++ b
+          → (if own then c else v ∷ c) ≡ (if own then a else v ∷ a) ++ b
+      item_then true v a b c e = e
+      item_then false v a b c e = ap (λ w. v ∷ w) e
+
+-- Moves push these items into the register: they are shown behind what was there, and their messages are hashed one after
+-- another from the register's value on.
+record Pushes (i : Instance) (y : History) (d : Digests) (moves : List Move) (more : List Item) : Type 0 where
+  messages : moves_messages i y moves ≡ trail extended_message (register_value_of i y) (item_values more)
+  values : foreign_in moves ≡ foreign_items more
+  shown_are : (items : List Item) → shown i d moves items ≡ items ++ more
+  register : register_value_of i (all_made (by_lists i) y moves) ≡ after extended_message (register_value_of i y) (item_values more)
+  flag : (all_made (by_digests i) d moves).flag ≡ (all_made (by_lists i) y moves).is_open
+
+pushes_none : (i : Instance) (y : History) (d : Digests) → d.flag ≡ y.is_open → Pushes i y d [] []
+pushes_none i y d e = record { messages = refl; values = refl; shown_are = λ items. sym (append-nil items); register = refl; flag = e }
+
+pushes_then : (i : Instance) (y : History) (d : Digests) (xs ys : List Move) (more later : List Item) → Pushes i y d xs more
+    → Pushes i (all_made (by_lists i) y xs) (all_made (by_digests i) d xs) ys later → Pushes i y d (xs ++ ys) (more ++ later)
+pushes_then i y d xs ys more later p q =
+    let r : List ℕ = register_value_of i y in
+    let z : History = all_made (by_lists i) y xs in
+    let split : item_values (more ++ later) ≡ item_values more ++ item_values later = map-append (λ (item : Item). item.value) more later in
+    let lists : all_made (by_lists i) y (xs ++ ys) ≡ all_made (by_lists i) z ys = made-append (by_lists i) xs ys y in
+    record {
+      messages = messages-made i xs ys y ∙ ap (λ v. v ++ moves_messages i z ys) p.messages
+          ∙ ap (λ v. trail extended_message r (item_values more) ++ v) (q.messages
+          ∙ ap (λ s. trail extended_message s (item_values later)) p.register)
+          ∙ sym (trail-append extended_message r (item_values more) (item_values later)) ∙ ap (trail extended_message r) (sym split);
+      values = foreign_in-append xs ys ∙ ap (λ v. v ++ foreign_in ys) p.values ∙ ap (λ v. foreign_items more ++ v) q.values
+          ∙ sym (foreign_of-append more later);
+      shown_are = λ items. shown-append i d xs ys items ∙ q.shown_are (shown i d xs items) ∙ ap (λ v. v ++ later) (p.shown_are items)
+          ∙ append_assoc items more later;
+      register = ap (register_value_of i) lists ∙ q.register ∙ ap (λ s. after extended_message s (item_values later)) p.register
+          ∙ sym (after-append extended_message r (item_values more) (item_values later)) ∙ ap (after extended_message r) (sym split);
+      flag = ap (λ (x : Digests). x.flag) (all_made-append i d xs ys) ∙ q.flag ∙ ap (λ (x : History). x.is_open) (sym lists);
+    }
+
+-- one more value in the register
+register_then : (barrier : List ℕ) (items : List Entry) (e : Entry) (v : List ℕ) → entry_values barrier (e ∷ []) ≡ v ∷ []
+    → register_of (entry_values barrier (items ++ e ∷ [])) ≡ after extended_message (register_of (entry_values barrier items)) (v ∷ [])
+unfolding register_of
+register_then barrier items e v is =
+    ap (after extended_message zero_bytes) (values_of-append barrier items (e ∷ []) ∙ ap (λ w. entry_values barrier items ++ w) is)
+    ∙ after-append extended_message zero_bytes (entry_values barrier items) (v ∷ [])
+
+module _ (meaning : Meaning) (key barrier : List ℕ) where
+  abbrev I : Instance
+  I = opt meaning key barrier
+
+  pub foreign_messages : (y : History) (flag : Bool) (v : List ℕ) → moving_messages Opt flag I y (Foreign v)
+      ≡ extended_message (register_value_of I y) v ∷ []
+  foreign_messages y flag v = refl
+
+  pushes_value : (y : History) (d : Digests) (v : List ℕ) → d.flag ≡ y.is_open → Pushes I y d (Foreign v ∷ []) (foreign_item v ∷ [])
+  pushes_value y d v e = record {
+    messages = append-nil (move_messages I y (Foreign v));
+    values = refl;
+    shown_are = λ items. refl;
+    register = register_then barrier y.items (Value v) v refl;
+    flag = e;
+  }
+
+  -- a commit inside a segment
+  pushes_commit : (y : History) (d : Digests) (b : Batch) → d.flag ≡ true → y.is_open ≡ true
+      → Pushes I y d (Commit b ∷ []) (own_item (guard barrier b) ∷ [])
+  pushes_commit y d b f e =
+      record {
+        messages = append-nil (move_messages I y (Commit b)) ∙ rw e refl;
+        values = refl;
+        shown_are = λ items. rw f refl;
+        register = rw e (register_then barrier y.items (Own b) (guard barrier b) refl);
+        flag = rw (f, e) refl;
+      }
+
+  -- the extension before a segment is opened
+  pushes_placed : (y : History) (d : Digests) (b : Batch) → d.flag ≡ y.is_open
+      → Pushes I y d (Placed b ∷ []) (own_item (guard barrier b) ∷ [])
+  pushes_placed y d b e = record {
+    messages = append-nil (move_messages I y (Placed b));
+    values = refl;
+    shown_are = λ items. refl;
+    register = register_then barrier y.items (Value (guard barrier b)) (guard barrier b) refl;
+    flag = e;
+  }
+
+  -- the commit that opens the segment, behind that extension
+  pushes_opening : (y : History) (d : Digests) (front : List Entry) (b : Batch) → d.flag ≡ false → y.is_open ≡ false
+      → y.items ≡ front ++ Value (guard barrier b) ∷ [] → Pushes I y d (Commit b ∷ []) []
+  pushes_opening y d front b f e is =
+      let lists : moved I y (Commit b) ≡ committed Opt false y b = ap (λ g. committed Opt g y b) e in record {
+        messages = append-nil (move_messages I y (Commit b)) ∙ ap (λ g. moving_messages Opt g I y (Commit b)) e;
+        values = refl;
+        shown_are = λ items. ap (λ g. shown_by Opt g I (Commit b) items) f ∙ sym (append-nil items);
+        register = ap (register_value_of I) lists ∙ ap (λ v. register_of (entry_values barrier (renamed v b))) is
+            ∙ ap register_of (values_renamed barrier front b) ∙ ap (λ v. register_of (entry_values barrier v)) (sym is);
+        flag = ap (λ g. (committing Opt g I d b).flag) f ∙ ap (λ (x : History). x.is_open) (sym lists);
+      }
+
+  -- The moves that push something, or rename it: a commit is one inside a segment, or behind its own extension.
+  abbrev IsPushing : Bool → History → Move → Type 0
+  IsPushing flag y (Foreign v) = Unit {0}
+  IsPushing flag y (Placed b) = Unit {0}
+  IsPushing true y (Commit b) = Unit {0}
+  IsPushing false y (Commit b) = (front : List Entry) × (y.items ≡ front ++ Value (guard barrier b) ∷ [])
+  IsPushing _ y _ = ⊥
+
+  abbrev MayPush : History → Move → Type 0
+  MayPush y m = IsPushing y.is_open y m
+
+  -- what some moves push
+  record Pushed (y : History) (d : Digests) (moves : List Move) : Type 0 where
+    more : List Item
+    pushes : Pushes I y d moves more
+
+  pushed_one : (flag : Bool) (y : History) (d : Digests) (m : Move) → y.is_open ≡ flag → d.flag ≡ flag → IsPushing flag y m
+      → Pushed y d (m ∷ [])
+  pushed_one flag y d (Foreign v) e f p = record { more = foreign_item v ∷ []; pushes = pushes_value y d v (f ∙ sym e) }
+  pushed_one flag y d (Placed b) e f p = record { more = own_item (guard barrier b) ∷ []; pushes = pushes_placed y d b (f ∙ sym e) }
+  pushed_one true y d (Commit b) e f p = record { more = own_item (guard barrier b) ∷ []; pushes = pushes_commit y d b f e }
+  pushed_one false y d (Commit b) e f p = record { more = []; pushes = pushes_opening y d p.0 b f e p.1 }
+  pushed_one _ y d _ e f p = absurd p
+
+  pushed_each : (moves : List Move) (y : History) (d : Digests) → d.flag ≡ y.is_open → Each MayPush I y moves → Pushed y d moves
+  pushed_each [] y d e each = record { more = []; pushes = pushes_none I y d e }
+  pushed_each (m ∷ moves) y d e each =
+      let p = pushed_one y.is_open y d m refl e each.0 in
+      let q = pushed_each moves (moved I y m) (made I d m) p.pushes.flag each.1 in
+      record { more = p.more ++ q.more; pushes = pushes_then I y d (m ∷ []) moves p.more q.more p.pushes q.pushes }
+
+  -- a walk whose steps push
+  walk_pushed : (fates : ℕ → Fate) (n : ℕ) (steps : List Step) (y : History) (d : Digests) → d.flag ≡ y.is_open → AreOwn steps
+      → ReadyFor MayPush (foreign_in (walk fates n steps).moves) I fates n steps y → Pushed y d (walk fates n steps).moves
+  walk_pushed fates n steps y d e own ready =
+      let moves : List Move = (walk fates n steps).moves in
+      pushed_each moves y d e
+      (walk_each MayPush (foreign_in moves) I (λ x v c. tt) fates steps n y own (each_self [] (foreign_in moves)) ready)
+
+  -- behind two reading steps inside a segment, and behind a reset with none open
+  inside_ready : (others : List (List ℕ)) (fates : ℕ → Fate) (fresh : Bool) (b : Batch) (y : History) → y.is_open ≡ true
+      → ReadyFor MayPush others I fates 3 (changing true fresh b) y
+  inside_ready others fates true b y e = λ o. (rw e tt, tt)
+  inside_ready others fates false b y e = tt
+
+  opening_ready : (others : List (List ℕ)) (fates : ℕ → Fate) (b : Batch) (y : History) → y.is_open ≡ false
+      → ReadyFor MayPush others I fates 4 (opening b) y
+  opening_ready others fates b y e =
+      λ o. (tt, λ p. (rw e ((taking y (fates 4).brings).items, refl), tt))
+
+  -- what counts of a history
+  abbrev part : Bool → History → History
+  part g y = record y { items = if g then y.items else [] }
+
+  inside_tied : (y : History) (d : Digests) (moves : List Move) → y.is_open ≡ true → Pushed y d moves → Tied I y d moves
+  inside_tied y d moves e p =
+      shows p.more (record {
+        messages = ap (λ g. moves_messages I (part g y) (counted_moves g moves)) e ∙ p.pushes.messages
+            ∙ ap (λ g. trail extended_message (register_value_of I (part g y)) (item_values p.more)) (sym e);
+        values = rw e p.pushes.values;
+      }) (λ items. rw e (p.pushes.shown_are items))
+
+  reset_tied : (y : History) (d : Digests) (values : List (List ℕ)) (rest : List Move) → y.is_open ≡ false
+      → Pushed (bare y) (bare_digests d) rest → Tied I y d (map Foreign values ++ Reset ∷ rest)
+  reset_tied y d values rest e p =
+      let moves : List Move = map Foreign values ++ Reset ∷ rest in
+      let begins : from_reset moves ≡ Reset ∷ rest = from_reset-foreign values (Reset ∷ rest) in
+      shows p.more
+      (record {
+        messages = ap (λ g. moves_messages I (part g y) (counted_moves g moves)) e ∙ ap (moves_messages I (bare y)) begins
+            ∙ p.pushes.messages ∙ ap (λ g. trail extended_message (register_value_of I (part g y)) (item_values p.more)) (sym e);
+        values = rw e (ap foreign_in begins ∙ p.pushes.values);
+      }) (λ items. rw e (shown-append I d (map Foreign values) (Reset ∷ rest) items
+      ∙ ap (λ (x : Digests). shown I (bare_digests x) rest []) (ap bare_digests (brought_digests I d values)) ∙ p.pushes.shown_are []))
+
+  shut_tied : (y : History) (d : Digests) (fates : ℕ → Fate) (fresh : Bool) (b : Batch) (moves : List Move) → d.flag ≡ false
+      → y.is_open ≡ false → Shape fates fresh b moves → Tied I y d moves
+  shut_tied y d fates fresh b moves f e (still values is) = nothing (none_counted y values moves e is)
+  shut_tied y d fates fresh b moves f e (reset values rest is k) =
+      let p : Pushed (bare y) (bare_digests d) rest = elim k [
+        | inl none ↦ rw none (record { more = []; pushes = pushes_none I (bare y) (bare_digests d) (f ∙ sym e) })
+        | inr more ↦ rw more.1 (walk_pushed fates 4 (opening b) (bare y) (bare_digests d)
+            (f ∙ sym e) (refl, (refl, tt)) (opening_ready _ fates b (bare y) e))
+      ] in
+      rw is (reset_tied y d values rest e p)
+
+  tied_by : (flag : Bool) (y : History) (d : Digests) (fates : ℕ → Fate) (fresh : Bool) (b : Batch) → y.is_open ≡ flag → d.flag ≡ flag
+      → Tied I y d (walk fates 1 (Reads ∷ Reads ∷ changing flag fresh b)).moves
+  tied_by true y d fates fresh b e f =
+      inside_tied y d _ e (walk_pushed fates 1 (Reads ∷ Reads ∷ changing true fresh b) y d (f ∙ sym e) (own_changing true fresh b)
+      (λ o p. inside_ready _ fates fresh b (taking (taking y (fates 1).brings) (fates 2).brings) e))
+  tied_by false y d fates fresh b e f = shut_tied y d fates fresh b _ f e (shape fates fresh b)
+
+pub opt_tied : OptTied
+opt_tied meaning key barrier y d c offer b f =
+    let i = opt meaning key barrier in
+    let fresh : Bool = is_fresh (found_unless_wanting (found_at i (by_digests i) (seen_at i (by_digests i) d c) b offer) c.lacks) in
+    rw (asks d.flag fresh b ∙ ap (λ g. Reads ∷ Reads ∷ changing g fresh b) f)
+    (tied_by meaning key barrier y.is_open y d c.fates fresh b refl f)

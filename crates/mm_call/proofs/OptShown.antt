@@ -2,19 +2,18 @@
 use Rattle.mm_call.proofs.Below.{◌≡◌, ℕ, Bool, true, false, List, [], ◌∷◌, ◌++◌, map, Option, None, Some, refl, sym, ap, ◌∙◌, subst}
 use Rattle.mm_call.proofs.Below.{if◌then◌else◌, AllByRecursion, Contains, option_map, append-nil, map-append, Opt, zero_bytes}
 use Rattle.mm_call.proofs.Below.{extended_message, Item, Standing, item_values, Meaning, Batch, after, trail, Instance, opt, Value, History}
-use Rattle.mm_call.proofs.Below.{Move, Commit, Foreign, Reset, Close, first_history, register_value_of, entry_values, Within}
-use Rattle.mm_call.proofs.Below.{Digests, made, committing, digests_of, StandsFor, after-append, trail-append, register_folds, reads_zero}
-use Rattle.mm_call.proofs.Below.{each_left, each_right, by_digests, all_made, Fate, Course, Walked, walk}
-use Rattle.mm_call.proofs.Below.{closes, called, cell_at, StandsAt, shown, from_reset, counted_part, counted_moves, AreShown, foreign_items}
-use Rattle.mm_call.proofs.Below.{standing_items, Tied, shows, committed_in, Counts, none, batch, changing, opt_commits, taking}
-use Rattle.mm_call.proofs.Below.{committed-foreign, from_reset-foreign, Reads}
-use Rattle.mm_platform.specs.Standing as platform
+use Rattle.mm_call.proofs.Below.{Move, Commit, Foreign, Reset, Close, first_history, register_value_of, entry_values, Within, Digests, made}
+use Rattle.mm_call.proofs.Below.{committing, digests_of, StandsFor, after-append, trail-append, register_folds, reads_zero, each_left}
+use Rattle.mm_call.proofs.Below.{each_right, by_digests, all_made, Fate, Course, Walked, walk, closes, called, cell_at, StandsAt, shown}
+use Rattle.mm_call.proofs.Below.{from_reset, counted_part, counted_moves, AreShown, foreign_items, standing_items, Tied, shows}
+use Rattle.mm_call.proofs.Below.{committed_in, Counts, none, batch, changing, opt_commits, taking, committed-foreign, from_reset-foreign}
+use Rattle.mm_call.proofs.Below.{Reads}
 use Rattle.mm_model.specs.Chains.{register_of}
 use Rattle.mm_seal.specs.Cell.{IsCell, cell_spelling}
 use Rattle.mm_call.specs.Tied.{nothing}
-use Rattle.mm_call.proofs.OptShapes.{reads_only, Shape, still, reset}
-use Rattle.mm_call.proofs.OptShut.{bare, bare_digests, counted_open, counted_shut}
-use Rattle.mm_call.proofs.Tied.{opt_tied, foreign_of-append}
+use Rattle.mm_call.proofs.OptShapes.{reads_only, Shape, still, reset, opt_tied, foreign_of-append}
+use Rattle.mm_call.proofs.OptHolding.{bare, bare_digests, counted_open, counted_shut}
+use Rattle.mm_platform.specs.Standing as platform
 
 -- The ways of a call: it makes its reading steps alone; it is broken off before it commits; or it commits the batch.
 pub data Way (b : Batch) (w : Walked) : Type 0 where

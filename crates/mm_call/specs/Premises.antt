@@ -1,5 +1,6 @@
 -- What is asked of who calls, before anything is known of moves: of a history, an offer and a
--- batch (`AreAsked`); and of what the register shows.
+-- batch (`AreAsked`); and of what the register shows. In Basic nothing is asked of what others do,
+-- nor of steps: it never reads the register.
 use Rattle.std.specs.Prelude.{◌≡◌, ℕ, false, List}
 use Rattle.std.specs.List.{AllByRecursion, Contains}
 use Rattle.mm_call.specs.Below.{extended_message, Item, item_values, Batch, trail, History, register_value_of, Instance, Within}
@@ -8,7 +9,6 @@ use Rattle.mm_call.specs.Found.{found_at}
 use Rattle.mm_call.specs.FoundWords.{is_fresh}
 use Rattle.mm_call.specs.Levels.{by_lists}
 use Rattle.mm_call.specs.Tied.{foreign_items}
--- In Basic nothing is asked of what others do, nor of steps: it never reads the register.
 pub use Rattle.mm_call.specs.Asked.{AreAsked}
 
 -- What is asked of the items that the register shows at exit, behind those that counted at entry:
