@@ -11,7 +11,7 @@ pub use Rattle.mm_call.proofs.Completing.{Accepts, answered_result, AsFound, cal
 pub use Rattle.mm_call.proofs.Completing.{ends_result, ends_untouched, given_all, GoesTo, is_memory, lacks_in, refused_reading, so_far}
 pub use Rattle.mm_call.proofs.Completing.{Told}
 pub use Rattle.mm_call.proofs.Completing.{told_on, told_reading}
-pub use Rattle.mm_call.proofs.Endings.{again_of, fresh_found, fresh_of}
+pub use Rattle.mm_call.proofs.Calling.{again_of, fresh_found, fresh_of}
 pub use Rattle.mm_call.proofs.Finding.{admitted_tells, Asking, each_at, found_same, found_with_tells, live_found, lives, not_lost, placed}
 pub use Rattle.mm_call.proofs.Finding.{right_at, unless_lost, weighed_tells}
 pub use Rattle.mm_call.proofs.Going.{brought_digests, finds, sees, stands_at, stands_for}

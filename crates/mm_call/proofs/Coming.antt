@@ -7,9 +7,9 @@ use Rattle.mm_call.proofs.Below.{basic_names, answer_on, by_lists, by_digests, a
 use Rattle.mm_call.proofs.Below.{Course, Walked, walk, called, seen_at, ended_by, given_for, from_reset, counted_part, counted_moves}
 use Rattle.mm_call.proofs.Below.{moves_messages, IsAsked, AreAsked, Comes, kept, grown, asked_by, same_batches, more_batches, Commits}
 use Rattle.mm_call.proofs.Below.{nothing, batch, call_commits, foreign_first, ◌⊎◌, inl, inr, option_map, Opt, Item, Standing, Value}
-use Rattle.mm_call.proofs.Below.{Digests, Fate, AreShown, IsIdle, shown, standing_items, asked_of}
+use Rattle.mm_call.proofs.Below.{Digests, Fate, AreShown, IsIdle, shown, standing_items, asked_of, Level}
 use Rattle.mm_call.proofs.BasicLaw.{AreBasic, unlacked, walk_basic}
-use Rattle.mm_call.proofs.Endings.{again_of, fresh_of, fresh_found}
+use Rattle.mm_call.proofs.Calling.{again_of, fresh_of, fresh_found}
 use Rattle.mm_call.proofs.Finding.{Asking, placed, right_at}
 use Rattle.mm_call.proofs.OptLaw.{seen_asking, opt_calls_agree_by_lists}
 use Rattle.mm_call.proofs.OptHolding.{is_agrees, bare, found_lists}
@@ -17,27 +17,27 @@ use Rattle.mm_call.proofs.OptShapes.{Brought, none_counted, reads_only, opt_tied
 use Rattle.mm_call.proofs.OptWalks.{sight_is}
 
 -- an answer is given where an offer was accepted and no step failed
-pub record Answered (i : Instance) (s : History) (b : Batch) (found : Result Found Refusal) (broken : Option StepFault)
+pub record Answered {S : Type 0} (level : Level S) (seen s : S) (b : Batch) (found : Result Found Refusal) (broken : Option StepFault)
     (answer : BatchAnswer) : Type 0 where
   pub it : Found
   pub found_is : found ≡ Ok it
   pub whole : broken ≡ None
-  pub answer_is : answer ≡ answer_on i s b it.again
+  pub answer_is : answer ≡ level.answer it.again seen s it.offered b
 
-pub answered_only : (broken : Option StepFault) (i : Instance) (seen s : History) (b : Batch) (found : Result Found Refusal)
-    (moves : List Move) (answer : BatchAnswer) → given_for (ended_by (by_lists i) seen s b found moves broken) ≡ Ok answer
-    → Answered i s b found broken answer
-answered_only (Some fault) i seen s b found moves answer e = absurd (cc)
-answered_only None i seen s b (Err why) moves answer e = absurd (cc)
-answered_only None i seen s b (Ok it) moves answer e =
-    let same : answer_on i s b it.again ≡ answer = cc in
+pub answered_only : {S : Type 0} (broken : Option StepFault) (level : Level S) (seen s : S) (b : Batch) (found : Result Found Refusal)
+    (moves : List Move) (answer : BatchAnswer) → given_for (ended_by level seen s b found moves broken) ≡ Ok answer
+    → Answered level seen s b found broken answer
+answered_only (Some fault) level seen s b found moves answer e = absurd (cc)
+answered_only None level seen s b (Err why) moves answer e = absurd (cc)
+answered_only None level seen s b (Ok it) moves answer e =
+    let same : level.answer it.again seen s it.offered b ≡ answer = cc in
     record { it = it; found_is = refl; whole = refl; answer_is = sym same }
 
 -- by whether it is a repeat
-told_as : (fresh flag : Bool) (i : Instance) (s : History) (b : Batch) (found : Result Found Refusal) (broken : Option StepFault)
-    (answer : BatchAnswer) → (a : Answered i s b found broken answer) → is_fresh found ≡ fresh
+told_as : (fresh flag : Bool) (i : Instance) (seen s : History) (b : Batch) (found : Result Found Refusal) (broken : Option StepFault)
+    (answer : BatchAnswer) → (a : Answered (by_lists i) seen s b found broken answer) → is_fresh found ≡ fresh
     → ((if a.it.again then false else true) ≡ fresh → a.it.again ≡ flag) → (a.it.again ≡ flag) × (answer ≡ answer_on i s b flag)
-told_as fresh flag i s b found broken answer a e tells =
+told_as fresh flag i seen s b found broken answer a e tells =
     let again : a.it.again ≡ flag = tells (subst (λ (f : Result Found Refusal). is_fresh f ≡ fresh) a.found_is e) in
     (again, a.answer_is ∙ ap (λ (f : Bool). answer_on i s b f) again)
 
@@ -50,8 +50,8 @@ module _ (i : Instance) (all : List (List ℕ)) (y sees : History) (lacks : Bool
       let end : History = all_made (by_lists i) y w.moves in
       kept (same_batches i w.moves y none)
       (λ (answer : BatchAnswer) (gives : given_for (ended_by (by_lists i) sees end b found w.moves w.broken) ≡ Ok answer).
-      let a = answered_only w.broken i sees end b found w.moves answer gives in
-      let told = told_as false true i end b found w.broken answer a (unless a.whole) (again_of a.it.again) in
+      let a = answered_only w.broken (by_lists i) sees end b found w.moves answer gives in
+      let told = told_as false true i sees end b found w.broken answer a (unless a.whole) (again_of a.it.again) in
       let was = unlacked (found_at i (by_lists i) sees b offer) lacks a.it (is ∙ a.found_is) in
       let p = placed all i sees offer b asking a.it was in
       record {
@@ -68,8 +68,8 @@ module _ (i : Instance) (all : List (List ℕ)) (y sees : History) (lacks : Bool
       let p = placed all i sees offer b asking f.0 was in
       grown f.0.offered (right_at i sees offer b f.0 was) (p.position ∙ ap total_of (p.fresh f.2 ∙ same)) (more_batches i w.moves y b one)
       (λ (answer : BatchAnswer) (gives : given_for (ended_by (by_lists i) sees end b found w.moves w.broken) ≡ Ok answer).
-      let a = answered_only w.broken i sees end b found w.moves answer gives in
-      (told_as true false i end b found w.broken answer a fresh (fresh_of a.it.again)).1)
+      let a = answered_only w.broken (by_lists i) sees end b found w.moves answer gives in
+      (told_as true false i sees end b found w.broken answer a fresh (fresh_of a.it.again)).1)
 
 -- what a call comes to by lists, where what it sees are others' values more
 comes_seen : (i : Instance) (all : List (List ℕ)) (y : History) (c : Course) (offer : List ℕ) (b : Batch)

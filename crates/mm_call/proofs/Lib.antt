@@ -5,7 +5,6 @@ mod Finding
 mod Calling
 mod OptHolding
 mod OptWalks
-mod Endings
 mod Going
 mod BasicLaw
 pub mod OptShapes

@@ -13,9 +13,9 @@ use Rattle.mm_call.proofs.OptHolding.{Holds, foreign_may, bare, bare_digests, fo
 use Rattle.mm_call.proofs.OptHolding.{foreign_agrees, holds_open, holds_shut, within_items, within_of, reset_may}
 use Rattle.mm_call.proofs.OptWalks.{AllFine, holds_made, foreign_all, front_outside, Ready, AreOwn, own_changing, walk_fine, path_end}
 use Rattle.mm_call.proofs.OptWalks.{path_is, IsDue, ready_third, ready_opening, end_place, before, sight, sight_is}
-use Rattle.mm_call.proofs.Endings.{fresh_of, ending_same}
+use Rattle.mm_call.proofs.Calling.{fresh_of, ending_same}
 use Rattle.mm_call.proofs.OptShapes.{two_reads, reading, past, cut, opening, Shape, still, reset, shape}
-use Rattle.mm_call.proofs.BasicLaw.{points_of, unlacked}
+use Rattle.mm_call.proofs.BasicLaw.{unlacked}
 
 fresh_is : (again : Bool) → (if again then false else true) ≡ not again
 fresh_is true = refl
@@ -246,7 +246,7 @@ module _ (meaning : Meaning) (key barrier : List ℕ) where
       asking a = seen_asking all y (c.fates 1).brings (c.fates 2).brings offer b a.within.sound
           (record { clear = a.clear; listed = a.offered; genuine = a.genuine })
 
-      placed_at : AreAsked all others asked I y offer b → (f : Found) → found ≡ Ok f → Placed all I (sight y c) b f
+      pub placed_at : AreAsked all others asked I y offer b → (f : Found) → found ≡ Ok f → Placed all I (sight y c) b f
       placed_at a f is =
           subst (λ x. Placed all I x b f) (sight_is I y c)
           (placed all I sees offer b (asking a) f (unlacked (found_at I (by_lists I) sees b offer) c.lacks f is))
@@ -257,8 +257,9 @@ module _ (meaning : Meaning) (key barrier : List ℕ) where
       ends_alike a flag e =
           let w : Walked = steps_walk c flag found b in
           let end : Bool → History = λ fresh. path_end I c.fates 3 (changing flag fresh b) (sight y c) in
-          ending_same I y sees seen (all_made (by_digests I) d w.moves) b w w.broken found refl (record {
-            points = λ f is. points_of all I (sight y c) y b f refl (placed_at a f is);
+          ending_same all I (sight y c) y sees seen (all_made (by_digests I) d w.moves) b w w.broken found refl (record {
+            same = refl;
+            found_at = placed_at a;
             place = λ f is whole.
                 end_place meaning key barrier c.fates (sight y c) seen b flag f.again e
                 (λ t. (lives (sight y c) (placed_at a f is).live).own (e ∙ t)) (sight_agrees y d c agrees)

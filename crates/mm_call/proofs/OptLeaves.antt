@@ -1,23 +1,22 @@
 -- Opt: what one call leaves by lists, and what it hands on to the next.
-use Rattle.mm_call.proofs.Below.{◌≡◌, ℕ, Bool, true, false, List, [], ◌∷◌, ◌++◌, map, Option, None, Some, Result, Ok, refl, sym, ap, ◌∙◌}
-use Rattle.mm_call.proofs.Below.{subst, append_assoc, option_map, Opt, StepFault, extended_message, Item, Standing, item_values, Meaning}
-use Rattle.mm_call.proofs.Below.{Batch, One, Instance, opt, Entry, History, Move, Foreign, joined, register_value_of, has_value, Digests}
-use Rattle.mm_call.proofs.Below.{digests_of, StandsFor, Reads, ask_steps, BatchAnswer, Refusal, Level, by_lists, by_digests, all_made}
-use Rattle.mm_call.proofs.Below.{Found, found_at, found_unless_wanting, is_fresh, Course, Walked, walk, closes, called, seen_at, ended_by}
-use Rattle.mm_call.proofs.Below.{given_for, CallsOn, StandsAt, shown, counted_part, counted_moves, IsWithin, IsAsked, AreAsked, AreShown}
-use Rattle.mm_call.proofs.Below.{standing_items, committed_in, asked_by, same_rest, Counts, counts_open, Commits, nothing, batch, changing}
-use Rattle.mm_call.proofs.Below.{asks, opt_commits, taking, foreign_first, committed-foreign, opt_closes, closes_first, closes-foreign}
-use Rattle.mm_call.proofs.Below.{Comes, kept, GoesBy}
-use Rattle.mm_call.proofs.BasicLaw.{unlacked}
+use Rattle.mm_call.proofs.Below.{◌≡◌, ℕ, Bool, true, false, List, [], ◌∷◌, ◌++◌, map, None, Some, Result, Ok, refl, sym, ap, ◌∙◌, subst}
+use Rattle.mm_call.proofs.Below.{append_assoc, option_map, Opt, extended_message, Item, Standing, item_values, Meaning, Batch, One}
+use Rattle.mm_call.proofs.Below.{Instance, opt, Entry, History, Move, Foreign, joined, register_value_of, has_value, Digests, digests_of}
+use Rattle.mm_call.proofs.Below.{StandsFor, Reads, ask_steps, BatchAnswer, Refusal, by_lists, by_digests, all_made, Found, found_at}
+use Rattle.mm_call.proofs.Below.{found_unless_wanting, is_fresh, Course, Walked, walk, closes, called, seen_at, given_for, CallsOn}
+use Rattle.mm_call.proofs.Below.{StandsAt, shown, counted_part, counted_moves, IsWithin, IsAsked, AreAsked, AreShown, standing_items}
+use Rattle.mm_call.proofs.Below.{committed_in, asked_by, same_rest, Counts, counts_open, Commits, nothing, batch, changing, asks}
+use Rattle.mm_call.proofs.Below.{opt_commits, taking, committed-foreign, opt_closes, closes_first, closes-foreign, Comes, kept, GoesBy}
 use Rattle.mm_call.proofs.Going.{stands_at}
-use Rattle.mm_call.proofs.Finding.{lives, placed}
+use Rattle.mm_call.proofs.Finding.{lives}
 use Rattle.mm_call.proofs.OptHolding.{is_agrees, bare, within_items}
 use Rattle.mm_call.proofs.OptShapes.{none_counted, Shape, shape, opt_tied}
 use Rattle.mm_call.proofs.Coming.{answered_only, opt_comes as comes}
-use Rattle.mm_call.proofs.OptLaw.{seen_asking, opt_calls_agree}
+use Rattle.mm_call.proofs.OptLaw.{opt_calls_agree, placed_at}
 use Rattle.mm_call.proofs.OptAlike.{alike_still, alike_one, digests_still, Alike, still, grown_by, same_closed}
 use Rattle.mm_call.proofs.OptShown.{Way, only_reads, breaks_off, commits_it, way, pushed_open, counts_opening, flag_kept, flag_set}
 use Rattle.mm_call.proofs.OptShown.{shown_front, shown_back, shown_shut, register_then, stands_with}
+use Rattle.mm_call.proofs.OptWalks.{sight}
 use Rattle.mm_model.specs.Chains as chains
 
 -- what one call leaves: the history after it, and what is asked of that
@@ -29,12 +28,6 @@ pub record OptAfter (all others : List (List ℕ)) (asked : List Batch) (meaning
   pub comes : Comes (opt meaning key barrier) y offer b after result
   pub alike : Alike meaning key barrier y b after
   pub clean : (answer : BatchAnswer) → result ≡ Ok answer → has_value (joined after.closed) ≡ false
-
--- an answer comes from a walk that wasn't broken off
-pub whole_walk : {S : Type 0} (broken : Option StepFault) (level : Level S) (seen s : S) (b : Batch) (found : Result Found Refusal)
-    (moves : List Move) (answer : BatchAnswer) → given_for (ended_by level seen s b found moves broken) ≡ Ok answer → broken ≡ None
-whole_walk (Some fault) level seen s b found moves answer e = absurd (cc)
-whole_walk None level seen s b found moves answer e = refl
 
 -- what a walk commits, on the history
 pub alike_of : (meaning : Meaning) (key barrier : List ℕ) (y : History) (b : Batch) (fresh : Bool) (w : Walked) → Commits b fresh w
@@ -51,12 +44,11 @@ alike_call meaning key barrier y c offer b =
     rw (asks y.is_open fresh b) (alike_of meaning key barrier y b fresh (walk c.fates 1 (Reads ∷ Reads ∷ changing y.is_open fresh b))
     (opt_commits c.fates y.is_open fresh b) (opt_closes c.fates y.is_open fresh b))
 
-clean_by : (meaning : Meaning) (key barrier : List ℕ) (y sees after : History) (b : Batch) → sees.closed ≡ y.closed
-    → has_value (joined sees.closed) ≡ false → Alike meaning key barrier y b after → has_value (joined after.closed) ≡ false
-clean_by meaning key barrier y sees after b same clean (still e) =
-    ap (λ (c : List (List Entry)). has_value (joined c)) (ap (λ (x : History). x.closed) e ∙ sym same) ∙ clean
-clean_by meaning key barrier y sees after b same clean (grown_by e) =
-    ap (λ (c : List (List Entry)). has_value (joined c)) (same_closed meaning key barrier y after b e ∙ sym same) ∙ clean
+clean_by : (meaning : Meaning) (key barrier : List ℕ) (y after : History) (b : Batch) → has_value (joined y.closed) ≡ false
+    → Alike meaning key barrier y b after → has_value (joined after.closed) ≡ false
+clean_by meaning key barrier y after b clean (still e) = ap (λ (x : History). has_value (joined x.closed)) e ∙ clean
+clean_by meaning key barrier y after b clean (grown_by e) =
+    ap (λ (c : List (List Entry)). has_value (joined c)) (same_closed meaning key barrier y after b e) ∙ clean
 
 -- others' values before the reading steps close nothing
 pub seen_closes : (v w : List (List ℕ)) → closes (map Foreign v ++ (map Foreign w ++ [])) ≡ false
@@ -80,34 +72,21 @@ module _ (meaning : Meaning) (key barrier : List ℕ) (all others : List (List �
     left : Left y new offer request result
     flag : (all_made (by_digests I) (digests_of I y) (DigestMoves old new offer request result c y)).flag ≡ left.after.is_open
 
-  answered_clean : (y : History) (c : Course) (offer request : List ℕ) (answer : BatchAnswer)
-      → AreAsked all others asked I y offer (One request) → given_for (called I (by_lists I) y c offer (One request)).ending ≡ Ok answer
-      → Alike meaning key barrier y (One request) (called I (by_lists I) y c offer (One request)).state
-      → has_value (joined (called I (by_lists I) y c offer (One request)).state.closed) ≡ false
-  answered_clean y c offer request answer a gives alike =
-      let v : List (List ℕ) = (c.fates 1).brings in
-      let w : List (List ℕ) = (c.fates 2).brings in
-      let before : List Move = map Foreign v ++ (map Foreign w ++ []) in
-      let sees : History = all_made (by_lists I) y before in
-      let found : Result Found Refusal = found_unless_wanting (found_at I (by_lists I) sees (One request) offer) c.lacks in
-      let walked : Walked = walk c.fates 1 (ask_steps Opt y.is_open (is_fresh found) (One request)) in
-      let end : History = all_made (by_lists I) y walked.moves in
-      let it = answered_only walked.broken I sees end (One request) found walked.moves answer gives in
-      let was = unlacked (found_at I (by_lists I) sees (One request) offer) c.lacks it.it it.found_is in
-      let p = placed all I sees offer (One request)
-      (seen_asking meaning key barrier all y v w offer (One request) a.within.sound
-      (record { clear = a.clear; listed = a.offered; genuine = a.genuine })) it.it was in
-      let foreign : bare sees ≡ bare y = alike_still meaning key barrier before y
-      (foreign_first v (map Foreign w ++ []) ∙ foreign_first w []) (seen_closes v w) in
-      clean_by meaning key barrier y sees end (One request) (ap (λ (x : History). x.closed) foreign) (lives sees p.live).clean alike
-
   pub answered_clean_as : (y : History) (old new : Standing) (offer request : List ℕ) (result : Result BatchAnswer Refusal)
       (c : CallsOn Opt meaning old new offer (One request) result) → AreAsked all others asked I y offer (One request)
       → (answer : BatchAnswer) → result ≡ Ok answer → result ≡ given_for (called I (by_lists I) y c.course offer (One request)).ending
       → Alike meaning key barrier y (One request) (called I (by_lists I) y c.course offer (One request)).state
       → has_value (joined (called I (by_lists I) y c.course offer (One request)).state.closed) ≡ false
   answered_clean_as y old new offer request result c a answer is gives alike =
-      answered_clean y c.course offer request answer a (sym gives ∙ is) alike
+      let b : Batch = One request in
+      let sees : History = seen_at I (by_lists I) y c.course in
+      let found : Result Found Refusal = found_unless_wanting (found_at I (by_lists I) sees b offer) c.course.lacks in
+      let w : Walked = walk c.course.fates 1 (ask_steps Opt y.is_open (is_fresh found) b) in
+      let end : History = all_made (by_lists I) y w.moves in
+      let it = answered_only w.broken (by_lists I) sees end b found w.moves answer (sym gives ∙ is) in
+      let p = placed_at meaning key barrier all others asked y (digests_of I y) c.course offer b (is_agrees I y (digests_of I y) refl) a
+      it.it it.found_is in
+      clean_by meaning key barrier y end b (lives (sight y c.course) p.live).clean alike
 
   by_law : (y : History) (old new : Standing) (offer request : List ℕ) (result : Result BatchAnswer Refusal)
       (c : CallsOn Opt meaning old new offer (One request) result) → StandsFor I old y → AreAsked all others asked I y offer (One request)
@@ -290,5 +269,5 @@ module _ (meaning : Meaning) (key barrier : List ℕ) (all others : List (List �
         let found : Result Found Refusal = found_unless_wanting (found_at I (by_digests I) seen b offer) c.course.lacks in
         let w : Walked = walk c.course.fates 1 (ask_steps Opt y.is_open (is_fresh found) b) in
         hands_by y.is_open (is_fresh found) refl w (ap (walk c.course.fates 1) (asks y.is_open (is_fresh found) b)) refl
-        (λ answer gives. whole_walk w.broken (by_digests I) seen (all_made (by_digests I) d w.moves) b found w.moves answer
-        (sym goes.gives ∙ gives))
+        (λ answer gives. (answered_only w.broken (by_digests I) seen (all_made (by_digests I) d w.moves) b found w.moves answer
+        (sym goes.gives ∙ gives)).whole)

@@ -13,7 +13,7 @@ use Rattle.mm_call.proofs.Below.{Refusal}
 use Rattle.mm_call.proofs.OptHolding.{Holds, IsFine, holds_moved, foreign_fine, reset_may}
 use Rattle.mm_call.proofs.Finding.{IsLive, live_found}
 use Rattle.mm_call.proofs.BasicLaw.{unlacked}
-use Rattle.mm_call.proofs.Endings.{fresh_found}
+use Rattle.mm_call.proofs.Calling.{fresh_found}
 
 -- what holds of each of the moves, at the history from which it is made
 abbrev pub Each : (History → Move → Type 0) → Instance → History → List Move → Type 0
