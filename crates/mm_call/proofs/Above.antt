@@ -15,7 +15,7 @@ pub use Rattle.mm_call.proofs.Calling.{again_of, fresh_found, fresh_of}
 pub use Rattle.mm_call.proofs.Finding.{admitted_tells, Asking, each_at, found_same, found_with_tells, live_found, lives, not_lost, placed}
 pub use Rattle.mm_call.proofs.Finding.{right_at, unless_lost, weighed_tells}
 pub use Rattle.mm_call.proofs.Going.{brought_digests, finds, sees, stands_at, stands_for}
-pub use Rattle.mm_call.proofs.Keeping.{planned_broken, planned_done, refused_result}
+pub use Rattle.mm_call.proofs.Committing.{planned_broken, planned_done, refused_result}
 pub use Rattle.mm_call.proofs.OptAlike.{Alike, alike_commit, alike_foreign, alike_still, clean_open, grown_by, issued_alike, names_after}
 pub use Rattle.mm_call.proofs.OptAlike.{names_alike, opened, same_closed}
 pub use Rattle.mm_call.proofs.OptHolding.{agrees_is, bare, bare_digests, counted_open, foreign_agrees, foreign_digests, foreign_fine}

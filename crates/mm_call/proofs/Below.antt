@@ -83,7 +83,7 @@ pub use Rattle.mm_call.specs.MoveLaws.{same_batches}
 pub use Rattle.mm_call.specs.Premises.{AreShown, IsIdle}
 pub use Rattle.mm_call.specs.Ran.{RanSome}
 pub use Rattle.mm_call.specs.Refusals.{fault_in, fault_of, handed_on}
-pub use Rattle.mm_call.specs.ShowingLaws.{asked_by, asked_of, Counts, counts_open, same_rest}
+pub use Rattle.mm_call.specs.ShowingLaws.{asked_by, Counts, counts_open, same_rest}
 pub use Rattle.mm_call.specs.Standing.{cell_at, instance_by, RegisterAt, shown, shown_by, StandsAt}
 pub use Rattle.mm_call.specs.TellingLaws.{AreMet, begins_at, IsAt, met, met_at, room_at, stepped, then_at, told_by, trail_fails, trail_on}
 pub use Rattle.mm_call.specs.Tied.{foreign_items, OptTied, shows, standing_items, Tied}

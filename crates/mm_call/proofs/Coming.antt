@@ -7,7 +7,7 @@ use Rattle.mm_call.proofs.Below.{basic_names, answer_on, by_lists, by_digests, a
 use Rattle.mm_call.proofs.Below.{Course, Walked, walk, called, seen_at, ended_by, given_for, from_reset, counted_part, counted_moves}
 use Rattle.mm_call.proofs.Below.{moves_messages, IsAsked, AreAsked, Comes, kept, grown, asked_by, same_batches, more_batches, Commits}
 use Rattle.mm_call.proofs.Below.{nothing, batch, call_commits, foreign_first, ◌⊎◌, inl, inr, option_map, Opt, Item, Standing, Value}
-use Rattle.mm_call.proofs.Below.{Digests, Fate, AreShown, IsIdle, shown, standing_items, asked_of, Level}
+use Rattle.mm_call.proofs.Below.{Digests, Fate, AreShown, IsIdle, shown, standing_items, Level, same_rest, Tied, shows}
 use Rattle.mm_call.proofs.BasicLaw.{AreBasic, unlacked, walk_basic}
 use Rattle.mm_call.proofs.Calling.{again_of, fresh_of, fresh_found}
 use Rattle.mm_call.proofs.Finding.{Asking, placed, right_at}
@@ -15,6 +15,7 @@ use Rattle.mm_call.proofs.OptLaw.{seen_asking, opt_calls_agree_by_lists}
 use Rattle.mm_call.proofs.OptHolding.{is_agrees, bare, found_lists}
 use Rattle.mm_call.proofs.OptShapes.{Brought, none_counted, reads_only, opt_tied}
 use Rattle.mm_call.proofs.OptWalks.{sight_is}
+use Rattle.mm_call.specs.Tied.{nothing as none_counts}
 
 -- an answer is given where an offer was accepted and no step failed
 pub record Answered {S : Type 0} (level : Level S) (seen s : S) (b : Batch) (found : Result Found Refusal) (broken : Option StepFault)
@@ -219,6 +220,17 @@ module _ (meaning : Meaning) (key barrier : List ℕ) where
             ∙ sym (found_lists meaning key barrier y y.items b offer idle.shut)) ∙ idle.not_new;
       }
 
+  -- what is asked of the items that the register shows is asked of the moves
+  asked_of : (all others : List (List ℕ)) (asked : List Batch) (y : History) (moves : List Move) (offer : List ℕ) (b : Batch)
+      (items more : List Item) → AreAsked all others asked I y offer b → AreShown all others I y more
+      → shown I (digests_of I y) moves items ≡ standing_items y.is_open items ++ more → Tied I y (digests_of I y) moves
+      → IsAsked all others asked I y moves offer b
+  asked_of all others asked y moves offer b items more a s reach (shows other tied are) =
+      let same : other ≡ more = same_rest (standing_items y.is_open items) other more (sym (are items) ∙ reach) in
+      asked_by I all others asked y moves offer b a (rw (tied.messages, same) s.messages) (rw (tied.values, same) s.values)
+  asked_of all others asked y moves offer b items more a s reach (none_counts is) =
+      asked_by I all others asked y moves offer b a (rw is tt) (rw is tt)
+
   -- what is asked of a call, by what is asked of the items that the register shows, unless the call is idle
   pub asked_for : (all others : List (List ℕ)) (asked : List Batch) (y : History) (c : Course) (offer : List ℕ) (b : Batch)
       (old new : Standing) (items more : List Item) → AreAsked all others asked I y offer b
@@ -228,8 +240,11 @@ module _ (meaning : Meaning) (key barrier : List ℕ) where
       → IsAsked all others asked I y (called I (by_digests I) (digests_of I y) c offer b).moves offer b
   asked_for all others asked y c offer b old new items more a shown_so known goes ends =
       let d : Digests = digests_of I y in
+      let moves : List Move = (called I (by_digests I) d c offer b).moves in
+      let reach : Some (shown I d moves items) ≡ Some (standing_items y.is_open items ++ more) =
+      ap (option_map (shown I d moves)) (sym known) ∙ sym goes ∙ ends in
       elim (unless_idle I y offer b shown_so) [
-        | inl shown_are ↦ asked_of meaning key barrier all others asked y (called I (by_digests I) d c offer b).moves offer b old new items
-            more a shown_are known goes ends (opt_tied meaning key barrier y d c offer b refl)
+        | inl shown_are ↦
+            asked_of all others asked y moves offer b items more a shown_are (cc) (opt_tied meaning key barrier y d c offer b refl)
         | inr idle ↦ asked_idle all others asked y c offer b a idle
       ]

@@ -12,9 +12,8 @@ use Rattle.mm_platform.specs.Told.{next_plan}
 use Rattle.mm_model.specs.Long.{is_long}
 use Rattle.mm_call.specs.Calls.{Commits}
 use Rattle.mm_call.proofs.Committing.{fate_of, steps_fates, ends_fates, Tale, steps_blamed, Given, steps_give, Walks, walks_on, walks_fail}
-use Rattle.mm_call.proofs.Committing.{MakesAll, steps_walk}
+use Rattle.mm_call.proofs.Committing.{MakesAll, steps_walk, refused_result}
 use Rattle.mm_call.proofs.Going.{continues_by, sees, finds, went}
-use Rattle.mm_call.proofs.Keeping.{refused_result}
 
 -- What a call comes to by digests
 

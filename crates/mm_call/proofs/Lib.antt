@@ -10,7 +10,6 @@ mod BasicLaw
 pub mod OptShapes
 mod OptLaw
 mod Checkpoints
-mod Keeping
 mod Committing
 mod Completing
 mod Coming

@@ -78,10 +78,6 @@ pub foreign_digests : (i : Instance) (values : List (List ℕ)) (moves : List Mo
 foreign_digests i [] moves d = refl
 foreign_digests i (v ∷ values) moves d = foreign_digests i values moves (made i d (Foreign v))
 
-pub foreign_reset : (i : Instance) (values : List (List ℕ)) (moves : List Move) (d : Digests)
-    → all_made (by_digests i) d (map Foreign values ++ Reset ∷ moves) ≡ all_made (by_digests i) (bare_digests d) moves
-foreign_reset i values moves d = foreign_digests i values (Reset ∷ moves) d
-
 -- the items of a history with no segment open don't matter
 outside_items : (others : List (List ℕ)) (y : History) (items : List Entry) → y.is_open ≡ false → IsOutside others y
     → IsOutside others (record y { items = items })

@@ -9,8 +9,8 @@ use Rattle.mm_call.proofs.Below.{came_to, counted_part, counted_moves, from_rese
 use Rattle.mm_call.proofs.Below.{IsSame, IsSameCall, OptCallsAgree, committed_in, opt_commits, committed-foreign, commits-none, changing}
 use Rattle.mm_call.proofs.Below.{asks, taking, taking_is, foreign_made, made-append, foreign_in-foreign, from_reset-foreign, messages-made}
 use Rattle.mm_call.proofs.Finding.{Asking, Placed, placed, clear_for, IsApart, IsLive, lives, found_same}
-use Rattle.mm_call.proofs.OptHolding.{Holds, foreign_may, bare, bare_digests, found_lists, found_digests, foreign_digests, foreign_reset}
-use Rattle.mm_call.proofs.OptHolding.{foreign_agrees, holds_open, holds_shut, within_items, within_of, reset_may}
+use Rattle.mm_call.proofs.OptHolding.{Holds, foreign_may, bare, bare_digests, found_lists, found_digests, foreign_digests, foreign_agrees}
+use Rattle.mm_call.proofs.OptHolding.{holds_open, holds_shut, within_items, within_of, reset_may}
 use Rattle.mm_call.proofs.OptWalks.{AllFine, holds_made, foreign_all, front_outside, Ready, AreOwn, own_changing, walk_fine, path_end}
 use Rattle.mm_call.proofs.OptWalks.{path_is, IsDue, ready_third, ready_opening, end_place, before, sight, sight_is}
 use Rattle.mm_call.proofs.Calling.{fresh_of, ending_same}
@@ -212,7 +212,7 @@ module _ (meaning : Meaning) (key barrier : List ℕ) where
         let lists : all_made (by_lists I) y moves ≡ all_made (by_lists I) (bare y) rest =
         ap (all_made (by_lists I) y) is ∙ foreign_made I values (Reset ∷ rest) y in
         let digests : all_made (by_digests I) d moves ≡ all_made (by_digests I) (bare_digests d) rest =
-        ap (all_made (by_digests I) d) is ∙ foreign_reset I values rest d in
+        ap (all_made (by_digests I) d) is ∙ foreign_digests I values (Reset ∷ rest) d in
         record { agrees = rw lists (rw digests end.agrees); within = rw lists end.within }
 
     -- a call: what it sees and finds, by lists and by digests

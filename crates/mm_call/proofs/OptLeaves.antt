@@ -14,8 +14,8 @@ use Rattle.mm_call.proofs.OptShapes.{none_counted, Shape, shape, opt_tied}
 use Rattle.mm_call.proofs.Coming.{answered_only, opt_comes as comes}
 use Rattle.mm_call.proofs.OptLaw.{opt_calls_agree, placed_at}
 use Rattle.mm_call.proofs.OptAlike.{alike_still, alike_one, digests_still, Alike, still, grown_by, same_closed}
-use Rattle.mm_call.proofs.OptShown.{Way, only_reads, breaks_off, commits_it, way, pushed_open, counts_opening, flag_kept, flag_set}
-use Rattle.mm_call.proofs.OptShown.{shown_front, shown_back, shown_shut, register_then, stands_with}
+use Rattle.mm_call.proofs.OptShown.{only_reads, breaks_off, commits_it, way, pushed_open, counts_opening, flag_kept, flag_set, shown_front}
+use Rattle.mm_call.proofs.OptShown.{shown_back, shown_shut, register_then, stands_with}
 use Rattle.mm_call.proofs.OptWalks.{sight}
 use Rattle.mm_model.specs.Chains as chains
 
@@ -237,29 +237,25 @@ module _ (meaning : Meaning) (key barrier : List ℕ) (all others : List (List �
           clean = λ answer gives. absurd (unless answer gives);
         }) e
 
-    hands_by : (flag fresh : Bool) → y.is_open ≡ flag → (w : Walked)
-        → w ≡ walk c.course.fates 1 (Reads ∷ Reads ∷ changing flag fresh (One request)) → w.moves ≡ moves
-        → ((answer : BatchAnswer) → result ≡ Ok answer → w.broken ≡ None) → Hands y middle new offer request result more
-    hands_by true fresh e w is are answered =
-        let quiet : closes moves ≡ false = ap closes (sym are) ∙ ap (λ (v : Walked). closes v.moves) is
-        ∙ opt_closes c.course.fates true fresh (One request) in
+    -- by the walk of its steps
+    hands_by : (flag fresh : Bool) → y.is_open ≡ flag → (let w = walk c.course.fates 1 (Reads ∷ Reads ∷ changing flag fresh (One request)) in
+        (w.moves ≡ moves) × ((answer : BatchAnswer) → result ≡ Ok answer → w.broken ≡ None) → Hands y middle new offer request result more)
+    hands_by true fresh e is =
         hands_open (counts_open I y d moves e (opt_tied meaning key barrier y d c.course offer (One request) refl))
-        (flag_kept meaning key barrier moves d e quiet)
-    hands_by false fresh e w is are answered =
+        (flag_kept meaning key barrier moves d e (ap closes (sym is.0) ∙ opt_closes c.course.fates true fresh (One request)))
+    hands_by false fresh e is =
         let b : Batch = One request in
-        let quiet : closes moves ≡ false = ap closes (sym are) ∙ ap (λ (v : Walked). closes v.moves) is
-        ∙ opt_closes c.course.fates false fresh b in
-        elim (subst (λ (v : Walked). Way b v) (sym is) (way c.course.fates false fresh b)) [
+        let quiet : closes moves ≡ false = ap closes (sym is.0) ∙ opt_closes c.course.fates false fresh b in
+        elim (way c.course.fates false fresh b) [
           | only_reads values only ↦
-              let l = left_reading y old middle offer request result c values s a e (sym are ∙ only) in hands_shut e l.0 l.1
+              let l = left_reading y old middle offer request result c values s a e (sym is.0 ∙ only) in hands_shut e l.0 l.1
           | breaks_off none unless ↦
-              hands_broken e (ap committed_in (sym are) ∙ none) quiet (λ answer gives. unless (answered answer gives))
+              hands_broken e (ap committed_in (sym is.0) ∙ none) quiet (λ answer gives. unless (is.1 answer gives))
           | commits_it one ↦
-              let one_made : committed_in moves ≡ b ∷ [] = ap committed_in (sym are) ∙ one in
+              let one_made : committed_in moves ≡ b ∷ [] = ap committed_in (sym is.0) ∙ one in
               hands_open (counts_opening I y d c.course.fates fresh b moves e
-              (subst (λ (ms : List Move). Shape c.course.fates fresh b ms) (ap (λ (v : Walked). v.moves) (sym is) ∙ are)
-              (shape c.course.fates fresh b)) one_made (opt_tied meaning key barrier y d c.course offer b refl))
-              (flag_set meaning key barrier moves d b one_made quiet)
+              (subst (λ (ms : List Move). Shape c.course.fates fresh b ms) is.0 (shape c.course.fates fresh b)) one_made
+              (opt_tied meaning key barrier y d c.course offer b refl)) (flag_set meaning key barrier moves d b one_made quiet)
         ]
 
     pub hands : Hands y middle new offer request result more
@@ -268,6 +264,9 @@ module _ (meaning : Meaning) (key barrier : List ℕ) (all others : List (List �
         let seen : Digests = seen_at I (by_digests I) d c.course in
         let found : Result Found Refusal = found_unless_wanting (found_at I (by_digests I) seen b offer) c.course.lacks in
         let w : Walked = walk c.course.fates 1 (ask_steps Opt y.is_open (is_fresh found) b) in
-        hands_by y.is_open (is_fresh found) refl w (ap (walk c.course.fates 1) (asks y.is_open (is_fresh found) b)) refl
-        (λ answer gives. (answered_only w.broken (by_digests I) seen (all_made (by_digests I) d w.moves) b found w.moves answer
-        (sym goes.gives ∙ gives)).whole)
+        hands_by y.is_open (is_fresh found) refl (subst (λ s. ((walk c.course.fates 1 s).moves ≡ moves)
+        × ((answer : BatchAnswer) → result ≡ Ok answer → (walk c.course.fates 1 s).broken ≡ None)) (asks y.is_open (is_fresh found) b) (
+          refl,
+          λ answer gives. (answered_only w.broken (by_digests I) seen (all_made (by_digests I) d w.moves) b found w.moves answer
+              (sym goes.gives ∙ gives)).whole,
+        ))

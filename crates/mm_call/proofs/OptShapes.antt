@@ -3,18 +3,20 @@
 use Rattle.mm_call.proofs.Below.{ℕ, ◌≡◌, Bool, true, false, List, [], ◌∷◌, ◌++◌, map, Some, refl, sym, ap, ◌∙◌, append_assoc, ◌⊎◌, inl, inr}
 use Rattle.mm_call.proofs.Below.{append-nil, map-append, StepFault, Batch, Move, Commit, Foreign, Placed, Reset, Step, Reads, Changes}
 use Rattle.mm_call.proofs.Below.{History, counted_moves, from_reset, from_reset-foreign, Writes, End, Done, Fails, Fate, Walked, after_step}
-use Rattle.mm_call.proofs.Below.{walk, finished, changing, if◌then◌else◌, Opt, zero_bytes, extended_message, Item, own_item, foreign_item}
-use Rattle.mm_call.proofs.Below.{item_values, Meaning, after, trail, guard, Instance, opt, Entry, Own, Value, moved, committed}
-use Rattle.mm_call.proofs.Below.{register_value_of, entry_values, moving_messages, move_messages, Digests, made, committing, after-append}
-use Rattle.mm_call.proofs.Below.{trail-append, values_of-append, values_renamed, by_lists, by_digests, all_made, found_at}
-use Rattle.mm_call.proofs.Below.{found_unless_wanting, is_fresh, seen_at, shown, shown_by, moves_messages, foreign_in, foreign_items, Tied}
-use Rattle.mm_call.proofs.Below.{shows, OptTied, all_made-append, shown-append, made-append, foreign_in-append, messages-made, asks}
-use Rattle.mm_call.proofs.Below.{each_self, renamed, taking}
+use Rattle.mm_call.proofs.Below.{walk, finished, changing, if◌then◌else◌, Opt, extended_message, Item, own_item, foreign_item, item_values}
+use Rattle.mm_call.proofs.Below.{Meaning, after, trail, guard, Instance, opt, Entry, Own, Value, moved, committed, register_value_of}
+use Rattle.mm_call.proofs.Below.{entry_values, moving_messages, move_messages, Digests, made, committing, after-append, trail-append}
+use Rattle.mm_call.proofs.Below.{values_renamed, by_lists, by_digests, all_made, found_at, found_unless_wanting, is_fresh, seen_at, shown}
+use Rattle.mm_call.proofs.Below.{shown_by, moves_messages, foreign_in, foreign_items, Tied, shows, OptTied, all_made-append, shown-append}
+use Rattle.mm_call.proofs.Below.{made-append, foreign_in-append, messages-made, asks, each_self, renamed, taking}
 use Rattle.mm_model.specs.Chains.{register_of}
 use Rattle.mm_call.specs.Tied.{nothing}
 use Rattle.mm_call.proofs.OptHolding.{bare, bare_digests}
 use Rattle.mm_call.proofs.OptWalks.{AreOwn, Each, ReadyFor, walk_each, own_changing}
 use Rattle.mm_call.proofs.Going.{brought_digests}
+use Rattle.mm_digest.specs.Messages.{extended_of}
+use Rattle.mm_model.specs.History.{value_of}
+use Rattle.mm_model.specs.HistoryLaws.{register_more}
 
 -- two reading steps, and the rest
 abbrev pub two_reads : List (List ℕ) → End → List (List ℕ) → End → Walked → Walked
@@ -135,12 +137,10 @@ pushes_then i y d xs ys more later p q =
     }
 
 -- one more value in the register
-register_then : (barrier : List ℕ) (items : List Entry) (e : Entry) (v : List ℕ) → entry_values barrier (e ∷ []) ≡ v ∷ []
-    → register_of (entry_values barrier (items ++ e ∷ [])) ≡ after extended_message (register_of (entry_values barrier items)) (v ∷ [])
-unfolding register_of
-register_then barrier items e v is =
-    ap (after extended_message zero_bytes) (values_of-append barrier items (e ∷ []) ∙ ap (λ w. entry_values barrier items ++ w) is)
-    ∙ after-append extended_message zero_bytes (entry_values barrier items) (v ∷ [])
+register_then : (barrier : List ℕ) (items : List Entry) (e : Entry) → register_of (entry_values barrier (items ++ e ∷ []))
+    ≡ after extended_message (register_of (entry_values barrier items)) (value_of barrier e ∷ [])
+unfolding extended_of
+register_then = register_more
 
 module _ (meaning : Meaning) (key barrier : List ℕ) where
   abbrev I : Instance
@@ -155,7 +155,7 @@ module _ (meaning : Meaning) (key barrier : List ℕ) where
     messages = append-nil (move_messages I y (Foreign v));
     values = refl;
     shown_are = λ items. refl;
-    register = register_then barrier y.items (Value v) v refl;
+    register = register_then barrier y.items (Value v);
     flag = e;
   }
 
@@ -167,7 +167,7 @@ module _ (meaning : Meaning) (key barrier : List ℕ) where
         messages = append-nil (move_messages I y (Commit b)) ∙ rw e refl;
         values = refl;
         shown_are = λ items. rw f refl;
-        register = rw e (register_then barrier y.items (Own b) (guard barrier b) refl);
+        register = rw e (register_then barrier y.items (Own b));
         flag = rw (f, e) refl;
       }
 
@@ -178,7 +178,7 @@ module _ (meaning : Meaning) (key barrier : List ℕ) where
     messages = append-nil (move_messages I y (Placed b));
     values = refl;
     shown_are = λ items. refl;
-    register = register_then barrier y.items (Value (guard barrier b)) (guard barrier b) refl;
+    register = register_then barrier y.items (Value (guard barrier b));
     flag = e;
   }
 

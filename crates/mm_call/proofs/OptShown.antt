@@ -1,13 +1,12 @@
 -- Opt: what the register shows of a call, and what is asked of it.
 use Rattle.mm_call.proofs.Below.{◌≡◌, ℕ, Bool, true, false, List, [], ◌∷◌, ◌++◌, map, Option, None, Some, refl, sym, ap, ◌∙◌, subst}
-use Rattle.mm_call.proofs.Below.{if◌then◌else◌, AllByRecursion, Contains, option_map, append-nil, map-append, Opt, zero_bytes}
-use Rattle.mm_call.proofs.Below.{extended_message, Item, Standing, item_values, Meaning, Batch, after, trail, Instance, opt, Value, History}
-use Rattle.mm_call.proofs.Below.{Move, Commit, Foreign, Reset, Close, first_history, register_value_of, entry_values, Within, Digests, made}
-use Rattle.mm_call.proofs.Below.{committing, digests_of, StandsFor, after-append, trail-append, register_folds, reads_zero, each_left}
-use Rattle.mm_call.proofs.Below.{each_right, by_digests, all_made, Fate, Course, Walked, walk, closes, called, cell_at, StandsAt, shown}
-use Rattle.mm_call.proofs.Below.{from_reset, counted_part, counted_moves, AreShown, foreign_items, standing_items, Tied, shows}
-use Rattle.mm_call.proofs.Below.{committed_in, Counts, none, batch, changing, opt_commits, taking, committed-foreign, from_reset-foreign}
-use Rattle.mm_call.proofs.Below.{Reads}
+use Rattle.mm_call.proofs.Below.{if◌then◌else◌, AllByRecursion, Contains, option_map, append-nil, map-append, Opt, extended_message, Item}
+use Rattle.mm_call.proofs.Below.{Standing, item_values, Meaning, Batch, after, trail, Instance, opt, Value, History, Move, Commit, Foreign}
+use Rattle.mm_call.proofs.Below.{Reset, Close, first_history, register_value_of, entry_values, Within, Digests, made, committing}
+use Rattle.mm_call.proofs.Below.{digests_of, StandsFor, trail-append, register_folds, reads_zero, each_left, each_right, by_digests}
+use Rattle.mm_call.proofs.Below.{all_made, Fate, Course, Walked, walk, closes, called, cell_at, StandsAt, shown, from_reset, counted_part}
+use Rattle.mm_call.proofs.Below.{counted_moves, AreShown, foreign_items, standing_items, Tied, shows, committed_in, Counts, none, batch}
+use Rattle.mm_call.proofs.Below.{changing, opt_commits, taking, committed-foreign, from_reset-foreign, Reads, zero_bytes, after-append}
 use Rattle.mm_model.specs.Chains.{register_of}
 use Rattle.mm_seal.specs.Cell.{IsCell, cell_spelling}
 use Rattle.mm_call.specs.Tied.{nothing}
