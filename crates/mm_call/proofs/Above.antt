@@ -22,12 +22,13 @@ pub use Rattle.mm_call.proofs.OptHolding.{agrees_is, bare, bare_digests, counted
 pub use Rattle.mm_call.proofs.OptHolding.{foreign_may, found_digests, holds_moved, holds_open, holds_shut, is_agrees, life_bare}
 pub use Rattle.mm_call.proofs.OptHolding.{listed_bare}
 pub use Rattle.mm_call.proofs.OptHolding.{opt_agrees_moved, power_brings, power_fine, power_may, sound_shut, within_items, within_of}
-pub use Rattle.mm_call.proofs.OptLaw.{names_foreign, opt_calls_agree, opt_calls_agree_by_lists, reset_messages, sound_foreign}
+pub use Rattle.mm_call.proofs.OptLaw.{opt_calls_agree, opt_calls_agree_by_lists, reset_messages, sound_foreign}
 pub use Rattle.mm_call.proofs.OptLeaves.{alike_call, answered_clean_as, call_goes_on, DigestMoves, GoesOn, hands, Hands, Left, left_reading}
 pub use Rattle.mm_call.proofs.OptLeaves.{Pushed, seen_closes}
 pub use Rattle.mm_call.proofs.OptShapes.{Brought, cut, foreign_messages, none_counted, opt_tied, past, reading, reads_only, reset, shape}
 pub use Rattle.mm_call.proofs.OptShapes.{Shape}
 pub use Rattle.mm_call.proofs.OptShapes.{two_reads}
 pub use Rattle.mm_call.proofs.OptShown.{flag_kept, pushed_open, shown_back, shown_front, shown_shut}
+pub use Rattle.mm_call.proofs.OptWalks.{names_foreign}
 pub use Rattle.mm_call.proofs.OptWalks.{AllMay, AreOwn, ask_may, before, first_in, foreign_all, holds_made, may_of, own_asked, own_checked}
 pub use Rattle.mm_call.proofs.OptWalks.{Ready, ready_closing, sight, sight_is, walk_fine}

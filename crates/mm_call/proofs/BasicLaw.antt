@@ -1,14 +1,13 @@
 -- Basic: a call is by digests what it is by lists, on every course.
-use Rattle.mm_call.proofs.Below.{ℕ, ◌≡◌, Bool, true, false, List, [], ◌∷◌, ◌++◌, map, None, Result, Ok, refl, sym, ap, ◌∙◌, subst}
-use Rattle.mm_call.proofs.Below.{if◌then◌else◌, AllByRecursion, Contains, Basic, Meaning, Batch, Content, Place, InBasic, InOpt, link}
-use Rattle.mm_call.proofs.Below.{summary_of, Instance, basic, Entry, History, Move, Foreign, joined, ask_steps, IsClear, Within, values_in}
-use Rattle.mm_call.proofs.Below.{Digests, IsPlaceOf, Names, digest_of, Refusal, each_append, IsGenuine, by_lists, by_digests, all_made}
-use Rattle.mm_call.proofs.Below.{Agrees, Found, found_at, right_content, found_unless_wanting, is_fresh, Fate, Course, Walked, walk, called}
-use Rattle.mm_call.proofs.Below.{called_with, IsPlain, IsWithin, right_messages, IsSameCall, BasicCallsAgree, IsBasicMove, agrees-made}
-use Rattle.mm_call.proofs.Below.{plain-made, same_batches, more_batches, Commits, nothing, batch, call_commits, foreign_first, GoesAlong}
-use Rattle.mm_call.proofs.Below.{walk_along}
+use Rattle.mm_call.proofs.Below.{ℕ, ◌≡◌, Bool, true, false, List, [], ◌∷◌, ◌++◌, map, Result, Ok, refl, sym, ap, ◌∙◌, subst, if◌then◌else◌}
+use Rattle.mm_call.proofs.Below.{AllByRecursion, Contains, Basic, Meaning, Batch, Content, Place, InBasic, InOpt, summary_of, Instance}
+use Rattle.mm_call.proofs.Below.{basic, Entry, History, Move, Foreign, joined, ask_steps, IsClear, Within, values_in, Digests, IsPlaceOf}
+use Rattle.mm_call.proofs.Below.{Names, digest_of, Refusal, each_append, IsGenuine, by_lists, by_digests, all_made, Agrees, Found, found_at}
+use Rattle.mm_call.proofs.Below.{right_content, found_unless_wanting, is_fresh, Fate, Course, Walked, walk, called, called_with, IsPlain}
+use Rattle.mm_call.proofs.Below.{IsWithin, right_messages, IsSameCall, BasicCallsAgree, IsBasicMove, agrees-made, plain-made, same_batches}
+use Rattle.mm_call.proofs.Below.{more_batches, Commits, nothing, batch, call_commits, foreign_first, GoesAlong, walk_along, batches-made}
 use Rattle.mm_call.proofs.Finding.{Asking, basic_found_same, placed, Placed}
-use Rattle.mm_call.proofs.Calling.{summary_then, listed_push, listed_same, called_message, again_of, fresh_of, ending_same, fresh_found}
+use Rattle.mm_call.proofs.Calling.{summary_then, listed_push, listed_same, called_message, ending_same, fresh_found, ended_batches}
 use Rattle.mm_call.proofs.OptHolding.{foreign_digests}
 
 abbrev pub AreBasic : List Move → Type 0
@@ -40,18 +39,6 @@ place_any i y y' named (InOpt a e) is = absurd is
 pub unlacked : (found : Result Found Refusal) (lacks : Bool) (f : Found) → found_unless_wanting found lacks ≡ Ok f → found ≡ Ok f
 unlacked (Ok found) false f e = e
 unlacked _ lacks f e = cc
-
--- the summary of an answer is that of the batches at the end
-end_summary : (i : Instance) (id : ℕ) (y : History) (b : Batch) (again : Bool) (digest : List ℕ) (named : List Batch) (walked : Walked)
-    → digest ≡ summary_of id y.batches → (again ≡ false → named ≡ y.batches) → (again ≡ true → named ++ b ∷ [] ≡ y.batches)
-    → Commits b (if again then false else true) walked → walked.broken ≡ None
-    → (if again then digest else link digest b) ≡ summary_of id (all_made (by_lists i) y walked.moves).batches
-end_summary i id y b again digest named walked e fresh repeat (nothing none unless) whole =
-    summary_then id y.batches named b again digest e fresh repeat
-    ∙ ap (summary_of id) (repeat (again_of again (unless whole)) ∙ sym (same_batches i walked.moves y none))
-end_summary i id y b again digest named walked e fresh repeat (batch one is) whole =
-    summary_then id y.batches named b again digest e fresh repeat
-    ∙ ap (summary_of id) (ap (λ v. v ++ b ∷ []) (fresh (fresh_of again is)) ∙ sym (more_batches i walked.moves y b one))
 
 -- a history that stays plain, with the same batches
 pub within_same : (meaning : Meaning) (key : List ℕ) (all others : List (List ℕ)) (asked : List Batch) (y end : History)
@@ -163,10 +150,14 @@ module _ (meaning : Meaning) (key : List ℕ) where
           ending = ending_same all I sees y sees seen (all_made (by_digests I) d walked.moves) b walked walked.broken found refl (record {
             same = same;
             found_at = placed_at;
-            place = λ f is whole. let p = placed_at f is in ap (λ v. InBasic (digest_of v))
-                (end_summary I meaning.id y b f.again seen.digest p.named walked
-                (ap (λ (x : Digests). x.digest) (foreign_digests I (c.fates 1).brings [] d) ∙ agrees.digest)
-                (λ x. p.fresh x ∙ same) (λ x. p.repeat x ∙ same) (subst C is commits) whole);
+            place = λ f is whole.
+                let p = placed_at f is in
+                let fresh = λ (x : f.again ≡ false). p.fresh x ∙ same in
+                let repeat = λ (x : f.again ≡ true). p.repeat x ∙ same in
+                ap (λ v. InBasic (digest_of v)) (summary_then meaning.id y.batches p.named b f.again seen.digest
+                (ap (λ (x : Digests). x.digest) (foreign_digests I (c.fates 1).brings [] d) ∙ agrees.digest) fresh repeat
+                ∙ ap (summary_of meaning.id) (sym (batches-made I walked.moves y
+                ∙ ended_batches y.batches p.named b f.again walked fresh repeat (subst C is commits) whole)));
           }) commits;
           moves = refl;
           steps = refl;

@@ -86,15 +86,6 @@ summary_then id batches named b true digest e fresh repeat = e ∙ ap (summary_o
 summary_then id batches named b false digest e fresh repeat =
     ap (λ x. link x b) (e ∙ ap (summary_of id) (sym (fresh refl))) ∙ sym (summary-push id named b)
 
--- the batches at the end of a call that isn't broken off, or that committed its batch
-pub ended_batches : (batches named committed : List Batch) (b : Batch) (again : Bool) → (again ≡ false → named ≡ batches)
-    → (again ≡ true → named ++ b ∷ [] ≡ batches) → (again ≡ true → committed ≡ []) → (again ≡ false → committed ≡ b ∷ [])
-    → batches ++ committed ≡ named ++ b ∷ []
-ended_batches batches named committed b true fresh repeat none one =
-    ap (λ v. batches ++ v) (none refl) ∙ append-nil batches ∙ sym (repeat refl)
-ended_batches batches named committed b false fresh repeat none one =
-    ap (λ v. batches ++ v) (one refl) ∙ ap (λ v. v ++ b ∷ []) (sym (fresh refl))
-
 -- the messages of a history that goes on by the batch
 pub listed_push : (meaning : Meaning) (key : List ℕ) (all : List (List ℕ)) (y y' : History) (b : Batch)
     → Within (history_messages (basic meaning key) y) all → Contains all (link_message (summary_of meaning.id y.batches) b)
@@ -145,16 +136,24 @@ pub record Ends (all : List (List ℕ)) (i : Instance) (z y : History) (seen : D
       place_then i.variant seen.flag f.again i seen b
       ≡ issued_place i.variant (all_made (by_lists i) y walked.moves).is_open i (all_made (by_lists i) y walked.moves)
 
+-- the batches at the end of a call that isn't broken off
+pub ended_batches : (batches named : List Batch) (b : Batch) (again : Bool) (walked : Walked) → (again ≡ false → named ≡ batches)
+    → (again ≡ true → named ++ b ∷ [] ≡ batches) → Commits b (if again then false else true) walked → walked.broken ≡ None
+    → batches ++ committed_in walked.moves ≡ named ++ b ∷ []
+ended_batches batches named b again walked fresh repeat (nothing none unless) whole =
+    ap (λ v. batches ++ v) none ∙ append-nil batches ∙ sym (repeat (again_of again (unless whole)))
+ended_batches batches named b again walked fresh repeat (batch one is) whole =
+    ap (λ v. batches ++ v) one ∙ ap (λ v. v ++ b ∷ []) (sym (fresh (fresh_of again is)))
+
 answers_same : (all : List (List ℕ)) (i : Instance) (z y : History) (seen : Digests) (b : Batch) (walked : Walked) (f : Found)
-    → Ends all i z y seen b walked (Ok f) → walked.broken ≡ None → (f.again ≡ true → committed_in walked.moves ≡ []) → (f.again ≡ false → committed_in walked.moves ≡ b ∷ [])
+    → Ends all i z y seen b walked (Ok f) → Commits b (if f.again then false else true) walked → walked.broken ≡ None
     → (s : Digests) (t : History) → (by_digests i).answer f.again seen s f.offered b
     ≡ (by_lists i).answer f.again t (all_made (by_lists i) y walked.moves) f.offered b
-answers_same all i z y seen b walked f ends whole none one s t =
+answers_same all i z y seen b walked f ends c whole s t =
     let p = ends.found_at f refl in
     let end : History = all_made (by_lists i) y walked.moves in
-    let batches = batches-made i walked.moves y
-    ∙ ended_batches y.batches p.named (committed_in walked.moves) b f.again (λ x. p.fresh x ∙ ends.same) (λ x. p.repeat x ∙ ends.same)
-    none one in
+    let batches = batches-made i walked.moves y ∙ ended_batches y.batches p.named b f.again walked (λ x. p.fresh x ∙ ends.same)
+    (λ x. p.repeat x ∙ ends.same) c whole in
     answer-digests i p.named b f.again f.offered (place_then i.variant seen.flag f.again i seen b)
     (issued_place i.variant end.is_open i end) p.position p.state (ends.place f refl whole)
     ∙ sym (answer-lists i end p.named b f.again batches)
@@ -179,9 +178,5 @@ ending_same all i z y t seen s b walked (Some fault) (Ok f) e ends (nothing none
 ending_same all i z y t seen s b walked (Some fault) (Ok f) e ends (batch one fresh) =
     ap (λ k. Breaks fault k) (kept_same (commits walked.moves) _ _
     (λ x. position_same all i z y b walked f ends.same (ends.found_at f refl) (fresh_of f.again fresh) one))
-ending_same all i z y t seen s b walked None (Ok f) e ends (nothing none unless) =
-    let repeat = again_of f.again (unless e) in
-    ap (λ a. Answers a) (answers_same all i z y seen b walked f ends e (λ again. none) (λ again. let clash = sym repeat ∙ again in cc) s t)
-ending_same all i z y t seen s b walked None (Ok f) e ends (batch one fresh) =
-    ap (λ a. Answers a) (answers_same all i z y seen b walked f ends e
-    (λ again. let clash = sym (fresh_of f.again fresh) ∙ again in cc) (λ again. one) s t)
+ending_same all i z y t seen s b walked None (Ok f) e ends c =
+    ap (λ a. Answers a) (answers_same all i z y seen b walked f ends c e s t)

@@ -14,56 +14,51 @@ use Rattle.std.proofs.Math.Nat.{min-eq_left}
 use Rattle.std.proofs.lemmas.Bool.Decides.{nat_tests}
 use Rattle.mm_call.specs.CoursesWords.{end_of}
 
--- the fault of a refusal is that of a device
-pub device_only : (why : Refusal) (fault : StepFault) → fault_of why ≡ Some fault → why ≡ Device fault
-device_only (Device other) fault e = let same : other ≡ fault = cc in ap (λ (f : StepFault). Device f) same
-device_only _ fault e = absurd (cc)
-
-ended_result : (fault : Option StepFault) (why : Refusal) → fault_of why ≡ fault → result_of (ended_with fault why) ≡ Err why
-ended_result None why e = refl
-ended_result (Some fault) why e = ap (λ (w : Refusal). Err w) (sym (device_only why fault e))
-
 -- a refusal gives itself
 pub refused_result : (why : Refusal) → result_of (refused_as why) ≡ Err why
-refused_result why = ended_result (fault_of why) why refl
+refused_result (Device fault) = refl
+refused_result _ = refl
 
 -- values of others commit nothing
-pub foreign_commits : (values : List (List ℕ)) → commits (map Foreign values) ≡ false
+foreign_commits : (values : List (List ℕ)) → commits (map Foreign values) ≡ false
 foreign_commits [] = refl
 foreign_commits (v ∷ values) = foreign_commits values
 
-pub commits_then : (values : List (List ℕ)) (moves : List Move) → commits (map Foreign values ++ moves) ≡ commits moves
+commits_then : (values : List (List ℕ)) (moves : List Move) → commits (map Foreign values ++ moves) ≡ commits moves
 commits_then [] moves = refl
 commits_then (v ∷ values) moves = commits_then values moves
 
 -- power after a call under a plan
 
-pub stays_done : (stop : Stop) (new : Standing) → new.is_on ≡ true → StaysOn stop false new
+stays_done : (stop : Stop) (new : Standing) → new.is_on ≡ true → StaysOn stop false new
 stays_done (Cut step) new e = e
 stays_done _ new e = e
 
-pub stays_broken : (stop : Stop) (n : ℕ) (new : Standing) → new.is_on ≡ is_on_at stop n → StaysOn stop true new
+stays_broken : (stop : Stop) (n : ℕ) (new : Standing) → new.is_on ≡ is_on_at stop n → StaysOn stop true new
 stays_broken (Cut step) n new e = tt
 stays_broken _ n new e = e
 
--- the plan goes on to be told
-plan_kept : (act : Act) (old new : Standing) (fault : Option StepFault) (plan : Plan) (at : ℕ) → IsAt old plan at → Goes act old new fault
-    → IsSome new.plan
-plan_kept act old new fault plan at p g =
-    rw (g.plan ∙ ap (λ (q : Option Plan). option_map plan_after q) p.planned) refl
+-- after a step that fails, with room made behind it: power is on as the plan says, and the plan goes on to be told
+stays_failed : (act : Act) (old after new : Standing) (fault : StepFault) (plan : Plan) (at : ℕ) → IsAt old plan at
+    → Goes act old after (Some fault) → new ≡ record after { spare = new.spare } → StaysOn plan.stop true new × IsSome new.plan
+stays_failed act old after new fault plan at p g room =
+    let told = g.told (record plan { at = at }) p.planned in (
+      stays_broken plan.stop (counted at) new
+          (ap (λ (s : Standing). s.is_on) room ∙ told.power ∙ ap (λ (on : Bool). will_be_on on (record plan { at = at })) p.is_on),
+      rw (ap (λ (s : Standing). s.plan) room ∙ g.plan ∙ ap (λ (q : Option Plan). option_map plan_after q) p.planned) refl,
+    )
 
 -- after the last step of a call, by whether it failed
 pub planned_done : (act : Act) (old new : Standing) (plan : Plan) (at : ℕ) → IsAt old plan at → Goes act old new None
     → StaysOn plan.stop false new × IsSome new.plan
-planned_done act old new plan at p g = (stays_done plan.stop new g.ends.is_on, plan_kept act old new None plan at p g)
+planned_done act old new plan at p g = (
+  stays_done plan.stop new g.ends.is_on,
+  rw (g.plan ∙ ap (λ (q : Option Plan). option_map plan_after q) p.planned) refl,
+)
 
 pub planned_broken : (act : Act) (old new : Standing) (fault : StepFault) (plan : Plan) (at : ℕ) → IsAt old plan at
     → Goes act old new (Some fault) → StaysOn plan.stop true new × IsSome new.plan
-planned_broken act old new fault plan at p g =
-    let told = g.told (record plan { at = at }) p.planned in (
-      stays_broken plan.stop (counted at) new (told.power ∙ ap (λ (on : Bool). will_be_on on (record plan { at = at })) p.is_on),
-      plan_kept act old new (Some fault) plan at p g,
-    )
+planned_broken act old new fault plan at p g = stays_failed act old new new fault plan at p g refl
 
 -- The fates of steps
 
@@ -127,12 +122,7 @@ pub tale_fails : (act : Act) (old after new : Standing) (fault : StepFault) (pos
 tale_fails act old after new fault position at few g room = record {
   met_all = λ (plan : Plan) (p : IsAt old plan at).
       (met_at act old after (Some fault) plan at p g ∙ ap (planned plan) (counted_small at few), tt);
-  stays = λ (plan : Plan) (p : IsAt old plan at).
-      let told = g.told (record plan { at = at }) p.planned in (
-        stays_broken plan.stop (counted at) new
-            (ap (λ (s : Standing). s.is_on) room ∙ told.power ∙ ap (λ (on : Bool). will_be_on on (record plan { at = at })) p.is_on),
-        rw (ap (λ (s : Standing). s.plan) room ∙ g.plan ∙ ap (λ (q : Option Plan). option_map plan_after q) p.planned) refl,
-      );
+  stays = λ (plan : Plan) (p : IsAt old plan at). stays_failed act old after new fault plan at p g room;
 }
 
 pub steps_tale : (acts : List Act) (answer : BatchAnswer) (old new : Standing) (ended : Ended) (at : ℕ) → at + length acts ≤ 100

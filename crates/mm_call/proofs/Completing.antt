@@ -1,10 +1,10 @@
 -- A call that ended so over a platform is the call on a course, by digests and by lists.
 use Rattle.mm_call.proofs.Below.{◌≡◌, ℕ, ◌+◌, suc, Bool, true, false, List, [], ◌∷◌, map, Option, None, Some, Result, Ok, Err, IfOk, refl}
 use Rattle.mm_call.proofs.Below.{sym, ap, ◌∙◌, subst, arith, Variant, StepFault, Plan, Standing, Act, Goes, Meaning, Batch, normal, Content}
-use Rattle.mm_call.proofs.Below.{Instance, History, Move, Foreign, Digests, Step, Reads, ask_steps, BatchAnswer, Refusal, Long, Memory}
-use Rattle.mm_call.proofs.Below.{Ended, Answered, Refused, Broken, Breaks, called, ended_by, given_for, position_of, kept_at, CallOf}
-use Rattle.mm_call.proofs.Below.{StepsTo, EndsTo, AsksTo, Calls, IsCallSoFar, GoesBy, CallsOn, Course, Fate, Walked, walk, commits}
-use Rattle.mm_call.proofs.Below.{result_of, ended_with, refused_as, kept_by, KeepsAs, CallsTo, Found, is_fresh, CallsAgree, IsUntouched}
+use Rattle.mm_call.proofs.Below.{Instance, Move, Foreign, Digests, Step, Reads, ask_steps, BatchAnswer, Refusal, Long, Memory, Ended}
+use Rattle.mm_call.proofs.Below.{Answered, Refused, Broken, Breaks, called, ended_by, given_for, position_of, kept_at, CallOf, StepsTo}
+use Rattle.mm_call.proofs.Below.{EndsTo, AsksTo, Calls, IsCallSoFar, GoesBy, CallsOn, Course, Fate, Walked, walk, commits, result_of}
+use Rattle.mm_call.proofs.Below.{ended_with, refused_as, kept_by, KeepsAs, CallsTo, Found, is_fresh, CallsAgree, IsUntouched}
 use Rattle.mm_call.proofs.Below.{LeavesUntouched, Blames, fault_handed, all_made, by_digests, fault_of, fault_in, instance_by, StandsAt}
 use Rattle.mm_call.proofs.Below.{met, told_by, begins_at, MakesStep}
 use Rattle.std.specs.Result.{result_err}
@@ -190,17 +190,13 @@ calls_to variant meaning old new offer b ended fates lacks agree tale to =
     record {
       calls = record {
         course = c;
-        tells = told_by old fates (λ (plan : Plan) (is_on : old.is_on ≡ true) (known : old.plan ≡ Some plan) (at : plan.at ≡ 0).
-            tale.met_all plan (begins_at old plan is_on known at));
+        tells = told_by old fates (λ plan is_on known at. tale.met_all plan (begins_at old plan is_on known at));
         goes = goes;
-        continues = λ (key barrier : List ℕ) (y : History) (all others : List (List ℕ)) (asked : List Batch).
-            continues_by (instance_by variant meaning key barrier) (agree key barrier) old new c offer (normal b) (result_of ended)
-            (goes key barrier) all others asked y;
+        continues = λ key barrier y all others asked. continues_by (instance_by variant meaning key barrier) (agree key barrier) old new c
+            offer (normal b) (result_of ended) (goes key barrier) all others asked y;
       };
-      keeps = λ (key barrier : List ℕ) (d : Digests) (s : StandsAt (instance_by variant meaning key barrier) old d).
-          keeps_by ended (instance_by variant meaning key barrier) d c offer (normal b) old new (to key barrier d s);
-      plans = λ (plan : Plan) (is_on : old.is_on ≡ true) (known : old.plan ≡ Some plan) (at : plan.at ≡ 0).
-          tale.stays plan (begins_at old plan is_on known at);
+      keeps = λ key barrier d s. keeps_by ended (instance_by variant meaning key barrier) d c offer (normal b) old new (to key barrier d s);
+      plans = λ plan is_on known at. tale.stays plan (begins_at old plan is_on known at);
     }
 
 -- What holds of each call

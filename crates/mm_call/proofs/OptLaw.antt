@@ -1,18 +1,18 @@
 -- Opt: what a call sees, and what counts of it; and so a call is by digests what it is by lists, on every course.
 use Rattle.mm_call.proofs.Below.{ℕ, ◌≡◌, Bool, true, false, List, [], ◌∷◌, ◌++◌, map, Some, Result, Ok, Err, refl, sym, ap, ◌∙◌, subst, inl}
 use Rattle.mm_call.proofs.Below.{inr, not, if◌then◌else◌, AllByRecursion, Contains, fold, Opt, extended_of, StepFault, Meaning, Batch}
-use Rattle.mm_call.proofs.Below.{Content, Instance, opt, History, Move, Foreign, Reset, Value, moved, Step, Reads, ask_steps, Within}
-use Rattle.mm_call.proofs.Below.{move_messages, moving_messages, Digests, Names, issued_place, IsSound, IsGenuine, Refusal, each_left}
-use Rattle.mm_call.proofs.Below.{each_right, opt_names, sound_moved, fresh_lists, by_lists, by_digests, all_made, Agrees, Found, found_at}
-use Rattle.mm_call.proofs.Below.{found_unless_wanting, is_fresh, Done, Fate, Course, Walked, walk, Ending, ended_by, called_by, called}
-use Rattle.mm_call.proofs.Below.{came_to, counted_part, counted_moves, from_reset, moves_messages, foreign_in, IsWithin, AreAsked, IsAsked}
-use Rattle.mm_call.proofs.Below.{IsSame, IsSameCall, OptCallsAgree, committed_in, opt_commits, committed-foreign, commits-none, changing}
-use Rattle.mm_call.proofs.Below.{asks, taking, taking_is, foreign_made, made-append, foreign_in-foreign, from_reset-foreign, messages-made}
+use Rattle.mm_call.proofs.Below.{Instance, opt, History, Move, Foreign, Reset, Value, moved, Step, Reads, ask_steps, Within, move_messages}
+use Rattle.mm_call.proofs.Below.{moving_messages, Digests, issued_place, IsSound, IsGenuine, Refusal, each_left, each_right, opt_names}
+use Rattle.mm_call.proofs.Below.{sound_moved, fresh_lists, by_lists, by_digests, all_made, Agrees, Found, found_at, found_unless_wanting}
+use Rattle.mm_call.proofs.Below.{is_fresh, Done, Fate, Course, Walked, walk, Ending, ended_by, called_by, called, came_to, counted_part}
+use Rattle.mm_call.proofs.Below.{counted_moves, from_reset, moves_messages, foreign_in, IsWithin, AreAsked, IsAsked, IsSame, IsSameCall}
+use Rattle.mm_call.proofs.Below.{OptCallsAgree, committed_in, opt_commits, committed-foreign, commits-none, changing, asks, taking}
+use Rattle.mm_call.proofs.Below.{taking_is, foreign_made, made-append, foreign_in-foreign, from_reset-foreign, messages-made}
 use Rattle.mm_call.proofs.Finding.{Asking, Placed, placed, clear_for, IsApart, IsLive, lives, found_same}
 use Rattle.mm_call.proofs.OptHolding.{Holds, foreign_may, bare, bare_digests, found_lists, found_digests, foreign_digests, foreign_agrees}
 use Rattle.mm_call.proofs.OptHolding.{holds_open, holds_shut, within_items, within_of, reset_may}
 use Rattle.mm_call.proofs.OptWalks.{AllFine, holds_made, foreign_all, front_outside, Ready, AreOwn, own_changing, walk_fine, path_end}
-use Rattle.mm_call.proofs.OptWalks.{path_is, IsDue, ready_third, ready_opening, end_place, before, sight, sight_is}
+use Rattle.mm_call.proofs.OptWalks.{path_is, IsDue, ready_third, ready_opening, end_place, before, sight, sight_is, names_foreign}
 use Rattle.mm_call.proofs.Calling.{fresh_of, ending_same}
 use Rattle.mm_call.proofs.OptShapes.{two_reads, reading, past, cut, opening, Shape, still, reset, shape}
 use Rattle.mm_call.proofs.BasicLaw.{unlacked}
@@ -39,14 +39,6 @@ module _ (meaning : Meaning) (key barrier : List ℕ) where
   pub reset_messages : (y : History) (flag : Bool) → moving_messages Opt flag I y Reset ≡ []
   reset_messages y flag = refl
 
-  pub names_foreign : (values : List (List ℕ)) (y : History) (content : Content) → IsSound y → Names I y content
-      → Names I (all_made (by_lists I) y (map Foreign values)) content
-  names_foreign [] y content sound n = n
-  names_foreign (v ∷ values) y content sound n =
-      let may = foreign_may I y y.is_open v in
-      names_foreign values (moved I y (Foreign v)) content (sound_moved meaning key barrier y (Foreign v) sound may)
-      (opt_names meaning key barrier y (Foreign v) content sound may n)
-
   pub sound_foreign : (values : List (List ℕ)) (y : History) → IsSound y → IsSound (all_made (by_lists I) y (map Foreign values))
   sound_foreign [] y sound = sound
   sound_foreign (v ∷ values) y sound =
@@ -62,7 +54,8 @@ module _ (meaning : Meaning) (key barrier : List ℕ) where
         listed = a.listed;
         genuine = λ content right. rw (made-append (by_lists I) (map Foreign v) (map Foreign w ++ []) y
             ∙ made-append (by_lists I) (map Foreign w) [] first)
-            (names_foreign w first content (sound_foreign v y sound) (names_foreign v y content sound (a.genuine content right)));
+            (names_foreign meaning key barrier w first content (sound_foreign v y sound)
+            (names_foreign meaning key barrier v y content sound (a.genuine content right)));
       }
 
   sight_agrees : (y : History) (d : Digests) (c : Course) → Agrees I y d → Agrees I (sight y c) (all_made (by_digests I) d (before c))

@@ -9,7 +9,7 @@ use Rattle.mm_call.proofs.Below.{renamed, joined, is_empty, has_value, batches_i
 use Rattle.mm_call.proofs.Below.{batch_messages, not, zero_bytes, extended_of, register_of, own_values, are_own, issued_place}
 use Rattle.mm_call.proofs.Below.{register-push, own_values-append, values_of-own, reads_zero, Agrees, place_then, arith, extended_message}
 use Rattle.mm_call.proofs.Below.{guard_message, MayMove, each_self, Course, found_at, found_unless_wanting, is_fresh, Result, Found}
-use Rattle.mm_call.proofs.Below.{Refusal}
+use Rattle.mm_call.proofs.Below.{Refusal, IsSound, Names, Content, sound_moved, opt_names}
 use Rattle.mm_call.proofs.OptHolding.{Holds, IsFine, holds_moved, foreign_fine, reset_may}
 use Rattle.mm_call.proofs.Finding.{IsLive, live_found}
 use Rattle.mm_call.proofs.BasicLaw.{unlacked}
@@ -292,6 +292,19 @@ module _ (meaning : Meaning) (key barrier : List ℕ) where
     pub ready_closing : (fates : ℕ → Fate) (y : History) → y.is_open ≡ true → is_empty y.items ≡ false
         → Ready all others asked I fates 3 (Writes Close ∷ []) y
     ready_closing fates y is_open held = λ o. (record { may = rw is_open held; brings = tt; listed = tt; are_asked = tt }, tt)
+
+  -- what a snapshot names is named after moves that may be made
+  pub names_all : (moves : List Move) (y : History) (content : Content) → IsSound y → AllMay I y moves → Names I y content
+      → Names I (all_made (by_lists I) y moves) content
+  names_all [] y content sound may n = n
+  names_all (m ∷ moves) y content sound may n =
+      names_all moves (moved I y m) content (sound_moved meaning key barrier y m sound may.0) may.1
+      (opt_names meaning key barrier y m content sound may.0 n)
+
+  pub names_foreign : (values : List (List ℕ)) (y : History) (content : Content) → IsSound y → Names I y content
+      → Names I (all_made (by_lists I) y (map Foreign values)) content
+  names_foreign values y content sound n =
+      names_all (map Foreign values) y content sound (each_foreign (MayMove I) values I (λ z v c. tt) values y (each_self [] values)) n
 
   -- the place of an answer, at the end of a call that isn't broken off
   pub end_place : (fates : ℕ → Fate) (seen : History) (d : Digests) (b : Batch) (flag again : Bool) → seen.is_open ≡ flag
