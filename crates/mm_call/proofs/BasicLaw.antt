@@ -1,11 +1,12 @@
 -- Basic: a call is by digests what it is by lists, on every course.
 use Rattle.mm_call.proofs.Below.{ℕ, ◌≡◌, Bool, true, false, List, [], ◌∷◌, ◌++◌, map, Result, Ok, refl, sym, ap, ◌∙◌, subst, if◌then◌else◌}
-use Rattle.mm_call.proofs.Below.{AllByRecursion, Contains, Basic, Meaning, Batch, Content, Place, InBasic, InOpt, summary_of, Instance}
-use Rattle.mm_call.proofs.Below.{basic, Entry, History, Move, Foreign, joined, ask_steps, IsClear, Within, values_in, Digests, IsPlaceOf}
-use Rattle.mm_call.proofs.Below.{Names, digest_of, Refusal, each_append, IsGenuine, by_lists, by_digests, all_made, Agrees, Found, found_at}
-use Rattle.mm_call.proofs.Below.{right_content, found_unless_wanting, is_fresh, Fate, Course, Walked, walk, called, called_with, IsPlain}
-use Rattle.mm_call.proofs.Below.{IsWithin, right_messages, IsSameCall, BasicCallsAgree, IsBasicMove, agrees-made, plain-made, same_batches}
+use Rattle.mm_call.proofs.Below.{AllByRecursion, Contains, Basic, Meaning, Batch, Content, InBasic, summary_of, Instance, basic, Entry}
+use Rattle.mm_call.proofs.Below.{History, Move, Foreign, joined, ask_steps, IsClear, Within, values_in, Digests, Names, digest_of, Refusal}
+use Rattle.mm_call.proofs.Below.{each_append, IsGenuine, by_lists, by_digests, all_made, Agrees, Found, found_at, right_content}
+use Rattle.mm_call.proofs.Below.{found_unless_wanting, is_fresh, Fate, Course, Walked, walk, called, called_with, IsPlain, IsWithin}
+use Rattle.mm_call.proofs.Below.{right_messages, IsSameCall, BasicCallsAgree, IsBasicMove, agrees-made, plain-made, same_batches}
 use Rattle.mm_call.proofs.Below.{more_batches, Commits, nothing, batch, call_commits, foreign_first, GoesAlong, walk_along, batches-made}
+use Rattle.mm_call.proofs.Below.{basic_names, moved, link_message}
 use Rattle.mm_call.proofs.Finding.{Asking, basic_found_same, placed, Placed}
 use Rattle.mm_call.proofs.Calling.{summary_then, listed_push, listed_same, called_message, ending_same, fresh_found, ended_batches}
 use Rattle.mm_call.proofs.OptHolding.{foreign_digests}
@@ -29,11 +30,6 @@ pub plain_outside : (others : List (List ℕ)) (closed : List (List Entry)) (is_
     → is_open ≡ false → AllByRecursion (Contains others) (values_in (joined closed ++ (if is_open then items else [])))
 plain_outside others closed is_open items none shut =
     rw (none, shut) tt
-
-place_any : (i : Instance) (y y' : History) (named : List Batch) (place : Place) → IsPlaceOf Basic i y named place
-    → IsPlaceOf Basic i y' named place
-place_any i y y' named (InBasic s) is = is
-place_any i y y' named (InOpt a e) is = absurd is
 
 -- what is found, where memory isn't wanting
 pub unlacked : (found : Result Found Refusal) (lacks : Bool) (f : Found) → found_unless_wanting found lacks ≡ Ok f → found ≡ Ok f
@@ -64,16 +60,11 @@ module _ (meaning : Meaning) (key : List ℕ) where
   abbrev I : Instance
   I = basic meaning key
 
-  -- a history with the same batches is named by the same snapshots
-  names_any : (y y' : History) (offered : Content) → y'.batches ≡ y.batches → Names I y offered → Names I y' offered
-  names_any y y' offered e n = record {
-    named = n.named;
-    rest = n.rest;
-    first = e ∙ n.first;
-    position = n.position;
-    state = n.state;
-    place = place_any I y y' n.named offered.place n.place;
-  }
+  -- what a snapshot names is named after moves too
+  pub names_made : (moves : List Move) (y : History) (content : Content) → Names (basic meaning key) y content
+      → Names (basic meaning key) (all_made (by_lists (basic meaning key)) y moves) content
+  names_made [] y content n = n
+  names_made (m ∷ moves) y content n = names_made moves (moved (basic meaning key) y m) content (basic_names meaning key y m content n)
 
   -- a call: what it sees and finds
   module _ (all others : List (List ℕ)) (asked : List Batch) (y : History) (d : Digests) (c : Course) (offer : List ℕ) (b : Batch)
@@ -106,7 +97,7 @@ module _ (meaning : Meaning) (key : List ℕ) where
     asking = record {
       clear = a.clear;
       listed = a.offered;
-      genuine = λ content right. names_any y sees content same (a.genuine content right);
+      genuine = λ content right. names_made moves y content (a.genuine content right);
     }
 
     placed_at : (f : Found) → found ≡ Ok f → Placed all I sees b f
@@ -135,8 +126,8 @@ module _ (meaning : Meaning) (key : List ℕ) where
           sound = plain;
           outside = plain_outside others end.closed end.is_open end.items plain.closed plain.shut;
           listed = listed_push meaning key all y end b a.within.listed
-              (called_message meaning key all y b f.0.offered.place p.named p.listed
-              (place_any I sees y p.named f.0.offered.place p.place) (p.fresh f.2 ∙ same)) more;
+              (subst (λ v. Contains all (link_message (summary_of meaning.id v) b)) same
+              (called_message meaning key all sees b f.0.offered.place p.named p.listed p.place (p.fresh f.2))) more;
           batches = rw more (each_append (Contains asked) y.batches (b ∷ []) a.within.batches (a.is_asked, tt));
         }
 

@@ -1,14 +1,14 @@
 -- What a call comes to by lists, and what is asked of its moves: nothing in Basic; and nothing of an idle call of Opt, whose batch
 -- isn't taken for new with no segment open: it neither reads what the register holds nor empties it.
 use Rattle.mm_call.proofs.Below.{◌≡◌, ℕ, Bool, true, false, List, [], ◌∷◌, ◌++◌, map, Option, None, Some, Result, Ok, Err, refl, sym, ap}
-use Rattle.mm_call.proofs.Below.{◌∙◌, subst, if◌then◌else◌, StepFault, Meaning, Batch, Content, Instance, basic, opt, History, Move}
-use Rattle.mm_call.proofs.Below.{Foreign, Reset, moved, total_of, digests_of, Names, issued_bytes, ask_steps, BatchAnswer, Refusal}
-use Rattle.mm_call.proofs.Below.{basic_names, answer_on, by_lists, by_digests, all_made, Found, found_at, found_unless_wanting, is_fresh}
-use Rattle.mm_call.proofs.Below.{Course, Walked, walk, called, seen_at, ended_by, given_for, from_reset, counted_part, counted_moves}
-use Rattle.mm_call.proofs.Below.{moves_messages, IsAsked, AreAsked, Comes, kept, grown, asked_by, same_batches, more_batches, Commits}
-use Rattle.mm_call.proofs.Below.{nothing, batch, call_commits, foreign_first, ◌⊎◌, inl, inr, option_map, Opt, Item, Standing, Value}
-use Rattle.mm_call.proofs.Below.{Digests, Fate, AreShown, IsIdle, shown, standing_items, Level, same_rest, Tied, shows}
-use Rattle.mm_call.proofs.BasicLaw.{AreBasic, unlacked, walk_basic}
+use Rattle.mm_call.proofs.Below.{◌∙◌, subst, if◌then◌else◌, StepFault, Meaning, Batch, Instance, basic, opt, History, Move, Foreign, Reset}
+use Rattle.mm_call.proofs.Below.{moved, total_of, digests_of, issued_bytes, ask_steps, BatchAnswer, Refusal, answer_on, by_lists}
+use Rattle.mm_call.proofs.Below.{by_digests, all_made, Found, found_at, found_unless_wanting, is_fresh, Course, Walked, walk, called}
+use Rattle.mm_call.proofs.Below.{seen_at, ended_by, given_for, from_reset, counted_part, counted_moves, moves_messages, IsAsked, AreAsked}
+use Rattle.mm_call.proofs.Below.{Comes, kept, grown, asked_by, same_batches, more_batches, Commits, nothing, batch, call_commits}
+use Rattle.mm_call.proofs.Below.{foreign_first, ◌⊎◌, inl, inr, option_map, Opt, Item, Standing, Value, Digests, Fate, AreShown, IsIdle}
+use Rattle.mm_call.proofs.Below.{shown, standing_items, Level, same_rest, Tied, shows}
+use Rattle.mm_call.proofs.BasicLaw.{AreBasic, unlacked, walk_basic, names_made}
 use Rattle.mm_call.proofs.Calling.{again_of, fresh_of, fresh_found}
 use Rattle.mm_call.proofs.Finding.{Asking, placed, right_at}
 use Rattle.mm_call.proofs.OptLaw.{seen_asking, opt_calls_agree_by_lists}
@@ -109,12 +109,6 @@ module _ (meaning : Meaning) (key : List ℕ) where
       (rw (no_messages (counted_moves y.is_open moves) (counted_part y)) tt)
       (rw none tt)
 
-  -- what a snapshot names is named after moves too
-  pub names_made : (moves : List Move) (y : History) (content : Content) → Names (basic meaning key) y content
-      → Names (basic meaning key) (all_made (by_lists (basic meaning key)) y moves) content
-  names_made [] y content n = n
-  names_made (m ∷ moves) y content n = names_made moves (moved (basic meaning key) y m) content (basic_names meaning key y m content n)
-
   pub basic_comes : (all others : List (List ℕ)) (asked : List Batch) (y : History) (c : Course) (offer : List ℕ) (b : Batch)
       → AreAsked all others asked (basic meaning key) y offer b
       → Comes (basic meaning key) y offer b (called (basic meaning key) (by_lists (basic meaning key)) y c offer b).state
@@ -126,7 +120,7 @@ module _ (meaning : Meaning) (key : List ℕ) where
       (record {
         clear = a.clear;
         listed = a.offered;
-        genuine = λ content right. names_made brought y content (a.genuine content right);
+        genuine = λ content right. names_made meaning key brought y content (a.genuine content right);
       })
 
 module _ (meaning : Meaning) (key barrier : List ℕ) where

@@ -10,12 +10,12 @@ use Rattle.mm_call.proofs.Below.{opt_commits, taking, committed-foreign, opt_clo
 use Rattle.mm_call.proofs.Going.{stands_at}
 use Rattle.mm_call.proofs.Finding.{lives}
 use Rattle.mm_call.proofs.OptHolding.{is_agrees, bare, within_items}
-use Rattle.mm_call.proofs.OptShapes.{none_counted, Shape, shape, opt_tied}
+use Rattle.mm_call.proofs.OptShapes.{none_counted, Shape, shape, opt_tied, reads_only}
 use Rattle.mm_call.proofs.Coming.{answered_only, opt_comes as comes}
 use Rattle.mm_call.proofs.OptLaw.{opt_calls_agree, placed_at}
 use Rattle.mm_call.proofs.OptAlike.{alike_still, alike_one, digests_still, Alike, still, grown_by, same_closed}
-use Rattle.mm_call.proofs.OptShown.{only_reads, breaks_off, commits_it, way, pushed_open, counts_opening, flag_kept, flag_set, shown_front}
-use Rattle.mm_call.proofs.OptShown.{shown_back, shown_shut, register_then, stands_with}
+use Rattle.mm_call.proofs.OptShown.{pushed_open, counts_opening, flag_kept, flag_set, shown_front, shown_back, shown_shut, register_then}
+use Rattle.mm_call.proofs.OptShown.{stands_with}
 use Rattle.mm_call.proofs.OptWalks.{sight}
 use Rattle.mm_model.specs.Chains as chains
 
@@ -243,18 +243,21 @@ module _ (meaning : Meaning) (key barrier : List ℕ) (all others : List (List �
     hands_by true fresh e is =
         hands_open (counts_open I y d moves e (opt_tied meaning key barrier y d c.course offer (One request) refl))
         (flag_kept meaning key barrier moves d e (ap closes (sym is.0) ∙ opt_closes c.course.fates true fresh (One request)))
-    hands_by false fresh e is =
+    hands_by false false e is =
+        let r = reads_only (c.course.fates 1).brings (c.course.fates 2).brings (c.course.fates 1).ends (c.course.fates 2).ends in
+        let l = left_reading y old middle offer request result c r.values s a e (sym is.0 ∙ r.are) in
+        hands_shut e l.0 l.1
+    hands_by false true e is =
         let b : Batch = One request in
-        let quiet : closes moves ≡ false = ap closes (sym is.0) ∙ opt_closes c.course.fates false fresh b in
-        elim (way c.course.fates false fresh b) [
-          | only_reads values only ↦
-              let l = left_reading y old middle offer request result c values s a e (sym is.0 ∙ only) in hands_shut e l.0 l.1
-          | breaks_off none unless ↦
-              hands_broken e (ap committed_in (sym is.0) ∙ none) quiet (λ answer gives. unless (is.1 answer gives))
-          | commits_it one ↦
+        let quiet : closes moves ≡ false = ap closes (sym is.0) ∙ opt_closes c.course.fates false true b in
+        elim (opt_commits c.course.fates false true b) [
+          | nothing none unless ↦
+              hands_broken e (ap committed_in (sym is.0) ∙ none) quiet
+              (λ answer gives. let clash : true ≡ false = unless (is.1 answer gives) in absurd (cc))
+          | batch one fresh ↦
               let one_made : committed_in moves ≡ b ∷ [] = ap committed_in (sym is.0) ∙ one in
-              hands_open (counts_opening I y d c.course.fates fresh b moves e
-              (subst (λ (ms : List Move). Shape c.course.fates fresh b ms) is.0 (shape c.course.fates fresh b)) one_made
+              hands_open (counts_opening I y d c.course.fates true b moves e
+              (subst (λ (ms : List Move). Shape c.course.fates true b ms) is.0 (shape c.course.fates true b)) one_made
               (opt_tied meaning key barrier y d c.course offer b refl)) (flag_set meaning key barrier moves d b one_made quiet)
         ]
 

@@ -13,10 +13,10 @@ use Rattle.mm_model.specs.Chains.{register_of}
 use Rattle.mm_call.specs.Tied.{nothing}
 use Rattle.mm_call.proofs.OptHolding.{bare, bare_digests}
 use Rattle.mm_call.proofs.OptWalks.{AreOwn, Each, ReadyFor, walk_each, own_changing}
-use Rattle.mm_call.proofs.Going.{brought_digests}
 use Rattle.mm_digest.specs.Messages.{extended_of}
 use Rattle.mm_model.specs.History.{value_of}
 use Rattle.mm_model.specs.HistoryLaws.{register_more}
+use Rattle.mm_call.specs.TrailLaws.{foreign_made as brought_digests}
 
 -- two reading steps, and the rest
 abbrev pub two_reads : List (List ℕ) → End → List (List ℕ) → End → Walked → Walked

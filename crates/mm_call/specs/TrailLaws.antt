@@ -11,8 +11,8 @@ use Rattle.mm_call.specs.Below.{ExtendRegister, beside, cell_after, items_after,
 use Rattle.mm_call.specs.Below.{made, Step, Reads, Changes, Writes}
 use Rattle.std.specs.List.{fold}
 use Rattle.mm_call.specs.Levels.{all_made, by_digests}
-use Rattle.mm_call.specs.Courses.{End, Done, Fails, Fate, Walked, walk, after_step, step_moves, writes_then}
-use Rattle.mm_call.specs.Standing.{cell_at, RegisterAt, StandsAt, shown_by, shown, counted_by}
+use Rattle.mm_call.specs.Courses.{Fate, Walked, walk, after_step, step_moves, writes_then}
+use Rattle.mm_call.specs.Standing.{RegisterAt, StandsAt, shown_by, shown, counted_by}
 use Rattle.mm_call.specs.Trails.{register_by, items_by, IsChange, IsWrite, MakesStep, Stepped, Rest, Trail, Leads, TrailsLead}
 
 -- the register's value, where its items are told
@@ -208,49 +208,30 @@ step_ends i d fate step old new fault s t = record {
       ∙ act_writes t.act step i d old.writes rest t.makes;
 }
 
--- the step that failed is the last
-failed : (i : Instance) (d : Digests) (step : Step) (values : List (List ℕ)) (is_made : Bool) (fault : StepFault) (rest : Walked)
-    (old new : Standing) → StepEnds i d step (step_moves step is_made values) old new
-    → Leads i d (after_step step values (Fails fault is_made) rest) old new (Some fault)
-failed i d step values is_made fault rest old new s = record {
-  stands = s.leads.stands;
-  broken = refl;
-  steps = s.steps;
-  writes = s.writes 0;
-  items = s.leads.items;
-}
-
--- a step that was done, and the rest
-done : (i : Instance) (d : Digests) (step : Step) (values : List (List ℕ)) (rest : Walked) (old middle new : Standing)
-    (fault : Option StepFault) → StepEnds i d step (step_moves step true values) old middle
-    → Leads i (all_made (by_digests i) d (step_moves step true values)) rest middle new fault
-    → Leads i d (after_step step values Done rest) old new fault
-done i d step values rest old middle new fault s l =
-    let both = leads_on i d (step_moves step true values) rest.moves old middle new s.leads (record { stands = l.stands; items = l.items })
-    in
-    record {
-      stands = both.stands;
-      broken = l.broken;
-      steps = l.steps ∙ ap (λ (n : ℕ). counted_by rest.steps n) s.steps;
-      writes = l.writes ∙ s.writes rest.writes;
-      items = both.items;
-    }
-
--- the end of a step by its answer
+-- a step that was done, and the rest; or one that failed, the last
 ended : (answer : Option StepFault) (i : Instance) (d : Digests) (fate : Fate) (step : Step) (rest : Walked) (old middle new : Standing)
     (fault : Option StepFault) (going : Type 0) → StandsAt i old d → Stepped i d fate step old middle answer
-    →
-    (going → StandsAt i middle (all_made (by_digests i) d (step_moves step true fate.brings)) → Leads i (all_made (by_digests i) d
-    (step_moves step true fate.brings)) rest middle new fault) → Rest answer going ((new ≡ middle) × (fault
-    ≡ answer)) → Leads i d (after_step step fate.brings fate.ends rest) old new fault
+    → (let e : Digests = all_made (by_digests i) d (step_moves step true fate.brings) in
+    (going → StandsAt i middle e → Leads i e rest middle new fault) → Rest answer going ((new ≡ middle) × (fault ≡ answer))
+    → Leads i d (after_step step fate.brings fate.ends rest) old new fault)
 ended None i d fate step rest old middle new fault going s t h r =
-    let ends : StepEnds i d step (step_moves step true fate.brings) old middle =
+    let moves : List Move = step_moves step true fate.brings in
+    let ends : StepEnds i d step moves old middle =
     subst (λ (m : Bool). StepEnds i d step (step_moves step m fate.brings) old middle) t.goes.ends.made
     (step_ends i d fate step old middle None s t) in
-    rw t.ends (done i d step fate.brings rest old middle new fault ends (h r ends.leads.stands))
+    let l = h r ends.leads.stands in
+    let both = leads_on i d moves rest.moves old middle new ends.leads (record { stands = l.stands; items = l.items }) in
+    rw t.ends (record {
+      stands = both.stands;
+      broken = l.broken;
+      steps = l.steps ∙ ap (λ (n : ℕ). counted_by rest.steps n) ends.steps;
+      writes = l.writes ∙ ends.writes rest.writes;
+      items = both.items;
+    })
 ended (Some f) i d fate step rest old middle new fault going s t h r =
+    let ends = step_ends i d fate step old middle (Some f) s t in
     rw (t.ends, r.0, r.1)
-    (failed i d step fate.brings t.goes.is_made f rest old middle (step_ends i d fate step old middle (Some f) s t))
+    (record { stands = ends.leads.stands; broken = refl; steps = ends.steps; writes = ends.writes 0; items = ends.leads.items })
 
 pub leads : TrailsLead
 leads i d fates n [] old new fault s t =
