@@ -5,10 +5,9 @@ use Rattle.mm_call.proofs.Below.{append-nil, map-append, StepFault, Batch, Move,
 use Rattle.mm_call.proofs.Below.{History, counted_moves, from_reset, from_reset-foreign, Writes, End, Done, Fails, Fate, Walked, after_step}
 use Rattle.mm_call.proofs.Below.{walk, finished, changing, if◌then◌else◌, Opt, extended_message, Item, own_item, foreign_item, item_values}
 use Rattle.mm_call.proofs.Below.{Meaning, after, trail, guard, Instance, opt, Entry, Own, Value, moved, committed, register_value_of}
-use Rattle.mm_call.proofs.Below.{entry_values, moving_messages, move_messages, Digests, made, committing, after-append, trail-append}
-use Rattle.mm_call.proofs.Below.{values_renamed, by_lists, by_digests, all_made, found_at, found_unless_wanting, is_fresh, seen_at, shown}
-use Rattle.mm_call.proofs.Below.{shown_by, moves_messages, foreign_in, foreign_items, Tied, shows, OptTied, all_made-append, shown-append}
-use Rattle.mm_call.proofs.Below.{made-append, foreign_in-append, messages-made, asks, each_self, renamed, taking}
+use Rattle.mm_call.proofs.Below.{entry_values, moving_messages, move_messages, Digests, made, committing, trail-append, values_renamed}
+use Rattle.mm_call.proofs.Below.{by_digests, found_at, found_unless_wanting, is_fresh, seen_at, shown, shown_by, moves_messages, foreign_in}
+use Rattle.mm_call.proofs.Below.{foreign_items, Tied, shows, OptTied, shown-append, foreign_in-append, asks, each_self, renamed, taking}
 use Rattle.mm_model.specs.Chains.{register_of}
 use Rattle.mm_call.specs.Tied.{nothing}
 use Rattle.mm_call.proofs.OptHolding.{bare, bare_digests}
@@ -103,37 +102,38 @@ foreign_of-append (x ∷ xs) ys =
       item_then true v a b c e = e
       item_then false v a b c e = ap (λ w. v ∷ w) e
 
--- Moves push these items into the register: they are shown behind what was there, and their messages are hashed one after
--- another from the register's value on.
-record Pushes (i : Instance) (y : History) (d : Digests) (moves : List Move) (more : List Item) : Type 0 where
+-- Moves push items into the register: they are shown behind what was there, and their messages are hashed one after another
+-- from the register's value on.
+record Pushed (i : Instance) (y : History) (d : Digests) (moves : List Move) : Type 0 where
+  more : List Item
   messages : moves_messages i y moves ≡ trail extended_message (register_value_of i y) (item_values more)
   values : foreign_in moves ≡ foreign_items more
   shown_are : (items : List Item) → shown i d moves items ≡ items ++ more
-  register : register_value_of i (all_made (by_lists i) y moves) ≡ after extended_message (register_value_of i y) (item_values more)
-  flag : (all_made (by_digests i) d moves).flag ≡ (all_made (by_lists i) y moves).is_open
 
-pushes_none : (i : Instance) (y : History) (d : Digests) → d.flag ≡ y.is_open → Pushes i y d [] []
-pushes_none i y d e = record { messages = refl; values = refl; shown_are = λ items. sym (append-nil items); register = refl; flag = e }
+-- the same of one move, and what is behind it
+record PushesOne (i : Instance) (y : History) (d : Digests) (m : Move) : Type 0 where
+  more : List Item
+  messages : move_messages i y m ≡ trail extended_message (register_value_of i y) (item_values more)
+  values : foreign_in (m ∷ []) ≡ foreign_items more
+  shown_are : (items : List Item) → shown_by i.variant d.flag i m items ≡ items ++ more
+  register : register_value_of i (moved i y m) ≡ after extended_message (register_value_of i y) (item_values more)
+  flag : (made i d m).flag ≡ (moved i y m).is_open
 
-pushes_then : (i : Instance) (y : History) (d : Digests) (xs ys : List Move) (more later : List Item) → Pushes i y d xs more
-    → Pushes i (all_made (by_lists i) y xs) (all_made (by_digests i) d xs) ys later → Pushes i y d (xs ++ ys) (more ++ later)
-pushes_then i y d xs ys more later p q =
+pushed_then : (i : Instance) (y : History) (d : Digests) (m : Move) (moves : List Move) → PushesOne i y d m
+    → Pushed i (moved i y m) (made i d m) moves → Pushed i y d (m ∷ moves)
+pushed_then i y d m moves p q =
     let r : List ℕ = register_value_of i y in
-    let z : History = all_made (by_lists i) y xs in
-    let split : item_values (more ++ later) ≡ item_values more ++ item_values later = map-append (λ (item : Item). item.value) more later in
-    let lists : all_made (by_lists i) y (xs ++ ys) ≡ all_made (by_lists i) z ys = made-append (by_lists i) xs ys y in
     record {
-      messages = messages-made i xs ys y ∙ ap (λ v. v ++ moves_messages i z ys) p.messages
-          ∙ ap (λ v. trail extended_message r (item_values more) ++ v) (q.messages
-          ∙ ap (λ s. trail extended_message s (item_values later)) p.register)
-          ∙ sym (trail-append extended_message r (item_values more) (item_values later)) ∙ ap (trail extended_message r) (sym split);
-      values = foreign_in-append xs ys ∙ ap (λ v. v ++ foreign_in ys) p.values ∙ ap (λ v. foreign_items more ++ v) q.values
-          ∙ sym (foreign_of-append more later);
-      shown_are = λ items. shown-append i d xs ys items ∙ q.shown_are (shown i d xs items) ∙ ap (λ v. v ++ later) (p.shown_are items)
-          ∙ append_assoc items more later;
-      register = ap (register_value_of i) lists ∙ q.register ∙ ap (λ s. after extended_message s (item_values later)) p.register
-          ∙ sym (after-append extended_message r (item_values more) (item_values later)) ∙ ap (after extended_message r) (sym split);
-      flag = ap (λ (x : Digests). x.flag) (all_made-append i d xs ys) ∙ q.flag ∙ ap (λ (x : History). x.is_open) (sym lists);
+      more = p.more ++ q.more;
+      messages = ap (λ v. v ++ moves_messages i (moved i y m) moves) p.messages
+          ∙ ap (λ v. trail extended_message r (item_values p.more) ++ v) (q.messages
+          ∙ ap (λ s. trail extended_message s (item_values q.more)) p.register)
+          ∙ sym (trail-append extended_message r (item_values p.more) (item_values q.more))
+          ∙ ap (trail extended_message r) (sym (map-append (λ (item : Item). item.value) p.more q.more));
+      values = foreign_in-append (m ∷ []) moves ∙ ap (λ v. v ++ foreign_in moves) p.values ∙ ap (λ v. foreign_items p.more ++ v) q.values
+          ∙ sym (foreign_of-append p.more q.more);
+      shown_are = λ items. q.shown_are (shown_by i.variant d.flag i m items) ∙ ap (λ v. v ++ q.more) (p.shown_are items)
+          ∙ append_assoc items p.more q.more;
     }
 
 -- one more value in the register
@@ -150,51 +150,6 @@ module _ (meaning : Meaning) (key barrier : List ℕ) where
       ≡ extended_message (register_value_of I y) v ∷ []
   foreign_messages y flag v = refl
 
-  pushes_value : (y : History) (d : Digests) (v : List ℕ) → d.flag ≡ y.is_open → Pushes I y d (Foreign v ∷ []) (foreign_item v ∷ [])
-  pushes_value y d v e = record {
-    messages = append-nil (move_messages I y (Foreign v));
-    values = refl;
-    shown_are = λ items. refl;
-    register = register_then barrier y.items (Value v);
-    flag = e;
-  }
-
-  -- a commit inside a segment
-  pushes_commit : (y : History) (d : Digests) (b : Batch) → d.flag ≡ true → y.is_open ≡ true
-      → Pushes I y d (Commit b ∷ []) (own_item (guard barrier b) ∷ [])
-  pushes_commit y d b f e =
-      record {
-        messages = append-nil (move_messages I y (Commit b)) ∙ rw e refl;
-        values = refl;
-        shown_are = λ items. rw f refl;
-        register = rw e (register_then barrier y.items (Own b));
-        flag = rw (f, e) refl;
-      }
-
-  -- the extension before a segment is opened
-  pushes_placed : (y : History) (d : Digests) (b : Batch) → d.flag ≡ y.is_open
-      → Pushes I y d (Placed b ∷ []) (own_item (guard barrier b) ∷ [])
-  pushes_placed y d b e = record {
-    messages = append-nil (move_messages I y (Placed b));
-    values = refl;
-    shown_are = λ items. refl;
-    register = register_then barrier y.items (Value (guard barrier b));
-    flag = e;
-  }
-
-  -- the commit that opens the segment, behind that extension
-  pushes_opening : (y : History) (d : Digests) (front : List Entry) (b : Batch) → d.flag ≡ false → y.is_open ≡ false
-      → y.items ≡ front ++ Value (guard barrier b) ∷ [] → Pushes I y d (Commit b ∷ []) []
-  pushes_opening y d front b f e is =
-      let lists : moved I y (Commit b) ≡ committed Opt false y b = ap (λ g. committed Opt g y b) e in record {
-        messages = append-nil (move_messages I y (Commit b)) ∙ ap (λ g. moving_messages Opt g I y (Commit b)) e;
-        values = refl;
-        shown_are = λ items. ap (λ g. shown_by Opt g I (Commit b) items) f ∙ sym (append-nil items);
-        register = ap (register_value_of I) lists ∙ ap (λ v. register_of (entry_values barrier (renamed v b))) is
-            ∙ ap register_of (values_renamed barrier front b) ∙ ap (λ v. register_of (entry_values barrier v)) (sym is);
-        flag = ap (λ g. (committing Opt g I d b).flag) f ∙ ap (λ (x : History). x.is_open) (sym lists);
-      }
-
   -- The moves that push something, or rename it: a commit is one inside a segment, or behind its own extension.
   abbrev IsPushing : Bool → History → Move → Type 0
   IsPushing flag y (Foreign v) = Unit {0}
@@ -206,29 +161,53 @@ module _ (meaning : Meaning) (key barrier : List ℕ) where
   abbrev MayPush : History → Move → Type 0
   MayPush y m = IsPushing y.is_open y m
 
-  -- what some moves push
-  record Pushed (y : History) (d : Digests) (moves : List Move) : Type 0 where
-    more : List Item
-    pushes : Pushes I y d moves more
-
   pushed_one : (flag : Bool) (y : History) (d : Digests) (m : Move) → y.is_open ≡ flag → d.flag ≡ flag → IsPushing flag y m
-      → Pushed y d (m ∷ [])
-  pushed_one flag y d (Foreign v) e f p = record { more = foreign_item v ∷ []; pushes = pushes_value y d v (f ∙ sym e) }
-  pushed_one flag y d (Placed b) e f p = record { more = own_item (guard barrier b) ∷ []; pushes = pushes_placed y d b (f ∙ sym e) }
-  pushed_one true y d (Commit b) e f p = record { more = own_item (guard barrier b) ∷ []; pushes = pushes_commit y d b f e }
-  pushed_one false y d (Commit b) e f p = record { more = []; pushes = pushes_opening y d p.0 b f e p.1 }
+      → PushesOne I y d m
+  pushed_one flag y d (Foreign v) e f p = record {
+    more = foreign_item v ∷ [];
+    messages = refl;
+    values = refl;
+    shown_are = λ items. refl;
+    register = register_then barrier y.items (Value v);
+    flag = f ∙ sym e;
+  }
+  pushed_one flag y d (Placed b) e f p = record {
+    more = own_item (guard barrier b) ∷ [];
+    messages = refl;
+    values = refl;
+    shown_are = λ items. refl;
+    register = register_then barrier y.items (Value (guard barrier b));
+    flag = f ∙ sym e;
+  }
+  pushed_one true y d (Commit b) e f p = record {
+    more = own_item (guard barrier b) ∷ [];
+    messages = rw e refl;
+    values = refl;
+    shown_are = λ items. rw f refl;
+    register = rw e (register_then barrier y.items (Own b));
+    flag = rw (f, e) refl;
+  }
+  pushed_one false y d (Commit b) e f p =
+      let lists : moved I y (Commit b) ≡ committed Opt false y b = ap (λ g. committed Opt g y b) e in record {
+        more = [];
+        messages = ap (λ g. moving_messages Opt g I y (Commit b)) e;
+        values = refl;
+        shown_are = λ items. ap (λ g. shown_by Opt g I (Commit b) items) f ∙ sym (append-nil items);
+        register = ap (register_value_of I) lists ∙ ap (λ v. register_of (entry_values barrier (renamed v b))) p.1
+            ∙ ap register_of (values_renamed barrier p.0 b) ∙ ap (λ v. register_of (entry_values barrier v)) (sym p.1);
+        flag = ap (λ g. (committing Opt g I d b).flag) f ∙ ap (λ (x : History). x.is_open) (sym lists);
+      }
   pushed_one _ y d _ e f p = absurd p
 
-  pushed_each : (moves : List Move) (y : History) (d : Digests) → d.flag ≡ y.is_open → Each MayPush I y moves → Pushed y d moves
-  pushed_each [] y d e each = record { more = []; pushes = pushes_none I y d e }
+  pushed_each : (moves : List Move) (y : History) (d : Digests) → d.flag ≡ y.is_open → Each MayPush I y moves → Pushed I y d moves
+  pushed_each [] y d e each = record { more = []; messages = refl; values = refl; shown_are = λ items. sym (append-nil items) }
   pushed_each (m ∷ moves) y d e each =
       let p = pushed_one y.is_open y d m refl e each.0 in
-      let q = pushed_each moves (moved I y m) (made I d m) p.pushes.flag each.1 in
-      record { more = p.more ++ q.more; pushes = pushes_then I y d (m ∷ []) moves p.more q.more p.pushes q.pushes }
+      pushed_then I y d m moves p (pushed_each moves (moved I y m) (made I d m) p.flag each.1)
 
   -- a walk whose steps push
   walk_pushed : (fates : ℕ → Fate) (n : ℕ) (steps : List Step) (y : History) (d : Digests) → d.flag ≡ y.is_open → AreOwn steps
-      → ReadyFor MayPush (foreign_in (walk fates n steps).moves) I fates n steps y → Pushed y d (walk fates n steps).moves
+      → ReadyFor MayPush (foreign_in (walk fates n steps).moves) I fates n steps y → Pushed I y d (walk fates n steps).moves
   walk_pushed fates n steps y d e own ready =
       let moves : List Move = (walk fates n steps).moves in
       pushed_each moves y d e
@@ -249,33 +228,33 @@ module _ (meaning : Meaning) (key barrier : List ℕ) where
   abbrev part : Bool → History → History
   part g y = record y { items = if g then y.items else [] }
 
-  inside_tied : (y : History) (d : Digests) (moves : List Move) → y.is_open ≡ true → Pushed y d moves → Tied I y d moves
+  inside_tied : (y : History) (d : Digests) (moves : List Move) → y.is_open ≡ true → Pushed I y d moves → Tied I y d moves
   inside_tied y d moves e p =
       shows p.more (record {
-        messages = ap (λ g. moves_messages I (part g y) (counted_moves g moves)) e ∙ p.pushes.messages
+        messages = ap (λ g. moves_messages I (part g y) (counted_moves g moves)) e ∙ p.messages
             ∙ ap (λ g. trail extended_message (register_value_of I (part g y)) (item_values p.more)) (sym e);
-        values = rw e p.pushes.values;
-      }) (λ items. rw e (p.pushes.shown_are items))
+        values = rw e p.values;
+      }) (λ items. rw e (p.shown_are items))
 
   reset_tied : (y : History) (d : Digests) (values : List (List ℕ)) (rest : List Move) → y.is_open ≡ false
-      → Pushed (bare y) (bare_digests d) rest → Tied I y d (map Foreign values ++ Reset ∷ rest)
+      → Pushed I (bare y) (bare_digests d) rest → Tied I y d (map Foreign values ++ Reset ∷ rest)
   reset_tied y d values rest e p =
       let moves : List Move = map Foreign values ++ Reset ∷ rest in
       let begins : from_reset moves ≡ Reset ∷ rest = from_reset-foreign values (Reset ∷ rest) in
       shows p.more
       (record {
         messages = ap (λ g. moves_messages I (part g y) (counted_moves g moves)) e ∙ ap (moves_messages I (bare y)) begins
-            ∙ p.pushes.messages ∙ ap (λ g. trail extended_message (register_value_of I (part g y)) (item_values p.more)) (sym e);
-        values = rw e (ap foreign_in begins ∙ p.pushes.values);
+            ∙ p.messages ∙ ap (λ g. trail extended_message (register_value_of I (part g y)) (item_values p.more)) (sym e);
+        values = rw e (ap foreign_in begins ∙ p.values);
       }) (λ items. rw e (shown-append I d (map Foreign values) (Reset ∷ rest) items
-      ∙ ap (λ (x : Digests). shown I (bare_digests x) rest []) (ap bare_digests (brought_digests I d values)) ∙ p.pushes.shown_are []))
+      ∙ ap (λ (x : Digests). shown I (bare_digests x) rest []) (ap bare_digests (brought_digests I d values)) ∙ p.shown_are []))
 
   shut_tied : (y : History) (d : Digests) (fates : ℕ → Fate) (fresh : Bool) (b : Batch) (moves : List Move) → d.flag ≡ false
       → y.is_open ≡ false → Shape fates fresh b moves → Tied I y d moves
   shut_tied y d fates fresh b moves f e (still values is) = nothing (none_counted y values moves e is)
   shut_tied y d fates fresh b moves f e (reset values rest is k) =
-      let p : Pushed (bare y) (bare_digests d) rest = elim k [
-        | inl none ↦ rw none (record { more = []; pushes = pushes_none I (bare y) (bare_digests d) (f ∙ sym e) })
+      let p : Pushed I (bare y) (bare_digests d) rest = elim k [
+        | inl none ↦ rw none (pushed_each [] (bare y) (bare_digests d) (f ∙ sym e) tt)
         | inr more ↦ rw more.1 (walk_pushed fates 4 (opening b) (bare y) (bare_digests d)
             (f ∙ sym e) (refl, (refl, tt)) (opening_ready _ fates b (bare y) e))
       ] in
