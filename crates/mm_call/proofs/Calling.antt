@@ -1,12 +1,15 @@
--- What a call answers, by lists and by digests; and, in Basic, the messages of a history that goes on by the batch.
+-- What a call answers and how it ends, by lists and by digests; and, in Basic, the messages of a history that goes on by the batch.
 use Rattle.mm_call.proofs.Below.{ℕ, ◌≡◌, ◌+◌, ◌-◌, Bool, true, false, List, [], ◌∷◌, ◌++◌, drop, refl, sym, ap, ◌∙◌, subst, arith}
 use Rattle.mm_call.proofs.Below.{if◌then◌else◌, Contains, flat_map-append, append-nil, Basic, start_of, Meaning, state_after, outputs_from}
 use Rattle.mm_call.proofs.Below.{state_from, Batch, members_of, size_of, state_after-append, outputs_from-append, length-outputs_from}
 use Rattle.mm_call.proofs.Below.{Content, sealed_of, Place, InBasic, InOpt, link, link_message, trail, Instance, basic, History}
 use Rattle.mm_call.proofs.Below.{requests_of, total_of, Within, history_messages, offer_messages, IsPlaceOf, issued_place, BatchAnswer}
-use Rattle.mm_call.proofs.Below.{trail_push, summary-push, total-push, answer_at, answer_on}
+use Rattle.mm_call.proofs.Below.{trail_push, summary-push, total-push, answer_at, answer_on, Option, None, Some, Result, Ok, Err, StepFault}
+use Rattle.mm_call.proofs.Below.{Digests, Refusal, by_lists, by_digests, all_made, place_then, Found, is_fresh, Walked, commits, Answers}
+use Rattle.mm_call.proofs.Below.{Breaks, ended_by, kept_at, committed_in, batches-made, more_batches, Commits, nothing, batch, commits-none}
 use Rattle.mm_model.specs.Chains.{summary_of}
 use Rattle.std.proofs.lemmas.List.{drop_at}
+use Rattle.mm_call.proofs.Finding.{Placed}
 
 pub requests-push : (bs : List Batch) (b : Batch) → requests_of (bs ++ b ∷ []) ≡ requests_of bs ++ members_of b
 requests-push bs b = flat_map-append members_of bs (b ∷ []) ∙ ap (λ v. requests_of bs ++ v) (append-nil (members_of b))
@@ -83,15 +86,6 @@ summary_then id batches named b true digest e fresh repeat = e ∙ ap (summary_o
 summary_then id batches named b false digest e fresh repeat =
     ap (λ x. link x b) (e ∙ ap (summary_of id) (sym (fresh refl))) ∙ sym (summary-push id named b)
 
--- the batches at the end of a call that isn't broken off, or that committed its batch
-pub ended_batches : (batches named committed : List Batch) (b : Batch) (again : Bool) → (again ≡ false → named ≡ batches)
-    → (again ≡ true → named ++ b ∷ [] ≡ batches) → (again ≡ true → committed ≡ []) → (again ≡ false → committed ≡ b ∷ [])
-    → batches ++ committed ≡ named ++ b ∷ []
-ended_batches batches named committed b true fresh repeat none one =
-    ap (λ v. batches ++ v) (none refl) ∙ append-nil batches ∙ sym (repeat refl)
-ended_batches batches named committed b false fresh repeat none one =
-    ap (λ v. batches ++ v) (one refl) ∙ ap (λ v. v ++ b ∷ []) (sym (fresh refl))
-
 -- the messages of a history that goes on by the batch
 pub listed_push : (meaning : Meaning) (key : List ℕ) (all : List (List ℕ)) (y y' : History) (b : Batch)
     → Within (history_messages (basic meaning key) y) all → Contains all (link_message (summary_of meaning.id y.batches) b)
@@ -115,3 +109,74 @@ called_message meaning key all y b (InBasic s) named called is e =
     let P : List ℕ → Type 0 = λ v. Contains all (link_message v b) in
     subst P (is ∙ ap (summary_of meaning.id) e) called.0
 called_message meaning key all y b (InOpt a x) named called is e = absurd is
+
+pub again_of : (again : Bool) → (if again then false else true) ≡ false → again ≡ true
+again_of true e = refl
+again_of false e = cc
+
+pub fresh_of : (again : Bool) → (if again then false else true) ≡ true → again ≡ false
+fresh_of true e = cc
+fresh_of false e = refl
+
+pub fresh_found : (found : Result Found Refusal) → is_fresh found ≡ true → (f : Found) × (found ≡ Ok f) × (f.again ≡ false)
+fresh_found (Ok f) e = (f, refl, fresh_of f.again e)
+fresh_found (Err why) e = cc
+
+pub kept_same : (committed : Bool) (p q : ℕ) → (committed ≡ true → p ≡ q) → kept_at committed p ≡ kept_at committed q
+kept_same true p q e = ap (λ x. Some x) (e refl)
+kept_same false p q e = refl
+
+-- what is known at the end of a call: what it found at a history with the same batches, and that the place of its answer is that of
+-- the history
+pub record Ends (all : List (List ℕ)) (i : Instance) (z y : History) (seen : Digests) (b : Batch) (walked : Walked)
+    (found : Result Found Refusal) : Type 0 where
+  pub same : z.batches ≡ y.batches
+  pub found_at : (f : Found) → found ≡ Ok f → Placed all i z b f
+  pub place : (f : Found) → found ≡ Ok f → walked.broken ≡ None →
+      place_then i.variant seen.flag f.again i seen b
+      ≡ issued_place i.variant (all_made (by_lists i) y walked.moves).is_open i (all_made (by_lists i) y walked.moves)
+
+-- the batches at the end of a call that isn't broken off
+pub ended_batches : (batches named : List Batch) (b : Batch) (again : Bool) (walked : Walked) → (again ≡ false → named ≡ batches)
+    → (again ≡ true → named ++ b ∷ [] ≡ batches) → Commits b (if again then false else true) walked → walked.broken ≡ None
+    → batches ++ committed_in walked.moves ≡ named ++ b ∷ []
+ended_batches batches named b again walked fresh repeat (nothing none unless) whole =
+    ap (λ v. batches ++ v) none ∙ append-nil batches ∙ sym (repeat (again_of again (unless whole)))
+ended_batches batches named b again walked fresh repeat (batch one is) whole =
+    ap (λ v. batches ++ v) one ∙ ap (λ v. v ++ b ∷ []) (sym (fresh (fresh_of again is)))
+
+answers_same : (all : List (List ℕ)) (i : Instance) (z y : History) (seen : Digests) (b : Batch) (walked : Walked) (f : Found)
+    → Ends all i z y seen b walked (Ok f) → Commits b (if f.again then false else true) walked → walked.broken ≡ None
+    → (s : Digests) (t : History) → (by_digests i).answer f.again seen s f.offered b
+    ≡ (by_lists i).answer f.again t (all_made (by_lists i) y walked.moves) f.offered b
+answers_same all i z y seen b walked f ends c whole s t =
+    let p = ends.found_at f refl in
+    let end : History = all_made (by_lists i) y walked.moves in
+    let batches = batches-made i walked.moves y ∙ ended_batches y.batches p.named b f.again walked (λ x. p.fresh x ∙ ends.same)
+    (λ x. p.repeat x ∙ ends.same) c whole in
+    answer-digests i p.named b f.again f.offered (place_then i.variant seen.flag f.again i seen b)
+    (issued_place i.variant end.is_open i end) p.position p.state (ends.place f refl whole)
+    ∙ sym (answer-lists i end p.named b f.again batches)
+
+-- the position of a batch that was committed
+position_same : (all : List (List ℕ)) (i : Instance) (z y : History) (b : Batch) (walked : Walked) (f : Found) → z.batches ≡ y.batches
+    → Placed all i z b f → f.again ≡ false → committed_in walked.moves ≡ b ∷ [] → f.offered.position + size_of b ≡ total_of (all_made (by_lists i) y walked.moves).batches
+position_same all i z y b walked f same p fresh one =
+    let total = ap total_of (more_batches i walked.moves y b one) ∙ total-push y.batches b in
+    let named = p.position ∙ ap total_of (p.fresh fresh ∙ same) in
+    omega arith
+
+pub ending_same : (all : List (List ℕ)) (i : Instance) (z y t : History) (seen s : Digests) (b : Batch) (walked : Walked)
+    (broken : Option StepFault) (found : Result Found Refusal) → walked.broken ≡ broken → Ends all i z y seen b walked found
+    → Commits b (is_fresh found) walked
+    → ended_by (by_digests i) seen s b found walked.moves broken
+    ≡ ended_by (by_lists i) t (all_made (by_lists i) y walked.moves) b found walked.moves broken
+ending_same all i z y t seen s b walked (Some fault) (Err why) e ends c = refl
+ending_same all i z y t seen s b walked None (Err why) e ends c = refl
+ending_same all i z y t seen s b walked (Some fault) (Ok f) e ends (nothing none unless) =
+    ap (λ k. Breaks fault k) (kept_same (commits walked.moves) _ _ (λ x. let clash = sym (commits-none walked.moves none) ∙ x in cc))
+ending_same all i z y t seen s b walked (Some fault) (Ok f) e ends (batch one fresh) =
+    ap (λ k. Breaks fault k) (kept_same (commits walked.moves) _ _
+    (λ x. position_same all i z y b walked f ends.same (ends.found_at f refl) (fresh_of f.again fresh) one))
+ending_same all i z y t seen s b walked None (Ok f) e ends c =
+    ap (λ a. Answers a) (answers_same all i z y seen b walked f ends c e s t)

@@ -1,18 +1,17 @@
 -- A checkpoint is by digests what it is by lists, on every course.
-use Rattle.mm_call.proofs.Below.{ℕ, ◌≡◌, Bool, true, false, List, [], ◌∷◌, map, Option, Some, refl, sym, ap, ◌∙◌, subst}
-use Rattle.mm_call.proofs.Below.{append-nil, Opt, StepFault, Meaning, Batch, Instance, basic, opt, History}
-use Rattle.mm_call.proofs.Below.{Move, Foreign, Close, life_of, is_lost, is_empty, Digests, Step, Reads, Writes, checkpoint_steps, by_lists}
-use Rattle.mm_call.proofs.Below.{by_digests, all_made, Agrees, End, Done, Fails, Fate, Course, Walked, after_step, walk, closes, IsPlain}
-use Rattle.mm_call.proofs.Below.{IsWithin, agrees-made, plain-made, committed_in, same_batches, committed-foreign, finished}
-use Rattle.mm_call.specs.Checkpoints.{Closing, Checkpointed, closing_of, checkpointed_by, checkpointed, IsClosedWithin, IsSameCheckpoint}
+use Rattle.mm_call.proofs.Below.{ℕ, ◌≡◌, Bool, true, false, List, [], ◌∷◌, map, refl, sym, ap, ◌∙◌, subst, append-nil, Opt, Meaning, Batch}
+use Rattle.mm_call.proofs.Below.{Instance, basic, opt, History, Foreign, Close, life_of, is_lost, is_empty, Digests, Step, Reads, Writes}
+use Rattle.mm_call.proofs.Below.{checkpoint_steps, by_lists, by_digests, all_made, Agrees, End, Done, Fails, Fate, Course, Walked}
+use Rattle.mm_call.proofs.Below.{after_step, walk, closes, IsPlain, IsWithin, agrees-made, plain-made, committed_in, same_batches}
+use Rattle.mm_call.proofs.Below.{committed-foreign, finished}
+use Rattle.mm_call.specs.Checkpoints.{Closing, NoSegment, closing_of, checkpointed_by, checkpointed, IsClosedWithin, IsSameCheckpoint}
 use Rattle.mm_call.specs.Checkpoints.{BasicCheckpointsAgree, OptCheckpointsAgree}
+use Rattle.mm_call.proofs.OptHolding.{Holds, holds_open}
 use Rattle.mm_call.specs.CheckpointsWords.{closed_by}
-use Rattle.mm_call.proofs.OptFinding.{lost_same, not_lost}
-use Rattle.mm_call.proofs.OptWalks.{Ready, AreOwn}
-use Rattle.mm_call.proofs.OptReady.{ready_closing}
-use Rattle.mm_call.proofs.OptShut.{holds_open}
+use Rattle.mm_call.proofs.Finding.{lost_same, not_lost}
+use Rattle.mm_call.proofs.OptWalks.{Ready, AreOwn, ready_closing, before, sight, sight_is}
 use Rattle.mm_call.proofs.BasicLaw.{AreBasic, basic-foreign, within_same}
-use Rattle.mm_call.proofs.OptLaw.{before, counts_open, foreign_stands, StandsAfter, cut_off, passed, sight, sight_is, went}
+use Rattle.mm_call.proofs.OptLaw.{counts_at, foreign_stands, same_on, same_walks}
 
 -- the moves of a reading step alone are others' values
 pub read_moves : (values : List (List ℕ)) (ends : End) → (after_step Reads values ends finished).moves ≡ map Foreign values
@@ -60,108 +59,71 @@ own_closing : (lost : Bool) → AreOwn (closing_steps lost)
 own_closing true = tt
 own_closing false = (refl, tt)
 
-stops_same : (broken : Option StepFault) (closed : Bool) (fault : StepFault) (closing other : Closing) → broken ≡ Some fault
-    → closed_by broken closed closing ≡ closed_by broken closed other
-stops_same broken closed fault closing other e = ap (λ x. closed_by x closed closing) e ∙ ap (λ x. closed_by x closed other) (sym e)
-
-abbrev close_walk : Course → Bool → Walked
-close_walk c lost = walk c.fates 1 (Reads ∷ Reads ∷ closing_steps lost)
-
 module _ (meaning : Meaning) (key barrier : List ℕ) (all others : List (List ℕ)) (asked : List Batch) where
   abbrev I : Instance
   I = opt meaning key barrier
-
-  abbrev Same : Checkpointed History → Checkpointed Digests → Type 0
-  Same lists digests = IsSameCheckpoint all others asked I lists digests
 
   ready_close : (fates : ℕ → Fate) (z : History) (lost : Bool) → z.is_open ≡ true → (lost ≡ false → is_empty z.items ≡ false)
       → Ready all others asked I fates 3 (closing_steps lost) z
   ready_close fates z true e held = tt
   ready_close fates z false e held = ready_closing meaning key barrier all others asked fates z e (held refl)
 
-  abbrev LostLists : History → Course → Bool
-  LostLists y c = (by_lists I).is_lost (all_made (by_lists I) y (before c))
+  module _ (y : History) (d : Digests) (c : Course) (agrees : Agrees I y d) where
+    abbrev lost : Bool
+    lost = (by_lists I).is_lost (all_made (by_lists I) y (before c))
 
-  abbrev LostDigests : Digests → Course → Bool
-  LostDigests d c = (by_digests I).is_lost (all_made (by_digests I) d (before c))
+    abbrev other : Bool
+    other = (by_digests I).is_lost (all_made (by_digests I) d (before c))
 
-  abbrev Within_ : History → List Move → Type 0
-  Within_ y moves = IsClosedWithin all others asked I y moves
+    -- by whether a segment is open, and by the moves of the steps that follow from what is seen by lists or by digests
+    abbrev AreSame : Bool → Type 0
+    AreSame flag =
+        (x : Bool) → (other ≡ lost → x ≡ lost)
+        → IsClosedWithin all others asked I y (walk c.fates 1 (checkpoint_steps Opt flag x)).moves
+        → IsSameCheckpoint all others asked I
+        (checkpointed_by (by_lists I) y (closing_of Opt flag lost) (walk c.fates 1 (checkpoint_steps Opt flag lost)))
+        (checkpointed_by (by_digests I) d (closing_of Opt flag other) (walk c.fates 1 (checkpoint_steps Opt flag other)))
 
-  same_on : (y : History) (d : Digests) (lists digests : Closing) (w : Walked)
-      → closed_by w.broken (closes w.moves) digests ≡ closed_by w.broken (closes w.moves) lists
-      → StandsAfter meaning key barrier all others asked y d w.moves
-      → Same (checkpointed_by (by_lists I) y lists w) (checkpointed_by (by_digests I) d digests w)
-  same_on y d lists digests w ending after =
-      record { ending = ending; moves = refl; steps = refl; writes = refl; agrees = after.agrees; within = after.within }
+    by_flag : (flag : Bool) → y.is_open ≡ flag → AreSame flag
+    by_flag false e x k a =
+        let w : Walked = walk c.fates 1 (Reads ∷ []) in
+        let ending : Closing = closed_by w.broken (closes w.moves) NoSegment in
+        same_on meaning key barrier all others asked Closing y d w ending ending refl (rw (read_moves (c.fates 1).brings (c.fates 1).ends)
+        (foreign_stands meaning key barrier all others asked y d (c.fates 1).brings e agrees a.within))
+    by_flag true e x k a =
+        let ends : Bool → Walked → Closing = λ z w. closed_by w.broken (closes w.moves) (closing_of Opt true z) in
+        let here = subst (λ s. IsClosedWithin all others asked I y (walk c.fates 1 s).moves) (checks x) a in
+        rw (checks lost) (rw (checks other)
+        (same_walks meaning key barrier all others asked Bool Closing closing_steps ends ends y d c lost other x e
+        (holds_open meaning key barrier all others asked y d e agrees a.within) k
+        (counts_at meaning key barrier all others asked true y _ e here.messages here.values) (λ hs. (
+          lost_same meaning key barrier all others asked (all_made (by_lists I) y (before c)) (all_made (by_digests I) d (before c)) a.clear
+              (subst (λ z. Holds all others asked I z (all_made (by_digests I) d (before c))) (sym (sight_is I y c)) hs),
+          own_closing lost,
+          ready_close c.fates (sight y c) lost e
+              (λ f. not_lost (sight y c) (ap (λ z. is_lost (life_of Opt z)) (sym (sight_is I y c)) ∙ f) e),
+          refl,
+        )) (λ w values fault moves broken. rw broken refl)))
 
-  open_same : (y : History) (d : Digests) (c : Course) → y.is_open ≡ true → Agrees I y d → (x : Bool)
-      → (LostDigests d c ≡ LostLists y c → x ≡ LostLists y c) → Within_ y (close_walk c x).moves
-      → Same (checkpointed_by (by_lists I) y (closing_of Opt true (LostLists y c)) (close_walk c (LostLists y c)))
-      (checkpointed_by (by_digests I) d (closing_of Opt true (LostDigests d c)) (close_walk c (LostDigests d c)))
-  open_same y d c e agrees x k a =
-      let sees : History = all_made (by_lists I) y (before c) in
-      let seen : Digests = all_made (by_digests I) d (before c) in
-      let lost : Bool = LostLists y c in
-      let other : Bool = LostDigests d c in
-      let h = holds_open meaning key barrier all others asked y d e agrees a.within in
-      let held : lost ≡ false → is_empty (sight y c).items ≡ false = λ f.
-      not_lost (sight y c) (ap (λ x. is_lost (life_of Opt x)) (sym (sight_is I y c)) ∙ f) e in
-      elim (passed meaning key barrier all others asked Bool closing_steps y d c lost other x e h k
-      (counts_open meaning key barrier all others asked y (close_walk c x).moves e a.messages a.values)
-      (λ hs. lost_same meaning key barrier all others asked sees seen a.clear hs)
-      (λ hs. (own_closing lost, ready_close c.fates (sight y c) lost e held))) [
-        | went same hs after ↦
-            rw same (same_on y d _ _ (close_walk c lost) refl after)
-        | cut_off walked values fault lists digests moves broken after ↦
-            rw lists (rw digests (same_on y d _ _ walked (stops_same walked.broken (closes walked.moves) fault _ _ broken) after))
-      ]
+    agree_by : (x : Bool) → (other ≡ lost → x ≡ lost)
+        → IsClosedWithin all others asked I y (walk c.fates 1 (checkpoint_steps Opt y.is_open x)).moves
+        → IsSameCheckpoint all others asked I (checkpointed I (by_lists I) y c) (checkpointed I (by_digests I) d c)
+    agree_by x k a =
+        subst (λ f. IsSameCheckpoint all others asked I (checkpointed I (by_lists I) y c)
+        (checkpointed_by (by_digests I) d (closing_of Opt f other) (walk c.fates 1 (checkpoint_steps Opt f other)))) (sym agrees.flag)
+        (by_flag y.is_open refl x k a)
 
-  -- with no segment open it reads once
-  shut_once : (y : History) (d : Digests) (c : Course) (lost other : Bool) → y.is_open ≡ false → Agrees I y d
-      → IsWithin all others asked I y → Same (checkpointed_by (by_lists I) y (closing_of Opt false lost) (walk c.fates 1 (Reads ∷ [])))
-      (checkpointed_by (by_digests I) d (closing_of Opt false other) (walk c.fates 1 (Reads ∷ [])))
-  shut_once y d c lost other e agrees within =
-      let values = (c.fates 1).brings in
-      let moves : (walk c.fates 1 (Reads ∷ [])).moves ≡ map Foreign values = read_moves values (c.fates 1).ends in
-      same_on y d _ _ (walk c.fates 1 (Reads ∷ [])) refl (rw moves
-      (foreign_stands meaning key barrier all others asked y d values e agrees within))
+    -- by the moves of the checkpoint by lists, and by those of the checkpoint by digests
+    pub opt_checkpoints_agree_by_lists : IsClosedWithin all others asked I y (checkpointed I (by_lists I) y c).moves
+        → IsSameCheckpoint all others asked I (checkpointed I (by_lists I) y c) (checkpointed I (by_digests I) d c)
+    opt_checkpoints_agree_by_lists a = agree_by lost (λ e. refl) a
 
-  -- by whether a segment is open
-  abbrev FlagCall : Bool → History → Digests → Course → Type 0
-  FlagCall flag y d c =
-      (x : Bool) → (LostDigests d c ≡ LostLists y c → x ≡ LostLists y c) → Within_ y (walk c.fates 1 (checkpoint_steps Opt flag x)).moves
-      → Same (checkpointed_by (by_lists I) y (closing_of Opt flag (LostLists y c))
-      (walk c.fates 1 (checkpoint_steps Opt flag (LostLists y c))))
-      (checkpointed_by (by_digests I) d (closing_of Opt flag (LostDigests d c))
-      (walk c.fates 1 (checkpoint_steps Opt flag (LostDigests d c))))
-
-  by_flag : (flag : Bool) (y : History) (d : Digests) (c : Course) → y.is_open ≡ flag → Agrees I y d → FlagCall flag y d c
-  by_flag false y d c e agrees x k a = shut_once y d c (LostLists y c) (LostDigests d c) e agrees a.within
-  by_flag true y d c e agrees x k a =
-      let lost : Bool = LostLists y c in
-      let other : Bool = LostDigests d c in
-      let here = subst (λ s. Within_ y (walk c.fates 1 s).moves) (checks x) a in
-      let same = open_same y d c e agrees x k here in
-      rw (checks lost) (rw (checks other) same)
-
-  -- the law, by the moves of the steps that follow from what is seen by digests or by lists
-  checkpoints_by : (y : History) (d : Digests) (c : Course) → Agrees I y d → (x flag : Bool) → flag ≡ y.is_open
-      → (LostDigests d c ≡ LostLists y c → x ≡ LostLists y c) → Within_ y (walk c.fates 1 (checkpoint_steps Opt flag x)).moves
-      → Same (checkpointed I (by_lists I) y c) (checkpointed I (by_digests I) d c)
-  checkpoints_by y d c agrees x flag same_flag k a =
-      let other : Bool = LostDigests d c in
-      let here = subst (λ f. Within_ y (walk c.fates 1 (checkpoint_steps Opt f x)).moves) same_flag a in
-      subst (λ f. Same (checkpointed I (by_lists I) y c)
-      (checkpointed_by (by_digests I) d (closing_of Opt f other) (walk c.fates 1 (checkpoint_steps Opt f other)))) (sym agrees.flag)
-      (by_flag y.is_open y d c refl agrees x k here)
-
-  -- the same, by the moves of the checkpoint by lists
-  pub opt_checkpoints_agree_by_lists : (y : History) (d : Digests) (c : Course) → Agrees I y d
-      → Within_ y (checkpointed I (by_lists I) y c).moves → Same (checkpointed I (by_lists I) y c) (checkpointed I (by_digests I) d c)
-  opt_checkpoints_agree_by_lists y d c agrees a = checkpoints_by y d c agrees (LostLists y c) y.is_open refl (λ e. refl) a
+    agree_by_digests : IsClosedWithin all others asked I y (checkpointed I (by_digests I) d c).moves
+        → IsSameCheckpoint all others asked I (checkpointed I (by_lists I) y c) (checkpointed I (by_digests I) d c)
+    agree_by_digests a =
+        agree_by other (λ e. e)
+        (subst (λ f. IsClosedWithin all others asked I y (walk c.fates 1 (checkpoint_steps Opt f other)).moves) agrees.flag a)
 
 pub opt_checkpoints_agree : OptCheckpointsAgree
 opt_checkpoints_agree meaning key barrier all others asked y d c agrees a =
-    checkpoints_by meaning key barrier all others asked y d c agrees (LostDigests meaning key barrier all others asked d c) d.flag
-    agrees.flag (λ e. e) a
+    agree_by_digests meaning key barrier all others asked y d c agrees a

@@ -1,39 +1,44 @@
--- What one call comes to by lists, in either variant.
+-- What a call comes to by lists, and what is asked of its moves: nothing in Basic; and nothing of an idle call of Opt, whose batch
+-- isn't taken for new with no segment open: it neither reads what the register holds nor empties it.
 use Rattle.mm_call.proofs.Below.{◌≡◌, ℕ, Bool, true, false, List, [], ◌∷◌, ◌++◌, map, Option, None, Some, Result, Ok, Err, refl, sym, ap}
-use Rattle.mm_call.proofs.Below.{◌∙◌, subst, if◌then◌else◌, StepFault, Meaning, Batch, Content, Instance, basic}
-use Rattle.mm_call.proofs.Below.{opt, History, Move, Foreign, Reset, moved, total_of, digests_of}
-use Rattle.mm_call.proofs.Below.{Names, issued_bytes, ask_steps, BatchAnswer, Refusal, basic_names, answer_on, by_lists}
+use Rattle.mm_call.proofs.Below.{◌∙◌, subst, if◌then◌else◌, StepFault, Meaning, Batch, Instance, basic, opt, History, Move, Foreign, Reset}
+use Rattle.mm_call.proofs.Below.{moved, total_of, digests_of, issued_bytes, ask_steps, BatchAnswer, Refusal, answer_on, by_lists}
 use Rattle.mm_call.proofs.Below.{by_digests, all_made, Found, found_at, found_unless_wanting, is_fresh, Course, Walked, walk, called}
-use Rattle.mm_call.proofs.Below.{seen_at, ended_by, given_for, from_reset, counted_part, counted_moves, moves_messages, IsAsked}
-use Rattle.mm_call.proofs.Below.{AreAsked, Comes, kept, grown, asked_by, same_batches, more_batches, Commits, nothing, batch, call_commits}
-use Rattle.mm_call.proofs.Below.{foreign_first}
-use Rattle.mm_call.proofs.BasicLaw.{AreBasic, unlacked, walk_basic}
-use Rattle.mm_call.proofs.Endings.{again_of, fresh_of, fresh_found}
+use Rattle.mm_call.proofs.Below.{seen_at, ended_by, given_for, from_reset, counted_part, counted_moves, moves_messages, IsAsked, AreAsked}
+use Rattle.mm_call.proofs.Below.{Comes, kept, grown, asked_by, same_batches, more_batches, Commits, nothing, batch, call_commits}
+use Rattle.mm_call.proofs.Below.{foreign_first, ◌⊎◌, inl, inr, option_map, Opt, Item, Standing, Value, Digests, Fate, AreShown, IsIdle}
+use Rattle.mm_call.proofs.Below.{shown, standing_items, Level, same_rest, Tied, shows}
+use Rattle.mm_call.proofs.BasicLaw.{AreBasic, unlacked, walk_basic, names_made}
+use Rattle.mm_call.proofs.Calling.{again_of, fresh_of, fresh_found}
 use Rattle.mm_call.proofs.Finding.{Asking, placed, right_at}
-use Rattle.mm_call.proofs.OptLaw.{seen_asking}
+use Rattle.mm_call.proofs.OptLaw.{seen_asking, opt_calls_agree_by_lists}
+use Rattle.mm_call.proofs.OptHolding.{is_agrees, bare, found_lists}
+use Rattle.mm_call.proofs.OptShapes.{Brought, none_counted, reads_only, opt_tied}
+use Rattle.mm_call.proofs.OptWalks.{sight_is}
+use Rattle.mm_call.specs.Tied.{nothing as none_counts}
 
 -- an answer is given where an offer was accepted and no step failed
-pub record Answered (i : Instance) (s : History) (b : Batch) (found : Result Found Refusal) (broken : Option StepFault)
+pub record Answered {S : Type 0} (level : Level S) (seen s : S) (b : Batch) (found : Result Found Refusal) (broken : Option StepFault)
     (answer : BatchAnswer) : Type 0 where
   pub it : Found
   pub found_is : found ≡ Ok it
   pub whole : broken ≡ None
-  pub answer_is : answer ≡ answer_on i s b it.again
+  pub answer_is : answer ≡ level.answer it.again seen s it.offered b
 
-pub answered_only : (broken : Option StepFault) (i : Instance) (seen s : History) (b : Batch) (found : Result Found Refusal)
-    (moves : List Move) (answer : BatchAnswer) → given_for (ended_by (by_lists i) seen s b found moves broken) ≡ Ok answer
-    → Answered i s b found broken answer
-answered_only (Some fault) i seen s b found moves answer e = absurd (cc)
-answered_only None i seen s b (Err why) moves answer e = absurd (cc)
-answered_only None i seen s b (Ok it) moves answer e =
-    let same : answer_on i s b it.again ≡ answer = cc in
+pub answered_only : {S : Type 0} (broken : Option StepFault) (level : Level S) (seen s : S) (b : Batch) (found : Result Found Refusal)
+    (moves : List Move) (answer : BatchAnswer) → given_for (ended_by level seen s b found moves broken) ≡ Ok answer
+    → Answered level seen s b found broken answer
+answered_only (Some fault) level seen s b found moves answer e = absurd (cc)
+answered_only None level seen s b (Err why) moves answer e = absurd (cc)
+answered_only None level seen s b (Ok it) moves answer e =
+    let same : level.answer it.again seen s it.offered b ≡ answer = cc in
     record { it = it; found_is = refl; whole = refl; answer_is = sym same }
 
 -- by whether it is a repeat
-told_as : (fresh flag : Bool) (i : Instance) (s : History) (b : Batch) (found : Result Found Refusal) (broken : Option StepFault)
-    (answer : BatchAnswer) → (a : Answered i s b found broken answer) → is_fresh found ≡ fresh
+told_as : (fresh flag : Bool) (i : Instance) (seen s : History) (b : Batch) (found : Result Found Refusal) (broken : Option StepFault)
+    (answer : BatchAnswer) → (a : Answered (by_lists i) seen s b found broken answer) → is_fresh found ≡ fresh
     → ((if a.it.again then false else true) ≡ fresh → a.it.again ≡ flag) → (a.it.again ≡ flag) × (answer ≡ answer_on i s b flag)
-told_as fresh flag i s b found broken answer a e tells =
+told_as fresh flag i seen s b found broken answer a e tells =
     let again : a.it.again ≡ flag = tells (subst (λ (f : Result Found Refusal). is_fresh f ≡ fresh) a.found_is e) in
     (again, a.answer_is ∙ ap (λ (f : Bool). answer_on i s b f) again)
 
@@ -46,8 +51,8 @@ module _ (i : Instance) (all : List (List ℕ)) (y sees : History) (lacks : Bool
       let end : History = all_made (by_lists i) y w.moves in
       kept (same_batches i w.moves y none)
       (λ (answer : BatchAnswer) (gives : given_for (ended_by (by_lists i) sees end b found w.moves w.broken) ≡ Ok answer).
-      let a = answered_only w.broken i sees end b found w.moves answer gives in
-      let told = told_as false true i end b found w.broken answer a (unless a.whole) (again_of a.it.again) in
+      let a = answered_only w.broken (by_lists i) sees end b found w.moves answer gives in
+      let told = told_as false true i sees end b found w.broken answer a (unless a.whole) (again_of a.it.again) in
       let was = unlacked (found_at i (by_lists i) sees b offer) lacks a.it (is ∙ a.found_is) in
       let p = placed all i sees offer b asking a.it was in
       record {
@@ -64,8 +69,8 @@ module _ (i : Instance) (all : List (List ℕ)) (y sees : History) (lacks : Bool
       let p = placed all i sees offer b asking f.0 was in
       grown f.0.offered (right_at i sees offer b f.0 was) (p.position ∙ ap total_of (p.fresh f.2 ∙ same)) (more_batches i w.moves y b one)
       (λ (answer : BatchAnswer) (gives : given_for (ended_by (by_lists i) sees end b found w.moves w.broken) ≡ Ok answer).
-      let a = answered_only w.broken i sees end b found w.moves answer gives in
-      (told_as true false i end b found w.broken answer a fresh (fresh_of a.it.again)).1)
+      let a = answered_only w.broken (by_lists i) sees end b found w.moves answer gives in
+      (told_as true false i sees end b found w.broken answer a fresh (fresh_of a.it.again)).1)
 
 -- what a call comes to by lists, where what it sees are others' values more
 comes_seen : (i : Instance) (all : List (List ℕ)) (y : History) (c : Course) (offer : List ℕ) (b : Batch)
@@ -89,8 +94,8 @@ module _ (meaning : Meaning) (key : List ℕ) where
   no_reset (Reset ∷ moves) a = absurd a.0
   no_reset (m ∷ moves) a = no_reset moves a.1
 
-  none_counted : (is_open : Bool) (moves : List Move) → is_open ≡ false → AreBasic moves → counted_moves is_open moves ≡ []
-  none_counted is_open moves e a = ap (λ f. counted_moves f moves) e ∙ no_reset moves a
+  none_of : (is_open : Bool) (moves : List Move) → is_open ≡ false → AreBasic moves → counted_moves is_open moves ≡ []
+  none_of is_open moves e a = ap (λ f. counted_moves f moves) e ∙ no_reset moves a
 
   pub basic_asked : (all others : List (List ℕ)) (asked : List Batch) (y : History) (c : Course) (offer : List ℕ) (b : Batch)
       → AreAsked all others asked (basic meaning key) y offer b
@@ -99,16 +104,10 @@ module _ (meaning : Meaning) (key : List ℕ) where
   basic_asked all others asked y c offer b a =
       let i : Instance = basic meaning key in
       let moves : List Move = (called i (by_digests i) (digests_of i y) c offer b).moves in
-      let none : counted_moves y.is_open moves ≡ [] = none_counted y.is_open moves a.within.sound.shut (walk_basic c.fates false _ b) in
+      let none : counted_moves y.is_open moves ≡ [] = none_of y.is_open moves a.within.sound.shut (walk_basic c.fates false _ b) in
       asked_by i all others asked y moves offer b a
       (rw (no_messages (counted_moves y.is_open moves) (counted_part y)) tt)
       (rw none tt)
-
-  -- what a snapshot names is named after moves too
-  pub names_made : (moves : List Move) (y : History) (content : Content) → Names (basic meaning key) y content
-      → Names (basic meaning key) (all_made (by_lists (basic meaning key)) y moves) content
-  names_made [] y content n = n
-  names_made (m ∷ moves) y content n = names_made moves (moved (basic meaning key) y m) content (basic_names meaning key y m content n)
 
   pub basic_comes : (all others : List (List ℕ)) (asked : List Batch) (y : History) (c : Course) (offer : List ℕ) (b : Batch)
       → AreAsked all others asked (basic meaning key) y offer b
@@ -121,7 +120,7 @@ module _ (meaning : Meaning) (key : List ℕ) where
       (record {
         clear = a.clear;
         listed = a.offered;
-        genuine = λ content right. names_made brought y content (a.genuine content right);
+        genuine = λ content right. names_made meaning key brought y content (a.genuine content right);
       })
 
 module _ (meaning : Meaning) (key barrier : List ℕ) where
@@ -145,3 +144,101 @@ answered_at i y after offer b answer (kept same gives) =
     let e = (gives answer refl).answer_is in (ap (λ (a : BatchAnswer). a.position) e, ap (λ (a : BatchAnswer). a.snapshot) e)
 answered_at i y after offer b answer (grown content right at more gives) =
     let e = gives answer refl in (ap (λ (a : BatchAnswer). a.position) e, ap (λ (a : BatchAnswer). a.snapshot) e)
+
+-- the walk of such a call
+abbrev Walk : (ℕ → Fate) → Bool → Bool → Batch → List Move
+Walk fates flag fresh b = (walk fates 1 (ask_steps Opt flag fresh b)).moves
+
+walked_only : (fates : ℕ → Fate) (flag fresh : Bool) (b : Batch) → flag ≡ false → fresh ≡ false → Brought (Walk fates flag fresh b)
+walked_only fates flag fresh b e f =
+    let is : Walk fates flag fresh b ≡ Walk fates false false b = ap (λ (x : Bool). Walk fates x fresh b) e
+    ∙ ap (λ (x : Bool). Walk fates false x b) f in
+    subst Brought (sym is) (reads_only (fates 1).brings (fates 2).brings (fates 1).ends (fates 2).ends)
+
+never_fresh : (at : Result Found Refusal) (lacks : Bool) → is_fresh at ≡ false → is_fresh (found_unless_wanting at lacks) ≡ false
+never_fresh (Err why) lacks f = refl
+never_fresh (Ok found) false f = f
+never_fresh (Ok found) true f = refl
+
+idle_by : {A : Type 0} (i : Instance) (y : History) (offer : List ℕ) (b : Batch) (flag fresh : Bool) → y.is_open ≡ flag
+    → is_fresh (found_at i (by_lists i) y b offer) ≡ fresh → ((IsIdle i y offer b → ⊥) → A) → A ⊎ IsIdle i y offer b
+idle_by i y offer b true fresh e f unless = inl (unless (λ k. let clash : true ≡ false = sym e ∙ k.shut in absurd (cc)))
+idle_by i y offer b false true e f unless = inl (unless (λ k. let clash : true ≡ false = sym f ∙ k.not_new in absurd (cc)))
+idle_by i y offer b false false e f unless = inr (record { shut = e; not_new = f })
+
+pub unless_idle : {A : Type 0} (i : Instance) (y : History) (offer : List ℕ) (b : Batch) → ((IsIdle i y offer b → ⊥) → A)
+    → A ⊎ IsIdle i y offer b
+unless_idle i y offer b unless = idle_by i y offer b y.is_open (is_fresh (found_at i (by_lists i) y b offer)) refl refl unless
+
+module _ (meaning : Meaning) (key barrier : List ℕ) where
+  abbrev I : Instance
+  I = opt meaning key barrier
+
+  -- what is found doesn't change by what others put into the register before the reading steps
+  found_seen : (y : History) (c : Course) (offer : List ℕ) (b : Batch) → y.is_open ≡ false
+      → found_at I (by_lists I) (seen_at I (by_lists I) y c) b offer ≡ found_at I (by_lists I) y b offer
+  found_seen y c offer b e =
+      ap (λ (z : History). found_at I (by_lists I) z b offer) (sight_is I y c)
+      ∙ found_lists meaning key barrier y ((y.items ++ map Value (c.fates 1).brings) ++ map Value (c.fates 2).brings) b offer e
+      ∙ sym (found_lists meaning key barrier y y.items b offer e)
+
+  pub idle_moves : (y : History) (c : Course) (offer : List ℕ) (b : Batch) → IsIdle I y offer b
+      → Brought (called I (by_lists I) y c offer b).moves
+  idle_moves y c offer b idle =
+      let at : Result Found Refusal = found_at I (by_lists I) (seen_at I (by_lists I) y c) b offer in
+      let not_new : is_fresh at ≡ false = ap is_fresh (found_seen y c offer b idle.shut) ∙ idle.not_new in
+      walked_only c.fates y.is_open (is_fresh (found_unless_wanting at c.lacks)) b idle.shut (never_fresh at c.lacks not_new)
+
+  pub asked_idle : (all others : List (List ℕ)) (asked : List Batch) (y : History) (c : Course) (offer : List ℕ) (b : Batch)
+      → AreAsked all others asked I y offer b → IsIdle I y offer b
+      → IsAsked all others asked I y (called I (by_digests I) (digests_of I y) c offer b).moves offer b
+  asked_idle all others asked y c offer b a idle =
+      let d : Digests = digests_of I y in
+      let moves : List Move = (called I (by_lists I) y c offer b).moves in
+      let only = idle_moves y c offer b idle in
+      let none : counted_moves y.is_open moves ≡ [] = none_counted y only.values moves idle.shut only.are in
+      let is_asked : IsAsked all others asked I y moves offer b = asked_by I all others asked y moves offer b a
+      (rw none tt)
+      (rw none tt) in
+      let same = opt_calls_agree_by_lists meaning key barrier all others asked y d c offer b (is_agrees I y d refl) is_asked in
+      rw same.moves is_asked
+
+  -- an idle call leaves a history on which it is idle again
+  pub idle_again : (y after : History) (offer : List ℕ) (b : Batch) → bare after ≡ bare y → IsIdle I y offer b → IsIdle I after offer b
+  idle_again y after offer b same idle =
+      let shut : after.is_open ≡ false = ap (λ (x : History). x.is_open) same ∙ idle.shut in
+      record {
+        shut = shut;
+        not_new = ap is_fresh (found_lists meaning key barrier after after.items b offer shut
+            ∙ ap (λ (x : History). found_at I (by_lists I) x b offer) same
+            ∙ sym (found_lists meaning key barrier y y.items b offer idle.shut)) ∙ idle.not_new;
+      }
+
+  -- what is asked of the items that the register shows is asked of the moves
+  asked_of : (all others : List (List ℕ)) (asked : List Batch) (y : History) (moves : List Move) (offer : List ℕ) (b : Batch)
+      (items more : List Item) → AreAsked all others asked I y offer b → AreShown all others I y more
+      → shown I (digests_of I y) moves items ≡ standing_items y.is_open items ++ more → Tied I y (digests_of I y) moves
+      → IsAsked all others asked I y moves offer b
+  asked_of all others asked y moves offer b items more a s reach (shows other tied are) =
+      let same : other ≡ more = same_rest (standing_items y.is_open items) other more (sym (are items) ∙ reach) in
+      asked_by I all others asked y moves offer b a (rw (tied.messages, same) s.messages) (rw (tied.values, same) s.values)
+  asked_of all others asked y moves offer b items more a s reach (none_counts is) =
+      asked_by I all others asked y moves offer b a (rw is tt) (rw is tt)
+
+  -- what is asked of a call, by what is asked of the items that the register shows, unless the call is idle
+  pub asked_for : (all others : List (List ℕ)) (asked : List Batch) (y : History) (c : Course) (offer : List ℕ) (b : Batch)
+      (old new : Standing) (items more : List Item) → AreAsked all others asked I y offer b
+      → ((IsIdle I y offer b → ⊥) → AreShown all others I y more) → old.items ≡ Some items
+      → new.items ≡ option_map (shown I (digests_of I y) (called I (by_digests I) (digests_of I y) c offer b).moves) old.items
+      → new.items ≡ Some (standing_items y.is_open items ++ more)
+      → IsAsked all others asked I y (called I (by_digests I) (digests_of I y) c offer b).moves offer b
+  asked_for all others asked y c offer b old new items more a shown_so known goes ends =
+      let d : Digests = digests_of I y in
+      let moves : List Move = (called I (by_digests I) d c offer b).moves in
+      let reach : Some (shown I d moves items) ≡ Some (standing_items y.is_open items ++ more) =
+      ap (option_map (shown I d moves)) (sym known) ∙ sym goes ∙ ends in
+      elim (unless_idle I y offer b shown_so) [
+        | inl shown_are ↦
+            asked_of all others asked y moves offer b items more a shown_are (cc) (opt_tied meaning key barrier y d c offer b refl)
+        | inr idle ↦ asked_idle all others asked y c offer b a idle
+      ]

@@ -1,17 +1,64 @@
 -- The device steps that commit what a call found, one after another: their fates, and what is known of all of them.
-use Rattle.mm_call.proofs.Below.{◌≡◌, ℕ, ◌+◌, suc, Bool, true, false, List, [], ◌∷◌, ◌++◌, length, map, Option, None, Some, Result, Ok, Err}
-use Rattle.mm_call.proofs.Below.{refl, sym, ap, ◌∙◌, subst, arith, append_assoc, option_map, ◌==◌, IsSome, if◌then◌else◌, counted}
-use Rattle.mm_call.proofs.Below.{StepFault, Plan, Standing, plan_after, Act, Goes, will_be_on, Instance, Move, Commit, Foreign}
-use Rattle.mm_call.proofs.Below.{Digests, Step, Reads, Changes, Writes, BatchAnswer, Refusal, Ended, Answered, Refused}
-use Rattle.mm_call.proofs.Below.{Broken, CallOf, commits_before, goes_on, breaks_off, StepsTo, EndsTo, kept_at, End, Done, Fails}
-use Rattle.mm_call.proofs.Below.{Fate, Walked, walk, after_step, step_moves, commits, planned, result_of, ended_with, kept_by, is_broken}
-use Rattle.mm_call.proofs.Below.{StaysOn, Blames, blamed, blamed_later, all_made, by_digests, fault_of, fault_in, met, AreMet, IsAt, met_at}
-use Rattle.mm_call.proofs.Below.{then_at, room_at, stepped, trail_on, trail_fails, MakesStep, Stepped, Rest, Trail}
-use Rattle.std.specs.Prelude.{◌≤◌, ◌&&◌}
+use Rattle.mm_call.proofs.Below.{◌≡◌, ℕ, Bool, true, false, List, [], ◌∷◌, ◌++◌, map, Option, None, Some, Err, refl, sym, ap, ◌∙◌, IsSome}
+use Rattle.mm_call.proofs.Below.{option_map, counted, StepFault, Plan, Standing, plan_after, Act, Goes, is_on_at, will_be_on, Move, Foreign}
+use Rattle.mm_call.proofs.Below.{Refusal, Device, fault_of, commits, result_of, ended_with, refused_as, StaysOn, IsAt, ◌+◌, suc, length}
+use Rattle.mm_call.proofs.Below.{Result, Ok, subst, arith, ◌==◌, if◌then◌else◌, Instance, Commit, Digests, Step, Reads, Changes, Writes}
+use Rattle.mm_call.proofs.Below.{BatchAnswer, Ended, Answered, Refused, Broken, CallOf, commits_before, goes_on, breaks_off, StepsTo}
+use Rattle.mm_call.proofs.Below.{EndsTo, kept_at, End, Done, Fails, Fate, Walked, walk, after_step, step_moves, planned, kept_by, is_broken}
+use Rattle.mm_call.proofs.Below.{Blames, blamed, blamed_later, all_made, by_digests, fault_in, met, AreMet, met_at, then_at, room_at}
+use Rattle.mm_call.proofs.Below.{stepped, trail_on, trail_fails, MakesStep, Stepped, Rest, Trail}
+use Rattle.mm_platform.specs.declared.plan.Stop.{Stop}
+use Rattle.mm_platform.specs.declared.plan.Stop.TheVariants.{Cut}
+use Rattle.std.specs.Prelude.{◌≤◌}
 use Rattle.std.proofs.Math.Nat.{min-eq_left}
 use Rattle.std.proofs.lemmas.Bool.Decides.{nat_tests}
 use Rattle.mm_call.specs.CoursesWords.{end_of}
-use Rattle.mm_call.proofs.Keeping.{foreign_commits, commits_then, refused_result, stays_done, stays_broken}
+
+-- a refusal gives itself
+pub refused_result : (why : Refusal) → result_of (refused_as why) ≡ Err why
+refused_result (Device fault) = refl
+refused_result _ = refl
+
+-- values of others commit nothing
+foreign_commits : (values : List (List ℕ)) → commits (map Foreign values) ≡ false
+foreign_commits [] = refl
+foreign_commits (v ∷ values) = foreign_commits values
+
+commits_then : (values : List (List ℕ)) (moves : List Move) → commits (map Foreign values ++ moves) ≡ commits moves
+commits_then [] moves = refl
+commits_then (v ∷ values) moves = commits_then values moves
+
+-- power after a call under a plan
+
+stays_done : (stop : Stop) (new : Standing) → new.is_on ≡ true → StaysOn stop false new
+stays_done (Cut step) new e = e
+stays_done _ new e = e
+
+stays_broken : (stop : Stop) (n : ℕ) (new : Standing) → new.is_on ≡ is_on_at stop n → StaysOn stop true new
+stays_broken (Cut step) n new e = tt
+stays_broken _ n new e = e
+
+-- after a step that fails, with room made behind it: power is on as the plan says, and the plan goes on to be told
+stays_failed : (act : Act) (old after new : Standing) (fault : StepFault) (plan : Plan) (at : ℕ) → IsAt old plan at
+    → Goes act old after (Some fault) → new ≡ record after { spare = new.spare } → StaysOn plan.stop true new × IsSome new.plan
+stays_failed act old after new fault plan at p g room =
+    let told = g.told (record plan { at = at }) p.planned in (
+      stays_broken plan.stop (counted at) new
+          (ap (λ (s : Standing). s.is_on) room ∙ told.power ∙ ap (λ (on : Bool). will_be_on on (record plan { at = at })) p.is_on),
+      rw (ap (λ (s : Standing). s.plan) room ∙ g.plan ∙ ap (λ (q : Option Plan). option_map plan_after q) p.planned) refl,
+    )
+
+-- after the last step of a call, by whether it failed
+pub planned_done : (act : Act) (old new : Standing) (plan : Plan) (at : ℕ) → IsAt old plan at → Goes act old new None
+    → StaysOn plan.stop false new × IsSome new.plan
+planned_done act old new plan at p g = (
+  stays_done plan.stop new g.ends.is_on,
+  rw (g.plan ∙ ap (λ (q : Option Plan). option_map plan_after q) p.planned) refl,
+)
+
+pub planned_broken : (act : Act) (old new : Standing) (fault : StepFault) (plan : Plan) (at : ℕ) → IsAt old plan at
+    → Goes act old new (Some fault) → StaysOn plan.stop true new × IsSome new.plan
+planned_broken act old new fault plan at p g = stays_failed act old new new fault plan at p g refl
 
 -- The fates of steps
 
@@ -75,12 +122,7 @@ pub tale_fails : (act : Act) (old after new : Standing) (fault : StepFault) (pos
 tale_fails act old after new fault position at few g room = record {
   met_all = λ (plan : Plan) (p : IsAt old plan at).
       (met_at act old after (Some fault) plan at p g ∙ ap (planned plan) (counted_small at few), tt);
-  stays = λ (plan : Plan) (p : IsAt old plan at).
-      let told = g.told (record plan { at = at }) p.planned in (
-        stays_broken plan.stop (counted at) new
-            (ap (λ (s : Standing). s.is_on) room ∙ told.power ∙ ap (λ (on : Bool). will_be_on on (record plan { at = at })) p.is_on),
-        rw (ap (λ (s : Standing). s.plan) room ∙ g.plan ∙ ap (λ (q : Option Plan). option_map plan_after q) p.planned) refl,
-      );
+  stays = λ (plan : Plan) (p : IsAt old plan at). stays_failed act old after new fault plan at p g room;
 }
 
 pub steps_tale : (acts : List Act) (answer : BatchAnswer) (old new : Standing) (ended : Ended) (at : ℕ) → at + length acts ≤ 100
@@ -155,37 +197,23 @@ is_committing Reads = false
 is_committing (Changes m) = commits (m ∷ [])
 is_committing (Writes m) = commits (m ∷ [])
 
-commits_first : (m : Move) (ms : List Move) → commits (m ∷ []) ≡ false → commits (m ∷ ms) ≡ commits ms
-commits_first (Commit b) ms e = absurd (cc)
-commits_first _ ms e = refl
+commits_either : (xs ys : List Move) → commits (xs ++ ys) ≡ (if commits xs then true else commits ys)
+commits_either [] ys = refl
+commits_either (Commit b ∷ xs) ys = refl
+commits_either (_ ∷ xs) ys = commits_either xs ys
 
 commits_last : (m : Move) (values : List (List ℕ)) → commits (m ∷ map Foreign values) ≡ commits (m ∷ [])
 commits_last (Commit b) values = refl
 commits_last _ values = foreign_commits values
 
--- a step that is done, and one that fails
-plainly : (step : Step) (values : List (List ℕ)) (ms : List Move) → is_committing step ≡ false
-    → commits (step_moves step true values ++ ms) ≡ commits ms
-plainly Reads values ms e = commits_then values ms
-plainly (Changes m) values ms e =
-    ap commits (append_assoc (map Foreign values) (m ∷ []) ms) ∙ commits_then values (m ∷ ms) ∙ commits_first m ms e
-plainly (Writes m) values ms e = commits_first m (map Foreign values ++ ms) e ∙ commits_then values ms
-
-and_true : (t : Bool) → t ≡ t && true
-and_true true = refl
-and_true false = refl
-
-and_false : (t : Bool) → false ≡ t && false
-and_false true = refl
-and_false false = refl
-
-committed_by : (step : Step) (is_made : Bool) (values : List (List ℕ))
-    → commits (step_moves step is_made values) ≡ is_committing step && is_made
-committed_by Reads is_made values = foreign_commits values
-committed_by (Changes m) true values = commits_then values (m ∷ []) ∙ and_true (commits (m ∷ []))
-committed_by (Changes m) false values = commits_then values [] ∙ and_false (commits (m ∷ []))
-committed_by (Writes m) true values = commits_last m values ∙ and_true (commits (m ∷ []))
-committed_by (Writes m) false values = foreign_commits values ∙ and_false (commits (m ∷ []))
+-- by whether its effect is made
+step_commits : (step : Step) (is_made : Bool) (values : List (List ℕ))
+    → commits (step_moves step is_made values) ≡ (if is_made then is_committing step else false)
+step_commits (Changes m) true values = commits_then values (m ∷ [])
+step_commits (Changes m) false values = commits_then values []
+step_commits (Writes m) true values = commits_last m values
+step_commits Reads true values = foreign_commits values
+step_commits _ false values = foreign_commits values
 
 rest_mapped : {A B : Type 0} → (C : Type 0) (answer : Option StepFault) → (A → B) → Rest answer A C → Rest answer B C
 rest_mapped C None f r = f r
@@ -267,9 +295,9 @@ keeps_on (Broken fault commits_to) fates other n step steps position alike done 
       broken = k.broken;
       before = suc k.before;
       steps = ap (λ (m : ℕ). suc m) k.steps;
-      kept = ap (λ (t : Bool). kept_at t position) (plainly step v w.moves (plain refl)) ∙ k.kept
+      kept = rw (commits_either (step_moves step true v) w.moves, step_commits step true v, plain refl) (k.kept
           ∙ ap (λ (f : Fate). kept_by f.ends commits_to) (alike (n + 1 + k.before) (omega arith)
-          ∙ ap fates (let e : n + 1 + k.before ≡ n + suc k.before = omega arith in e));
+          ∙ ap fates (let e : n + 1 + k.before ≡ n + suc k.before = omega arith in e)));
     }))
 
 pub walks_on : (i : Instance) (d : Digests) (f : Fate) (rest : List Fate) (plan : Plan) (n : ℕ) (step : Step) (steps : List Step)
@@ -294,11 +322,9 @@ walks_on i d f rest plan n step steps old middle new ended position s plain w =
 
 -- a step that fails
 kept_if : (committing is_made : Bool) (fault : StepFault) (position : ℕ)
-    → kept_at (committing && is_made) position ≡ kept_by (Fails fault is_made) (if committing then Some position else None)
-kept_if true true fault position = refl
-kept_if true false fault position = refl
-kept_if false true fault position = refl
-kept_if false false fault position = refl
+    → kept_at (if is_made then committing else false) position ≡ kept_by (Fails fault is_made) (if committing then Some position else None)
+kept_if committing true fault position = refl
+kept_if committing false fault position = refl
 
 pub walks_fail : (i : Instance) (d : Digests) (f : Fate) (plan : Plan) (n : ℕ) (step : Step) (steps : List Step) (old new : Standing)
     (fault : StepFault) (position : ℕ) → Stepped i d f step old new (Some fault)
@@ -316,7 +342,7 @@ walks_fail i d f plan n step steps old new fault position s =
             broken = refl;
             before = 0;
             steps = refl;
-            kept = ap (λ (t : Bool). kept_at t position) (committed_by step s.goes.is_made (fates n).brings)
+            kept = ap (λ (t : Bool). kept_at t position) (step_commits step s.goes.is_made (fates n).brings)
                 ∙ kept_if (is_committing step) s.goes.is_made fault position
                 ∙ ap (λ (e : End). kept_by e commits_to) (sym ends)
                 ∙ ap (λ (m : ℕ). kept_by (fates m).ends commits_to) (let e : n ≡ n + 0 = omega arith in e);

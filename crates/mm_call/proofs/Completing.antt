@@ -1,21 +1,19 @@
 -- A call that ended so over a platform is the call on a course, by digests and by lists.
 use Rattle.mm_call.proofs.Below.{◌≡◌, ℕ, ◌+◌, suc, Bool, true, false, List, [], ◌∷◌, map, Option, None, Some, Result, Ok, Err, IfOk, refl}
 use Rattle.mm_call.proofs.Below.{sym, ap, ◌∙◌, subst, arith, Variant, StepFault, Plan, Standing, Act, Goes, Meaning, Batch, normal, Content}
-use Rattle.mm_call.proofs.Below.{Instance, History, Move, Foreign, Digests, Step, Reads, ask_steps, BatchAnswer, Refusal, Long}
-use Rattle.mm_call.proofs.Below.{Memory, Ended, Answered, Refused, Broken, Breaks, called, ended_by, given_for, position_of}
-use Rattle.mm_call.proofs.Below.{kept_at, CallOf, StepsTo, EndsTo, AsksTo, Calls, IsCallSoFar, GoesBy, CallsOn, Course, Fate, Walked}
-use Rattle.mm_call.proofs.Below.{walk, commits, result_of, ended_with, refused_as, kept_by, KeepsAs, CallsTo, Found, is_fresh}
-use Rattle.mm_call.proofs.Below.{CallsAgree, IsUntouched, LeavesUntouched, Blames, fault_handed, all_made, by_digests}
-use Rattle.mm_call.proofs.Below.{fault_of, fault_in, instance_by, StandsAt, met, told_by, begins_at, MakesStep}
+use Rattle.mm_call.proofs.Below.{Instance, Move, Foreign, Digests, Step, Reads, ask_steps, BatchAnswer, Refusal, Long, Memory, Ended}
+use Rattle.mm_call.proofs.Below.{Answered, Refused, Broken, Breaks, called, ended_by, given_for, position_of, kept_at, CallOf, StepsTo}
+use Rattle.mm_call.proofs.Below.{EndsTo, AsksTo, Calls, IsCallSoFar, GoesBy, CallsOn, Course, Fate, Walked, walk, commits, result_of}
+use Rattle.mm_call.proofs.Below.{ended_with, refused_as, kept_by, KeepsAs, CallsTo, Found, is_fresh, CallsAgree, IsUntouched}
+use Rattle.mm_call.proofs.Below.{LeavesUntouched, Blames, fault_handed, all_made, by_digests, fault_of, fault_in, instance_by, StandsAt}
+use Rattle.mm_call.proofs.Below.{met, told_by, begins_at, MakesStep}
 use Rattle.std.specs.Result.{result_err}
 use Rattle.mm_platform.specs.Told.{next_plan}
 use Rattle.mm_model.specs.Long.{is_long}
 use Rattle.mm_call.specs.Calls.{Commits}
 use Rattle.mm_call.proofs.Committing.{fate_of, steps_fates, ends_fates, Tale, steps_blamed, Given, steps_give, Walks, walks_on, walks_fail}
-use Rattle.mm_call.proofs.Committing.{MakesAll, steps_walk}
-use Rattle.mm_call.proofs.Continuing.{continues_by}
-use Rattle.mm_call.proofs.Going.{sees, finds, went}
-use Rattle.mm_call.proofs.Keeping.{refused_result}
+use Rattle.mm_call.proofs.Committing.{MakesAll, steps_walk, refused_result}
+use Rattle.mm_call.proofs.Going.{continues_by, sees, finds, went}
 
 -- What a call comes to by digests
 
@@ -192,17 +190,13 @@ calls_to variant meaning old new offer b ended fates lacks agree tale to =
     record {
       calls = record {
         course = c;
-        tells = told_by old fates (λ (plan : Plan) (is_on : old.is_on ≡ true) (known : old.plan ≡ Some plan) (at : plan.at ≡ 0).
-            tale.met_all plan (begins_at old plan is_on known at));
+        tells = told_by old fates (λ plan is_on known at. tale.met_all plan (begins_at old plan is_on known at));
         goes = goes;
-        continues = λ (key barrier : List ℕ) (y : History) (all others : List (List ℕ)) (asked : List Batch).
-            continues_by (instance_by variant meaning key barrier) (agree key barrier) old new c offer (normal b) (result_of ended)
-            (goes key barrier) all others asked y;
+        continues = λ key barrier y all others asked. continues_by (instance_by variant meaning key barrier) (agree key barrier) old new c
+            offer (normal b) (result_of ended) (goes key barrier) all others asked y;
       };
-      keeps = λ (key barrier : List ℕ) (d : Digests) (s : StandsAt (instance_by variant meaning key barrier) old d).
-          keeps_by ended (instance_by variant meaning key barrier) d c offer (normal b) old new (to key barrier d s);
-      plans = λ (plan : Plan) (is_on : old.is_on ≡ true) (known : old.plan ≡ Some plan) (at : plan.at ≡ 0).
-          tale.stays plan (begins_at old plan is_on known at);
+      keeps = λ key barrier d s. keeps_by ended (instance_by variant meaning key barrier) d c offer (normal b) old new (to key barrier d s);
+      plans = λ plan is_on known at. tale.stays plan (begins_at old plan is_on known at);
     }
 
 -- What holds of each call

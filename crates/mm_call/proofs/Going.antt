@@ -1,9 +1,10 @@
--- What a call comes to by digests, from the trail of its steps.
-use Rattle.mm_call.proofs.Below.{◌≡◌, ℕ, List, map, Result, Option, sym, ap, ◌∙◌, fold, extended_of, StepFault}
-use Rattle.mm_call.proofs.Below.{Standing, Batch, Instance, Move, Foreign, Digests, ask_steps, BatchAnswer, Refusal, all_made, by_digests}
-use Rattle.mm_call.proofs.Below.{Found, found_at, found_unless_wanting, is_fresh, Course, Walked, walk, ended_by, called_by, called}
-use Rattle.mm_call.proofs.Below.{seen_at, given_for, StandsAt, GoesBy, Trail, Leads, leads}
-use Rattle.mm_call.specs.TrailLaws as trails
+-- What a call comes to by digests, from the trail of its steps; and so by lists, under the law.
+use Rattle.mm_call.proofs.Below.{◌≡◌, ℕ, List, Result, Option, sym, ap, ◌∙◌, StepFault, Standing, Batch, Instance, Move, Digests, ask_steps}
+use Rattle.mm_call.proofs.Below.{BatchAnswer, Refusal, all_made, by_digests, Found, found_at, found_unless_wanting, is_fresh, Course}
+use Rattle.mm_call.proofs.Below.{Walked, walk, ended_by, called, seen_at, given_for, StandsAt, GoesBy, Trail, leads, refl, subst, Variant}
+use Rattle.mm_call.proofs.Below.{Basic, Opt, History, register_value_of, digests_of, RegisterStands, StandsFor, register_reads, by_lists}
+use Rattle.mm_call.proofs.Below.{Called, RegisterAt, IsAsked, CallContinues, CallsAgree}
+use Rattle.mm_call.proofs.OptHolding.{agrees_is, is_agrees}
 
 -- what the call sees at its last reading step
 abbrev pub sees : Instance → Digests → Course → Digests
@@ -12,19 +13,6 @@ sees i d c = seen_at i (by_digests i) d c
 -- what it finds there
 abbrev pub finds : Instance → Digests → Course → List ℕ → Batch → Result Found Refusal
 finds i d c offer b = found_unless_wanting (found_at i (by_digests i) (sees i d c) b offer) c.lacks
-
-led_by : (i : Instance) (d : Digests) (c : Course) (b : Batch) (old new : Standing) (result : Result BatchAnswer Refusal)
-    (found : Result Found Refusal) (fault : Option StepFault) (w : Walked) → Leads i d w old new fault
-    → result ≡ given_for (ended_by (by_digests i) (sees i d c) (all_made (by_digests i) d w.moves) b found w.moves fault)
-    → GoesBy i d (called_by (by_digests i) d (sees i d c) b found w) old new result
-led_by i d c b old new result found fault w l gives = record {
-  gives = gives ∙ ap (λ (f : Option StepFault). given_for
-      (ended_by (by_digests i) (sees i d c) (all_made (by_digests i) d w.moves) b found w.moves f)) (sym l.broken);
-  stands = l.stands;
-  items = l.items;
-  steps = l.steps;
-  writes = l.writes;
-}
 
 -- A call goes by digests, where it finds this and its steps are a trail that ends with this fault.
 pub went : (i : Instance) (d : Digests) (c : Course) (offer : List ℕ) (b : Batch) (old new : Standing)
@@ -35,10 +23,46 @@ pub went : (i : Instance) (d : Digests) (c : Course) (offer : List ℕ) (b : Bat
     → GoesBy i d (called i (by_digests i) d c offer b) old new result
 went i d c offer b old new result found fault e s t gives =
     let w : Walked = walk c.fates 1 (ask_steps i.variant d.flag (is_fresh found) b) in
-    rw e (led_by i d c b old new result found fault w
-    (leads i d c.fates 1 (ask_steps i.variant d.flag (is_fresh found) b) old new fault s t) (gives w.moves))
+    let l = leads i d c.fates 1 (ask_steps i.variant d.flag (is_fresh found) b) old new fault s t in
+    rw e (record {
+      gives = gives w.moves ∙ ap (λ (f : Option StepFault). given_for
+          (ended_by (by_digests i) (sees i d c) (all_made (by_digests i) d w.moves) b found w.moves f)) (sym l.broken);
+      stands = l.stands;
+      items = l.items;
+      steps = l.steps;
+      writes = l.writes;
+    })
 
--- the digests once others extended the register by these values
-pub brought_digests : (i : Instance) (d : Digests) (values : List (List ℕ))
-    → all_made (by_digests i) d (map Foreign values) ≡ record d { register = fold extended_of d.register values }
-brought_digests i d values = trails.foreign_made i d values
+register_at : (variant : Variant) (i : Instance) (standing : Standing) (y : History) → RegisterStands variant i standing y
+    → RegisterAt variant (register_reads standing) (register_value_of i y)
+register_at Basic i standing y r = tt
+register_at Opt i standing y r = r
+
+register_stands : (variant : Variant) (i : Instance) (standing : Standing) (y : History)
+    → RegisterAt variant (register_reads standing) (register_value_of i y) → RegisterStands variant i standing y
+register_stands Basic i standing y r = tt
+register_stands Opt i standing y r = r
+
+-- a platform stands for a history exactly where it stands at its digests
+pub stands_at : (i : Instance) (standing : Standing) (y : History) → StandsFor i standing y → StandsAt i standing (digests_of i y)
+stands_at i standing y s = record { spells = s.spells; cell = s.cell; reads = register_at i.variant i standing y s.register }
+
+pub stands_for : (i : Instance) (standing : Standing) (y : History) → StandsAt i standing (digests_of i y) → StandsFor i standing y
+stands_for i standing y s = record { spells = s.spells; cell = s.cell; register = register_stands i.variant i standing y s.reads }
+
+pub continues_by : (i : Instance) → CallsAgree i → (old new : Standing) (course : Course) (offer : List ℕ) (b : Batch)
+    (result : Result BatchAnswer Refusal)
+    → ((d : Digests) → StandsAt i old d → GoesBy i d (called i (by_digests i) d course offer b) old new result)
+    → (all others : List (List ℕ)) (asked : List Batch) (y : History) → StandsFor i old y
+    → IsAsked all others asked i y (called i (by_digests i) (digests_of i y) course offer b).moves offer b
+    → CallContinues all others asked i (called i (by_lists i) y course offer b) new result
+continues_by i law old new course offer b result goes all others asked y s a =
+    let d : Digests = digests_of i y in
+    let same = law all others asked y d course offer b (is_agrees i y d refl) a in
+    let g = goes d (stands_at i old y s) in
+    let o : Called History = called i (by_lists i) y course offer b in record {
+      gives = g.gives ∙ ap given_for same.ending;
+      stands = stands_for i new o.state
+          (subst (StandsAt i new) (agrees_is i o.state (called i (by_digests i) d course offer b).state same.agrees) g.stands);
+      within = same.within;
+    }

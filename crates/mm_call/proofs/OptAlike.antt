@@ -1,11 +1,11 @@
 -- Opt: histories that differ in the register's items alone, and what a call does to all but these.
 use Rattle.mm_call.proofs.Below.{◌≡◌, ℕ, Bool, true, false, List, [], ◌∷◌, ◌++◌, map, refl, sym, ap, ◌∙◌, subst, inl, inr, Opt, Meaning}
 use Rattle.mm_call.proofs.Below.{Batch, Place, InBasic, InOpt, Content, guard, Instance, opt, Entry, Value, History, Move, Commit, Foreign}
-use Rattle.mm_call.proofs.Below.{Placed, Reset, Close, moved, committed, joined, is_empty, has_value, IsSound, Digests, MayMove}
-use Rattle.mm_call.proofs.Below.{IsAllowed, IsOpening, made, IsPlaceOf, Names, issued, issued_place, sound_moved, opt_names, point_items}
-use Rattle.mm_call.proofs.Below.{by_lists, by_digests, all_made, closes, committed_in, closes-foreign, commit_keeps, committed-foreign}
-use Rattle.mm_call.proofs.OptHolding.{foreign_may}
-use Rattle.mm_call.proofs.OptShut.{bare, bare_digests, reset_may}
+use Rattle.mm_call.proofs.Below.{Placed, Reset, Close, moved, committed, joined, is_empty, has_value, IsSound, Digests, MayMove, IsAllowed}
+use Rattle.mm_call.proofs.Below.{IsOpening, made, IsPlaceOf, Names, issued, issued_place, point_items, by_lists, by_digests, all_made}
+use Rattle.mm_call.proofs.Below.{closes, committed_in, closes-foreign, commit_keeps, committed-foreign}
+use Rattle.mm_call.proofs.OptHolding.{bare, bare_digests, reset_may}
+use Rattle.mm_call.proofs.OptWalks.{names_all}
 
 -- with a segment open no closed one holds a value that stands for no batch
 pub clean_open : (y : History) → IsSound y → y.is_open ≡ true → has_value (joined y.closed) ≡ false
@@ -100,36 +100,22 @@ module _ (meaning : Meaning) (key barrier : List ℕ) where
   not_bare (x ∷ items) v = refl
 
   -- a commit inside a segment, behind a value of others; and one that opens a segment, behind its own extension
-  named_inside : (y : History) (b : Batch) (content : Content) → IsSound y → y.is_open ≡ true → Names I y content
-      → Names I (moved I y (Commit b)) content
-  named_inside y b content sound e n =
-      let v : List ℕ = guard barrier b in
-      let z : History = moved I y (Foreign v) in
-      let may : MayMove I y (Foreign v) = foreign_may I y y.is_open v in
-      let then_may : MayMove I z (Commit b) = rw e (not_bare y.items v) in
+  named_then : (flag : Bool) (y : History) (b : Batch) (content : Content) → y.is_open ≡ flag → IsSound y
+      → has_value (joined y.closed) ≡ false → Names I y content → Names I (moved I y (Commit b)) content
+  named_then true y b content e sound clean n =
+      let z : History = moved I y (Foreign (guard barrier b)) in
       names_alike (moved I z (Commit b)) (moved I y (Commit b)) content (alike_commit z y b refl)
-      (opt_names meaning key barrier z (Commit b) content (sound_moved meaning key barrier y (Foreign v) sound may) then_may
-      (opt_names meaning key barrier y (Foreign v) content sound may n))
-
-  named_opening : (y : History) (b : Batch) (content : Content) → IsSound y → y.is_open ≡ false → has_value (joined y.closed) ≡ false
-      → Names I y content → Names I (moved I y (Commit b)) content
-  named_opening y b content sound e clean n =
+      (names_all meaning key barrier (Foreign (guard barrier b) ∷ Commit b ∷ []) y content sound
+      (tt, (rw e (not_bare y.items (guard barrier b)), tt)) n)
+  named_then false y b content e sound clean n =
       let empty : History = moved I y Reset in
       let z : History = moved I empty (Placed b) in
-      let may : MayMove I y Reset = reset_may meaning key barrier y e in
       let placing : MayMove I empty (Placed b) = rw e tt in
-      let sound_then : IsSound empty = sound_moved meaning key barrier y Reset sound may in
       let opening : IsOpening I z b = record { clean = clean; front = []; items = refl; others = refl } in
       let then_may : MayMove I z (Commit b) = subst (λ (f : Bool). IsAllowed Opt f I z (Commit b)) (sym e) opening in
       names_alike (moved I z (Commit b)) (moved I y (Commit b)) content (alike_commit z y b refl)
-      (opt_names meaning key barrier z (Commit b) content (sound_moved meaning key barrier empty (Placed b) sound_then placing) then_may
-      (opt_names meaning key barrier empty (Placed b) content sound_then placing
-      (opt_names meaning key barrier y Reset content sound may n)))
-
-  named_then : (flag : Bool) (y : History) (b : Batch) (content : Content) → y.is_open ≡ flag → IsSound y
-      → has_value (joined y.closed) ≡ false → Names I y content → Names I (moved I y (Commit b)) content
-  named_then true y b content e sound clean n = named_inside y b content sound e n
-  named_then false y b content e sound clean n = named_opening y b content sound e clean n
+      (names_all meaning key barrier (Reset ∷ Placed b ∷ Commit b ∷ []) y content sound
+      (reset_may meaning key barrier y e, (placing, (then_may, tt))) n)
 
   -- what named a position before a call names it after the call
   pub names_after : (y after : History) (b : Batch) (content : Content) → IsSound y → IsSound after → Alike y b after → Names I y content

@@ -1,30 +1,23 @@
 -- Opt: what one call leaves by lists, and what it hands on to the next.
-use Rattle.mm_call.proofs.Below.{◌≡◌, ℕ, Bool, true, false, List, [], ◌∷◌, ◌++◌, map, Option, None, Some, Result, Ok, refl, sym, ap, ◌∙◌}
-use Rattle.mm_call.proofs.Below.{subst, append_assoc, option_map, Opt, StepFault, extended_message, Item}
-use Rattle.mm_call.proofs.Below.{Standing, item_values, Meaning, Batch, One, Instance, opt, Entry, History, Move, Foreign, joined}
-use Rattle.mm_call.proofs.Below.{register_value_of, has_value, Digests, digests_of, StandsFor, Reads, ask_steps, BatchAnswer}
-use Rattle.mm_call.proofs.Below.{Refusal, Level, by_lists, by_digests, all_made, Found, found_at, found_unless_wanting, is_fresh, Course}
-use Rattle.mm_call.proofs.Below.{Walked, walk, closes, called, seen_at, ended_by, given_for, CallsOn, StandsAt, shown, counted_part}
-use Rattle.mm_call.proofs.Below.{counted_moves, IsWithin, IsAsked, AreAsked, AreShown, IsIdle, standing_items}
+use Rattle.mm_call.proofs.Below.{◌≡◌, ℕ, Bool, true, false, List, [], ◌∷◌, ◌++◌, map, None, Some, Result, Ok, refl, sym, ap, ◌∙◌, subst}
+use Rattle.mm_call.proofs.Below.{append_assoc, option_map, Opt, extended_message, Item, Standing, item_values, Meaning, Batch, One}
+use Rattle.mm_call.proofs.Below.{Instance, opt, Entry, History, Move, Foreign, joined, register_value_of, has_value, Digests, digests_of}
+use Rattle.mm_call.proofs.Below.{StandsFor, Reads, ask_steps, BatchAnswer, Refusal, by_lists, by_digests, all_made, Found, found_at}
+use Rattle.mm_call.proofs.Below.{found_unless_wanting, is_fresh, Course, Walked, walk, closes, called, seen_at, given_for, CallsOn}
+use Rattle.mm_call.proofs.Below.{StandsAt, shown, counted_part, counted_moves, IsWithin, IsAsked, AreAsked, AreShown, standing_items}
 use Rattle.mm_call.proofs.Below.{committed_in, asked_by, same_rest, Counts, counts_open, Commits, nothing, batch, changing, asks}
-use Rattle.mm_call.proofs.Below.{opt_commits, taking, foreign_first, committed-foreign, opt_closes, closes_first, closes-foreign, Comes}
-use Rattle.mm_call.proofs.Below.{kept, GoesBy}
-use Rattle.mm_model.specs.Chains as chains
-use Rattle.mm_call.proofs.Idle.{asked_for}
-use Rattle.mm_call.proofs.BasicLaw.{unlacked}
-use Rattle.mm_call.proofs.Continuing.{stands_at}
-use Rattle.mm_call.proofs.OptFinding.{lives}
-use Rattle.mm_call.proofs.OptHolding.{is_agrees}
-use Rattle.mm_call.proofs.OptAgree.{opt_calls_agree}
-use Rattle.mm_call.proofs.OptShapes.{none_counted, Shape, shape}
-use Rattle.mm_call.proofs.OptShut.{bare, within_items}
-use Rattle.mm_call.proofs.Tied.{opt_tied}
-use Rattle.mm_call.proofs.Finding.{placed}
+use Rattle.mm_call.proofs.Below.{opt_commits, taking, committed-foreign, opt_closes, closes_first, closes-foreign, Comes, kept, GoesBy}
+use Rattle.mm_call.proofs.Going.{stands_at}
+use Rattle.mm_call.proofs.Finding.{lives}
+use Rattle.mm_call.proofs.OptHolding.{is_agrees, bare, within_items}
+use Rattle.mm_call.proofs.OptShapes.{none_counted, Shape, shape, opt_tied, reads_only}
 use Rattle.mm_call.proofs.Coming.{answered_only, opt_comes as comes}
-use Rattle.mm_call.proofs.OptLaw.{seen_asking}
+use Rattle.mm_call.proofs.OptLaw.{opt_calls_agree, placed_at}
 use Rattle.mm_call.proofs.OptAlike.{alike_still, alike_one, digests_still, Alike, still, grown_by, same_closed}
-use Rattle.mm_call.proofs.OptShown.{Way, only_reads, breaks_off, commits_it, way, pushed_open, counts_opening, flag_kept, flag_set}
-use Rattle.mm_call.proofs.OptShown.{shown_front, shown_back, shown_shut, register_then, stands_with}
+use Rattle.mm_call.proofs.OptShown.{pushed_open, counts_opening, flag_kept, flag_set, shown_front, shown_back, shown_shut, register_then}
+use Rattle.mm_call.proofs.OptShown.{stands_with}
+use Rattle.mm_call.proofs.OptWalks.{sight}
+use Rattle.mm_model.specs.Chains as chains
 
 -- what one call leaves: the history after it, and what is asked of that
 pub record OptAfter (all others : List (List ℕ)) (asked : List Batch) (meaning : Meaning) (key barrier : List ℕ) (y : History)
@@ -35,12 +28,6 @@ pub record OptAfter (all others : List (List ℕ)) (asked : List Batch) (meaning
   pub comes : Comes (opt meaning key barrier) y offer b after result
   pub alike : Alike meaning key barrier y b after
   pub clean : (answer : BatchAnswer) → result ≡ Ok answer → has_value (joined after.closed) ≡ false
-
--- an answer comes from a walk that wasn't broken off
-pub whole_walk : {S : Type 0} (broken : Option StepFault) (level : Level S) (seen s : S) (b : Batch) (found : Result Found Refusal)
-    (moves : List Move) (answer : BatchAnswer) → given_for (ended_by level seen s b found moves broken) ≡ Ok answer → broken ≡ None
-whole_walk (Some fault) level seen s b found moves answer e = absurd (cc)
-whole_walk None level seen s b found moves answer e = refl
 
 -- what a walk commits, on the history
 pub alike_of : (meaning : Meaning) (key barrier : List ℕ) (y : History) (b : Batch) (fresh : Bool) (w : Walked) → Commits b fresh w
@@ -57,12 +44,11 @@ alike_call meaning key barrier y c offer b =
     rw (asks y.is_open fresh b) (alike_of meaning key barrier y b fresh (walk c.fates 1 (Reads ∷ Reads ∷ changing y.is_open fresh b))
     (opt_commits c.fates y.is_open fresh b) (opt_closes c.fates y.is_open fresh b))
 
-clean_by : (meaning : Meaning) (key barrier : List ℕ) (y sees after : History) (b : Batch) → sees.closed ≡ y.closed
-    → has_value (joined sees.closed) ≡ false → Alike meaning key barrier y b after → has_value (joined after.closed) ≡ false
-clean_by meaning key barrier y sees after b same clean (still e) =
-    ap (λ (c : List (List Entry)). has_value (joined c)) (ap (λ (x : History). x.closed) e ∙ sym same) ∙ clean
-clean_by meaning key barrier y sees after b same clean (grown_by e) =
-    ap (λ (c : List (List Entry)). has_value (joined c)) (same_closed meaning key barrier y after b e ∙ sym same) ∙ clean
+clean_by : (meaning : Meaning) (key barrier : List ℕ) (y after : History) (b : Batch) → has_value (joined y.closed) ≡ false
+    → Alike meaning key barrier y b after → has_value (joined after.closed) ≡ false
+clean_by meaning key barrier y after b clean (still e) = ap (λ (x : History). has_value (joined x.closed)) e ∙ clean
+clean_by meaning key barrier y after b clean (grown_by e) =
+    ap (λ (c : List (List Entry)). has_value (joined c)) (same_closed meaning key barrier y after b e) ∙ clean
 
 -- others' values before the reading steps close nothing
 pub seen_closes : (v w : List (List ℕ)) → closes (map Foreign v ++ (map Foreign w ++ [])) ≡ false
@@ -86,34 +72,21 @@ module _ (meaning : Meaning) (key barrier : List ℕ) (all others : List (List �
     left : Left y new offer request result
     flag : (all_made (by_digests I) (digests_of I y) (DigestMoves old new offer request result c y)).flag ≡ left.after.is_open
 
-  answered_clean : (y : History) (c : Course) (offer request : List ℕ) (answer : BatchAnswer)
-      → AreAsked all others asked I y offer (One request) → given_for (called I (by_lists I) y c offer (One request)).ending ≡ Ok answer
-      → Alike meaning key barrier y (One request) (called I (by_lists I) y c offer (One request)).state
-      → has_value (joined (called I (by_lists I) y c offer (One request)).state.closed) ≡ false
-  answered_clean y c offer request answer a gives alike =
-      let v : List (List ℕ) = (c.fates 1).brings in
-      let w : List (List ℕ) = (c.fates 2).brings in
-      let before : List Move = map Foreign v ++ (map Foreign w ++ []) in
-      let sees : History = all_made (by_lists I) y before in
-      let found : Result Found Refusal = found_unless_wanting (found_at I (by_lists I) sees (One request) offer) c.lacks in
-      let walked : Walked = walk c.fates 1 (ask_steps Opt y.is_open (is_fresh found) (One request)) in
-      let end : History = all_made (by_lists I) y walked.moves in
-      let it = answered_only walked.broken I sees end (One request) found walked.moves answer gives in
-      let was = unlacked (found_at I (by_lists I) sees (One request) offer) c.lacks it.it it.found_is in
-      let p = placed all I sees offer (One request)
-      (seen_asking meaning key barrier all y v w offer (One request) a.within.sound
-      (record { clear = a.clear; listed = a.offered; genuine = a.genuine })) it.it was in
-      let foreign : bare sees ≡ bare y = alike_still meaning key barrier before y
-      (foreign_first v (map Foreign w ++ []) ∙ foreign_first w []) (seen_closes v w) in
-      clean_by meaning key barrier y sees end (One request) (ap (λ (x : History). x.closed) foreign) (lives sees p.live).clean alike
-
   pub answered_clean_as : (y : History) (old new : Standing) (offer request : List ℕ) (result : Result BatchAnswer Refusal)
       (c : CallsOn Opt meaning old new offer (One request) result) → AreAsked all others asked I y offer (One request)
       → (answer : BatchAnswer) → result ≡ Ok answer → result ≡ given_for (called I (by_lists I) y c.course offer (One request)).ending
       → Alike meaning key barrier y (One request) (called I (by_lists I) y c.course offer (One request)).state
       → has_value (joined (called I (by_lists I) y c.course offer (One request)).state.closed) ≡ false
   answered_clean_as y old new offer request result c a answer is gives alike =
-      answered_clean y c.course offer request answer a (sym gives ∙ is) alike
+      let b : Batch = One request in
+      let sees : History = seen_at I (by_lists I) y c.course in
+      let found : Result Found Refusal = found_unless_wanting (found_at I (by_lists I) sees b offer) c.course.lacks in
+      let w : Walked = walk c.course.fates 1 (ask_steps Opt y.is_open (is_fresh found) b) in
+      let end : History = all_made (by_lists I) y w.moves in
+      let it = answered_only w.broken (by_lists I) sees end b found w.moves answer (sym gives ∙ is) in
+      let p = placed_at meaning key barrier all others asked y (digests_of I y) c.course offer b (is_agrees I y (digests_of I y) refl) a
+      it.it it.found_is in
+      clean_by meaning key barrier y end b (lives (sight y c.course) p.live).clean alike
 
   by_law : (y : History) (old new : Standing) (offer request : List ℕ) (result : Result BatchAnswer Refusal)
       (c : CallsOn Opt meaning old new offer (One request) result) → StandsFor I old y → AreAsked all others asked I y offer (One request)
@@ -137,16 +110,6 @@ module _ (meaning : Meaning) (key barrier : List ℕ) (all others : List (List �
         };
         flag = same.agrees.flag;
       }
-
-  -- a call that shows at its end what is asked, unless it is idle
-  pub left_call : (y : History) (old new : Standing) (offer request : List ℕ) (result : Result BatchAnswer Refusal)
-      (items more : List Item) → CallsOn Opt meaning old new offer (One request) result → StandsFor I old y → old.items ≡ Some items
-      → new.items ≡ Some (standing_items y.is_open items ++ more) → AreAsked all others asked I y offer (One request)
-      → ((IsIdle I y offer (One request) → ⊥) → AreShown all others I y more) → Left y new offer request result
-  left_call y old new offer request result items more c s known ends a shown_so =
-      let g = c.goes key barrier (digests_of I y) (stands_at I old y s) in
-      (by_law y old new offer request result c s a
-      (asked_for meaning key barrier all others asked y c.course offer (One request) old new items more a shown_so known g.items ends)).left
 
   -- From a set flag all that the register had shown stays in front.
   abbrev pub GoesOn : Standing → Standing → Type 0
@@ -274,29 +237,28 @@ module _ (meaning : Meaning) (key barrier : List ℕ) (all others : List (List �
           clean = λ answer gives. absurd (unless answer gives);
         }) e
 
-    hands_by : (flag fresh : Bool) → y.is_open ≡ flag → (w : Walked)
-        → w ≡ walk c.course.fates 1 (Reads ∷ Reads ∷ changing flag fresh (One request)) → w.moves ≡ moves
-        → ((answer : BatchAnswer) → result ≡ Ok answer → w.broken ≡ None) → Hands y middle new offer request result more
-    hands_by true fresh e w is are answered =
-        let quiet : closes moves ≡ false = ap closes (sym are) ∙ ap (λ (v : Walked). closes v.moves) is
-        ∙ opt_closes c.course.fates true fresh (One request) in
+    -- by the walk of its steps
+    hands_by : (flag fresh : Bool) → y.is_open ≡ flag → (let w = walk c.course.fates 1 (Reads ∷ Reads ∷ changing flag fresh (One request)) in
+        (w.moves ≡ moves) × ((answer : BatchAnswer) → result ≡ Ok answer → w.broken ≡ None) → Hands y middle new offer request result more)
+    hands_by true fresh e is =
         hands_open (counts_open I y d moves e (opt_tied meaning key barrier y d c.course offer (One request) refl))
-        (flag_kept meaning key barrier moves d e quiet)
-    hands_by false fresh e w is are answered =
+        (flag_kept meaning key barrier moves d e (ap closes (sym is.0) ∙ opt_closes c.course.fates true fresh (One request)))
+    hands_by false false e is =
+        let r = reads_only (c.course.fates 1).brings (c.course.fates 2).brings (c.course.fates 1).ends (c.course.fates 2).ends in
+        let l = left_reading y old middle offer request result c r.values s a e (sym is.0 ∙ r.are) in
+        hands_shut e l.0 l.1
+    hands_by false true e is =
         let b : Batch = One request in
-        let quiet : closes moves ≡ false = ap closes (sym are) ∙ ap (λ (v : Walked). closes v.moves) is
-        ∙ opt_closes c.course.fates false fresh b in
-        elim (subst (λ (v : Walked). Way b v) (sym is) (way c.course.fates false fresh b)) [
-          | only_reads values only ↦
-              let l = left_reading y old middle offer request result c values s a e (sym are ∙ only) in hands_shut e l.0 l.1
-          | breaks_off none unless ↦
-              hands_broken e (ap committed_in (sym are) ∙ none) quiet (λ answer gives. unless (answered answer gives))
-          | commits_it one ↦
-              let one_made : committed_in moves ≡ b ∷ [] = ap committed_in (sym are) ∙ one in
-              hands_open (counts_opening I y d c.course.fates fresh b moves e
-              (subst (λ (ms : List Move). Shape c.course.fates fresh b ms) (ap (λ (v : Walked). v.moves) (sym is) ∙ are)
-              (shape c.course.fates fresh b)) one_made (opt_tied meaning key barrier y d c.course offer b refl))
-              (flag_set meaning key barrier moves d b one_made quiet)
+        let quiet : closes moves ≡ false = ap closes (sym is.0) ∙ opt_closes c.course.fates false true b in
+        elim (opt_commits c.course.fates false true b) [
+          | nothing none unless ↦
+              hands_broken e (ap committed_in (sym is.0) ∙ none) quiet
+              (λ answer gives. let clash : true ≡ false = unless (is.1 answer gives) in absurd (cc))
+          | batch one fresh ↦
+              let one_made : committed_in moves ≡ b ∷ [] = ap committed_in (sym is.0) ∙ one in
+              hands_open (counts_opening I y d c.course.fates true b moves e
+              (subst (λ (ms : List Move). Shape c.course.fates true b ms) is.0 (shape c.course.fates true b)) one_made
+              (opt_tied meaning key barrier y d c.course offer b refl)) (flag_set meaning key barrier moves d b one_made quiet)
         ]
 
     pub hands : Hands y middle new offer request result more
@@ -305,6 +267,9 @@ module _ (meaning : Meaning) (key barrier : List ℕ) (all others : List (List �
         let seen : Digests = seen_at I (by_digests I) d c.course in
         let found : Result Found Refusal = found_unless_wanting (found_at I (by_digests I) seen b offer) c.course.lacks in
         let w : Walked = walk c.course.fates 1 (ask_steps Opt y.is_open (is_fresh found) b) in
-        hands_by y.is_open (is_fresh found) refl w (ap (walk c.course.fates 1) (asks y.is_open (is_fresh found) b)) refl
-        (λ answer gives. whole_walk w.broken (by_digests I) seen (all_made (by_digests I) d w.moves) b found w.moves answer
-        (sym goes.gives ∙ gives))
+        hands_by y.is_open (is_fresh found) refl (subst (λ s. ((walk c.course.fates 1 s).moves ≡ moves)
+        × ((answer : BatchAnswer) → result ≡ Ok answer → (walk c.course.fates 1 s).broken ≡ None)) (asks y.is_open (is_fresh found) b) (
+          refl,
+          λ answer gives. (answered_only w.broken (by_digests I) seen (all_made (by_digests I) d w.moves) b found w.moves answer
+              (sym goes.gives ∙ gives)).whole,
+        ))

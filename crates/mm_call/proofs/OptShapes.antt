@@ -1,9 +1,21 @@
--- Opt: what the moves of a walk are. A call inside a segment reads, and goes on or is cut off; one with no segment open
--- lets others extend the register, and then may reset it and go on.
+-- Opt: what the moves of a walk are, and that what counts of them is what the register shows. A call inside a segment reads, and
+-- goes on or is cut off; one with no segment open lets others extend the register, and then may reset it and go on.
 use Rattle.mm_call.proofs.Below.{ℕ, ◌≡◌, Bool, true, false, List, [], ◌∷◌, ◌++◌, map, Some, refl, sym, ap, ◌∙◌, append_assoc, ◌⊎◌, inl, inr}
 use Rattle.mm_call.proofs.Below.{append-nil, map-append, StepFault, Batch, Move, Commit, Foreign, Placed, Reset, Step, Reads, Changes}
-use Rattle.mm_call.proofs.Below.{History, counted_moves, from_reset, from_reset-foreign}
-use Rattle.mm_call.proofs.Below.{Writes, End, Done, Fails, Fate, Walked, after_step, walk, finished, changing}
+use Rattle.mm_call.proofs.Below.{History, counted_moves, from_reset, from_reset-foreign, Writes, End, Done, Fails, Fate, Walked, after_step}
+use Rattle.mm_call.proofs.Below.{walk, finished, changing, if◌then◌else◌, Opt, extended_message, Item, own_item, foreign_item, item_values}
+use Rattle.mm_call.proofs.Below.{Meaning, after, trail, guard, Instance, opt, Entry, Own, Value, moved, committed, register_value_of}
+use Rattle.mm_call.proofs.Below.{entry_values, moving_messages, move_messages, Digests, made, committing, trail-append, values_renamed}
+use Rattle.mm_call.proofs.Below.{by_digests, found_at, found_unless_wanting, is_fresh, seen_at, shown, shown_by, moves_messages, foreign_in}
+use Rattle.mm_call.proofs.Below.{foreign_items, Tied, shows, OptTied, shown-append, foreign_in-append, asks, each_self, renamed, taking}
+use Rattle.mm_model.specs.Chains.{register_of}
+use Rattle.mm_call.specs.Tied.{nothing}
+use Rattle.mm_call.proofs.OptHolding.{bare, bare_digests}
+use Rattle.mm_call.proofs.OptWalks.{AreOwn, Each, ReadyFor, walk_each, own_changing}
+use Rattle.mm_digest.specs.Messages.{extended_of}
+use Rattle.mm_model.specs.History.{value_of}
+use Rattle.mm_model.specs.HistoryLaws.{register_more}
+use Rattle.mm_call.specs.TrailLaws.{foreign_made as brought_digests}
 
 -- two reading steps, and the rest
 abbrev pub two_reads : List (List ℕ) → End → List (List ℕ) → End → Walked → Walked
@@ -80,3 +92,184 @@ pub none_counted : (y : History) (values : List (List ℕ)) (moves : List Move) 
     → counted_moves y.is_open moves ≡ []
 none_counted y values moves e is =
     ap (λ (f : Bool). counted_moves f moves) e ∙ ap from_reset (is ∙ sym (append-nil (map Foreign values))) ∙ from_reset-foreign values []
+
+pub foreign_of-append : (xs ys : List Item) → foreign_items (xs ++ ys) ≡ foreign_items xs ++ foreign_items ys
+foreign_of-append [] ys = refl
+foreign_of-append (x ∷ xs) ys =
+    item_then x.own x.value (foreign_items xs) (foreign_items ys) (foreign_items (xs ++ ys)) (foreign_of-append xs ys) where
+      item_then : (own : Bool) (v : List ℕ) (a b c : List (List ℕ)) → c ≡ a ++ b
+          → (if own then c else v ∷ c) ≡ (if own then a else v ∷ a) ++ b
+      item_then true v a b c e = e
+      item_then false v a b c e = ap (λ w. v ∷ w) e
+
+-- Moves push items into the register: they are shown behind what was there, and their messages are hashed one after another
+-- from the register's value on.
+record Pushed (i : Instance) (y : History) (d : Digests) (moves : List Move) : Type 0 where
+  more : List Item
+  messages : moves_messages i y moves ≡ trail extended_message (register_value_of i y) (item_values more)
+  values : foreign_in moves ≡ foreign_items more
+  shown_are : (items : List Item) → shown i d moves items ≡ items ++ more
+
+-- the same of one move, and what is behind it
+record PushesOne (i : Instance) (y : History) (d : Digests) (m : Move) : Type 0 where
+  more : List Item
+  messages : move_messages i y m ≡ trail extended_message (register_value_of i y) (item_values more)
+  values : foreign_in (m ∷ []) ≡ foreign_items more
+  shown_are : (items : List Item) → shown_by i.variant d.flag i m items ≡ items ++ more
+  register : register_value_of i (moved i y m) ≡ after extended_message (register_value_of i y) (item_values more)
+  flag : (made i d m).flag ≡ (moved i y m).is_open
+
+pushed_then : (i : Instance) (y : History) (d : Digests) (m : Move) (moves : List Move) → PushesOne i y d m
+    → Pushed i (moved i y m) (made i d m) moves → Pushed i y d (m ∷ moves)
+pushed_then i y d m moves p q =
+    let r : List ℕ = register_value_of i y in
+    record {
+      more = p.more ++ q.more;
+      messages = ap (λ v. v ++ moves_messages i (moved i y m) moves) p.messages
+          ∙ ap (λ v. trail extended_message r (item_values p.more) ++ v) (q.messages
+          ∙ ap (λ s. trail extended_message s (item_values q.more)) p.register)
+          ∙ sym (trail-append extended_message r (item_values p.more) (item_values q.more))
+          ∙ ap (trail extended_message r) (sym (map-append (λ (item : Item). item.value) p.more q.more));
+      values = foreign_in-append (m ∷ []) moves ∙ ap (λ v. v ++ foreign_in moves) p.values ∙ ap (λ v. foreign_items p.more ++ v) q.values
+          ∙ sym (foreign_of-append p.more q.more);
+      shown_are = λ items. q.shown_are (shown_by i.variant d.flag i m items) ∙ ap (λ v. v ++ q.more) (p.shown_are items)
+          ∙ append_assoc items p.more q.more;
+    }
+
+-- one more value in the register
+register_then : (barrier : List ℕ) (items : List Entry) (e : Entry) → register_of (entry_values barrier (items ++ e ∷ []))
+    ≡ after extended_message (register_of (entry_values barrier items)) (value_of barrier e ∷ [])
+unfolding extended_of
+register_then = register_more
+
+module _ (meaning : Meaning) (key barrier : List ℕ) where
+  abbrev I : Instance
+  I = opt meaning key barrier
+
+  pub foreign_messages : (y : History) (flag : Bool) (v : List ℕ) → moving_messages Opt flag I y (Foreign v)
+      ≡ extended_message (register_value_of I y) v ∷ []
+  foreign_messages y flag v = refl
+
+  -- The moves that push something, or rename it: a commit is one inside a segment, or behind its own extension.
+  abbrev IsPushing : Bool → History → Move → Type 0
+  IsPushing flag y (Foreign v) = Unit {0}
+  IsPushing flag y (Placed b) = Unit {0}
+  IsPushing true y (Commit b) = Unit {0}
+  IsPushing false y (Commit b) = (front : List Entry) × (y.items ≡ front ++ Value (guard barrier b) ∷ [])
+  IsPushing _ y _ = ⊥
+
+  abbrev MayPush : History → Move → Type 0
+  MayPush y m = IsPushing y.is_open y m
+
+  pushed_one : (flag : Bool) (y : History) (d : Digests) (m : Move) → y.is_open ≡ flag → d.flag ≡ flag → IsPushing flag y m
+      → PushesOne I y d m
+  pushed_one flag y d (Foreign v) e f p = record {
+    more = foreign_item v ∷ [];
+    messages = refl;
+    values = refl;
+    shown_are = λ items. refl;
+    register = register_then barrier y.items (Value v);
+    flag = f ∙ sym e;
+  }
+  pushed_one flag y d (Placed b) e f p = record {
+    more = own_item (guard barrier b) ∷ [];
+    messages = refl;
+    values = refl;
+    shown_are = λ items. refl;
+    register = register_then barrier y.items (Value (guard barrier b));
+    flag = f ∙ sym e;
+  }
+  pushed_one true y d (Commit b) e f p = record {
+    more = own_item (guard barrier b) ∷ [];
+    messages = rw e refl;
+    values = refl;
+    shown_are = λ items. rw f refl;
+    register = rw e (register_then barrier y.items (Own b));
+    flag = rw (f, e) refl;
+  }
+  pushed_one false y d (Commit b) e f p =
+      let lists : moved I y (Commit b) ≡ committed Opt false y b = ap (λ g. committed Opt g y b) e in record {
+        more = [];
+        messages = ap (λ g. moving_messages Opt g I y (Commit b)) e;
+        values = refl;
+        shown_are = λ items. ap (λ g. shown_by Opt g I (Commit b) items) f ∙ sym (append-nil items);
+        register = ap (register_value_of I) lists ∙ ap (λ v. register_of (entry_values barrier (renamed v b))) p.1
+            ∙ ap register_of (values_renamed barrier p.0 b) ∙ ap (λ v. register_of (entry_values barrier v)) (sym p.1);
+        flag = ap (λ g. (committing Opt g I d b).flag) f ∙ ap (λ (x : History). x.is_open) (sym lists);
+      }
+  pushed_one _ y d _ e f p = absurd p
+
+  pushed_each : (moves : List Move) (y : History) (d : Digests) → d.flag ≡ y.is_open → Each MayPush I y moves → Pushed I y d moves
+  pushed_each [] y d e each = record { more = []; messages = refl; values = refl; shown_are = λ items. sym (append-nil items) }
+  pushed_each (m ∷ moves) y d e each =
+      let p = pushed_one y.is_open y d m refl e each.0 in
+      pushed_then I y d m moves p (pushed_each moves (moved I y m) (made I d m) p.flag each.1)
+
+  -- a walk whose steps push
+  walk_pushed : (fates : ℕ → Fate) (n : ℕ) (steps : List Step) (y : History) (d : Digests) → d.flag ≡ y.is_open → AreOwn steps
+      → ReadyFor MayPush (foreign_in (walk fates n steps).moves) I fates n steps y → Pushed I y d (walk fates n steps).moves
+  walk_pushed fates n steps y d e own ready =
+      let moves : List Move = (walk fates n steps).moves in
+      pushed_each moves y d e
+      (walk_each MayPush (foreign_in moves) I (λ x v c. tt) fates steps n y own (each_self [] (foreign_in moves)) ready)
+
+  -- behind two reading steps inside a segment, and behind a reset with none open
+  inside_ready : (others : List (List ℕ)) (fates : ℕ → Fate) (fresh : Bool) (b : Batch) (y : History) → y.is_open ≡ true
+      → ReadyFor MayPush others I fates 3 (changing true fresh b) y
+  inside_ready others fates true b y e = λ o. (rw e tt, tt)
+  inside_ready others fates false b y e = tt
+
+  opening_ready : (others : List (List ℕ)) (fates : ℕ → Fate) (b : Batch) (y : History) → y.is_open ≡ false
+      → ReadyFor MayPush others I fates 4 (opening b) y
+  opening_ready others fates b y e =
+      λ o. (tt, λ p. (rw e ((taking y (fates 4).brings).items, refl), tt))
+
+  -- what counts of a history
+  abbrev part : Bool → History → History
+  part g y = record y { items = if g then y.items else [] }
+
+  inside_tied : (y : History) (d : Digests) (moves : List Move) → y.is_open ≡ true → Pushed I y d moves → Tied I y d moves
+  inside_tied y d moves e p =
+      shows p.more (record {
+        messages = ap (λ g. moves_messages I (part g y) (counted_moves g moves)) e ∙ p.messages
+            ∙ ap (λ g. trail extended_message (register_value_of I (part g y)) (item_values p.more)) (sym e);
+        values = rw e p.values;
+      }) (λ items. rw e (p.shown_are items))
+
+  reset_tied : (y : History) (d : Digests) (values : List (List ℕ)) (rest : List Move) → y.is_open ≡ false
+      → Pushed I (bare y) (bare_digests d) rest → Tied I y d (map Foreign values ++ Reset ∷ rest)
+  reset_tied y d values rest e p =
+      let moves : List Move = map Foreign values ++ Reset ∷ rest in
+      let begins : from_reset moves ≡ Reset ∷ rest = from_reset-foreign values (Reset ∷ rest) in
+      shows p.more
+      (record {
+        messages = ap (λ g. moves_messages I (part g y) (counted_moves g moves)) e ∙ ap (moves_messages I (bare y)) begins
+            ∙ p.messages ∙ ap (λ g. trail extended_message (register_value_of I (part g y)) (item_values p.more)) (sym e);
+        values = rw e (ap foreign_in begins ∙ p.values);
+      }) (λ items. rw e (shown-append I d (map Foreign values) (Reset ∷ rest) items
+      ∙ ap (λ (x : Digests). shown I (bare_digests x) rest []) (ap bare_digests (brought_digests I d values)) ∙ p.shown_are []))
+
+  shut_tied : (y : History) (d : Digests) (fates : ℕ → Fate) (fresh : Bool) (b : Batch) (moves : List Move) → d.flag ≡ false
+      → y.is_open ≡ false → Shape fates fresh b moves → Tied I y d moves
+  shut_tied y d fates fresh b moves f e (still values is) = nothing (none_counted y values moves e is)
+  shut_tied y d fates fresh b moves f e (reset values rest is k) =
+      let p : Pushed I (bare y) (bare_digests d) rest = elim k [
+        | inl none ↦ rw none (pushed_each [] (bare y) (bare_digests d) (f ∙ sym e) tt)
+        | inr more ↦ rw more.1 (walk_pushed fates 4 (opening b) (bare y) (bare_digests d)
+            (f ∙ sym e) (refl, (refl, tt)) (opening_ready _ fates b (bare y) e))
+      ] in
+      rw is (reset_tied y d values rest e p)
+
+  tied_by : (flag : Bool) (y : History) (d : Digests) (fates : ℕ → Fate) (fresh : Bool) (b : Batch) → y.is_open ≡ flag → d.flag ≡ flag
+      → Tied I y d (walk fates 1 (Reads ∷ Reads ∷ changing flag fresh b)).moves
+  tied_by true y d fates fresh b e f =
+      inside_tied y d _ e (walk_pushed fates 1 (Reads ∷ Reads ∷ changing true fresh b) y d (f ∙ sym e) (own_changing true fresh b)
+      (λ o p. inside_ready _ fates fresh b (taking (taking y (fates 1).brings) (fates 2).brings) e))
+  tied_by false y d fates fresh b e f = shut_tied y d fates fresh b _ f e (shape fates fresh b)
+
+pub opt_tied : OptTied
+opt_tied meaning key barrier y d c offer b f =
+    let i = opt meaning key barrier in
+    let fresh : Bool = is_fresh (found_unless_wanting (found_at i (by_digests i) (seen_at i (by_digests i) d c) b offer) c.lacks) in
+    rw (asks d.flag fresh b ∙ ap (λ g. Reads ∷ Reads ∷ changing g fresh b) f)
+    (tied_by meaning key barrier y.is_open y d c.fates fresh b refl f)

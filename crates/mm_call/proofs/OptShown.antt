@@ -1,34 +1,18 @@
 -- Opt: what the register shows of a call, and what is asked of it.
-use Rattle.mm_call.proofs.Below.{◌≡◌, ℕ, Bool, true, false, List, [], ◌∷◌, ◌++◌, map, Option, None, Some, refl, sym, ap, ◌∙◌, subst}
-use Rattle.mm_call.proofs.Below.{if◌then◌else◌, AllByRecursion, Contains, option_map, append-nil, map-append, Opt, zero_bytes}
-use Rattle.mm_call.proofs.Below.{extended_message, Item, Standing, item_values, Meaning, Batch, after, trail, Instance, opt, Value, History}
-use Rattle.mm_call.proofs.Below.{Move, Commit, Foreign, Reset, Close, first_history, register_value_of, entry_values, Within}
-use Rattle.mm_call.proofs.Below.{Digests, made, committing, digests_of, StandsFor, after-append, trail-append, register_folds, reads_zero}
-use Rattle.mm_call.proofs.Below.{each_left, each_right, by_digests, all_made, Fate, Course, Walked, walk}
-use Rattle.mm_call.proofs.Below.{closes, called, cell_at, StandsAt, shown, from_reset, counted_part, counted_moves, AreShown, foreign_items}
-use Rattle.mm_call.proofs.Below.{standing_items, Tied, shows, committed_in, Counts, none, batch, changing, opt_commits, taking}
-use Rattle.mm_call.proofs.Below.{committed-foreign, from_reset-foreign, Reads}
-use Rattle.mm_platform.specs.Standing as platform
+use Rattle.mm_call.proofs.Below.{◌≡◌, ℕ, Bool, true, false, List, [], ◌∷◌, ◌++◌, map, Option, Some, refl, sym, ap, ◌∙◌, subst}
+use Rattle.mm_call.proofs.Below.{if◌then◌else◌, AllByRecursion, Contains, option_map, append-nil, map-append, Opt, extended_message, Item}
+use Rattle.mm_call.proofs.Below.{Standing, item_values, Meaning, Batch, after, trail, Instance, opt, Value, History, Move, Commit, Foreign}
+use Rattle.mm_call.proofs.Below.{Reset, Close, first_history, register_value_of, entry_values, Within, Digests, made, committing}
+use Rattle.mm_call.proofs.Below.{digests_of, StandsFor, trail-append, register_folds, reads_zero, each_left, each_right, by_digests}
+use Rattle.mm_call.proofs.Below.{all_made, Fate, Course, closes, called, cell_at, StandsAt, shown, from_reset, counted_part, counted_moves}
+use Rattle.mm_call.proofs.Below.{AreShown, foreign_items, standing_items, Tied, shows, committed_in, Counts, taking, committed-foreign}
+use Rattle.mm_call.proofs.Below.{from_reset-foreign, zero_bytes, after-append}
 use Rattle.mm_model.specs.Chains.{register_of}
 use Rattle.mm_seal.specs.Cell.{IsCell, cell_spelling}
 use Rattle.mm_call.specs.Tied.{nothing}
-use Rattle.mm_call.proofs.OptShapes.{reads_only, Shape, still, reset}
-use Rattle.mm_call.proofs.OptShut.{bare, bare_digests, counted_open, counted_shut}
-use Rattle.mm_call.proofs.Tied.{opt_tied, foreign_of-append}
-
--- The ways of a call: it makes its reading steps alone; it is broken off before it commits; or it commits the batch.
-pub data Way (b : Batch) (w : Walked) : Type 0 where
-  only_reads : (values : List (List ℕ)) → w.moves ≡ map Foreign values → Way b w
-  breaks_off : committed_in w.moves ≡ [] → (w.broken ≡ None → ⊥) → Way b w
-  commits_it : committed_in w.moves ≡ b ∷ [] → Way b w
-
-pub way : (fates : ℕ → Fate) (flag fresh : Bool) (b : Batch) → Way b (walk fates 1 (Reads ∷ Reads ∷ changing flag fresh b))
-way fates _ false b = let r = reads_only (fates 1).brings (fates 2).brings (fates 1).ends (fates 2).ends in only_reads r.values r.are
-way fates flag true b =
-    elim (opt_commits fates flag true b) [
-      | none e unless ↦ breaks_off e (λ whole. let clash : true ≡ false = unless whole in absurd (cc))
-      | batch e is ↦ commits_it e
-    ]
+use Rattle.mm_call.proofs.OptShapes.{Shape, still, reset, opt_tied, foreign_of-append}
+use Rattle.mm_call.proofs.OptHolding.{bare, bare_digests, counted_open, counted_shut}
+use Rattle.mm_platform.specs.Standing as platform
 
 -- From a set flag the register shows a call's values and extensions behind all that it had shown.
 pub record Pushes (i : Instance) (d : Digests) (moves : List Move) : Type 0 where

@@ -1,12 +1,19 @@
--- Opt: the moves of a walk may be made, where its steps are ready; and the history at its end.
-use Rattle.mm_call.proofs.Below.{ℕ, ◌≡◌, ◌+◌, Bool, true, false, List, [], ◌∷◌, ◌++◌, map, None, refl, ap, ◌∙◌, subst}
-use Rattle.mm_call.proofs.Below.{AllByRecursion, Contains, Opt, Meaning, Batch, Instance, opt, History, Move, Foreign, moved, Within}
-use Rattle.mm_call.proofs.Below.{move_messages, Digests, made, Step, Reads, Changes, Writes, ask_steps, checkpoint_steps, each_left}
-use Rattle.mm_call.proofs.Below.{each_right, by_lists, by_digests, all_made, End, Done, Fails, Fate, Walked, after_step, walk}
-use Rattle.mm_call.proofs.Below.{moves_messages, foreign_in, taking, taking_is, foreign_made, foreign_in-first, foreign_in-append}
-use Rattle.mm_call.proofs.Below.{foreign_in-foreign}
-use Rattle.mm_call.proofs.Below.{append-nil, made-append, step_moves, EachMove}
-use Rattle.mm_call.proofs.OptHolding.{Holds, IsFine, holds_moved, foreign_fine}
+-- Opt: the moves of a walk may be made, where its steps are ready, as those of a call are; and the history at its end.
+use Rattle.mm_call.proofs.Below.{ℕ, ◌≡◌, ◌+◌, Bool, true, false, List, [], ◌∷◌, ◌++◌, map, None, refl, ap, ◌∙◌, subst, AllByRecursion}
+use Rattle.mm_call.proofs.Below.{Contains, Opt, Meaning, Batch, Instance, opt, History, Move, Foreign, moved, Within, move_messages}
+use Rattle.mm_call.proofs.Below.{Digests, made, Step, Reads, Changes, Writes, ask_steps, checkpoint_steps, each_left, each_right, by_lists}
+use Rattle.mm_call.proofs.Below.{by_digests, all_made, End, Done, Fails, Fate, Walked, after_step, walk, moves_messages, foreign_in, taking}
+use Rattle.mm_call.proofs.Below.{taking_is, foreign_made, foreign_in-first, foreign_in-append, foreign_in-foreign, append-nil, made-append}
+use Rattle.mm_call.proofs.Below.{step_moves, EachMove, changing, asks, sym, guard, Entry, Own, Value, Commit, PlacedMove, Reset, Close}
+use Rattle.mm_call.proofs.Below.{renamed, joined, is_empty, has_value, batches_in, IsOpening, IsAllowed, values_in, renamed-push}
+use Rattle.mm_call.proofs.Below.{batch_messages, not, zero_bytes, extended_of, register_of, own_values, are_own, issued_place}
+use Rattle.mm_call.proofs.Below.{register-push, own_values-append, values_of-own, reads_zero, Agrees, place_then, arith, extended_message}
+use Rattle.mm_call.proofs.Below.{guard_message, MayMove, each_self, Course, found_at, found_unless_wanting, is_fresh, Result, Found}
+use Rattle.mm_call.proofs.Below.{Refusal, IsSound, Names, Content, sound_moved, opt_names}
+use Rattle.mm_call.proofs.OptHolding.{Holds, IsFine, holds_moved, foreign_fine, reset_may}
+use Rattle.mm_call.proofs.Finding.{IsLive, live_found}
+use Rattle.mm_call.proofs.BasicLaw.{unlacked}
+use Rattle.mm_call.proofs.Calling.{fresh_found}
 
 -- what holds of each of the moves, at the history from which it is made
 abbrev pub Each : (History → Move → Type 0) → Instance → History → List Move → Type 0
@@ -149,41 +156,196 @@ module _ (P : History → Move → Type 0) (others : List (List ℕ)) (i : Insta
       after_each (Writes m) (fates n).brings (fates n).ends (walk fates (n + 1) steps) y (own.0, tt) outside
       (λ o. ((ready o).0, λ later. walk_each fates steps (n + 1) _ own.1 later (ready o).1))
 
-module _ (meaning : Meaning) (key barrier : List ℕ) (all others : List (List ℕ)) (asked : List Batch) where
-  abbrev I : Instance
-  I = opt meaning key barrier
-
-  pub holds_made : (moves : List Move) (y : History) (d : Digests) → Holds all others asked I y d → AllFine all others asked I y moves
-      → Within (moves_messages I y moves) all → Holds all others asked I (all_made (by_lists I) y moves) (all_made (by_digests I) d moves)
-  holds_made [] y d h fine messages = h
-  holds_made (m ∷ moves) y d h fine messages =
-      let C : List ℕ → Type 0 = Contains all in
-      holds_made moves (moved I y m) (made I d m) (holds_moved meaning key barrier all others asked y d m h fine.0
-      (each_left C (move_messages I y m) (moves_messages I (moved I y m) moves) messages))
-      fine.1 (each_right C (move_messages I y m) (moves_messages I (moved I y m) moves) messages)
-
-  pub foreign_all : (values : List (List ℕ)) (y : History) → AllByRecursion (Contains others) values
-      → AllFine all others asked I y (map Foreign values)
-  foreign_all = each_foreign (IsFine all others asked I) others I (foreign_fine meaning key barrier all others asked)
-
-  -- moves behind foreign values
-  pub foreign_then : (values : List (List ℕ)) (moves : List Move) (y : History) → AllByRecursion (Contains others) values
-      → AllFine all others asked I (taking y values) moves → AllFine all others asked I y (map Foreign values ++ moves)
-  foreign_then = each_then (IsFine all others asked I) others I (foreign_fine meaning key barrier all others asked)
+pub own_changing : (flag fresh : Bool) (b : Batch) → AreOwn (changing flag fresh b)
+own_changing true true b = (refl, tt)
+own_changing false true b = (refl, (refl, (refl, tt)))
+own_changing _ false b = tt
 
 pub own_asked : (flag fresh : Bool) (b : Batch) → AreOwn (ask_steps Opt flag fresh b)
-own_asked true true b = (refl, tt)
-own_asked false true b = (refl, (refl, (refl, tt)))
-own_asked _ false b = tt
+own_asked flag fresh b = subst AreOwn (sym (asks flag fresh b)) (own_changing flag fresh b)
 
 pub own_checked : (flag lost : Bool) → AreOwn (checkpoint_steps Opt flag lost)
 own_checked true false = (refl, tt)
 own_checked _ _ = tt
 
-pub walk_fine : (meaning : Meaning) (key barrier : List ℕ) (all others : List (List ℕ)) (asked : List Batch) (fates : ℕ → Fate)
-    (steps : List Step) (n : ℕ) (y : History) → AreOwn steps → AllByRecursion (Contains others) (foreign_in (walk fates n steps).moves)
-    → Ready all others asked (opt meaning key barrier) fates n steps y
-    → AllFine all others asked (opt meaning key barrier) y (walk fates n steps).moves
-walk_fine meaning key barrier all others asked fates steps n y own outside ready =
-    walk_each (IsFine all others asked (opt meaning key barrier)) others (opt meaning key barrier)
-    (foreign_fine meaning key barrier all others asked) fates steps n y own outside ready
+append_held : (xs ys : List Entry) → is_empty xs ≡ false → is_empty (xs ++ ys) ≡ false
+append_held [] ys e = cc
+append_held (x ∷ xs) ys e = refl
+
+no_batches : (values : List (List ℕ)) → batches_in (map Value values) ≡ []
+no_batches [] = refl
+no_batches (v ∷ values) = no_batches values
+
+values_then : (values : List (List ℕ)) (b : Batch) → values_in (map Value values ++ Own b ∷ []) ≡ values
+values_then [] b = refl
+values_then (v ∷ values) b = ap (λ x. v ∷ x) (values_then values b)
+
+-- what a batch needs to be committed inside a segment, or to open one
+pub record IsDue (all : List (List ℕ)) (asked : List Batch) (i : Instance) (y : History) (b : Batch) : Type 0 where
+  pub commits : Within (batch_messages i y (Commit b)) all
+  pub asked_for : Contains asked b
+
+-- the moves that come before the last reading step
+abbrev pub before : Course → List Move
+before c = map Foreign (c.fates 1).brings ++ (map Foreign (c.fates 2).brings ++ [])
+
+-- what is seen by lists
+abbrev pub sight : History → Course → History
+sight y c = taking (taking y (c.fates 1).brings) (c.fates 2).brings
+
+pub sight_is : (i : Instance) (y : History) (c : Course) → all_made (by_lists i) y (before c) ≡ sight y c
+sight_is i y c =
+    foreign_made i (c.fates 1).brings (map Foreign (c.fates 2).brings ++ []) y
+    ∙ foreign_made i (c.fates 2).brings [] (taking y (c.fates 1).brings)
+
+-- moves that may be made one after another
+abbrev pub AllMay : Instance → History → List Move → Type 0
+AllMay i = Each (MayMove i) i
+
+pub may_of : (all others : List (List ℕ)) (asked : List Batch) (i : Instance) (moves : List Move) (y : History)
+    → AllFine all others asked i y moves → AllMay i y moves
+may_of all others asked i [] y fine = tt
+may_of all others asked i (m ∷ moves) y fine = (fine.0.may, may_of all others asked i moves (moved i y m) fine.1)
+
+pub first_in : {A : Type 0} (x : A) (xs : List A) → Contains (x ∷ xs) x
+first_in x xs = (0, omega arith, refl)
+
+second_in : {A : Type 0} (x y : A) (xs : List A) → Contains (x ∷ y ∷ xs) y
+second_in x y xs = (1, omega arith, refl)
+
+module _ (meaning : Meaning) (key barrier : List ℕ) where
+  abbrev I : Instance
+  I = opt meaning key barrier
+
+  module _ (all others : List (List ℕ)) (asked : List Batch) where
+    pub holds_made : (moves : List Move) (y : History) (d : Digests) → Holds all others asked I y d → AllFine all others asked I y moves
+        → Within (moves_messages I y moves) all
+        → Holds all others asked I (all_made (by_lists I) y moves) (all_made (by_digests I) d moves)
+    holds_made [] y d h fine messages = h
+    holds_made (m ∷ moves) y d h fine messages =
+        let front : List (List ℕ) = move_messages I y m in
+        let back : List (List ℕ) = moves_messages I (moved I y m) moves in
+        holds_made moves (moved I y m) (made I d m)
+        (holds_moved meaning key barrier all others asked y d m h fine.0 (each_left (Contains all) front back messages)) fine.1
+        (each_right (Contains all) front back messages)
+
+    pub foreign_all : (values : List (List ℕ)) (y : History) → AllByRecursion (Contains others) values
+        → AllFine all others asked I y (map Foreign values)
+    foreign_all = each_foreign (IsFine all others asked I) others I (foreign_fine meaning key barrier all others asked)
+
+    pub walk_fine : (fates : ℕ → Fate) (steps : List Step) (n : ℕ) (y : History) → AreOwn steps
+        → AllByRecursion (Contains others) (foreign_in (walk fates n steps).moves) → Ready all others asked I fates n steps y
+        → AllFine all others asked I y (walk fates n steps).moves
+    walk_fine = walk_each (IsFine all others asked I) others I (foreign_fine meaning key barrier all others asked)
+
+    -- inside a segment the third step commits the batch
+    ready_inside : (fates : ℕ → Fate) (y : History) (b : Batch) → y.is_open ≡ true → is_empty y.items ≡ false → IsDue all asked I y b
+        → Ready all others asked I fates 3 (Changes (Commit b) ∷ []) y
+    ready_inside fates y b is_open held is outside = (
+      record {
+        may = rw is_open (append_held y.items (map Value (fates 3).brings) held);
+        brings = rw is_open tt;
+        listed = is.commits;
+        are_asked = (is.asked_for, tt);
+      },
+      tt,
+    )
+
+    -- after a reset the fourth step places the batch, and the fifth commits it
+    pub ready_opening : (fates : ℕ → Fate) (y : History) (b : Batch) → y.is_open ≡ false → y.items ≡ []
+        → has_value (joined y.closed) ≡ false → IsDue all asked I y b
+        → Ready all others asked I fates 4 (Changes (PlacedMove b) ∷ Writes (Commit b) ∷ []) y
+    ready_opening fates y b shut bare clean is outside =
+        let last = moved I (taking y (fates 4).brings) (PlacedMove b) in
+        let values = map Value (fates 4).brings in
+        let items : last.items ≡ values ++ Value (guard barrier b) ∷ [] = ap (λ v. (v ++ values) ++ Value (guard barrier b) ∷ []) bare in
+        let opening : IsOpening I last b = record { clean = clean; front = values; items = items; others = no_batches (fates 4).brings } in
+        let named : values_in (renamed last.items b) ≡ (fates 4).brings =
+        ap (λ v. values_in (renamed v b)) items ∙ ap values_in (renamed-push values (Value (guard barrier b)) b)
+        ∙ values_then (fates 4).brings b in (
+          record { may = rw shut tt; brings = tt; listed = tt; are_asked = tt },
+          λ o. (
+            record {
+              may = subst (λ f. IsAllowed Opt f I last (Commit b)) (sym shut) opening;
+              brings = rw (shut, named) outside;
+              listed = is.commits;
+              are_asked = (is.asked_for, tt);
+            },
+            tt,
+          ),
+        )
+
+    -- the steps of a call behind its reading steps are ready
+    pub ready_third : (fates : ℕ → Fate) (y : History) (b : Batch) (flag fresh : Bool) → y.is_open ≡ flag
+        → (fresh ≡ true → IsDue all asked I y b × IsLive y) → Ready all others asked I fates 3 (changing flag fresh b) y
+    ready_third fates y b _ false e due = tt
+    ready_third fates y b true true e due = ready_inside fates y b e ((due refl).1.held e) (due refl).0
+    ready_third fates y b false true e due = λ outside.
+        let third : History = taking y (fates 3).brings in
+        let is = (due refl).0 in (
+          record { may = reset_may meaning key barrier third e; brings = tt; listed = tt; are_asked = tt },
+          ready_opening fates (moved I third Reset) b e refl (due refl).1.clean
+              (record { commits = is.commits; asked_for = is.asked_for }),
+        )
+
+    -- a checkpoint's third step closes the segment
+    pub ready_closing : (fates : ℕ → Fate) (y : History) → y.is_open ≡ true → is_empty y.items ≡ false
+        → Ready all others asked I fates 3 (Writes Close ∷ []) y
+    ready_closing fates y is_open held = λ o. (record { may = rw is_open held; brings = tt; listed = tt; are_asked = tt }, tt)
+
+  -- what a snapshot names is named after moves that may be made
+  pub names_all : (moves : List Move) (y : History) (content : Content) → IsSound y → AllMay I y moves → Names I y content
+      → Names I (all_made (by_lists I) y moves) content
+  names_all [] y content sound may n = n
+  names_all (m ∷ moves) y content sound may n =
+      names_all moves (moved I y m) content (sound_moved meaning key barrier y m sound may.0) may.1
+      (opt_names meaning key barrier y m content sound may.0 n)
+
+  pub names_foreign : (values : List (List ℕ)) (y : History) (content : Content) → IsSound y → Names I y content
+      → Names I (all_made (by_lists I) y (map Foreign values)) content
+  names_foreign values y content sound n =
+      names_all (map Foreign values) y content sound (each_foreign (MayMove I) values I (λ z v c. tt) values y (each_self [] values)) n
+
+  -- the place of an answer, at the end of a call that isn't broken off
+  pub end_place : (fates : ℕ → Fate) (seen : History) (d : Digests) (b : Batch) (flag again : Bool) → seen.is_open ≡ flag
+      → (flag ≡ true → are_own seen.items seen.current ≡ true) → Agrees I seen d
+      → (let end : History = path_end I fates 3 (changing flag (not again) b) seen in
+      place_then Opt d.flag again I d b ≡ issued_place Opt end.is_open I end)
+  end_place fates seen d b true true f own a =
+      let register : d.register ≡ register_of (own_values barrier seen.current) =
+      a.register ∙ ap register_of (values_of-own barrier seen.items seen.current (own refl)) in
+      rw (a.flag ∙ f, a.digest, register, f) refl
+  end_place fates seen d b false true f own a = rw (a.flag ∙ f, a.digest, f) refl
+  end_place fates seen d b true false f own a =
+      let register : extended_of d.register (guard barrier b) ≡ register_of (own_values barrier (seen.current ++ b ∷ [])) =
+      ap (λ r. extended_of r (guard barrier b)) (a.register ∙ ap register_of (values_of-own barrier seen.items seen.current (own refl)))
+      ∙ sym (register-push (own_values barrier seen.current) (guard barrier b))
+      ∙ ap register_of (sym (own_values-append barrier seen.current (b ∷ []))) in
+      rw (a.flag ∙ f, a.digest, register, f) refl
+  end_place fates seen d b false false f own a =
+      let register : extended_of zero_bytes (guard barrier b) ≡ register_of (own_values barrier (b ∷ [])) =
+      ap (λ r. extended_of r (guard barrier b)) (sym reads_zero) ∙ sym (register-push [] (guard barrier b)) in
+      rw (a.flag ∙ f, a.digest, register, f) refl
+
+  -- the moves of a call that asks for a batch may be made
+  pub ask_may : (y : History) (c : Course) (bytes : List ℕ) (b : Batch)
+      → (let found = found_unless_wanting (found_at I (by_lists I) (all_made (by_lists I) y (before c)) b bytes) c.lacks in
+      AllMay I y (walk c.fates 1 (ask_steps Opt y.is_open (is_fresh found) b)).moves)
+  ask_may y c bytes b =
+      let seen : History = all_made (by_lists I) y (before c) in
+      let at : Result Found Refusal = found_at I (by_lists I) seen b bytes in
+      let found : Result Found Refusal = found_unless_wanting at c.lacks in
+      let run : List ℕ = extended_message (register_of (own_values barrier y.current)) (guard barrier b) in
+      let all : List (List ℕ) = guard_message barrier b ∷ run ∷ [] in
+      let steps : List Step = Reads ∷ Reads ∷ changing y.is_open (is_fresh found) b in
+      let others : List (List ℕ) = foreign_in (walk c.fates 1 steps).moves in
+      rw (asks y.is_open (is_fresh found) b) (may_of all others (b ∷ []) I (walk c.fates 1 steps).moves y
+      (walk_fine all others (b ∷ []) c.fates steps 1 y (own_changing y.is_open (is_fresh found) b) (each_self [] others)
+      (λ o p. ready_third all others (b ∷ []) c.fates (sight y c) b y.is_open (is_fresh found) refl
+      (λ fresh. let f = fresh_found found fresh in (
+        record {
+          commits = (first_in (guard_message barrier b) (run ∷ []), (second_in (guard_message barrier b) run [], tt));
+          asked_for = first_in b [];
+        },
+        subst IsLive (sight_is I y c) (live_found meaning key barrier seen b bytes f.0 (unlacked at c.lacks f.0 f.1)),
+      )))))

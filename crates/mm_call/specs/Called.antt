@@ -15,14 +15,27 @@ pub data Ending : Type 0 where
   Refuses : Refusal → Ending
   Breaks : StepFault → Option ℕ → Ending
 
--- what stands after a call; how it ended; the moves that were made; the steps called, and those of
--- them that write the cell
-pub record Called (S : Type 0) : Type 0 where
+-- what stands after a call, or a checkpoint; how it ended; the moves that were made; the steps
+-- called, and those of them that write the cell
+pub record CameTo (S E : Type 0) : Type 0 where
   pub state : S
-  pub ending : Ending
+  pub ending : E
   pub moves : List Move
   pub steps : ℕ
   pub writes : ℕ
+
+-- what comes of the walk of its steps
+abbrev pub came_to : {S E : Type 0} → Level S → S → E → Walked → CameTo S E
+came_to level s ending walked = record {
+  state = fold level.made s walked.moves;
+  ending = ending;
+  moves = walked.moves;
+  steps = walked.steps;
+  writes = walked.writes;
+}
+
+abbrev pub Called : Type 0 → Type 0
+Called S = CameTo S Ending
 
 -- the reading steps of a call
 abbrev pub reading_steps : Variant → List Step
@@ -47,13 +60,9 @@ ended_by level seen s b (Ok found) moves None =
 -- a call, by the walk of its steps
 abbrev pub called_by : {S : Type 0} → Level S → S → S → Batch → Result Found Refusal → Walked
     → Called S
-called_by level s seen b found walked = record {
-  state = fold level.made s walked.moves;
-  ending = ended_by level seen (fold level.made s walked.moves) b found walked.moves walked.broken;
-  moves = walked.moves;
-  steps = walked.steps;
-  writes = walked.writes;
-}
+called_by level s seen b found walked =
+    came_to level s
+    (ended_by level seen (fold level.made s walked.moves) b found walked.moves walked.broken) walked
 
 -- the state that a call sees: after the values that come before its reading steps
 abbrev pub seen_at : {S : Type 0} → Instance → Level S → S → Course → S

@@ -1,13 +1,14 @@
 -- What a checkpoint comes to on a course, by either level; and its laws.
-use Rattle.std.specs.Prelude.{◌≡◌, ℕ, Bool, true, false, List, fold}
+use Rattle.std.specs.Prelude.{ℕ, Bool, true, false, List}
 use Rattle.std.specs.List.{AllByRecursion, Contains}
 use Rattle.std.specs.Option.{option_map_or}
 use Rattle.mm_call.specs.Below.{Variant, Basic, Opt, StepFault, Batch, Meaning, History, Move, Instance, basic, opt, Within, IsClear}
 use Rattle.mm_call.specs.Below.{Digests, checkpoint_steps}
 use Rattle.mm_call.specs.Levels.{Level, by_lists, by_digests, Agrees}
 use Rattle.mm_call.specs.Courses.{Course, Walked, walk, closes}
-use Rattle.mm_call.specs.Called.{seen_at}
+use Rattle.mm_call.specs.Called.{CameTo, came_to, seen_at}
 use Rattle.mm_call.specs.Asked.{counted_part, counted_moves, moves_messages, foreign_in, IsWithin}
+use Rattle.mm_call.specs.Laws.{IsSame}
 
 -- The segment was closed; or nothing was: Basic has no segments, none is open, or power was lost
 -- inside it; or the call was broken off by a fault: then whether the segment was closed.
@@ -18,14 +19,8 @@ pub data Closing : Type 0 where
   LostPower : Closing
   Stops : StepFault → Bool → Closing
 
--- what stands after a checkpoint; how it ended; the moves that were made; the steps called, and
--- those of them that write the cell
-pub record Checkpointed (S : Type 0) : Type 0 where
-  pub state : S
-  pub ending : Closing
-  pub moves : List Move
-  pub steps : ℕ
-  pub writes : ℕ
+abbrev pub Checkpointed : Type 0 → Type 0
+Checkpointed S = CameTo S Closing
 
 -- how a checkpoint ends that isn't broken off: by whether a segment is open, and whether power was
 -- lost inside it
@@ -37,13 +32,9 @@ closing_of Opt true false = Closes
 
 -- a checkpoint, by how it ends unless it is broken off, and the walk of its steps
 abbrev pub checkpointed_by : {S : Type 0} → Level S → S → Closing → Walked → Checkpointed S
-checkpointed_by level s closing walked = record {
-  state = fold level.made s walked.moves;
-  ending = option_map_or (λ fault. Stops fault (closes walked.moves)) walked.broken closing;
-  moves = walked.moves;
-  steps = walked.steps;
-  writes = walked.writes;
-}
+checkpointed_by level s closing walked =
+    came_to level s
+    (option_map_or (λ fault. Stops fault (closes walked.moves)) walked.broken closing) walked
 
 -- a checkpoint on a course: its steps follow from what it sees, and are walked on the course
 abbrev pub checkpointed : {S : Type 0} → Instance → Level S → S → Course → Checkpointed S
@@ -61,17 +52,9 @@ pub record IsClosedWithin (all others : List (List ℕ)) (asked : List Batch) (i
   pub messages : Within (moves_messages i (counted_part y) (counted_moves y.is_open moves)) all
   pub values : AllByRecursion (Contains others) (foreign_in (counted_moves y.is_open moves))
 
--- Two checkpoints end in the same way, with the same moves, steps and writes; the digests after are
--- those of the history; and what was asked of the history holds again.
-pub record IsSameCheckpoint (all others : List (List ℕ)) (asked : List Batch) (i : Instance)
-    (lists : Checkpointed History)
-    (digests : Checkpointed Digests) : Type 0 where
-  pub ending : digests.ending ≡ lists.ending
-  pub moves : digests.moves ≡ lists.moves
-  pub steps : digests.steps ≡ lists.steps
-  pub writes : digests.writes ≡ lists.writes
-  pub agrees : Agrees i lists.state digests.state
-  pub within : IsWithin all others asked i lists.state
+abbrev pub IsSameCheckpoint : List (List ℕ) → List (List ℕ) → List Batch → Instance
+    → Checkpointed History → Checkpointed Digests → Type 0
+IsSameCheckpoint all others asked i lists digests = IsSame all others asked i lists digests
 
 -- On every course the checkpoint by digests is the checkpoint by lists.
 abbrev pub CheckpointsAgree : Instance → Type 0

@@ -3,20 +3,24 @@ use Rattle.std.specs.Prelude.{◌≡◌, ℕ, List}
 use Rattle.mm_call.specs.Below.{Batch, Meaning, History, Instance, basic, opt, Digests}
 use Rattle.mm_call.specs.Levels.{by_lists, by_digests, Agrees}
 use Rattle.mm_call.specs.Courses.{Course}
-use Rattle.mm_call.specs.Called.{Called, called}
+use Rattle.mm_call.specs.Called.{CameTo, Called, called}
 use Rattle.mm_call.specs.Asked.{IsWithin, IsAsked}
 
--- Two calls end in the same way, with the same moves, steps and writes; the digests after are those
--- of the history; and what was asked of the history holds again.
-pub record IsSameCall (all others : List (List ℕ)) (asked : List Batch) (i : Instance)
-    (lists : Called History)
-    (digests : Called Digests) : Type 0 where
+-- Two calls, or checkpoints, end in the same way, with the same moves, steps and writes; the digests
+-- after are those of the history; and what was asked of the history holds again.
+pub record IsSame {E : Type 0} (all others : List (List ℕ)) (asked : List Batch) (i : Instance)
+    (lists : CameTo History E)
+    (digests : CameTo Digests E) : Type 0 where
   pub ending : digests.ending ≡ lists.ending
   pub moves : digests.moves ≡ lists.moves
   pub steps : digests.steps ≡ lists.steps
   pub writes : digests.writes ≡ lists.writes
   pub agrees : Agrees i lists.state digests.state
   pub within : IsWithin all others asked i lists.state
+
+abbrev pub IsSameCall : List (List ℕ) → List (List ℕ) → List Batch → Instance → Called History
+    → Called Digests → Type 0
+IsSameCall all others asked i lists digests = IsSame all others asked i lists digests
 
 -- On every course: where the history is within the list and what counts of the moves is, the call
 -- by digests is the call by lists. Values of others before steps that weren't reached are never

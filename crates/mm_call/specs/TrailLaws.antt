@@ -11,8 +11,8 @@ use Rattle.mm_call.specs.Below.{ExtendRegister, beside, cell_after, items_after,
 use Rattle.mm_call.specs.Below.{made, Step, Reads, Changes, Writes}
 use Rattle.std.specs.List.{fold}
 use Rattle.mm_call.specs.Levels.{all_made, by_digests}
-use Rattle.mm_call.specs.Courses.{End, Done, Fails, Fate, Walked, walk, after_step, step_moves, writes_then}
-use Rattle.mm_call.specs.Standing.{cell_at, RegisterAt, StandsAt, shown_by, shown, counted_by}
+use Rattle.mm_call.specs.Courses.{Fate, Walked, walk, after_step, step_moves, writes_then}
+use Rattle.mm_call.specs.Standing.{RegisterAt, StandsAt, shown_by, shown, counted_by}
 use Rattle.mm_call.specs.Trails.{register_by, items_by, IsChange, IsWrite, MakesStep, Stepped, Rest, Trail, Leads, TrailsLead}
 
 -- the register's value, where its items are told
@@ -70,7 +70,7 @@ pub foreign_made : (i : Instance) (d : Digests) (values : List (List ℕ))
 foreign_made i d [] = refl
 foreign_made i d (v ∷ values) = foreign_made i (with_register d (extended_of d.register v)) values
 
-foreign_shown : (i : Instance) (d : Digests) (values : List (List ℕ)) (items : List Item)
+pub foreign_shown : (i : Instance) (d : Digests) (values : List (List ℕ)) (items : List Item)
     → shown i d (map Foreign values) items ≡ items ++ map foreign_item values
 foreign_shown i d [] items = sym (append-nil items)
 foreign_shown i d (v ∷ values) items =
@@ -93,76 +93,76 @@ record StepLeads (i : Instance) (d : Digests) (moves : List Move) (old new : Sta
   stands : StandsAt i new (all_made (by_digests i) d moves)
   items : new.items ≡ option_map (shown i d moves) old.items
 
-abbrev at_cell : Instance → Option (List ℕ) → Digests → Type 0
-at_cell i cell d = cell ≡ Some (cell_spelling (cell_at i d))
-
--- from the cell and the items
-leads_to : (i : Instance) (d e : Digests) (moves : List Move) (old new : Standing) → all_made (by_digests i) d moves ≡ e
-    → IsCell (cell_at i e) → at_cell i new.cell e → RegisterAt i.variant (reads_of new.items) e.register
-    → new.items ≡ option_map (shown i d moves) old.items → StepLeads i d moves old new
-leads_to i d e moves old new is spells cell reads items = record {
-  stands = subst (λ (x : Digests). StandsAt i new x) (sym is) (record { spells = spells; cell = cell; reads = reads });
-  items = items;
-}
-
-items_brought : (i : Instance) (d : Digests) (values : List (List ℕ)) (items : Option (List Item))
-    → beside values items ≡ option_map (shown i d (map Foreign values)) items
-items_brought i d values items = λ j. option_map (λ xs. sym (foreign_shown i d values xs) j) items
-
--- others' values alone
-brought : (i : Instance) (d : Digests) (values : List (List ℕ)) (old new : Standing) → StandsAt i old d → new.cell ≡ old.cell
-    → new.items ≡ beside values old.items → StepLeads i d (map Foreign values) old new
-brought i d values old new s cell items =
-    leads_to i d (with_register d (fold extended_of d.register values)) (map Foreign values) old new (foreign_made i d values)
-    s.spells (cell ∙ s.cell) (reads_then i.variant (reads_of old.items) (reads_of new.items) d.register (fold extended_of d.register values)
-    (λ e. ap reads_of items ∙ reads_beside old.items values d.register e) s.reads) (items ∙ items_brought i d values old.items)
-
 map_twice : (f g : List Item → List Item) (items : Option (List Item))
     → option_map g (option_map f items) ≡ option_map (λ (xs : List Item). g (f xs)) items
 map_twice f g None = refl
 map_twice f g (Some xs) = refl
 
-change_shown : (i : Instance) (d : Digests) (act : Act) (m : Move) (values : List (List ℕ)) (items : Option (List Item))
-    → IsChange i d act m → items_after act true (beside values items) ≡ option_map (shown i d (map Foreign values ++ m ∷ [])) items
-change_shown i d act m values items c =
-    items_of act (beside values items) ∙ map_twice (λ xs. xs ++ map foreign_item values) (items_by act) items
-    ∙ (λ j. option_map (λ xs. sym (shown-append i d (map Foreign values) (m ∷ []) xs
-    ∙ ap (λ (e : Digests). shown i e (m ∷ []) (shown i d (map Foreign values) xs)) (foreign_made i d values)
-    ∙ ap (λ (ys : List Item). shown_by i.variant d.flag i m ys) (foreign_shown i d values xs)
-    ∙ c.shows (xs ++ map foreign_item values)) j) items)
+-- moves, and moves behind them
+leads_on : (i : Instance) (d : Digests) (xs ys : List Move) (old middle new : Standing) → StepLeads i d xs old middle
+    → StepLeads i (all_made (by_digests i) d xs) ys middle new → StepLeads i d (xs ++ ys) old new
+leads_on i d xs ys old middle new p q =
+    let e : Digests = all_made (by_digests i) d xs in
+    record {
+      stands = rw (all_made-append i d xs ys) q.stands;
+      items = q.items ∙ ap (λ (x : Option (List Item)). option_map (shown i e ys) x) p.items
+          ∙ map_twice (shown i d xs) (shown i e ys) old.items
+          ∙ (λ j. option_map (λ (zs : List Item). sym (shown-append i d xs ys zs) j) old.items);
+    }
 
--- a change of the register
+-- others' values alone
+brought : (i : Instance) (d : Digests) (values : List (List ℕ)) (old new : Standing) → StandsAt i old d → new.cell ≡ old.cell
+    → new.items ≡ beside values old.items → StepLeads i d (map Foreign values) old new
+brought i d values old new s cell items = record {
+  stands = rw (foreign_made i d values) (record {
+    spells = s.spells;
+    cell = cell ∙ s.cell;
+    reads = reads_then i.variant (reads_of old.items) (reads_of new.items) d.register (fold extended_of d.register values)
+        (λ e. ap reads_of items ∙ reads_beside old.items values d.register e) s.reads;
+  });
+  items = items ∙ (λ j. option_map (λ xs. sym (foreign_shown i d values xs) j) old.items);
+}
+
+-- a change of the register alone, and behind others' values
+change_leads : (i : Instance) (d : Digests) (act : Act) (m : Move) (old new : Standing) → StandsAt i old d → IsChange i d act m
+    → new.cell ≡ old.cell → new.items ≡ items_after act true old.items → StepLeads i d (m ∷ []) old new
+change_leads i d act m old new s c cell items = record {
+  stands = record {
+    spells = subst IsCell (sym (c.cell d.register)) s.spells;
+    cell = cell ∙ s.cell ∙ ap (λ (x : Cell). Some (cell_spelling x)) (sym (c.cell d.register));
+    reads = reads_then i.variant (reads_of old.items) (reads_of new.items) d.register (made i d m).register
+        (λ h. ap reads_of items ∙ reads_after act old.items d.register h ∙ ap (λ (x : List ℕ). Some x) (sym (c.register d.register)))
+        s.reads;
+  };
+  items = items ∙ items_of act old.items ∙ (λ j. option_map (λ xs. sym (c.shows xs) j) old.items);
+}
+
 changed : (i : Instance) (d : Digests) (act : Act) (m : Move) (values : List (List ℕ)) (old new : Standing) → StandsAt i old d
     → IsChange i d act m → new.cell ≡ old.cell → new.items ≡ items_after act true (beside values old.items)
     → StepLeads i d (map Foreign values ++ m ∷ []) old new
 changed i d act m values old new s c cell items =
-    let r : List ℕ = fold extended_of d.register values in
-    let e : Digests = made i (with_register d r) m in
-    let same : cell_at i e ≡ cell_at i d = c.cell r in
-    leads_to i d e (map Foreign values ++ m ∷ []) old new
-    (all_made-append i d (map Foreign values) (m ∷ []) ∙ ap (λ (x : Digests). made i x m) (foreign_made i d values))
-    (subst (λ (x : Cell). IsCell x) (sym same) s.spells) (cell ∙ s.cell ∙ ap (λ (x : Cell). Some (cell_spelling x)) (sym same))
-    (reads_then i.variant (reads_of old.items) (reads_of new.items) d.register e.register (λ h. ap reads_of items
-    ∙ reads_after act (beside values old.items) r (reads_beside old.items values d.register h)
-    ∙ ap (λ (x : List ℕ). Some x) (sym (c.register r))) s.reads) (items ∙ change_shown i d act m values old.items c)
+    let middle : Standing = record old { items = beside values old.items } in
+    let first = brought i d values old middle s refl refl in
+    leads_on i d (map Foreign values) (m ∷ []) old middle new first (rw (foreign_made i d values)
+    (change_leads i (with_register d (fold extended_of d.register values)) act m middle new
+    (subst (StandsAt i middle) (foreign_made i d values) first.stands)
+    (record { cell = c.cell; register = c.register; shows = c.shows }) cell items))
 
-write_shown : (i : Instance) (d : Digests) (bytes : List ℕ) (m : Move) (values : List (List ℕ)) (items : Option (List Item))
-    → IsWrite i d bytes m → beside values items ≡ option_map (shown i d (m ∷ map Foreign values)) items
-write_shown i d bytes m values items w =
-    λ j. option_map (λ xs. sym (foreign_shown i (made i d m) values (shown_by i.variant d.flag i m xs)
-    ∙ ap (λ (ys : List Item). ys ++ map foreign_item values) (w.shows xs)) j) items
-
--- a write of the cell
+-- a write of the cell, before others' values
 written : (i : Instance) (d : Digests) (bytes : List ℕ) (m : Move) (values : List (List ℕ)) (old new : Standing) → StandsAt i old d
     → IsWrite i d bytes m → new.cell ≡ option_map (λ _. bytes) old.cell → new.items ≡ beside values old.items
     → StepLeads i d (m ∷ map Foreign values) old new
 written i d bytes m values old new s w cell items =
-    let e : Digests = made i d m in
-    leads_to i d (with_register e (fold extended_of e.register values)) (m ∷ map Foreign values) old new (foreign_made i e values) w.spells
-    (cell ∙ ap (option_map (λ _. bytes)) s.cell ∙ ap (λ (x : List ℕ). Some x) w.cell)
-    (reads_then i.variant (reads_of old.items) (reads_of new.items) d.register (fold extended_of e.register values)
-    (λ h. ap reads_of items ∙ reads_beside old.items values d.register h
-    ∙ ap (λ (x : List ℕ). Some (fold extended_of x values)) (sym w.register)) s.reads) (items ∙ write_shown i d bytes m values old.items w)
+    let middle : Standing = record old { cell = option_map (λ _. bytes) old.cell } in
+    let first : StepLeads i d (m ∷ []) old middle = record {
+      stands = record {
+        spells = w.spells;
+        cell = ap (option_map (λ _. bytes)) s.cell ∙ ap (λ (x : List ℕ). Some x) w.cell;
+        reads = subst (RegisterAt i.variant (reads_of old.items)) (sym w.register) s.reads;
+      };
+      items = sym (option_map_id old.items) ∙ (λ j. option_map (λ xs. sym (w.shows xs) j) old.items);
+    } in
+    leads_on i d (m ∷ []) (map Foreign values) old middle new first (brought i (made i d m) values middle new first.stands cell items)
 
 -- what a step leaves, by whether its effect was made
 step_leads : (act : Act) (step : Step) (is_made : Bool) (i : Instance) (d : Digests) (values : List (List ℕ)) (old new : Standing)
@@ -208,66 +208,34 @@ step_ends i d fate step old new fault s t = record {
       ∙ act_writes t.act step i d old.writes rest t.makes;
 }
 
--- the step that failed is the last
-failed : (i : Instance) (d : Digests) (step : Step) (values : List (List ℕ)) (is_made : Bool) (fault : StepFault) (rest : Walked)
-    (old new : Standing) → StepEnds i d step (step_moves step is_made values) old new
-    → Leads i d (after_step step values (Fails fault is_made) rest) old new (Some fault)
-failed i d step values is_made fault rest old new s = record {
-  stands = s.leads.stands;
-  broken = refl;
-  steps = s.steps;
-  writes = s.writes 0;
-  items = s.leads.items;
-}
-
--- a step that was done, and the rest
-done : (i : Instance) (d : Digests) (step : Step) (values : List (List ℕ)) (rest : Walked) (old middle new : Standing)
-    (fault : Option StepFault) → StepEnds i d step (step_moves step true values) old middle
-    → Leads i (all_made (by_digests i) d (step_moves step true values)) rest middle new fault
-    → Leads i d (after_step step values Done rest) old new fault
-done i d step values rest old middle new fault s l =
-    let moves : List Move = step_moves step true values in
-    let e : Digests = all_made (by_digests i) d moves in
-    record {
-      stands = subst (λ (x : Digests). StandsAt i new x) (sym (all_made-append i d moves rest.moves)) l.stands;
-      broken = l.broken;
-      steps = l.steps ∙ ap (λ (n : ℕ). counted_by rest.steps n) s.steps;
-      writes = l.writes ∙ s.writes rest.writes;
-      items = l.items ∙ ap (λ (x : Option (List Item)). option_map (shown i e rest.moves) x) s.leads.items
-          ∙ map_twice (shown i d moves) (shown i e rest.moves) old.items
-          ∙ (λ j. option_map (λ (xs : List Item). sym (shown-append i d moves rest.moves xs) j) old.items);
-    }
-
--- the end of a step by its answer
+-- a step that was done, and the rest; or one that failed, the last
 ended : (answer : Option StepFault) (i : Instance) (d : Digests) (fate : Fate) (step : Step) (rest : Walked) (old middle new : Standing)
     (fault : Option StepFault) (going : Type 0) → StandsAt i old d → Stepped i d fate step old middle answer
-    →
-    (going → StandsAt i middle (all_made (by_digests i) d (step_moves step true fate.brings)) → Leads i (all_made (by_digests i) d
-    (step_moves step true fate.brings)) rest middle new fault) → Rest answer going ((new ≡ middle) × (fault
-    ≡ answer)) → Leads i d (after_step step fate.brings fate.ends rest) old new fault
+    → (let e : Digests = all_made (by_digests i) d (step_moves step true fate.brings) in
+    (going → StandsAt i middle e → Leads i e rest middle new fault) → Rest answer going ((new ≡ middle) × (fault ≡ answer))
+    → Leads i d (after_step step fate.brings fate.ends rest) old new fault)
 ended None i d fate step rest old middle new fault going s t h r =
-    let ends : StepEnds i d step (step_moves step true fate.brings) old middle =
+    let moves : List Move = step_moves step true fate.brings in
+    let ends : StepEnds i d step moves old middle =
     subst (λ (m : Bool). StepEnds i d step (step_moves step m fate.brings) old middle) t.goes.ends.made
     (step_ends i d fate step old middle None s t) in
-    subst (λ (x : End). Leads i d (after_step step fate.brings x rest) old new fault) (sym t.ends)
-    (done i d step fate.brings rest old middle new fault ends (h r ends.leads.stands))
+    let l = h r ends.leads.stands in
+    let both = leads_on i d moves rest.moves old middle new ends.leads (record { stands = l.stands; items = l.items }) in
+    rw t.ends (record {
+      stands = both.stands;
+      broken = l.broken;
+      steps = l.steps ∙ ap (λ (n : ℕ). counted_by rest.steps n) ends.steps;
+      writes = l.writes ∙ ends.writes rest.writes;
+      items = both.items;
+    })
 ended (Some f) i d fate step rest old middle new fault going s t h r =
-    let ends : StepEnds i d step (step_moves step t.goes.is_made fate.brings) old middle = step_ends i d fate step old middle (Some f) s t
-    in
-    subst (λ (x : End). Leads i d (after_step step fate.brings x rest) old new fault) (sym t.ends)
-    (subst (λ (x : Standing). Leads i d (after_step step fate.brings (Fails f t.goes.is_made) rest) old x fault) (sym r.0)
-    (subst (λ (x : Option StepFault). Leads i d (after_step step fate.brings (Fails f t.goes.is_made) rest) old middle x) (sym r.1)
-    (failed i d step fate.brings t.goes.is_made f rest old middle ends)))
-
--- no step
-none_leads : (i : Instance) (d : Digests) (old : Standing) → StandsAt i old d
-    → Leads i d (record { moves = []; steps = 0; writes = 0; broken = None }) old old None
-none_leads i d old s = record { stands = s; broken = refl; steps = refl; writes = refl; items = sym (option_map_id old.items) }
+    let ends = step_ends i d fate step old middle (Some f) s t in
+    rw (t.ends, r.0, r.1)
+    (record { stands = ends.leads.stands; broken = refl; steps = ends.steps; writes = ends.writes 0; items = ends.leads.items })
 
 pub leads : TrailsLead
 leads i d fates n [] old new fault s t =
-    subst (λ (x : Standing). Leads i d (walk fates n []) old x fault) (sym t.0)
-    (subst (λ (x : Option StepFault). Leads i d (walk fates n []) old old x) (sym t.1) (none_leads i d old s))
+    rw (t.0, t.1) (record { stands = s; broken = refl; steps = refl; writes = refl; items = sym (option_map_id old.items) })
 leads i d fates n (step ∷ steps) old new fault s t =
     let e : Digests = all_made (by_digests i) d (step_moves step true (fates n).brings) in
     ended t.1 i d (fates n) step (walk fates (n + 1) steps) old t.0 new fault (Trail i e fates (n + 1) steps t.0 new fault) s t.2

@@ -1,5 +1,7 @@
 -- What a walk over the steps of a call gives: what it commits, and which of its moves others made.
+use Rattle.std.specs.Prelude.{if◌then◌else◌, ◌⊎◌}
 use Rattle.std.proofs.Common.{◌+◌, map, refl, sym, ap, ◌∙◌, subst, append_assoc, ℕ, ◌≡◌, Bool, true, false, List, [], ◌∷◌, ◌++◌, None}
+use Rattle.std.proofs.Common.{inl, inr}
 use Rattle.std.proofs.lemmas.List.{append-nil}
 use Rattle.std.proofs.lemmas.List.Sums.{fold-append}
 use Rattle.mm_call.specs.Below.{Variant, Basic, Opt, Batch, Value, History, Move, Commit, Foreign, Placed, Reset, moved, Instance}
@@ -45,53 +47,57 @@ pub data Commits (b : Batch) (fresh : Bool) (walked : Walked) : Type 0 where
 abbrev pub finished : Walked
 finished = record { moves = []; steps = 0; writes = 0; broken = None }
 
--- a step that commits nothing
-abbrev IsQuiet : Step → Type 0
-IsQuiet step = (made : Bool) (values : List (List ℕ)) → committed_in (step_moves step made values) ≡ []
+-- what a step commits by its own move
+abbrev own_commits : Step → List Batch
+own_commits (Changes m) = committed_in (m ∷ [])
+own_commits (Writes m) = committed_in (m ∷ [])
+own_commits Reads = []
 
-quiet_reads : IsQuiet Reads
-quiet_reads made values = committed-foreign values
+step_commits : (step : Step) (made : Bool) (values : List (List ℕ))
+    → committed_in (step_moves step made values) ≡ (if made then own_commits step else [])
+step_commits (Changes m) true values = foreign_first values (m ∷ [])
+step_commits (Changes m) false values = foreign_first values []
+step_commits (Writes m) true values =
+    committed-append (m ∷ []) (map Foreign values) ∙ ap (λ v. committed_in (m ∷ []) ++ v) (committed-foreign values) ∙ append-nil _
+step_commits Reads true values = committed-foreign values
+step_commits _ false values = committed-foreign values
 
-quiet_reset : IsQuiet (Changes Reset)
-quiet_reset true values = foreign_first values (Reset ∷ [])
-quiet_reset false values = foreign_first values []
+step_first : (step : Step) (values : List (List ℕ)) (moves : List Move)
+    → committed_in (step_moves step true values ++ moves) ≡ own_commits step ++ committed_in moves
+step_first step values moves =
+    committed-append (step_moves step true values) moves ∙ ap (λ v. v ++ committed_in moves) (step_commits step true values)
 
-quiet_placed : (b : Batch) → IsQuiet (Changes (Placed b))
-quiet_placed b true values = foreign_first values (Placed b ∷ [])
-quiet_placed b false values = foreign_first values []
-
-quiet_step : (step : Step) (values : List (List ℕ)) (ends : End) (rest : Walked) (b : Batch) (fresh : Bool) → IsQuiet step
+quiet_step : (step : Step) (values : List (List ℕ)) (ends : End) (rest : Walked) (b : Batch) (fresh : Bool) → own_commits step ≡ []
     → Commits b fresh rest → Commits b fresh (after_step step values ends rest)
 quiet_step step values Done rest b fresh quiet (nothing e unless) =
-    nothing (committed-append (step_moves step true values) rest.moves ∙ ap (λ v. v ++ committed_in rest.moves) (quiet true values) ∙ e)
-    unless
+    nothing (step_first step values rest.moves ∙ ap (λ v. v ++ committed_in rest.moves) quiet ∙ e) unless
 quiet_step step values Done rest b fresh quiet (batch e is) =
-    batch (committed-append (step_moves step true values) rest.moves ∙ ap (λ v. v ++ committed_in rest.moves) (quiet true values) ∙ e) is
-quiet_step step values (Fails fault made) rest b fresh quiet c = nothing (quiet made values) (λ e. cc)
+    batch (step_first step values rest.moves ∙ ap (λ v. v ++ committed_in rest.moves) quiet ∙ e) is
+quiet_step step values (Fails fault true) rest b fresh quiet c = nothing (step_commits step true values ∙ quiet) (λ e. cc)
+quiet_step step values (Fails fault false) rest b fresh quiet c = nothing (step_commits step false values) (λ e. cc)
 
--- the step that commits the batch, the last one
-last_step : (step : Step) (values : List (List ℕ)) (ends : End) (b : Batch) → committed_in (step_moves step true values) ≡ b ∷ []
-    → committed_in (step_moves step false values) ≡ [] → Commits b true (after_step step values ends finished)
-last_step step values Done b one none = batch (committed-append (step_moves step true values) [] ∙ ap (λ v. v ++ []) one) refl
-last_step step values (Fails fault true) b one none = batch one refl
-last_step step values (Fails fault false) b one none = nothing none (λ e. cc)
+last_step : (step : Step) (values : List (List ℕ)) (ends : End) (b : Batch) → own_commits step ≡ b ∷ []
+    → Commits b true (after_step step values ends finished)
+last_step step values Done b one = batch (step_first step values [] ∙ ap (λ v. v ++ []) one) refl
+last_step step values (Fails fault true) b one = batch (step_commits step true values ∙ one) refl
+last_step step values (Fails fault false) b one = nothing (step_commits step false values) (λ e. cc)
 
-none_left : (b : Batch) → Commits b false finished
-none_left b = nothing refl (λ e. refl)
+-- of the steps only the last commits, and that the batch, where it is a new one
+abbrev CommitsLast : Batch → Bool → List Step → Type 0
+CommitsLast b fresh [] = fresh ≡ false
+CommitsLast b fresh (step ∷ steps) =
+    ((own_commits step ≡ []) × CommitsLast b fresh steps) ⊎ ((own_commits step ≡ b ∷ []) × (steps ≡ []) × (fresh ≡ true))
 
-written_one : (b : Batch) (values : List (List ℕ)) → committed_in (Commit b ∷ map Foreign values) ≡ b ∷ []
-written_one b values = ap (λ v. b ∷ v) (committed-foreign values)
+walk_commits : (fates : ℕ → Fate) (n : ℕ) (steps : List Step) (b : Batch) (fresh : Bool) → CommitsLast b fresh steps
+    → Commits b fresh (walk fates n steps)
+walk_commits fates n [] b fresh e = nothing refl (λ _. e)
+walk_commits fates n (step ∷ steps) b fresh (inl q) =
+    quiet_step step (fates n).brings (fates n).ends (walk fates (n + 1) steps) b fresh q.0 (walk_commits fates (n + 1) steps b fresh q.1)
+walk_commits fates n (step ∷ steps) b fresh (inr l) = rw (l.1, l.2) (last_step step (fates n).brings (fates n).ends b l.0)
 
 -- the step behind the reading step of a call of Basic
 pub writing_commits : (fates : ℕ → Fate) (b : Batch) → Commits b true (walk fates 2 (Writes (Commit b) ∷ []))
-writing_commits fates b =
-    last_step (Writes (Commit b)) (fates 2).brings (fates 2).ends b (written_one b (fates 2).brings) (committed-foreign (fates 2).brings)
-
--- a call of Basic commits nothing, or its batch
-pub basic_commits : (fates : ℕ → Fate) (flag fresh : Bool) (b : Batch) → Commits b fresh (walk fates 1 (ask_steps Basic flag fresh b))
-basic_commits fates flag false b = quiet_step Reads (fates 1).brings (fates 1).ends finished b false quiet_reads (none_left b)
-basic_commits fates flag true b =
-    quiet_step Reads (fates 1).brings (fates 1).ends (walk fates 2 (Writes (Commit b) ∷ [])) b true quiet_reads (writing_commits fates b)
+writing_commits fates b = walk_commits fates 2 (Writes (Commit b) ∷ []) b true (inr (refl, refl, refl))
 
 -- the steps of a call of Opt behind its reading steps
 abbrev pub changing : Bool → Bool → Batch → List Step
@@ -104,31 +110,22 @@ asks true true b = refl
 asks false true b = refl
 asks _ false b = refl
 
-pub changing_commits : (fates : ℕ → Fate) (flag fresh : Bool) (b : Batch) → Commits b fresh (walk fates 3 (changing flag fresh b))
-changing_commits fates _ false b = none_left b
-changing_commits fates true true b =
-    last_step (Changes (Commit b)) (fates 3).brings (fates 3).ends b
-    (foreign_first (fates 3).brings (Commit b ∷ [])) (foreign_first (fates 3).brings [])
-changing_commits fates false true b =
-    quiet_step (Changes Reset) (fates 3).brings (fates 3).ends (walk fates 4 (Changes (Placed b) ∷ Writes (Commit b) ∷ [])) b true
-    quiet_reset
-    (quiet_step (Changes (Placed b)) (fates 4).brings (fates 4).ends (walk fates 5 (Writes (Commit b) ∷ [])) b true (quiet_placed b)
-    (last_step (Writes (Commit b)) (fates 5).brings (fates 5).ends b (written_one b (fates 5).brings) (committed-foreign (fates 5).brings)))
-
--- a call of Opt commits nothing, or its batch
-pub opt_commits : (fates : ℕ → Fate) (flag fresh : Bool)
-    (b : Batch) → Commits b fresh (walk fates 1 (Reads ∷ Reads ∷ changing flag fresh b))
-opt_commits fates flag fresh b =
-    quiet_step Reads (fates 1).brings (fates 1).ends (walk fates 2 (Reads ∷ changing flag fresh b)) b fresh quiet_reads
-    (quiet_step Reads (fates 2).brings (fates 2).ends (walk fates 3 (changing flag fresh b)) b fresh quiet_reads
-    (changing_commits fates flag fresh b))
+call_last : (variant : Variant) (flag fresh : Bool) (b : Batch) → CommitsLast b fresh (ask_steps variant flag fresh b)
+call_last Basic flag true b = inl (refl, inr (refl, refl, refl))
+call_last Basic flag false b = inl (refl, refl)
+call_last Opt true true b = inl (refl, inl (refl, inr (refl, refl, refl)))
+call_last Opt false true b = inl (refl, inl (refl, inl (refl, inl (refl, inr (refl, refl, refl)))))
+call_last Opt _ false b = inl (refl, inl (refl, refl))
 
 -- a call commits nothing, or its batch
 pub call_commits : (variant : Variant) (fates : ℕ → Fate) (flag fresh : Bool) (b : Batch)
     → Commits b fresh (walk fates 1 (ask_steps variant flag fresh b))
-call_commits Basic fates flag fresh b = basic_commits fates flag fresh b
-call_commits Opt fates flag fresh b =
-    subst (λ s. Commits b fresh (walk fates 1 s)) (sym (asks flag fresh b)) (opt_commits fates flag fresh b)
+call_commits variant fates flag fresh b = walk_commits fates 1 (ask_steps variant flag fresh b) b fresh (call_last variant flag fresh b)
+
+pub opt_commits : (fates : ℕ → Fate) (flag fresh : Bool) (b : Batch)
+    → Commits b fresh (walk fates 1 (Reads ∷ Reads ∷ changing flag fresh b))
+opt_commits fates flag fresh b =
+    subst (λ s. Commits b fresh (walk fates 1 s)) (asks flag fresh b) (call_commits Opt fates flag fresh b)
 
 -- moves made one after another
 

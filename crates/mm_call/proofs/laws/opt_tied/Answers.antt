@@ -1,4 +1,4 @@
-use Rattle.mm_call.proofs.Tied.{opt_tied}
+use Rattle.mm_call.proofs.OptShapes.{opt_tied}
 use Rattle.mm_call.proofs.laws.opt_tied.Goals as goal
 
 pub returns : goal.returns
