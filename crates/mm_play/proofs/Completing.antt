@@ -20,7 +20,7 @@ module _ {P R : Type 0} {answer : P → List ℕ → Result (List ℕ × P) Refu
       → Settles (run answer 1 first) (run_of answer closing first) next left' taken sent said)
       → Plays answer closing first next left left' received received' said
   as_said begins played said settles =
-      let p = subst (λ (it : P). Plays answer closing it next left left' received received' result) begins played in
+      let p = rw begins at played in
       record {
         taken = p.taken;
         sent = p.sent;
@@ -34,9 +34,7 @@ module _ {P R : Type 0} {answer : P → List ℕ → Result (List ℕ × P) Refu
       → result ≡ Ok done → (report : R)
       → (let said : Result R ReplayFault = Ok report in Plays answer closing first next left left' received received' said)
   plays_ok begins played done is report =
-      as_said begins played (Ok report) (λ taken sent settled.
-      subst (λ (r : Result (Unit {0}) ReplayFault). Settles (run answer 1 first) (run_of answer closing first) next left' taken sent r) is
-      settled)
+      as_said begins played (Ok report) (λ taken sent settled. rw is at settled)
 
   -- or with the play's fault
   pub plays_err : player ≡ first → Plays answer closing player next left left' received received' result → (fault : ReplayFault)
@@ -45,8 +43,7 @@ module _ {P R : Type 0} {answer : P → List ℕ → Result (List ℕ × P) Refu
   plays_err begins played fault is =
       as_said begins played (Err fault)
       (λ taken sent settled. settles_err (Unit {0}) R (run answer 1 first) (run_of answer closing first) next left' taken sent fault
-      (subst (λ (r : Result (Unit {0}) ReplayFault). Settles (run answer 1 first) (run_of answer closing first) next left' taken sent r) is
-      settled))
+      (rw is at settled))
 
 -- what holds of the whole input holds of all bytes there were
 whole_holds : (left left' : Option (List ℕ)) (taken : List ℕ) (holds : List ℕ → Type 0) → Consumes left left' taken
@@ -56,16 +53,9 @@ whole_holds (Some xs) None taken holds c w bytes is = absurd c
 whole_holds (Some xs) (Some ys) taken holds c w bytes is =
     let all : xs ≡ bytes = cc in
     elim w [
-      | inl h ↦ subst holds (sym c ∙ all) (h ys)
-      | inr h ↦ subst holds (sym (c ∙ ap (λ (l : List ℕ). taken ++ l) h.0 ∙ append-nil taken) ∙ all) h.1
+      | inl h ↦ rw (← all, c) (h ys)
+      | inr h ↦ rw (← all, c, h.0, append-nil) h.1
     ]
-
-clashes : {P : Type 0} (whole : List ℕ → Told P) (left left' : Option (List ℕ)) (taken sent : List ℕ) (fault : ReplayFault)
-    → Consumes left left' taken → ForWhole left' taken (λ input. whole input ≡ told sent (Err fault)) → (bytes : List ℕ) (end : P)
-    → left ≡ Some bytes → (whole bytes).outcome ≡ Ok end → ⊥
-clashes {P} whole left left' taken sent fault c w bytes end is ran =
-    not_ok fault end (sym
-    (ap (λ (t : Told P). t.outcome) (whole_holds left left' taken (λ input. whole input ≡ told sent (Err fault)) c w bytes is)) ∙ ran)
 
 pub completed : {P T : Type 0} (lines : List (List ℕ) → Told P) (whole : List ℕ → Told P) (next : P) (left left' : Option (List ℕ))
     (taken sent : List ℕ) (result : Result T ReplayFault) → Consumes left left' taken → Settles lines whole next left' taken sent result
@@ -75,7 +65,9 @@ completed lines whole next left left' taken sent (Err Memory) c s bytes end is r
 completed lines whole next left left' taken sent (Err ReadFault) c s bytes end is ran = tt
 completed lines whole next left left' taken sent (Err WriteFault) c s bytes end is ran = tt
 completed lines whole next left left' taken sent (Err fault) c s bytes end is ran =
-    clashes whole left left' taken sent fault c s bytes end is ran
+    let stopped : whole bytes ≡ told sent (Err fault) =
+    whole_holds left left' taken (λ input. whole input ≡ told sent (Err fault)) c s bytes is in
+    not_ok fault end (ap (λ (t : Told _). t.outcome) (sym stopped) ∙ ran)
 
 -- An input that is answered to its end is not refused.
 pub unrefused : {P T : Type 0} {answer : P → List ℕ → Result (List ℕ × P) Refused} {closing : P → Option (List ℕ)} {first next : P}

@@ -65,15 +65,10 @@ module _ {P : Type 0} (answer : P → List ℕ → Result (List ℕ × P) Refuse
     where
       by : {t : Told P} → ((next : P) → RanSo (number + 1) next lines (run answer (number + 1) next lines))
           → Turned answer number player line lines t → RanSo number player (line ∷ lines) t
-      by on (Long is) = subst (RanSo number player (line ∷ lines)) (sym is) (halts_at number player (line ∷ lines) (LineLong number) refl)
-      by on (Refuses Bad said is) =
-          subst (RanSo number player (line ∷ lines)) (sym is) (halts_at number player (line ∷ lines) (BadLine number) refl)
-      by on (Refuses Much said is) =
-          subst (RanSo number player (line ∷ lines)) (sym is)
-          (halts_at number player (line ∷ lines) TooMuch (line, lines, refl, said))
-      by on (Replies reply short said is) =
-          subst (RanSo number player (line ∷ lines)) (sym is)
-          (ran_more number player line lines reply _ _ short said (on reply.1))
+      by on (Long is) = rw is (halts_at number player (line ∷ lines) (LineLong number) refl)
+      by on (Refuses Bad said is) = rw is (halts_at number player (line ∷ lines) (BadLine number) refl)
+      by on (Refuses Much said is) = rw is (halts_at number player (line ∷ lines) TooMuch (line, lines, refl, said))
+      by on (Replies reply short said is) = rw is (ran_more number player line lines reply _ _ short said (on reply.1))
 
   module _ (closing : P → Option (List ℕ)) (player : P) where
     -- a run over an input ended so
@@ -154,10 +149,10 @@ module _ {P : Type 0} (answer : P → List ℕ → Result (List ℕ × P) Refuse
       → ((lines : List (List ℕ)) (h : Halts answer 1 first lines sent fault) → stops h.done h.rest)
       → ForWhole left taken (λ input. run_of answer closing first input ≡ told sent (Err fault))
       → ForWhole left taken (λ input. AnswersFirst some stops (lines_of input) sent)
-  stopped_at left taken sent fault stops each s =
+  stopped_at left taken sent fault stops each =
       for_whole left taken (λ input. run_of answer closing first input ≡ told sent (Err fault)) _
       (λ input is. let h = ended_so input sent (Err fault) is in
-      first_by (lines_of input) sent fault stops h (each (lines_of input) h)) s
+      first_by (lines_of input) sent fault stops h (each (lines_of input) h))
 
   -- What is out tells what the answers mean.
   pub tells : {T : Type 0} (left : Option (List ℕ)) (taken sent : List ℕ) (result : Result T ReplayFault)
