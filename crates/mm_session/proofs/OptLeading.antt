@@ -1,14 +1,13 @@
 -- What the calls of a session lead to in Opt.
-use Rattle.mm_session.proofs.Below.{◌≡◌, ℕ, Bool, true, false, ◌||◌, List, [], ◌∷◌, ◌++◌, length, refl, sym, ap, ◌∙◌, inl, inr}
-use Rattle.mm_session.proofs.Below.{append-nil, AllByRecursion, zero_bytes, Opt, Meaning, Batch, InBasic, InOpt, Instance, opt, Entry, Own}
-use Rattle.mm_session.proofs.Below.{Value, History, first_history, has_value, is_empty, IsPoint, at_anchor, in_closed, in_current}
-use Rattle.mm_session.proofs.Below.{IsPlaceOf, anchor_after, issued, digest_of, IsSound, batches_in, has_value-append, bare, ◌+◌, Some}
-use Rattle.mm_session.proofs.Below.{Result, Ok, append_assoc, arith, append_cancel_right, Item, Standing}
-use Rattle.mm_session.proofs.Below.{IsLawful, One, Commit, moved, register_value_of, total_of}
-use Rattle.mm_session.proofs.Below.{BatchAnswer, Refusal, counted_part, CallsOn, found_at, by_digests, all_made, shown}
-use Rattle.mm_session.proofs.Below.{standing_items, counted_open, asks, Alike, still, grown_by, alike_commit, clean_open, issued_alike}
-use Rattle.mm_session.proofs.Below.{names_after, opened, same_closed, issued_content, answered_at, Hands, hands, IsClear, AreNoGuards}
-use Rattle.mm_session.proofs.Below.{flag_kept, pushed_open, shown_front, Pending, one_more, Met, IsGrownBy, opt_called, opt_met}
+use Rattle.mm_session.proofs.Below.{◌≡◌, ℕ, Bool, true, false, ◌||◌, List, [], ◌∷◌, ◌++◌, length, refl, sym, ap, ◌∙◌, inl, inr, append-nil}
+use Rattle.mm_session.proofs.Below.{AllByRecursion, zero_bytes, Opt, Meaning, Batch, InBasic, InOpt, Instance, opt, Entry, Own, Value}
+use Rattle.mm_session.proofs.Below.{History, first_history, has_value, is_empty, IsPoint, at_anchor, in_closed, in_current, IsPlaceOf}
+use Rattle.mm_session.proofs.Below.{anchor_after, issued, digest_of, IsSound, batches_in, has_value-append, bare, ◌+◌, Some, Result, Ok}
+use Rattle.mm_session.proofs.Below.{append_assoc, arith, append_cancel_right, Item, Standing, IsLawful, One, Commit, moved}
+use Rattle.mm_session.proofs.Below.{register_value_of, total_of, BatchAnswer, Refusal, counted_part, CallsOn, found_at, by_digests}
+use Rattle.mm_session.proofs.Below.{all_made, shown, standing_items, counted_open, asks, Alike, still, grown_by, alike_commit, clean_open}
+use Rattle.mm_session.proofs.Below.{issued_alike, names_after, opened, same_closed, issued_content, answered_at, Hands, hands, IsClear}
+use Rattle.mm_session.proofs.Below.{AreNoGuards, flag_kept, pushed_open, shown_front, Pending, one_more, Met, IsGrownBy, opt_met}
 use Rattle.mm_session.proofs.Below.{opt_met_idle, opt_grown, issued_in_opt, not_lost}
 use Rattle.mm_seal.specs.declared.snapshot.Place.{Place}
 use Rattle.mm_model.specs.History.{joined}
@@ -225,9 +224,6 @@ opt_laws meaning lawful key barrier all others asked final clear apart = record 
       shows.known shows.ends (λ busy. shows.shown_are);
   idle = λ y old middle offer p gives m idle.
       opt_met_idle meaning lawful key barrier all others asked y old middle offer p gives m.goes m.stands m.asks idle;
-  last = λ y old offer p gives m f shows.
-      opt_called meaning lawful key barrier all others asked y old final offer p gives m.goes m.stands m.asks shows.items shows.more
-      shows.known shows.ends (λ busy. shows.shown_are) f;
   reach = opt_reach meaning key barrier;
   formed = issued_content meaning lawful key barrier;
   issue = issued_alike meaning key barrier;
