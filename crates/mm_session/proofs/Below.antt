@@ -93,6 +93,6 @@ pub use Rattle.mm_session.specs.Continuing.{IsNotBeyond, MayBeUntold, RefusesAs,
 pub use Rattle.mm_session.specs.Continuing.{waiting_position}
 pub use Rattle.mm_session.specs.Sessions.{comes_as, refusal_text, reply_text, SendsReply, TellsReply, told_cause, lines_served, Place}
 pub use Rattle.mm_session.specs.Sessions.{replies_to, Served, Serves, AfterResume, BeginsWith, EndsSession, IsAtRest, most_lines, Sessions}
-pub use Rattle.mm_session.specs.Sessions.{StopsAtOnce, StopsInLine, goes_on_with, ServedOn, ServesInput, ServesLine, ServesNext, TakesLine}
+pub use Rattle.mm_session.specs.Sessions.{StopsAtOnce, StopsInLine, AsksAndTells, ServedOn, ServesInput, ServesLine, ServesNext, Turns}
 pub use Rattle.mm_session.specs.declared.fault.SessionFault.{SessionFault}
 pub use Rattle.mm_session.specs.declared.fault.SessionFault.TheVariants.{Host, Lines}

@@ -70,7 +70,7 @@ module _ (variant : Variant) (meaning : Meaning) where
 -- the lines that were served, and how they end
 module _ {variant : Variant} {meaning : Meaning} {from : Place} {after : Standing} {new : StoreStanding} {left : Option (List ℕ)}
     {taken sent : List ℕ} {result : Result Unit SessionFault}
-    (l : ServesLines variant meaning from after new left taken sent result) where
+    (l : ServesLines variant meaning 1 from after new left taken sent result) where
   abbrev pub InHand : List ℕ → Type 0
   InHand request = (held : List ℕ) × BeginsWith l.more request held
 
