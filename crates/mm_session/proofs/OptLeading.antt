@@ -1,17 +1,18 @@
 -- What the calls of a session lead to in Opt.
 use Rattle.mm_session.proofs.Below.{◌≡◌, ℕ, Bool, true, false, ◌||◌, List, [], ◌∷◌, ◌++◌, length, refl, sym, ap, ◌∙◌, inl, inr, append-nil}
-use Rattle.mm_session.proofs.Below.{AllByRecursion, zero_bytes, Opt, Meaning, Batch, InBasic, InOpt, Instance, opt, Entry, Own, Value}
-use Rattle.mm_session.proofs.Below.{History, first_history, has_value, is_empty, IsPoint, at_anchor, in_closed, in_current, IsPlaceOf}
-use Rattle.mm_session.proofs.Below.{anchor_after, issued, digest_of, IsSound, batches_in, has_value-append, bare, ◌+◌, Some, Result, Ok}
-use Rattle.mm_session.proofs.Below.{append_assoc, arith, append_cancel_right, Item, Standing, IsLawful, One, Commit, moved}
-use Rattle.mm_session.proofs.Below.{register_value_of, total_of, BatchAnswer, Refusal, counted_part, CallsOn, found_at, by_digests}
-use Rattle.mm_session.proofs.Below.{all_made, shown, standing_items, counted_open, asks, Alike, still, grown_by, alike_commit, clean_open}
-use Rattle.mm_session.proofs.Below.{issued_alike, names_after, opened, same_closed, issued_content, answered_at, Hands, hands, IsClear}
-use Rattle.mm_session.proofs.Below.{AreNoGuards, flag_kept, pushed_open, shown_front, Pending, one_more, Met, IsGrownBy, opt_met}
-use Rattle.mm_session.proofs.Below.{opt_met_idle, opt_grown, issued_in_opt, not_lost}
+use Rattle.mm_session.proofs.Below.{zero_bytes, Opt, Meaning, Batch, InBasic, InOpt, Instance, opt, Entry, Own, Value, History}
+use Rattle.mm_session.proofs.Below.{first_history, has_value, is_empty, IsPoint, at_anchor, in_closed, in_current, IsPlaceOf, anchor_after}
+use Rattle.mm_session.proofs.Below.{issued, digest_of, IsSound, batches_in, has_value-append, bare, ◌+◌, Some, Result, Ok, append_assoc}
+use Rattle.mm_session.proofs.Below.{arith, append_cancel_right, Item, Standing, IsLawful, One, Commit, moved, register_value_of, total_of}
+use Rattle.mm_session.proofs.Below.{BatchAnswer, Refusal, counted_part, CallsOn, found_at, by_digests, all_made, shown, standing_items}
+use Rattle.mm_session.proofs.Below.{counted_open, asks, Alike, still, grown_by, alike_commit, clean_open, issued_alike, names_after, opened}
+use Rattle.mm_session.proofs.Below.{same_closed, issued_content, answered_at, Hands, hands, IsClear, AreNoGuards, flag_kept, pushed_open}
+use Rattle.mm_session.proofs.Below.{shown_front, Pending, one_more, Met, IsGrownBy, opt_met, opt_met_idle, opt_grown, issued_in_opt}
+use Rattle.mm_session.proofs.Below.{not_lost}
 use Rattle.mm_seal.specs.declared.snapshot.Place.{Place}
 use Rattle.mm_model.specs.History.{joined}
 use Rattle.mm_model.specs.ListLaws.{each_left}
+use Rattle.mm_model.specs.SegmentLaws.{no_segments}
 use Rattle.std.specs.Option.{option_map}
 use Rattle.mm_model.specs.Steps.{Step}
 use Rattle.mm_call.specs.Called.{called, seen_at}
@@ -19,12 +20,6 @@ use Rattle.mm_call.specs.Courses.{walk, closes}
 use Rattle.mm_call.specs.FoundWords.{found_unless_wanting, is_fresh}
 use Rattle.mm_call.specs.AlongLaws.{opt_closes}
 use Rattle.mm_session.proofs.Leading.{Laws, Makes, names_none, push_batches, Reaches, ShowsAt}
-
-no_segments : (segments : List (List Entry)) → AllByRecursion (λ segment. is_empty segment ≡ false) segments → length (joined segments) ≡ 0
-    → segments ≡ []
-no_segments [] filled e = refl
-no_segments ([] ∷ segments) filled e = let clash : true ≡ false = filled.0 in absurd (cc)
-no_segments ((x ∷ xs) ∷ segments) filled e = absurd (cc)
 
 no_entries : (entries : List Entry) → has_value entries ≡ false → batches_in entries ≡ [] → length entries ≡ 0
 no_entries [] clean e = refl
