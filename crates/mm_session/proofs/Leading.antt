@@ -104,6 +104,25 @@ pub record Laws (all others : List (List ℕ)) (asked : List Batch) (i : Instanc
   pub placed : (y : History) (content : Content) → IsLedTo i.variant y → Names i y content → content.position ≡ 0
       → content.place ≡ (issued i first_history).place
 
+-- A call for a request, where what others do is known to the very end, or the call minds no register and only this is asked behind it.
+module _ {all others : List (List ℕ)} {asked : List Batch} {i : Instance} {final : Standing} (laws : Laws all others asked i final)
+    {Rest : Type 0} (y : History) (old : Standing) (offer : List ℕ) (p : Pending)
+    (may : Shows i.variant all others i y old final ⊎ (IsIdle i y offer (One p.request) × Rest)) where
+  pub met_on : (middle : Standing) (answer : BatchAnswer) → Makes all others asked i y old middle offer p (Ok answer)
+      → Reaches i.variant i middle final
+      → (m : Met all others asked i y middle offer p (Ok answer)) × (Shows i.variant all others i m.after middle final ⊎ Rest)
+  met_on middle answer m reaches = elim may [
+    | inl shows ↦ let o = laws.met y old middle offer p answer m shows reaches in (o.0, inl o.1)
+    | inr idle ↦ (laws.idle y old middle offer p (Ok answer) m idle.0, inr idle.1)
+  ]
+
+  pub met_end : (gives : Result BatchAnswer Refusal) → Makes all others asked i y old final offer p gives
+      → Met all others asked i y final offer p gives
+  met_end gives m = elim may [
+    | inl shows ↦ laws.met_last y old offer p gives m shows
+    | inr idle ↦ laws.idle y old final offer p gives m idle.0
+  ]
+
 -- An answer by lists is a step of the machine.
 
 told_at : (i : Instance) (after : History) (front : List Batch) (request : List ℕ) (answer : Answer) (again : Bool)

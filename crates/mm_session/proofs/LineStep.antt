@@ -12,7 +12,7 @@ use Rattle.mm_session.proofs.Below.{refusal_told, RunsOver, told_first, [], IsGr
 use Rattle.mm_session.proofs.Below.{Commit, sealed_once, last_position, total-nil, one_content, IsSame, ◌≤◌}
 use Rattle.mm_store.specs.declared.fault.StoreFault.TheVariants as fault
 use Rattle.mm_host.specs.declared.fault.HostFault.TheVariants as host
-use Rattle.mm_session.proofs.Leading.{answered_first, grown_more, grown_then, IsLike, Laws, Makes, Reaches, same_pending, Shows}
+use Rattle.mm_session.proofs.Leading.{answered_first, grown_more, grown_then, IsLike, Laws, Makes, met_on, Reaches, same_pending, Shows}
 use Rattle.mm_session.proofs.Putting.{IsNext, IsPut, fits_next, put_next, torn_fits, waits_next}
 
 -- Between two lines a session stands where a recovery left it, or a line, which is asked as one. The last answer is that of the
@@ -166,10 +166,8 @@ module _ {all others : List (List ℕ)} {asked : List Batch} {i : Instance} {fin
       → Makes all others asked i y old middle offer p (whole_in call)
       → Shows i.variant all others i y old final ⊎ (IsIdle i y offer (One p.request) × (lines ≡ [])) → Reaches i.variant i middle final
       → (o : Met all others asked i y middle offer p (whole_in call)) × IsBetween all others i y (Some p) middle final lines o.after
-  between_called y old middle offer p (Ok answer) resumed lines told m (inl shows) reaches =
-      let o = laws.met y old middle offer p (whole answer) m shows reaches in (o.0, (inl o.1, o.0.grown))
-  between_called y old middle offer p (Ok answer) resumed lines told m (inr idle) reaches =
-      let o = laws.idle y old middle offer p (Ok (whole answer)) m idle.0 in (o, (inr idle.1, o.grown))
+  between_called y old middle offer p (Ok answer) resumed lines told m may reaches =
+      let o = met_on laws y old offer p may middle (whole answer) m reaches in (o.0, (o.1, o.0.grown))
   between_called y old middle offer p (Err why) resumed lines told m may reaches = let clash = told why refl in absurd (cc)
 
   module _ (z : History) (at : Place) (line : List ℕ) (lines : List (List ℕ)) (settled : IsSettledAt all others asked i at)

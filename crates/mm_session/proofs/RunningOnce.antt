@@ -171,5 +171,5 @@ unless_nothing i y offer (request ∷ next ∷ requests) unless = inl (unless (�
 pub minds_nothing : (meaning : Meaning) (key barrier : List ℕ) (y z : History) (offer : List ℕ) (requests : List (List ℕ))
     → bare z ≡ bare y → AsksNothingNew (opt meaning key barrier) y offer requests → MindsNothing (opt meaning key barrier) z offer requests
 minds_nothing meaning key barrier y z offer [] e k = tt
-minds_nothing meaning key barrier y z offer (request ∷ []) e k = idle_again meaning key barrier y z offer (One request) e k
-minds_nothing meaning key barrier y z offer (request ∷ next ∷ requests) e k = k
+minds_nothing meaning key barrier y z offer (request ∷ []) e k = (idle_again meaning key barrier y z offer (One request) e k, refl)
+minds_nothing meaning key barrier y z offer (request ∷ next ∷ requests) e k = absurd k

@@ -12,7 +12,7 @@ use Rattle.mm_session.specs.Sessions.{GoesOn}
 use Rattle.mm_host.specs.declared.fault.HostFault.TheVariants as host
 use Rattle.mm_session.proofs.CallsMade.{served_calls, InHand, lines_chain}
 use Rattle.mm_session.proofs.InTurn.{calls_reach, chain_reaches, ends_reach}
-use Rattle.mm_session.proofs.Leading.{basic_laws, Laws, Makes, Reaches, RunsOver-append, same_pending, same_self, Shows, unspoiled}
+use Rattle.mm_session.proofs.Leading.{basic_laws, Laws, Makes, met_end, Reaches, RunsOver-append, same_pending, same_self, Shows, unspoiled}
 use Rattle.mm_session.proofs.LineStep.{between_called, came_by, CameTo, IsBetween, IsReady, IsSettledAt, line_goes, line_last, MayServe}
 use Rattle.mm_session.proofs.LineStep.{ready_first, settled_by, went_first}
 use Rattle.mm_session.proofs.Lines.{by_told, IsByInput, by_end, IsRead, lines_in, next_line, read_of}

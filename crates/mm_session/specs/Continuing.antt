@@ -67,25 +67,20 @@ abbrev pub told_first : Option Pending → Resumed → List Served
 told_first (Some p) (Answered answer) = record { line = p.request; answer = answer } ∷ []
 told_first _ _ = []
 
--- the requests that a session told, each with its answer
-abbrev pub told_in : {variant : Variant} {meaning : Meaning} {begun : Result Resumed HostFault}
-    {platform after : Standing}
-    {store new : StoreStanding} {left : Option (List ℕ)} {taken sent : List ℕ}
-    {result : Result Unit SessionFault} → Option Pending
-    → AfterResume variant meaning begun platform after store new left taken sent result
-    → List Served
-told_in waiting (inl stops) = []
-told_in waiting (inr goes) = told_first waiting goes.first ++ goes.lines.calls
+module _ {variant : Variant} {meaning : Meaning} {begun : Result Resumed HostFault}
+    {platform after : Standing} {store new : StoreStanding} {left : Option (List ℕ)}
+    {taken sent : List ℕ} {result : Result Unit SessionFault} (waiting : Option Pending) where
+  -- the requests that a session told, each with its answer
+  abbrev pub told_in : AfterResume variant meaning begun platform after store new left taken sent
+      result → List Served
+  told_in (inl stops) = []
+  told_in (inr goes) = told_first waiting goes.first ++ goes.lines.calls
 
--- the request in hand where a session stopped: what waited, or the line after those that were told
-abbrev pub IsInHand : {variant : Variant} {meaning : Meaning} {begun : Result Resumed HostFault}
-    {platform after : Standing}
-    {store new : StoreStanding} {left : Option (List ℕ)} {taken sent : List ℕ}
-    {result : Result Unit SessionFault} → Option Pending
-    → AfterResume variant meaning begun platform after store new left taken sent result → List ℕ
-    → Type 0
-IsInHand waiting (inl stops) request = (p : Pending) × (waiting ≡ Some p) × (p.request ≡ request)
-IsInHand waiting (inr goes) request = (held : List ℕ) × BeginsWith goes.lines.more request held
+  -- the request in hand where a session stopped: what waited, or the line after those that were told
+  abbrev pub IsInHand : AfterResume variant meaning begun platform after store new left taken sent
+      result → List ℕ → Type 0
+  IsInHand (inl stops) request = (p : Pending) × (waiting ≡ Some p) × (p.request ≡ request)
+  IsInHand (inr goes) request = (held : List ℕ) × BeginsWith goes.lines.more request held
 
 -- A request may be committed and not told where memory, the store, a device or the output failed.
 abbrev pub MayBeUntold : {T : Type 0} → Result T SessionFault → Type 0

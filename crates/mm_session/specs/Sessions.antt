@@ -140,13 +140,11 @@ Stops variant meaning number at after new left more sent (Lines (LineLong line))
 Stops variant meaning number at after new left more sent (Lines TooMuch) =
     IsAtRest at after new sent × (number ≡ most_lines + 1) × (line : List ℕ) × (held : List ℕ)
     × BeginsWith more line held
--- the line was asked
-Stops variant meaning number at after new left more sent (Lines WriteFault) =
-    StopsInLine variant meaning number at after new more sent (Lines WriteFault)
-Stops variant meaning number at after new left more sent (Host fault) =
-    StopsInLine variant meaning number at after new more sent (Host fault)
 -- the host alone wants memory
 Stops variant meaning number at after new left more sent (Lines Memory) = ⊥
+-- the line was asked
+Stops variant meaning number at after new left more sent fault =
+    StopsInLine variant meaning number at after new more sent fault
 
 -- Ok: the input ended behind a whole line.
 abbrev pub EndsSession : Variant → Meaning → ℕ → Place → Standing → StoreStanding → Option (List ℕ)
