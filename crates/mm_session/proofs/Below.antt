@@ -89,7 +89,7 @@ pub use Rattle.mm_host.proofs.Above.{resumes_told, Saw, saw_two, Told, was_power
 pub use Rattle.mm_session.specs.AnySlots.{answered_to, AreAmong, AreAskedInTurn, AreFirstOf, AsksNothingNew, EndsRun, MayStart}
 pub use Rattle.mm_session.specs.AnySlots.{offered_after, requests_with, RunsOnce, RunsOnceFrom, says_last, SessionRunsOnce}
 pub use Rattle.mm_session.specs.Continuing.{answer_reply, AreToFollow, CanServe, ContinuesTo, HasUntold, history_then, IsInHand}
-pub use Rattle.mm_session.specs.Continuing.{IsNotBeyond, MayBeUntold, RefusesAs, RunsOver, SessionContinues, told_first, told_in}
+pub use Rattle.mm_session.specs.Continuing.{IsNotBeyond, MayBeUntold, RefusesAs, RunsOver, RunsTo, SessionContinues, told_first, told_in}
 pub use Rattle.mm_session.specs.Continuing.{waiting_position}
 pub use Rattle.mm_session.specs.Sessions.{comes_as, refusal_text, reply_text, SendsReply, TellsReply, told_cause, lines_served, Place}
 pub use Rattle.mm_session.specs.Sessions.{replies_to, Served, Serves, AfterResume, BeginsWith, EndsSession, IsAtRest, most_lines, Sessions}

@@ -7,7 +7,7 @@ use Rattle.mm_session.proofs.Below.{reply_text, Place, Served, IsAtRest, ◌+◌
 use Rattle.mm_session.proofs.Below.{RecoversTo, record_for, Serves, lines_served, lines_of, Basic, Opt, Meaning, IsLawful, Variant, opt}
 use Rattle.mm_session.proofs.Below.{whole_in, unless_idle, slot_read, Answer, CanServe, SessionContinues, IsInHand, told_first, told_in}
 use Rattle.mm_session.proofs.Below.{offer_slot, AsksIdly, Resumes, Sessions, AfterResume, StopsAtOnce, NoMore, asked_at, left_by}
-use Rattle.mm_session.proofs.Below.{recovers_by, IsIdle, refusal_fault, Met, IfOk, subst}
+use Rattle.mm_session.proofs.Below.{recovers_by, IsIdle, refusal_fault, Met, IfOk, subst, RunsTo, StandsFor, IsWithin}
 use Rattle.mm_session.specs.Sessions.{GoesOn}
 use Rattle.mm_host.specs.declared.fault.HostFault.TheVariants as host
 use Rattle.mm_session.proofs.CallsMade.{served_calls, InHand, lines_chain}
@@ -58,28 +58,36 @@ waiting_committed y after (Some p) begun sent fault hand h s o g = line_committe
 
 -- behind what was told
 module _ {all others : List (List ℕ)} {asked : List Batch} {i : Instance} (y : History) (told : List Served) (hand : List ℕ → Type 0) where
+  abbrev pub runs_to : {final : Standing} {result : Result Unit SessionFault} {requests : List (List ℕ)} (after : History)
+      → StandsFor i final after → IsWithin all others asked i after → RunsOver i.meaning (requests_of y.batches) told requests
+      → (requests_of after.batches ≡ requests) ⊎ HasUntold hand result requests (requests_of after.batches)
+      → (life_of i.variant y ≢ LostLife → life_of i.variant after ≢ LostLife) → RunsTo all others asked i y final told hand result
+  runs_to {requests = requests} after stands within run committed powered = record {
+    after = after;
+    stands = stands;
+    within = within;
+    requests = requests;
+    run = run;
+    committed = committed;
+    unspoiled = unspoiled i.variant others after within.sound within.outside;
+    powered = powered;
+  }
+
   -- by what is left of the history and of the slots
-  ends_at : {final : Standing} {u : History} {waiting : Option Pending} {came : Result Resumed HostFault} {requests : List (List ℕ)} (new : StoreStanding)
-      (result : Result Unit SessionFault) (c : CameTo all others asked i u waiting final new came)
+  ends_at : {final : Standing} {u : History} {waiting : Option Pending} {came : Result Resumed HostFault} {requests : List (List ℕ)}
+      (new : StoreStanding) (result : Result Unit SessionFault) (c : CameTo all others asked i u waiting final new came)
       → (came ≡ Err host.Store → result ≡ Err (Host host.Store)) → RunsOver i.meaning (requests_of y.batches) told requests
       → (requests_of c.after.batches ≡ requests) ⊎ HasUntold hand result requests (requests_of c.after.batches)
       → RefusesAs result (life_of i.variant c.after) → (life_of i.variant y ≢ LostLife → life_of i.variant c.after ≢ LostLife)
       → ContinuesTo all others asked i y final new told hand result
-  ends_at {requests = requests} new result c stored run committed refuses powered = record {
-    after = c.after;
-    stands = c.stands;
-    within = c.within;
+  ends_at new result c stored run committed refuses powered = record {
+    runs = runs_to c.after c.stands c.within run committed powered;
     slots_after = c.slots_after;
     honest = c.honest;
     slots_told = c.told;
     fits = c.fits;
     whole = λ n. c.whole (λ e. n (stored e));
-    requests = requests;
-    run = run;
-    committed = committed;
     refuses = refuses;
-    unspoiled = unspoiled i.variant others c.after c.within.sound c.within.outside;
-    powered = powered;
   }
 
   -- it rests where it stands
