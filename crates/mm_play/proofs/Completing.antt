@@ -1,7 +1,8 @@
 -- A whole play, by what a player's answers mean; and that an input that is answered to its end is not refused.
-use Rattle.mm_play.proofs.Below.{◌≡◌, ◌∙◌, ℕ, List, ◌++◌, Option, Some, None, Result, Ok, Err, inl, inr, sym, ap, subst, append-nil}
-use Rattle.mm_play.proofs.Below.{Consumes, ReplayFault, Memory, ReadFault, WriteFault, Refused, Told, told, run}
-use Rattle.mm_play.proofs.Below.{run_of, ForWhole, Settles, IsUnrefused, Plays, PlaysWhole}
+use Rattle.mm_play.proofs.Below.{◌≡◌, ◌∙◌, ℕ, List, Option, Some, None, Result, Ok, Err, inl, inr, sym, ap, append-nil, Consumes}
+use Rattle.mm_play.proofs.Below.{ReplayFault, Memory, ReadFault, WriteFault, Refused, Told, told, run, run_of, ForWhole, Settles}
+use Rattle.mm_play.proofs.Below.{IsUnrefused, Plays, PlaysWhole}
+use Rattle.mm_play.specs.Tells.{IsReported}
 use Rattle.mm_play.proofs.Runs.{not_ok}
 use Rattle.mm_play.proofs.Telling.{Means, tells}
 
@@ -83,24 +84,19 @@ module _ {P R : Type 0} {answer : P → List ℕ → Result (List ℕ × P) Refu
     (means : Means answer closing first some all much) {left left' received received' : Option (List ℕ)}
     {result : Result (Unit {0}) ReplayFault} (begins : player ≡ first)
     (played : Plays answer closing player next left left' received received' result) where
+  whole_by : (said : Result R ReplayFault) → Plays answer closing first next left left' received received' said
+      → IsReported reports next said → PlaysWhole answer closing first reports some all much left left' received received' said
+  whole_by said p reported = record {
+    next = next;
+    plays = p;
+    told = tells answer closing first next means left' p.taken p.sent said p.settled;
+    reported = reported;
+  }
+
   pub whole_ok : (done : Unit {0}) → result ≡ Ok done → (report : R) → reports next report
       → PlaysWhole answer closing first reports some all much left left' received received' (Ok report)
-  whole_ok done is report reported =
-      let p = plays_ok begins played done is report in
-      record {
-        next = next;
-        plays = p;
-        told = tells answer closing first next means left' p.taken p.sent (Ok report) p.settled;
-        reported = reported;
-      }
+  whole_ok done is report = whole_by (Ok report) (plays_ok begins played done is report)
 
   pub whole_err : (fault : ReplayFault) → result ≡ Err fault
       → PlaysWhole answer closing first reports some all much left left' received received' (Err fault)
-  whole_err fault is =
-      let p = plays_err {R = R} begins played fault is in
-      record {
-        next = next;
-        plays = p;
-        told = tells answer closing first next means {T = R} left' p.taken p.sent (Err fault) p.settled;
-        reported = tt;
-      }
+  whole_err fault is = whole_by (Err fault) (plays_err begins played fault is) tt

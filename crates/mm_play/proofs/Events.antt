@@ -1,11 +1,10 @@
 -- A run over lines that are events is the run of these events.
-use Rattle.mm_play.proofs.Below.{◌≡◌, ◌∙◌, ◌+◌, ◌≤◌, ◌<◌, ℕ, Bool, true, false, ◌||◌, nat_le, nat_lt, List, [], ◌∷◌, ◌++◌, length}
-use Rattle.mm_play.proofs.Below.{map, Result, Ok, Err, Option, None, Some, refl, sym, ap, subst, arith, inl, inr, ◌⊎◌, sum_by, nat_tests}
-use Rattle.mm_play.proofs.Below.{most_events, Refused, Bad, Much, told, run}
-use Rattle.mm_play.proofs.Below.{Answered, Finished, RefusesMuch}
+use Rattle.mm_play.proofs.Below.{◌≡◌, ◌∙◌, ◌+◌, ◌≤◌, ◌<◌, ℕ, Bool, true, false, ◌||◌, nat_le, nat_lt, List, [], ◌∷◌, ◌++◌, length, map}
+use Rattle.mm_play.proofs.Below.{Result, Ok, Err, Option, None, Some, refl, sym, ap, subst, arith, inl, inr, ◌⊎◌, sum_by, nat_tests}
+use Rattle.mm_play.proofs.Below.{most_events, Refused, Much, told, run, Answered, Finished, RefusesMuch}
 use Rattle.std.proofs.lemmas.List.Sums.{sum_by-append}
-use Rattle.mm_play.specs.Counting.{no_answer, same_answer, taken}
-use Rattle.mm_play.specs.Events.{EventPlayer, is_over, unless_over, event_answer, TakesEvents, behind, IsOverBehind, NoneIsOver, AreEvents, header_answer, AreHeaded, AreHeadedAndMuch}
+use Rattle.mm_play.specs.Counting.{same_answer, taken}
+use Rattle.mm_play.specs.Events.{EventPlayer, is_over, event_answer, TakesEvents, behind, IsOverBehind, NoneIsOver, AreEvents, header_answer, AreHeaded, AreHeadedAndMuch}
 use Rattle.mm_play.proofs.Runs.{FirstAnswered, first_answered, ok_same, written_of, outcome_of}
 
 module _ {P : Type 0} (answer : P → List ℕ → Result (List ℕ × P) Refused) (number : ℕ) (player : P) where

@@ -1,11 +1,11 @@
 -- Where a run stands between two lines, and how it goes on from there. Of its replies some were sent, and the others are
 -- pending.
-use Rattle.mm_play.proofs.Below.{◌≡◌, ◌∙◌, ◌+◌, ◌≤◌, ℕ, Bool, true, false, List, [], ◌∷◌, ◌++◌, length, Result, Ok, Err, Option, refl, sym}
-use Rattle.mm_play.proofs.Below.{ap, subst, append_assoc, append-nil, arith, inl, inr, length-append, Appends, Consumes, AllByRecursion}
-use Rattle.mm_play.proofs.Below.{Appends-nil, Appends-trans, Consumes-nil, Consumes-trans, IsUnbroken, lines_of, tail_of, lines_joined}
-use Rattle.mm_play.proofs.Below.{longest_line, lines_of-joined, lines_of-unbroken, tail_of-joined, tail_of-unbroken, joined-append}
-use Rattle.mm_play.proofs.Below.{ReplayFault, Memory, ReadFault, WriteFault, Refused, Told, told, stopped}
-use Rattle.mm_play.proofs.Below.{after_writing, run, run_from, run_of, IsFrontOf, ForWhole, Settles, Plays, PlayedOn, IsSent, PlaysNext}
+use Rattle.mm_play.proofs.Below.{◌≡◌, ◌∙◌, ◌+◌, ℕ, Bool, true, false, List, [], ◌∷◌, ◌++◌, length, Result, Ok, Err, Option, refl, sym, ap}
+use Rattle.mm_play.proofs.Below.{subst, append_assoc, append-nil, arith, inl, inr, length-append, Appends, Consumes, AllByRecursion}
+use Rattle.mm_play.proofs.Below.{Appends-nil, Appends-trans, Consumes-nil, Consumes-trans, IsUnbroken, lines_joined, lines_of-joined}
+use Rattle.mm_play.proofs.Below.{lines_of-unbroken, tail_of-joined, tail_of-unbroken, joined-append, ReplayFault, Memory, ReadFault}
+use Rattle.mm_play.proofs.Below.{WriteFault, Refused, Told, told, stopped, after_writing, run, run_from, run_of, IsFrontOf, ForWhole}
+use Rattle.mm_play.proofs.Below.{Settles, Plays, PlayedOn, PlaysNext}
 use Rattle.mm_play.proofs.Runs.{run-more, run_from-joined}
 use Rattle.mm_play.proofs.Turning.{front_after}
 

@@ -2,8 +2,8 @@
 use Rattle.mm_play.proofs.Below.{◌≡◌, ◌∙◌, ◌+◌, ℕ, Bool, true, false, cond, List, [], ◌∷◌, ◌++◌, length, nat_lt, Result, Ok, Err, Option}
 use Rattle.mm_play.proofs.Below.{None, Some, refl, sym, ap, subst, append-nil, arith, inl, inr, ◌⊎◌, lines_of, tail_of, ReplayFault, Memory}
 use Rattle.mm_play.proofs.Below.{ReadFault, WriteFault, BadLine, LineLong, TooMuch, longest_line, Refused, Bad, Much, Told, told, stopped}
-use Rattle.mm_play.proofs.Below.{after_writing, run, ended, closed, goes_on, run_of, ForWhole, Settles, IsFrontOf}
-use Rattle.mm_play.proofs.Below.{AnswersFirst, Answered, Finished, RefusesMuch, TellsBy, anywhere, before_line}
+use Rattle.mm_play.proofs.Below.{after_writing, run, ended, closed, goes_on, run_of, ForWhole, Settles, IsFrontOf, AnswersFirst, Answered}
+use Rattle.mm_play.proofs.Below.{Finished, RefusesMuch, TellsBy, anywhere, before_line}
 use Rattle.mm_play.proofs.Runs.{Turned, Long, Refuses, Replies, turned}
 
 module _ {P : Type 0} (answer : P → List ℕ → Result (List ℕ × P) Refused) where
@@ -12,9 +12,7 @@ module _ {P : Type 0} (answer : P → List ℕ → Result (List ℕ × P) Refuse
   StopsBy number next rest (BadLine n) = n ≡ number
   StopsBy number next rest (LineLong n) = n ≡ number
   StopsBy number next rest TooMuch = (line : List ℕ) × (more : List (List ℕ)) × (rest ≡ line ∷ more) × (answer next line ≡ Err Much)
-  StopsBy number next rest Memory = Unit {0}
-  StopsBy number next rest ReadFault = Unit {0}
-  StopsBy number next rest WriteFault = Unit {0}
+  StopsBy number next rest _ = Unit {0}
 
   -- The first lines were answered, and the run stopped.
   record Halts (number : ℕ) (player : P) (lines : List (List ℕ)) (written : List ℕ) (fault : ReplayFault) : Type 0 where

@@ -1,8 +1,7 @@
 -- A line is answered, or the input ends, by what the reader read and what the player did.
-use Rattle.mm_play.proofs.Below.{◌≡◌, ◌∙◌, ◌<◌, ◌+◌, ℕ, Bool, true, false, List, [], ◌∷◌, ◌++◌, length, take, drop, Result, Ok, Err, Option}
-use Rattle.mm_play.proofs.Below.{refl, sym, ap, subst, append_assoc, arith, inl, inr, length-take, take-append-drop, ReplayFault, Memory}
-use Rattle.mm_play.proofs.Below.{BadLine, LineLong, TooMuch, longest_line, Refused, refusal_at, stopped, run_from}
-use Rattle.mm_play.proofs.Below.{ForWhole, Answers, PlayedOn, Advances}
+use Rattle.mm_play.proofs.Below.{◌≡◌, ◌∙◌, ◌+◌, ℕ, Bool, true, false, List, [], ◌∷◌, ◌++◌, take, drop, Result, Ok, Err, Option, refl, sym}
+use Rattle.mm_play.proofs.Below.{ap, append_assoc, arith, inl, inr, length-take, take-append-drop, ReplayFault, Memory, BadLine, LineLong}
+use Rattle.mm_play.proofs.Below.{TooMuch, longest_line, Refused, refusal_at, stopped, run_from, ForWhole, Answers, PlayedOn, Advances}
 use Rattle.mm_base.specs.Lines.{MayGrow}
 use Rattle.mm_base.specs.Next.{NextLine}
 use Rattle.mm_base.specs.declared.lines.LineFault.{LineFault}

@@ -1,8 +1,8 @@
 -- A turn: what was pending before it may be sent first, and nothing is pending where it ends the run.
-use Rattle.mm_play.proofs.Below.{◌≡◌, ◌∙◌, ◌≢◌, ◌+◌, ℕ, Bool, true, false, List, [], ◌∷◌, ◌++◌, length, Result, Ok, Err, OnOk, OnErr}
-use Rattle.mm_play.proofs.Below.{Option, refl, sym, ap, subst, append_assoc, append-nil, inl, inr, Appends, Appends-trans, Consumes-nil}
-use Rattle.mm_play.proofs.Below.{IsUnbroken, ReplayFault, Memory, ReadFault, WriteFault, Refused, Told}
-use Rattle.mm_play.proofs.Below.{after_writing, run_from, IsFrontOf, ForWhole, PlayedOn, Advances, SendsDue, SendsThen, IsSent, PlaysNext}
+use Rattle.mm_play.proofs.Below.{◌≡◌, ◌∙◌, ◌≢◌, ◌+◌, ℕ, Bool, true, false, List, [], ◌++◌, length, Result, Ok, Err, Option, refl, sym, ap}
+use Rattle.mm_play.proofs.Below.{subst, append_assoc, append-nil, inl, inr, Appends-trans, Consumes-nil, IsUnbroken, ReplayFault, Memory}
+use Rattle.mm_play.proofs.Below.{ReadFault, WriteFault, Refused, Told, after_writing, run_from, IsFrontOf, ForWhole, PlayedOn, Advances}
+use Rattle.mm_play.proofs.Below.{SendsDue, SendsThen, IsSent, PlaysNext}
 use Rattle.std.proofs.Math.Seq.{take-append_seam}
 use Rattle.std.proofs.lemmas.List.Elements.{All-take}
 use Rattle.mm_base.specs.declared.fault.WriteFault as write

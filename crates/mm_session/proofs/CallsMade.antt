@@ -1,12 +1,12 @@
 -- The calls that a session makes, one after another, whatever the slots hold; and the requests that it makes are among what waited
 -- and the lines of its input.
-use Rattle.mm_session.proofs.Below.{◌≡◌, ◌∙◌, ℕ, List, [], ◌∷◌, ◌++◌, Option, None, Some, Result, Ok, Err, refl, sym, ap, inl, inr}
-use Rattle.mm_session.proofs.Below.{◌⊎◌, append_assoc, lines_of, Variant, Standing, Meaning, Refusal, StoreFault, ReadsSlot, StoreStanding}
+use Rattle.mm_session.proofs.Below.{◌≡◌, ◌∙◌, ℕ, List, [], ◌∷◌, ◌++◌, Option, None, Some, Result, Ok, Err, refl, sym, ap, inl, inr, ◌⊎◌}
+use Rattle.mm_session.proofs.Below.{append_assoc, lines_of, Variant, Standing, Meaning, Refusal, StoreFault, ReadsSlot, StoreStanding}
 use Rattle.mm_session.proofs.Below.{Pending, Slots, slot_read, HostFault, SessionFault, Host, Resumed, Start, Answered, first_offer}
 use Rattle.mm_session.proofs.Below.{offer_slot, offered_after, IsCall, IsInHand, told_first, told_in, store_fault_as, AfterFinding}
 use Rattle.mm_session.proofs.Below.{AfterOffer, started, SendsReply, reply_text, snapshot_at, Place, Served, Serves, AfterResume}
-use Rattle.mm_session.proofs.Below.{BeginsWith, Sessions, StopsAtOnce, IsWaiting, Saw, one_waiting, saw_two, AreAmong}
-use Rattle.mm_session.proofs.Below.{requests_with, lines_served}
+use Rattle.mm_session.proofs.Below.{BeginsWith, Sessions, StopsAtOnce, IsWaiting, Saw, one_waiting, saw_two, AreAmong, requests_with}
+use Rattle.mm_session.proofs.Below.{lines_served}
 use Rattle.mm_host.specs.declared.fault.HostFault.TheVariants as host
 use Rattle.mm_session.specs.Sessions.{ServesLines}
 use Rattle.mm_session.proofs.Lines.{answered_call, asks, by_end, by_told, fails, IsRead, line_tries, lines_in, never_refused}

@@ -1,11 +1,11 @@
 -- What a session counts, by the steps: whose fault it is that it ends, and how often it is to write the cell.
-use Rattle.mm_session.proofs.Below.{ℕ, ◌≡◌, ◌≢◌, ◌+◌, ◌≤◌, List, [], ◌∷◌, length, Option, None, Some, Result, Ok, Err, refl, ap, ◌∙◌}
-use Rattle.mm_session.proofs.Below.{subst, inl, inr, arith, is_some, length-append, lines_of, lines_of-joined, lines_of-line}
-use Rattle.mm_session.proofs.Below.{Variant, Basic, Opt, Standing, StepFault, Meaning, Refusal, Blames, fault_of, StoreStanding, HostFault}
-use Rattle.mm_session.proofs.Below.{SessionFault, Host, Resumed, Start, Answered, MayBeUntold, SendsReply, told_cause}
-use Rattle.mm_session.proofs.Below.{refusal_text, reply_text, Place, Served, Serves, lines_served, AfterResume, BeginsWith, Sessions}
-use Rattle.mm_session.proofs.Below.{Told, next_told, resumes_told, AnsweredWrites, CameWrites, answered_writes, both_writes, next_came}
-use Rattle.mm_session.proofs.Below.{new_most, resumes_came, counted_most, joined, leads_rest, rests}
+use Rattle.mm_session.proofs.Below.{ℕ, ◌≡◌, ◌≢◌, ◌+◌, ◌≤◌, List, [], ◌∷◌, length, Option, None, Some, Result, Ok, Err, refl, ap, ◌∙◌, subst}
+use Rattle.mm_session.proofs.Below.{inl, inr, arith, is_some, length-append, lines_of, lines_of-joined, lines_of-line, Variant, Basic, Opt}
+use Rattle.mm_session.proofs.Below.{Standing, StepFault, Meaning, Refusal, Blames, fault_of, StoreStanding, HostFault, SessionFault, Host}
+use Rattle.mm_session.proofs.Below.{Resumed, Start, Answered, MayBeUntold, SendsReply, told_cause, refusal_text, reply_text, Place, Served}
+use Rattle.mm_session.proofs.Below.{Serves, lines_served, AfterResume, BeginsWith, Sessions, Told, next_told, resumes_told, AnsweredWrites}
+use Rattle.mm_session.proofs.Below.{CameWrites, answered_writes, both_writes, next_came, new_most, resumes_came, counted_most, joined}
+use Rattle.mm_session.proofs.Below.{leads_rest, rests}
 use Rattle.std.specs.Prelude.{IsSome}
 use Rattle.mm_model.specs.declared.refusal.Refusal.TheVariants.{Device}
 use Rattle.mm_play.specs.Plays.{IsBlamed}

@@ -1,13 +1,13 @@
 -- What a session reads, asks and tells, line by line, and how it ends; and it doesn't blame lines that are within the limits.
 use Rattle.mm_session.proofs.Below.{◌≡◌, ◌≢◌, ◌+◌, ℕ, List, [], length, Option, Result, Ok, Err, refl, subst, inl, inr, Variant, Standing}
 use Rattle.mm_session.proofs.Below.{Meaning, StoreStanding, HostFault, SessionFault, Host, Lines, Memory, WriteFault, Resumed, SendsReply}
-use Rattle.mm_session.proofs.Below.{comes_as, reply_text, Place, IsAtRest, StopsInLine, ◌∙◌, ap, ◌⊎◌, Answer, Refusal, StoreFault}
-use Rattle.mm_session.proofs.Below.{Answered, IsCall, store_fault_as, refusal_fault, AfterAsk, kept_as, snapshot_at, AfterRecord, AsksNext}
-use Rattle.mm_session.proofs.Below.{◌∷◌, ◌++◌, None, Some, sym, append_assoc, suc, Consumes, IsAtEnd, AllByRecursion, IsUnbroken}
-use Rattle.mm_session.proofs.Below.{lines_joined, lines_of, lines_of-joined, lines_of-line, Served, Serves, lines_served, BeginsWith, ◌<◌}
-use Rattle.mm_session.proofs.Below.{◌≤◌, take, drop, arith, length-append, length-take, take-append-drop, tail_of, onto_first, onto_tail}
-use Rattle.mm_session.proofs.Below.{IsLong, MayGrow, lines_of-append, tail_of-append, tail_of-joined, tail_of-unbroken, longest_request}
-use Rattle.mm_session.proofs.Below.{LineLong, BadLine, TooMuch, AfterResume, Sessions, most_lines}
+use Rattle.mm_session.proofs.Below.{comes_as, reply_text, Place, IsAtRest, StopsInLine, ◌∙◌, ap, ◌⊎◌, Answer, Refusal, StoreFault, Answered}
+use Rattle.mm_session.proofs.Below.{IsCall, store_fault_as, refusal_fault, AfterAsk, kept_as, snapshot_at, AfterRecord, AsksNext, ◌∷◌, ◌++◌}
+use Rattle.mm_session.proofs.Below.{None, Some, sym, append_assoc, suc, Consumes, IsAtEnd, AllByRecursion, IsUnbroken, lines_joined}
+use Rattle.mm_session.proofs.Below.{lines_of, lines_of-joined, lines_of-line, Served, Serves, lines_served, BeginsWith, ◌<◌, ◌≤◌, take}
+use Rattle.mm_session.proofs.Below.{drop, arith, length-append, length-take, take-append-drop, tail_of, onto_first, onto_tail, IsLong}
+use Rattle.mm_session.proofs.Below.{MayGrow, lines_of-append, tail_of-append, tail_of-joined, tail_of-unbroken, longest_request, LineLong}
+use Rattle.mm_session.proofs.Below.{BadLine, TooMuch, AfterResume, Sessions, most_lines}
 use Rattle.mm_session.specs.Sessions.{ServesLines}
 use Rattle.std.proofs.Common.{append-nil}
 use Rattle.mm_model.specs.ListLaws.{each_right}

@@ -3,8 +3,8 @@ use Rattle.mm_session.proofs.Below.{◌≡◌, ℕ, List, [], ◌++◌, Option, 
 use Rattle.mm_session.proofs.Below.{Consumes-nil, Variant, Standing, Meaning, StoreStanding, HostFault, SessionFault, Host, Resumed}
 use Rattle.mm_session.proofs.Below.{Resumes, SendsReply, TellsReply, comes_as, reply_text, Sessions, ServesInput, ◌∙◌, ◌+◌, ◌≤◌, ◌∷◌, sym}
 use Rattle.mm_session.proofs.Below.{append_assoc, arith, longest_request, Lines, WriteFault, AsksNext, Place, BeginsWith, StopsInLine}
-use Rattle.mm_session.proofs.Below.{most_lines, ServesNext, ServedOn, length, None, Some, Consumes-trans, lines_joined}
-use Rattle.mm_session.proofs.Below.{Answered, lines_served, replies_to, EndsSession, ServesLine, AsksAndTells, Turns, Served}
+use Rattle.mm_session.proofs.Below.{most_lines, ServesNext, ServedOn, length, None, Some, Consumes-trans, lines_joined, Answered}
+use Rattle.mm_session.proofs.Below.{lines_served, replies_to, EndsSession, ServesLine, AsksAndTells, Turns, Served}
 use Rattle.mm_base.specs.Next.{NextLine}
 use Rattle.mm_base.specs.declared.lines.LineFault.{LineFault}
 use Rattle.mm_base.specs.declared.lines.Read.{Read}
