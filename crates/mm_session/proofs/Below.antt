@@ -90,7 +90,7 @@ pub use Rattle.mm_session.specs.Continuing.{answer_reply, AreToFollow, CanServe,
 pub use Rattle.mm_session.specs.Continuing.{IsNotBeyond, MayBeUntold, RefusesAs, RunsOver, RunsTo, SessionContinues, told_first, told_in}
 pub use Rattle.mm_session.specs.Continuing.{waiting_position}
 pub use Rattle.mm_session.specs.Sessions.{comes_as, refusal_text, reply_text, SendsReply, TellsReply, told_cause, lines_served, Place}
-pub use Rattle.mm_session.specs.Sessions.{replies_to, Served, Serves, AfterResume, BeginsWith, EndsSession, IsAtRest, most_lines, Sessions}
+pub use Rattle.mm_session.specs.Sessions.{replies_to, Served, Serves, AfterResume, BeginsWith, ended_as, IsAtRest, most_lines, Sessions}
 pub use Rattle.mm_session.specs.Sessions.{StopsAtOnce, StopsInLine, AsksAndTells, ServedOn, ServesInput, ServesLine, ServesNext, Turns}
 pub use Rattle.mm_session.specs.declared.fault.SessionFault.{SessionFault}
 pub use Rattle.mm_session.specs.declared.fault.SessionFault.TheVariants.{Host, Lines}

@@ -60,10 +60,8 @@ pub record Counted (variant : Variant) (told most : ℕ) (result : Result Unit S
   pub in_hand : ℕ
   pub says : Says in_hand before after old new result
   pub one : in_hand ≤ 1
-  pub total : ℕ
-  pub sum : total ≡ told + in_hand
-  pub few : total ≤ most
-  pub writes : WritesFor variant total before after
+  pub few : told + in_hand ≤ most
+  pub writes : WritesFor variant (told + in_hand) before after
 
 -- the fault that came
 blames_by : (broken : Option StepFault) (before now : ℕ) → Blames broken before now → IsBlamed (is_some broken) before now
@@ -111,7 +109,8 @@ counted_of : (variant : Variant) (requests most : ℕ) (result : Result Unit Ses
     → Says requests before after old new result → requests ≤ 1 → requests ≤ most → WritesFor variant requests before after
     → Counted variant 0 most result before after old new
 counted_of variant requests most result before after old new s one few writes =
-    record { in_hand = requests; says = s; one = one; total = requests; sum = omega arith; few = few; writes = writes }
+    let none : 0 + requests ≡ requests = omega arith in
+    record { in_hand = requests; says = s; one = one; few = omega (arith, few); writes = rw none writes }
 
 said_counted : (variant : Variant) (came : Result Resumed HostFault) (sent : List ℕ) (fault : SessionFault) (most : ℕ)
     (before after : Standing) (old new : StoreStanding) → SendsReply came sent (Err fault) → Told came before after old new
@@ -206,9 +205,9 @@ module _ {variant : Variant} {meaning : Meaning} {before after : Standing} {old 
       let first = answered_writes variant g.first before s.platform (rw g.begins at
       (resumes_came variant meaning before s.platform old s.store s.begun s.resumes)) in
       let c = served_counts variant meaning from l.at l.calls l.serves in
-      let both = both_writes variant (new_first g.first) (new_lines l.calls) before s.platform l.at.platform first c.wrote in
+      let told_writes = both_writes variant (new_first g.first) (new_lines l.calls) before s.platform l.at.platform first c.wrote in
       let e = ends_counted variant meaning from after new left' s.taken g.replies result l in
-      let lines = taken_lines variant meaning from after new left' s.taken g.replies result l in
+      let none : 0 + e.in_hand ≡ e.in_hand = omega arith in
       record {
         in_hand = e.in_hand;
         says = record {
@@ -218,10 +217,15 @@ module _ {variant : Variant} {meaning : Meaning} {before after : Standing} {old 
           untold = e.says.untold;
         };
         one = e.one;
-        total = new_first g.first + new_lines l.calls + e.total;
-        sum = omega (arith, e.sum);
-        few = omega (arith, first_most g.first, lines_most l.calls, e.few, lines);
-        writes = joined variant (new_first g.first + new_lines l.calls) e.total before l.at.platform after both.leads both.writes e.writes;
+        few = omega (
+          arith,
+          first_most g.first,
+          lines_most l.calls,
+          e.few,
+          taken_lines variant meaning from after new left' s.taken g.replies result l,
+        );
+        writes = joined variant (new_first g.first + new_lines l.calls) e.in_hand before l.at.platform after told_writes.leads
+            told_writes.writes (rw none at e.writes);
       }
 
   pub session_counted : Counted variant (new_told s.goes) (1 + length (lines_of s.taken)) result before after old new
@@ -230,11 +234,11 @@ module _ {variant : Variant} {meaning : Meaning} {before after : Standing} {old 
   pub session_writes : SessionWrites variant meaning before after old new left left' received received' result
   session_writes =
       let c = session_counted in
-      let most = for_most variant c.total before after c.writes in record {
+      let most = for_most variant (new_told s.goes + c.in_hand) before after c.writes in record {
         ran = s;
         in_hand = c.in_hand;
         one = c.one;
         untold = c.says.untold;
-        writes = rw c.sum at c.writes;
+        writes = c.writes;
         by_lines = omega (arith, most, c.few);
       }

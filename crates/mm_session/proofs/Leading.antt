@@ -227,8 +227,7 @@ no_values (Own b ∷ entries) e = no_values entries e
 no_values (Value v ∷ entries) e = absurd (cc)
 
 neither : (a b : Bool) → (a || b) ≡ false → (a ≡ false) × (b ≡ false)
-neither true b e = absurd (cc)
-neither false b e = (refl, e)
+neither a b e = (grind (arith, e), grind (arith, e))
 
 not_spoiled : (flag bare own marred : Bool) → marred ≡ false → (flag ≡ true → (own ≡ true) ⊎ (bare ≡ true))
     → life_by flag bare own marred ≢ Spoiled

@@ -18,7 +18,7 @@ use Rattle.mm_call.specs.TrailLaws.{foreign_made, foreign_values, reads_beside, 
 use Rattle.mm_session.proofs.Leading.{basic_laws, Laws}
 use Rattle.mm_session.proofs.CallsMade.{chain_of}
 use Rattle.mm_session.proofs.InTurn.{May, chain_reaches}
-use Rattle.mm_session.proofs.OptLeading.{opt_laws, same_items}
+use Rattle.mm_session.proofs.OptLeading.{opt_laws}
 use Rattle.mm_session.proofs.RunningOnce.{minds_nothing, runs_once, unless_nothing}
 
 -- what others put into the register meanwhile
@@ -151,9 +151,10 @@ module _ (meaning : Meaning) (lawful : IsLawful meaning) (entry before after : S
   ran_open e shown_are =
       let reaches = chain_reaches laws (chain_of s slots may.waiting may.told may.is_waiting) in
       let stays = reaches (digests_of j z) (stands_at j before z stands) e (items ++ brought) there in
-      let same : items ++ more ≡ items ++ (brought ++ stays.more) =
-      same_items (ap (λ (flag : Bool). Some (standing_items flag items ++ more)) (sym e) ∙ sym ends ∙ stays.shows)
-      ∙ append_assoc items brought stays.more in
+      let both : Some (items ++ more) ≡ Some ((items ++ brought) ++ stays.more) =
+      ap (λ (flag : Bool). Some (standing_items flag items ++ more)) (sym e) ∙ sym ends ∙ stays.shows in
+      let whole : items ++ more ≡ (items ++ brought) ++ stays.more = cc in
+      let same : items ++ more ≡ items ++ (brought ++ stays.more) = whole ∙ append_assoc items brought stays.more in
       let shown : AreShown all others j y (brought ++ stays.more) =
       rw (append_cancel_left items more (brought ++ stays.more) same) at shown_are in
       ran_from (within_open stays.more e shown) (inl (record {

@@ -1,5 +1,5 @@
 -- What the calls of a session lead to in Opt.
-use Rattle.mm_session.proofs.Below.{◌≡◌, ℕ, Bool, true, false, ◌||◌, List, [], ◌∷◌, ◌++◌, length, refl, sym, ap, ◌∙◌, inl, inr, append-nil}
+use Rattle.mm_session.proofs.Below.{◌≡◌, ℕ, Bool, true, false, List, [], ◌∷◌, ◌++◌, length, refl, sym, ap, ◌∙◌, inl, inr, append-nil}
 use Rattle.mm_session.proofs.Below.{zero_bytes, Opt, Meaning, Batch, InBasic, InOpt, Instance, opt, Entry, Own, Value, History}
 use Rattle.mm_session.proofs.Below.{first_history, has_value, is_empty, IsPoint, at_anchor, in_closed, in_current, IsPlaceOf, anchor_after}
 use Rattle.mm_session.proofs.Below.{issued, digest_of, IsSound, batches_in, has_value-append, bare, ◌+◌, Some, Result, Ok, append_assoc}
@@ -30,15 +30,10 @@ none_of : {A : Type 0} (xs ys : List A) → xs ++ ys ≡ [] → (xs ≡ []) × (
 none_of [] ys e = (refl, e)
 none_of (x ∷ xs) ys e = absurd (cc)
 
-or_right : (a b : Bool) → b ≡ true → (a || b) ≡ true
-or_right true b e = refl
-or_right false b e = e
-
 marred_in : (before : List (List Entry)) (last : List Entry) → has_value last ≡ true → has_value (joined (before ++ last ∷ [])) ≡ true
 marred_in [] last e = ap has_value (append-nil last) ∙ e
 marred_in (segment ∷ before) last e =
-    has_value-append segment (joined (before ++ last ∷ []))
-    ∙ or_right (has_value segment) (has_value (joined (before ++ last ∷ []))) (marred_in before last e)
+    let rest = marred_in before last e in rw has_value-append (grind (arith, rest))
 
 clean_batches : (y : History) → IsSound y → has_value (joined y.closed) ≡ false → y.batches ≡ batches_in (joined y.closed) ++ y.current
 clean_batches y sound clean =
@@ -101,9 +96,6 @@ opt_reach meaning key barrier old new offer request gives c = λ d s f items kno
       shows = g.items ∙ ap (option_map (shown i d o.moves)) known ∙ ap (λ (xs : List Item). Some xs) (p.are items);
     }
 
-pub same_items : {A : Type 0} {xs ys : A} → Some xs ≡ Some ys → xs ≡ ys
-same_items e = cc
-
 -- a call that was answered, with others behind it
 module _ (meaning : Meaning) (lawful : IsLawful meaning) (key barrier : List ℕ) (all others : List (List ℕ)) (asked : List Batch)
     (final : Standing) (y : History) (old middle : Standing) (offer : List ℕ) (p : Pending) (answer : BatchAnswer)
@@ -156,8 +148,9 @@ module _ (meaning : Meaning) (lawful : IsLawful meaning) (key barrier : List ℕ
       let front : List Item = standing_items y.is_open shows.items ++ pushed.front in
       let there : Some (h.items ++ h.more) ≡ Some (standing_items y.is_open shows.items ++ shows.more) =
       ap (λ (flag : Bool). Some (standing_items flag h.items ++ h.more)) (sym e) ∙ sym h.ends ∙ shows.ends in
+      let whole : h.items ++ h.more ≡ standing_items y.is_open shows.items ++ shows.more = cc in
       let reach : h.items ++ h.more ≡ front ++ h.more =
-      same_items there ∙ ap (λ (xs : List Item). standing_items y.is_open shows.items ++ xs) (sym pushed.whole)
+      whole ∙ ap (λ (xs : List Item). standing_items y.is_open shows.items ++ xs) (sym pushed.whole)
       ∙ sym (append_assoc (standing_items y.is_open shows.items) pushed.front h.more) in
       let items : h.items ≡ front = append_cancel_right h.items front h.more reach in
       let o = opt_met meaning lawful key barrier all others asked y old middle offer p (Ok answer) m.goes m.stands m.asks shows.items
@@ -168,10 +161,11 @@ module _ (meaning : Meaning) (lawful : IsLawful meaning) (key barrier : List ℕ
       sym (answered_at i y h.left.after offer (One p.request) answer h.left.comes).0
       ∙ (answered_at i y o.after offer (One p.request) answer o.comes).0 in
       let is_open : o.after.is_open ≡ true = open_by h.left.after o.after h.left.alike o.grown total e in
-      let same : Some (register_value_of i h.left.after) ≡ Some (register_value_of i o.after) =
+      let both : Some (register_value_of i h.left.after) ≡ Some (register_value_of i o.after) =
       sym h.left.stands.register ∙ o.stands.register in
+      let same : register_value_of i h.left.after ≡ register_value_of i o.after = cc in
       let register : register_value_of i (counted_part h.left.after) ≡ register_value_of i (counted_part o.after) =
-      ap (register_value_of i) (counted_open h.left.after e) ∙ same_items same
+      ap (register_value_of i) (counted_open h.left.after e) ∙ same
       ∙ sym (ap (register_value_of i) (counted_open o.after is_open))
       in (
         o,

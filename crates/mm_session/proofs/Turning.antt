@@ -3,8 +3,8 @@ use Rattle.mm_session.proofs.Below.{◌≡◌, ℕ, List, [], ◌++◌, Option, 
 use Rattle.mm_session.proofs.Below.{Consumes-nil, Variant, Standing, Meaning, StoreStanding, HostFault, SessionFault, Host, Resumed}
 use Rattle.mm_session.proofs.Below.{Resumes, SendsReply, TellsReply, comes_as, reply_text, Sessions, ServesInput, ◌∙◌, ◌+◌, ◌≤◌, ◌∷◌, sym}
 use Rattle.mm_session.proofs.Below.{append_assoc, arith, longest_request, Lines, WriteFault, AsksNext, Place, BeginsWith, StopsInLine}
-use Rattle.mm_session.proofs.Below.{most_lines, ServesNext, ServedOn, length, None, Some, Consumes-trans, lines_joined, Answered}
-use Rattle.mm_session.proofs.Below.{lines_served, replies_to, EndsSession, ServesLine, AsksAndTells, Turns, Served}
+use Rattle.mm_session.proofs.Below.{most_lines, ServesNext, ServedOn, length, Some, Consumes-trans, lines_joined, Answered, lines_served}
+use Rattle.mm_session.proofs.Below.{replies_to, ServesLine, AsksAndTells, Turns, Served, ended_as}
 use Rattle.mm_base.specs.Next.{NextLine}
 use Rattle.mm_base.specs.declared.lines.LineFault.{LineFault}
 use Rattle.mm_base.specs.declared.lines.Read.{Read}
@@ -12,31 +12,6 @@ use Rattle.mm_base.specs.declared.lines.Read.TheVariants.{Line}
 use Rattle.mm_store.specs.declared.fault.StoreFault.TheVariants as fault
 use Rattle.mm_host.specs.declared.fault.HostFault.TheVariants as host
 use Rattle.mm_session.proofs.Lines.{line_tries, tried_answer}
-
--- want of memory at once is that of a first read
-pub lacks_memory : (variant : Variant) (meaning : Meaning) (before : Standing) (old : StoreStanding) (left received : Option (List ℕ))
-    → Sessions variant meaning before before old old left left received received (Err (Host host.Memory))
-lacks_memory variant meaning before old left received = record {
-  taken = [];
-  sent = [];
-  consumed = Consumes-nil left;
-  appended = Appends-nil received;
-  begun = Err host.Memory;
-  platform = before;
-  store = old;
-  resumes = record {
-    middle = old;
-    waiting = Err fault.Memory;
-    finds = record {
-      middle = old;
-      two = Err fault.Memory;
-      reads = record { slots = refl; honest = refl; counted = refl; gives = tt; short = tt; unsynced = refl };
-      goes = (refl, refl);
-    };
-    goes = (refl, refl, refl);
-  };
-  goes = inl (refl, refl, record { fault = Host host.Memory; says = inl (refl, refl); stops = refl; nothing = refl });
-}
 
 -- what was begun, and what was told of it
 module _ {variant : Variant} {meaning : Meaning} {before platform : Standing} {old store : StoreStanding}
@@ -98,6 +73,23 @@ module _ {variant : Variant} {meaning : Meaning} {before platform : Standing} {o
         });
       }
 
+-- want of memory at once is that of a first read
+pub lacks_memory : (variant : Variant) (meaning : Meaning) (before : Standing) (old : StoreStanding) (left received : Option (List ℕ))
+    → Sessions variant meaning before before old old left left received received (Err (Host host.Memory))
+lacks_memory variant meaning before old left received =
+    let begun : Resumes variant meaning before before old old (Err host.Memory) = record {
+      middle = old;
+      waiting = Err fault.Memory;
+      finds = record {
+        middle = old;
+        two = Err fault.Memory;
+        reads = record { slots = refl; honest = refl; counted = refl; gives = tt; short = tt; unsynced = refl };
+        goes = (refl, refl);
+      };
+      goes = (refl, refl, refl);
+    } in
+    stops_at_once begun (record { sent = []; appended = Appends-nil received; says = inl (refl, refl) }) left (Host host.Memory) refl
+
 -- A turn of a session, from what the reader read and what came of the line.
 
 -- the session goes on with what was told
@@ -158,11 +150,6 @@ turned_by_line {left' = left'} {held = held} {held' = held'} read what line few 
 
 -- The rest of a session from where it stands between two lines, and how a turn goes on to it or ends it.
 
--- as a turn says it
-abbrev pub ended_as : Result Unit SessionFault → Result (Option Resumed) SessionFault
-ended_as (Ok it) = Ok None
-ended_as (Err fault) = Err fault
-
 module _ {variant : Variant} {meaning : Meaning} {at : Place} {number : ℕ} {after : Standing} {new : StoreStanding}
     {left left' received received' : Option (List ℕ)} {held held' : List ℕ} {result : Result (Option Resumed) SessionFault}
     (t : ServesNext variant meaning number at after new left left' held held' received received' result) where
@@ -172,6 +159,12 @@ module _ {variant : Variant} {meaning : Meaning} {at : Place} {number : ℕ} {af
   went_as : (r : Result (Option Resumed) SessionFault) → result ≡ r
       → ServedOn variant meaning number at after new left' (held ++ t.taken) held' said r
   went_as r e = rw e at t.turns.went
+
+  ends_of : (ended : Result Unit SessionFault)
+      → ServedOn variant meaning number at after new left' (held ++ t.taken) held' said (ended_as ended)
+      → ServedOn variant meaning number at after new left' (held ++ t.taken) [] said (ended_as ended)
+  ends_of (Ok it) s = s
+  ends_of (Err fault) s = s
 
   pub rest_ends : (ended : Result Unit SessionFault) → number ≤ most_lines + 1 → result ≡ ended_as ended
       → ServesInput variant meaning number at after new left left' held received received' ended
@@ -189,9 +182,7 @@ module _ {variant : Variant} {meaning : Meaning} {at : Place} {number : ℕ} {af
       last = said;
       took = refl;
       wrote = refl;
-      ends = rw none (elim ended as (λ r. ServedOn variant meaning number at after new left' (held ++ t.taken) held' said (ended_as r)
-          → EndsSession variant meaning number at after new left' (held ++ t.taken) said r) [ Ok it ↦ λ s. s | Err fault ↦ λ s. s ]
-          (went_as (ended_as ended) e));
+      ends = rw none (ends_of ended (went_as (ended_as ended) e));
     };
   }
 

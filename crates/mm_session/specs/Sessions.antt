@@ -146,14 +146,35 @@ Stops variant meaning number at after new left more sent (Lines Memory) = ⊥
 Stops variant meaning number at after new left more sent fault =
     StopsInLine variant meaning number at after new more sent fault
 
--- Ok: the input ended behind a whole line.
-abbrev pub EndsSession : Variant → Meaning → ℕ → Place → Standing → StoreStanding → Option (List ℕ)
-    → List ℕ → List ℕ
-    → Result Unit SessionFault → Type 0
-EndsSession variant meaning number at after new left more sent (Ok _) =
-    IsAtRest at after new sent × (more ≡ []) × IsAtEnd left
-EndsSession variant meaning number at after new left more sent (Err fault) =
-    Stops variant meaning number at after new left more sent fault
+-- The line was answered, and the answer told.
+pub record ServesLine (variant : Variant) (meaning : Meaning) (number : ℕ) (at : Place)
+    (after : Standing) (new : StoreStanding)
+    (bytes held sent : List ℕ) (next : Resumed) : Type 0 where
+  pub line : List ℕ
+  pub begins : BeginsWith bytes line held
+  pub few : number ≤ most_lines
+  pub answer : Answer
+  pub answered : next ≡ Answered answer
+  pub asks : AsksNext variant meaning at.platform after at.store new at.last line
+      (Ok (Answered answer))
+  pub told : sent ≡ reply_text (Ok (Answered answer))
+
+-- How a turn went, by its answer: `bytes` are those held before and those taken, and `held` those
+-- held after. None: the input ended behind a whole line.
+abbrev pub ServedOn : Variant → Meaning → ℕ → Place → Standing → StoreStanding → Option (List ℕ)
+    → List ℕ → List ℕ → List ℕ
+    → Result (Option Resumed) SessionFault → Type 0
+ServedOn variant meaning number at after new left bytes held sent (Ok (Some next)) =
+    ServesLine variant meaning number at after new bytes held sent next
+ServedOn variant meaning number at after new left bytes held sent (Ok None) =
+    IsAtRest at after new sent × (bytes ≡ []) × IsAtEnd left
+ServedOn variant meaning number at after new left bytes held sent (Err fault) =
+    Stops variant meaning number at after new left bytes sent fault
+
+-- a session's end, as a turn answers it
+abbrev pub ended_as : Result Unit SessionFault → Result (Option Resumed) SessionFault
+ended_as (Ok _) = Ok None
+ended_as (Err fault) = Err fault
 
 -- Some lines are served from where the session stands, of which the first would have this number,
 -- and there it ends; `bytes` were held before or taken.
@@ -169,7 +190,8 @@ pub record ServesLines (variant : Variant) (meaning : Meaning) (number : ℕ) (f
   pub last : List ℕ
   pub took : bytes ≡ lines_joined (lines_served calls) ++ more
   pub wrote : sent ≡ replies_to calls ++ last
-  pub ends : EndsSession variant meaning (length calls + number) at after new left more last result
+  pub ends : ServedOn variant meaning (length calls + number) at after new left more [] last
+      (ended_as result)
 
 -- What waited came to a fault, or its reply isn't written whole; no line is read.
 pub record StopsAtOnce (begun : Result Resumed HostFault) (taken sent : List ℕ)
@@ -227,30 +249,6 @@ pub record AsksAndTells (variant : Variant) (meaning : Meaning) (at : Place) (af
   pub came : Result Resumed HostFault
   pub asks : AsksNext variant meaning at.platform after at.store new at.last line came
   pub tells : TellsReply came received received' result
-
--- The line was answered, and the answer told.
-pub record ServesLine (variant : Variant) (meaning : Meaning) (number : ℕ) (at : Place)
-    (after : Standing) (new : StoreStanding)
-    (bytes held sent : List ℕ) (next : Resumed) : Type 0 where
-  pub line : List ℕ
-  pub begins : BeginsWith bytes line held
-  pub few : number ≤ most_lines
-  pub answer : Answer
-  pub answered : next ≡ Answered answer
-  pub asks : AsksNext variant meaning at.platform after at.store new at.last line
-      (Ok (Answered answer))
-  pub told : sent ≡ reply_text (Ok (Answered answer))
-
--- By the answer: `bytes` are those held before and those taken, and `held` those held after.
-abbrev pub ServedOn : Variant → Meaning → ℕ → Place → Standing → StoreStanding → Option (List ℕ)
-    → List ℕ → List ℕ → List ℕ
-    → Result (Option Resumed) SessionFault → Type 0
-ServedOn variant meaning number at after new left bytes held sent (Ok (Some next)) =
-    ServesLine variant meaning number at after new bytes held sent next
-ServedOn variant meaning number at after new left bytes held sent (Ok None) =
-    IsAtRest at after new sent × (bytes ≡ []) × IsAtEnd left
-ServedOn variant meaning number at after new left bytes held sent (Err fault) =
-    Stops variant meaning number at after new left bytes sent fault
 
 -- What was sent in a turn, and how it went.
 pub record Turns (variant : Variant) (meaning : Meaning) (number : ℕ) (at : Place)
