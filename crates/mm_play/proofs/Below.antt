@@ -3,7 +3,7 @@ pub use Rattle.std.specs.Io.KnownBytes.{Appends, Consumes}
 pub use Rattle.std.specs.List.{AllByRecursion, sum_by}
 pub use Rattle.std.proofs.Common.{◌++◌, ◌+◌, ◌<◌, ◌||◌, ◌∙◌, ◌∷◌, ◌≡◌, ◌≢◌, ◌≤◌, ◌⊎◌, [], ap, append-nil, append_assoc, arith, Bool, cond}
 pub use Rattle.std.proofs.Common.{drop, Err, false, inl, inr, length, length-append, length-take, List, map, nat_le, nat_lt, None, Ok}
-pub use Rattle.std.proofs.Common.{OnErr, OnOk, Option, refl, Result, Some, subst, sym, take, take-append-drop, true, ℕ}
+pub use Rattle.std.proofs.Common.{Option, refl, Result, Some, subst, sym, take, take-append-drop, true, ℕ}
 pub use Rattle.std.proofs.KnownBytes.{Appends-nil, Appends-trans, Consumes-nil, Consumes-trans}
 pub use Rattle.std.proofs.lemmas.Bool.Decides.{nat_tests}
 pub use Rattle.mm_base.specs.Input.{IsUnbroken, lines_joined, lines_of, onto_first, onto_tail, tail_of}

@@ -1,7 +1,8 @@
 -- A whole play, by what a player's answers mean; and that an input that is answered to its end is not refused.
-use Rattle.mm_play.proofs.Below.{◌≡◌, ◌∙◌, ℕ, List, ◌++◌, Option, Some, None, Result, Ok, Err, inl, inr, sym, ap, subst, append-nil}
-use Rattle.mm_play.proofs.Below.{Consumes, ReplayFault, Memory, ReadFault, WriteFault, Refused, Told, told, run}
-use Rattle.mm_play.proofs.Below.{run_of, ForWhole, Settles, IsUnrefused, Plays, PlaysWhole}
+use Rattle.mm_play.proofs.Below.{◌≡◌, ◌∙◌, ℕ, List, Option, Some, None, Result, Ok, Err, inl, inr, sym, ap, append-nil, Consumes}
+use Rattle.mm_play.proofs.Below.{ReplayFault, Memory, ReadFault, WriteFault, Refused, Told, told, run, run_of, ForWhole, Settles}
+use Rattle.mm_play.proofs.Below.{IsUnrefused, Plays, PlaysWhole}
+use Rattle.mm_play.specs.Tells.{IsReported}
 use Rattle.mm_play.proofs.Runs.{not_ok}
 use Rattle.mm_play.proofs.Telling.{Means, tells}
 
@@ -20,7 +21,7 @@ module _ {P R : Type 0} {answer : P → List ℕ → Result (List ℕ × P) Refu
       → Settles (run answer 1 first) (run_of answer closing first) next left' taken sent said)
       → Plays answer closing first next left left' received received' said
   as_said begins played said settles =
-      let p = subst (λ (it : P). Plays answer closing it next left left' received received' result) begins played in
+      let p = rw begins at played in
       record {
         taken = p.taken;
         sent = p.sent;
@@ -34,9 +35,7 @@ module _ {P R : Type 0} {answer : P → List ℕ → Result (List ℕ × P) Refu
       → result ≡ Ok done → (report : R)
       → (let said : Result R ReplayFault = Ok report in Plays answer closing first next left left' received received' said)
   plays_ok begins played done is report =
-      as_said begins played (Ok report) (λ taken sent settled.
-      subst (λ (r : Result (Unit {0}) ReplayFault). Settles (run answer 1 first) (run_of answer closing first) next left' taken sent r) is
-      settled)
+      as_said begins played (Ok report) (λ taken sent settled. rw is at settled)
 
   -- or with the play's fault
   pub plays_err : player ≡ first → Plays answer closing player next left left' received received' result → (fault : ReplayFault)
@@ -45,8 +44,7 @@ module _ {P R : Type 0} {answer : P → List ℕ → Result (List ℕ × P) Refu
   plays_err begins played fault is =
       as_said begins played (Err fault)
       (λ taken sent settled. settles_err (Unit {0}) R (run answer 1 first) (run_of answer closing first) next left' taken sent fault
-      (subst (λ (r : Result (Unit {0}) ReplayFault). Settles (run answer 1 first) (run_of answer closing first) next left' taken sent r) is
-      settled))
+      (rw is at settled))
 
 -- what holds of the whole input holds of all bytes there were
 whole_holds : (left left' : Option (List ℕ)) (taken : List ℕ) (holds : List ℕ → Type 0) → Consumes left left' taken
@@ -56,16 +54,9 @@ whole_holds (Some xs) None taken holds c w bytes is = absurd c
 whole_holds (Some xs) (Some ys) taken holds c w bytes is =
     let all : xs ≡ bytes = cc in
     elim w [
-      | inl h ↦ subst holds (sym c ∙ all) (h ys)
-      | inr h ↦ subst holds (sym (c ∙ ap (λ (l : List ℕ). taken ++ l) h.0 ∙ append-nil taken) ∙ all) h.1
+      | inl h ↦ rw (← all, c) (h ys)
+      | inr h ↦ rw (← all, c, h.0, append-nil) h.1
     ]
-
-clashes : {P : Type 0} (whole : List ℕ → Told P) (left left' : Option (List ℕ)) (taken sent : List ℕ) (fault : ReplayFault)
-    → Consumes left left' taken → ForWhole left' taken (λ input. whole input ≡ told sent (Err fault)) → (bytes : List ℕ) (end : P)
-    → left ≡ Some bytes → (whole bytes).outcome ≡ Ok end → ⊥
-clashes {P} whole left left' taken sent fault c w bytes end is ran =
-    not_ok fault end (sym
-    (ap (λ (t : Told P). t.outcome) (whole_holds left left' taken (λ input. whole input ≡ told sent (Err fault)) c w bytes is)) ∙ ran)
 
 pub completed : {P T : Type 0} (lines : List (List ℕ) → Told P) (whole : List ℕ → Told P) (next : P) (left left' : Option (List ℕ))
     (taken sent : List ℕ) (result : Result T ReplayFault) → Consumes left left' taken → Settles lines whole next left' taken sent result
@@ -75,7 +66,9 @@ completed lines whole next left left' taken sent (Err Memory) c s bytes end is r
 completed lines whole next left left' taken sent (Err ReadFault) c s bytes end is ran = tt
 completed lines whole next left left' taken sent (Err WriteFault) c s bytes end is ran = tt
 completed lines whole next left left' taken sent (Err fault) c s bytes end is ran =
-    clashes whole left left' taken sent fault c s bytes end is ran
+    let stopped : whole bytes ≡ told sent (Err fault) =
+    whole_holds left left' taken (λ input. whole input ≡ told sent (Err fault)) c s bytes is in
+    not_ok fault end (ap (λ (t : Told _). t.outcome) (sym stopped) ∙ ran)
 
 -- An input that is answered to its end is not refused.
 pub unrefused : {P T : Type 0} {answer : P → List ℕ → Result (List ℕ × P) Refused} {closing : P → Option (List ℕ)} {first next : P}
@@ -91,24 +84,19 @@ module _ {P R : Type 0} {answer : P → List ℕ → Result (List ℕ × P) Refu
     (means : Means answer closing first some all much) {left left' received received' : Option (List ℕ)}
     {result : Result (Unit {0}) ReplayFault} (begins : player ≡ first)
     (played : Plays answer closing player next left left' received received' result) where
+  whole_by : (said : Result R ReplayFault) → Plays answer closing first next left left' received received' said
+      → IsReported reports next said → PlaysWhole answer closing first reports some all much left left' received received' said
+  whole_by said p reported = record {
+    next = next;
+    plays = p;
+    told = tells answer closing first next means left' p.taken p.sent said p.settled;
+    reported = reported;
+  }
+
   pub whole_ok : (done : Unit {0}) → result ≡ Ok done → (report : R) → reports next report
       → PlaysWhole answer closing first reports some all much left left' received received' (Ok report)
-  whole_ok done is report reported =
-      let p = plays_ok begins played done is report in
-      record {
-        next = next;
-        plays = p;
-        told = tells answer closing first next means left' p.taken p.sent (Ok report) p.settled;
-        reported = reported;
-      }
+  whole_ok done is report = whole_by (Ok report) (plays_ok begins played done is report)
 
   pub whole_err : (fault : ReplayFault) → result ≡ Err fault
       → PlaysWhole answer closing first reports some all much left left' received received' (Err fault)
-  whole_err fault is =
-      let p = plays_err {R = R} begins played fault is in
-      record {
-        next = next;
-        plays = p;
-        told = tells answer closing first next means {T = R} left' p.taken p.sent (Err fault) p.settled;
-        reported = tt;
-      }
+  whole_err fault is = whole_by (Err fault) (plays_err begins played fault is) tt

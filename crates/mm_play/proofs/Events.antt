@@ -1,11 +1,10 @@
 -- A run over lines that are events is the run of these events.
-use Rattle.mm_play.proofs.Below.{◌≡◌, ◌∙◌, ◌+◌, ◌≤◌, ◌<◌, ℕ, Bool, true, false, ◌||◌, nat_le, nat_lt, List, [], ◌∷◌, ◌++◌, length}
-use Rattle.mm_play.proofs.Below.{map, Result, Ok, Err, Option, None, Some, refl, sym, ap, subst, arith, inl, inr, ◌⊎◌, sum_by, nat_tests}
-use Rattle.mm_play.proofs.Below.{most_events, Refused, Bad, Much, told, run}
-use Rattle.mm_play.proofs.Below.{Answered, Finished, RefusesMuch}
+use Rattle.mm_play.proofs.Below.{◌≡◌, ◌∙◌, ◌+◌, ◌≤◌, ◌<◌, ℕ, Bool, true, false, ◌||◌, nat_le, nat_lt, List, [], ◌∷◌, ◌++◌, length, map}
+use Rattle.mm_play.proofs.Below.{Result, Ok, Err, Option, None, Some, refl, sym, ap, subst, arith, inl, inr, ◌⊎◌, sum_by, nat_tests}
+use Rattle.mm_play.proofs.Below.{most_events, Refused, Much, told, run, Answered, Finished, RefusesMuch}
 use Rattle.std.proofs.lemmas.List.Sums.{sum_by-append}
-use Rattle.mm_play.specs.Counting.{no_answer, same_answer, taken}
-use Rattle.mm_play.specs.Events.{EventPlayer, is_over, unless_over, event_answer, TakesEvents, behind, IsOverBehind, NoneIsOver, AreEvents, header_answer, AreHeaded, AreHeadedAndMuch}
+use Rattle.mm_play.specs.Counting.{same_answer, taken}
+use Rattle.mm_play.specs.Events.{EventPlayer, is_over, event_answer, TakesEvents, behind, IsOverBehind, NoneIsOver, AreEvents, header_answer, AreHeaded, AreHeadedAndMuch}
 use Rattle.mm_play.proofs.Runs.{FirstAnswered, first_answered, ok_same, written_of, outcome_of}
 
 module _ {P : Type 0} (answer : P → List ℕ → Result (List ℕ × P) Refused) (number : ℕ) (player : P) where
@@ -27,12 +26,9 @@ module _ {P : Type 0} (answer : P → List ℕ → Result (List ℕ × P) Refuse
           → (header : H) × (found ≡ Some header) × (run answer (number + 1) (among (begun header)) lines ≡ told written (Ok last))
       by_found f None is h = cc
       by_found f (Some header) is h =
-          let said = same_answer ([], among (begun header)) f.reply (sym (ap (header_answer begun among) is) ∙ h) in (
-            header,
-            is,
-            ap (λ (reply : List ℕ × P). run answer (number + 1) reply.1 lines) said ∙ f.ran
-                ∙ ap (λ (w : List ℕ). told w (Ok last)) (sym (f.whole ∙ ap (λ (reply : List ℕ × P). reply.0 ++ f.more) (sym said))),
-          )
+          let said = same_answer ([], among (begun header)) f.reply (rw is at h) in
+          let ran = rw (← said) at f.ran in
+          let whole = rw (← said) at f.whole in (header, is, rw whole ran)
 
 -- the bytes of one more line
 sums_more : (line : List ℕ) (lines : List (List ℕ)) → sum_by length (line ∷ lines) ≡ length line + sum_by length lines
@@ -41,20 +37,12 @@ sums_more line lines =
     let both : sum_by length (line ∷ lines) ≡ sum_by length (line ∷ []) + sum_by length lines = sum_by-append length (line ∷ []) lines in
     omega (arith, one, both)
 
-pub same_head : {A : Type 0} (a b : A) (us vs : List A) → a ∷ us ≡ b ∷ vs → a ≡ b
-same_head a b us vs h = cc
-
-pub same_tail : {A : Type 0} (a b : A) (us vs : List A) → a ∷ us ≡ b ∷ vs → us ≡ vs
-same_tail a b us vs h = cc
-
-pub same_some : {A : Type 0} (a b : A) → Some a ≡ Some b → a ≡ b
-same_some a b h = cc
-
 -- the last lines, of a player that stands among events
 pub ends_with : {R P : Type 0} (among : R → P) (closing : P → Option (List ℕ)) (ends : R → List ℕ)
     → ((r : R) → closing (among r) ≡ Some (ends r)) → (r : R) (next : P) (last : List ℕ)
     → next ≡ among r → closing next ≡ Some last → last ≡ ends r
-ends_with among closing ends is r next last stands h = same_some last (ends r) (sym h ∙ ap closing stands ∙ is r)
+ends_with among closing ends is r next last stands h =
+    let same : Some last ≡ Some (ends r) = sym h ∙ ap closing stands ∙ is r in cc
 
 -- no line is behind the last
 no_line : (before : List (List ℕ)) (line : List ℕ) (after : List (List ℕ)) → [] ≡ before ++ line ∷ after → ⊥
@@ -73,29 +61,25 @@ module _ {E R P : Type 0} (p : EventPlayer E R P) (answer : P → List ℕ → R
   within_more : (r : R) (line : List ℕ) (lines : List (List ℕ)) (event : E) → p.event_in r line ≡ Some event → is_over p r line ≡ false
       → NoneIsOver p (p.after r line event) lines → NoneIsOver p r (line ∷ lines)
   within_more r line lines event is few on [] l after [] split read over =
+      let same : l ≡ line = cc in
       not_over (p.events r) most_events (p.bytes r + length line + p.kept r) p.room few
-      (subst (λ (x : List ℕ). (most_events ≤ p.events r) ⊎ (p.room < p.bytes r + length x + p.kept r))
-      (sym (same_head line l lines after split)) (elim over [ inl h ↦ inl (omega (arith, h)) | inr h ↦ inr (omega (arith, h)) ]))
+      (rw same at (elim over as (λ _. (most_events ≤ p.events r) ⊎ (p.room < p.bytes r + length l + p.kept r)) [
+        | inl h ↦ inl (omega (arith, h))
+        | inr h ↦ inr (omega (arith, h))
+      ]))
   within_more r line lines event is few on [] l after (e ∷ events) split read over = cc
   within_more r line lines event is few on (first ∷ before) l after [] split read over = cc
   within_more r line lines event is few on (first ∷ before) l after (e ∷ events) split read over =
-      let head : line ≡ first = same_head line first lines (before ++ l ∷ after) split in
-      let same : e ≡ event = same_some e event
-      (sym (same_head (p.event_in r first) (Some e) (map (p.event_in r) before) (map Some events) read) ∙ ap (p.event_in r) (sym head)
-      ∙ is) in
+      let head : line ≡ first = cc in
+      let tail : lines ≡ before ++ l ∷ after = cc in
+      let same : e ≡ event = cc in
       let next = p.after r line event in
-      let reads : map (p.event_in next) before ≡ map Some events =
-      ap (λ (f : List ℕ → Option E). map f before) (takes.reads r line event)
-      ∙ same_tail (p.event_in r first) (Some e) (map (p.event_in r) before) (map Some events) read in
-      let stands : p.kept (behind p r (first ∷ before) (e ∷ events)) ≡ p.kept (behind p next before events) =
-      ap (λ (x : E). p.kept (behind p (p.after r first x) before events)) same
-      ∙ ap (λ (x : List ℕ). p.kept (behind p (p.after r x event) before events)) (sym head) in
-      let sums : sum_by length (first ∷ before) ≡ length line + sum_by length before = sums_more first before
-      ∙ ap (λ (x : List ℕ). length x + sum_by length before) (sym head) in
+      let reads : map (p.event_in r) before ≡ map Some events = cc in
+      let stands : p.kept (behind p (p.after r first e) before events) ≡ p.kept (behind p next before events) = cc in
+      let sums : sum_by length (first ∷ before) ≡ length line + sum_by length before = rw head (sums_more first before) in
       let counts : p.events next ≡ p.events r + 1 = takes.counts r line event in
       let bytes : p.bytes next ≡ p.bytes r + length line = takes.sums r line event in
-      on before l after events (same_tail line first lines (before ++ l ∷ after) split) reads
-      (elim over [
+      on before l after events tail (rw (takes.reads r line event) reads) (elim over [
         | inl h ↦ inl (omega (arith, h, counts))
         | inr h ↦ inr (omega (arith, h, sums, stands, bytes))
       ])
@@ -147,8 +131,8 @@ module _ {E R P : Type 0} (p : EventPlayer E R P) (answer : P → List ℕ → R
   along reads holds none more r [] (event ∷ events) read = cc
   along reads holds none more r (line ∷ lines) [] read = cc
   along reads holds none more r (line ∷ lines) (event ∷ events) read =
-      more r line lines event events (along reads holds none more (p.after r line event) lines events
-      (same_tail (reads line) (Some event) (map reads lines) (map Some events) read))
+      let tail : map reads lines ≡ map Some events = cc in
+      more r line lines event events (along reads holds none more (p.after r line event) lines events tail)
 
   -- A line that is refused as one too many is so in numbers.
   pub refused_over : (r : R) (lines : List (List ℕ)) (written : List ℕ) (last : P) (line : List ℕ) (a : AreEvents p r lines written last)
@@ -164,12 +148,9 @@ module _ {E R P : Type 0} (p : EventPlayer E R P) (answer : P → List ℕ → R
     where
       is_full : (s : R) (found : Option E) (over : Bool) → is_over p s line ≡ over → event_answer p s line found ≡ Err Much
           → is_over p s line ≡ true
-      is_full s None over is h = absurd (bad h)
-        where
-          bad : (let a : Result (List ℕ × P) Refused = Err Bad in a ≡ Err Much) → ⊥
-          bad h = cc
+      is_full s None over is h = cc
       is_full s (Some event) true is h = is
-      is_full s (Some event) false is h = absurd (no_answer Much _ _ (sym (ap (λ over. unless_over p over s line event) (sym is) ∙ h)))
+      is_full s (Some event) false is h = let said = rw is at h in cc
 
   -- Events that begin behind a header, which the first line names.
   module _ {H : Type 0} (heading : List ℕ → Option H) (begun : H → R) (start : P)
@@ -200,15 +181,12 @@ module _ {E R P : Type 0} (p : EventPlayer E R P) (answer : P → List ℕ → R
         (f : Finished answer closing start lines written) → (h : AreHeaded p heading begun lines f.said f.next)
         × (written ≡ f.said ++ ends (behind p (begun h.header) h.others h.answers.events))
     finished_headed closing ends none some lines written f = elim (headed_lines lines f.said f.next f.ran) [
-      | inl empty ↦ absurd (open_still (sym none ∙ ap closing (sym empty.2) ∙ f.closed))
+      | inl empty ↦ let clash : None ≡ Some f.last = sym none ∙ ap closing (sym empty.2) ∙ f.closed in cc
       | inr h ↦ (
         h,
         f.whole ∙ ap (λ (l : List ℕ). f.said ++ l) (ends_with p.among closing ends some _ f.next f.last h.answers.stands f.closed),
       )
     ]
-      where
-        open_still : (let a : Option (List ℕ) = None in a ≡ Some f.last) → ⊥
-        open_still h = cc
 
     -- and a first line is no event too many
     pub much_headed : (done rest : List (List ℕ)) → RefusesMuch answer start done rest → AreHeadedAndMuch p heading begun done rest

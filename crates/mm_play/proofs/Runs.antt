@@ -81,16 +81,14 @@ module _ {P : Type 0} (answer : P → List ℕ → Result (List ℕ × P) Refuse
 pub run-append : {P : Type 0} (answer : P → List ℕ → Result (List ℕ × P) Refused) (number : ℕ) (player : P) (lines more : List (List ℕ))
     (sent : List ℕ) (last : P) → run answer number player lines ≡ told sent (Ok last)
     → run answer number player (lines ++ more) ≡ after_writing sent (run answer (number + length lines) last more)
-run-append {P} answer number player [] more sent last h =
+run-append answer number player [] more sent last h =
     let at_last = ok_same player last (outcome_of h) in
-    ap (λ p. run answer number p more) at_last ∙ ap (λ n. run answer n last more) (omega arith)
-    ∙ ap (λ bytes. after_writing bytes (run answer (number + 0) last more)) (written_of h)
-run-append {P} answer number player (line ∷ lines) more sent last h =
+    rw (at_last, ← written_of h) (ap (λ n. run answer n last more) (omega arith))
+run-append answer number player (line ∷ lines) more sent last h =
     let f = first_answered answer number player line lines sent last h in
-    rw (f.short, f.replied) (ap (after_writing f.reply.0) (run-append answer (number + 1) f.reply.1 lines more f.more last f.ran
-    ∙ ap (λ n. after_writing f.more (run answer n last more)) (omega arith))
-    ∙ after_writing-twice f.reply.0 f.more _ ∙ ap (λ bytes. after_writing bytes (run answer (number + length (line ∷ lines)) last more))
-    (sym f.whole))
+    rw (f.short, f.replied, run-append answer (number + 1) f.reply.1 lines more f.more last f.ran)
+    (after_writing-twice f.reply.0 f.more _ ∙ ap (λ n. after_writing (f.reply.0 ++ f.more) (run answer n last more)) (omega arith)
+    ∙ ap (λ bytes. after_writing bytes (run answer (number + length (line ∷ lines)) last more)) (sym f.whole))
 
 -- what comes after lines that were all answered goes after what they wrote
 and_then-after : {P : Type 0} (sent : List ℕ) (t : Told P) (on : P → Told P)
@@ -102,100 +100,70 @@ and_then-after {P} sent t on = by_outcome t.written t.outcome
     by_outcome written (Ok player) = sym (after_writing-twice sent written (on player))
     by_outcome written (Err fault) = refl
 
--- A run that answered these lines goes on with the rest of the input.
-pub run_from-joined : {P : Type 0} (answer : P → List ℕ → Result (List ℕ × P) Refused) (closing : P → Option (List ℕ)) (player : P)
-    (lines : List (List ℕ)) (rest sent : List ℕ) (last : P) → AllByRecursion IsUnbroken lines
-    → run answer 1 player lines ≡ told sent (Ok last)
-    → run_of answer closing player (lines_joined lines ++ rest) ≡ after_writing sent (run_from answer closing (1 + length lines) last rest)
-run_from-joined {P} answer closing player lines rest sent last each went =
-    ap (λ (ls : List (List ℕ)). and_then (run answer 1 player ls) (ended closing (1 + length ls) (tail_of (lines_joined lines ++ rest))))
-    (lines_of-joined lines rest each)
-    ∙ ap (λ (t : List ℕ). and_then (run answer 1 player (lines ++ lines_of rest)) (ended closing (1 + length (lines ++ lines_of rest)) t))
-    (tail_of-joined lines rest each)
-    ∙ ap (λ (n : ℕ). and_then (run answer 1 player (lines ++ lines_of rest)) (ended closing n (tail_of rest)))
-    (omega (arith, length-append lines (lines_of rest)))
-    ∙ ap (λ (t : Told P). and_then t (ended closing (1 + length lines + length (lines_of rest)) (tail_of rest)))
-    (run-append answer 1 player lines (lines_of rest) sent last went)
-    ∙ and_then-after sent (run answer (1 + length lines) last (lines_of rest))
-    (ended closing (1 + length lines + length (lines_of rest)) (tail_of rest))
+module _ {P : Type 0} (answer : P → List ℕ → Result (List ℕ × P) Refused) (closing : P → Option (List ℕ)) where
+  -- A run that answered these lines goes on with the rest of the input.
+  pub run_from-joined : (player : P) (lines : List (List ℕ)) (rest sent : List ℕ) (last : P) → AllByRecursion IsUnbroken lines
+      → run answer 1 player lines ≡ told sent (Ok last)
+      → run_of answer closing player (lines_joined lines ++ rest) ≡ after_writing sent (run_from answer closing (1 + length lines) last rest)
+  run_from-joined player lines rest sent last each went =
+      let behind : 1 + length (lines ++ lines_of rest) ≡ 1 + length lines + length (lines_of rest) =
+      omega (arith, length-append lines (lines_of rest)) in
+      rw (
+        lines_of-joined lines rest each,
+        tail_of-joined lines rest each,
+        behind,
+        run-append answer 1 player lines (lines_of rest) sent last went,
+      ) (and_then-after sent _ _)
 
--- The first line is refused, whatever follows it.
-pub run_from-refused : {P : Type 0} (answer : P → List ℕ → Result (List ℕ × P) Refused) (closing : P → Option (List ℕ)) (number : ℕ)
-    (player : P) (line rest : List ℕ) (refused : Refused) → IsUnbroken line → length line ≤ longest_line → answer player line ≡ Err refused
-    → run_from answer closing number player (line ++ 10 ∷ rest) ≡ stopped (refusal_at number refused)
-run_from-refused {P} answer closing number player line rest refused unbroken short h =
-    ap (λ (ls : List (List ℕ)). and_then (run answer number player ls) (ended closing (number + length ls) (tail_of (line ++ 10 ∷ rest))))
-    (lines_of-line line rest unbroken)
-    ∙ ap (λ (t : Told P). and_then t (ended closing (number + length (line ∷ lines_of rest)) (tail_of (line ++ 10 ∷ rest))))
-    (ap (λ b. cond b (stopped (LineLong number))
-    (answered (λ next. run answer (number + 1) next (lines_of rest)) number (answer player line))) (is_short short)
-    ∙ ap (answered (λ next. run answer (number + 1) next (lines_of rest)) number) h)
+  module _ (number : ℕ) (player : P) where
+    -- The first line is refused, whatever follows it.
+    pub run_from-refused : (line rest : List ℕ) (refused : Refused) → IsUnbroken line → length line ≤ longest_line
+        → answer player line ≡ Err refused
+        → run_from answer closing number player (line ++ 10 ∷ rest) ≡ stopped (refusal_at number refused)
+    run_from-refused line rest refused unbroken short h = rw (lines_of-line line rest unbroken, is_short short, h) refl
 
--- Too many bytes with no LF, whatever follows them.
-pub run_from-long : {P : Type 0} (answer : P → List ℕ → Result (List ℕ × P) Refused) (closing : P → Option (List ℕ)) (number : ℕ)
-    (player : P) (bytes rest : List ℕ) → IsUnbroken bytes → longest_line < length bytes
-    → run_from answer closing number player (bytes ++ rest) ≡ stopped (LineLong number)
-run_from-long {P} answer closing number player bytes rest unbroken long =
-    ap (λ (ls : List (List ℕ)). and_then (run answer number player ls) (ended closing (number + length ls) (tail_of (bytes ++ rest))))
-    (lines_of-append bytes rest unbroken) ∙ ap (λ (t : List ℕ). and_then (run answer number player (onto_first bytes (lines_of rest)))
-    (ended closing (number + length (onto_first bytes (lines_of rest))) t)) (tail_of-append bytes rest unbroken)
-    ∙ by_lines (lines_of rest) (tail_of rest)
-  where
-    by_lines : (lines : List (List ℕ)) (tail : List ℕ) → and_then (run answer number player (onto_first bytes lines))
-        (ended closing (number + length (onto_first bytes lines)) (onto_tail bytes lines tail)) ≡ stopped (LineLong number)
-    by_lines [] tail = long_tail bytes tail long
+    -- The first line is answered, and the run goes on.
+    pub run_from-answered : (line rest reply : List ℕ) (next : P) → IsUnbroken line → length line ≤ longest_line
+        → answer player line ≡ Ok (reply, next)
+        → run_from answer closing number player (line ++ 10 ∷ rest) ≡ after_writing reply (run_from answer closing (number + 1) next rest)
+    run_from-answered line rest reply next unbroken short h =
+        let behind : number + length (line ∷ lines_of rest) ≡ number + 1 + length (lines_of rest) = omega arith in
+        rw (lines_of-line line rest unbroken, tail_of-line line rest unbroken, behind, is_short short, h)
+        (and_then-after reply (run answer (number + 1) next (lines_of rest)) _)
+
+    -- Too many bytes with no LF, whatever follows them.
+    pub run_from-long : (bytes rest : List ℕ) → IsUnbroken bytes → longest_line < length bytes
+        → run_from answer closing number player (bytes ++ rest) ≡ stopped (LineLong number)
+    run_from-long bytes rest unbroken long =
+        rw (lines_of-append bytes rest unbroken, tail_of-append bytes rest unbroken) (by_lines (lines_of rest) (tail_of rest))
       where
         long_tail : (front tail : List ℕ) → longest_line < length front
             → after_writing [] (ended closing (number + 0) (front ++ tail) player) ≡ stopped (LineLong number)
         long_tail [] tail h = absurd (omega arith)
         long_tail (byte ∷ front) tail h =
-            ap (λ b. after_writing [] (cond b (stopped (LineLong (number + 0))) (stopped (BadLine (number + 0)))))
-            (is_long (omega (arith, length-append (byte ∷ front) tail))) ∙ ap (λ n. stopped {P = P} (LineLong n)) (omega arith)
-    by_lines (line ∷ lines) tail =
-        ap (λ b. and_then (cond b (stopped (LineLong number))
-        (answered (λ next. run answer (number + 1) next lines) number (answer player (bytes ++ line))))
-        (ended closing (number + length ((bytes ++ line) ∷ lines)) tail)) (is_long (omega (arith, length-append bytes line)))
+            let long : longest_line < length ((byte ∷ front) ++ tail) = omega (arith, length-append (byte ∷ front) tail) in
+            rw (is_long long) (ap (λ n. stopped {P = P} (LineLong n)) (omega arith))
 
--- The input ends within a line.
-pub run_from-tail : {P : Type 0} (answer : P → List ℕ → Result (List ℕ × P) Refused) (closing : P → Option (List ℕ)) (number : ℕ)
-    (player : P) (tail : List ℕ) → IsUnbroken tail → 0 < length tail → length tail ≤ longest_line
-    → run_from answer closing number player tail ≡ stopped (BadLine number)
-run_from-tail {P} answer closing number player tail unbroken some short =
-    ap (λ (ls : List (List ℕ)). and_then (run answer number player ls) (ended closing (number + length ls) (tail_of tail)))
-    (lines_of-unbroken tail unbroken)
-    ∙ ap (λ (t : List ℕ). after_writing [] (ended closing (number + 0) t player)) (tail_of-unbroken tail unbroken)
-    ∙ short_tail tail some short
-  where
-    short_tail : (bytes : List ℕ) → 0 < length bytes → length bytes ≤ longest_line
-        → after_writing [] (ended closing (number + 0) bytes player) ≡ stopped (BadLine number)
-    short_tail [] h s = absurd (omega arith)
-    short_tail (byte ∷ bytes) h s =
-        ap (λ b. after_writing [] (cond b (stopped (LineLong (number + 0))) (stopped (BadLine (number + 0))))) (is_short s)
-        ∙ ap (λ n. stopped {P = P} (BadLine n)) (omega arith)
+        by_lines : (lines : List (List ℕ)) (tail : List ℕ) → and_then (run answer number player (onto_first bytes lines))
+            (ended closing (number + length (onto_first bytes lines)) (onto_tail bytes lines tail)) ≡ stopped (LineLong number)
+        by_lines [] tail = long_tail bytes tail long
+        by_lines (line ∷ lines) tail =
+            let too_long : longest_line < length (bytes ++ line) = omega (arith, length-append bytes line) in rw (is_long too_long) refl
+
+    -- The input ends within a line.
+    pub run_from-tail : (tail : List ℕ) → IsUnbroken tail → 0 < length tail → length tail ≤ longest_line
+        → run_from answer closing number player tail ≡ stopped (BadLine number)
+    run_from-tail tail unbroken some short =
+        rw (lines_of-unbroken tail unbroken, tail_of-unbroken tail unbroken) (short_tail tail some short)
+      where
+        short_tail : (bytes : List ℕ) → 0 < length bytes → length bytes ≤ longest_line
+            → after_writing [] (ended closing (number + 0) bytes player) ≡ stopped (BadLine number)
+        short_tail [] h s = absurd (omega arith)
+        short_tail (byte ∷ bytes) h s = rw (is_short s) (ap (λ n. stopped {P = P} (BadLine n)) (omega arith))
 
 -- One more line was answered.
 pub run-more : {P : Type 0} (answer : P → List ℕ → Result (List ℕ × P) Refused) (player : P) (lines : List (List ℕ))
     (line sent reply : List ℕ) (last next : P) → run answer 1 player lines ≡ told sent (Ok last) → length line ≤ longest_line
     → answer last line ≡ Ok (reply, next) → run answer 1 player (lines ++ line ∷ []) ≡ told (sent ++ reply) (Ok next)
-run-more {P} answer player lines line sent reply last next went short h =
-    run-append answer 1 player lines (line ∷ []) sent last went ∙ ap (after_writing sent)
-    (ap (λ b. cond b (stopped (LineLong (1 + length lines)))
-    (answered (λ q. run answer (1 + length lines + 1) q []) (1 + length lines) (answer last line))) (is_short short)
-    ∙ ap (answered (λ q. run answer (1 + length lines + 1) q []) (1 + length lines)) h
-    ∙ ap (λ bytes. told bytes (Ok next)) (append-nil reply))
-
--- The first line is answered, and the run goes on.
-pub run_from-answered : {P : Type 0} (answer : P → List ℕ → Result (List ℕ × P) Refused) (closing : P → Option (List ℕ)) (number : ℕ)
-    (player : P) (line rest reply : List ℕ) (next : P)
-    → IsUnbroken line → length line ≤ longest_line → answer player line ≡ Ok (reply, next)
-    → run_from answer closing number player (line ++ 10 ∷ rest) ≡ after_writing reply (run_from answer closing (number + 1) next rest)
-run_from-answered {P} answer closing number player line rest reply next unbroken short h =
-    ap (λ (ls : List (List ℕ)). and_then (run answer number player ls) (ended closing (number + length ls) (tail_of (line ++ 10 ∷ rest))))
-    (lines_of-line line rest unbroken) ∙ ap (λ (t : List ℕ). and_then (run answer number player (line ∷ lines_of rest))
-    (ended closing (number + length (line ∷ lines_of rest)) t)) (tail_of-line line rest unbroken)
-    ∙ ap (λ (n : ℕ). and_then (run answer number player (line ∷ lines_of rest)) (ended closing n (tail_of rest))) (omega arith)
-    ∙ ap (λ (t : Told P). and_then t (ended closing (number + 1 + length (lines_of rest)) (tail_of rest)))
-    (ap (λ b. cond b (stopped (LineLong number)) (answered (λ q. run answer (number + 1) q (lines_of rest)) number (answer player line)))
-    (is_short short) ∙ ap (answered (λ q. run answer (number + 1) q (lines_of rest)) number) h)
-    ∙ and_then-after reply (run answer (number + 1) next (lines_of rest))
-    (ended closing (number + 1 + length (lines_of rest)) (tail_of rest))
+run-more answer player lines line sent reply last next went short h =
+    rw (run-append answer 1 player lines (line ∷ []) sent last went, is_short short, h) (ap (λ bytes. told (sent ++ bytes) (Ok next)) (append-nil reply))

@@ -2,8 +2,8 @@
 use Rattle.mm_play.proofs.Below.{◌≡◌, ◌∙◌, ◌+◌, ℕ, Bool, true, false, cond, List, [], ◌∷◌, ◌++◌, length, nat_lt, Result, Ok, Err, Option}
 use Rattle.mm_play.proofs.Below.{None, Some, refl, sym, ap, subst, append-nil, arith, inl, inr, ◌⊎◌, lines_of, tail_of, ReplayFault, Memory}
 use Rattle.mm_play.proofs.Below.{ReadFault, WriteFault, BadLine, LineLong, TooMuch, longest_line, Refused, Bad, Much, Told, told, stopped}
-use Rattle.mm_play.proofs.Below.{after_writing, run, ended, closed, goes_on, run_of, ForWhole, Settles, IsFrontOf}
-use Rattle.mm_play.proofs.Below.{AnswersFirst, Answered, Finished, RefusesMuch, TellsBy, anywhere, before_line}
+use Rattle.mm_play.proofs.Below.{after_writing, run, ended, closed, goes_on, run_of, ForWhole, Settles, IsFrontOf, AnswersFirst, Answered}
+use Rattle.mm_play.proofs.Below.{Finished, RefusesMuch, TellsBy, anywhere, before_line}
 use Rattle.mm_play.proofs.Runs.{Turned, Long, Refuses, Replies, turned}
 
 module _ {P : Type 0} (answer : P → List ℕ → Result (List ℕ × P) Refused) where
@@ -12,9 +12,7 @@ module _ {P : Type 0} (answer : P → List ℕ → Result (List ℕ × P) Refuse
   StopsBy number next rest (BadLine n) = n ≡ number
   StopsBy number next rest (LineLong n) = n ≡ number
   StopsBy number next rest TooMuch = (line : List ℕ) × (more : List (List ℕ)) × (rest ≡ line ∷ more) × (answer next line ≡ Err Much)
-  StopsBy number next rest Memory = Unit {0}
-  StopsBy number next rest ReadFault = Unit {0}
-  StopsBy number next rest WriteFault = Unit {0}
+  StopsBy number next rest _ = Unit {0}
 
   -- The first lines were answered, and the run stopped.
   record Halts (number : ℕ) (player : P) (lines : List (List ℕ)) (written : List ℕ) (fault : ReplayFault) : Type 0 where
@@ -65,15 +63,10 @@ module _ {P : Type 0} (answer : P → List ℕ → Result (List ℕ × P) Refuse
     where
       by : {t : Told P} → ((next : P) → RanSo (number + 1) next lines (run answer (number + 1) next lines))
           → Turned answer number player line lines t → RanSo number player (line ∷ lines) t
-      by on (Long is) = subst (RanSo number player (line ∷ lines)) (sym is) (halts_at number player (line ∷ lines) (LineLong number) refl)
-      by on (Refuses Bad said is) =
-          subst (RanSo number player (line ∷ lines)) (sym is) (halts_at number player (line ∷ lines) (BadLine number) refl)
-      by on (Refuses Much said is) =
-          subst (RanSo number player (line ∷ lines)) (sym is)
-          (halts_at number player (line ∷ lines) TooMuch (line, lines, refl, said))
-      by on (Replies reply short said is) =
-          subst (RanSo number player (line ∷ lines)) (sym is)
-          (ran_more number player line lines reply _ _ short said (on reply.1))
+      by on (Long is) = rw is (halts_at number player (line ∷ lines) (LineLong number) refl)
+      by on (Refuses Bad said is) = rw is (halts_at number player (line ∷ lines) (BadLine number) refl)
+      by on (Refuses Much said is) = rw is (halts_at number player (line ∷ lines) TooMuch (line, lines, refl, said))
+      by on (Replies reply short said is) = rw is (ran_more number player line lines reply _ _ short said (on reply.1))
 
   module _ (closing : P → Option (List ℕ)) (player : P) where
     -- a run over an input ended so
@@ -154,10 +147,10 @@ module _ {P : Type 0} (answer : P → List ℕ → Result (List ℕ × P) Refuse
       → ((lines : List (List ℕ)) (h : Halts answer 1 first lines sent fault) → stops h.done h.rest)
       → ForWhole left taken (λ input. run_of answer closing first input ≡ told sent (Err fault))
       → ForWhole left taken (λ input. AnswersFirst some stops (lines_of input) sent)
-  stopped_at left taken sent fault stops each s =
+  stopped_at left taken sent fault stops each =
       for_whole left taken (λ input. run_of answer closing first input ≡ told sent (Err fault)) _
       (λ input is. let h = ended_so input sent (Err fault) is in
-      first_by (lines_of input) sent fault stops h (each (lines_of input) h)) s
+      first_by (lines_of input) sent fault stops h (each (lines_of input) h))
 
   -- What is out tells what the answers mean.
   pub tells : {T : Type 0} (left : Option (List ℕ)) (taken sent : List ℕ) (result : Result T ReplayFault)

@@ -1,8 +1,7 @@
 -- A line is answered, or the input ends, by what the reader read and what the player did.
-use Rattle.mm_play.proofs.Below.{◌≡◌, ◌∙◌, ◌<◌, ◌+◌, ℕ, Bool, true, false, List, [], ◌∷◌, ◌++◌, length, take, drop, Result, Ok, Err, Option}
-use Rattle.mm_play.proofs.Below.{refl, sym, ap, subst, append_assoc, arith, inl, inr, length-take, take-append-drop, ReplayFault, Memory}
-use Rattle.mm_play.proofs.Below.{BadLine, LineLong, TooMuch, longest_line, Refused, refusal_at, stopped, run_from}
-use Rattle.mm_play.proofs.Below.{ForWhole, Answers, PlayedOn, Advances}
+use Rattle.mm_play.proofs.Below.{◌≡◌, ◌∙◌, ◌+◌, ℕ, Bool, true, false, List, [], ◌∷◌, ◌++◌, take, drop, Result, Ok, Err, Option, refl, sym}
+use Rattle.mm_play.proofs.Below.{ap, append_assoc, arith, inl, inr, length-take, take-append-drop, ReplayFault, Memory, BadLine, LineLong}
+use Rattle.mm_play.proofs.Below.{TooMuch, longest_line, Refused, refusal_at, stopped, run_from, ForWhole, Answers, PlayedOn, Advances}
 use Rattle.mm_base.specs.Lines.{MayGrow}
 use Rattle.mm_base.specs.Next.{NextLine}
 use Rattle.mm_base.specs.declared.lines.LineFault.{LineFault}
@@ -11,16 +10,6 @@ use Rattle.mm_base.specs.declared.lines.Read.{Read}
 use Rattle.mm_base.specs.declared.lines.Read.TheVariants.{Line, Tail}
 use Rattle.mm_play.proofs.Runs.{run_from-refused, run_from-long, run_from-tail}
 
--- a line and what follows it, in one grouping
-line_first : (held taken line held' : List ℕ) → held ++ taken ≡ (line ++ 10 ∷ []) ++ held' → held ++ taken ≡ line ++ 10 ∷ held'
-line_first held taken line held' h = h ∙ append_assoc line (10 ∷ []) held'
-
-and_rest : (bytes line held rest : List ℕ) → bytes ≡ line ++ 10 ∷ held → bytes ++ rest ≡ line ++ 10 ∷ (held ++ rest)
-and_rest bytes line held rest h = ap (λ b. b ++ rest) h ∙ append_assoc line (10 ∷ held) rest
-
-long_front : (bytes : List ℕ) → longest_line < length bytes → longest_line < length (take (longest_line + 1) bytes)
-long_front bytes h = omega (arith, length-take (longest_line + 1) bytes)
-
 module _ {P : Type 0} (answer : P → List ℕ → Result (List ℕ × P) Refused) (closing : P → Option (List ℕ)) (number : ℕ) (player next : P)
     (left left' : Option (List ℕ)) (held held' pending pending' : List ℕ) where
   -- the line is refused, whatever follows it
@@ -28,9 +17,8 @@ module _ {P : Type 0} (answer : P → List ℕ → Result (List ℕ × P) Refuse
       → answer player line ≡ Err why → refusal_at number why ≡ fault
       → ForWhole left' bytes (λ input. run_from answer closing number player input ≡ stopped fault)
   refused_by bytes line why fault cut within refused is =
-      inl (λ rest. ap (run_from answer closing number player) (and_rest bytes line held' rest cut)
-      ∙ run_from-refused answer closing number player line (held' ++ rest) why within.unbroken within.short refused
-      ∙ ap (stopped {P = P}) is)
+      inl (λ rest. rw (cut, append_assoc line (10 ∷ held') rest, ← is)
+      (run_from-refused answer closing number player line (held' ++ rest) why within.unbroken within.short refused))
 
   went_by_line : (bytes line : List ℕ) (result : Result Bool ReplayFault) → bytes ≡ line ++ 10 ∷ held' → MayGrow longest_line line
       → Answers number (answer player line) next pending pending' result
@@ -49,20 +37,21 @@ module _ {P : Type 0} (answer : P → List ℕ → Result (List ℕ × P) Refuse
       → Answers number (answer player line.now) next pending pending' result
       → Advances answer closing number player next left left' held held' pending pending' result
   advanced_by_line result read what line n is what_is a =
-      let m = subst (λ r. NextLine longest_line left left' held r held') (is ∙ ap Ok what_is) n in
+      let m = rw (is, what_is) at n in
       record {
         taken = m.takes.taken;
         consumed = m.takes.consumed;
-        went = went_by_line (held ++ m.takes.taken) line.now result (line_first held m.takes.taken line.now held' m.takes.goes) m.reads a;
+        went = went_by_line (held ++ m.takes.taken) line.now result (m.takes.goes ∙ append_assoc line.now (10 ∷ []) held') m.reads a;
       }
 
 module _ {P : Type 0} (answer : P → List ℕ → Result (List ℕ × P) Refused) (closing : P → Option (List ℕ)) (number : ℕ) (player : P)
-    (left left' : Option (List ℕ)) (held held' pending : List ℕ) (read : Result Read LineFault) where
+    (left left' : Option (List ℕ)) (held held' pending : List ℕ) (read : Result Read LineFault)
+    (n : NextLine longest_line left left' held read held') where
   -- The input ended within a line.
-  pub advanced_by_tail : (what : Read) → NextLine longest_line left left' held read held' → read ≡ Ok what → what ≡ Tail
+  pub advanced_by_tail : (what : Read) → read ≡ Ok what → what ≡ Tail
       → Advances answer closing number player player left left' held held' pending pending (Err (BadLine number))
-  advanced_by_tail what n is what_is =
-      let m = subst (λ r. NextLine longest_line left left' held r held') (is ∙ ap Ok what_is) n in
+  advanced_by_tail what is what_is =
+      let m = rw (is, what_is) at n in
       record {
         taken = m.takes.taken;
         consumed = m.takes.consumed;
@@ -70,17 +59,18 @@ module _ {P : Type 0} (answer : P → List ℕ → Result (List ℕ × P) Refuse
           refl,
           inr (
             m.reads.2,
-            ap (run_from answer closing number player) m.takes.goes
-                ∙ run_from-tail answer closing number player held' m.reads.0.unbroken m.reads.1 m.reads.0.short,
+            rw m.takes.goes (run_from-tail answer closing number player held' m.reads.0.unbroken m.reads.1 m.reads.0.short),
           ),
         );
       }
 
   -- Too many bytes came with no LF.
-  pub advanced_by_long : (why : LineFault) → NextLine longest_line left left' held read held' → read ≡ Err why → why ≡ fault.LineLong
+  pub advanced_by_long : (why : LineFault) → read ≡ Err why → why ≡ fault.LineLong
       → Advances answer closing number player player left left' held held' pending pending (Err (LineLong number))
-  advanced_by_long why n is why_is =
-      let m = subst (λ r. NextLine longest_line left left' held r held') (is ∙ ap Err why_is) n in
+  advanced_by_long why is why_is =
+      let m = rw (is, why_is) at n in
+      let front : List ℕ = take (longest_line + 1) held' in
+      let back : List ℕ = drop (longest_line + 1) held' in
       record {
         taken = m.takes.taken;
         consumed = m.takes.consumed;
@@ -88,9 +78,8 @@ module _ {P : Type 0} (answer : P → List ℕ → Result (List ℕ × P) Refuse
           refl,
           inl (λ rest. ap (λ b. run_from answer closing number player (b ++ rest))
               (m.takes.goes ∙ sym (take-append-drop (longest_line + 1) held'))
-              ∙ ap (run_from answer closing number player) (append_assoc (take (longest_line + 1) held') (drop (longest_line + 1) held')
-              rest)
-              ∙ run_from-long answer closing number player (take (longest_line + 1) held') (drop (longest_line + 1) held' ++ rest)
-              m.reads.unbroken (long_front held' m.reads.long)),
+              ∙ ap (run_from answer closing number player) (append_assoc front back rest)
+              ∙ run_from-long answer closing number player front (back ++ rest) m.reads.unbroken
+              (omega (arith, m.reads.long, length-take (longest_line + 1) held'))),
         );
       }

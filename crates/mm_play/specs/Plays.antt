@@ -38,12 +38,8 @@ Settles {P} lines whole next left taken sent (Err Memory) =
     (front : List ℕ) × IsFrontOf front taken × (after : P)
     × (lines (lines_of front) ≡ told sent (Ok after))
 -- Else the run stops so.
-Settles lines whole next left taken sent (Err (BadLine number)) =
-    ForWhole left taken (λ input. whole input ≡ told sent (Err (BadLine number)))
-Settles lines whole next left taken sent (Err (LineLong number)) =
-    ForWhole left taken (λ input. whole input ≡ told sent (Err (LineLong number)))
-Settles lines whole next left taken sent (Err TooMuch) =
-    ForWhole left taken (λ input. whole input ≡ told sent (Err TooMuch))
+Settles lines whole next left taken sent (Err fault) =
+    ForWhole left taken (λ input. whole input ≡ told sent (Err fault))
 
 -- A count of faults rose exactly where it is to blame for the answer, and then by exactly one: no
 -- call follows one that failed.

@@ -6,7 +6,7 @@ use Rattle.mm_base.specs.Input.{IsUnbroken}
 use Rattle.mm_base.specs.Lines.{MayGrow}
 use Rattle.mm_base.specs.declared.fault.WriteFault as write
 use Rattle.mm_base.specs.declared.replay_fault.ReplayFault.{ReplayFault}
-use Rattle.mm_base.specs.declared.replay_fault.ReplayFault.TheVariants.{Memory, ReadFault, WriteFault, BadLine, LineLong, TooMuch}
+use Rattle.mm_base.specs.declared.replay_fault.ReplayFault.TheVariants.{Memory, ReadFault, WriteFault, BadLine, TooMuch}
 use Rattle.mm_base.specs.Limits.{longest_line}
 use Rattle.mm_play.specs.declared.player.Refused.{Refused}
 use Rattle.mm_play.specs.Play.{Told, told, stopped, refusal_at, run_from}
@@ -61,12 +61,8 @@ PlayedOn answer rest number player next left bytes held pending said (Err ReadFa
 PlayedOn answer rest number player next left bytes held pending said (Err WriteFault) =
     ForWhole left bytes (λ input. IsFrontOf said (pending ++ (rest input).written))
 PlayedOn answer rest number player next left bytes held pending said (Err Memory) = said ≡ pending
-PlayedOn answer rest number player next left bytes held pending said (Err (BadLine line)) =
-    (said ≡ pending) × ForWhole left bytes (λ input. rest input ≡ stopped (BadLine line))
-PlayedOn answer rest number player next left bytes held pending said (Err (LineLong line)) =
-    (said ≡ pending) × ForWhole left bytes (λ input. rest input ≡ stopped (LineLong line))
-PlayedOn answer rest number player next left bytes held pending said (Err TooMuch) =
-    (said ≡ pending) × ForWhole left bytes (λ input. rest input ≡ stopped TooMuch)
+PlayedOn answer rest number player next left bytes held pending said (Err fault) =
+    (said ≡ pending) × ForWhole left bytes (λ input. rest input ≡ stopped fault)
 
 -- A line was read and answered, or not, and nothing was sent.
 pub record Advances {P : Type 0} (answer : P → List ℕ → Result (List ℕ × P) Refused)

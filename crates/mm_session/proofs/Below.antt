@@ -1,5 +1,5 @@
 -- The words and laws that the proofs of this crate take from specs/ and from the crates below.
-pub use Rattle.std.specs.Io.KnownBytes.{Appends, Consumes, IsAtEnd}
+pub use Rattle.std.specs.Io.KnownBytes.{Consumes, IsAtEnd}
 pub use Rattle.std.specs.List.{AllByRecursion, Contains, fold}
 pub use Rattle.std.specs.Prelude.{◌⊎◌, if◌then◌else◌, is_some, nat_eq, nat_le}
 pub use Rattle.std.proofs.Common.{◌%◌, ◌++◌, ◌+◌, ◌-◌, ◌<◌, ◌||◌, ◌∙◌, ◌∷◌, ◌≡◌, ◌≢◌, ◌≤◌, [], ap, append_assoc, arith, Bool, drop, Err}
@@ -20,13 +20,12 @@ pub use Rattle.mm_digest.specs.declared.variant.Variant.TheVariants.{Basic, Opt}
 pub use Rattle.mm_seal.specs.Parts.{parts_of}
 pub use Rattle.mm_seal.specs.SealLaws.{sealed_once, sealed_parts}
 pub use Rattle.mm_seal.specs.Snapshot.{Content, IsContent, offered_of, sealed_of, tag_of}
-pub use Rattle.mm_seal.specs.declared.snapshot.Place.{Place as SealedPlace}
 pub use Rattle.mm_seal.specs.declared.snapshot.Place.TheVariants.{Basic as InBasic, Opt as InOpt}
-pub use Rattle.mm_platform.specs.Standing.{foreign_item, Item, item_values, Standing}
+pub use Rattle.mm_platform.specs.Standing.{foreign_item, Item, Standing}
 pub use Rattle.mm_platform.specs.declared.fault.StepFault.{StepFault}
 pub use Rattle.mm_module.specs.Batch.{Batch, One}
 pub use Rattle.mm_module.specs.Meaning.{IsLawful, Meaning}
-pub use Rattle.mm_model.specs.BatchLaws.{total-nil, total-push}
+pub use Rattle.mm_model.specs.BatchLaws.{total-nil}
 pub use Rattle.mm_model.specs.Chains.{after, summary_of, trail}
 pub use Rattle.mm_model.specs.History.{Commit, committed, Entry, first_history, Foreign, History, moved, Own, register_value_of}
 pub use Rattle.mm_model.specs.History.{requests_of, total_of, Value}
@@ -34,7 +33,7 @@ pub use Rattle.mm_model.specs.HistoryLaws.{has_value-append}
 pub use Rattle.mm_model.specs.Instance.{Instance}
 pub use Rattle.mm_model.specs.InstanceWords.{basic, opt}
 pub use Rattle.mm_model.specs.Life.{are_own, has_value, is_empty, Life, life_by, life_of, Lost as LostLife, Spoiled}
-pub use Rattle.mm_model.specs.Messages.{AreNoGuards, counting, IsClear, offer_messages, values_in, Within}
+pub use Rattle.mm_model.specs.Messages.{AreNoGuards, counting, IsClear, values_in, Within}
 pub use Rattle.mm_model.specs.Moves.{Digests, digests_of, IsOutside}
 pub use Rattle.mm_model.specs.Places.{anchor_after, at_anchor, in_closed, in_current, IsPlaceOf, IsPoint, issued, Names}
 pub use Rattle.mm_model.specs.PlacesWords.{digest_of}
@@ -45,7 +44,7 @@ pub use Rattle.mm_model.specs.declared.answer.BatchAnswer.{BatchAnswer}
 pub use Rattle.mm_model.specs.declared.refusal.Refusal.{Refusal}
 pub use Rattle.mm_model.proofs.Above.{opt_digests}
 pub use Rattle.mm_call.specs.Answers.{answer_on}
-pub use Rattle.mm_call.specs.Asked.{counted_part, IsLedTo, IsWithin, moves_messages, right_messages}
+pub use Rattle.mm_call.specs.Asked.{counted_part, IsLedTo, IsWithin, moves_messages}
 pub use Rattle.mm_call.specs.CallsOn.{CallsOn}
 pub use Rattle.mm_call.specs.Found.{found_at, right_content}
 pub use Rattle.mm_call.specs.Leaving.{Blames, whole, whole_in}
@@ -65,7 +64,7 @@ pub use Rattle.mm_call.proofs.OptAlike.{still}
 pub use Rattle.mm_schedule.specs.Machine.{StepsOn}
 pub use Rattle.mm_store.specs.Calls.{putting, ReadsSlot, WritesSlot}
 pub use Rattle.mm_store.specs.Kept.{StoreStanding}
-pub use Rattle.mm_store.specs.Pending.{IsPending, Pending, pending_spelling, ReadsPending}
+pub use Rattle.mm_store.specs.Pending.{Pending, pending_spelling, ReadsPending}
 pub use Rattle.mm_store.specs.Slots.{longest_slot, slot_read, Slots, with_slot}
 pub use Rattle.mm_store.specs.declared.fault.StoreFault.{StoreFault}
 pub use Rattle.mm_store.proofs.Above.{longest_slot-is, one_reading}
@@ -74,25 +73,24 @@ pub use Rattle.mm_host.specs.Faults.{refusal_fault, store_fault_as}
 pub use Rattle.mm_host.specs.Fitting.{first_offer, FitsBy, FitsHistory, Holds, IsAwaited, offer_slot}
 pub use Rattle.mm_host.specs.Last.{IsSized, position_at, snapshot_at}
 pub use Rattle.mm_host.specs.Next.{AfterRecord, AsksNext, record_for}
-pub use Rattle.mm_host.specs.Recovery.{AnswersAt, AsksIdly, CanRecover, ComesTo, IsGrown, IsRefusedAs, MayHaveCommitted, RecoversTo}
+pub use Rattle.mm_host.specs.Recovery.{AnswersAt, AsksIdly, CanRecover, IsGrown, IsRefusedAs, MayHaveCommitted, RecoversTo}
 pub use Rattle.mm_host.specs.Resumes.{AfterAsk, AfterFinding, AfterOffer, kept_as, Resumes, started}
 pub use Rattle.mm_host.specs.Waiting.{IsWaiting, later}
 pub use Rattle.mm_host.specs.declared.fault.HostFault.{HostFault}
 pub use Rattle.mm_host.specs.declared.resuming.Resumed.{Resumed}
 pub use Rattle.mm_host.specs.declared.resuming.Resumed.TheVariants.{Answered, Start}
-pub use Rattle.mm_host.proofs.Above.{answered_writes, AnsweredWrites, ask_exit, asked_at, basic_called, basic_content, basic_met}
-pub use Rattle.mm_host.proofs.Above.{both_writes, by_refusal, Called, called_of, CameWrites, counted_most, grows, holds_issued, IsGrownBy}
-pub use Rattle.mm_host.proofs.Above.{IsOffered, IsSame, issued_in_opt, joined, leads_rest, LeadsOn, left_by, length-pending_spelling, Met}
-pub use Rattle.mm_host.proofs.Above.{new_most, next_came, next_told, NoMore, not_lost, offered_at, one_more, one_waiting, opt_called}
-pub use Rattle.mm_host.proofs.Above.{opt_grown, opt_met, opt_met_idle, recovers, recovers_by, refusal_told, rests, resumes_came}
+pub use Rattle.mm_host.proofs.Above.{answered_writes, AnsweredWrites, ask_exit, asked_at, basic_content, basic_met, both_writes, by_refusal}
+pub use Rattle.mm_host.proofs.Above.{CameWrites, counted_most, grows, holds_issued, IsGrownBy, IsSame, issued_in_opt, joined, leads_rest}
+pub use Rattle.mm_host.proofs.Above.{left_by, length-pending_spelling, Met, new_most, next_came, next_told, NoMore, not_lost, one_more}
+pub use Rattle.mm_host.proofs.Above.{one_waiting, opt_grown, opt_met, opt_met_idle, recovers_by, refusal_told, rests, resumes_came}
 pub use Rattle.mm_host.proofs.Above.{resumes_told, Saw, saw_two, Told, was_powered}
-pub use Rattle.mm_session.specs.AnySlots.{answered_to, AreAmong, AreAskedInTurn, AreFirstOf, AsksNothingNew, EndsRun, MayStart}
-pub use Rattle.mm_session.specs.AnySlots.{offered_after, requests_with, RunsOnce, RunsOnceFrom, says_last, SessionRunsOnce}
+pub use Rattle.mm_session.specs.AnySlots.{answered_to, AreAmong, AreAskedInTurn, AsksNothingNew, EndsRun, MayStart, offered_after}
+pub use Rattle.mm_session.specs.AnySlots.{requests_with, RunsOnce, RunsOnceFrom, says_last, SessionRunsOnce}
 pub use Rattle.mm_session.specs.Continuing.{answer_reply, AreToFollow, CanServe, ContinuesTo, HasUntold, history_then, IsInHand}
-pub use Rattle.mm_session.specs.Continuing.{IsNotBeyond, MayBeUntold, RefusesAs, RunsOver, SessionContinues, told_first, told_in}
+pub use Rattle.mm_session.specs.Continuing.{IsNotBeyond, MayBeUntold, RefusesAs, RunsOver, RunsTo, SessionContinues, told_first, told_in}
 pub use Rattle.mm_session.specs.Continuing.{waiting_position}
 pub use Rattle.mm_session.specs.Sessions.{comes_as, refusal_text, reply_text, SendsReply, TellsReply, told_cause, lines_served, Place}
-pub use Rattle.mm_session.specs.Sessions.{replies_to, Served, Serves, AfterResume, BeginsWith, EndsSession, IsAtRest, most_lines, Sessions}
-pub use Rattle.mm_session.specs.Sessions.{StopsAtOnce, StopsInLine, goes_on_with, ServedOn, ServesInput, ServesLine, ServesNext, TakesLine}
+pub use Rattle.mm_session.specs.Sessions.{replies_to, Served, Serves, AfterResume, BeginsWith, ended_as, IsAtRest, most_lines, Sessions}
+pub use Rattle.mm_session.specs.Sessions.{StopsAtOnce, StopsInLine, AsksAndTells, ServedOn, ServesInput, ServesLine, ServesNext, Turns}
 pub use Rattle.mm_session.specs.declared.fault.SessionFault.{SessionFault}
 pub use Rattle.mm_session.specs.declared.fault.SessionFault.TheVariants.{Host, Lines}

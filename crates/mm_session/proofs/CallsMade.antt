@@ -1,15 +1,15 @@
 -- The calls that a session makes, one after another, whatever the slots hold; and the requests that it makes are among what waited
 -- and the lines of its input.
 use Rattle.mm_session.proofs.Below.{◌≡◌, ◌∙◌, ℕ, List, [], ◌∷◌, ◌++◌, Option, None, Some, Result, Ok, Err, refl, sym, ap, inl, inr}
-use Rattle.mm_session.proofs.Below.{◌⊎◌, append_assoc, lines_of, Variant, Standing, Meaning, Refusal, StoreFault, ReadsSlot, StoreStanding}
+use Rattle.mm_session.proofs.Below.{append_assoc, lines_of, Variant, Standing, Meaning, Refusal, StoreFault, ReadsSlot, StoreStanding}
 use Rattle.mm_session.proofs.Below.{Pending, Slots, slot_read, HostFault, SessionFault, Host, Resumed, Start, Answered, first_offer}
 use Rattle.mm_session.proofs.Below.{offer_slot, offered_after, IsCall, IsInHand, told_first, told_in, store_fault_as, AfterFinding}
 use Rattle.mm_session.proofs.Below.{AfterOffer, started, SendsReply, reply_text, snapshot_at, Place, Served, Serves, AfterResume}
-use Rattle.mm_session.proofs.Below.{BeginsWith, Sessions, StopsAtOnce, IsWaiting, Saw, one_waiting, saw_two, AreAmong}
-use Rattle.mm_session.proofs.Below.{requests_with, lines_served}
+use Rattle.mm_session.proofs.Below.{BeginsWith, Sessions, StopsAtOnce, IsWaiting, Saw, one_waiting, saw_two, AreAmong, requests_with}
+use Rattle.mm_session.proofs.Below.{lines_served, Answer}
 use Rattle.mm_host.specs.declared.fault.HostFault.TheVariants as host
 use Rattle.mm_session.specs.Sessions.{ServesLines}
-use Rattle.mm_session.proofs.Lines.{answered_call, asks, by_end, by_told, fails, IsRead, line_tries, lines_in, never_refused}
+use Rattle.mm_session.proofs.Lines.{answered_call, asks, by_end, by_told, IsRead, line_tries, lines_in, never_refused, TellsCall}
 use Rattle.mm_session.proofs.Lines.{tried_answer, next_line, read_of, tells_call, Tries}
 
 -- Calls that were answered, one after another, each with the snapshot of the answer before.
@@ -34,13 +34,15 @@ pub record Chain (variant : Variant) (meaning : Meaning) (offer : List ℕ) (bef
   pub calls : CallsInTurn variant meaning offer before told at
   pub ends : Ends variant meaning at final (offered_after offer told) hand result
 
--- What a start came to: nothing waits, and it begins with the first slot, unless memory was wanting or the store failed; or what waits
--- is tried.
-abbrev Begun : Variant → Meaning → Standing → Standing → Slots → Option Pending → Result Resumed HostFault → Type 0
-Begun variant meaning before after slots None came =
-    (after ≡ before) × ((came ≡ Ok (Start (slot_read slots 0))) ⊎ ((why : StoreFault) × (came ≡ Err (store_fault_as why))))
-Begun variant meaning before after slots (Some p) came =
-    Tries variant meaning before after (slot_read slots (offer_slot p)) p.request came
+-- What a start came to: nothing was asked, as memory was wanting or the store failed; nothing waits, and it begins with the first slot;
+-- or a call was made for what waits.
+data Begun (variant : Variant) (meaning : Meaning) (before after : Standing) (slots : Slots) (waiting : Option Pending)
+    (came : Result Resumed HostFault) : Type 0 where
+  failed : after ≡ before → (why : StoreFault) → came ≡ Err (store_fault_as why) → Begun variant meaning before after slots waiting came
+  starts : after ≡ before → waiting ≡ None → came ≡ Ok (Start (slot_read slots 0)) → Begun variant meaning before after slots waiting came
+  repeats : (p : Pending) → waiting ≡ Some p → (call : Result Answer Refusal)
+      → IsCall variant meaning before after (slot_read slots (offer_slot p)) p.request call → TellsCall call came
+      → Begun variant meaning before after slots waiting came
 
 module _ (variant : Variant) (meaning : Meaning) where
   pub served_calls : (from to : Place) (calls : List Served) → Serves variant meaning from calls to
@@ -70,7 +72,7 @@ module _ (variant : Variant) (meaning : Meaning) where
 -- the lines that were served, and how they end
 module _ {variant : Variant} {meaning : Meaning} {from : Place} {after : Standing} {new : StoreStanding} {left : Option (List ℕ)}
     {taken sent : List ℕ} {result : Result Unit SessionFault}
-    (l : ServesLines variant meaning from after new left taken sent result) where
+    (l : ServesLines variant meaning 1 from after new left taken sent result) where
   abbrev pub InHand : List ℕ → Type 0
   InHand request = (held : List ℕ) × BeginsWith l.more request held
 
@@ -86,27 +88,22 @@ module _ {variant : Variant} {meaning : Meaning} {from : Place} {after : Standin
 
 module _ (variant : Variant) (meaning : Meaning) (before after : Standing) (slots : Slots) where
   -- how a start came to it
-  begun_fails : (waiting : Option Pending) (came : Result Resumed HostFault) → after ≡ before → (why : StoreFault)
-      → came ≡ Err (store_fault_as why) → Begun variant meaning before after slots waiting came
-  begun_fails None came same why e = (same, inr (why, e))
-  begun_fails (Some p) came same why e = fails same why e
-
   begun_start : (zero : Result (List ℕ) StoreFault) (came : Result Resumed HostFault) (old new : StoreStanding) → after ≡ before
       → old.slots ≡ Some slots → ReadsSlot 0 old new zero → came ≡ started zero → Begun variant meaning before after slots None came
-  begun_start (Ok bytes) came old new same told r e = (same, inl (e ∙ ap (λ (b : List ℕ). Ok (Start b)) (r.gives slots told)))
-  begun_start (Err why) came old new same told r e = (same, inr (why, e))
+  begun_start (Ok bytes) came old new same told r e = starts same refl (e ∙ ap (λ (b : List ℕ). Ok (Start b)) (r.gives slots told))
+  begun_start (Err why) came old new same told r e = failed same why e
 
   begun_repeat : (offer : Result (List ℕ) StoreFault) (came : Result Resumed HostFault) (old middle new : StoreStanding) (p : Pending)
       → old.slots ≡ Some slots → ReadsSlot (offer_slot p) old middle offer
       → AfterOffer variant meaning before after offer middle new p came → Begun variant meaning before after slots (Some p) came
-  begun_repeat (Err why) came old middle new p told r g = fails g.0 why g.2
+  begun_repeat (Err why) came old middle new p told r g = failed g.0 why g.2
   begun_repeat (Ok bytes) came old middle new p told r g =
-      rw (r.gives slots told) at (asks g.asked g.asks (tells_call g.asked middle new came g.goes))
+      repeats p refl g.asked (rw (r.gives slots told) at g.asks) (tells_call g.asked middle new came g.goes)
 
   begun_found : (found : Result (Option Pending) StoreFault) (came : Result Resumed HostFault) (waiting : Option Pending)
       (first middle new : StoreStanding) → IsWaiting (slot_read slots 2) (slot_read slots 3) waiting → Saw slots first middle found
       → AfterFinding variant meaning before after found middle new came → Begun variant meaning before after slots waiting came
-  begun_found (Err why) came waiting first middle new w s g = begun_fails waiting came g.0 why g.2
+  begun_found (Err why) came waiting first middle new w s g = failed g.0 why g.2
   begun_found (Ok found) came waiting first middle new w s g =
       rw (one_waiting (slot_read slots 2) (slot_read slots 3) waiting found w (s.waiting found refl)) (by_found found g)
     where
@@ -126,31 +123,28 @@ module _ (variant : Variant) (meaning : Meaning) (before after : Standing) (slot
 
   first_calls : (waiting : Option Pending) (first : Resumed) → Begun variant meaning before after slots waiting (Ok first)
       → FirstCalls waiting first
-  first_calls None first b = elim b.1 [
-    | inl e ↦ let same : first ≡ Start (slot_read slots 0) = cc in record {
-      calls = λ lines at h. rw b.0 at (rw same at h);
-      offers = λ lines. ap (λ (x : Resumed). offered_after (snapshot_at x) lines) (sym same);
-      told = λ lines rest. refl;
-    }
-    | inr e ↦ let clash : Ok first ≡ Err (store_fault_as e.0) = e.1 in absurd (cc)
-  ]
-  first_calls (Some p) (Start bytes) t = let clash = (tried_answer (Start bytes) t).1 in absurd (cc)
-  first_calls (Some p) (Answered answer) t =
-      record { calls = λ lines at h. (after, answered_call answer t, h); offers = λ lines. refl; told = λ lines rest. refl }
+  first_calls waiting first (failed same why e) = let clash : Ok first ≡ Err (store_fault_as why) = e in absurd (cc)
+  first_calls waiting first (starts same none e) =
+      let is : first ≡ Start (slot_read slots 0) = cc in
+      rw (none, is) (record { calls = λ lines at h. rw same at h; offers = λ lines. refl; told = λ lines rest. refl })
+  first_calls waiting first (repeats p some call c t) =
+      let a = tried_answer first (asks call c t) in
+      rw (some, a.1) (record { calls = λ lines at h. (after, a.2, h); offers = λ lines. refl; told = λ lines rest. refl })
 
   -- it stops at once
   at_once : (waiting : Option Pending) (begun : Result Resumed HostFault) (taken sent : List ℕ) (result : Result Unit SessionFault)
       → StopsAtOnce begun taken sent result → Begun variant meaning before after slots waiting begun
       → Ends variant meaning before after (first_offer slots waiting)
       (λ (request : List ℕ). (p : Pending) × (waiting ≡ Some p) × (p.request ≡ request)) result
-  at_once None begun taken sent result s b =
-      rests b.0 (λ (refusal : Refusal) (r : result ≡ Err (Host (host.Refused refusal))). elim b.1 [
-        | inl e ↦ by_told (λ (f : SessionFault). ⊥) begun sent s.fault s.says (λ (why : HostFault) (w : begun ≡ Err why). cc)
-            (λ n. n (ap reply_text e))
-        | inr e ↦ let is : Err s.fault ≡ Err (Host (host.Refused refusal)) = sym s.stops ∙ r in
-            never_refused e.0 begun sent s.fault refusal e.1 s.says (cc)
-      ])
-  at_once (Some p) begun taken sent result s t = stops p.request (p, refl, refl) begun t sent s.fault s.says s.stops
+  at_once waiting begun taken sent result s (failed same why e) =
+      rests same (λ (refusal : Refusal) (r : result ≡ Err (Host (host.Refused refusal))).
+      let is : Err s.fault ≡ Err (Host (host.Refused refusal)) = sym s.stops ∙ r in
+      never_refused why begun sent s.fault refusal e s.says (cc))
+  at_once waiting begun taken sent result s (starts same none e) =
+      rests same (λ refusal r. by_told (λ (f : SessionFault). ⊥) begun sent s.fault s.says (λ (why : HostFault) (w : begun ≡ Err why). cc)
+      (λ n. n (ap reply_text e)))
+  at_once waiting begun taken sent result s (repeats p some call c t) =
+      stops p.request (p, some, refl) begun (rw some (asks call c t)) sent s.fault s.says s.stops
 
 -- a session over a store that tells its slots
 module _ {variant : Variant} {meaning : Meaning} {before after : Standing} {old new : StoreStanding}

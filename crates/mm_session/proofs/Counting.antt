@@ -1,11 +1,11 @@
 -- What a session counts, by the steps: whose fault it is that it ends, and how often it is to write the cell.
-use Rattle.mm_session.proofs.Below.{ℕ, ◌≡◌, ◌≢◌, ◌+◌, ◌≤◌, List, [], ◌∷◌, length, Option, None, Some, Result, Ok, Err, refl, ap, ◌∙◌}
-use Rattle.mm_session.proofs.Below.{subst, inl, inr, arith, is_some, length-append, lines_of, lines_of-joined, lines_of-line}
-use Rattle.mm_session.proofs.Below.{Variant, Basic, Opt, Standing, StepFault, Meaning, Refusal, Blames, fault_of, StoreStanding, HostFault}
-use Rattle.mm_session.proofs.Below.{SessionFault, Host, Resumed, Start, Answered, MayBeUntold, SendsReply, told_cause}
-use Rattle.mm_session.proofs.Below.{refusal_text, reply_text, Place, Served, Serves, lines_served, AfterResume, BeginsWith, Sessions}
-use Rattle.mm_session.proofs.Below.{Told, next_told, resumes_told, AnsweredWrites, CameWrites, answered_writes, both_writes, next_came}
-use Rattle.mm_session.proofs.Below.{new_most, resumes_came, counted_most, joined, leads_rest, rests}
+use Rattle.mm_session.proofs.Below.{ℕ, ◌≡◌, ◌≢◌, ◌+◌, ◌≤◌, List, [], ◌∷◌, length, Option, None, Some, Result, Ok, Err, refl, ap, ◌∙◌, subst}
+use Rattle.mm_session.proofs.Below.{inl, inr, arith, is_some, length-append, lines_of, lines_of-joined, lines_of-line, Variant, Basic, Opt}
+use Rattle.mm_session.proofs.Below.{Standing, StepFault, Meaning, Refusal, Blames, fault_of, StoreStanding, HostFault, SessionFault, Host}
+use Rattle.mm_session.proofs.Below.{Resumed, Start, Answered, MayBeUntold, SendsReply, told_cause, refusal_text, reply_text, Place, Served}
+use Rattle.mm_session.proofs.Below.{Serves, lines_served, AfterResume, BeginsWith, Sessions, Told, next_told, resumes_told, AnsweredWrites}
+use Rattle.mm_session.proofs.Below.{CameWrites, answered_writes, both_writes, next_came, new_most, resumes_came, counted_most, joined}
+use Rattle.mm_session.proofs.Below.{leads_rest, rests}
 use Rattle.std.specs.Prelude.{IsSome}
 use Rattle.mm_model.specs.declared.refusal.Refusal.TheVariants.{Device}
 use Rattle.mm_play.specs.Plays.{IsBlamed}
@@ -60,10 +60,8 @@ pub record Counted (variant : Variant) (told most : ℕ) (result : Result Unit S
   pub in_hand : ℕ
   pub says : Says in_hand before after old new result
   pub one : in_hand ≤ 1
-  pub total : ℕ
-  pub sum : total ≡ told + in_hand
-  pub few : total ≤ most
-  pub writes : WritesFor variant total before after
+  pub few : told + in_hand ≤ most
+  pub writes : WritesFor variant (told + in_hand) before after
 
 -- the fault that came
 blames_by : (broken : Option StepFault) (before now : ℕ) → Blames broken before now → IsBlamed (is_some broken) before now
@@ -111,7 +109,8 @@ counted_of : (variant : Variant) (requests most : ℕ) (result : Result Unit Ses
     → Says requests before after old new result → requests ≤ 1 → requests ≤ most → WritesFor variant requests before after
     → Counted variant 0 most result before after old new
 counted_of variant requests most result before after old new s one few writes =
-    record { in_hand = requests; says = s; one = one; total = requests; sum = omega arith; few = few; writes = writes }
+    let none : 0 + requests ≡ requests = omega arith in
+    record { in_hand = requests; says = s; one = one; few = omega (arith, few); writes = rw none writes }
 
 said_counted : (variant : Variant) (came : Result Resumed HostFault) (sent : List ℕ) (fault : SessionFault) (most : ℕ)
     (before after : Standing) (old new : StoreStanding) → SendsReply came sent (Err fault) → Told came before after old new
@@ -150,7 +149,7 @@ rest_says result before after old new by q = record {
 
 -- the end of the lines
 module _ (variant : Variant) (meaning : Meaning) (from : Place) (after : Standing) (new : StoreStanding) (left : Option (List ℕ))
-    (taken sent : List ℕ) (result : Result Unit SessionFault) (l : ServesLines variant meaning from after new left taken sent result) where
+    (taken sent : List ℕ) (result : Result Unit SessionFault) (l : ServesLines variant meaning 1 from after new left taken sent result) where
   has_line : (line held : List ℕ) → BeginsWith l.more line held → 1 ≤ length (lines_of l.more)
   has_line line held b =
       let counted : length (lines_of l.more) ≡ length (line ∷ lines_of held) =
@@ -206,9 +205,9 @@ module _ {variant : Variant} {meaning : Meaning} {before after : Standing} {old 
       let first = answered_writes variant g.first before s.platform (rw g.begins at
       (resumes_came variant meaning before s.platform old s.store s.begun s.resumes)) in
       let c = served_counts variant meaning from l.at l.calls l.serves in
-      let both = both_writes variant (new_first g.first) (new_lines l.calls) before s.platform l.at.platform first c.wrote in
+      let told_writes = both_writes variant (new_first g.first) (new_lines l.calls) before s.platform l.at.platform first c.wrote in
       let e = ends_counted variant meaning from after new left' s.taken g.replies result l in
-      let lines = taken_lines variant meaning from after new left' s.taken g.replies result l in
+      let none : 0 + e.in_hand ≡ e.in_hand = omega arith in
       record {
         in_hand = e.in_hand;
         says = record {
@@ -218,10 +217,15 @@ module _ {variant : Variant} {meaning : Meaning} {before after : Standing} {old 
           untold = e.says.untold;
         };
         one = e.one;
-        total = new_first g.first + new_lines l.calls + e.total;
-        sum = omega (arith, e.sum);
-        few = omega (arith, first_most g.first, lines_most l.calls, e.few, lines);
-        writes = joined variant (new_first g.first + new_lines l.calls) e.total before l.at.platform after both.leads both.writes e.writes;
+        few = omega (
+          arith,
+          first_most g.first,
+          lines_most l.calls,
+          e.few,
+          taken_lines variant meaning from after new left' s.taken g.replies result l,
+        );
+        writes = joined variant (new_first g.first + new_lines l.calls) e.in_hand before l.at.platform after told_writes.leads
+            told_writes.writes (rw none at e.writes);
       }
 
   pub session_counted : Counted variant (new_told s.goes) (1 + length (lines_of s.taken)) result before after old new
@@ -230,11 +234,11 @@ module _ {variant : Variant} {meaning : Meaning} {before after : Standing} {old 
   pub session_writes : SessionWrites variant meaning before after old new left left' received received' result
   session_writes =
       let c = session_counted in
-      let most = for_most variant c.total before after c.writes in record {
+      let most = for_most variant (new_told s.goes + c.in_hand) before after c.writes in record {
         ran = s;
         in_hand = c.in_hand;
         one = c.one;
         untold = c.says.untold;
-        writes = rw c.sum at c.writes;
+        writes = c.writes;
         by_lines = omega (arith, most, c.few);
       }

@@ -1,18 +1,17 @@
 -- Calls one after another by lists, whatever is offered first that names a position where it is right.
-use Rattle.mm_session.proofs.Below.{◌≡◌, ◌≢◌, ◌∙◌, ◌+◌, ℕ, Bool, true, false, List, [], ◌∷◌, ◌++◌, Some, Result, Ok, refl, sym, ap}
-use Rattle.mm_session.proofs.Below.{inl, inr, arith, ◌⊎◌, if◌then◌else◌, nat_eq, nat_tests, Variant, Basic, Opt}
-use Rattle.mm_session.proofs.Below.{Standing, Batch, One, Content, offered_of, sealed_of, tag_of, parts_of, sealed_parts, Instance, History}
-use Rattle.mm_session.proofs.Below.{Commit, moved, requests_of, total_of, LostLife, life_of, StandsFor, IsGenuine, IsRight}
-use Rattle.mm_session.proofs.Below.{issued_bytes, Answer, BatchAnswer, Refusal, answer_on, IsWithin, right_content, whole, whole_in, IsIdle}
-use Rattle.mm_session.proofs.Below.{right_is, one_content, StepsOn, Pending, AreAskedInTurn, answered_to, offered_after, says_last, IsCall}
-use Rattle.mm_session.proofs.Below.{RunsOver, answer_reply, Holds, Served, lines_served, one_more, IsGrownBy, IsSame, Met}
-use Rattle.mm_session.proofs.Below.{holds_issued, SessionFault, CallsOn}
+use Rattle.mm_session.proofs.Below.{◌≡◌, ◌≢◌, ◌∙◌, ◌+◌, ℕ, Bool, true, false, List, [], ◌∷◌, ◌++◌, Some, Result, Ok, refl, sym, ap, inl}
+use Rattle.mm_session.proofs.Below.{inr, arith, ◌⊎◌, if◌then◌else◌, nat_eq, nat_tests, Variant, Basic, Opt, Standing, Batch, One, Content}
+use Rattle.mm_session.proofs.Below.{offered_of, sealed_of, tag_of, parts_of, sealed_parts, Instance, History, Commit, moved, requests_of}
+use Rattle.mm_session.proofs.Below.{total_of, LostLife, life_of, StandsFor, IsGenuine, IsRight, issued_bytes, Answer, BatchAnswer, Refusal}
+use Rattle.mm_session.proofs.Below.{answer_on, IsWithin, right_content, whole, whole_in, IsIdle, right_is, one_content, StepsOn, Pending}
+use Rattle.mm_session.proofs.Below.{AreAskedInTurn, answered_to, offered_after, says_last, IsCall, RunsOver, answer_reply, Holds, Served}
+use Rattle.mm_session.proofs.Below.{lines_served, one_more, IsGrownBy, IsSame, Met, holds_issued, SessionFault, CallsOn}
 use Rattle.std.proofs.lemmas.Slice.Eq.{bytes_eq-Decides}
 use Rattle.mm_model.specs.Fit.{IsFit}
 use Rattle.mm_call.specs.Coming.{Comes, kept, grown}
 use Rattle.mm_session.proofs.CallsMade.{CallsInTurn, Chain, Ends, rests, stops}
-use Rattle.mm_session.proofs.Leading.{grown_more, Laws, Makes, push_batches, reach_same, reach_then, Reaches, Shows, steps_again}
-use Rattle.mm_session.proofs.Leading.{steps_fresh}
+use Rattle.mm_session.proofs.Leading.{grown_more, Laws, Makes, met_end, met_on, push_batches, reach_same, reach_then, Reaches, Shows}
+use Rattle.mm_session.proofs.Leading.{steps_again, steps_fresh}
 use Rattle.mm_session.proofs.Lines.{asks, fails}
 
 -- what a right offer says
@@ -34,8 +33,10 @@ same_then Opt x y z a b = a ∙ b
 -- no call is made, or one that minds no register
 abbrev pub MindsNothing : Instance → History → List ℕ → List (List ℕ) → Type 0
 MindsNothing i y offer [] = Unit {0}
-MindsNothing i y offer (request ∷ []) = IsIdle i y offer (One request)
-MindsNothing i y offer (request ∷ next ∷ requests) = ⊥
+MindsNothing i y offer (request ∷ requests) = IsIdle i y offer (One request) × (requests ≡ [])
+
+none_left : (i : Instance) (y : History) (offer : List ℕ) (requests : List (List ℕ)) → requests ≡ [] → MindsNothing i y offer requests
+none_left i y offer requests none = rw none tt
 
 -- Where a session stands: for a history, which is the same as this one but for others' values; and what it offers next, where
 -- that is right, names a position of it.
@@ -115,11 +116,11 @@ module _ {all others : List (List ℕ)} {asked : List Batch} {i : Instance} {fin
   May y standing offer requests = Shows i.variant all others i y standing final ⊎ MindsNothing i y offer requests
 
   -- a call for the next request
-  module _ (y z : History) (old middle : Standing) (offer line : List ℕ) (s : StandsIn all others asked i y z old offer) where
-    makes : (rest : List (List ℕ)) (gives : Result BatchAnswer Refusal) → AreAskedInTurn all asked i z offer (line ∷ rest)
-        → CallsOn i.variant i.meaning old middle offer (One line) gives
+  module _ (y z : History) (old middle : Standing) (offer line : List ℕ) (rest : List (List ℕ)) (s : StandsIn all others asked i y z old offer)
+      (f : AreAskedInTurn all asked i z offer (line ∷ rest)) (may : May y old offer (line ∷ rest)) where
+    makes : (gives : Result BatchAnswer Refusal) → CallsOn i.variant i.meaning old middle offer (One line) gives
         → Makes all others asked i y old middle offer (pending_for line) gives
-    makes rest gives f c = record {
+    makes gives c = record {
       goes = c;
       stands = s.stands;
       asks = record {
@@ -133,26 +134,18 @@ module _ {all others : List (List ℕ)} {asked : List Batch} {i : Instance} {fin
     }
 
     -- one that was answered
-    met_between : (answer : Answer) (rest : List (List ℕ)) → AreAskedInTurn all asked i z offer (line ∷ rest)
-        → May y old offer (line ∷ rest)
-        → Reaches i.variant i middle final → IsCall i.variant i.meaning old middle offer line (Ok answer)
+    met_between : (answer : Answer) → Reaches i.variant i middle final → IsCall i.variant i.meaning old middle offer line (Ok answer)
         → (m : Met all others asked i y middle offer (pending_for line) (Ok (whole answer))) × May m.after middle answer.snapshot rest
-    met_between answer rest f (inl shows) reaches c =
-        let m = laws.met y old middle offer (pending_for line) (whole answer) (makes rest (Ok (whole answer)) f c.goes) shows reaches in
-        (m.0, inl m.1)
-    met_between answer [] f (inr idle) reaches c =
-        (laws.idle y old middle offer (pending_for line) (Ok (whole answer)) (makes [] (Ok (whole answer)) f c.goes) idle, inr tt)
-    met_between answer (next ∷ rest) f (inr idle) reaches c = absurd idle
+    met_between answer reaches c =
+        let o = met_on laws y old offer (pending_for line) may middle (whole answer) (makes (Ok (whole answer)) c.goes) reaches in
+        (o.0, elim o.1 [ inl shows ↦ inl shows | inr none ↦ inr (none_left i _ _ rest none) ])
 
   -- the last one
   pub met_last : (y z : History) (old : Standing) (offer line : List ℕ) (rest : List (List ℕ)) (call : Result Answer Refusal)
       → StandsIn all others asked i y z old offer → AreAskedInTurn all asked i z offer (line ∷ rest) → May y old offer (line ∷ rest)
       → IsCall i.variant i.meaning old final offer line call → Met all others asked i y final offer (pending_for line) (whole_in call)
-  met_last y z old offer line rest call s f (inl shows) c =
-      laws.met_last y old offer (pending_for line) (whole_in call) (makes y z old final offer line s rest (whole_in call) f c.goes) shows
-  met_last y z old offer line [] call s f (inr idle) c =
-      laws.idle y old final offer (pending_for line) (whole_in call) (makes y z old final offer line s [] (whole_in call) f c.goes) idle
-  met_last y z old offer line (next ∷ rest) call s f (inr idle) c = absurd idle
+  met_last y z old offer line rest call s f may c =
+      met_end laws y old offer (pending_for line) may (whole_in call) (makes y z old final offer line rest s f may (whole_in call) c.goes)
 
   -- what is shown goes on to the end
 
@@ -201,7 +194,7 @@ module _ {all others : List (List ℕ)} {asked : List Batch} {i : Instance} {fin
   turns y z old at offer (c ∷ calls) rest s may f h reaches =
       let then_is : History = answered_to i z offer c.line in
       let lines : List (List ℕ) = lines_served calls ++ rest in
-      let m = met_between y z old h.0 offer c.line s c.answer lines f may (calls_reach c.answer.snapshot h.0 at calls h.2 reaches) h.1 in
+      let m = met_between y z old h.0 offer c.line lines s f may c.answer (calls_reach c.answer.snapshot h.0 at calls h.2 reaches) h.1 in
       let t = stepped_by y z old h.0 offer c.line c.answer s h.1.fits m.0 m.0.comes in
       let r = turns m.0.after then_is h.0 at c.answer.snapshot calls rest t.here m.1
       (rw t.next f.2) h.2 reaches in

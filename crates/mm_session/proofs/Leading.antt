@@ -1,15 +1,14 @@
 -- What the calls of a session lead to, in one form for both variants; how a history grows by a request; and the laws in Basic.
-use Rattle.mm_session.proofs.Below.{◌≡◌, ℕ, ◌≤◌, true, false, List, [], ◌++◌, Option, Some, Result, Ok, sym, ap, ◌∙◌, append_assoc}
-use Rattle.mm_session.proofs.Below.{append-nil, last_position, Variant, Basic, Opt, Item, Standing, IsLawful, Batch, One, Content, IsClear}
-use Rattle.mm_session.proofs.Below.{IsContent, Instance, History, Commit, first_history, moved, total_of, has_value, Digests, Names, issued}
-use Rattle.mm_session.proofs.Below.{StandsFor, BatchAnswer, Refusal, IsLedTo, CallsOn, AreAsked, AreShown, IsIdle, StandsAt, standing_items}
-use Rattle.mm_session.proofs.Below.{bare, Pending, Called, Met, IsGrownBy, IsSame, IsOffered, AreNoGuards, ◌+◌, ◌-◌, Bool, ◌∷◌, arith}
-use Rattle.mm_session.proofs.Below.{Meaning, requests_of, total-push, Answer, answer_on, whole, requests-push, said_last}
-use Rattle.mm_session.proofs.Below.{StepsOn, RunsOver, answer_reply, Served, refl, inl, inr, ◌⊎◌, if◌then◌else◌, nat_eq, nat_tests}
-use Rattle.mm_session.proofs.Below.{committed, Answered, history_then, told_first, IsAwaited, one_more, ◌≢◌, ◌||◌, AllByRecursion, Contains}
-use Rattle.mm_session.proofs.Below.{Entry, Own, Value, Spoiled, is_empty, are_own, life_by, life_of, counting, values_in, IsOutside}
-use Rattle.mm_session.proofs.Below.{AreItems, has_value-append, InBasic, InOpt, summary_of, basic, IsPlaceOf, digest_of, total-nil}
-use Rattle.mm_session.proofs.Below.{basic_called, basic_met, basic_content}
+use Rattle.mm_session.proofs.Below.{◌≡◌, ℕ, ◌≤◌, true, false, List, [], ◌++◌, Some, Result, Ok, sym, ap, ◌∙◌, append_assoc, append-nil}
+use Rattle.mm_session.proofs.Below.{last_position, Variant, Basic, Opt, Item, Standing, IsLawful, Batch, One, Content, IsClear, IsContent}
+use Rattle.mm_session.proofs.Below.{Instance, History, Commit, first_history, moved, total_of, has_value, Digests, Names, issued, StandsFor}
+use Rattle.mm_session.proofs.Below.{BatchAnswer, Refusal, IsLedTo, CallsOn, AreAsked, AreShown, IsIdle, StandsAt, standing_items, bare}
+use Rattle.mm_session.proofs.Below.{Pending, Met, IsGrownBy, IsSame, AreNoGuards, ◌+◌, ◌-◌, Bool, ◌∷◌, arith, Meaning, requests_of, Answer}
+use Rattle.mm_session.proofs.Below.{answer_on, whole, requests-push, said_last, StepsOn, RunsOver, answer_reply, Served, refl, inl, inr}
+use Rattle.mm_session.proofs.Below.{◌⊎◌, if◌then◌else◌, nat_eq, nat_tests, committed, Answered, history_then, told_first, IsAwaited}
+use Rattle.mm_session.proofs.Below.{one_more, ◌≢◌, ◌||◌, AllByRecursion, Contains, Entry, Own, Value, Spoiled, is_empty, are_own, life_by}
+use Rattle.mm_session.proofs.Below.{life_of, counting, values_in, IsOutside, AreItems, has_value-append, InBasic, InOpt, summary_of, basic}
+use Rattle.mm_session.proofs.Below.{IsPlaceOf, digest_of, total-nil, basic_met, basic_content}
 use Rattle.mm_model.specs.History.{joined}
 use Rattle.mm_schedule.specs.Machine.{IsTold}
 use Rattle.mm_seal.specs.declared.snapshot.Place.{Place}
@@ -67,11 +66,6 @@ abbrev pub IsLike : Variant → History → History → Type 0
 IsLike Basic y z = y.batches ≡ z.batches
 IsLike Opt y z = has_value (joined y.closed) ≡ false → bare y ≡ bare z
 
--- What is known of the history after a call between others.
-abbrev pub IsBetween : List (List ℕ) → List (List ℕ) → Instance → History → Option Pending → Standing → Standing → History → Type 0
-IsBetween all others i y waiting standing final after =
-    Shows i.variant all others i after standing final × IsGrownBy i y waiting after
-
 -- A call for a request, from a history that the platform stands for and that holds what is asked.
 pub record Makes (all others : List (List ℕ)) (asked : List Batch) (i : Instance) (y : History) (old new : Standing) (offer : List ℕ)
     (p : Pending) (gives : Result BatchAnswer Refusal) : Type 0 where
@@ -96,10 +90,6 @@ pub record Laws (all others : List (List ℕ)) (asked : List Batch) (i : Instanc
   pub idle : (y : History) (old middle : Standing) (offer : List ℕ) (p : Pending) (gives : Result BatchAnswer Refusal)
       → Makes all others asked i y old middle offer p gives → IsIdle i y offer (One p.request)
       → Met all others asked i y middle offer p gives
-  -- the last one for what is awaited
-  pub last : (y : History) (old : Standing) (offer : List ℕ) (p : Pending) (gives : Result BatchAnswer Refusal)
-      → Makes all others asked i y old final offer p gives → IsOffered i y p offer → Shows i.variant all others i y old final
-      → Called all others asked i y final offer p gives
   pub reach : (old new : Standing) (offer request : List ℕ) (gives : Result BatchAnswer Refusal)
       → CallsOn i.variant i.meaning old new offer (One request) gives → Reaches i.variant i old new
   -- what histories issue that are the same, and how they grow
@@ -113,6 +103,25 @@ pub record Laws (all others : List (List ℕ)) (asked : List Batch) (i : Instanc
   pub begins : (y : History) → IsLedTo i.variant y → y.batches ≡ [] → IsLike i.variant y first_history
   pub placed : (y : History) (content : Content) → IsLedTo i.variant y → Names i y content → content.position ≡ 0
       → content.place ≡ (issued i first_history).place
+
+-- A call for a request, where what others do is known to the very end, or the call minds no register and only this is asked behind it.
+module _ {all others : List (List ℕ)} {asked : List Batch} {i : Instance} {final : Standing} (laws : Laws all others asked i final)
+    {Rest : Type 0} (y : History) (old : Standing) (offer : List ℕ) (p : Pending)
+    (may : Shows i.variant all others i y old final ⊎ (IsIdle i y offer (One p.request) × Rest)) where
+  pub met_on : (middle : Standing) (answer : BatchAnswer) → Makes all others asked i y old middle offer p (Ok answer)
+      → Reaches i.variant i middle final
+      → (m : Met all others asked i y middle offer p (Ok answer)) × (Shows i.variant all others i m.after middle final ⊎ Rest)
+  met_on middle answer m reaches = elim may [
+    | inl shows ↦ let o = laws.met y old middle offer p answer m shows reaches in (o.0, inl o.1)
+    | inr idle ↦ (laws.idle y old middle offer p (Ok answer) m idle.0, inr idle.1)
+  ]
+
+  pub met_end : (gives : Result BatchAnswer Refusal) → Makes all others asked i y old final offer p gives
+      → Met all others asked i y final offer p gives
+  met_end gives m = elim may [
+    | inl shows ↦ laws.met_last y old offer p gives m shows
+    | inr idle ↦ laws.idle y old final offer p gives m idle.0
+  ]
 
 -- An answer by lists is a step of the machine.
 
@@ -218,8 +227,7 @@ no_values (Own b ∷ entries) e = no_values entries e
 no_values (Value v ∷ entries) e = absurd (cc)
 
 neither : (a b : Bool) → (a || b) ≡ false → (a ≡ false) × (b ≡ false)
-neither true b e = absurd (cc)
-neither false b e = (refl, e)
+neither a b e = (grind (arith, e), grind (arith, e))
 
 not_spoiled : (flag bare own marred : Bool) → marred ≡ false → (flag ≡ true → (own ≡ true) ⊎ (bare ≡ true))
     → life_by flag bare own marred ≢ Spoiled
@@ -269,8 +277,6 @@ basic_laws meaning lawful key all others asked final clear apart =
       met = λ y old middle offer p answer m shows reaches. (made y old middle offer p (Ok answer) m, tt);
       met_last = λ y old offer p gives m shows. made y old final offer p gives m;
       idle = λ y old middle offer p gives m idle. made y old middle offer p gives m;
-      last = λ y old offer p gives m f shows.
-          basic_called meaning lawful key all others asked y old final offer p gives m.goes m.stands m.asks f;
       reach = λ old new offer request gives c. tt;
       formed = λ y most. basic_content meaning lawful key y most;
       issue = λ y z e. ap (λ (bs : List Batch). issued (basic meaning key) (record first_history { batches = bs })) e;

@@ -1,13 +1,13 @@
 -- What a session reads, asks and tells, line by line, and how it ends; and it doesn't blame lines that are within the limits.
 use Rattle.mm_session.proofs.Below.{◌≡◌, ◌≢◌, ◌+◌, ℕ, List, [], length, Option, Result, Ok, Err, refl, subst, inl, inr, Variant, Standing}
 use Rattle.mm_session.proofs.Below.{Meaning, StoreStanding, HostFault, SessionFault, Host, Lines, Memory, WriteFault, Resumed, SendsReply}
-use Rattle.mm_session.proofs.Below.{comes_as, reply_text, Place, IsAtRest, StopsInLine, ◌∙◌, ap, ◌⊎◌, Answer, Refusal, StoreFault}
-use Rattle.mm_session.proofs.Below.{Answered, IsCall, store_fault_as, refusal_fault, AfterAsk, kept_as, snapshot_at, AfterRecord, AsksNext}
-use Rattle.mm_session.proofs.Below.{◌∷◌, ◌++◌, None, Some, sym, append_assoc, suc, Consumes, IsAtEnd, AllByRecursion, IsUnbroken}
-use Rattle.mm_session.proofs.Below.{lines_joined, lines_of, lines_of-joined, lines_of-line, Served, Serves, lines_served, BeginsWith, ◌<◌}
-use Rattle.mm_session.proofs.Below.{◌≤◌, take, drop, arith, length-append, length-take, take-append-drop, tail_of, onto_first, onto_tail}
-use Rattle.mm_session.proofs.Below.{IsLong, MayGrow, lines_of-append, tail_of-append, tail_of-joined, tail_of-unbroken, longest_request}
-use Rattle.mm_session.proofs.Below.{LineLong, BadLine, TooMuch, AfterResume, Sessions, most_lines}
+use Rattle.mm_session.proofs.Below.{comes_as, reply_text, Place, IsAtRest, StopsInLine, ◌∙◌, ap, ◌⊎◌, Answer, Refusal, StoreFault, Answered}
+use Rattle.mm_session.proofs.Below.{IsCall, store_fault_as, refusal_fault, AfterAsk, kept_as, snapshot_at, AfterRecord, AsksNext, ◌∷◌, ◌++◌}
+use Rattle.mm_session.proofs.Below.{None, Some, sym, append_assoc, suc, Consumes, IsAtEnd, AllByRecursion, IsUnbroken, lines_joined}
+use Rattle.mm_session.proofs.Below.{lines_of, lines_of-joined, lines_of-line, Served, Serves, lines_served, BeginsWith, ◌<◌, ◌≤◌, take}
+use Rattle.mm_session.proofs.Below.{drop, arith, length-append, length-take, take-append-drop, tail_of, onto_first, onto_tail, IsLong}
+use Rattle.mm_session.proofs.Below.{MayGrow, lines_of-append, tail_of-append, tail_of-joined, tail_of-unbroken, longest_request, LineLong}
+use Rattle.mm_session.proofs.Below.{BadLine, TooMuch, AfterResume, Sessions, most_lines}
 use Rattle.mm_session.specs.Sessions.{ServesLines}
 use Rattle.std.proofs.Common.{append-nil}
 use Rattle.mm_model.specs.ListLaws.{each_right}
@@ -25,7 +25,7 @@ IsByInput _ = Unit {0}
 -- It ends with a line in hand, or at rest.
 pub by_end : {variant : Variant} {meaning : Meaning} {from : Place} {after : Standing} {new : StoreStanding} {left : Option (List ℕ)}
     {taken sent : List ℕ} (P : Result Unit SessionFault → Type 0) (result : Result Unit SessionFault)
-    (l : ServesLines variant meaning from after new left taken sent result)
+    (l : ServesLines variant meaning 1 from after new left taken sent result)
     → ((fault : SessionFault) → StopsInLine variant meaning (length l.calls + 1) l.at after new l.more l.last fault → P (Err fault))
     → (IsByInput result → IsAtRest l.at after new l.last → P result) → P result
 by_end P (Err (Host fault)) l line rest = line (Host fault) l.ends
@@ -148,7 +148,7 @@ length-lines_served (c ∷ calls) = ap (λ (n : ℕ). suc n) (length-lines_serve
 -- the input behind the lines that were served
 module _ {variant : Variant} {meaning : Meaning} {from : Place} {after : Standing} {new : StoreStanding} {left : Option (List ℕ)}
     {taken sent input : List ℕ} {result : Result Unit SessionFault}
-    (l : ServesLines variant meaning from after new left taken sent result) (r : IsRead input taken left) where
+    (l : ServesLines variant meaning 1 from after new left taken sent result) (r : IsRead input taken left) where
   pub bytes_in : input ≡ lines_joined (lines_served l.calls) ++ (l.more ++ r.rest)
   bytes_in = r.is ∙ ap (λ (x : List ℕ). x ++ r.rest) l.took ∙ append_assoc (lines_joined (lines_served l.calls)) l.more r.rest
 
@@ -207,7 +207,7 @@ module _ (count : ℕ) (more rest : List ℕ) (r : IsRest count (more ++ rest)) 
       absurd (omega (arith, next, e, r.few))
 
 spares_end : {variant : Variant} {meaning : Meaning} {from : Place} {after : Standing} {new : StoreStanding} {left : Option (List ℕ)}
-    {taken sent : List ℕ} (result : Result Unit SessionFault) (l : ServesLines variant meaning from after new left taken sent result)
+    {taken sent : List ℕ} (result : Result Unit SessionFault) (l : ServesLines variant meaning 1 from after new left taken sent result)
     (rest : List ℕ) → IsRest (length l.calls) (l.more ++ rest) → (IsAtEnd left → rest ≡ []) → IsNoLines result
 spares_end (Err (Lines (LineLong line))) l rest r h = not_long (length l.calls) l.more rest r l.ends.2
 spares_end (Err (Lines (BadLine line))) l rest r h = not_cut (length l.calls) l.more rest r (h l.ends.4) l.ends.2 l.ends.3

@@ -1,15 +1,14 @@
 -- Where the cell is read before a session, what was asked of the standing then is asked of where the session starts.
-use Rattle.mm_session.proofs.Below.{◌≡◌, ◌≢◌, ◌∙◌, ℕ, Bool, true, false, List, [], ◌∷◌, ◌++◌, map, Option, Some, Result, refl, sym}
-use Rattle.mm_session.proofs.Below.{ap, subst, inl, inr, append_assoc, AllByRecursion, Contains, fold, append_cancel_left}
-use Rattle.mm_session.proofs.Below.{extended_message, Variant, Basic, Opt, StepFault, Item, Standing, foreign_item, Batch, Meaning}
-use Rattle.mm_session.proofs.Below.{IsLawful, after, trail, Instance, opt, Entry, Value, History, Foreign, moved, register_value_of}
-use Rattle.mm_session.proofs.Below.{LostLife, are_own, has_value, is_empty, life_of, Within, Digests, digests_of, StandsFor, opt_digests}
-use Rattle.mm_session.proofs.Below.{IsWithin, counted_part, moves_messages, all_made, by_digests, by_lists, AreShown, StandsAt}
-use Rattle.mm_session.proofs.Below.{foreign_items, standing_items, stands_at, stands_for, agrees_is, foreign_may, is_agrees}
-use Rattle.mm_session.proofs.Below.{counted_open, foreign_agrees, holds_open, within_items, within_of, foreign_all, holds_made}
-use Rattle.mm_session.proofs.Below.{foreign_messages, taking, taking_is, names_alike, shown_back, shown_front, shown_shut, StoreStanding}
-use Rattle.mm_session.proofs.Below.{Slots, SessionFault, AreAskedInTurn, AsksNothingNew, MayStart, RunsOnce, RunsOnceFrom, first_offer}
-use Rattle.mm_session.proofs.Below.{IsInHand, told_in, Sessions, not_lost, was_powered}
+use Rattle.mm_session.proofs.Below.{◌≡◌, ◌≢◌, ◌∙◌, ℕ, Bool, true, false, List, [], ◌∷◌, ◌++◌, map, Option, Some, Result, refl, sym, ap}
+use Rattle.mm_session.proofs.Below.{subst, inl, inr, append_assoc, AllByRecursion, Contains, fold, append_cancel_left, extended_message}
+use Rattle.mm_session.proofs.Below.{Variant, Basic, Opt, StepFault, Item, Standing, foreign_item, Batch, Meaning, IsLawful, after, trail}
+use Rattle.mm_session.proofs.Below.{Instance, opt, Entry, Value, History, Foreign, moved, register_value_of, LostLife, are_own, has_value}
+use Rattle.mm_session.proofs.Below.{is_empty, life_of, Within, Digests, digests_of, StandsFor, opt_digests, IsWithin, counted_part}
+use Rattle.mm_session.proofs.Below.{moves_messages, all_made, by_digests, by_lists, AreShown, StandsAt, foreign_items, standing_items}
+use Rattle.mm_session.proofs.Below.{stands_at, stands_for, agrees_is, foreign_may, is_agrees, counted_open, foreign_agrees, holds_open}
+use Rattle.mm_session.proofs.Below.{within_items, within_of, foreign_all, holds_made, foreign_messages, taking, taking_is, names_alike}
+use Rattle.mm_session.proofs.Below.{shown_back, shown_front, shown_shut, StoreStanding, Slots, SessionFault, AreAskedInTurn, AsksNothingNew}
+use Rattle.mm_session.proofs.Below.{MayStart, RunsOnce, RunsOnceFrom, first_offer, IsInHand, told_in, Sessions, not_lost, was_powered}
 use Rattle.mm_session.proofs.Below.{append-nil, None, SessionRunsOnce}
 use Rattle.mm_digest.specs.Messages.{extended_of}
 use Rattle.mm_platform.specs.Steps.{Goes, ReadCell, beside}
@@ -19,7 +18,7 @@ use Rattle.mm_call.specs.TrailLaws.{foreign_made, foreign_values, reads_beside, 
 use Rattle.mm_session.proofs.Leading.{basic_laws, Laws}
 use Rattle.mm_session.proofs.CallsMade.{chain_of}
 use Rattle.mm_session.proofs.InTurn.{May, chain_reaches}
-use Rattle.mm_session.proofs.OptLeading.{opt_laws, same_items}
+use Rattle.mm_session.proofs.OptLeading.{opt_laws}
 use Rattle.mm_session.proofs.RunningOnce.{minds_nothing, runs_once, unless_nothing}
 
 -- what others put into the register meanwhile
@@ -152,9 +151,10 @@ module _ (meaning : Meaning) (lawful : IsLawful meaning) (entry before after : S
   ran_open e shown_are =
       let reaches = chain_reaches laws (chain_of s slots may.waiting may.told may.is_waiting) in
       let stays = reaches (digests_of j z) (stands_at j before z stands) e (items ++ brought) there in
-      let same : items ++ more ≡ items ++ (brought ++ stays.more) =
-      same_items (ap (λ (flag : Bool). Some (standing_items flag items ++ more)) (sym e) ∙ sym ends ∙ stays.shows)
-      ∙ append_assoc items brought stays.more in
+      let both : Some (items ++ more) ≡ Some ((items ++ brought) ++ stays.more) =
+      ap (λ (flag : Bool). Some (standing_items flag items ++ more)) (sym e) ∙ sym ends ∙ stays.shows in
+      let whole : items ++ more ≡ (items ++ brought) ++ stays.more = cc in
+      let same : items ++ more ≡ items ++ (brought ++ stays.more) = whole ∙ append_assoc items brought stays.more in
       let shown : AreShown all others j y (brought ++ stays.more) =
       rw (append_cancel_left items more (brought ++ stays.more) same) at shown_are in
       ran_from (within_open stays.more e shown) (inl (record {

@@ -1,18 +1,18 @@
 -- What the calls of a session lead to in Opt.
-use Rattle.mm_session.proofs.Below.{◌≡◌, ℕ, Bool, true, false, ◌||◌, List, [], ◌∷◌, ◌++◌, length, refl, sym, ap, ◌∙◌, inl, inr}
-use Rattle.mm_session.proofs.Below.{append-nil, AllByRecursion, zero_bytes, Opt, Meaning, Batch, InBasic, InOpt, Instance, opt, Entry, Own}
-use Rattle.mm_session.proofs.Below.{Value, History, first_history, has_value, is_empty, IsPoint, at_anchor, in_closed, in_current}
-use Rattle.mm_session.proofs.Below.{IsPlaceOf, anchor_after, issued, digest_of, IsSound, batches_in, has_value-append, bare, ◌+◌, Some}
-use Rattle.mm_session.proofs.Below.{Result, Ok, append_assoc, arith, append_cancel_right, Item, Standing}
-use Rattle.mm_session.proofs.Below.{IsLawful, One, Commit, moved, register_value_of, total_of}
-use Rattle.mm_session.proofs.Below.{BatchAnswer, Refusal, counted_part, CallsOn, found_at, by_digests, all_made, shown}
-use Rattle.mm_session.proofs.Below.{standing_items, counted_open, asks, Alike, still, grown_by, alike_commit, clean_open, issued_alike}
-use Rattle.mm_session.proofs.Below.{names_after, opened, same_closed, issued_content, answered_at, Hands, hands, IsClear, AreNoGuards}
-use Rattle.mm_session.proofs.Below.{flag_kept, pushed_open, shown_front, Pending, one_more, Met, IsGrownBy, opt_called, opt_met}
-use Rattle.mm_session.proofs.Below.{opt_met_idle, opt_grown, issued_in_opt, not_lost}
+use Rattle.mm_session.proofs.Below.{◌≡◌, ℕ, Bool, true, false, List, [], ◌∷◌, ◌++◌, length, refl, sym, ap, ◌∙◌, inl, inr, append-nil}
+use Rattle.mm_session.proofs.Below.{zero_bytes, Opt, Meaning, Batch, InBasic, InOpt, Instance, opt, Entry, Own, Value, History}
+use Rattle.mm_session.proofs.Below.{first_history, has_value, is_empty, IsPoint, at_anchor, in_closed, in_current, IsPlaceOf, anchor_after}
+use Rattle.mm_session.proofs.Below.{issued, digest_of, IsSound, batches_in, has_value-append, bare, ◌+◌, Some, Result, Ok, append_assoc}
+use Rattle.mm_session.proofs.Below.{arith, append_cancel_right, Item, Standing, IsLawful, One, Commit, moved, register_value_of, total_of}
+use Rattle.mm_session.proofs.Below.{BatchAnswer, Refusal, counted_part, CallsOn, found_at, by_digests, all_made, shown, standing_items}
+use Rattle.mm_session.proofs.Below.{counted_open, asks, Alike, still, grown_by, alike_commit, clean_open, issued_alike, names_after, opened}
+use Rattle.mm_session.proofs.Below.{same_closed, issued_content, answered_at, Hands, hands, IsClear, AreNoGuards, flag_kept, pushed_open}
+use Rattle.mm_session.proofs.Below.{shown_front, Pending, one_more, Met, IsGrownBy, opt_met, opt_met_idle, opt_grown, issued_in_opt}
+use Rattle.mm_session.proofs.Below.{not_lost}
 use Rattle.mm_seal.specs.declared.snapshot.Place.{Place}
 use Rattle.mm_model.specs.History.{joined}
 use Rattle.mm_model.specs.ListLaws.{each_left}
+use Rattle.mm_model.specs.SegmentLaws.{no_segments}
 use Rattle.std.specs.Option.{option_map}
 use Rattle.mm_model.specs.Steps.{Step}
 use Rattle.mm_call.specs.Called.{called, seen_at}
@@ -20,12 +20,6 @@ use Rattle.mm_call.specs.Courses.{walk, closes}
 use Rattle.mm_call.specs.FoundWords.{found_unless_wanting, is_fresh}
 use Rattle.mm_call.specs.AlongLaws.{opt_closes}
 use Rattle.mm_session.proofs.Leading.{Laws, Makes, names_none, push_batches, Reaches, ShowsAt}
-
-no_segments : (segments : List (List Entry)) → AllByRecursion (λ segment. is_empty segment ≡ false) segments → length (joined segments) ≡ 0
-    → segments ≡ []
-no_segments [] filled e = refl
-no_segments ([] ∷ segments) filled e = let clash : true ≡ false = filled.0 in absurd (cc)
-no_segments ((x ∷ xs) ∷ segments) filled e = absurd (cc)
 
 no_entries : (entries : List Entry) → has_value entries ≡ false → batches_in entries ≡ [] → length entries ≡ 0
 no_entries [] clean e = refl
@@ -36,15 +30,10 @@ none_of : {A : Type 0} (xs ys : List A) → xs ++ ys ≡ [] → (xs ≡ []) × (
 none_of [] ys e = (refl, e)
 none_of (x ∷ xs) ys e = absurd (cc)
 
-or_right : (a b : Bool) → b ≡ true → (a || b) ≡ true
-or_right true b e = refl
-or_right false b e = e
-
 marred_in : (before : List (List Entry)) (last : List Entry) → has_value last ≡ true → has_value (joined (before ++ last ∷ [])) ≡ true
 marred_in [] last e = ap has_value (append-nil last) ∙ e
 marred_in (segment ∷ before) last e =
-    has_value-append segment (joined (before ++ last ∷ []))
-    ∙ or_right (has_value segment) (has_value (joined (before ++ last ∷ []))) (marred_in before last e)
+    let rest = marred_in before last e in rw has_value-append (grind (arith, rest))
 
 clean_batches : (y : History) → IsSound y → has_value (joined y.closed) ≡ false → y.batches ≡ batches_in (joined y.closed) ++ y.current
 clean_batches y sound clean =
@@ -107,9 +96,6 @@ opt_reach meaning key barrier old new offer request gives c = λ d s f items kno
       shows = g.items ∙ ap (option_map (shown i d o.moves)) known ∙ ap (λ (xs : List Item). Some xs) (p.are items);
     }
 
-pub same_items : {A : Type 0} {xs ys : A} → Some xs ≡ Some ys → xs ≡ ys
-same_items e = cc
-
 -- a call that was answered, with others behind it
 module _ (meaning : Meaning) (lawful : IsLawful meaning) (key barrier : List ℕ) (all others : List (List ℕ)) (asked : List Batch)
     (final : Standing) (y : History) (old middle : Standing) (offer : List ℕ) (p : Pending) (answer : BatchAnswer)
@@ -162,8 +148,9 @@ module _ (meaning : Meaning) (lawful : IsLawful meaning) (key barrier : List ℕ
       let front : List Item = standing_items y.is_open shows.items ++ pushed.front in
       let there : Some (h.items ++ h.more) ≡ Some (standing_items y.is_open shows.items ++ shows.more) =
       ap (λ (flag : Bool). Some (standing_items flag h.items ++ h.more)) (sym e) ∙ sym h.ends ∙ shows.ends in
+      let whole : h.items ++ h.more ≡ standing_items y.is_open shows.items ++ shows.more = cc in
       let reach : h.items ++ h.more ≡ front ++ h.more =
-      same_items there ∙ ap (λ (xs : List Item). standing_items y.is_open shows.items ++ xs) (sym pushed.whole)
+      whole ∙ ap (λ (xs : List Item). standing_items y.is_open shows.items ++ xs) (sym pushed.whole)
       ∙ sym (append_assoc (standing_items y.is_open shows.items) pushed.front h.more) in
       let items : h.items ≡ front = append_cancel_right h.items front h.more reach in
       let o = opt_met meaning lawful key barrier all others asked y old middle offer p (Ok answer) m.goes m.stands m.asks shows.items
@@ -174,10 +161,11 @@ module _ (meaning : Meaning) (lawful : IsLawful meaning) (key barrier : List ℕ
       sym (answered_at i y h.left.after offer (One p.request) answer h.left.comes).0
       ∙ (answered_at i y o.after offer (One p.request) answer o.comes).0 in
       let is_open : o.after.is_open ≡ true = open_by h.left.after o.after h.left.alike o.grown total e in
-      let same : Some (register_value_of i h.left.after) ≡ Some (register_value_of i o.after) =
+      let both : Some (register_value_of i h.left.after) ≡ Some (register_value_of i o.after) =
       sym h.left.stands.register ∙ o.stands.register in
+      let same : register_value_of i h.left.after ≡ register_value_of i o.after = cc in
       let register : register_value_of i (counted_part h.left.after) ≡ register_value_of i (counted_part o.after) =
-      ap (register_value_of i) (counted_open h.left.after e) ∙ same_items same
+      ap (register_value_of i) (counted_open h.left.after e) ∙ same
       ∙ sym (ap (register_value_of i) (counted_open o.after is_open))
       in (
         o,
@@ -225,9 +213,6 @@ opt_laws meaning lawful key barrier all others asked final clear apart = record 
       shows.known shows.ends (λ busy. shows.shown_are);
   idle = λ y old middle offer p gives m idle.
       opt_met_idle meaning lawful key barrier all others asked y old middle offer p gives m.goes m.stands m.asks idle;
-  last = λ y old offer p gives m f shows.
-      opt_called meaning lawful key barrier all others asked y old final offer p gives m.goes m.stands m.asks shows.items shows.more
-      shows.known shows.ends (λ busy. shows.shown_are) f;
   reach = opt_reach meaning key barrier;
   formed = issued_content meaning lawful key barrier;
   issue = issued_alike meaning key barrier;

@@ -1,10 +1,10 @@
 -- What waits, and what fits, once the record of a next request was written, whole or torn.
 use Rattle.mm_session.proofs.Below.{◌≡◌, ◌∙◌, ◌+◌, ◌-◌, ◌%◌, ◌<◌, ◌≤◌, ℕ, Bool, true, false, List, take, Option, None, Some, refl, sym, ap}
-use Rattle.mm_session.proofs.Below.{subst, inl, inr, arith, ◌⊎◌, nat_le, if◌then◌else◌, nat_tests, MayGrow, last_position, longest_request}
-use Rattle.mm_session.proofs.Below.{Instance, History, total_of, Pending, ReadsPending, pending_spelling, Slots, longest_slot}
-use Rattle.mm_session.proofs.Below.{slot_read, with_slot, one_reading, IsNotBeyond, waiting_position, FitsHistory, FitsBy, Holds}
-use Rattle.mm_session.proofs.Below.{IsWaiting, later}
+use Rattle.mm_session.proofs.Below.{inl, inr, arith, ◌⊎◌, nat_le, if◌then◌else◌, nat_tests, MayGrow, last_position, longest_request}
+use Rattle.mm_session.proofs.Below.{Instance, History, total_of, Pending, ReadsPending, pending_spelling, Slots, longest_slot, slot_read}
+use Rattle.mm_session.proofs.Below.{with_slot, one_reading, IsNotBeyond, waiting_position, FitsHistory, FitsBy, Holds, IsWaiting, later}
 use Rattle.std.proofs.lemmas.Bool.{cases_lt}
+use Rattle.mm_store.proofs.Above.{slot_in-with_slot}
 
 -- slots 2 and 3, in either order
 abbrev AreSides : ℕ → ℕ → Type 0
@@ -20,27 +20,15 @@ pub record IsPut (slots other : Slots) (position : ℕ) (bytes : List ℕ) : Typ
   pub here : slot_read other (2 + position % 2) ≡ slot_read slots (2 + position % 2)
   pub next : slot_read other (2 + (position + 1) % 2) ≡ take longest_slot bytes
 
--- what is alike at 0 and 1 is alike at both parities
-by_parity : (P : ℕ → Type 0) → P 0 → P 1 → (n : ℕ) → P (n % 2)
-by_parity P zero_is one_is n = elim (cases_lt (n % 2) 1) [
-  | inl h ↦ let e : 0 ≡ n % 2 = omega arith in subst P e zero_is
-  | inr h ↦ let e : 1 ≡ n % 2 = omega arith in subst P e one_is
-]
-
-put_at : (slots : Slots) (bytes : List ℕ) (kept other n : ℕ) → AreSides kept other
-    → (slot_read (with_slot slots other bytes) (n % 2) ≡ slot_read slots (n % 2))
-    × (slot_read (with_slot slots other bytes) kept ≡ slot_read slots kept)
-    × (slot_read (with_slot slots other bytes) other ≡ take longest_slot bytes)
-put_at slots bytes kept other n (inl s) =
-    rw (s.0, s.1) (by_parity (λ (m : ℕ). slot_read (with_slot slots 3 bytes) m ≡ slot_read slots m) refl refl n, refl, refl)
-put_at slots bytes kept other n (inr s) =
-    rw (s.0, s.1) (by_parity (λ (m : ℕ). slot_read (with_slot slots 2 bytes) m ≡ slot_read slots m) refl refl n, refl, refl)
+-- a slot that wasn't written shows what it did
+unwritten : (slots : Slots) (bytes : List ℕ) (n m : ℕ) → n < 4 → m < 4 → (n ≡ m → ⊥) → slot_read (with_slot slots n bytes) m ≡ slot_read slots m
+unwritten slots bytes n m small least unless = grind (arith, nat_tests, small, least, unless)
 
 pub put_next : (slots : Slots) (position : ℕ) (bytes : List ℕ) → IsPut slots (with_slot slots (2 + (position + 1) % 2) bytes) position bytes
 put_next slots position bytes = record {
-  snapshots = λ n. (put_at slots bytes (2 + position % 2) (2 + (position + 1) % 2) n (sides position)).0;
-  here = (put_at slots bytes (2 + position % 2) (2 + (position + 1) % 2) 0 (sides position)).1;
-  next = (put_at slots bytes (2 + position % 2) (2 + (position + 1) % 2) 0 (sides position)).2;
+  snapshots = λ n. unwritten slots bytes (2 + (position + 1) % 2) (n % 2) (omega arith) (omega arith) (λ e. omega (arith, e));
+  here = unwritten slots bytes (2 + (position + 1) % 2) (2 + position % 2) (omega arith) (omega arith) (λ e. omega (arith, e));
+  next = ap (λ (x : List ℕ). take longest_slot x) (slot_in-with_slot slots (2 + (position + 1) % 2) bytes);
 }
 
 -- The later of two records is one of them, and of no earlier position than either.

@@ -1,19 +1,18 @@
 -- A session is one run whatever the slots hold: each first part of what was told, and how it ends.
 use Rattle.mm_session.proofs.Below.{bare, idle_again, ◌≡◌, ◌≢◌, ◌∙◌, ℕ, Bool, true, false, List, [], ◌∷◌, ◌++◌, Option, None, Some, Result}
-use Rattle.mm_session.proofs.Below.{Ok, Err, IsSome, refl, sym, ap, subst, inl, inr, append_assoc, ◌⊎◌, append_cancel_left}
-use Rattle.mm_session.proofs.Below.{StepFault, Standing, Batch, One, Meaning, Instance, opt, History, requests_of, LostLife}
-use Rattle.mm_session.proofs.Below.{life_of, StandsFor, Answer, Refusal, IsWithin, whole_in, fault_of, unless_idle, StoreFault}
-use Rattle.mm_session.proofs.Below.{StoreStanding, Pending, Slots, slot_read, HostFault, SessionFault, Host, Resumed, AreAskedInTurn}
-use Rattle.mm_session.proofs.Below.{AsksNothingNew, EndsRun, RunsOnce, offered_after, first_offer, IsCall, IsInHand}
-use Rattle.mm_session.proofs.Below.{RunsOver, told_in, store_fault_as, refusal_fault, MayHaveCommitted, Served, Sessions, lines_served}
-use Rattle.mm_session.proofs.Below.{grows, IsWaiting, Met, by_refusal}
+use Rattle.mm_session.proofs.Below.{Ok, Err, IsSome, refl, sym, ap, subst, inl, inr, append_assoc, ◌⊎◌, append_cancel_left, StepFault}
+use Rattle.mm_session.proofs.Below.{Standing, Batch, One, Meaning, Instance, opt, History, requests_of, LostLife, life_of, StandsFor}
+use Rattle.mm_session.proofs.Below.{Answer, Refusal, IsWithin, whole_in, fault_of, unless_idle, StoreFault, StoreStanding, Pending, Slots}
+use Rattle.mm_session.proofs.Below.{slot_read, HostFault, SessionFault, Host, Resumed, AreAskedInTurn, AsksNothingNew, EndsRun, RunsOnce}
+use Rattle.mm_session.proofs.Below.{offered_after, first_offer, IsCall, IsInHand, RunsOver, told_in, store_fault_as, refusal_fault}
+use Rattle.mm_session.proofs.Below.{MayHaveCommitted, Served, Sessions, lines_served, grows, IsWaiting, Met, by_refusal}
 use Rattle.mm_model.specs.declared.refusal.Refusal.TheVariants as refusal
 use Rattle.mm_store.specs.declared.fault.StoreFault.TheVariants as fault
 use Rattle.mm_host.specs.declared.fault.HostFault.TheVariants as host
-use Rattle.mm_session.proofs.Leading.{Laws, Reaches, unspoiled}
+use Rattle.mm_session.proofs.Leading.{Laws, Reaches}
 use Rattle.mm_session.proofs.CallsMade.{CallsInTurn, Ends, among_input, calls_split, chain_of, rests, stops}
 use Rattle.mm_session.proofs.InTurn.{AfterTurns, May, MindsNothing, StandsIn, calls_reach, ends_reach, met_last, pending_for, turns}
-use Rattle.mm_session.proofs.SessionRuns.{line_committed}
+use Rattle.mm_session.proofs.SessionRuns.{line_committed, runs_to}
 use Rattle.mm_session.proofs.Lines.{asks, fails, never_refused, never_stored, TellsCall, told_refused}
 
 -- what came of the request in hand
@@ -61,15 +60,8 @@ module _ {all others : List (List ℕ)} {asked : List Batch} {i : Instance} {fin
     rests_run : (result : Result Unit SessionFault) → final ≡ at → ((why : Refusal) → result ≡ Err (Host (host.Refused why)) → ⊥)
         → EndsRun all others asked i y first final told hand result
     rests_run result same none = record {
-      after = z;
-      stands = rw same stands;
-      within = within;
-      requests = requests_of z.batches;
-      run = run;
-      committed = inl refl;
+      runs = runs_to y told hand z (rw same stands) within run (inl refl) powered;
       refuses = λ why r. absurd (none why r);
-      unspoiled = unspoiled i.variant others z within.sound within.outside;
-      powered = powered;
     }
 
     ends_run : (result : Result Unit SessionFault)
@@ -85,13 +77,9 @@ module _ {all others : List (List ℕ)} {asked : List Batch} {i : Instance} {fin
     ends_run result meets (stops request h came (asks call c t) sent fault says is) =
         let m = meets request call h c in
         rw is (record {
-          after = m.after;
-          stands = m.stands;
-          within = m.within;
-          requests = requests_of z.batches;
-          run = run;
-          committed = line_committed z m.after request came sent fault hand h says (only_by call came t m.only)
-              (grows i z (pending_for request) (offered_after first told) m.after (whole_in call) m.comes);
+          runs = runs_to y told hand m.after m.stands m.within run
+              (line_committed z m.after request came sent fault hand h says (only_by call came t m.only)
+              (grows i z (pending_for request) (offered_after first told) m.after (whole_in call) m.comes)) (λ p. m.powered (powered p));
           refuses = λ (why : Refusal) (r : Err fault ≡ Err (Host (host.Refused why))).
               let is = call_refused call came why t (told_refused came sent fault why says (cc)) in
               record {
@@ -102,8 +90,6 @@ module _ {all others : List (List ℕ)} {asked : List Batch} {i : Instance} {fin
                   | inr found ↦ found
                 ]);
               };
-          unspoiled = unspoiled i.variant others m.after m.within.sound m.within.outside;
-          powered = λ p. m.powered (powered p);
         })
 
   -- A session from a history that is the same as this one but for others' values.
@@ -171,5 +157,5 @@ unless_nothing i y offer (request ∷ next ∷ requests) unless = inl (unless (�
 pub minds_nothing : (meaning : Meaning) (key barrier : List ℕ) (y z : History) (offer : List ℕ) (requests : List (List ℕ))
     → bare z ≡ bare y → AsksNothingNew (opt meaning key barrier) y offer requests → MindsNothing (opt meaning key barrier) z offer requests
 minds_nothing meaning key barrier y z offer [] e k = tt
-minds_nothing meaning key barrier y z offer (request ∷ []) e k = idle_again meaning key barrier y z offer (One request) e k
-minds_nothing meaning key barrier y z offer (request ∷ next ∷ requests) e k = k
+minds_nothing meaning key barrier y z offer (request ∷ []) e k = (idle_again meaning key barrier y z offer (One request) e k, refl)
+minds_nothing meaning key barrier y z offer (request ∷ next ∷ requests) e k = absurd k

@@ -11,7 +11,7 @@ use Rattle.mm_session.specs.Below.{AreShown, IsIdle, fault_of, standing_items, S
 use Rattle.mm_session.specs.Below.{IsWaiting, Refused}
 use Rattle.mm_session.specs.declared.fault.SessionFault.{SessionFault}
 use Rattle.mm_session.specs.declared.fault.SessionFault.TheVariants.{Host}
-use Rattle.mm_session.specs.Continuing.{HasUntold, IsInHand, RunsOver, told_in}
+use Rattle.mm_session.specs.Continuing.{IsInHand, RunsOver, RunsTo, told_in}
 use Rattle.mm_session.specs.Sessions.{Served, lines_served, Sessions}
 
 -- the bytes that are offered next: the last answer's snapshot, and before any answer the first ones
@@ -90,23 +90,14 @@ pub record IsRefusedFor (i : Instance) (after : History) (offer : List ℕ)
   pub judged : IsSome (fault_of why)
       ⊎ (found_at i (by_lists i) after (One request) offer ≡ Err why)
 
--- From a history: what was told is one run of the module behind the history's requests. The
--- platform stands for a history of that run's requests, or of those and the one in hand. A history
--- isn't spoiled where no value of others counts, nor lost where it wasn't before.
+-- From a history: what was told is one run of the module, and a refusal is by the offer.
 pub record EndsRun (all others : List (List ℕ)) (asked : List Batch) (i : Instance) (y : History)
     (offer : List ℕ) (standing : Standing) (told : List Served) (hand : List ℕ → Type 0)
     (result : Result Unit SessionFault) : Type 0 where
-  pub after : History
-  pub stands : StandsFor i standing after
-  pub within : IsWithin all others asked i after
-  pub requests : List (List ℕ)
-  pub run : RunsOver i.meaning (requests_of y.batches) told requests
-  pub committed : (requests_of after.batches ≡ requests)
-      ⊎ HasUntold hand result requests (requests_of after.batches)
+  pub runs : RunsTo all others asked i y standing told hand result
+  pub open runs use *
   pub refuses : (why : Refusal) → result ≡ Err (Host (Refused why)) →
-      IsRefusedFor i after (offered_after offer told) hand why
-  pub unspoiled : others ≡ [] → life_of i.variant after ≢ Spoiled
-  pub powered : life_of i.variant y ≢ LostLife → life_of i.variant after ≢ LostLife
+      IsRefusedFor i runs.after (offered_after offer told) hand why
 
 -- Where these requests are what is asked of: each first part of what was told that is among them is
 -- one run; and where all that were made are among them, so the session ends. All that were made are

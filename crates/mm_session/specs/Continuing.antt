@@ -67,25 +67,20 @@ abbrev pub told_first : Option Pending → Resumed → List Served
 told_first (Some p) (Answered answer) = record { line = p.request; answer = answer } ∷ []
 told_first _ _ = []
 
--- the requests that a session told, each with its answer
-abbrev pub told_in : {variant : Variant} {meaning : Meaning} {begun : Result Resumed HostFault}
-    {platform after : Standing}
-    {store new : StoreStanding} {left : Option (List ℕ)} {taken sent : List ℕ}
-    {result : Result Unit SessionFault} → Option Pending
-    → AfterResume variant meaning begun platform after store new left taken sent result
-    → List Served
-told_in waiting (inl stops) = []
-told_in waiting (inr goes) = told_first waiting goes.first ++ goes.lines.calls
+module _ {variant : Variant} {meaning : Meaning} {begun : Result Resumed HostFault}
+    {platform after : Standing} {store new : StoreStanding} {left : Option (List ℕ)}
+    {taken sent : List ℕ} {result : Result Unit SessionFault} (waiting : Option Pending) where
+  -- the requests that a session told, each with its answer
+  abbrev pub told_in : AfterResume variant meaning begun platform after store new left taken sent
+      result → List Served
+  told_in (inl stops) = []
+  told_in (inr goes) = told_first waiting goes.first ++ goes.lines.calls
 
--- the request in hand where a session stopped: what waited, or the line after those that were told
-abbrev pub IsInHand : {variant : Variant} {meaning : Meaning} {begun : Result Resumed HostFault}
-    {platform after : Standing}
-    {store new : StoreStanding} {left : Option (List ℕ)} {taken sent : List ℕ}
-    {result : Result Unit SessionFault} → Option Pending
-    → AfterResume variant meaning begun platform after store new left taken sent result → List ℕ
-    → Type 0
-IsInHand waiting (inl stops) request = (p : Pending) × (waiting ≡ Some p) × (p.request ≡ request)
-IsInHand waiting (inr goes) request = (held : List ℕ) × BeginsWith goes.lines.more request held
+  -- the request in hand where a session stopped: what waited, or the line after those that were told
+  abbrev pub IsInHand : AfterResume variant meaning begun platform after store new left taken sent
+      result → List ℕ → Type 0
+  IsInHand (inl stops) request = (p : Pending) × (waiting ≡ Some p) × (p.request ≡ request)
+  IsInHand (inr goes) request = (held : List ℕ) × BeginsWith goes.lines.more request held
 
 -- A request may be committed and not told where memory, the store, a device or the output failed.
 abbrev pub MayBeUntold : {T : Type 0} → Result T SessionFault → Type 0
@@ -107,29 +102,36 @@ pub record HasUntold (hand : List ℕ → Type 0) (result : Result Unit SessionF
   pub grown : after ≡ requests ++ request ∷ []
 
 -- From a history: what was told is one run of the module behind the history's requests. The
--- platform stands for a history of that run's requests, or of those and the one in hand. The slots
--- fit it, so that the session may be gone on with. A refusal is a device's fault, or tells how that
--- history has ended; it isn't spoiled where no value of others counts, nor lost where it wasn't
--- before.
-pub record ContinuesTo (all others : List (List ℕ)) (asked : List Batch) (i : Instance)
-    (y : History) (standing : Standing)
-    (kept : StoreStanding)
-    (told : List Served) (hand : List ℕ → Type 0) (result : Result Unit SessionFault) : Type 0 where
+-- platform stands for a history of that run's requests, or of those and the one in hand. It isn't
+-- spoiled where no value of others counts, nor lost where it wasn't before.
+pub record RunsTo (all others : List (List ℕ)) (asked : List Batch) (i : Instance) (y : History)
+    (standing : Standing) (told : List Served) (hand : List ℕ → Type 0)
+    (result : Result Unit SessionFault) : Type 0 where
   pub after : History
   pub stands : StandsFor i standing after
   pub within : IsWithin all others asked i after
-  pub slots_after : Slots
-  pub honest : kept.is_honest ≡ true
-  pub slots_told : kept.slots ≡ Some slots_after
-  pub fits : IsNotBeyond slots_after (total_of after.batches + 1) → FitsHistory i slots_after after
-  pub whole : result ≢ Err (Host Store) → FitsHistory i slots_after after
   pub requests : List (List ℕ)
   pub run : RunsOver i.meaning (requests_of y.batches) told requests
   pub committed : (requests_of after.batches ≡ requests)
       ⊎ HasUntold hand result requests (requests_of after.batches)
-  pub refuses : RefusesAs result (life_of i.variant after)
   pub unspoiled : others ≡ [] → life_of i.variant after ≢ Spoiled
   pub powered : life_of i.variant y ≢ LostLife → life_of i.variant after ≢ LostLife
+
+-- The slots fit that history too, so that the session may be gone on with. A refusal is a device's
+-- fault, or tells how that history has ended.
+pub record ContinuesTo (all others : List (List ℕ)) (asked : List Batch) (i : Instance)
+    (y : History) (standing : Standing)
+    (kept : StoreStanding)
+    (told : List Served) (hand : List ℕ → Type 0) (result : Result Unit SessionFault) : Type 0 where
+  pub runs : RunsTo all others asked i y standing told hand result
+  pub open runs use *
+  pub slots_after : Slots
+  pub honest : kept.is_honest ≡ true
+  pub slots_told : kept.slots ≡ Some slots_after
+  pub fits : IsNotBeyond slots_after (total_of runs.after.batches + 1) →
+      FitsHistory i slots_after runs.after
+  pub whole : result ≢ Err (Host Store) → FitsHistory i slots_after runs.after
+  pub refuses : RefusesAs result (life_of i.variant runs.after)
 
 -- Over an honest store and an input that tell what they hold: by whatever steps the session went,
 -- from every history. Over a platform of Basic under every key; over one of Opt under every key and

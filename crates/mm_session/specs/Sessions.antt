@@ -140,37 +140,58 @@ Stops variant meaning number at after new left more sent (Lines (LineLong line))
 Stops variant meaning number at after new left more sent (Lines TooMuch) =
     IsAtRest at after new sent × (number ≡ most_lines + 1) × (line : List ℕ) × (held : List ℕ)
     × BeginsWith more line held
--- the line was asked
-Stops variant meaning number at after new left more sent (Lines WriteFault) =
-    StopsInLine variant meaning number at after new more sent (Lines WriteFault)
-Stops variant meaning number at after new left more sent (Host fault) =
-    StopsInLine variant meaning number at after new more sent (Host fault)
 -- the host alone wants memory
 Stops variant meaning number at after new left more sent (Lines Memory) = ⊥
+-- the line was asked
+Stops variant meaning number at after new left more sent fault =
+    StopsInLine variant meaning number at after new more sent fault
 
--- Ok: the input ended behind a whole line.
-abbrev pub EndsSession : Variant → Meaning → ℕ → Place → Standing → StoreStanding → Option (List ℕ)
-    → List ℕ → List ℕ
-    → Result Unit SessionFault → Type 0
-EndsSession variant meaning number at after new left more sent (Ok _) =
-    IsAtRest at after new sent × (more ≡ []) × IsAtEnd left
-EndsSession variant meaning number at after new left more sent (Err fault) =
-    Stops variant meaning number at after new left more sent fault
+-- The line was answered, and the answer told.
+pub record ServesLine (variant : Variant) (meaning : Meaning) (number : ℕ) (at : Place)
+    (after : Standing) (new : StoreStanding)
+    (bytes held sent : List ℕ) (next : Resumed) : Type 0 where
+  pub line : List ℕ
+  pub begins : BeginsWith bytes line held
+  pub few : number ≤ most_lines
+  pub answer : Answer
+  pub answered : next ≡ Answered answer
+  pub asks : AsksNext variant meaning at.platform after at.store new at.last line
+      (Ok (Answered answer))
+  pub told : sent ≡ reply_text (Ok (Answered answer))
 
--- Some lines are served from where the session began, and there it ends.
-pub record ServesLines (variant : Variant) (meaning : Meaning) (from : Place) (after : Standing)
-    (new : StoreStanding)
+-- How a turn went, by its answer: `bytes` are those held before and those taken, and `held` those
+-- held after. None: the input ended behind a whole line.
+abbrev pub ServedOn : Variant → Meaning → ℕ → Place → Standing → StoreStanding → Option (List ℕ)
+    → List ℕ → List ℕ → List ℕ
+    → Result (Option Resumed) SessionFault → Type 0
+ServedOn variant meaning number at after new left bytes held sent (Ok (Some next)) =
+    ServesLine variant meaning number at after new bytes held sent next
+ServedOn variant meaning number at after new left bytes held sent (Ok None) =
+    IsAtRest at after new sent × (bytes ≡ []) × IsAtEnd left
+ServedOn variant meaning number at after new left bytes held sent (Err fault) =
+    Stops variant meaning number at after new left bytes sent fault
+
+-- a session's end, as a turn answers it
+abbrev pub ended_as : Result Unit SessionFault → Result (Option Resumed) SessionFault
+ended_as (Ok _) = Ok None
+ended_as (Err fault) = Err fault
+
+-- Some lines are served from where the session stands, of which the first would have this number,
+-- and there it ends; `bytes` were held before or taken.
+pub record ServesLines (variant : Variant) (meaning : Meaning) (number : ℕ) (from : Place)
+    (after : Standing) (new : StoreStanding)
     (left : Option (List ℕ))
-    (taken sent : List ℕ) (result : Result Unit SessionFault) : Type 0 where
+    (bytes sent : List ℕ) (result : Result Unit SessionFault) : Type 0 where
   pub calls : List Served
-  pub few : length calls ≤ most_lines
+  pub few : length calls + number ≤ most_lines + 1
   pub at : Place
   pub serves : Serves variant meaning from calls at
   pub more : List ℕ
   pub last : List ℕ
-  pub took : taken ≡ lines_joined (lines_served calls) ++ more
+  pub took : bytes ≡ lines_joined (lines_served calls) ++ more
   pub wrote : sent ≡ replies_to calls ++ last
-  pub ends : EndsSession variant meaning (length calls + 1) at after new left more last result
+  pub ends : ServedOn variant meaning (length calls + number) at after new left more [] last
+      (ended_as result)
 
 -- What waited came to a fault, or its reply isn't written whole; no line is read.
 pub record StopsAtOnce (begun : Result Resumed HostFault) (taken sent : List ℕ)
@@ -190,7 +211,7 @@ pub record GoesOn (variant : Variant) (meaning : Meaning) (begun : Result Resume
     pub begins : begun ≡ Ok first
     pub replies : List ℕ
     pub wrote : sent ≡ reply_text begun ++ replies
-    pub lines : ServesLines variant meaning
+    pub lines : ServesLines variant meaning 1
         (record { platform = platform; store = store; last = first }) after new left taken replies
         result
 
@@ -229,78 +250,32 @@ pub record AsksAndTells (variant : Variant) (meaning : Meaning) (at : Place) (af
   pub asks : AsksNext variant meaning at.platform after at.store new at.last line came
   pub tells : TellsReply came received received' result
 
--- the session goes on with what was told
-abbrev pub goes_on_with : Result Resumed SessionFault → Result (Option Resumed) SessionFault
-goes_on_with (Ok next) = Ok (Some next)
-goes_on_with (Err fault) = Err fault
-
-pub record IsOneTooMany (number : ℕ) (at : Place) (after : Standing) (new : StoreStanding)
-    (received received' : Option (List ℕ))
-    (result : Result (Option Resumed) SessionFault) : Type 0 where
-  pub many : most_lines < number
-  pub platform : after ≡ at.platform
-  pub store : new ≡ at.store
-  pub received_same : received' ≡ received
-  pub gives : result ≡ Err (Lines TooMuch)
-
-pub record IsServed (variant : Variant) (meaning : Meaning) (number : ℕ) (at : Place)
+-- What was sent in a turn, and how it went.
+pub record Turns (variant : Variant) (meaning : Meaning) (number : ℕ) (at : Place)
     (after : Standing) (new : StoreStanding)
-    (received received' : Option (List ℕ)) (line : List ℕ)
+    (left : Option (List ℕ)) (bytes held : List ℕ) (received received' : Option (List ℕ))
     (result : Result (Option Resumed) SessionFault) : Type 0 where
-  pub few : number ≤ most_lines
-  pub told : Result Resumed SessionFault
-  pub asks : AsksAndTells variant meaning at after new received received' line told
-  pub gives : result ≡ goes_on_with told
-
--- The line of this number is one too many, or it is asked and told.
-abbrev pub TakesLine : Variant → Meaning → ℕ → Place → Standing → StoreStanding → Option (List ℕ)
-    → Option (List ℕ) → List ℕ
-    → Result (Option Resumed) SessionFault → Type 0
-TakesLine variant meaning number at after new received received' line result =
-    IsOneTooMany number at after new received received' result
-    ⊎ IsServed variant meaning number at after new received received' line result
-
--- The line was answered, and the answer told.
-pub record ServesLine (variant : Variant) (meaning : Meaning) (number : ℕ) (at : Place)
-    (after : Standing) (new : StoreStanding)
-    (bytes held sent : List ℕ) (next : Resumed) : Type 0 where
-  pub line : List ℕ
-  pub begins : BeginsWith bytes line held
-  pub few : number ≤ most_lines
-  pub answer : Answer
-  pub answered : next ≡ Answered answer
-  pub asks : AsksNext variant meaning at.platform after at.store new at.last line
-      (Ok (Answered answer))
-  pub told : sent ≡ reply_text (Ok (Answered answer))
-
--- By the answer: `bytes` are those held before and those taken, and `held` those held after.
-abbrev pub ServedOn : Variant → Meaning → ℕ → Place → Standing → StoreStanding → Option (List ℕ)
-    → List ℕ → List ℕ → List ℕ
-    → Result (Option Resumed) SessionFault → Type 0
-ServedOn variant meaning number at after new left bytes held sent (Ok (Some next)) =
-    ServesLine variant meaning number at after new bytes held sent next
-ServedOn variant meaning number at after new left bytes held sent (Ok None) =
-    IsAtRest at after new sent × (bytes ≡ []) × IsAtEnd left
-ServedOn variant meaning number at after new left bytes held sent (Err fault) =
-    Stops variant meaning number at after new left bytes sent fault
+  pub sent : List ℕ
+  pub appended : Appends received received' sent
+  pub went : ServedOn variant meaning number at after new left bytes held sent result
 
 pub record ServesNext (variant : Variant) (meaning : Meaning) (number : ℕ) (at : Place)
     (after : Standing) (new : StoreStanding)
     (left left' : Option (List ℕ)) (held held' : List ℕ) (received received' : Option (List ℕ))
     (result : Result (Option Resumed) SessionFault) : Type 0 where
   pub taken : List ℕ
+  pub consumed : Consumes left left' taken
+  pub turns : Turns variant meaning number at after new left' (held ++ taken) held' received
+      received' result
+
+-- The lines of an input are served, of which the first would have this number, and some bytes are
+-- held; with what was taken and written for them.
+pub record ServesInput (variant : Variant) (meaning : Meaning) (number : ℕ) (from : Place)
+    (after : Standing) (new : StoreStanding)
+    (left left' : Option (List ℕ)) (held : List ℕ) (received received' : Option (List ℕ))
+    (result : Result Unit SessionFault) : Type 0 where
+  pub taken : List ℕ
   pub sent : List ℕ
   pub consumed : Consumes left left' taken
   pub appended : Appends received received' sent
-  pub went : ServedOn variant meaning number at after new left' (held ++ taken) held' sent result
-
--- The lines of an input are served, with what was taken and written for them.
-pub record ServesInput (variant : Variant) (meaning : Meaning) (from : Place) (after : Standing)
-    (new : StoreStanding)
-    (left left' received received' : Option (List ℕ)) (result : Result Unit SessionFault) : Type 0
-  where
-    pub taken : List ℕ
-    pub sent : List ℕ
-    pub consumed : Consumes left left' taken
-    pub appended : Appends received received' sent
-    pub lines : ServesLines variant meaning from after new left' taken sent result
+  pub lines : ServesLines variant meaning number from after new left' (held ++ taken) sent result

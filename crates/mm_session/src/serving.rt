@@ -1,6 +1,6 @@
 //! A session: the lines of an input, each asked and told, one after another.
 
-ghost use Rattle.std.specs.Prelude.{◌≡◌, ◌+◌, ◌≤◌, [], IfOk, IfSome};
+ghost use Rattle.std.specs.Prelude.{◌≡◌, ◌+◌, ◌≤◌, ℕ, false, List, [], Option, IfOk, IfSome};
 ghost use Rattle.mm_base.specs.Lines.{MayGrow};
 ghost use Rattle.mm_base.specs.Limits.{longest_request};
 ghost use Rattle.mm_play.specs.Plays.{IsBlamed};
@@ -10,7 +10,7 @@ ghost use Rattle.mm_session.specs.Continuing.{SessionContinues};
 ghost use Rattle.mm_session.specs.SessionBlame.{IsRefusalNamed, is_platform_fault, is_read_fault, is_store_fault, is_write_fault};
 ghost use Rattle.mm_session.specs.SessionLines.{SparesLines};
 ghost use Rattle.mm_session.specs.SessionWrites.{SessionWrites};
-ghost use Rattle.mm_session.specs.Sessions.{Sessions, most_lines, AsksAndTells, ServesInput, TakesLine, ServesNext};
+ghost use Rattle.mm_session.specs.Sessions.{Sessions, most_lines, AsksAndTells, BeginsWith, ServesInput, ServesNext, Turns};
 
 use crate::fault::SessionFault;
 use crate::telling::tell;
@@ -110,9 +110,9 @@ fn serve_lines<M: Module, P: Platform, T: Store, S: Source, K: Sink>(
 ) -> Result<(), SessionFault>
     requires nothing { reader ≡ [] }
     requires sized { IsSized first }
-    ensures serves { ServesInput hosted.now.variant (M.meaning hosted.now.«module».now)
+    ensures serves { ServesInput hosted.now.variant (M.meaning hosted.now.«module».now) 1
         (record { platform = P.standing platform.old; store = T.kept store.old; last = first })
-        (P.standing platform.new) (T.kept store.new) (S.left input.old) (S.left input.new)
+        (P.standing platform.new) (T.kept store.new) (S.left input.old) (S.left input.new) []
         (K.received out.old) (K.received out.new) result }
     ensures read { IsBlamed (is_read_fault result) (S.faults input.old) (S.faults input.new) }
     ensures wrote { IsBlamed (is_write_fault result) (K.faults out.old) (K.faults out.new) }
@@ -184,15 +184,17 @@ fn serve_line<M: Module, P: Platform, T: Store, K: Sink>(
 ) -> Result<Option<Resumed>, SessionFault>
     requires sized { IsSized turn.now.last }
     requires line { MayGrow longest_request line.now }
-    ensures takes { TakesLine hosted.now.variant (M.meaning hosted.now.«module».now)
-        turn.now.number (record {
+    ensures turns { (left : Option (List ℕ)) (bytes held : List ℕ) →
+        turn.now.number ≤ most_lines + 1 → BeginsWith bytes line.now held →
+        Turns hosted.now.variant (M.meaning hosted.now.«module».now) turn.now.number (record {
           platform = P.standing platform.old;
           store = T.kept store.old;
           last = turn.now.last;
         })
-        (P.standing platform.new) (T.kept store.new) (K.received out.old) (K.received out.new)
-        line.now result }
+        (P.standing platform.new) (T.kept store.new) left bytes held (K.received out.old)
+        (K.received out.new) result }
     ensures sized { IfOk result (λ next. IfSome next IsSized) }
+    ensures unread { is_read_fault result ≡ false }
     ensures wrote { IsBlamed (is_write_fault result) (K.faults out.old) (K.faults out.new) }
 {
     if turn.number > MOST_LINES {

@@ -11,9 +11,9 @@ returns-in-Ok-Line-clause-advances g c =
 pub returns-in-Ok-Tail-clause-advances : goal.returns-in-Ok-Tail-clause-advances
 returns-in-Ok-Tail-clause-advances g c =
     advanced_by_tail g.P.Player.answer g.P.Player.closing c.args.number c.args.player.now _ _ _ _ _
-    c.next.result c.in-Ok-Tail.field-0 c.next.follows.holds-at-none c.in-Ok-Tail.is c.in-Ok-Tail.field-0-is
+    c.next.result c.next.follows.holds-at-none c.in-Ok-Tail.field-0 c.in-Ok-Tail.is c.in-Ok-Tail.field-0-is
 
 pub returns-in-Err-LineLong-clause-advances : goal.returns-in-Err-LineLong-clause-advances
 returns-in-Err-LineLong-clause-advances g c =
     advanced_by_long g.P.Player.answer g.P.Player.closing c.args.number c.args.player.now _ _ _ _ _
-    c.next.result c.in-Err-LineLong.field-0 c.next.follows.holds-at-none c.in-Err-LineLong.is c.in-Err-LineLong.field-0-is
+    c.next.result c.next.follows.holds-at-none c.in-Err-LineLong.field-0 c.in-Err-LineLong.is c.in-Err-LineLong.field-0-is

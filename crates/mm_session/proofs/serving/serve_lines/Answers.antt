@@ -1,12 +1,12 @@
 use Rattle.mm_session.proofs.Below.{◌∙◌, ap, Ok, Err, refl, arith, err_from_is_err_and}
-use Rattle.mm_session.proofs.Turning.{one_more_few, rest_ends, rest_on, serves_all}
+use Rattle.mm_session.proofs.Turning.{one_more_few, rest_ends, rest_on}
 use Rattle.mm_session.proofs.serving.serve_lines.Goals as goal
 
 pub returns-in_err-next-clause-serves : goal.returns-in_err-next-clause-serves
 returns-in_err-next-clause-serves g c =
     let p = err_from_is_err_and c.from_residual.result c.from_residual.ensures.1 in
-    rw (p.1, p.2) (serves_all (c.lines.invariant.rests _ _ _ _ _
-    (rest_ends c.serve_next.ensures.turns (Err _) c.lines.invariant.few c.in_err-next.was)))
+    rw (p.1, p.2) (c.lines.invariant.rests _ _ _ _ _
+    (rest_ends c.serve_next.ensures.turns (Err _) c.lines.invariant.few c.in_err-next.was))
 
 pub lines-init : goal.lines-init
 lines-init g c = record {
@@ -31,5 +31,5 @@ lines-preserved g c =
 
 pub returns-clause-serves : goal.returns-clause-serves
 returns-clause-serves g c =
-    serves_all (c.lines.invariant.rests _ _ _ _ _ (rest_ends c.serve_next.ensures.turns (Ok _) c.lines.invariant.few
-    (c.in_ok-next.was ∙ ap Ok c.in_default.is)))
+    c.lines.invariant.rests _ _ _ _ _
+    (rest_ends c.serve_next.ensures.turns (Ok _) c.lines.invariant.few (c.in_ok-next.was ∙ ap Ok c.in_default.is))
