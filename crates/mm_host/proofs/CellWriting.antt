@@ -106,18 +106,28 @@ joined Opt n m before middle after l w x = record {
     first bytes t (inl e) = subst (λ (s : Standing). WritesAtMostOnce s after) e (x.once bytes (ap (λ (s : Standing). s.cell) e ∙ t))
     first bytes t (inr f) = let flagged = f bytes t in once_by flagged.0 (n + m) before.writes after.writes (opens flagged.0 flagged.1)
 
-pub leads_joined : (variant : Variant) (n m : ℕ) (before middle after : Standing) → LeadsOver variant n before middle
+-- answered calls, and others behind them
+pub record AnsweredWrites (variant : Variant) (requests : ℕ) (before after : Standing) : Type 0 where
+  pub writes : WritesFor variant requests before after
+  pub leads : LeadsOver variant requests before after
+
+leads_joined : (variant : Variant) (n m : ℕ) (before middle after : Standing) → LeadsOver variant n before middle
     → LeadsOver variant m middle after → LeadsOver variant (n + m) before after
 leads_joined Basic n m before middle after l k = tt
 leads_joined Opt n m before middle after l k = record {
-  finds = found l.finds k.finds;
+  finds = elim l.finds [
+    | inr f ↦ inr f
+    | inl e ↦ elim k.finds [ inl h ↦ inl (h ∙ e) | inr f ↦ inr (subst (λ (s : Standing). HasFlag s) e f) ]
+  ];
   leaves = λ flag t. rw (sym (open_sum flag n m)) (k.leaves (is_open_after flag n) (l.leaves flag t));
 }
-  where
-    found : (middle ≡ before) ⊎ HasFlag before → (after ≡ middle) ⊎ HasFlag middle → (after ≡ before) ⊎ HasFlag before
-    found (inr f) x = inr f
-    found (inl e) (inl h) = inl (h ∙ e)
-    found (inl e) (inr f) = inr (subst (λ (s : Standing). HasFlag s) e f)
+
+pub both_writes : (variant : Variant) (n m : ℕ) (before middle after : Standing) → AnsweredWrites variant n before middle
+    → AnsweredWrites variant m middle after → AnsweredWrites variant (n + m) before after
+both_writes variant n m before middle after a b = record {
+  writes = joined variant n m before middle after a.leads a.writes b.writes;
+  leads = leads_joined variant n m before middle after a.leads b.leads;
+}
 
 pub leads_answer : (variant : Variant) (answer : Answer) (n : ℕ) (before after : Standing) → LeavesOpen variant (Ok answer) n before after
     → LeadsOver variant n before after

@@ -58,11 +58,9 @@ IsShort result = Unit {0}
 
 weighed_short : (spelled tagged : Bool) (verdict : Verdict) (fits : Bool) (next : List ℕ) (answer : Bool → BatchAnswer)
     → IsShort (found_from (weighed spelled tagged verdict fits) next answer)
-weighed_short false tagged verdict fits next answer = tt
-weighed_short true false verdict fits next answer = tt
 weighed_short true true Fresh true next answer = tt
 weighed_short true true Again true next answer = tt
-weighed_short true true verdict fits next answer = tt
+weighed_short _ _ _ _ next answer = tt
 
 found_short : (meaning : Meaning) (seen : Seen) (b : Batch) → IsShort (found_in meaning seen b)
 found_short meaning (NoCell cell_fault.Blank) b = tt
@@ -71,9 +69,7 @@ found_short meaning OtherCell b = tt
 found_short meaning (NoOffer Form) b = tt
 found_short meaning (NoOffer Kind) b = tt
 found_short meaning (Both cell offered) b =
-    weighed_short (meaning.is_spelled offered.content.state) (bytes_eq offered.tag (tag_of cell.key offered.content))
-    (verdict_of cell offered b) (nat_le (offered.content.position + size_of b) last_position) (committed_cell cell offered.content b)
-    (answer_of meaning cell.key offered.content b)
+    weighed_short (meaning.is_spelled offered.content.state) _ (verdict_of cell offered b) _ _ _
 
 reads_short : (meaning : Meaning) (old new : Standing) (offer : List ℕ) (b : Batch) (found : Result Found Refusal)
     → Reads meaning old new offer b found → IsShort found
