@@ -5,7 +5,7 @@ use Rattle.mm_pages.proofs.Below.{Failed, Rose, Digest, Slots, slot_in, with_slo
 use Rattle.mm_pages.proofs.Below.{with_slot-same, putting-twice, marks_alone, marked_last, marking, Cached, resized, page_of, page_count, Paged, ReadsLength}
 use Rattle.mm_pages.proofs.Below.{Syncs, changing, counted_by, may_be, look_at, looks_at, change_count, changes_of, one_if, Rows, row_in}
 use Rattle.mm_pages.proofs.Below.{with_row, kept_digest, page_digest, keeping, page_digests, IsPutAt, FailsIn, Fails, ChangesSlot}
-use Rattle.mm_pages.proofs.Below.{PutsOne, IsFilled, PutsFirst, IsOneMoreAtMost, Fits, FitsAndSyncs, EndsInSync, PutsWhole}
+use Rattle.mm_pages.proofs.Below.{PutsOne, IsFilled, PutsFirst, Fits, FitsAndSyncs, EndsInSync, PutsWhole}
 use Rattle.mm_pages.proofs.Below.{PutsBytes}
 use Rattle.mm_pages.proofs.BytesLaws.{get_or-page_of, page_of-same, resized-same, resized-length}
 use Rattle.mm_pages.proofs.RowLaws.{row_in-with_row, with_row-twice, with_row-same, keeping-next, kept_of-next, length-digests_of}
@@ -168,29 +168,10 @@ length_failed {slot} {old} {new} r = record {
   marks = ap (λ (x : Paged). marking slot true x.unsynced) r.same;
 }
 
--- a length that is fitted, and then synced
-fits_and_synced : {slot size : ℕ} {old mid new : Paged} {done : Unit} → Fits slot size old mid →
-    Syncs slot mid new (Ok done) → Fits slot size old new
-fits_and_synced {slot} {old = old} {mid = mid} {new = new} f s = record {
-  honest = ap (λ (x : Paged). x.is_honest) s.same ∙ f.honest;
-  faults = s.counted_faults.kept ∙ f.faults;
-  reads = ap (λ (x : Paged). x.page_reads) s.same ∙ f.reads;
-  writes = ap (λ (x : Paged). x.page_writes) s.same ∙ f.writes;
-  lengths =
-      subst (λ n. IsOneMoreAtMost old.length_writes n) (sym (ap (λ (x : Paged). x.length_writes) s.same)) f.lengths;
-  settled = λ told e l. ap (λ (x : Paged). x.length_writes) s.same ∙ f.settled told e l;
-  slots = λ honest. s.leaves (f.honest ∙ honest) ∙ f.slots honest;
-  marks =
-      marks_alone slot false mid.unsynced new.unsynced (ap (λ (x : Paged). x.unsynced) s.same) ∙ f.marks;
-}
-
--- or not
+-- a length that is fitted, and then synced or not
 pub fits_synced : (slot size : ℕ) (old mid new : Paged) (result : Result Unit Failed) → Fits slot size old mid →
     Syncs slot mid new result → EndsInSync slot size old new result
-fits_synced slot size old mid new (Ok done) f s = record {
-  fits = fits_and_synced f s;
-  synced = marked_last slot false old.unsynced mid.unsynced new.unsynced f.marks (ap (λ (x : Paged). x.unsynced) s.same);
-}
+fits_synced slot size old mid new (Ok done) f s = record { fitted = mid; fits = f; syncs = s }
 fits_synced slot size old mid new (Err fault) f s = record {
   honest = ap (λ (x : Paged). x.is_honest) s.same ∙ f.honest;
   faults = subst (λ n. Rose n new.faults) f.faults s.counted_faults.failed;
@@ -222,6 +203,7 @@ pub puts_all : {slot : ℕ} {bytes : List ℕ} {old mid new : Paged} {rows some 
     FitsAndSyncs slot (length bytes) mid new → PutsWhole slot bytes old new rows after
 puts_all {slot} {bytes} {old} {mid} {new} {rows} {some} f r ends =
     let g = ends.fits in
+    let s = ends.syncs in
     let count : ℕ = page_count (length bytes) in
     let row_is : row_in some slot ≡ page_digests bytes count ++ drop count (row_in rows slot) =
     ap (λ (x : Rows). row_in x slot) f.rows_are
@@ -229,26 +211,28 @@ puts_all {slot} {bytes} {old} {mid} {new} {rows} {some} f r ends =
     let cut : take count (row_in some slot) ≡ page_digests bytes count =
     ap (λ (x : List (Option Digest)). take count x) row_is ∙ take-digests_of bytes count (drop count (row_in rows slot)) in
     record {
-      honest = g.honest ∙ f.honest;
-      faults = g.faults ∙ f.faults;
-      lengths = subst (λ n. IsOneMoreAtMost n new.length_writes) f.lengths g.lengths;
-      synced = marked_last slot false old.unsynced mid.unsynced new.unsynced f.marks ends.synced;
+      honest = ap (λ (x : Paged). x.is_honest) s.same ∙ g.honest ∙ f.honest;
+      faults = s.counted_faults.kept ∙ g.faults ∙ f.faults;
+      lengths = rw (ap (λ (x : Paged). x.length_writes) s.same, sym f.lengths) g.lengths;
+      synced =
+          marked_last slot false old.unsynced ends.fitted.unsynced new.unsynced (g.marks ∙ f.marks) (ap (λ (x : Paged). x.unsynced) s.same);
       rows_are =
           r ∙ (λ j. with_row (f.rows_are j) slot (cut j))
           ∙ with_row-twice rows slot _ (page_digests bytes count);
-      looks = g.reads ∙ f.looks;
+      looks = ap (λ (x : Paged). x.page_reads) s.same ∙ g.reads ∙ f.looks;
       slots =
           λ honest.
-          put_as slot bytes old.slots new.slots
+          s.leaves (g.honest ∙ f.honest ∙ honest) ∙ put_as slot bytes old.slots ends.fitted.slots
           (changes_then (λ was between now filled fitted. fitted ∙ whole bytes was between filled) (f.fills honest)
-          (changed slot (λ was now. now ≡ resized (length bytes) was) (resized (length bytes)) mid.slots new.slots
+          (changed slot (λ was now. now ≡ resized (length bytes) was) (resized (length bytes)) mid.slots ends.fitted.slots
           (g.slots (f.honest ∙ honest)) (λ told e. refl)));
-      writes = λ honest told e steps. g.writes ∙ (f.changes honest told e steps).writes;
+      writes = λ honest told e steps. ap (λ (x : Paged). x.page_writes) s.same ∙ g.writes ∙ (f.changes honest told e steps).writes;
       settled =
           λ honest told e steps same.
           let none : changes_of (slot_in told slot) bytes count ≡ 0 =
           subst (λ (x : List ℕ). changes_of x bytes count ≡ 0) (sym same) (changes_of-same bytes count) in
-          g.settled told ((f.changes honest told e steps).still none ∙ e) (ap length same) ∙ f.lengths;
+          ap (λ (x : Paged). x.length_writes) s.same
+          ∙ g.settled told ((f.changes honest told e steps).still none ∙ e) (ap length same) ∙ f.lengths;
     }
 
 -- all pages, and then a failure

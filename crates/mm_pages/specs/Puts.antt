@@ -8,7 +8,7 @@ use Rattle.mm_store.specs.Slots.{Slots, slot_in}
 use Rattle.mm_store.specs.Unsynced.{marking, MarksAlone}
 use Rattle.mm_store.specs.Calls.{putting}
 use Rattle.mm_pages.specs.Bytes.{resized, page_of, page_count}
-use Rattle.mm_pages.specs.Calls.{changing}
+use Rattle.mm_pages.specs.Calls.{changing, Syncs}
 use Rattle.mm_pages.specs.Paged.{Paged}
 use Rattle.mm_pages.specs.Counts.{counted_by, may_be, look_at, looks_at, change_count, changes_of, one_if}
 use Rattle.mm_pages.specs.Rows.{Rows, row_in, with_row, kept_digest, page_digest, keeping, page_digests}
@@ -132,8 +132,9 @@ FitsLength slot size old new (Err _) = FailsIn slot old new
 
 -- a slot is given a length, and then synced
 pub record FitsAndSyncs (slot size : ℕ) (old new : Paged) : Type 0 where
-  pub fits : Fits slot size old new
-  pub synced : new.unsynced ≡ marking slot false old.unsynced
+  pub fitted : Paged
+  pub fits : Fits slot size old fitted
+  pub syncs : Syncs slot fitted new (Ok tt)
 
 abbrev pub EndsInSync : ℕ → ℕ → Paged → Paged → Result Unit Failed → Type 0
 EndsInSync slot size old new (Ok _) = FitsAndSyncs slot size old new
