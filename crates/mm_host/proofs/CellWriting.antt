@@ -1,12 +1,11 @@
 -- How often calls are to write the cell, and what flag they leave: one of either core, and calls one after another.
 use Rattle.mm_host.proofs.Below.{◌≡◌, ◌∙◌, ◌+◌, ◌≤◌, ℕ, zero, suc, Bool, true, false, List, Some, Ok, refl, sym, ap, subst, inl, inr, arith}
 use Rattle.mm_host.proofs.Below.{◌⊎◌, counted, Variant, Basic, Opt, Standing, Answer, counted_by, WritesAtMostOnce, LeavesOpen, TellsFlag}
-use Rattle.mm_host.proofs.Below.{WritesByOpening, WritesFor, is_open_after, openings, Option, None, Result, Err, option_map, StepFault}
-use Rattle.mm_host.proofs.Below.{cell_after, Meaning, Batch, PartsFault, IsCell, ReadsCell, SpellsCell, cell_spelling, Snapshot}
-use Rattle.mm_host.proofs.Below.{BatchAnswer, Refusal, Memory, Device, is_long, whole, whole_in, examined, Ended, goes_on}
-use Rattle.mm_host.proofs.Below.{breaks_off, EndsTo, result_of, fault_of, OrMemory, refused_result, BasicSteps, BasicAnswered, BasicRefused}
-use Rattle.mm_host.proofs.Below.{ReadsOn, opt_call, StepsAnswered, StepsFrom, CallWrites, IsNewAt, LeavesFlag}
-use Rattle.mm_host.proofs.Below.{new_by, [], ◌∷◌}
+use Rattle.mm_host.proofs.Below.{WritesByOpening, WritesFor, is_open_after, openings, Option, None, Result, Err, StepFault, cell_after}
+use Rattle.mm_host.proofs.Below.{Meaning, Batch, PartsFault, IsCell, ReadsCell, SpellsCell, cell_spelling, Snapshot, BatchAnswer, Refusal}
+use Rattle.mm_host.proofs.Below.{Memory, Device, is_long, whole, whole_in, examined, Ended, goes_on, breaks_off, EndsTo, result_of}
+use Rattle.mm_host.proofs.Below.{fault_of, OrMemory, refused_result, BasicSteps, BasicAnswered, BasicRefused, ReadsOn, opt_call}
+use Rattle.mm_host.proofs.Below.{StepsAnswered, StepsFrom, CallWrites, IsNewAt, LeavesFlag, new_by, [], ◌∷◌}
 use Rattle.mm_platform.specs.Steps.{Act}
 use Rattle.mm_call.specs.Calls.{StepsTo}
 use Rattle.std.proofs.Math.Nat.{suc-add, zero-add}
@@ -65,36 +64,38 @@ pub rests : (variant : Variant) (before after : Standing) → after ≡ before �
 rests Basic before after e = ap (λ (s : Standing). s.writes) e
 rests Opt before after e = writes_none before after (ap (λ (s : Standing). s.writes) e)
 
--- What answered calls leave of a flag, and that there is one where any call was made.
-abbrev pub HasFlag : Standing → Type 0
-HasFlag standing = (bytes : List ℕ) → standing.cell ≡ Some bytes → (flag : Bool) × TellsFlag standing flag
-
-pub record FlagAfter (requests : ℕ) (before after : Standing) : Type 0 where
-  pub finds : (after ≡ before) ⊎ HasFlag before
-  pub leaves : (flag : Bool) → TellsFlag before flag → TellsFlag after (is_open_after flag requests)
-
+-- what answered calls leave of a flag: none was made, or the first found one
 abbrev pub LeadsOver : Variant → ℕ → Standing → Standing → Type 0
 LeadsOver Basic requests before after = Unit {0}
-LeadsOver Opt requests before after = FlagAfter requests before after
+LeadsOver Opt requests before after = ((requests ≡ 0) × (after ≡ before)) ⊎ LeavesFlag requests before after
 
-pub flag_kept : (flag : Bool) → flag ≡ is_open_after flag 0
+flag_kept : (flag : Bool) → flag ≡ is_open_after flag 0
 flag_kept true = refl
 flag_kept false = refl
 
+leaves_of : (n : ℕ) (before after : Standing) → LeadsOver Opt n before after → (flag : Bool) → TellsFlag before flag
+    → TellsFlag after (is_open_after flag n)
+leaves_of n before after (inl e) flag t = rw (e.0, e.1, sym (flag_kept flag)) t
+leaves_of n before after (inr l) flag t = l.leaves flag t
+
 pub leads_rest : (variant : Variant) (before after : Standing) → after ≡ before → LeadsOver variant 0 before after
 leads_rest Basic before after e = tt
-leads_rest Opt before after e = record {
-  finds = inl e;
-  leaves = λ flag t. rw (e, sym (flag_kept flag)) t;
-}
+leads_rest Opt before after e = inl (refl, e)
+
+pub leads_answer : (variant : Variant) (answer : Answer) (n : ℕ) (before after : Standing) → LeavesOpen variant (Ok answer) n before after
+    → LeadsOver variant n before after
+leads_answer Basic answer n before after l = tt
+leads_answer Opt answer n before after l = inr l
 
 -- calls, and those behind them
 pub joined : (variant : Variant) (n m : ℕ) (before middle after : Standing) → LeadsOver variant n before middle
     → WritesFor variant n before middle → WritesFor variant m middle after → WritesFor variant (n + m) before after
 joined Basic n m before middle after l w x = x ∙ ap (counted_by m) w ∙ counted_sum n m before.writes
-joined Opt n m before middle after l w x = record {
+joined Opt n m before middle after (inl e) w x = rw (e.0, zero-add m, sym e.1) x
+joined Opt n m before middle after (inr l) w x = record {
   each = omega (arith, w.each, x.each);
-  once = λ (bytes : List ℕ) (t : before.cell ≡ Some bytes). first bytes t l.finds;
+  once = λ bytes t.
+      let found = l.finds bytes t in once_by found.0 (n + m) before.writes after.writes (opens found.0 found.1);
   opens = opens;
 }
   where
@@ -102,25 +103,19 @@ joined Opt n m before middle after l w x = record {
     opens flag t =
         opens_sum flag n m before.writes middle.writes after.writes (w.opens flag t) (x.opens (is_open_after flag n) (l.leaves flag t))
 
-    first : (bytes : List ℕ) → before.cell ≡ Some bytes → (middle ≡ before) ⊎ HasFlag before → WritesAtMostOnce before after
-    first bytes t (inl e) = subst (λ (s : Standing). WritesAtMostOnce s after) e (x.once bytes (ap (λ (s : Standing). s.cell) e ∙ t))
-    first bytes t (inr f) = let flagged = f bytes t in once_by flagged.0 (n + m) before.writes after.writes (opens flagged.0 flagged.1)
+leads_joined : (variant : Variant) (n m : ℕ) (before middle after : Standing) → LeadsOver variant n before middle
+    → LeadsOver variant m middle after → LeadsOver variant (n + m) before after
+leads_joined Basic n m before middle after l k = tt
+leads_joined Opt n m before middle after (inl e) k = rw (e.0, zero-add m, sym e.1) k
+leads_joined Opt n m before middle after (inr l) k = inr (record {
+  finds = l.finds;
+  leaves = λ flag t. rw (sym (open_sum flag n m)) (leaves_of m middle after k (is_open_after flag n) (l.leaves flag t));
+})
 
 -- answered calls, and others behind them
 pub record AnsweredWrites (variant : Variant) (requests : ℕ) (before after : Standing) : Type 0 where
   pub writes : WritesFor variant requests before after
   pub leads : LeadsOver variant requests before after
-
-leads_joined : (variant : Variant) (n m : ℕ) (before middle after : Standing) → LeadsOver variant n before middle
-    → LeadsOver variant m middle after → LeadsOver variant (n + m) before after
-leads_joined Basic n m before middle after l k = tt
-leads_joined Opt n m before middle after l k = record {
-  finds = elim l.finds [
-    | inr f ↦ inr f
-    | inl e ↦ elim k.finds [ inl h ↦ inl (h ∙ e) | inr f ↦ inr (subst (λ (s : Standing). HasFlag s) e f) ]
-  ];
-  leaves = λ flag t. rw (sym (open_sum flag n m)) (k.leaves (is_open_after flag n) (l.leaves flag t));
-}
 
 pub both_writes : (variant : Variant) (n m : ℕ) (before middle after : Standing) → AnsweredWrites variant n before middle
     → AnsweredWrites variant m middle after → AnsweredWrites variant (n + m) before after
@@ -128,11 +123,6 @@ both_writes variant n m before middle after a b = record {
   writes = joined variant n m before middle after a.leads a.writes b.writes;
   leads = leads_joined variant n m before middle after a.leads b.leads;
 }
-
-pub leads_answer : (variant : Variant) (answer : Answer) (n : ℕ) (before after : Standing) → LeavesOpen variant (Ok answer) n before after
-    → LeadsOver variant n before after
-leads_answer Basic answer n before after l = tt
-leads_answer Opt answer n before after l = record { finds = inr l.finds; leaves = l.leaves }
 
 -- Basic
 basic_answered : (again : Bool) (old new : Standing) → BasicAnswered again old new → new.writes ≡ counted_by (new_by again) old.writes

@@ -1,6 +1,6 @@
 -- What each exit of a recovery, and of one more request, is told as: whose fault it is, and how often the cell was to be written.
-use Rattle.mm_host.proofs.Below.{ℕ, ◌≡◌, ◌≢◌, ◌+◌, ◌≤◌, Bool, true, false, List, Option, None, Some, Result, Ok, Err, refl, sym, ap, ◌∙◌}
-use Rattle.mm_host.proofs.Below.{subst, arith, inl, inr, Rose, Variant, Standing, Meaning, Answer, Refusal, Long, Blames, fault_of}
+use Rattle.mm_host.proofs.Below.{ℕ, ◌≡◌, ◌≢◌, ◌≤◌, Bool, true, false, List, Option, None, Some, Result, Ok, Err, refl, sym, ap, ◌∙◌}
+use Rattle.mm_host.proofs.Below.{subst, arith, inl, inr, Variant, Standing, Meaning, Answer, Refusal, Long, Blames, fault_of}
 use Rattle.mm_host.proofs.Below.{StoreFault, CountsFailures, StoreStanding, Pending, HostFault, Resumed, store_fault_as, refusal_fault}
 use Rattle.mm_host.proofs.Below.{AfterRecord, AsksNext, AfterThree, AfterTwo, started, kept_as, AfterAsk, AfterOffer, AfterFinding, Resumes}
 use Rattle.mm_host.proofs.Below.{IsCall, CallWrites, IsNewAt, WritesFor, new_by, IsNewOf, RequestWrites, new_first}

@@ -1,12 +1,11 @@
 -- The steps of a write, one after another.
 use Rattle.mm_pages.proofs.Below.{ℕ, ◌≡◌, ◌+◌, ◌*◌, ◌<◌, ◌≤◌, suc, true, false, Option, Some, None, Result, Ok, Err, List, ◌++◌, length}
 use Rattle.mm_pages.proofs.Below.{get_or, take, drop, refl, ap, sym, ◌∙◌, subst, inl, inr, arith, ◌-◌, length-append, is_err, cases_lt}
-use Rattle.mm_pages.proofs.Below.{Failed, Rose, Digest, Slots, slot_in, with_slot, putting, slot_in-with_slot}
-use Rattle.mm_pages.proofs.Below.{with_slot-same, putting-twice, marks_alone, marked_last, marking, Cached, resized, page_of, page_count, Paged, ReadsLength}
-use Rattle.mm_pages.proofs.Below.{Syncs, changing, counted_by, may_be, look_at, looks_at, change_count, changes_of, one_if, Rows, row_in}
-use Rattle.mm_pages.proofs.Below.{with_row, kept_digest, page_digest, keeping, page_digests, IsPutAt, FailsIn, Fails, ChangesSlot}
-use Rattle.mm_pages.proofs.Below.{PutsOne, IsFilled, PutsFirst, Fits, FitsAndSyncs, EndsInSync, PutsWhole}
-use Rattle.mm_pages.proofs.Below.{PutsBytes}
+use Rattle.mm_pages.proofs.Below.{Failed, Rose, Digest, Slots, slot_in, with_slot, putting, slot_in-with_slot, with_slot-same}
+use Rattle.mm_pages.proofs.Below.{putting-twice, marks_alone, marked_last, marking, Cached, resized, page_of, page_count, Paged}
+use Rattle.mm_pages.proofs.Below.{ReadsLength, Syncs, changing, counted_by, may_be, look_at, looks_at, change_count, changes_of, one_if}
+use Rattle.mm_pages.proofs.Below.{Rows, row_in, with_row, kept_digest, page_digest, keeping, page_digests, IsPutAt, FailsIn, Fails}
+use Rattle.mm_pages.proofs.Below.{ChangesSlot, PutsOne, IsFilled, PutsFirst, Fits, FitsAndSyncs, EndsInSync, PutsWhole, PutsBytes}
 use Rattle.mm_pages.proofs.BytesLaws.{get_or-page_of, page_of-same, resized-same, resized-length}
 use Rattle.mm_pages.proofs.RowLaws.{row_in-with_row, with_row-twice, with_row-same, keeping-next, kept_of-next, length-digests_of}
 use Rattle.mm_pages.proofs.RowLaws.{take-digests_of}

@@ -1,10 +1,9 @@
 -- What a read and a write over two cells do to the one cell.
 use Rattle.mm_twocell.proofs.Below.{ℕ, ◌≡◌, ◌-◌, ◌*◌, ◌⊎◌, inl, inr, Bool, true, false, List, [], ◌∷◌, ◌++◌, length, get_or, Option, None}
-use Rattle.mm_twocell.proofs.Below.{Some, refl, sym, ap, ◌∙◌, subst, arith, ◌%◌, ◌==◌, slice_index, option_map, Rose}
-use Rattle.mm_twocell.proofs.Below.{cell_length, StepFault, Failed, Off, Standing, WriteCell, beside, cell_after, EndsBy, spliced}
-use Rattle.mm_twocell.proofs.Below.{LeavesRest, ReadsRaw, WritesRaw, beside-beside, picked, WritesPicked}
-use Rattle.mm_twocell.proofs.Cells.{in_three, pair, number, one_item, parity, picks_own, picks_other, put_other, put_selector}
-use Rattle.mm_twocell.proofs.Cells.{selector_of}
+use Rattle.mm_twocell.proofs.Below.{Some, refl, sym, ap, ◌∙◌, subst, arith, ◌%◌, ◌==◌, slice_index, option_map, Rose, cell_length}
+use Rattle.mm_twocell.proofs.Below.{StepFault, Failed, Off, Standing, WriteCell, beside, cell_after, EndsBy, spliced, LeavesRest, ReadsRaw}
+use Rattle.mm_twocell.proofs.Below.{WritesRaw, beside-beside, picked, WritesPicked}
+use Rattle.mm_twocell.proofs.Cells.{in_three, pair, number, one_item, parity, picks_own, picks_other, put_other, put_selector, selector_of}
 use Rattle.std.specs.Prelude.{not}
 
 -- how a call ends that went on from a call that was done
@@ -21,9 +20,6 @@ ends_with (Some Off) old two three made any on same m e = record {
 done_made : (fault : Option StepFault) (old new : Standing) (made : Bool) → EndsBy fault old new made → fault ≡ None → made ≡ true
 done_made None old new made e none = e.made
 done_made (Some fault) old new made e none = absurd (cc)
-
-failed_not : (fault : StepFault) (made : Bool) → Some fault ≡ None → made ≡ true
-failed_not fault made e = absurd (cc)
 
 pub leaves_then : (old one two : Standing) → LeavesRest old one → LeavesRest one two → LeavesRest old two
 leaves_then old one two a b = record {
@@ -126,7 +122,7 @@ write_torn {selector = selector} {other = other} {old = old} {one = one} {two = 
   cell = ap (option_map picked) (b.cell ∙ ap (option_map (spliced (cell_length * other) b.written)) a.cell)
       ∙ told_left old.cell b.written selector other r (b.size ∙ l);
   rest = leaves_then old one two a.rest b.rest;
-  ends = ends_with (Some fault) old one two false b.is_made a.ends.was_on a.ends.faults (failed_not fault false) b.ends;
+  ends = ends_with (Some fault) old one two false b.is_made a.ends.was_on a.ends.faults (λ none. absurd (cc)) b.ends;
 }
 
 other_below : (selector other : ℕ) → other ≡ 1 - selector % 2 → (other % 2 == other) ≡ true
