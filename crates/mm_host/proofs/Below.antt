@@ -74,7 +74,6 @@ pub use Rattle.mm_call.proofs.OptAlike.{still}
 pub use Rattle.mm_basic.specs.Asks.{acts_for, answer_in, basic_call, StepsAnswered as BasicAnswered, StepsBy as BasicSteps}
 pub use Rattle.mm_basic.specs.Asks.{StepsRefused as BasicRefused}
 pub use Rattle.mm_opt.specs.Asks.{opt_call, ReadsOn, StepsAnswered, StepsBy, StepsFrom, WritesAtMostOnce}
-pub use Rattle.mm_opt.proofs.Above.{IsShaped, reads_shaped}
 pub use Rattle.mm_flight.proofs.Above.{begun_may_ask}
 pub use Rattle.mm_store.specs.Calls.{CountsFailures, putting, ReadsSlot, WritesSlot}
 pub use Rattle.mm_store.specs.Kept.{StoreStanding}

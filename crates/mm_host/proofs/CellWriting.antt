@@ -1,12 +1,13 @@
 -- How often calls are to write the cell, and what flag they leave: one of either core, and calls one after another.
 use Rattle.mm_host.proofs.Below.{◌≡◌, ◌∙◌, ◌+◌, ◌≤◌, ℕ, zero, suc, Bool, true, false, List, Some, Ok, refl, sym, ap, subst, inl, inr, arith}
 use Rattle.mm_host.proofs.Below.{◌⊎◌, counted, Variant, Basic, Opt, Standing, Answer, counted_by, WritesAtMostOnce, LeavesOpen, TellsFlag}
-use Rattle.mm_host.proofs.Below.{WritesByOpening, WritesFor, is_open_after, openings, Option, None, Result, Err, option_map, StepFault}
-use Rattle.mm_host.proofs.Below.{WriteCell, cell_after, Meaning, Batch, PartsFault, IsCell, ReadsCell, SpellsCell, cell_spelling, Snapshot}
-use Rattle.mm_host.proofs.Below.{BatchAnswer, Refusal, Memory, Device, is_long, whole, whole_in, examined, Ended, Answered, Broken, goes_on}
-use Rattle.mm_host.proofs.Below.{breaks_off, EndsTo, result_of, fault_of, OrMemory, refused_result, BasicSteps, BasicAnswered, BasicRefused}
-use Rattle.mm_host.proofs.Below.{ReadsOn, opt_call, StepsAnswered, StepsFrom, IsShaped, reads_shaped, CallWrites, IsNewAt, LeavesFlag}
-use Rattle.mm_host.proofs.Below.{new_by}
+use Rattle.mm_host.proofs.Below.{WritesByOpening, WritesFor, is_open_after, openings, Option, None, Result, Err, StepFault, cell_after}
+use Rattle.mm_host.proofs.Below.{Meaning, Batch, PartsFault, IsCell, ReadsCell, SpellsCell, cell_spelling, Snapshot, BatchAnswer, Refusal}
+use Rattle.mm_host.proofs.Below.{Memory, Device, is_long, whole, whole_in, examined, Ended, goes_on, breaks_off, EndsTo, result_of}
+use Rattle.mm_host.proofs.Below.{fault_of, OrMemory, refused_result, BasicSteps, BasicAnswered, BasicRefused, ReadsOn, opt_call}
+use Rattle.mm_host.proofs.Below.{StepsAnswered, StepsFrom, CallWrites, IsNewAt, LeavesFlag, new_by, [], ◌∷◌}
+use Rattle.mm_platform.specs.Steps.{Act}
+use Rattle.mm_call.specs.Calls.{StepsTo}
 use Rattle.std.proofs.Math.Nat.{suc-add, zero-add}
 use Rattle.mm_seal.specs.declared.cell.Cell.{Cell}
 use Rattle.mm_seal.specs.declared.cell.CellFault.{CellFault}
@@ -18,7 +19,7 @@ use Rattle.mm_opt.specs.Seen.{is_cell_of, own_cell, cell_in}
 use Rattle.mm_opt.specs.Order.{batch_value, has_lost_power, verdict_of}
 use Rattle.mm_opt.specs.Answers.{answer_of, change_by, opened_cell, found_from, found_in_offer, found_unless, found_in}
 use Rattle.mm_opt.specs.Steps.{ReadsOwnCell, FindsCell, MakesRoom}
-use Rattle.mm_opt.specs.Asks.{Reads}
+use Rattle.mm_opt.specs.Asks.{Reads, acts_for, answer_in}
 use Rattle.mm_opt.specs.Asked.{AskedInOpt}
 use Rattle.mm_seal.specs.declared.snapshot.PartsFault.TheVariants as parts
 
@@ -31,10 +32,11 @@ pub counted_most : (n count : ℕ) → counted_by n count ≤ count + n
 counted_most zero count = omega arith
 counted_most (suc n) count = let rest = counted_most n (counted count) in omega (arith, rest)
 
-openings_sum : (flag : Bool) (n m : ℕ) → openings flag n + openings (is_open_after flag n) m ≡ openings flag (n + m)
-openings_sum true n m = refl
-openings_sum false zero m = zero-add (openings false m) ∙ ap (openings false) (sym (zero-add m))
-openings_sum false (suc n) m = ap (openings false) (sym (suc-add n m))
+opens_sum : (flag : Bool) (n m before middle after : ℕ) → middle ≡ counted_by (openings flag n) before
+    → after ≡ counted_by (openings (is_open_after flag n) m) middle → after ≡ counted_by (openings flag (n + m)) before
+opens_sum true n m before middle after e f = f ∙ e
+opens_sum false zero m before middle after e f = rw (zero-add m, sym e) f
+opens_sum false (suc n) m before middle after e f = rw (suc-add n m) (f ∙ e)
 
 open_sum : (flag : Bool) (n m : ℕ) → is_open_after (is_open_after flag n) m ≡ is_open_after flag (n + m)
 open_sum true n m = refl
@@ -62,67 +64,65 @@ pub rests : (variant : Variant) (before after : Standing) → after ≡ before �
 rests Basic before after e = ap (λ (s : Standing). s.writes) e
 rests Opt before after e = writes_none before after (ap (λ (s : Standing). s.writes) e)
 
--- What answered calls leave of a flag, and that there is one where any call was made.
-abbrev pub HasFlag : Standing → Type 0
-HasFlag standing = (bytes : List ℕ) → standing.cell ≡ Some bytes → (flag : Bool) × TellsFlag standing flag
-
-pub record FlagAfter (requests : ℕ) (before after : Standing) : Type 0 where
-  pub finds : (after ≡ before) ⊎ HasFlag before
-  pub leaves : (flag : Bool) → TellsFlag before flag → TellsFlag after (is_open_after flag requests)
-
+-- what answered calls leave of a flag: none was made, or the first found one
 abbrev pub LeadsOver : Variant → ℕ → Standing → Standing → Type 0
 LeadsOver Basic requests before after = Unit {0}
-LeadsOver Opt requests before after = FlagAfter requests before after
+LeadsOver Opt requests before after = ((requests ≡ 0) × (after ≡ before)) ⊎ LeavesFlag requests before after
 
-pub flag_kept : (flag : Bool) → flag ≡ is_open_after flag 0
+flag_kept : (flag : Bool) → flag ≡ is_open_after flag 0
 flag_kept true = refl
 flag_kept false = refl
 
+leaves_of : (n : ℕ) (before after : Standing) → LeadsOver Opt n before after → (flag : Bool) → TellsFlag before flag
+    → TellsFlag after (is_open_after flag n)
+leaves_of n before after (inl e) flag t = rw (e.0, e.1, sym (flag_kept flag)) t
+leaves_of n before after (inr l) flag t = l.leaves flag t
+
 pub leads_rest : (variant : Variant) (before after : Standing) → after ≡ before → LeadsOver variant 0 before after
 leads_rest Basic before after e = tt
-leads_rest Opt before after e = record {
-  finds = inl e;
-  leaves = λ flag t. rw (e, sym (flag_kept flag)) t;
-}
+leads_rest Opt before after e = inl (refl, e)
+
+pub leads_answer : (variant : Variant) (answer : Answer) (n : ℕ) (before after : Standing) → LeavesOpen variant (Ok answer) n before after
+    → LeadsOver variant n before after
+leads_answer Basic answer n before after l = tt
+leads_answer Opt answer n before after l = inr l
 
 -- calls, and those behind them
 pub joined : (variant : Variant) (n m : ℕ) (before middle after : Standing) → LeadsOver variant n before middle
     → WritesFor variant n before middle → WritesFor variant m middle after → WritesFor variant (n + m) before after
 joined Basic n m before middle after l w x = x ∙ ap (counted_by m) w ∙ counted_sum n m before.writes
-joined Opt n m before middle after l w x = record {
+joined Opt n m before middle after (inl e) w x = rw (e.0, zero-add m, sym e.1) x
+joined Opt n m before middle after (inr l) w x = record {
   each = omega (arith, w.each, x.each);
-  once = λ (bytes : List ℕ) (t : before.cell ≡ Some bytes). first bytes t l.finds;
+  once = λ bytes t.
+      let found = l.finds bytes t in once_by found.0 (n + m) before.writes after.writes (opens found.0 found.1);
   opens = opens;
 }
   where
     opens : (flag : Bool) → TellsFlag before flag → after.writes ≡ counted_by (openings flag (n + m)) before.writes
     opens flag t =
-        x.opens (is_open_after flag n) (l.leaves flag t)
-        ∙ ap (counted_by (openings (is_open_after flag n) m)) (w.opens flag t)
-        ∙ counted_sum (openings flag n) (openings (is_open_after flag n) m) before.writes
-        ∙ ap (λ (k : ℕ). counted_by k before.writes) (openings_sum flag n m)
+        opens_sum flag n m before.writes middle.writes after.writes (w.opens flag t) (x.opens (is_open_after flag n) (l.leaves flag t))
 
-    first : (bytes : List ℕ) → before.cell ≡ Some bytes → (middle ≡ before) ⊎ HasFlag before → WritesAtMostOnce before after
-    first bytes t (inl e) = subst (λ (s : Standing). WritesAtMostOnce s after) e (x.once bytes (ap (λ (s : Standing). s.cell) e ∙ t))
-    first bytes t (inr f) = let flagged = f bytes t in once_by flagged.0 (n + m) before.writes after.writes (opens flagged.0 flagged.1)
-
-pub leads_joined : (variant : Variant) (n m : ℕ) (before middle after : Standing) → LeadsOver variant n before middle
+leads_joined : (variant : Variant) (n m : ℕ) (before middle after : Standing) → LeadsOver variant n before middle
     → LeadsOver variant m middle after → LeadsOver variant (n + m) before after
 leads_joined Basic n m before middle after l k = tt
-leads_joined Opt n m before middle after l k = record {
-  finds = found l.finds k.finds;
-  leaves = λ flag t. rw (sym (open_sum flag n m)) (k.leaves (is_open_after flag n) (l.leaves flag t));
-}
-  where
-    found : (middle ≡ before) ⊎ HasFlag before → (after ≡ middle) ⊎ HasFlag middle → (after ≡ before) ⊎ HasFlag before
-    found (inr f) x = inr f
-    found (inl e) (inl h) = inl (h ∙ e)
-    found (inl e) (inr f) = inr (subst (λ (s : Standing). HasFlag s) e f)
+leads_joined Opt n m before middle after (inl e) k = rw (e.0, zero-add m, sym e.1) k
+leads_joined Opt n m before middle after (inr l) k = inr (record {
+  finds = l.finds;
+  leaves = λ flag t. rw (sym (open_sum flag n m)) (leaves_of m middle after k (is_open_after flag n) (l.leaves flag t));
+})
 
-pub leads_answer : (variant : Variant) (answer : Answer) (n : ℕ) (before after : Standing) → LeavesOpen variant (Ok answer) n before after
-    → LeadsOver variant n before after
-leads_answer Basic answer n before after l = tt
-leads_answer Opt answer n before after l = record { finds = inr l.finds; leaves = l.leaves }
+-- answered calls, and others behind them
+pub record AnsweredWrites (variant : Variant) (requests : ℕ) (before after : Standing) : Type 0 where
+  pub writes : WritesFor variant requests before after
+  pub leads : LeadsOver variant requests before after
+
+pub both_writes : (variant : Variant) (n m : ℕ) (before middle after : Standing) → AnsweredWrites variant n before middle
+    → AnsweredWrites variant m middle after → AnsweredWrites variant (n + m) before after
+both_writes variant n m before middle after a b = record {
+  writes = joined variant n m before middle after a.leads a.writes b.writes;
+  leads = leads_joined variant n m before middle after a.leads b.leads;
+}
 
 -- Basic
 basic_answered : (again : Bool) (old new : Standing) → BasicAnswered again old new → new.writes ≡ counted_by (new_by again) old.writes
@@ -143,22 +143,23 @@ basic_writes old new (Ok answer) s =
 basic_writes old new (Err why) s =
     let r = basic_refused (fault_of why) old new s in record { requests = r.0; new = r.1; writes = r.2; leaves = tt }
 
--- what Opt finds, by the cell that it read
+-- What Opt finds, by the cell that it read: a repeat, or what is new.
 abbrev IsByCell : Cell → Result Found Refusal → Type 0
-IsByCell cell (Ok (Inside ready)) = cell.flag ≡ true
-IsByCell cell (Ok (Opens opening)) = (cell.flag ≡ false) × (opening.next ≡ opened_cell cell)
+IsByCell cell (Ok (Repeat answer)) = answer.again ≡ true
+IsByCell cell (Ok (Inside ready)) = (ready.answer.again ≡ false) × (cell.flag ≡ true)
+IsByCell cell (Ok (Opens opening)) = (opening.answer.again ≡ false) × (cell.flag ≡ false) × (opening.next ≡ opened_cell cell)
 IsByCell cell found = Unit {0}
 
-change_by_cell : (cell : Cell) (flag : Bool) (value : List ℕ) (answer : BatchAnswer) → cell.flag ≡ flag
+change_by_cell : (cell : Cell) (flag : Bool) (value : List ℕ) (answer : BatchAnswer) → cell.flag ≡ flag → answer.again ≡ false
     → IsByCell cell (Ok (change_by flag value (opened_cell cell) answer))
-change_by_cell cell true value answer e = e
-change_by_cell cell false value answer e = (e, refl)
+change_by_cell cell true value answer e new = (new, e)
+change_by_cell cell false value answer e new = (new, e, refl)
 
 from_by_cell : (e : Result Bool Refusal) (cell : Cell) (value : List ℕ) (answer : Bool → BatchAnswer)
-    → IsByCell cell (found_from e cell value answer)
-from_by_cell (Err why) cell value answer = tt
-from_by_cell (Ok true) cell value answer = tt
-from_by_cell (Ok false) cell value answer = change_by_cell cell cell.flag value (answer false) refl
+    → ((again : Bool) → (answer again).again ≡ again) → IsByCell cell (found_from e cell value answer)
+from_by_cell (Err why) cell value answer says = tt
+from_by_cell (Ok true) cell value answer says = says true
+from_by_cell (Ok false) cell value answer says = change_by_cell cell cell.flag value (answer false) refl (says false)
 
 at_by_cell : (lost : Bool) (meaning : Meaning) (cell : Cell) (register : List ℕ) (taken : Result Snapshot PartsFault) (b : Batch)
     → IsByCell cell (found_unless lost (found_in_offer meaning cell register taken b))
@@ -167,7 +168,7 @@ at_by_cell false meaning cell register (Err parts.Form) b = tt
 at_by_cell false meaning cell register (Err parts.Kind) b = tt
 at_by_cell false meaning cell register (Ok offered) b =
     from_by_cell (examined meaning cell.key offered b (verdict_of cell register offered b)) cell (batch_value cell b)
-    (answer_of meaning cell register offered.content b)
+    (answer_of meaning cell register offered.content b) (λ again. refl)
 
 -- want of memory may come in its place
 pub or_all : {A : Type 0} (P : Result A Refusal → Type 0) (x found : Result A Refusal) → P x → P (Err Memory) → OrMemory x found → P found
@@ -191,93 +192,86 @@ room_cell (Repeat answer) old new r = ap (λ (s : Standing). s.cell) r
 room_cell (Inside ready) old new r = ap (λ (s : Standing). s.cell) r.same
 room_cell (Opens opening) old new r = ap (λ (s : Standing). s.cell) r.same
 
--- the flag that is left
-open_one : (flag : Bool) → is_open_after flag 1 ≡ true
-open_one true = refl
-open_one false = refl
+-- the cell after these steps; a call that gave an answer made all of its own
+abbrev cells_after : List Act → Option (List ℕ) → Option (List ℕ)
+cells_after [] cell = cell
+cells_after (act ∷ acts) cell = cells_after acts (cell_after act true cell)
 
-never_broken : {ended : Ended} {fault : StepFault} {position : Option ℕ} {answer : BatchAnswer} → ended ≡ Broken fault position
-    → result_of ended ≡ Ok answer → ⊥
-never_broken {fault = fault} {answer = answer} e done =
-    let clash : Err (Device fault) ≡ Ok answer = sym (ap result_of e) ∙ done in cc
+all_made : (acts : List Act) (it answer : BatchAnswer) (old new : Standing) (ended : Ended) → StepsTo acts it old new ended
+    → result_of ended ≡ Ok answer → (answer ≡ it) × (new.cell ≡ cells_after acts old.cell)
+all_made [] it answer old new ended s done =
+    let gives : Ok answer ≡ Ok it = sym done ∙ ap result_of s.1 in (cc, ap (λ (x : Standing). x.cell) s.0)
+all_made (act ∷ acts) it answer old new ended (goes_on middle g s) done =
+    let rest = all_made acts it answer middle new ended s done in
+    (rest.0, rest.1 ∙ ap (cells_after acts) (g.cell ∙ ap (λ (made : Bool). cell_after act made old.cell) g.ends.made))
+all_made (act ∷ acts) it answer old new ended (breaks_off fault g e) done =
+    let clash : Err (Device fault) ≡ Ok answer = sym (ap result_of e) ∙ done in absurd (cc)
 
--- What an answered call leaves: the cell that was seen, or where a segment is opened that one with its flag set.
-module _ (seen : Cell) (answer : BatchAnswer) (middle new : Standing) (ended : Ended) (is : IsCell seen)
-    (at : middle.cell ≡ Some (cell_spelling seen)) (done : result_of ended ≡ Ok answer) where
-  leaves_as : (it : BatchAnswer) (again flag : Bool) → ended ≡ Answered it → it.again ≡ again
-      → is_open_after seen.flag (new_by again) ≡ flag → TellsFlag new flag → TellsFlag new (is_open_after seen.flag (new_by answer.again))
-  leaves_as it again flag e shape leaves t =
-      let gives : Ok answer ≡ Ok it = sym done ∙ ap result_of e in
-      let same : answer ≡ it = cc in rw (same, shape, leaves) t
-
-  found_seen : (found : Found) → IsByCell seen (Ok found) → IsShaped (Ok found) → EndsTo opt_call (Ok found) middle new ended
-      → TellsFlag new (is_open_after seen.flag (new_by answer.again))
-  found_seen (Repeat it) by shape s =
-      leaves_as it true seen.flag s.1 shape (sym (flag_kept seen.flag))
-      (record { cell = seen; is_cell = is; tells = ap (λ (x : Standing). x.cell) s.0 ∙ at; shows = refl })
-  found_seen (Inside ready) by shape (breaks_off fault g e) = absurd (never_broken e done)
-  found_seen (Inside ready) by shape (goes_on last g s) =
-      leaves_as ready.answer false true s.1 shape (open_one seen.flag)
-      (record { cell = seen; is_cell = is; tells = ap (λ (x : Standing). x.cell) s.0 ∙ g.cell ∙ at; shows = by })
-  found_seen (Opens opening) by shape (breaks_off fault g e) = absurd (never_broken e done)
-  found_seen (Opens opening) by shape (goes_on next g (breaks_off fault h e)) = absurd (never_broken e done)
-  found_seen (Opens opening) by shape (goes_on next g (goes_on third h (breaks_off fault k e))) = absurd (never_broken e done)
-  found_seen (Opens opening) by shape (goes_on next g (goes_on third h (goes_on last k s))) =
-      leaves_as opening.answer false true s.1 shape (open_one seen.flag)
-      (rw s.0 (record {
-        cell = record seen { variant = Opt; flag = true };
-        is_cell = record { summary = is.summary; key = is.key; barrier = is.barrier; variant = tt };
-        tells = k.cell ∙ ap (λ (made : Bool). cell_after (WriteCell opening.next) made third.cell) k.ends.made
-            ∙ ap (option_map (λ (x : List ℕ). opening.next)) (h.cell ∙ g.cell ∙ at) ∙ ap Some by.1;
-        shows = refl;
-      }))
+-- the flag that an answered call leaves in the cell that it saw
+flag_left : (seen : Cell) (found : Found) (new : Standing) → IsCell seen → IsByCell seen (Ok found)
+    → new.cell ≡ cells_after (acts_for found) (Some (cell_spelling seen))
+    → TellsFlag new (is_open_after seen.flag (new_by (answer_in found).again))
+flag_left seen (Repeat it) new is by e =
+    rw (by, sym (flag_kept seen.flag)) (record { cell = seen; is_cell = is; tells = e; shows = refl })
+flag_left seen (Inside ready) new is by e = rw (by.0, by.1) (record { cell = seen; is_cell = is; tells = e; shows = by.1 })
+flag_left seen (Opens opening) new is by e =
+    rw (by.0, by.1) (record {
+      cell = record seen { variant = Opt; flag = true };
+      is_cell = record { summary = is.summary; key = is.key; barrier = is.barrier; variant = tt };
+      tells = e ∙ ap Some by.2;
+      shows = refl;
+    })
 
 -- an answered call: the cell that it saw, where the platform tells that, and what it left
-leaves_seen : (read : Result Cell Refusal) (meaning : Meaning) (offer : List ℕ) (b : Batch) (old one middle new : Standing) (ended : Ended)
-    (answer : BatchAnswer) (found : Found) → ReadsOwnCell meaning.id old one read → ReadsOn meaning read one middle offer b (Ok found)
-    → EndsTo opt_call (Ok found) middle new ended → result_of ended ≡ Ok answer → LeavesFlag (new_by answer.again) old new
-leaves_seen (Err why) meaning offer b old one middle new ended answer found r on ends done =
-    let e : Ok found ≡ Err why = on.1 in absurd (cc)
-leaves_seen (Ok seen) meaning offer b old one middle new ended answer found r on ends done =
-    let f : FindsCell meaning.id old (Ok seen) = r.finds refl in
-    let s = seen_spelled meaning.id f.bytes f.sees.read seen f.sees.reads f.sees.found_is in
-    let told : (bytes : List ℕ) → old.cell ≡ Some bytes → bytes ≡ cell_spelling seen = λ bytes e. sym (f.told bytes e) ∙ s.1 in
-    let kept : middle.cell ≡ old.cell = room_cell found on.middle middle on.room ∙ on.goes.cell ∙ r.goes.cell in
-    let g = on.finds refl in
-    let by_cell : IsByCell seen (Ok found) =
-    or_all (λ (x : Result Found Refusal). IsByCell seen x) (found_in meaning seen g.register g.finds.taken b) (Ok found)
-    (at_by_cell (has_lost_power seen g.register) meaning seen g.register g.finds.taken b) tt g.finds.found_is in
-    record {
-      finds = λ bytes e. (seen.flag, record { cell = seen; is_cell = s.0; tells = e ∙ ap Some (told bytes e); shows = refl });
-      leaves = λ (flag : Bool) (t : TellsFlag old flag).
-          let read : Ok t.cell ≡ Ok seen =
-          reads_cell-same (cell_spelling t.cell) (Ok t.cell) (Ok seen) (t.is_cell, refl) (s.0, told (cell_spelling t.cell) t.tells) in
-          let same : t.cell ≡ seen = cc in
-          subst (λ (x : Bool). TellsFlag new (is_open_after x (new_by answer.again))) (sym (ap (λ (c : Cell). c.flag) same) ∙ t.shows)
-          (found_seen seen answer middle new ended s.0 (kept ∙ t.tells ∙ ap (λ (c : Cell). Some (cell_spelling c)) same) done
-          found by_cell (reads_shaped (Ok seen) meaning one middle offer b found on) ends);
-    }
+module _ (meaning : Meaning) (offer : List ℕ) (b : Batch) (old new : Standing) (ended : Ended) (answer : BatchAnswer)
+    (done : result_of ended ≡ Ok answer) where
+  leaves_seen : (read : Result Cell Refusal) (one middle : Standing) (found : Found) → ReadsOwnCell meaning.id old one read
+      → ReadsOn meaning read one middle offer b (Ok found) → EndsTo opt_call (Ok found) middle new ended
+      → LeavesFlag (new_by answer.again) old new
+  leaves_seen (Err why) one middle found r on ends = let e : Ok found ≡ Err why = on.1 in absurd (cc)
+  leaves_seen (Ok seen) one middle found r on ends =
+      let f : FindsCell meaning.id old (Ok seen) = r.finds refl in
+      let s = seen_spelled meaning.id f.bytes f.sees.read seen f.sees.reads f.sees.found_is in
+      let told : (bytes : List ℕ) → old.cell ≡ Some bytes → bytes ≡ cell_spelling seen = λ bytes e. sym (f.told bytes e) ∙ s.1 in
+      let g = on.finds refl in
+      let by : IsByCell seen (Ok found) =
+      or_all (λ (x : Result Found Refusal). IsByCell seen x) (found_in meaning seen g.register g.finds.taken b) (Ok found)
+      (at_by_cell (has_lost_power seen g.register) meaning seen g.register g.finds.taken b) tt g.finds.found_is in
+      let made = all_made (acts_for found) (answer_in found) answer middle new ended ends done in
+      record {
+        finds = λ bytes e. (seen.flag, record { cell = seen; is_cell = s.0; tells = e ∙ ap Some (told bytes e); shows = refl });
+        leaves = λ (flag : Bool) (t : TellsFlag old flag).
+            let read : Ok t.cell ≡ Ok seen =
+            reads_cell-same (cell_spelling t.cell) (Ok t.cell) (Ok seen) (t.is_cell, refl) (s.0, told (cell_spelling t.cell) t.tells) in
+            let same : t.cell ≡ seen = cc in
+            rw (made.0, sym t.shows, same)
+            (flag_left seen found new s.0 by (made.1 ∙ ap (cells_after (acts_for found)) (room_cell found on.middle middle on.room
+            ∙ on.goes.cell ∙ r.goes.cell ∙ t.tells ∙ ap (λ (c : Cell). Some (cell_spelling c)) same)));
+      }
 
-ends_flag : (found : Result Found Refusal) (meaning : Meaning) (offer : List ℕ) (b : Batch) (old middle new : Standing) (ended : Ended)
-    (answer : BatchAnswer) → Reads meaning old middle offer b found → EndsTo opt_call found middle new ended
-    → result_of ended ≡ Ok answer → LeavesFlag (new_by answer.again) old new
-ends_flag (Err why) meaning offer b old middle new ended answer r e done =
-    let failed : Ok answer ≡ Err why = sym done ∙ ap result_of e.1 ∙ refused_result why in absurd (cc)
-ends_flag (Ok found) meaning offer b old middle new ended answer r e done =
-    leaves_seen r.cell meaning offer b old r.middle middle new ended answer found r.reads r.on e done
+  ends_flag : (found : Result Found Refusal) (middle : Standing) → Reads meaning old middle offer b found
+      → EndsTo opt_call found middle new ended → LeavesFlag (new_by answer.again) old new
+  ends_flag (Err why) middle r e =
+      let failed : Ok answer ≡ Err why = sym done ∙ ap result_of e.1 ∙ refused_result why in absurd (cc)
+  ends_flag (Ok found) middle r e = leaves_seen r.cell r.middle middle found r.reads r.on e
 
--- how often it writes, by the flag
-opt_opens : (flag again : Bool) (old new : Standing) → StepsFrom flag again old new
-    → new.writes ≡ counted_by (openings flag (new_by again)) old.writes
-opt_opens true true old new s = s.1
-opt_opens false true old new s = s.1
-opt_opens true false old new s = s.1
-opt_opens false false old new s = s.1
+-- a new request
+writes_new : (old new : Standing) → WritesAtMostOnce old new
+    → ((flag : Bool) → TellsFlag old flag → new.writes ≡ counted_by (openings flag 1) old.writes) → WritesByOpening 1 old new
+writes_new old new once opens = record {
+  each = elim once [ inl same ↦ omega (arith, same) | inr more ↦ omega (arith, more) ];
+  once = λ bytes t. once;
+  opens = opens;
+}
 
-opt_each : (again : Bool) (old new : Standing) → StepsAnswered again old new → new.writes ≤ old.writes + new_by again
-opt_each true old new s = omega (arith, s.1)
-opt_each false old new (inl s) = omega (arith, s.1)
-opt_each false old new (inr s) = omega (arith, s.1)
+opens_from : (flag : Bool) (old new : Standing) → StepsFrom flag false old new → new.writes ≡ counted_by (openings flag 1) old.writes
+opens_from true old new s = s.1
+opens_from false old new s = s.1
+
+opt_answered : (again : Bool) (old new : Standing) → StepsAnswered again old new → WritesAtMostOnce old new
+    → ((flag : Bool) → TellsFlag old flag → StepsFrom flag again old new) → WritesByOpening (new_by again) old new
+opt_answered true old new s once from = writes_none old new s.1
+opt_answered false old new s once from = writes_new old new once (λ flag t. opens_from flag old new (from flag t))
 
 -- a refused call
 none_new : (broken : Option StepFault) → IsNewAt broken 0
@@ -302,12 +296,8 @@ module _ (meaning : Meaning) (old new : Standing) (offer : List ℕ) (b : Batch)
     | inr more ↦ record {
       requests = 1;
       new = rw has (omega arith);
-      writes = record {
-        each = omega (arith, more);
-        once = λ bytes e. inr more;
-        opens = λ flag t.
-            opens_one flag old.writes new.writes (λ (e : flag ≡ true). a.writes.inside t.cell t.is_cell t.tells (t.shows ∙ e)) more;
-      };
+      writes = writes_new old new (inr more) (λ flag t.
+          opens_one flag old.writes new.writes (λ (e : flag ≡ true). a.writes.inside t.cell t.is_cell t.tells (t.shows ∙ e)) more);
       leaves = tt;
     }
   ]
@@ -315,16 +305,11 @@ module _ (meaning : Meaning) (old new : Standing) (offer : List ℕ) (b : Batch)
   pub opt_writes : (result : Result Answer Refusal) → is_long b ≡ false → AskedInOpt meaning old new offer b (whole_in result)
       → CallWrites Opt result old new
   opt_writes (Err why) short a = opt_refused why (fault_of why) refl a
-  opt_writes (Ok answer) short a = record {
-    requests = new_by answer.again;
-    new = refl;
-    writes = record {
-      each = opt_each answer.again old new (a.steps short);
-      once = λ bytes e. a.writes.once;
-      opens = λ flag t.
-          opt_opens flag answer.again old new (rw (sym t.shows) (a.writes.answers t.cell t.is_cell t.tells));
-    };
-    leaves =
-        let c = a.calls.asks short in
-        ends_flag c.asks.found meaning offer b old c.asks.middle new c.ended (whole answer) c.asks.reads c.asks.ends (sym c.gives);
-  }
+  opt_writes (Ok answer) short a =
+      let c = a.calls.asks short in record {
+        requests = new_by answer.again;
+        new = refl;
+        writes = opt_answered answer.again old new (a.steps short) a.writes.once
+            (λ flag t. rw (sym t.shows) (a.writes.answers t.cell t.is_cell t.tells));
+        leaves = ends_flag meaning offer b old new c.ended (whole answer) (sym c.gives) c.asks.found c.asks.middle c.asks.reads c.asks.ends;
+      }

@@ -1,11 +1,11 @@
 -- What each exit of a recovery, and of one more request, is told as: whose fault it is, and how often the cell was to be written.
-use Rattle.mm_host.proofs.Below.{ℕ, ◌≡◌, ◌≢◌, ◌+◌, ◌≤◌, Bool, true, false, List, Option, None, Some, Result, Ok, Err, refl, sym, ap, ◌∙◌}
-use Rattle.mm_host.proofs.Below.{subst, arith, inl, inr, Rose, Variant, Standing, Meaning, Answer, Refusal, Long, Blames, fault_of}
+use Rattle.mm_host.proofs.Below.{ℕ, ◌≡◌, ◌≢◌, ◌≤◌, Bool, true, false, List, Option, None, Some, Result, Ok, Err, refl, sym, ap, ◌∙◌}
+use Rattle.mm_host.proofs.Below.{subst, arith, inl, inr, Variant, Standing, Meaning, Answer, Refusal, Long, Blames, fault_of}
 use Rattle.mm_host.proofs.Below.{StoreFault, CountsFailures, StoreStanding, Pending, HostFault, Resumed, store_fault_as, refusal_fault}
 use Rattle.mm_host.proofs.Below.{AfterRecord, AsksNext, AfterThree, AfterTwo, started, kept_as, AfterAsk, AfterOffer, AfterFinding, Resumes}
 use Rattle.mm_host.proofs.Below.{IsCall, CallWrites, IsNewAt, WritesFor, new_by, IsNewOf, RequestWrites, new_first}
 use Rattle.mm_host.specs.Blame.{Blamed, IsNamed}
-use Rattle.mm_host.proofs.CellWriting.{LeadsOver, joined, leads_answer, leads_joined, leads_rest, rests}
+use Rattle.mm_host.proofs.CellWriting.{AnsweredWrites, LeadsOver, leads_answer, leads_rest, rests}
 use Rattle.mm_model.specs.declared.refusal.Refusal.TheVariants as refusal
 use Rattle.mm_store.specs.declared.fault.StoreFault.TheVariants as fault
 use Rattle.mm_host.specs.declared.fault.HostFault.TheVariants as host
@@ -34,11 +34,6 @@ pub record CameWrites (variant : Variant) (came : Result Resumed HostFault) (bef
 pub new_most : (again : Bool) (n : ℕ) → n ≡ new_by again → n ≤ 1
 new_most true n e = omega (arith, e)
 new_most false n e = omega (arith, e)
-
-later_blamed : (result : Result Resumed HostFault) (before after : Standing) (old middle new : StoreStanding) → middle.faults ≡ old.faults
-    → Blamed result before after middle new → Blamed result before after old new
-later_blamed (Err host.Store) before after old middle new e b = (b.0, subst (λ (n : ℕ). Rose n new.faults) e b.1)
-later_blamed result before after old middle new e b = (b.0, b.1 ∙ e)
 
 -- a finding counts as its last read
 three_counted : (two : List ℕ) (three : Result (List ℕ) StoreFault) (old new : StoreStanding) (result : Result (Option Pending) StoreFault)
@@ -75,13 +70,6 @@ module _ (variant : Variant) (meaning : Meaning) (before after : Standing) where
   stored_exit T fault.Failed old new requests few w s c =
       exit_of (s, c) (record { remembered = λ e. absurd (cc); short = λ e. absurd (cc) }) requests few w tt
 
-  exit_later : {old middle new : StoreStanding} {result : Result Resumed HostFault} → middle.faults ≡ old.faults → Exit middle new result
-      → Exit old new result
-  exit_later {old = old} {middle = middle} {new = new} {result = result} e x = record {
-    told = record { blamed = later_blamed result before after old middle new e x.told.blamed; named = x.told.named };
-    came = x.came;
-  }
-
   -- an exit where the store failed, and nothing was asked
   failed_exit : (T : Type 0) (why : StoreFault) (old middle new : StoreStanding) (result : Result Resumed HostFault)
       → CountsFailures {T = T} old.faults middle.faults (Err why)
@@ -116,30 +104,29 @@ module _ (variant : Variant) (meaning : Meaning) (before after : Standing) where
   kept_exit answer (Err why) old new s c k =
       stored_exit Unit why old new c.requests (new_most answer.again c.requests c.new) c.writes s k
 
-  asked_exit : (offer request : List ℕ) (asked : Result Answer Refusal) (old new : StoreStanding) (result : Result Resumed HostFault)
-      → IsCall variant meaning before after offer request asked → AfterAsk asked old new result → Exit old new result
-  asked_exit offer request (Err why) old new result a g =
-      rw g.1 (refused_exit why old new a.faults (λ (e : why ≡ Long). a.short (ap (λ (w : Refusal). Err w) e)) a.counts
-      (ap (λ (k : StoreStanding). k.faults) g.0))
-  asked_exit offer request (Ok answer) old new result a g =
-      rw g.gives (kept_exit answer g.written old new a.faults a.counts g.writes.counted)
+  asked_exit : (offer request : List ℕ) (asked : Result Answer Refusal) (first old new : StoreStanding) (result : Result Resumed HostFault)
+      → old.faults ≡ first.faults → IsCall variant meaning before after offer request asked → AfterAsk asked old new result
+      → Exit first new result
+  asked_exit offer request (Err why) first old new result s a g =
+      rw g.1 (refused_exit why first new a.faults (λ (e : why ≡ Long). a.short (ap (λ (w : Refusal). Err w) e)) a.counts
+      (ap (λ (k : StoreStanding). k.faults) g.0 ∙ s))
+  asked_exit offer request (Ok answer) first old new result s a g =
+      rw g.gives (kept_exit answer g.written first new a.faults a.counts (rw (sym s) g.writes.counted))
 
   -- what waited
   offered_exit : (offer : Result (List ℕ) StoreFault) (old middle new : StoreStanding) (p : Pending) (result : Result Resumed HostFault)
       → CountsFailures old.faults middle.faults offer → AfterOffer variant meaning before after offer middle new p result
       → Exit old new result
   offered_exit (Err why) old middle new p result c g = failed_exit (List ℕ) why old middle new result c g
-  offered_exit (Ok offer) old middle new p result c g =
-      exit_later c (asked_exit offer p.request g.asked middle new result g.asks g.goes)
+  offered_exit (Ok offer) old middle new p result c g = asked_exit offer p.request g.asked old middle new result c g.asks g.goes
 
   found_exit : (waiting : Result (Option Pending) StoreFault) (old middle new : StoreStanding) (result : Result Resumed HostFault)
       → CountsFailures old.faults middle.faults waiting → AfterFinding variant meaning before after waiting middle new result
       → Exit old new result
   found_exit (Err why) old middle new result c g = failed_exit (Option Pending) why old middle new result c g
-  found_exit (Ok None) old middle new result c g =
-      exit_later {middle = middle} c (rw g.1.gives (started_exit g.1.zero middle new g.0 g.1.reads.counted))
+  found_exit (Ok None) old middle new result c g = rw g.1.gives (started_exit g.1.zero old new g.0 (rw (sym c) g.1.reads.counted))
   found_exit (Ok (Some p)) old middle new result c g =
-      exit_later c (offered_exit g.offer middle g.middle new p result g.reads.counted g.goes)
+      offered_exit g.offer old g.middle new p result (rw (sym c) g.reads.counted) g.goes
 
   resumes_exit : (old new : StoreStanding) (result : Result Resumed HostFault) → Resumes variant meaning before after old new result
       → Exit old new result
@@ -159,7 +146,7 @@ module _ (variant : Variant) (meaning : Meaning) (before after : Standing) where
   module _ (old new : StoreStanding) (last : Resumed) (request : List ℕ) (came : Result Resumed HostFault) where
     recorded_exit : (recorded : Result Unit StoreFault) (middle : StoreStanding) → CountsFailures old.faults middle.faults recorded
         → AfterRecord variant meaning before after recorded middle new last request came → Exit old new came
-    recorded_exit (Ok it) middle c g = exit_later c (asked_exit _ request g.asked middle new came g.asks g.goes)
+    recorded_exit (Ok it) middle c g = asked_exit _ request g.asked old middle new came c g.asks g.goes
     recorded_exit (Err why) middle c g = failed_exit Unit why old middle new came c g
 
     pub next_told : AsksNext variant meaning before after old new last request came → Told came before after old new
@@ -169,20 +156,9 @@ module _ (variant : Variant) (meaning : Meaning) (before after : Standing) where
     next_came a = (recorded_exit a.recorded a.middle a.records.counted a.goes).came
 
 -- answered calls
-pub record AnsweredWrites (variant : Variant) (requests : ℕ) (before after : Standing) : Type 0 where
-  pub writes : WritesFor variant requests before after
-  pub leads : LeadsOver variant requests before after
-
 pub answered_writes : (variant : Variant) (it : Resumed) (before after : Standing) → CameWrites variant (Ok it) before after
     → AnsweredWrites variant (new_first it) before after
 answered_writes variant it before after c = record {
   writes = rw (sym c.is_new) c.writes;
   leads = rw (sym c.is_new) c.leads;
-}
-
-pub both_writes : (variant : Variant) (n m : ℕ) (before middle after : Standing) → AnsweredWrites variant n before middle
-    → AnsweredWrites variant m middle after → AnsweredWrites variant (n + m) before after
-both_writes variant n m before middle after a b = record {
-  writes = joined variant n m before middle after a.leads a.writes b.writes;
-  leads = leads_joined variant n m before middle after a.leads b.leads;
 }

@@ -127,11 +127,6 @@ pub record Met (all others : List (List ℕ)) (asked : List Batch) (i : Instance
   pub grown : IsGrownBy i y (Some p) after
   pub powered : life_of i.variant y ≢ LostLife → life_of i.variant after ≢ LostLife
 
--- which is all that is asked of a call for the request that waits
-abbrev pub Called : (all others : List (List ℕ)) (asked : List Batch) (i : Instance) (y : History) (standing : Standing) (offer : List ℕ)
-    (p : Pending) (gives : Result BatchAnswer Refusal) → Type 0
-Called all others asked i y standing offer p gives = Met all others asked i y standing offer p gives
-
 faulted : (why : Refusal) (life : Life) (broken : StepFault) → fault_of why ≡ Some broken → IsRefusedAs why life
 faulted (Device fault) _ broken has = tt
 faulted why _ broken has = absurd (cc)
@@ -139,7 +134,7 @@ faulted why _ broken has = absurd (cc)
 module _ (all others : List (List ℕ)) (asked : List Batch) (i : Instance) (y : History) (standing : Standing) (offer : List ℕ)
     (p : Pending) (gives : Result BatchAnswer Refusal) where
   abbrev pub called_of : (m : Met all others asked i y standing offer p gives)
-      → ((why : Refusal) → gives ≡ Err why → MayRefuse why (life_of i.variant m.after)) → Called all others asked i y standing offer p gives
+      → ((why : Refusal) → gives ≡ Err why → MayRefuse why (life_of i.variant m.after)) → Met all others asked i y standing offer p gives
   called_of m refuses = m
 
   -- where that is awaited, and the snapshot before it is offered
@@ -188,7 +183,7 @@ module _ (meaning : Meaning) (lawful : IsLawful meaning) (key : List ℕ) (all o
       (names_made meaning key o.moves y) come (λ answer e. issued_in_basic meaning lawful key o.state)
       (basic_grown meaning key y o.state p (grows i y p offer o.state (given_for o.ending) come)) (λ h e. cc)
 
-  pub basic_called : IsOffered (basic meaning key) y p offer → Called all others asked (basic meaning key) y new offer p gives
+  pub basic_called : IsOffered (basic meaning key) y p offer → Met all others asked (basic meaning key) y new offer p gives
   basic_called f = basic_met
 
 -- what is asked of the moves of a call is known by the register's items, or the call is idle
@@ -227,5 +222,5 @@ module _ (meaning : Meaning) (lawful : IsLawful meaning) (key barrier : List ℕ
 
   pub opt_called : (items more : List Item) → old.items ≡ Some items → new.items ≡ Some (standing_items y.is_open items ++ more)
       → ((IsIdle (opt meaning key barrier) y offer (One p.request) → ⊥) → AreShown all others (opt meaning key barrier) y more)
-      → IsOffered (opt meaning key barrier) y p offer → Called all others asked (opt meaning key barrier) y new offer p gives
+      → IsOffered (opt meaning key barrier) y p offer → Met all others asked (opt meaning key barrier) y new offer p gives
   opt_called items more known ends shown_so f = opt_met items more known ends shown_so

@@ -1,16 +1,15 @@
 -- One call of either variant promises what the cores' whole calls do.
-use Rattle.mm_host.proofs.Below.{◌≡◌, ℕ, ◌+◌, Bool, true, false, List, length, None, Result, Ok, Err, refl, sym, subst, nat_le, bytes_eq}
-use Rattle.mm_host.proofs.Below.{last_position, Variant, Basic, Opt, Standing, Meaning, IsLawful, Batch, One, size_of, tag_of, IsFit}
-use Rattle.mm_host.proofs.Below.{is_long, Answer, BatchAnswer, Refusal, Long, Verdict, Ended, Answered, Refused, Broken, result_of, Blames}
-use Rattle.mm_host.proofs.Below.{whole, whole_in, fault_in, weighed, EndsTo, ends_result, Given, steps_give, acts_for, answer_in}
-use Rattle.mm_host.proofs.Below.{basic_call, StepsBy, AskedIn, IsCall}
+use Rattle.mm_host.proofs.Below.{◌≡◌, ℕ, Bool, true, false, List, length, None, Result, Ok, Err, refl, sym, subst, Variant, Basic, Opt}
+use Rattle.mm_host.proofs.Below.{Standing, Meaning, IsLawful, Batch, One, IsFit, is_long, Answer, BatchAnswer, Refusal, Long, Verdict}
+use Rattle.mm_host.proofs.Below.{Ended, Answered, Refused, Broken, result_of, Blames, whole, whole_in, fault_in, weighed, EndsTo}
+use Rattle.mm_host.proofs.Below.{ends_result, Given, steps_give, acts_for, answer_in, basic_call, StepsBy, AskedIn, IsCall}
 use Rattle.std.specs.Prelude.{IfOk}
 use Rattle.mm_seal.specs.declared.snapshot.PartsFault.TheVariants.{Form, Kind}
 use Rattle.mm_model.specs.declared.verdict.Verdict.TheVariants.{Fresh, Again}
 use Rattle.mm_basic.specs.declared.found.Found.{Found}
 use Rattle.mm_basic.specs.Seen.{Seen, NoCell, OtherCell, NoOffer, Both}
 use Rattle.mm_basic.specs.Order.{verdict_of}
-use Rattle.mm_basic.specs.Answers.{found_from, found_in, committed_cell, answer_of}
+use Rattle.mm_basic.specs.Answers.{found_from, found_in}
 use Rattle.mm_basic.specs.Steps.{Reads}
 use Rattle.mm_opt.specs.declared.stage.Stage.TheVariants.{Begun}
 use Rattle.mm_flight.specs.declared.ask.AskCall.{AskCall}
@@ -58,11 +57,9 @@ IsShort result = Unit {0}
 
 weighed_short : (spelled tagged : Bool) (verdict : Verdict) (fits : Bool) (next : List ℕ) (answer : Bool → BatchAnswer)
     → IsShort (found_from (weighed spelled tagged verdict fits) next answer)
-weighed_short false tagged verdict fits next answer = tt
-weighed_short true false verdict fits next answer = tt
 weighed_short true true Fresh true next answer = tt
 weighed_short true true Again true next answer = tt
-weighed_short true true verdict fits next answer = tt
+weighed_short _ _ _ _ next answer = tt
 
 found_short : (meaning : Meaning) (seen : Seen) (b : Batch) → IsShort (found_in meaning seen b)
 found_short meaning (NoCell cell_fault.Blank) b = tt
@@ -71,9 +68,7 @@ found_short meaning OtherCell b = tt
 found_short meaning (NoOffer Form) b = tt
 found_short meaning (NoOffer Kind) b = tt
 found_short meaning (Both cell offered) b =
-    weighed_short (meaning.is_spelled offered.content.state) (bytes_eq offered.tag (tag_of cell.key offered.content))
-    (verdict_of cell offered b) (nat_le (offered.content.position + size_of b) last_position) (committed_cell cell offered.content b)
-    (answer_of meaning cell.key offered.content b)
+    weighed_short (meaning.is_spelled offered.content.state) _ (verdict_of cell offered b) _ _ _
 
 reads_short : (meaning : Meaning) (old new : Standing) (offer : List ℕ) (b : Batch) (found : Result Found Refusal)
     → Reads meaning old new offer b found → IsShort found

@@ -5,7 +5,7 @@ use Rattle.mm_host.proofs.Below.{History, total_of, StandsFor, Answer, BatchAnsw
 use Rattle.mm_host.proofs.Below.{StepFault, StoreFault, ReadsSlot, WritesSlot, putting, StoreStanding, Pending, Slots, slot_read, with_slot}
 use Rattle.mm_host.proofs.Below.{last_position, IsFit, HostFault, Resumed, Start, store_fault_as, refusal_fault, IsWaiting, started}
 use Rattle.mm_host.proofs.Below.{kept_as, AfterAsk, AfterOffer, AfterFinding, Resumes, IsCall, offer_slot, Holds, FitsBy, IsAskedFor}
-use Rattle.mm_host.proofs.Below.{CanRecover, IsGrown, AsksIdly, ComesTo, MayHaveCommitted, Recovers, RecoversTo, one_reading, AfterThree}
+use Rattle.mm_host.proofs.Below.{AnswersAt, CanRecover, IsGrown, AsksIdly, ComesTo, MayHaveCommitted, Recovers, RecoversTo, one_reading, AfterThree}
 use Rattle.mm_host.proofs.Below.{AfterTwo}
 use Rattle.mm_host.specs.Last.{position_at, snapshot_at}
 use Rattle.mm_host.specs.declared.resuming.Resumed.TheVariants.{Answered}
@@ -113,61 +113,56 @@ module _ (More : History → Type 0) (all others : List (List ℕ)) (asked : Lis
       → IfOk result (λ resumed. slot_read other (position_at resumed % 2) ≡ snapshot_at resumed)
       → IfOk result (λ resumed. Holds i l.after (snapshot_at resumed) (position_at resumed))
       → (l.after.batches ≡ y.batches) ⊎ MayHaveCommitted result → ComesTo i y slots (Some p) l.after result
-      → RecoversTo all others asked i y slots (Some p) standing kept result
-  settle gives other kept result l e t h n g o c = record {
-    after = l.after;
-    stands = l.stands;
-    within = l.within;
-    grown = grows i y p (slot_read slots (offer_slot p)) l.after gives l.comes;
-    slots_after = other;
-    told = t;
-    fits = record {
-      waiting = Some p;
-      is_waiting = rw (e.two, e.three) l.is_waiting;
-      fits = (
-        still_awaited i y p (slot_read slots (offer_slot p)) l.after l.fits.0 l.fits.1 gives l.comes,
-        rw e.offer (holds_on i y l.after l.names _ _ l.fits.1),
-      );
-    };
-    same_wait = refl;
-    honest = h;
-    newest = n;
-    holds = g;
-    powered = l.powered;
-    only = o;
-    comes = c;
-  }
+      → IfOk result (λ (resumed : Resumed). More l.after) → Recovered More all others asked i y slots (Some p) standing kept result
+  settle gives other kept result l e t h n g o c m = (
+    record {
+      after = l.after;
+      stands = l.stands;
+      within = l.within;
+      grown = grows i y p (slot_read slots (offer_slot p)) l.after gives l.comes;
+      slots_after = other;
+      told = t;
+      fits = record {
+        waiting = Some p;
+        is_waiting = rw (e.two, e.three) l.is_waiting;
+        fits = (
+          still_awaited i y p (slot_read slots (offer_slot p)) l.after l.fits.0 l.fits.1 gives l.comes,
+          rw e.offer (holds_on i y l.after l.names _ _ l.fits.1),
+        );
+      };
+      same_wait = refl;
+      honest = h;
+      newest = n;
+      holds = g;
+      powered = l.powered;
+      only = o;
+      comes = c;
+    },
+    m,
+  )
 
   keep_exit : (answer : Answer) (written : Result Unit StoreFault) (old new : StoreStanding) (l : LeftBy (Ok (whole answer)))
       → More l.after → IsFit (One p.request) (whole answer) → old.is_honest ≡ true → old.slots ≡ Some slots
+      → AnswersAt i y (Some p) l.after answer → answer.position ≡ p.position
       → WritesSlot (answer.position % 2) answer.snapshot old new written
       → Recovered More all others asked i y slots (Some p) standing new (kept_as answer written)
-  unfolding settle
-  keep_exit answer (Ok it) old new l m fit h t w =
+  keep_exit answer (Ok it) old new l m fit h t a here w =
       let bytes : List ℕ = answer.snapshot in
-      let a = answered_at i y p (slot_read slots (offer_slot p)) l.after l.fits.0 l.fits.1 answer l.comes in
-      let at : answer.position ≡ total_of l.after.batches = ap (λ (b : BatchAnswer). b.position) a.0.answer_is in (
-        settle (Ok (whole answer)) (with_slot slots (answer.position % 2) bytes) new (Ok (Answered answer)) l
-            (elsewhere_put slots p answer.position bytes a.1 (awaited_least y p l.fits.0))
-            (w.leaves h ∙ ap (putting (answer.position % 2) bytes) t) (w.honest ∙ h)
-            (seen_put slots (answer.position % 2) bytes fit.snapshot)
-            (holds_issued i lawful l.after bytes answer.position (l.issues (whole answer) refl)
-            (subst (λ (n : ℕ). n ≤ last_position) at fit.most) (ap (λ (b : BatchAnswer). b.snapshot) a.0.answer_is) at) (inr tt) a.0,
-        m,
-      )
-  keep_exit answer (Err fault.Memory) old new l m fit h t w = (
-    settle (Ok (whole answer)) slots new (Err (store_fault_as fault.Memory)) l (elsewhere_same slots p) (w.leaves h ∙ t) (w.honest ∙ h)
-        tt tt (inr tt) tt,
-    tt,
-  )
-  keep_exit answer (Err fault.Failed) old new l m fit h t w =
+      let at : answer.position ≡ total_of l.after.batches = ap (λ (b : BatchAnswer). b.position) a.answer_is in
+      settle (Ok (whole answer)) (with_slot slots (answer.position % 2) bytes) new (Ok (Answered answer)) l
+      (elsewhere_put slots p answer.position bytes here (awaited_least y p l.fits.0))
+      (w.leaves h ∙ ap (putting (answer.position % 2) bytes) t) (w.honest ∙ h)
+      (seen_put slots (answer.position % 2) bytes fit.snapshot)
+      (holds_issued i lawful l.after bytes answer.position (l.issues (whole answer) refl)
+      (subst (λ (n : ℕ). n ≤ last_position) at fit.most) (ap (λ (b : BatchAnswer). b.snapshot) a.answer_is) at) (inr tt) a m
+  keep_exit answer (Err fault.Memory) old new l m fit h t a here w =
+      settle (Ok (whole answer)) slots new (Err (store_fault_as fault.Memory)) l (elsewhere_same slots p) (w.leaves h ∙ t) (w.honest ∙ h)
+      tt tt (inr tt) tt tt
+  keep_exit answer (Err fault.Failed) old new l m fit h t a here w =
       let left = w.leaves h in
-      let a = answered_at i y p (slot_read slots (offer_slot p)) l.after l.fits.0 l.fits.1 answer l.comes in (
-        settle (Ok (whole answer)) (with_slot slots (answer.position % 2) left.0) new (Err (store_fault_as fault.Failed)) l
-            (elsewhere_put slots p answer.position left.0 a.1 (awaited_least y p l.fits.0))
-            (left.1 ∙ ap (putting (answer.position % 2) left.0) t) (w.honest ∙ h) tt tt (inr tt) tt,
-        tt,
-      )
+      settle (Ok (whole answer)) (with_slot slots (answer.position % 2) left.0) new (Err (store_fault_as fault.Failed)) l
+      (elsewhere_put slots p answer.position left.0 here (awaited_least y p l.fits.0))
+      (left.1 ∙ ap (putting (answer.position % 2) left.0) t) (w.honest ∙ h) tt tt (inr tt) tt tt
 
   only_by : (why : Refusal) (broken : Option StepFault) → fault_of why ≡ broken → (l : LeftBy (Err why))
       → (l.after.batches ≡ y.batches) ⊎ MayHaveCommitted {T = Resumed} (Err (refusal_fault why))
@@ -177,17 +172,15 @@ module _ (More : History → Type 0) (all others : List (List ℕ)) (asked : Lis
   asked_exit : (call : Result Answer Refusal) (old new : StoreStanding) (result : Result Resumed HostFault) (l : LeftBy (whole_in call))
       → More l.after → IfOk call (λ answer. IsFit (One p.request) (whole answer)) → old.is_honest ≡ true → old.slots ≡ Some slots
       → AfterAsk call old new result → Recovered More all others asked i y slots (Some p) standing new result
-  unfolding settle
   asked_exit (Err why) old new result l m fit h t g =
-      rw (g.0, g.1) (
-        settle (Err why) slots old (Err (refusal_fault why)) l (elsewhere_same slots p) t h tt tt (only_by why (fault_of why) refl l)
-            (refused_comes i y slots (Some p) l.after why
-            (refused_by all others asked i y standing (slot_read slots (offer_slot p)) p (Err why) l.met
-            (offered_by i y slots p l.is_waiting l.fits) why refl (fault_of why) refl)),
-        tt,
-      )
+      rw (g.0, g.1)
+      (settle (Err why) slots old (Err (refusal_fault why)) l (elsewhere_same slots p) t h tt tt (only_by why (fault_of why) refl l)
+      (refused_comes i y slots (Some p) l.after why
+      (refused_by all others asked i y standing (slot_read slots (offer_slot p)) p (Err why) l.met
+      (offered_by i y slots p l.is_waiting l.fits) why refl (fault_of why) refl)) tt)
   asked_exit (Ok answer) old new result l m fit h t g =
-      rw g.gives (keep_exit answer g.written old new l m fit h t g.writes)
+      let a = answered_at i y p (slot_read slots (offer_slot p)) l.after l.fits.0 l.fits.1 answer l.comes in
+      rw g.gives (keep_exit answer g.written old new l m fit h t a.0 a.1 g.writes)
 
   pub ask_exit : (call : Result Answer Refusal) (old new : StoreStanding) (result : Result Resumed HostFault) (l : LeftBy (whole_in call))
       → More l.after → IfOk call (λ answer. IsFit (One p.request) (whole answer)) → old.is_honest ≡ true → old.slots ≡ Some slots
@@ -240,28 +233,31 @@ module _ (More : History → Type 0) (variant : Variant) (all others : List (Lis
   still : (new : StoreStanding) (result : Result Resumed HostFault) → after ≡ before → new.slots ≡ Some slots → new.is_honest ≡ true
       → IfOk result (λ resumed. slot_read slots (position_at resumed % 2) ≡ snapshot_at resumed)
       → IfOk result (λ resumed. Holds i y (snapshot_at resumed) (position_at resumed)) → ComesTo i y slots can.fits.waiting y result
-      → RecoversTo all others asked i y slots can.fits.waiting after new result
-  still new result s t h n g c = record {
-    after = y;
-    stands = subst (λ (x : Standing). StandsFor i x y) (sym s) can.stands;
-    within = can.within;
-    grown = grown_none y can.fits.waiting;
-    slots_after = slots;
-    told = t;
-    fits = can.fits;
-    same_wait = refl;
-    honest = h;
-    newest = n;
-    holds = g;
-    powered = λ h. h;
-    only = inl refl;
-    comes = c;
-  }
+      → IfOk result (λ (resumed : Resumed). More y) → Came new result
+  still new result s t h n g c m = (
+    record {
+      after = y;
+      stands = subst (λ (x : Standing). StandsFor i x y) (sym s) can.stands;
+      within = can.within;
+      grown = grown_none y can.fits.waiting;
+      slots_after = slots;
+      told = t;
+      fits = can.fits;
+      same_wait = refl;
+      honest = h;
+      newest = n;
+      holds = g;
+      powered = λ h. h;
+      only = inl refl;
+      comes = c;
+    },
+    m,
+  )
 
   still_exit : (why : StoreFault) (new : StoreStanding) → after ≡ before → new.slots ≡ Some slots → new.is_honest ≡ true
       → Came new (Err (store_fault_as why))
-  still_exit fault.Memory new s t h = (still new (Err (store_fault_as fault.Memory)) s t h tt tt tt, tt)
-  still_exit fault.Failed new s t h = (still new (Err (store_fault_as fault.Failed)) s t h tt tt tt, tt)
+  still_exit fault.Memory new s t h = still new (Err (store_fault_as fault.Memory)) s t h tt tt tt tt
+  still_exit fault.Failed new s t h = still new (Err (store_fault_as fault.Failed)) s t h tt tt tt tt
 
   -- where the store failed before anything was asked
   failed_exit : (why : StoreFault) (middle new : StoreStanding) (result : Result Resumed HostFault) → middle.slots ≡ Some slots
@@ -282,13 +278,10 @@ module _ (More : History → Type 0) (variant : Variant) (all others : List (Lis
 
   start_exit : (zero : Result (List ℕ) StoreFault) (old new : StoreStanding) → (after ≡ before → More y) → can.fits.waiting ≡ None
       → after ≡ before → old.slots ≡ Some slots → old.is_honest ≡ true → ReadsSlot 0 old new zero → Came new (started zero)
-  unfolding still
   start_exit (Ok bytes) old new m e s t h r =
-      let f : FitsBy i slots y None = subst (λ (w : Option Pending). FitsBy i slots y w) e can.fits.fits in (
-        still new (Ok (Start bytes)) s (r.slots ∙ t) (r.honest ∙ h) (sym (r.gives slots t))
-            (rw (r.gives slots t) f.1) (e, r.gives slots t),
-        m s,
-      )
+      let f : FitsBy i slots y None = subst (λ (w : Option Pending). FitsBy i slots y w) e can.fits.fits in
+      still new (Ok (Start bytes)) s (r.slots ∙ t) (r.honest ∙ h) (sym (r.gives slots t)) (rw (r.gives slots t) f.1)
+      (e, r.gives slots t) (m s)
   start_exit (Err why) old new m e s t h r = still_exit why new s (r.slots ∙ t) (r.honest ∙ h)
 
   waits_by : (middle : StoreStanding) (found : Option Pending) → Saw slots first middle (Ok found) → can.fits.waiting ≡ found

@@ -20,7 +20,7 @@ use Rattle.mm_host.specs.Begins.{CountsFault, is_platforms, is_sources, is_store
 use Rattle.mm_host.specs.InitFaults.{store_failed_as}
 use Rattle.mm_model.specs.FitLaws.{sealed_of-most}
 use Rattle.mm_host.proofs.Slots.{IsIssued, issued_in_basic, issued_in_opt, holds_issued, fits_slot}
-use Rattle.mm_platform.specs.declared.fault.StepFault.TheVariants as step
+use Rattle.mm_platform.specs.CallLaws.{rose_by}
 use Rattle.mm_store.specs.declared.fault.StoreFault.TheVariants as fault
 
 pub consumes_more : (old middle new : Option (List ℕ)) (xs ys : List ℕ) (got count : ℕ) → take got ys ≡ take got xs
@@ -104,11 +104,6 @@ is_first Basic meaning key barrier values lawful =
 is_first Opt meaning key barrier values lawful =
     first_store (opt meaning key barrier) values lawful (first_issued Opt meaning key barrier values lawful) refl (λ all others asked h.
     record { sound = sound_first values; outside = tt; listed = (h, tt); batches = tt })
-
--- a step's fault was counted
-rose : (why : StepFault) (old new : Standing) (made : Bool) → EndsBy (Some why) old new made → Rose old.faults new.faults
-rose step.Failed old new made e = e.faults
-rose step.Off old new made e = e.faults
 
 -- The store after puts: its count, and where all were written its slots, which are synced.
 abbrev all_put : Slots → List Put → Slots
@@ -233,7 +228,7 @@ module _ (variant : Variant) (meaning : Meaning) (lawful : IsLawful meaning) (be
     write_exit (Ok it) true puts cell ends = came (begins puts cell) f.blank (ends.faults ∙ f.faults) source puts.counted
     write_exit (Err why) made puts cell ends =
         came (may_begin made puts cell) (λ was told. tt)
-        (subst (λ (n : ℕ). Rose n after.platform.faults) f.faults (rose why middle after.platform made ends)) source puts.counted
+        (subst (λ (n : ℕ). Rose n after.platform.faults) f.faults (rose_by why middle after.platform made ends)) source puts.counted
 
     puts_exit : (stored : Result Unit StoreFault) (result : Result Unit InitFault) → Stored stored
         → AfterPuts (cell_spelling (cell_of I first_history)) middle after.platform stored result → Comes after result
@@ -265,7 +260,7 @@ module _ (variant : Variant) (meaning : Meaning) (lawful : IsLawful meaning) (be
       → LooksAtCell before.platform platform is_blank
       → AfterLooking variant meaning (record before { platform = platform }) after is_blank result → Comes after result
   look_exit after platform (Err why) result l g =
-      rw (g.0, g.1) (came (inl l.goes.cell) (λ was told. tt) (rose why before.platform platform l.goes.is_made l.goes.ends) refl refl)
+      rw (g.0, g.1) (came (inl l.goes.cell) (λ was told. tt) (rose_by why before.platform platform l.goes.is_made l.goes.ends) refl refl)
   look_exit after platform (Ok false) result l g =
       rw (g.0, g.1) (came l.goes.cell (λ was told blank. let not_blank : false ≡ true = (l.tells was told).1 blank in absurd (cc))
       l.goes.ends.faults refl refl)

@@ -29,22 +29,14 @@ get_or-resized n i bytes h =
           ∙ get_or-zeros (n - length bytes) (i - length bytes) ∙ sym (get_or_past bytes i 0 past))
     ]
 
--- the same of a part of this size
-length-part : (size at : ℕ) (bytes : List ℕ) → length (resized size (drop at bytes)) ≡ size
-length-part size at bytes = length-resized size (drop at bytes)
-
-get_or-part : (size at i : ℕ) (bytes : List ℕ) → i < size →
-    get_or (resized size (drop at bytes)) i 0 ≡ get_or bytes (at + i) 0
-get_or-part size at i bytes h = get_or-resized size i (drop at bytes) h ∙ get_or-drop at bytes i 0
-
 pub length-page_of : (bytes : List ℕ) (page : ℕ) → length (page_of bytes page) ≡ 256
 unfolding page_of
-length-page_of bytes page = length-part 256 (256 * page) bytes
+length-page_of bytes page = length-resized 256 (drop (256 * page) bytes)
 
 pub get_or-page_of : (bytes : List ℕ) (page i : ℕ) → i < 256 →
     get_or (page_of bytes page) i 0 ≡ get_or bytes (256 * page + i) 0
 unfolding page_of
-get_or-page_of bytes page i h = get_or-part 256 (256 * page) i bytes h
+get_or-page_of bytes page i h = get_or-resized 256 i (drop (256 * page) bytes) h ∙ get_or-drop (256 * page) bytes i 0
 
 -- pages with the same bytes are one
 pub page_of-same : (bytes other : List ℕ) (page : ℕ) →

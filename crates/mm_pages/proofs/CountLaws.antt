@@ -1,5 +1,5 @@
 -- Laws of counts, and of what tests of bytes and of digests tell.
-use Rattle.mm_pages.proofs.Below.{ℕ, ◌≡◌, ◌+◌, zero, suc, Bool, true, false, Option, Some, None, List, refl, ap, sym, ◌∙◌, arith, zero-add}
+use Rattle.mm_pages.proofs.Below.{ℕ, ◌≡◌, ◌+◌, zero, suc, Bool, true, false, Option, Some, None, List, refl, ap, sym, ◌∙◌, subst, arith, zero-add}
 use Rattle.mm_pages.proofs.Below.{◌&&◌, bytes_eq, counted, Digest, page_of, counted_by, may_be, change_count, changes_of, page_digest}
 use Rattle.std.proofs.lemmas.Slice.Eq.{bytes_eq-Decides}
 use Rattle.sha2.specs.Sha256.{sha256}
@@ -14,44 +14,33 @@ counted_by-add (suc m) n count =
 pub same_bytes : (one other : List ℕ) → bytes_eq one other ≡ true → one ≡ other
 same_bytes one other e = (bytes_eq-Decides one other).0 e
 
-pub both_right : (a b : Bool) → true ≡ (a && b) → b ≡ true
-both_right true b e = sym e
-both_right false b e = absurd (cc)
+-- a page that was found there is there, and doesn't change
+pub held : (a : Bool) (was part : List ℕ) → true ≡ (a && bytes_eq was part) → was ≡ part
+held true was part e = same_bytes was part (sym e)
+held false was part e = absurd (cc)
 
--- a page that was found there doesn't change
 pub no_change : (a : Bool) (was part : List ℕ) → true ≡ (a && bytes_eq was part) → change_count was part ≡ 0
-no_change a was part e = rw (both_right a (bytes_eq was part) e) refl
+no_change true was part e = rw (sym e) refl
+no_change false was part e = absurd (cc)
 
-changed_by : (b : Bool) (was part : List ℕ) → bytes_eq was part ≡ b → b ≡ false → change_count was part ≡ 1
-changed_by b was part e f = rw (e ∙ f) refl
+-- a page with the digest that is kept, if any, may be there
+alike : (kept : Option Digest) (part : List ℕ) → ((digest : Digest) → kept ≡ Some digest → digest ≡ page_digest part) →
+    may_be kept (page_digest part) ≡ true
+alike None part step = refl
+alike (Some kept) part step = (bytes_eq-Decides kept.bytes (sha256 part)).1 (ap (λ (d : Digest). d.bytes) (step kept refl))
 
-other_digest : (kept : Digest) (was part : List ℕ) (b : Bool) → bytes_eq was part ≡ b →
-    bytes_eq kept.bytes (sha256 part) ≡ false → kept ≡ page_digest was → b ≡ false
-other_digest kept was part false e f g = refl
-other_digest kept was part true e f g =
-    let alike : kept.bytes ≡ sha256 part =
-    ap (λ (d : Digest). d.bytes) g ∙ ap sha256 (same_bytes was part e) in
-    let told : bytes_eq kept.bytes (sha256 part) ≡ true = (bytes_eq-Decides kept.bytes (sha256 part)).1 alike in
-    cc
-
--- a page that wasn't found there, by its bytes or by the digest of what is there, changes
-found_not : (a : Bool) (was part : List ℕ) → false ≡ (a && bytes_eq was part) → a ≡ true → bytes_eq was part ≡ false
-found_not true was part e f = sym e
-found_not false was part e f = absurd (cc)
-
-change_if : (b : Bool) (kept : Digest) (was part : List ℕ) → bytes_eq kept.bytes (sha256 part) ≡ b →
-    false ≡ (b && bytes_eq was part) → kept ≡ page_digest was → change_count was part ≡ 1
-change_if true kept was part e f g =
-    changed_by (bytes_eq was part) was part refl (found_not true was part f refl)
-change_if false kept was part e f g =
-    changed_by (bytes_eq was part) was part refl (other_digest kept was part (bytes_eq was part) refl e g)
-
+-- so a page that wasn't found there, by its bytes or by the digest of what is there, changes
 pub a_change : (kept : Option Digest) (was part : List ℕ) →
     ((digest : Digest) → kept ≡ Some digest → digest ≡ page_digest was) →
     false ≡ (may_be kept (page_digest part) && bytes_eq was part) → change_count was part ≡ 1
-a_change None was part step e = changed_by (bytes_eq was part) was part refl (sym e)
-a_change (Some kept) was part step e =
-    change_if (bytes_eq kept.bytes (sha256 part)) kept was part refl e (step kept refl)
+a_change kept was part step e = by_test (bytes_eq was part) refl
+  where
+    by_test : (b : Bool) → bytes_eq was part ≡ b → change_count was part ≡ 1
+    by_test false f = rw f refl
+    by_test true f =
+        let may = alike kept part (subst (λ (x : List ℕ). (digest : Digest) → kept ≡ Some digest → digest ≡ page_digest x)
+        (same_bytes was part f) step) in
+        let clash : false ≡ true = e ∙ (λ j. may j && f j) in absurd (cc)
 
 -- bytes that are there already don't change
 pub changes_of-same : (bytes : List ℕ) (count : ℕ) → changes_of bytes bytes count ≡ 0

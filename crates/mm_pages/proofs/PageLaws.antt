@@ -1,52 +1,41 @@
 -- One page of a write: it is there already, it is written, or a look-up failed.
 use Rattle.mm_pages.proofs.Below.{ℕ, ◌≡◌, Bool, true, false, Result, Option, Some, None, Ok, Err, List, [], length, get_or, refl, ap, sym}
-use Rattle.mm_pages.proofs.Below.{◌∙◌, subst, arith, ◌&&◌, bytes_eq, Failed, counted, Digest, Slots, slot_in, Unsynced, MarksAlone, marking}
+use Rattle.mm_pages.proofs.Below.{◌∙◌, subst, arith, ◌&&◌, bytes_eq, Failed, counted, Digest, Slots, slot_in, marking}
 use Rattle.mm_pages.proofs.Below.{putting, with_slot-same, marks_alone, page_of, with_page, Paged, WritesPage, changing, counted_by, may_be}
 use Rattle.mm_pages.proofs.Below.{look_at, change_count, one_if, Rows, row_in, with_row, kept_digest, page_digest, keeping, DropsPage}
-use Rattle.mm_pages.proofs.Below.{IsInStep, HoldsPage, IsPutAt, Fails, PutsThere, PutsOne}
+use Rattle.mm_pages.proofs.Below.{IsInStep, HoldsPage, IsPutAt, Fails, ChangesSlot, PutsOne}
 use Rattle.mm_pages.proofs.BytesLaws.{get_or-page_of, put_at}
 use Rattle.mm_pages.proofs.RowLaws.{row_in-with_row, with_row-twice, with_row-same, keeping-alike}
-use Rattle.mm_pages.proofs.CountLaws.{both_right, same_bytes, no_change, a_change}
+use Rattle.mm_pages.proofs.CountLaws.{held, no_change, a_change}
 
--- slots that stay are slots with some bytes of their own put in place
-pub slots_stay : (slot : ℕ) (slots : Option Slots) → (left : List ℕ) × (slots ≡ putting slot left slots)
-slots_stay slot None = ([], refl)
-slots_stay slot (Some told) = (slot_in told slot, ap Some (sym (with_slot-same told slot)))
-
--- marks that are as they were
-pub marks_same : (slot : ℕ) (old new : Paged) → new.unsynced ≡ old.unsynced → MarksAlone slot old.unsynced new.unsynced
-marks_same slot old new e =
-    ap (λ (x : Option Unsynced). marking slot true x) e
-
--- the slots are told once
-pub told_once : (P : Slots → Type 0) (was : Slots) → P was → (told : Slots) → Some was ≡ Some told → P told
-told_once P was p told e = let same : was ≡ told = cc in subst P same p
-
--- a page that is there already
-stays_there : (slot page : ℕ) (part : List ℕ) (slots : Option Slots) →
-    ((told : Slots) → slots ≡ Some told → page_of (slot_in told slot) page ≡ part) → PutsThere slot page part slots slots
-stays_there slot page part None h = record { left = []; slots = refl; there = λ told e. absurd (cc) }
-stays_there slot page part (Some was) h = record {
-  left = slot_in was slot;
-  slots = ap Some (sym (with_slot-same was slot));
-  there = told_once (λ x. IsPutAt page part (slot_in x slot) (slot_in was slot)) was (record {
-    within = λ i below. sym (get_or-page_of (slot_in was slot) page i below) ∙ ap (λ (x : List ℕ). get_or x i 0) (h was refl);
-    before = λ i before. refl;
-    after = λ i after. refl;
-  });
+-- a slot that is changed so
+pub changed : (slot : ℕ) (AreSo : List ℕ → List ℕ → Type 0) (change : List ℕ → List ℕ) (old new : Option Slots) →
+    new ≡ changing slot change old →
+    ((told : Slots) → old ≡ Some told → AreSo (slot_in told slot) (change (slot_in told slot))) → ChangesSlot slot AreSo old new
+changed slot AreSo change None new e h = record { left = []; slots = e; so = λ told f. absurd (cc) }
+changed slot AreSo change (Some was) new e h = record {
+  left = change (slot_in was slot);
+  slots = e;
+  so = λ told f. let same : was ≡ told = cc in
+      subst (λ (x : Slots). AreSo (slot_in x slot) (change (slot_in was slot))) same (h was refl);
 }
 
--- a page that is written
-comes_there : (slot page : ℕ) (part : List ℕ) (old new : Option Slots) → length part ≡ 256 →
-    new ≡ changing slot (with_page page part) old → PutsThere slot page part old new
-comes_there slot page part None new l e = record { left = []; slots = e; there = λ told f. absurd (cc) }
-comes_there slot page part (Some was) new l e =
-    let left = with_page page part (slot_in was slot) in
-    record {
-      left = left;
-      slots = e;
-      there = told_once (λ x. IsPutAt page part (slot_in x slot) left) was (put_at page part (slot_in was slot) l);
-    }
+-- slots that stay are slots with their own bytes put in place
+unchanged : (slot : ℕ) (slots : Option Slots) → slots ≡ changing slot (λ bytes. bytes) slots
+unchanged slot None = refl
+unchanged slot (Some told) = ap Some (sym (with_slot-same told slot))
+
+pub stays : (slot : ℕ) (AreSo : List ℕ → List ℕ → Type 0) (slots : Option Slots) →
+    ((told : Slots) → slots ≡ Some told → AreSo (slot_in told slot) (slot_in told slot)) → ChangesSlot slot AreSo slots slots
+stays slot AreSo slots h = changed slot AreSo (λ bytes. bytes) slots slots (unchanged slot slots) h
+
+-- the slots with some bytes put in place, where nothing is said of these
+pub left_by : {slot : ℕ} {AreSo : List ℕ → List ℕ → Type 0} {old new : Option Slots} → ChangesSlot slot AreSo old new →
+    (left : List ℕ) × (new ≡ putting slot left old)
+left_by c = (c.left, c.slots)
+
+pub slots_stay : (slot : ℕ) (slots : Option Slots) → (left : List ℕ) × (slots ≡ putting slot left slots)
+slots_stay slot slots = left_by (stays slot (λ was now. Unit {0}) slots (λ told e. tt))
 
 -- a page was looked up
 looked : {slot page : ℕ} {part : List ℕ} {digest : Digest} {kept : Option Digest} {old new : Paged} {result : Result Bool Failed}
@@ -64,20 +53,25 @@ put_held {slot} {page} {part} {digest} {kept} {old} {new} {rows} h d k r = recor
   honest = ap (λ (x : Paged). x.is_honest) h.same;
   faults = h.counted_faults.kept;
   lengths = ap (λ (x : Paged). x.length_writes) h.same;
-  marks = marks_same slot old new (ap (λ (x : Paged). x.unsynced) h.same);
+  marks = ap (λ (x : Paged). marking slot true x.unsynced) h.same;
   rows_are = r ∙ ap (λ (x : Digest). with_row rows slot (keeping page x (row_in rows slot))) d;
   looks = looked rows h d k;
   puts =
       λ honest.
-      let same : new.slots ≡ old.slots = ap (λ (x : Paged). x.slots) h.same in
-      subst (λ (x : Option Slots). PutsThere slot page part old.slots x) (sym same)
-      (stays_there slot page part old.slots
-      (λ told e. same_bytes (page_of (slot_in told slot) page) part
-      (both_right (may_be kept digest) (bytes_eq (page_of (slot_in told slot) page) part) (h.holds told e))));
-  writes =
-      λ told e step. ap (λ (x : Paged). x.page_writes) h.same ∙ ap (λ n. counted_by n old.page_writes)
-      (sym (no_change (may_be kept digest) (page_of (slot_in told slot) page) part (h.holds told e)));
-  still = λ told e step none. ap (λ (x : Paged). x.slots) h.same;
+      subst (ChangesSlot slot (IsPutAt page part) old.slots) (sym (ap (λ (x : Paged). x.slots) h.same))
+      (stays slot (IsPutAt page part) old.slots (λ told e.
+      let there : page_of (slot_in told slot) page ≡ part = held (may_be kept digest) (page_of (slot_in told slot) page) part (h.holds told e)
+      in
+      record {
+        within = λ i below. sym (get_or-page_of (slot_in told slot) page i below) ∙ ap (λ (x : List ℕ). get_or x i 0) there;
+        before = λ i before. refl;
+        after = λ i after. refl;
+      }));
+  changes = λ told e step. record {
+    writes = ap (λ (x : Paged). x.page_writes) h.same ∙ ap (λ n. counted_by n old.page_writes)
+        (sym (no_change (may_be kept digest) (page_of (slot_in told slot) page) part (h.holds told e)));
+    still = λ none. ap (λ (x : Paged). x.slots) h.same;
+  };
 }
 
 -- one page: it is written
@@ -92,7 +86,7 @@ put_written {slot} {page} {part} {digest} {kept} {old} {mid} {new} {rows} {dropp
     ap (λ (x : List (Option Digest)). keeping page digest x) row_is
     ∙ keeping-alike page digest r.row (row_in rows slot) r.before r.after
     ∙ ap (λ (x : Digest). keeping page x (row_in rows slot)) d in
-    let changes : (told : Slots) → old.slots ≡ Some told → IsInStep (row_in rows slot) page (slot_in told slot) →
+    let differs : (told : Slots) → old.slots ≡ Some told → IsInStep (row_in rows slot) page (slot_in told slot) →
     change_count (page_of (slot_in told slot) page) part ≡ 1 =
     λ told e step. a_change kept (page_of (slot_in told slot) page) part (λ x f. step x (sym k ∙ f))
     (h.holds told e ∙ ap (λ (x : Digest). may_be kept x && bytes_eq (page_of (slot_in told slot) page) part) d) in
@@ -108,13 +102,16 @@ put_written {slot} {page} {part} {digest} {kept} {old} {mid} {new} {rows} {dropp
           ∙ with_row-twice rows slot r.row (keeping page (page_digest part) (row_in rows slot));
       looks = ap (λ (x : Paged). x.page_reads) w.same ∙ looked rows h d k;
       puts =
-          λ honest. comes_there slot page part old.slots new.slots l
+          λ honest. changed slot (IsPutAt page part) (with_page page part) old.slots new.slots
           (w.leaves (ap (λ (x : Paged). x.is_honest) h.same ∙ honest)
-          ∙ ap (λ (x : Paged). changing slot (with_page page part) x.slots) h.same);
-      writes =
-          λ told e step. ap (λ (x : Paged). x.page_writes) w.same ∙ ap (λ (x : Paged). counted x.page_writes) h.same
-          ∙ ap (λ n. counted_by n old.page_writes) (sym (changes told e step));
-      still = λ told e step none. let one = changes told e step in absurd (omega (arith, one, none));
+          ∙ ap (λ (x : Paged). changing slot (with_page page part) x.slots) h.same)
+          (λ told e. put_at page part (slot_in told slot) l);
+      changes = λ told e step.
+          let one = differs told e step in record {
+            writes = ap (λ (x : Paged). x.page_writes) w.same ∙ ap (λ (x : Paged). counted x.page_writes) h.same
+                ∙ ap (λ n. counted_by n old.page_writes) (sym one);
+            still = λ none. absurd (omega (arith, one, none));
+          };
     }
 
 -- a look-up that failed
@@ -125,7 +122,7 @@ look_failed {slot} {old = old} {new = new} rows h = record {
     honest = ap (λ (x : Paged). x.is_honest) h.same;
     faults = h.counted_faults.failed;
     leaves = λ honest. let stay = slots_stay slot old.slots in (stay.0, ap (λ (x : Paged). x.slots) h.same ∙ stay.1);
-    marks = marks_same slot old new (ap (λ (x : Paged). x.unsynced) h.same);
+    marks = ap (λ (x : Paged). marking slot true x.unsynced) h.same;
   };
   row = row_in rows slot;
   rows_are = sym (with_row-same rows slot);

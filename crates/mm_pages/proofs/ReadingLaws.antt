@@ -1,7 +1,7 @@
 -- The steps of a read, one after another.
 use Rattle.mm_pages.proofs.Below.{ℕ, ◌≡◌, ◌+◌, ◌-◌, ◌*◌, ◌<◌, ◌≤◌, min, Some, Ok, List, ◌++◌, length, get_or, take, refl, ap, sym, ◌∙◌, inl}
 use Rattle.mm_pages.proofs.Below.{inr, arith, length-append, cases_lt, length-take, length-take-le, get_or_append_left, get_or-append_right}
-use Rattle.mm_pages.proofs.Below.{get_or-take, same_number_lists, counted, Slots, slot_in, longest_slot, longest_slot-is, page_of}
+use Rattle.mm_pages.proofs.Below.{get_or-take, same_number_lists, Slots, slot_in, longest_slot, longest_slot-is, page_of}
 use Rattle.mm_pages.proofs.Below.{page_count, Paged, ReadsLength, ReadsPage}
 use Rattle.mm_pages.specs.Gives.{GivesSize, GivesPages}
 use Rattle.mm_pages.proofs.BytesLaws.{get_or-page_of}

@@ -1,45 +1,19 @@
 -- Laws of the digests that are kept.
-use Rattle.mm_pages.proofs.Below.{ℕ, ◌≡◌, ◌+◌, ◌-◌, zero, suc, Bool, true, false, Option, Some, None, List, [], ◌∷◌, ◌++◌, length, get_or}
-use Rattle.mm_pages.proofs.Below.{take, drop, refl, ap, sym, ◌∙◌, arith, length-append, append_assoc, add-one, subst, ◌==◌, if◌then◌else◌}
+use Rattle.std.proofs.lemmas.Bool.Decides.{nat_tests}
+use Rattle.mm_pages.proofs.Below.{ℕ, ◌≡◌, ◌+◌, ◌-◌, zero, suc, Option, Some, None, List, [], ◌∷◌, ◌++◌, length, get_or}
+use Rattle.mm_pages.proofs.Below.{take, drop, refl, ap, sym, ◌∙◌, arith, length-append, append_assoc, add-one, subst}
 use Rattle.mm_pages.proofs.Below.{get_or-append_right, get_or-drop, drop-drop, drop_at, take-append_seam, Digest, page_of, Rows, row_in}
 use Rattle.mm_pages.proofs.Below.{with_row, kept_digest, page_digest, keeping, page_digests}
 
-abbrev chosen : Bool → Bool → Bool → Rows → List (Option Digest)
-chosen a b c rows = if a then rows.zero else if b then rows.one else if c then rows.two else rows.three
-
-abbrev pub put : Bool → Bool → Bool → Rows → List (Option Digest) → Rows
-put a b c rows row =
-    if a then record rows { zero = row } else if b then record rows { one = row }
-    else if c then record rows { two = row } else record rows { three = row }
-
-chosen-put : (a b c : Bool) (rows : Rows) (row : List (Option Digest)) → chosen a b c (put a b c rows row) ≡ row
-chosen-put true b c rows row = refl
-chosen-put false true c rows row = refl
-chosen-put false false true rows row = refl
-chosen-put false false false rows row = refl
-
-put-put : (a b c : Bool) (rows : Rows) (one other : List (Option Digest)) →
-    put a b c (put a b c rows one) other ≡ put a b c rows other
-put-put true b c rows one other = refl
-put-put false true c rows one other = refl
-put-put false false true rows one other = refl
-put-put false false false rows one other = refl
-
-put-chosen : (a b c : Bool) (rows : Rows) → put a b c rows (chosen a b c rows) ≡ rows
-put-chosen true b c rows = refl
-put-chosen false true c rows = refl
-put-chosen false false true rows = refl
-put-chosen false false false rows = refl
-
 pub row_in-with_row : (rows : Rows) (n : ℕ) (row : List (Option Digest)) → row_in (with_row rows n row) n ≡ row
-row_in-with_row rows n row = chosen-put (n == 0) (n == 1) (n == 2) rows row
+row_in-with_row rows n row = grind (arith, nat_tests)
 
 pub with_row-twice : (rows : Rows) (n : ℕ) (one other : List (Option Digest)) →
     with_row (with_row rows n one) n other ≡ with_row rows n other
-with_row-twice rows n one other = put-put (n == 0) (n == 1) (n == 2) rows one other
+with_row-twice rows n one other = grind (arith, nat_tests)
 
 pub with_row-same : (rows : Rows) (n : ℕ) → with_row rows n (row_in rows n) ≡ rows
-with_row-same rows n = put-chosen (n == 0) (n == 1) (n == 2) rows
+with_row-same rows n = grind (arith, nat_tests)
 
 -- a digest that follows those of the pages before it
 seam : (digest : Digest) (firsts row : List (Option Digest)) →

@@ -3,7 +3,7 @@ use Rattle.mm_pages.proofs.Below.{ℕ, ◌≡◌, ◌-◌, zero, suc, Bool, true
 use Rattle.mm_pages.proofs.Below.{sym, ◌∙◌, subst, inl, inr, arith, ◌==◌, if◌then◌else◌, cases_lt, get_or_append_left, get_or-append_right}
 use Rattle.mm_pages.proofs.Below.{Digest, Slots, with_slot, putting, page_of, page_count, Paged, Rows, with_row, page_digest, page_digests}
 use Rattle.mm_pages.proofs.Below.{PutsWhole, AreOf, AreInStep, KeepsStep}
-use Rattle.mm_pages.proofs.RowLaws.{length-digests_of, put}
+use Rattle.mm_pages.proofs.RowLaws.{length-digests_of}
 
 last_of : (n : ℕ) (digest other : Digest) → get_or (Some digest ∷ []) n None ≡ Some other → (n ≡ 0) × (digest ≡ other)
 last_of zero digest other e = (refl, cc)
@@ -25,6 +25,11 @@ are_of_own bytes (suc count) page digest e =
           let same : count ≡ page = omega (arith, found.0) in
           sym found.1 ∙ ap (λ n. page_digest (page_of bytes n)) same)
     ]
+
+abbrev put : Bool → Bool → Bool → Rows → List (Option Digest) → Rows
+put a b c rows row =
+    if a then record rows { zero = row } else if b then record rows { one = row }
+    else if c then record rows { two = row } else record rows { three = row }
 
 abbrev put_slot : Bool → Bool → Bool → Slots → List ℕ → Slots
 put_slot a b c slots bytes =
@@ -60,5 +65,5 @@ step_after slot {rows} {after} row bytes {was = was} {now = now} r s e f k h =
 pub step_written : {slot : ℕ} {bytes : List ℕ} {old new : Paged} {rows after : Rows} → PutsWhole slot bytes old new rows after →
     KeepsStep old new rows after
 step_written {slot} {bytes} p honest was now e f h =
-    step_after slot (page_digests bytes (page_count (length bytes))) bytes p.rows_are (p.slots honest) e f (are_of_own bytes (page_count
-    (length bytes))) h
+    step_after slot (page_digests bytes (page_count (length bytes))) bytes p.rows_are (p.slots honest) e f
+    (are_of_own bytes (page_count (length bytes))) h

@@ -1,27 +1,16 @@
 -- The steps of a write, one after another.
-use Rattle.mm_pages.proofs.Below.{ℕ, ◌≡◌, ◌+◌, ◌*◌, ◌<◌, ◌≤◌, suc, true, false, Option, Some, None, Result, Ok, Err, List, [], ◌++◌, length}
+use Rattle.mm_pages.proofs.Below.{ℕ, ◌≡◌, ◌+◌, ◌*◌, ◌<◌, ◌≤◌, suc, true, false, Option, Some, None, Result, Ok, Err, List, ◌++◌, length}
 use Rattle.mm_pages.proofs.Below.{get_or, take, drop, refl, ap, sym, ◌∙◌, subst, inl, inr, arith, ◌-◌, length-append, is_err, cases_lt}
-use Rattle.mm_pages.proofs.Below.{Failed, Rose, Digest, Slots, slot_in, with_slot, putting, slot_in-with_slot, with_slot-twice}
-use Rattle.mm_pages.proofs.Below.{with_slot-same, putting-twice, marks_alone, marked_last, resized, page_of, page_count, Paged, ReadsLength}
-use Rattle.mm_pages.proofs.Below.{Syncs, changing, counted_by, may_be, look_at, looks_at, change_count, changes_of, one_if, Rows, row_in}
-use Rattle.mm_pages.proofs.Below.{with_row, kept_digest, page_digest, keeping, page_digests, IsInStep, IsPutAt, FailsIn, Fails, PutsThere}
-use Rattle.mm_pages.proofs.Below.{PutsOne, IsFilled, FillsSlot, PutsFirst, IsOneMoreAtMost, Fits, FitsAndSyncs, EndsInSync, PutsWhole}
-use Rattle.mm_pages.proofs.Below.{PutsBytes}
+use Rattle.mm_pages.proofs.Below.{Failed, Rose, Digest, Slots, slot_in, with_slot, putting, slot_in-with_slot, with_slot-same}
+use Rattle.mm_pages.proofs.Below.{putting-twice, marks_alone, marked_last, marking, Cached, resized, page_of, page_count, Paged}
+use Rattle.mm_pages.proofs.Below.{ReadsLength, Syncs, changing, counted_by, may_be, look_at, looks_at, change_count, changes_of, one_if}
+use Rattle.mm_pages.proofs.Below.{Rows, row_in, with_row, kept_digest, page_digest, keeping, page_digests, IsPutAt, FailsIn, Fails}
+use Rattle.mm_pages.proofs.Below.{ChangesSlot, PutsOne, IsFilled, PutsFirst, Fits, FitsAndSyncs, EndsInSync, PutsWhole, PutsBytes}
 use Rattle.mm_pages.proofs.BytesLaws.{get_or-page_of, page_of-same, resized-same, resized-length}
 use Rattle.mm_pages.proofs.RowLaws.{row_in-with_row, with_row-twice, with_row-same, keeping-next, kept_of-next, length-digests_of}
 use Rattle.mm_pages.proofs.RowLaws.{take-digests_of}
 use Rattle.mm_pages.proofs.CountLaws.{counted_by-add, changes_of-same}
-use Rattle.mm_pages.proofs.PageLaws.{slots_stay, marks_same, told_once}
-
--- a slot of which no page was put
-fills_none : (slot : ℕ) (bytes : List ℕ) (slots : Option Slots) → FillsSlot slot 0 bytes slots slots
-fills_none slot bytes None = record { left = []; slots = refl; fills = λ told e. absurd (cc) }
-fills_none slot bytes (Some was) = record {
-  left = slot_in was slot;
-  slots = ap Some (sym (with_slot-same was slot));
-  fills = told_once (λ x. IsFilled 0 bytes (slot_in x slot) (slot_in was slot)) was
-      (record { filled = λ i below. absurd (omega arith); after = λ i after. refl });
-}
+use Rattle.mm_pages.proofs.PageLaws.{changed, stays, left_by, slots_stay}
 
 -- no page yet
 pub puts_none : (slot : ℕ) (bytes : List ℕ) (paged : Paged) (rows : Rows) → PutsFirst slot 0 bytes paged paged rows rows
@@ -32,9 +21,9 @@ puts_none slot bytes paged rows = record {
   marks = refl;
   rows_are = sym (with_row-same rows slot);
   looks = refl;
-  fills = λ honest. fills_none slot bytes paged.slots;
-  writes = λ honest told e steps. refl;
-  still = λ honest told e steps none. refl;
+  fills = λ honest. stays slot (IsFilled 0 bytes) paged.slots
+      (λ told e. record { filled = λ i below. absurd (omega arith); after = λ i after. refl });
+  changes = λ honest told e steps. record { writes = refl; still = λ none. refl };
 }
 
 -- the slots are still told after one of them changed
@@ -63,19 +52,19 @@ filled_more count bytes was mid now f p = record {
   after = λ i after. p.after i (omega arith) ∙ f.after i (omega arith);
 }
 
-fills_more : (slot count : ℕ) (bytes : List ℕ) (old mid new : Option Slots) → FillsSlot slot count bytes old mid →
-    PutsThere slot count (page_of bytes count) mid new → FillsSlot slot (suc count) bytes old new
-fills_more slot count bytes old mid new f p = record {
-  left = p.left;
-  slots =
-      p.slots ∙ ap (λ (x : Option Slots). putting slot p.left x) f.slots
-      ∙ putting-twice slot f.left p.left old;
-  fills =
-      λ told e.
-      let put = p.there (with_slot told slot f.left) (told_after slot f.left old mid told f.slots e) in
-      let here : IsPutAt count (page_of bytes count) f.left p.left =
-      subst (λ (x : List ℕ). IsPutAt count (page_of bytes count) x p.left) (slot_in-with_slot told slot f.left) put in
-      filled_more count bytes (slot_in told slot) f.left p.left (f.fills told e) here;
+-- a slot that changes again
+then_left : (slot : ℕ) (old : Option Slots) {mid new : Option Slots} (f : (left : List ℕ) × (mid ≡ putting slot left old)) →
+    (g : (left : List ℕ) × (new ≡ putting slot left mid)) → new ≡ putting slot g.0 old
+then_left slot old f g = g.1 ∙ ap (putting slot g.0) f.1 ∙ putting-twice slot f.0 g.0 old
+
+changes_then : {slot : ℕ} {One Other Both : List ℕ → List ℕ → Type 0} {old mid new : Option Slots} →
+    ((was between now : List ℕ) → One was between → Other between now → Both was now) → ChangesSlot slot One old mid →
+    ChangesSlot slot Other mid new → ChangesSlot slot Both old new
+changes_then {slot} {One} {Other} {Both} {old} {mid} both f g = record {
+  left = g.left;
+  slots = then_left slot old (f.left, f.slots) (g.left, g.slots);
+  so = λ told e. both (slot_in told slot) f.left g.left (f.so told e) (subst (λ (x : List ℕ). Other x g.left)
+      (slot_in-with_slot told slot f.left) (g.so (with_slot told slot f.left) (told_after slot f.left old mid told f.slots e)));
 }
 
 pub puts_more : {slot count : ℕ} {bytes : List ℕ} {old mid new : Paged} {rows some after : Rows} →
@@ -104,27 +93,22 @@ puts_more {slot} {count} {bytes} {old} {mid} {new} {rows} {some} f p =
       looks =
           p.looks ∙ (λ j. counted_by (one_if (may_be (kept_is j) (page_digest part))) (f.looks j))
           ∙ sym (counted_by-add (look_at row count part) (looks_at row bytes count) old.page_reads);
-      fills =
-          λ honest.
-          fills_more slot count bytes old.slots mid.slots new.slots (f.fills honest) (p.puts (f.honest ∙ honest));
-      writes =
+      fills = λ honest. changes_then (filled_more count bytes) (f.fills honest) (p.puts (f.honest ∙ honest));
+      changes =
           λ honest told e steps.
           let g = f.fills honest in
           let was : List ℕ = slot_in told slot in
-          let here : slot_in (with_slot told slot g.left) slot ≡ g.left = slot_in-with_slot told slot g.left in
           let page : page_of (slot_in (with_slot told slot g.left) slot) count ≡ page_of was count =
-          ap (λ (x : List ℕ). page_of x count) here ∙ page_after count bytes was g.left (g.fills told e) in
-          let step : IsInStep (row_in some slot) count (slot_in (with_slot told slot g.left) slot) =
-          λ x k. steps count (omega arith) x (sym kept_is ∙ k) ∙ ap page_digest (sym page) in
-          p.writes (with_slot told slot g.left) (told_after slot g.left old.slots mid.slots told g.slots e) step
-          ∙ (λ j. counted_by (change_count (page j) part) (f.writes honest told e (λ k below. steps k (omega arith)) j))
-          ∙ sym (counted_by-add (change_count (page_of was count) part) (changes_of was bytes count) old.page_writes);
-      still =
-          λ honest told e steps none.
-          let was : List ℕ = slot_in told slot in
-          let before : mid.slots ≡ old.slots = f.still honest told e (λ k below. steps k (omega arith)) (omega (arith, none)) in
-          let step : IsInStep (row_in some slot) count was = λ x k. steps count (omega arith) x (sym kept_is ∙ k) in
-          p.still told (before ∙ e) step (omega (arith, none)) ∙ before;
+          ap (λ (x : List ℕ). page_of x count) (slot_in-with_slot told slot g.left) ∙ page_after count bytes was g.left (g.so told e) in
+          let first = f.changes honest told e steps in
+          let then = p.changes (with_slot told slot g.left) (told_after slot g.left old.slots mid.slots told g.slots e)
+          (λ x k. steps count x (sym kept_is ∙ k) ∙ ap page_digest (sym page)) in
+          record {
+            writes = then.writes ∙ (λ j. counted_by (change_count (page j) part) (first.writes j))
+                ∙ sym (counted_by-add (change_count (page_of was count) part) (changes_of was bytes count) old.page_writes);
+            still = λ none. then.still (ap (λ (x : List ℕ). change_count x part) page ∙ omega (arith, none))
+                ∙ first.still (omega (arith, none));
+          };
     }
 
 -- where the digests so far stand, the next one follows
@@ -144,9 +128,7 @@ fails_after {slot} {old = old} {new = new} {rows = rows} f g = record {
     faults = subst (λ n. Rose n new.faults) f.faults g.paged.faults;
     leaves =
         λ honest.
-        let first = f.fills honest in
-        let later = g.paged.leaves (f.honest ∙ honest) in
-        (later.0, later.1 ∙ ap (putting slot later.0) first.slots ∙ putting-twice slot first.left later.0 old.slots);
+        let later = g.paged.leaves (f.honest ∙ honest) in (later.0, then_left slot old.slots (left_by (f.fills honest)) later);
     marks = g.paged.marks ∙ f.marks;
   };
   row = g.row;
@@ -174,7 +156,7 @@ fits_already {slot} {size} {old = old} {new = new} r e = record {
   settled = λ told f l. ap (λ (x : Paged). x.length_writes) r.same;
   slots =
       λ honest. ap (λ (x : Paged). x.slots) r.same ∙ length_stays slot size old.slots (λ told f. sym (r.gives told f) ∙ e);
-  marks = marks_same slot old new (ap (λ (x : Paged). x.unsynced) r.same);
+  marks = ap (λ (x : Paged). marking slot true x.unsynced) r.same;
 }
 
 pub length_failed : {slot : ℕ} {old new : Paged} {fault : Failed} → ReadsLength slot old new (Err fault) → FailsIn slot old new
@@ -182,48 +164,22 @@ length_failed {slot} {old} {new} r = record {
   honest = ap (λ (x : Paged). x.is_honest) r.same;
   faults = r.counted_faults.failed;
   leaves = λ honest. let stay = slots_stay slot old.slots in (stay.0, ap (λ (x : Paged). x.slots) r.same ∙ stay.1);
-  marks = marks_same slot old new (ap (λ (x : Paged). x.unsynced) r.same);
+  marks = ap (λ (x : Paged). marking slot true x.unsynced) r.same;
 }
 
--- slots of which one changed are slots with some bytes of its own put in place
-slots_changed : (slot : ℕ) (change : List ℕ → List ℕ) (slots : Option Slots) →
-    (left : List ℕ) × (changing slot change slots ≡ putting slot left slots)
-slots_changed slot change None = ([], refl)
-slots_changed slot change (Some told) = (change (slot_in told slot), refl)
-
--- a length that is fitted, and then synced
-fits_and_synced : {slot size : ℕ} {old mid new : Paged} {done : Unit} → Fits slot size old mid →
-    Syncs slot mid new (Ok done) → Fits slot size old new
-fits_and_synced {slot} {old = old} {mid = mid} {new = new} f s = record {
-  honest = ap (λ (x : Paged). x.is_honest) s.same ∙ f.honest;
-  faults = s.counted_faults.kept ∙ f.faults;
-  reads = ap (λ (x : Paged). x.page_reads) s.same ∙ f.reads;
-  writes = ap (λ (x : Paged). x.page_writes) s.same ∙ f.writes;
-  lengths =
-      subst (λ n. IsOneMoreAtMost old.length_writes n) (sym (ap (λ (x : Paged). x.length_writes) s.same)) f.lengths;
-  settled = λ told e l. ap (λ (x : Paged). x.length_writes) s.same ∙ f.settled told e l;
-  slots = λ honest. s.leaves (f.honest ∙ honest) ∙ f.slots honest;
-  marks =
-      marks_alone slot false mid.unsynced new.unsynced (ap (λ (x : Paged). x.unsynced) s.same) ∙ f.marks;
-}
-
--- or not
+-- a length that is fitted, and then synced or not
 pub fits_synced : (slot size : ℕ) (old mid new : Paged) (result : Result Unit Failed) → Fits slot size old mid →
     Syncs slot mid new result → EndsInSync slot size old new result
-fits_synced slot size old mid new (Ok done) f s = record {
-  fits = fits_and_synced f s;
-  synced = marked_last slot false old.unsynced mid.unsynced new.unsynced f.marks (ap (λ (x : Paged). x.unsynced) s.same);
-}
+fits_synced slot size old mid new (Ok done) f s = record { fitted = mid; fits = f; syncs = s }
 fits_synced slot size old mid new (Err fault) f s = record {
   honest = ap (λ (x : Paged). x.is_honest) s.same ∙ f.honest;
   faults = subst (λ n. Rose n new.faults) f.faults s.counted_faults.failed;
   leaves =
       λ honest.
-      let before = slots_changed slot (resized size) old.slots in
       let left = s.leaves (f.honest ∙ honest) in (
         left.0,
-        left.1 ∙ ap (λ (x : Option Slots). putting slot left.0 x) (f.slots honest ∙ before.1)
-            ∙ putting-twice slot before.0 left.0 old.slots,
+        then_left slot old.slots
+            (left_by (changed slot (λ was now. Unit {0}) (resized size) old.slots mid.slots (f.slots honest) (λ told e. tt))) left,
       );
   marks =
       marks_alone slot true mid.unsynced new.unsynced (ap (λ (x : Paged). x.unsynced) s.same) ∙ f.marks;
@@ -234,18 +190,10 @@ whole : (bytes was now : List ℕ) → IsFilled (page_count (length bytes)) byte
     resized (length bytes) now ≡ bytes
 whole bytes was now f = resized-same bytes now (λ i below. f.filled i (omega arith))
 
-fits_whole : (slot : ℕ) (bytes : List ℕ) (old mid new : Option Slots) →
-    FillsSlot slot (page_count (length bytes)) bytes old mid → new ≡ changing slot (resized (length bytes)) mid →
+put_as : (slot : ℕ) (bytes : List ℕ) (old new : Option Slots) → ChangesSlot slot (λ was now. now ≡ bytes) old new →
     new ≡ putting slot bytes old
-fits_whole slot bytes None mid new f e = e ∙ ap (λ (x : Option Slots). changing slot (resized (length bytes)) x) f.slots
-fits_whole slot bytes (Some told) mid new f e =
-    let there : slot_in (with_slot told slot f.left) slot ≡ f.left = slot_in-with_slot told slot f.left in
-    let done : resized (length bytes) (slot_in (with_slot told slot f.left) slot) ≡ bytes =
-    ap (λ (x : List ℕ). resized (length bytes) x) there
-    ∙ whole bytes (slot_in told slot) f.left (f.fills told refl) in
-    e ∙ ap (λ (x : Option Slots). changing slot (resized (length bytes)) x) f.slots
-    ∙ ap (λ (x : List ℕ). Some (with_slot (with_slot told slot f.left) slot x)) done
-    ∙ ap Some (with_slot-twice told slot f.left bytes)
+put_as slot bytes None new c = c.slots
+put_as slot bytes (Some told) new c = c.slots ∙ ap (λ (x : List ℕ). Some (with_slot told slot x)) (c.so told refl)
 
 -- all pages, and then the length
 pub puts_all : {slot : ℕ} {bytes : List ℕ} {old mid new : Paged} {rows some after : Rows} →
@@ -254,6 +202,7 @@ pub puts_all : {slot : ℕ} {bytes : List ℕ} {old mid new : Paged} {rows some 
     FitsAndSyncs slot (length bytes) mid new → PutsWhole slot bytes old new rows after
 puts_all {slot} {bytes} {old} {mid} {new} {rows} {some} f r ends =
     let g = ends.fits in
+    let s = ends.syncs in
     let count : ℕ = page_count (length bytes) in
     let row_is : row_in some slot ≡ page_digests bytes count ++ drop count (row_in rows slot) =
     ap (λ (x : Rows). row_in x slot) f.rows_are
@@ -261,23 +210,28 @@ puts_all {slot} {bytes} {old} {mid} {new} {rows} {some} f r ends =
     let cut : take count (row_in some slot) ≡ page_digests bytes count =
     ap (λ (x : List (Option Digest)). take count x) row_is ∙ take-digests_of bytes count (drop count (row_in rows slot)) in
     record {
-      honest = g.honest ∙ f.honest;
-      faults = g.faults ∙ f.faults;
-      lengths = subst (λ n. IsOneMoreAtMost n new.length_writes) f.lengths g.lengths;
-      synced = marked_last slot false old.unsynced mid.unsynced new.unsynced f.marks ends.synced;
+      honest = ap (λ (x : Paged). x.is_honest) s.same ∙ g.honest ∙ f.honest;
+      faults = s.counted_faults.kept ∙ g.faults ∙ f.faults;
+      lengths = rw (ap (λ (x : Paged). x.length_writes) s.same, sym f.lengths) g.lengths;
+      synced =
+          marked_last slot false old.unsynced ends.fitted.unsynced new.unsynced (g.marks ∙ f.marks) (ap (λ (x : Paged). x.unsynced) s.same);
       rows_are =
           r ∙ (λ j. with_row (f.rows_are j) slot (cut j))
           ∙ with_row-twice rows slot _ (page_digests bytes count);
-      looks = g.reads ∙ f.looks;
+      looks = ap (λ (x : Paged). x.page_reads) s.same ∙ g.reads ∙ f.looks;
       slots =
           λ honest.
-          fits_whole slot bytes old.slots mid.slots new.slots (f.fills honest) (g.slots (f.honest ∙ honest));
-      writes = λ honest told e steps. g.writes ∙ f.writes honest told e steps;
+          s.leaves (g.honest ∙ f.honest ∙ honest) ∙ put_as slot bytes old.slots ends.fitted.slots
+          (changes_then (λ was between now filled fitted. fitted ∙ whole bytes was between filled) (f.fills honest)
+          (changed slot (λ was now. now ≡ resized (length bytes) was) (resized (length bytes)) mid.slots ends.fitted.slots
+          (g.slots (f.honest ∙ honest)) (λ told e. refl)));
+      writes = λ honest told e steps. ap (λ (x : Paged). x.page_writes) s.same ∙ g.writes ∙ (f.changes honest told e steps).writes;
       settled =
           λ honest told e steps same.
           let none : changes_of (slot_in told slot) bytes count ≡ 0 =
           subst (λ (x : List ℕ). changes_of x bytes count ≡ 0) (sym same) (changes_of-same bytes count) in
-          g.settled told (f.still honest told e steps none ∙ e) (ap length same) ∙ f.lengths;
+          ap (λ (x : Paged). x.length_writes) s.same
+          ∙ g.settled told ((f.changes honest told e steps).still none ∙ e) (ap length same) ∙ f.lengths;
     }
 
 -- all pages, and then a failure
@@ -288,8 +242,9 @@ pub fails_at_end : {slot : ℕ} {bytes : List ℕ} {old mid new : Paged} {rows s
 fails_at_end {slot} {bytes} {some = some} f r g =
     fails_after f (record { paged = g; row = take (page_count (length bytes)) (row_in some slot); rows_are = r })
 
--- a write that didn't fail
-pub put_whole : (slot : ℕ) (bytes : List ℕ) (old new : Paged) (rows after : Rows) (result : Result Unit Failed) →
-    PutsBytes slot bytes old new rows after result → is_err result ≡ false → PutsWhole slot bytes old new rows after
-put_whole slot bytes old new rows after (Ok done) p e = p
-put_whole slot bytes old new rows after (Err fault) p e = absurd (cc)
+-- a write that didn't fail, of a store that is seen so
+pub put_whole : {D : Type 0} (pages : D → Paged) (slot : ℕ) (bytes : List ℕ) (x y : Cached D) (new : Paged) (after : Rows)
+    (result : Result Unit Failed) → x ≡ y → PutsBytes slot bytes (pages x.device) new x.rows after result → is_err result ≡ false →
+    PutsWhole slot bytes (pages y.device) new y.rows after
+put_whole pages slot bytes x y new after (Ok done) same p e = rw (sym same) p
+put_whole pages slot bytes x y new after (Err fault) same p e = absurd (cc)

@@ -1,13 +1,12 @@
 -- A store over a device of pages.
-use Rattle.std.specs.Prelude.{◌≡◌, ℕ, true, List, [], length, Option, Some, Result, Ok, Err}
+use Rattle.std.specs.Prelude.{◌≡◌, ℕ, true, List, [], length, Some, Result, Ok, Err}
 use Rattle.mm_store.specs.declared.fault.StoreFault.{StoreFault}
 use Rattle.mm_store.specs.declared.fault.StoreFault.TheVariants.{Memory, Failed}
-use Rattle.mm_digest.specs.declared.digest.Digest.{Digest}
 use Rattle.mm_store.specs.Slots.{Slots}
 use Rattle.mm_pages.specs.Bytes.{page_count}
 use Rattle.mm_pages.specs.Paged.{Paged}
 use Rattle.mm_pages.specs.Rows.{Rows, with_row, page_digests}
-use Rattle.mm_pages.specs.Puts.{IsInStep}
+use Rattle.mm_pages.specs.Puts.{AreOf}
 
 -- the device, and the digests that are kept of its pages
 pub record Cached (D : Type 0) : Type 0 where
@@ -26,10 +25,6 @@ abbrev pub rows_after_read : {T : Type 0} → ℕ → Rows → Result T StoreFau
 rows_after_read slot rows (Ok _) = rows
 rows_after_read slot rows (Err Memory) = rows
 rows_after_read slot rows (Err Failed) = with_row rows slot []
-
--- each digest that is kept of a slot's pages is the digest of what is there
-abbrev pub AreOf : List (Option Digest) → List ℕ → Type 0
-AreOf row was = (page : ℕ) → IsInStep row page was
 
 -- the same of all slots
 pub record AreInStep (rows : Rows) (slots : Slots) : Type 0 where

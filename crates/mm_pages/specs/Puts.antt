@@ -8,7 +8,7 @@ use Rattle.mm_store.specs.Slots.{Slots, slot_in}
 use Rattle.mm_store.specs.Unsynced.{marking, MarksAlone}
 use Rattle.mm_store.specs.Calls.{putting}
 use Rattle.mm_pages.specs.Bytes.{resized, page_of, page_count}
-use Rattle.mm_pages.specs.Calls.{changing}
+use Rattle.mm_pages.specs.Calls.{changing, Syncs}
 use Rattle.mm_pages.specs.Paged.{Paged}
 use Rattle.mm_pages.specs.Counts.{counted_by, may_be, look_at, looks_at, change_count, changes_of, one_if}
 use Rattle.mm_pages.specs.Rows.{Rows, row_in, with_row, kept_digest, page_digest, keeping, page_digests}
@@ -17,6 +17,10 @@ use Rattle.mm_pages.specs.Rows.{Rows, row_in, with_row, kept_digest, page_digest
 abbrev pub IsInStep : List (Option Digest) → ℕ → List ℕ → Type 0
 IsInStep row page was =
     (digest : Digest) → kept_digest row page ≡ Some digest → digest ≡ page_digest (page_of was page)
+
+-- each digest that is kept of a slot's pages is the digest of what is there
+abbrev pub AreOf : List (Option Digest) → List ℕ → Type 0
+AreOf row was = (page : ℕ) → IsInStep row page was
 
 -- a page is looked up and, where its digest doesn't tell it from the new one, read back
 pub record HoldsPage (slot page : ℕ) (kept : Option Digest) (digest : Digest) (part : List ℕ)
@@ -51,11 +55,17 @@ pub record Fails (slot : ℕ) (old new : Paged) (rows after : Rows) : Type 0 whe
   pub row : List (Option Digest)
   pub rows_are : after ≡ with_row rows slot row
 
--- the slot changed to some bytes where the slots are told, and the page is there
-pub record PutsThere (slot page : ℕ) (part : List ℕ) (old new : Option Slots) : Type 0 where
+-- the slot changed to some bytes where the slots are told, which are so beside the old ones
+pub record ChangesSlot (slot : ℕ) (AreSo : List ℕ → List ℕ → Type 0)
+    (old new : Option Slots) : Type 0 where
   pub left : List ℕ
   pub slots : new ≡ putting slot left old
-  pub there : (told : Slots) → old ≡ Some told → IsPutAt page part (slot_in told slot) left
+  pub so : (told : Slots) → old ≡ Some told → AreSo (slot_in told slot) left
+
+-- so many pages were written, and where none was, no slot changed
+pub record ChangesPages (count : ℕ) (old new : Paged) : Type 0 where
+  pub writes : new.page_writes ≡ counted_by count old.page_writes
+  pub still : count ≡ 0 → new.slots ≡ old.slots
 
 -- one page of a write
 pub record PutsOne (slot page : ℕ) (part : List ℕ) (old new : Paged) (rows after : Rows) : Type 0
@@ -66,14 +76,10 @@ pub record PutsOne (slot page : ℕ) (part : List ℕ) (old new : Paged) (rows a
     pub marks : MarksAlone slot old.unsynced new.unsynced
     pub rows_are : after ≡ with_row rows slot (keeping page (page_digest part) (row_in rows slot))
     pub looks : new.page_reads ≡ counted_by (look_at (row_in rows slot) page part) old.page_reads
-    pub puts : old.is_honest ≡ true → PutsThere slot page part old.slots new.slots
-    pub writes : (told : Slots) → old.slots ≡ Some told
+    pub puts : old.is_honest ≡ true → ChangesSlot slot (IsPutAt page part) old.slots new.slots
+    pub changes : (told : Slots) → old.slots ≡ Some told
         → IsInStep (row_in rows slot) page (slot_in told slot)
-        → new.page_writes ≡ counted_by (change_count (page_of (slot_in told slot) page) part)
-        old.page_writes
-    pub still : (told : Slots) → old.slots ≡ Some told
-        → IsInStep (row_in rows slot) page (slot_in told slot)
-        → change_count (page_of (slot_in told slot) page) part ≡ 0 → new.slots ≡ old.slots
+        → ChangesPages (change_count (page_of (slot_in told slot) page) part) old new
 
 abbrev pub PutsPage : ℕ → ℕ → List ℕ → Paged → Paged → Rows → Rows → Result Unit Failed → Type 0
 PutsPage slot page part old new rows after (Ok _) = PutsOne slot page part old new rows after
@@ -83,13 +89,6 @@ PutsPage slot page part old new rows after (Err _) = Fails slot old new rows aft
 pub record IsFilled (count : ℕ) (bytes was now : List ℕ) : Type 0 where
   pub filled : (i : ℕ) → i < 256 * count → slice_index now i ≡ slice_index bytes i
   pub after : (i : ℕ) → 256 * count ≤ i → slice_index now i ≡ slice_index was i
-
--- the slot changed to some bytes where the slots are told, and its first pages are those of the
--- bytes
-pub record FillsSlot (slot count : ℕ) (bytes : List ℕ) (old new : Option Slots) : Type 0 where
-  pub left : List ℕ
-  pub slots : new ≡ putting slot left old
-  pub fills : (told : Slots) → old ≡ Some told → IsFilled count bytes (slot_in told slot) left
 
 -- the first pages of a write
 pub record PutsFirst (slot count : ℕ) (bytes : List ℕ) (old new : Paged)
@@ -101,13 +100,10 @@ pub record PutsFirst (slot count : ℕ) (bytes : List ℕ) (old new : Paged)
   pub rows_are : after ≡ with_row rows slot
       (page_digests bytes count ++ drop count (row_in rows slot))
   pub looks : new.page_reads ≡ counted_by (looks_at (row_in rows slot) bytes count) old.page_reads
-  pub fills : old.is_honest ≡ true → FillsSlot slot count bytes old.slots new.slots
-  pub writes : old.is_honest ≡ true → (told : Slots) → old.slots ≡ Some told
-      → ((page : ℕ) → page < count → IsInStep (row_in rows slot) page (slot_in told slot))
-      → new.page_writes ≡ counted_by (changes_of (slot_in told slot) bytes count) old.page_writes
-  pub still : old.is_honest ≡ true → (told : Slots) → old.slots ≡ Some told
-      → ((page : ℕ) → page < count → IsInStep (row_in rows slot) page (slot_in told slot))
-      → changes_of (slot_in told slot) bytes count ≡ 0 → new.slots ≡ old.slots
+  pub fills : old.is_honest ≡ true → ChangesSlot slot (IsFilled count bytes) old.slots new.slots
+  pub changes : old.is_honest ≡ true → (told : Slots) → old.slots ≡ Some told
+      → AreOf (row_in rows slot) (slot_in told slot)
+      → ChangesPages (changes_of (slot_in told slot) bytes count) old new
 
 abbrev pub PutsPages : ℕ → List ℕ → Paged → Paged → Rows → Rows → Result Unit Failed → Type 0
 PutsPages slot bytes old new rows after (Ok _) =
@@ -136,8 +132,9 @@ FitsLength slot size old new (Err _) = FailsIn slot old new
 
 -- a slot is given a length, and then synced
 pub record FitsAndSyncs (slot size : ℕ) (old new : Paged) : Type 0 where
-  pub fits : Fits slot size old new
-  pub synced : new.unsynced ≡ marking slot false old.unsynced
+  pub fitted : Paged
+  pub fits : Fits slot size old fitted
+  pub syncs : Syncs slot fitted new (Ok tt)
 
 abbrev pub EndsInSync : ℕ → ℕ → Paged → Paged → Result Unit Failed → Type 0
 EndsInSync slot size old new (Ok _) = FitsAndSyncs slot size old new
@@ -155,13 +152,11 @@ pub record PutsWhole (slot : ℕ) (bytes : List ℕ) (old new : Paged) (rows aft
         (looks_at (row_in rows slot) bytes (page_count (length bytes))) old.page_reads
     pub slots : old.is_honest ≡ true → new.slots ≡ putting slot bytes old.slots
     pub writes : old.is_honest ≡ true → (told : Slots) → old.slots ≡ Some told
-        → ((page : ℕ) → page < page_count (length bytes)
-        → IsInStep (row_in rows slot) page (slot_in told slot))
+        → AreOf (row_in rows slot) (slot_in told slot)
         → new.page_writes ≡ counted_by
         (changes_of (slot_in told slot) bytes (page_count (length bytes))) old.page_writes
     pub settled : old.is_honest ≡ true → (told : Slots) → old.slots ≡ Some told
-        → ((page : ℕ) → page < page_count (length bytes)
-        → IsInStep (row_in rows slot) page (slot_in told slot))
+        → AreOf (row_in rows slot) (slot_in told slot)
         → slot_in told slot ≡ bytes → new.length_writes ≡ old.length_writes
 
 abbrev pub PutsBytes : ℕ → List ℕ → Paged → Paged → Rows → Rows → Result Unit Failed → Type 0

@@ -9,8 +9,8 @@ ghost use Rattle.mm_pages.specs.Bytes.{page_count};
 ghost use Rattle.mm_pages.specs.Paged.{kept_on};
 ghost use Rattle.mm_pages.specs.Rows.{no_rows, row_in};
 ghost use Rattle.mm_pages.specs.Counts.{counted_by, looks_at, changes_of};
-ghost use Rattle.mm_pages.specs.Puts.{IsOneMoreAtMost};
-ghost use Rattle.mm_pages.specs.Cached.{rows_after_read, rows_after_write, AreOf, KeepsStep};
+ghost use Rattle.mm_pages.specs.Puts.{AreOf, IsOneMoreAtMost};
+ghost use Rattle.mm_pages.specs.Cached.{rows_after_read, rows_after_write, KeepsStep};
 
 use crate::device::PageDevice;
 use crate::digests::Digests;

@@ -1,7 +1,8 @@
 -- Two cells and a selector as one list of bytes, and what is put in place of a part.
 use Rattle.mm_twocell.proofs.Below.{ℕ, ◌≡◌, ◌+◌, ◌*◌, ◌≤◌, ◌⊎◌, inl, inr, zero, suc, List, [], ◌∷◌, ◌++◌, length, take, drop, get_or, refl}
 use Rattle.mm_twocell.proofs.Below.{sym, ap, ◌∙◌, arith, lit<, length-append, append_assoc, length-drop, ◌%◌, slice_index, take-append-drop}
-use Rattle.mm_twocell.proofs.Below.{length-take-le, get_or-append-add, drop-drop, cell_length, range_of, spliced, picked}
+use Rattle.mm_twocell.proofs.Below.{length-take-le, get_or-append-add, drop-drop, cell_length, range_of, spliced, picked, Bool, true, false}
+use Rattle.std.specs.Prelude.{not}
 use Rattle.std.proofs.Math.Seq.{take-append_seam, drop-append_seam, drop-append-add}
 use Rattle.std.proofs.lemmas.Bool.{cases_lt}
 use Rattle.std.proofs.lemmas.Nat.{mod_below}
@@ -24,9 +25,18 @@ one_item [] h = absurd (omega arith)
 one_item (x ∷ []) h = refl
 one_item (x ∷ y ∷ xs) h = absurd (omega arith)
 
--- two cells of this size and a selector
+-- two cells and a selector; and the same by whether the second cell is the picked one, which comes first here
 abbrev pub three : List ℕ → List ℕ → ℕ → List ℕ
 three first second selector = first ++ (second ++ selector ∷ [])
+
+abbrev pub pair : Bool → List ℕ → List ℕ → ℕ → List ℕ
+pair true own other selector = three other own selector
+pair false own other selector = three own other selector
+
+-- the number of the picked cell, and that of the other one
+abbrev pub number : Bool → ℕ
+number true = 1
+number false = 0
 
 pub record InThree (size : ℕ) (bytes : List ℕ) : Type 0 where
   pub first : List ℕ
@@ -57,18 +67,22 @@ pub selector_of : (a b : List ℕ) (n : ℕ) → length a ≡ cell_length → le
 selector_of a b n la lb =
     at_past cell_length cell_length a (b ++ n ∷ []) la ∙ at_past cell_length 0 b (n ∷ []) lb
 
-pub picks_first : (a b : List ℕ) (n : ℕ) → length a ≡ cell_length → length b ≡ cell_length → n % 2 ≡ 0 → picked (three a b n) ≡ a
-picks_first a b n la lb e =
-    ap (λ (k : ℕ). take cell_length (drop (cell_length * (k % 2)) (three a b n))) (selector_of a b n la lb)
-    ∙ ap (λ (k : ℕ). take cell_length (drop (cell_length * k) (three a b n))) e
-    ∙ take_front cell_length a (b ++ n ∷ []) la
+picks : (a b : List ℕ) (n k : ℕ) → length a ≡ cell_length → length b ≡ cell_length → n % 2 ≡ k
+    → picked (three a b n) ≡ take cell_length (drop (cell_length * k) (three a b n))
+picks a b n k la lb e =
+    ap (λ (m : ℕ). take cell_length (drop (cell_length * (m % 2)) (three a b n))) (selector_of a b n la lb)
+    ∙ ap (λ (m : ℕ). take cell_length (drop (cell_length * m) (three a b n))) e
 
-pub picks_second : (a b : List ℕ) (n : ℕ) → length a ≡ cell_length → length b ≡ cell_length → n % 2 ≡ 1 → picked (three a b n) ≡ b
-picks_second a b n la lb e =
-    ap (λ (k : ℕ). take cell_length (drop (cell_length * (k % 2)) (three a b n))) (selector_of a b n la lb)
-    ∙ ap (λ (k : ℕ). take cell_length (drop (cell_length * k) (three a b n))) e
-    ∙ ap (take cell_length) (drop_front cell_length a (b ++ n ∷ []) la)
-    ∙ take_front cell_length b (n ∷ []) lb
+pub picks_own : (second : Bool) (x y : List ℕ) (n : ℕ) → length x ≡ cell_length → length y ≡ cell_length → n % 2 ≡ number second
+    → picked (pair second x y n) ≡ x
+picks_own false x y n lx ly e = picks x y n 0 lx ly e ∙ take_front cell_length x (y ++ n ∷ []) lx
+picks_own true x y n lx ly e =
+    picks y x n 1 ly lx e ∙ ap (take cell_length) (drop_front cell_length y (x ++ n ∷ []) ly) ∙ take_front cell_length x (n ∷ []) lx
+
+pub picks_other : (second : Bool) (x y : List ℕ) (n : ℕ) → length x ≡ cell_length → length y ≡ cell_length → n % 2 ≡ number (not second)
+    → picked (pair second x y n) ≡ y
+picks_other false x y n lx ly e = picks_own true y x n ly lx e
+picks_other true x y n lx ly e = picks_own false y x n ly lx e
 
 pub parity : (n : ℕ) → (n % 2 ≡ 0) ⊎ (n % 2 ≡ 1)
 parity n = elim (cases_lt (n % 2) 1) [
@@ -85,19 +99,22 @@ put_in_place at front part range rest l m =
     ∙ ap (λ (r : List ℕ). (front ++ part) ++ r) (drop_past at (length part) front (range ++ rest) l ∙ drop_front (length part) range rest m)
     ∙ append_assoc front part rest
 
-pub put_first : (a b w : List ℕ) (n : ℕ) → length a ≡ cell_length → length w ≡ cell_length → spliced 0 w (three a b n) ≡ three w b n
-put_first a b w n la lw = put_in_place 0 [] w a (b ++ n ∷ []) refl (la ∙ sym lw)
+pub put_other : (second : Bool) (x y w : List ℕ) (n : ℕ) → length x ≡ cell_length → length y ≡ cell_length → length w ≡ cell_length
+    → spliced (cell_length * number (not second)) w (pair second x y n) ≡ pair second x w n
+put_other true x y w n lx ly lw = put_in_place 0 [] w y (x ++ n ∷ []) refl (ly ∙ sym lw)
+put_other false x y w n lx ly lw = put_in_place cell_length x w y (n ∷ []) lx (ly ∙ sym lw)
 
-pub put_second : (a b w : List ℕ) (n : ℕ) → length a ≡ cell_length → length b ≡ cell_length → length w ≡ cell_length
-    → spliced cell_length w (three a b n) ≡ three a w n
-put_second a b w n la lb lw = put_in_place cell_length a w b (n ∷ []) la (lb ∙ sym lw)
-
-pub put_selector : (a b : List ℕ) (m n : ℕ) → length a ≡ cell_length → length b ≡ cell_length
+put_at_end : (a b : List ℕ) (m n : ℕ) → length a ≡ cell_length → length b ≡ cell_length
     → spliced 208 (m ∷ []) (three a b n) ≡ three a b m
-put_selector a b m n la lb =
+put_at_end a b m n la lb =
     ap (spliced 208 (m ∷ [])) (sym (append_assoc a b (n ∷ [])))
     ∙ put_in_place 208 (a ++ b) (m ∷ []) (n ∷ []) [] (length-append a b ∙ omega (arith, la, lb)) refl
     ∙ append_assoc a b (m ∷ [])
+
+pub put_selector : (second : Bool) (x y : List ℕ) (m n : ℕ) → length x ≡ cell_length → length y ≡ cell_length
+    → spliced 208 (m ∷ []) (pair second x y n) ≡ pair second x y m
+put_selector true x y m n lx ly = put_at_end y x m n ly lx
+put_selector false x y m n lx ly = put_at_end x y m n lx ly
 
 -- what is put in front of a range, with the old bytes of the range behind it
 pub kept_behind : (k n : ℕ) (xs : List ℕ) → k ≤ n → drop k (take n xs) ++ drop n xs ≡ drop k xs

@@ -1,10 +1,10 @@
 -- What a read and a write over two cells do to the one cell.
 use Rattle.mm_twocell.proofs.Below.{ℕ, ◌≡◌, ◌-◌, ◌*◌, ◌⊎◌, inl, inr, Bool, true, false, List, [], ◌∷◌, ◌++◌, length, get_or, Option, None}
-use Rattle.mm_twocell.proofs.Below.{Some, refl, sym, ap, ◌∙◌, subst, arith, ◌%◌, ◌==◌, slice_index, option_map, nat_tests, Rose}
-use Rattle.mm_twocell.proofs.Below.{cell_length, StepFault, Failed, Off, Standing, WriteCell, beside, cell_after, EndsBy, spliced}
-use Rattle.mm_twocell.proofs.Below.{LeavesRest, ReadsRaw, WritesRaw, beside-beside, picked, WritesPicked}
-use Rattle.mm_twocell.proofs.Cells.{InThree, in_three, three, one_item, parity, picks_first, picks_second, put_first, put_second}
-use Rattle.mm_twocell.proofs.Cells.{put_selector, selector_of}
+use Rattle.mm_twocell.proofs.Below.{Some, refl, sym, ap, ◌∙◌, subst, arith, ◌%◌, ◌==◌, slice_index, option_map, Rose, cell_length}
+use Rattle.mm_twocell.proofs.Below.{StepFault, Failed, Off, Standing, WriteCell, beside, cell_after, EndsBy, spliced, LeavesRest, ReadsRaw}
+use Rattle.mm_twocell.proofs.Below.{WritesRaw, beside-beside, picked, WritesPicked}
+use Rattle.mm_twocell.proofs.Cells.{in_three, pair, number, one_item, parity, picks_own, picks_other, put_other, put_selector, selector_of}
+use Rattle.std.specs.Prelude.{not}
 
 -- how a call ends that went on from a call that was done
 pub ends_with : (fault : Option StepFault) (old two three : Standing) (made any : Bool) → old.is_on ≡ true → two.faults ≡ old.faults
@@ -20,9 +20,6 @@ ends_with (Some Off) old two three made any on same m e = record {
 done_made : (fault : Option StepFault) (old new : Standing) (made : Bool) → EndsBy fault old new made → fault ≡ None → made ≡ true
 done_made None old new made e none = e.made
 done_made (Some fault) old new made e none = absurd (cc)
-
-failed_not : (fault : StepFault) (made : Bool) → Some fault ≡ None → made ≡ true
-failed_not fault made e = absurd (cc)
 
 pub leaves_then : (old one two : Standing) → LeavesRest old one → LeavesRest one two → LeavesRest old two
 leaves_then old one two a b = record {
@@ -51,96 +48,52 @@ pub record IsRead (cell : Option (List ℕ)) (selector other : ℕ) : Type 0 whe
   pub read : (bytes : List ℕ) → cell ≡ Some bytes → selector ≡ slice_index bytes 208
   pub other_is : other ≡ 1 - selector % 2
 
--- the two cells, by which of them is picked
-record Picks (bytes : List ℕ) (other : ℕ) : Type 0 where
-  parts : InThree cell_length bytes
-  which : ((parts.selector % 2 ≡ 0) × (other ≡ 1)) ⊎ ((parts.selector % 2 ≡ 1) × (other ≡ 0))
+-- the two cells, one of which is picked, and the number of the other one
+data Picks (bytes : List ℕ) (other : ℕ) : Type 0 where
+  picks : (second : Bool) (x y : List ℕ) (n : ℕ) → bytes ≡ pair second x y n → length x ≡ cell_length → length y ≡ cell_length
+      → n % 2 ≡ number second → other ≡ number (not second) → Picks bytes other
 
-selector_told : (bytes : List ℕ) (p : InThree cell_length bytes) → slice_index bytes 208 ≡ p.selector
-selector_told bytes p =
-    ap (λ (b : List ℕ). slice_index b 208) p.whole ∙ selector_of p.first p.second p.selector p.first_size p.second_size
-
-picks : (bytes : List ℕ) (selector other : ℕ) → length bytes ≡ 209 → selector ≡ slice_index bytes 208 → other ≡ 1 - selector % 2
+picks_of : (bytes : List ℕ) (selector other : ℕ) → length bytes ≡ 209 → selector ≡ slice_index bytes 208 → other ≡ 1 - selector % 2
     → Picks bytes other
-picks bytes selector other l s o =
+picks_of bytes selector other l s o =
     let p = in_three cell_length bytes l in
-    let same : selector ≡ p.selector = s ∙ selector_told bytes p in
-    let o2 : other ≡ 1 - p.selector % 2 = o ∙ ap (λ (k : ℕ). 1 - k % 2) same in
-    record {
-      parts = p;
-      which = elim (parity p.selector) [
-        | inl even ↦ inl (even, omega (arith, o2, even))
-        | inr odd ↦ inr (odd, omega (arith, o2, odd))
-      ];
-    }
+    let same : selector ≡ p.selector = s ∙ ap (λ (b : List ℕ). slice_index b 208) p.whole
+    ∙ selector_of p.first p.second p.selector p.first_size p.second_size in
+    elim (parity p.selector) [
+      | inl even ↦ picks false p.first p.second p.selector p.whole p.first_size p.second_size even (omega (arith, o, same, even))
+      | inr odd ↦ picks true p.second p.first p.selector p.whole p.second_size p.first_size odd (omega (arith, o, same, odd))
+    ]
 
 -- a write of the other cell leaves the picked one
 other_left : (bytes w : List ℕ) (other : ℕ) → Picks bytes other → length w ≡ cell_length
     → picked (spliced (cell_length * other) w bytes) ≡ picked bytes
-other_left bytes w other p lw =
-    let a : List ℕ = p.parts.first in
-    let b : List ℕ = p.parts.second in
-    let n : ℕ = p.parts.selector in
-    let la = p.parts.first_size in
-    let lb = p.parts.second_size in
-    ap (λ (x : List ℕ). picked (spliced (cell_length * other) w x)) p.parts.whole
-    ∙ elim p.which [
-      | inl e ↦ ap (λ (k : ℕ). picked (spliced (cell_length * k) w (three a b n))) e.1 ∙ ap picked (put_second a b w n la lb lw)
-          ∙ picks_first a w n la lw e.0 ∙ sym (picks_first a b n la lb e.0)
-      | inr e ↦ ap (λ (k : ℕ). picked (spliced (cell_length * k) w (three a b n))) e.1 ∙ ap picked (put_first a b w n la lw)
-          ∙ picks_second w b n lw lb e.0 ∙ sym (picks_second a b n la lb e.0)
-    ]
-    ∙ ap picked (sym p.parts.whole)
-
-equal_is : (m n : ℕ) → m ≡ n → (m == n) ≡ true
-equal_is m n e = grind (arith, nat_tests)
-
-other_is_not : (m n : ℕ) → m ≡ 0 → n ≡ 1 → (m == n) ≡ false
-other_is_not m n e f = grind (arith, nat_tests)
-
-nor_back : (m n : ℕ) → m ≡ 1 → n ≡ 0 → (m == n) ≡ false
-nor_back m n e f = grind (arith, nat_tests)
+other_left bytes w other (picks second x y n whole lx ly e o) lw =
+    rw (whole, o)
+    (ap picked (put_other second x y w n lx ly lw) ∙ picks_own second x w n lx lw e ∙ sym (picks_own second x y n lx ly e))
 
 -- the one cell by whether a write is made
 cell_by : List ℕ → List ℕ → Bool → Option (List ℕ)
 cell_by w old made = cell_after (WriteCell w) made (Some old)
 
+-- a selector picks the other cell, or the one that was picked
+picks_by : (second : Bool) (m : ℕ) → ((m % 2 ≡ number (not second)) × ((m % 2 == number (not second)) ≡ true))
+    ⊎ ((m % 2 ≡ number second) × ((m % 2 == number (not second)) ≡ false))
+picks_by true m = elim (parity m) [ inl even ↦ inl (even, rw even refl) | inr odd ↦ inr (odd, rw odd refl) ]
+picks_by false m = elim (parity m) [ inl even ↦ inr (even, rw even refl) | inr odd ↦ inl (odd, rw odd refl) ]
+
 -- a selector that is written then picks the written cell or the old one
 selector_picks : (bytes w : List ℕ) (other m : ℕ) → Picks bytes other → length w ≡ cell_length
     → Some (picked (spliced 208 (m ∷ []) (spliced (cell_length * other) w bytes))) ≡ cell_by w (picked bytes) (m % 2 == other)
 unfolding cell_by
-selector_picks bytes w other m p lw =
-    let a : List ℕ = p.parts.first in
-    let b : List ℕ = p.parts.second in
-    let n : ℕ = p.parts.selector in
-    let la = p.parts.first_size in
-    let lb = p.parts.second_size in
-    ap (λ (x : List ℕ). Some (picked (spliced 208 (m ∷ []) (spliced (cell_length * other) w x)))) p.parts.whole
-    ∙ elim p.which [
-      | inl e ↦
-          let written : spliced 208 (m ∷ []) (spliced (cell_length * other) w (three a b n)) ≡ three a w m =
-          ap (λ (k : ℕ). spliced 208 (m ∷ []) (spliced (cell_length * k) w (three a b n))) e.1
-          ∙ ap (spliced 208 (m ∷ [])) (put_second a b w n la lb lw) ∙ put_selector a w m n la lw in
-          ap (λ (x : List ℕ). Some (picked x)) written
-          ∙ elim (parity m) [
-            | inl even ↦ ap Some (picks_first a w m la lw even ∙ sym (picks_first a b n la lb e.0))
-                ∙ ap (cell_by w (picked (three a b n))) (sym (other_is_not (m % 2) other even e.1))
-            | inr odd ↦ ap Some (picks_second a w m la lw odd)
-                ∙ ap (cell_by w (picked (three a b n))) (sym (equal_is (m % 2) other (odd ∙ sym e.1)))
-          ]
-      | inr e ↦
-          let written : spliced 208 (m ∷ []) (spliced (cell_length * other) w (three a b n)) ≡ three w b m =
-          ap (λ (k : ℕ). spliced 208 (m ∷ []) (spliced (cell_length * k) w (three a b n))) e.1
-          ∙ ap (spliced 208 (m ∷ [])) (put_first a b w n la lw) ∙ put_selector w b m n lw lb in
-          ap (λ (x : List ℕ). Some (picked x)) written
-          ∙ elim (parity m) [
-            | inl even ↦ ap Some (picks_first w b m lw lb even)
-                ∙ ap (cell_by w (picked (three a b n))) (sym (equal_is (m % 2) other (even ∙ sym e.1)))
-            | inr odd ↦ ap Some (picks_second w b m lw lb odd ∙ sym (picks_second a b n la lb e.0))
-                ∙ ap (cell_by w (picked (three a b n))) (sym (nor_back (m % 2) other odd e.1))
-          ]
-    ]
-    ∙ ap (λ (x : List ℕ). cell_by w (picked x) (m % 2 == other)) (sym p.parts.whole)
+selector_picks bytes w other m (picks second x y n whole lx ly e o) lw =
+    rw (whole, o)
+    (ap (λ (z : List ℕ). Some (picked (spliced 208 (m ∷ []) z))) (put_other second x y w n lx ly lw)
+    ∙ ap (λ (z : List ℕ). Some (picked z)) (put_selector second x w m n lx lw)
+    ∙ elim (picks_by second m) [
+      | inl new ↦ ap Some (picks_other second x w m lx lw new.0) ∙ ap (cell_by w (picked (pair second x y n))) (sym new.1)
+      | inr old ↦ ap Some (picks_own second x w m lx lw old.0 ∙ sym (picks_own second x y n lx ly e))
+          ∙ ap (cell_by w (picked (pair second x y n))) (sym old.1)
+    ])
 
 none_after : (w : List ℕ) (made : Bool) → None ≡ cell_after (WriteCell w) made None
 none_after w true = refl
@@ -150,7 +103,7 @@ told_left : (cell : Option (List ℕ)) (w : List ℕ) (selector other : ℕ) →
     → option_map picked (option_map (spliced (cell_length * other) w) cell) ≡ option_map picked cell
 told_left None w selector other r lw = refl
 told_left (Some bytes) w selector other r lw =
-    ap Some (other_left bytes w other (picks bytes selector other (r.size bytes refl) (r.read bytes refl) r.other_is) lw)
+    ap Some (other_left bytes w other (picks_of bytes selector other (r.size bytes refl) (r.read bytes refl) r.other_is) lw)
 
 told_picks : (cell : Option (List ℕ)) (w : List ℕ) (selector other m : ℕ) → IsRead cell selector other → length w ≡ cell_length
     → option_map picked (option_map (spliced 208 (m ∷ [])) (option_map (spliced (cell_length * other) w) cell))
@@ -158,7 +111,7 @@ told_picks : (cell : Option (List ℕ)) (w : List ℕ) (selector other m : ℕ) 
 unfolding cell_by
 told_picks None w selector other m r lw = none_after w (m % 2 == other)
 told_picks (Some bytes) w selector other m r lw =
-    selector_picks bytes w other m (picks bytes selector other (r.size bytes refl) (r.read bytes refl) r.other_is) lw
+    selector_picks bytes w other m (picks_of bytes selector other (r.size bytes refl) (r.read bytes refl) r.other_is) lw
 
 -- the other cell was torn
 pub write_torn : {bytes : List ℕ} {selector other : ℕ} {old one two : Standing} {fault : StepFault} → IsRead old.cell selector other
@@ -169,7 +122,7 @@ write_torn {selector = selector} {other = other} {old = old} {one = one} {two = 
   cell = ap (option_map picked) (b.cell ∙ ap (option_map (spliced (cell_length * other) b.written)) a.cell)
       ∙ told_left old.cell b.written selector other r (b.size ∙ l);
   rest = leaves_then old one two a.rest b.rest;
-  ends = ends_with (Some fault) old one two false b.is_made a.ends.was_on a.ends.faults (failed_not fault false) b.ends;
+  ends = ends_with (Some fault) old one two false b.is_made a.ends.was_on a.ends.faults (λ none. absurd (cc)) b.ends;
 }
 
 other_below : (selector other : ℕ) → other ≡ 1 - selector % 2 → (other % 2 == other) ≡ true

@@ -3,6 +3,7 @@ use Rattle.std.specs.Prelude.{◌≡◌, ℕ, ◌-◌, ◌==◌, Bool, true, Lis
 use Rattle.std.specs.Option.{option_map}
 use Rattle.mm_base.specs.Faults.{counted}
 use Rattle.mm_platform.specs.Standing.{Plan, Standing}
+use Rattle.mm_platform.specs.Memory.{new_platform}
 use Rattle.mm_platform.specs.Raw.{spliced}
 use Rattle.mm_platform.specs.Steps.{Act}
 use Rattle.mm_platform.specs.Told.{quiet_plan, step_made, AreAlike}
@@ -17,17 +18,7 @@ pub record Torn : Type 0 where
 -- a new one: on, all bytes zero, with an empty register, and no call is to fail
 abbrev pub first_torn : Torn
 first_torn = record {
-  standing = record {
-    cell = Some (replicate 209 0);
-    items = Some [];
-    is_on = true;
-    steps = 0;
-    writes = 0;
-    cycles = 0;
-    spare = 0;
-    faults = 0;
-    plan = None;
-  };
+  standing = record (new_platform (replicate 209 0)) { plan = None };
   ahead = 0;
   leaves = [];
 }

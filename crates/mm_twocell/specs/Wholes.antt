@@ -4,17 +4,10 @@ use Rattle.std.proofs.Common.{arith}
 use Rattle.std.proofs.lemmas.Bool.Decides.{nat_tests}
 use Rattle.mm_twocell.specs.Torn.{Torn, whole_bytes, told_by}
 
-chosen_size : (all bytes : List ℕ) (is : Bool) → (length all == 209) ≡ is
-    → (if is then Some all else None) ≡ Some bytes
-    → length bytes ≡ 209
-chosen_size all bytes true e f =
-    let same : length all ≡ length bytes = cc in grind (arith, nat_tests, e, same)
-chosen_size all bytes false e f = absurd (cc)
-
 whole_size : (cell : Option (List ℕ)) (bytes : List ℕ) → whole_bytes cell ≡ Some bytes
     → length bytes ≡ 209
 whole_size None bytes e = absurd (cc)
-whole_size (Some all) bytes e = chosen_size all bytes (length all == 209) (λ i. length all == 209) e
+whole_size (Some all) bytes e = grind (arith, nat_tests, e)
 
 pub told_size : (it : Torn) (bytes : List ℕ) → (told_by it).cell ≡ Some bytes → length bytes ≡ 209
 told_size it bytes e = whole_size it.standing.cell bytes e

@@ -1,4 +1,4 @@
-use Rattle.mm_host.proofs.Keeping.{keeps_fitting}
+use Rattle.mm_host.proofs.Slots.{keeps_fitting}
 use Rattle.mm_host.proofs.slot_laws.slots_keep_fitting.Goals as goal
 
 pub returns : goal.returns
