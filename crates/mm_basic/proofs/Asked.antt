@@ -16,5 +16,5 @@ asked meaning lawful old new offer b result calls goes = record {
   steps = steps meaning lawful old new offer b result calls;
   fits = fits meaning lawful old new offer b result calls;
   goes = goes;
-  complete = complete meaning old new offer b result calls;
+  complete = complete meaning old new offer b result goes (blames meaning old new offer b result calls);
 }
