@@ -1,6 +1,6 @@
 -- What a call finds over the platform is what is found by digests, but for want of memory.
 use Rattle.mm_basic.proofs.Below.{◌≡◌, ℕ, ◌+◌, Bool, true, false, List, [], ◌∷◌, map, length, Some, Result, Ok, Err, ◌⊎◌, inl, inr, refl}
-use Rattle.mm_basic.proofs.Below.{sym, ap, ◌∙◌, subst, nat_le, bytes_eq, bytes_eq-Decides, last_position, Basic, Digest, Meaning, Batch}
+use Rattle.mm_basic.proofs.Below.{sym, ap, ◌∙◌, subst, nat_le, bytes_eq, bytes_eq-Decides, last_position, Basic, Meaning, Batch}
 use Rattle.mm_basic.proofs.Below.{size_of, normal, Cell, IsCell, cell_spelling, PartsFault, Form, Kind, Place, InBasic, InOpt, Content}
 use Rattle.mm_basic.proofs.Below.{Snapshot, ReadsParts, variant_of, tag_of, extended_of, Item, Standing, length-link, Step, Writes, link}
 use Rattle.mm_basic.proofs.Below.{Instance, basic, Commit, Foreign, Digests, made, verdict_by, basic_verdict, digest_of, BatchAnswer}

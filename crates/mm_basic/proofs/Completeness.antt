@@ -1,8 +1,8 @@
 -- A right offer that the verdict accepts is answered.
-use Rattle.mm_basic.proofs.Below.{◌≡◌, ℕ, ◌+◌, ◌≤◌, Bool, true, false, List, [], length, map, Option, None, Some, Result, Ok, Err, IsOk, refl, sym}
-use Rattle.mm_basic.proofs.Below.{ap, ◌∙◌, subst, inl, inr, extended_of, nat_le, bytes_eq, bytes_eq-Decides, last_position, Basic, zero_bytes}
+use Rattle.mm_basic.proofs.Below.{◌≡◌, ℕ, ◌+◌, ◌≤◌, Bool, true, false, List, length, map, Option, None, Some, Result, Ok, Err, IsOk, refl, sym}
+use Rattle.mm_basic.proofs.Below.{ap, ◌∙◌, subst, inl, inr, extended_of, nat_le, bytes_eq, bytes_eq-Decides, last_position, Basic}
 use Rattle.mm_basic.proofs.Below.{StepFault, Standing, Meaning, Batch, size_of, normal, Content, Snapshot, PartsFault, tag_of, Instance, basic}
-use Rattle.mm_basic.proofs.Below.{History, Move, Foreign, judge, Digests, StandsFor, IsRight, ask_steps, is_long, BatchAnswer, Refusal}
+use Rattle.mm_basic.proofs.Below.{History, Move, Foreign, judge, Digests, IsRight, ask_steps, is_long, BatchAnswer, Refusal}
 use Rattle.mm_basic.proofs.Below.{Blames, IsAccepted, IsAnswered, fault_in, offered_of, weighs, all_made, by_digests, brought_digests}
 use Rattle.std.specs.List.{fold}
 use Rattle.std.proofs.lemmas.Bool.{le-leb}

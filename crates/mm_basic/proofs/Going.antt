@@ -1,5 +1,5 @@
 -- A call of Basic is the walk of its steps on a course, by digests and by lists.
-use Rattle.mm_basic.proofs.Below.{◌≡◌, ℕ, Bool, true, false, List, [], ◌∷◌, length, map, Option, None, Some, Result, refl, sym, ap, ◌∙◌}
+use Rattle.mm_basic.proofs.Below.{◌≡◌, ℕ, Bool, true, false, List, ◌∷◌, length, map, Option, None, Some, Result, refl, sym, ap}
 use Rattle.mm_basic.proofs.Below.{subst, arith, Basic, Standing, ReadCell, Meaning, Batch, normal, Instance, basic, Move, Foreign, Digests}
 use Rattle.mm_basic.proofs.Below.{Step, Reading, ask_steps, Refusal, Ended, EndsTo, AsksTo, IsCallSoFar, CallsTo, all_made, by_digests}
 use Rattle.mm_basic.proofs.Below.{fault_in, StandsAt, basic_calls_agree, fate_of, ends_fates, reading_tale, Told, GoesTo, course_by}

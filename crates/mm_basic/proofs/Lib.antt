@@ -7,7 +7,5 @@ mod FirstLaws
 mod Reading
 mod Completeness
 mod Asked
-mod Turning
 mod Calling
-mod Ending
 mod Going

@@ -1,5 +1,5 @@
 -- Turns of a checkpoint: under another plan, what is left behind them, its end, and a step that fails.
-use Rattle.mm_flight.proofs.Below.{◌≡◌, ℕ, ◌+◌, sym, Bool, true, List, Option, None, Some, Result, Ok, Err, refl, ◌∙◌, subst, result_err}
+use Rattle.mm_flight.proofs.Below.{◌≡◌, ℕ, ◌+◌, Bool, true, List, Option, None, Some, Result, Ok, Err, refl, ◌∙◌, result_err}
 use Rattle.mm_flight.proofs.Below.{counted, StepFault, Meddle, Quiet, Plan, Standing, ReadCell, WriteCell, ReadRegister, cell_after, Goes}
 use Rattle.mm_flight.proofs.Below.{Cell, closing_acts_at, plan_by, under}
 use Rattle.mm_opt.specs.declared.segment.Checkpointed.{Checkpointed}
@@ -55,34 +55,35 @@ Comes call old new (Going next) = GoesTo call old new next
 Comes call old new (Done it) = FinishesClosing call old new (Ok it)
 Comes call old new (Refused why) = FinishesClosing call old new (Err why)
 
-looked : (old new : Standing) (found : Result Segment CheckpointRefusal) → Looks old new found
+-- it goes on with the step of the next number
+on : {call next : CheckpointStage} {old new : Standing} → closing_number_of next ≡ closing_number_of call + 1
+    → ((made : Bool) (cell : Option (List ℕ)) → cell_after (closing_act_of call) made cell ≡ cell)
+    → ((end : Standing) (result : Result Checkpointed CheckpointRefusal) → FinishesClosing next new end result
+    → FinishesClosing call old end result) → GoesTo call old new next
+on counts keeps joins = record { counts = counts; keeps = keeps; joins = joins }
+
+looked : {old new : Standing} (found : Result Segment CheckpointRefusal) → Looks old new found
     → Comes stage.Begun old new (looked_turn found)
-looked old new (Err why) l = record { middle = new; found = Err why; looks = l; ends = (refl, refl) }
-looked old new (Ok Shut) l = record { middle = new; found = Ok Shut; looks = l; ends = (refl, refl) }
-looked old new (Ok (Open cell)) l = record {
-  counts = refl;
-  keeps = λ made cell. refl;
-  joins = λ end result f. record { middle = new; found = Ok (Open cell); looks = l; ends = f };
-}
+looked {new = new} (Err why) l = record { middle = new; found = Err why; looks = l; ends = (refl, refl) }
+looked {new = new} (Ok Shut) l = record { middle = new; found = Ok Shut; looks = l; ends = (refl, refl) }
+looked {new = new} (Ok (Open cell)) l =
+    on refl (λ made cell. refl) (λ end result f. record { middle = new; found = Ok (Open cell); looks = l; ends = f })
 
-weighed : (cell : Cell) (old new : Standing) (found : Result (List ℕ) CheckpointRefusal) → Weighs cell old new found
+weighed : {cell : Cell} {old new : Standing} (found : Result (List ℕ) CheckpointRefusal) → Weighs cell old new found
     → Comes (stage.Seen cell) old new (weighed_turn found)
-weighed cell old new (Err why) w = record { middle = new; found = Err why; weighs = w; ends = (refl, refl) }
-weighed cell old new (Ok next) w = record {
-  counts = refl;
-  keeps = λ made cell. refl;
-  joins = λ end result f. record { middle = new; found = Ok next; weighs = w; ends = f };
-}
+weighed {new = new} (Err why) w = record { middle = new; found = Err why; weighs = w; ends = (refl, refl) }
+weighed {new = new} (Ok next) w =
+    on refl (λ made cell. refl) (λ end result f. record { middle = new; found = Ok next; weighs = w; ends = f })
 
-closed : (next : List ℕ) (old new : Standing) (written : Result Checkpointed StepFault) → Closes next old new written
+closed : {next : List ℕ} {old new : Standing} (written : Result Checkpointed StepFault) → Closes next old new written
     → Comes (stage.Closing next) old new (closed_turn written)
-closed next old new (Ok it) c = record { written = Ok it; closes = c; gives = refl }
-closed next old new (Err fault) c = record { written = Err fault; closes = c; gives = refl }
+closed (Ok it) c = record { written = Ok it; closes = c; gives = refl }
+closed (Err fault) c = record { written = Err fault; closes = c; gives = refl }
 
 came : (call : CheckpointStage) (old new : Standing) (turn : CheckpointTurn) → ClosingTurns call old new turn → Comes call old new turn
-came stage.Begun old new turn t = subst (Comes stage.Begun old new) (sym t.gives) (looked old new t.outcome t.step)
-came (stage.Seen cell) old new turn t = subst (Comes (stage.Seen cell) old new) (sym t.gives) (weighed cell old new t.outcome t.step)
-came (stage.Closing next) old new turn t = subst (Comes (stage.Closing next) old new) (sym t.gives) (closed next old new t.outcome t.step)
+came stage.Begun old new turn t = rw t.gives (looked t.outcome t.step)
+came (stage.Seen cell) old new turn t = rw t.gives (weighed t.outcome t.step)
+came (stage.Closing next) old new turn t = rw t.gives (closed t.outcome t.step)
 
 pub closing_moves : (call : CheckpointStage) (old new : Standing) (next : CheckpointStage) → ClosingTurns call old new (Going next)
     → Moves old new (closing_number_of call) (closing_number_of next)
