@@ -1,7 +1,7 @@
 -- Opt: what a call hands on to the next, and the callers' clauses, from those of their calls.
 use Rattle.mm_callers.proofs.Below.{◌≡◌, ℕ, Bool, true, false, List, [], ◌++◌, map, Some, Result, Ok, Err, refl, sym, ap, ◌∙◌, subst, inl}
 use Rattle.mm_callers.proofs.Below.{inr, option_map, append-nil, Opt, StepFault, Item, Standing, Meaning, IsLawful, Batch, One, Content}
-use Rattle.mm_callers.proofs.Below.{Instance, opt, History, Move, Commit, Foreign, moved, IsFit, is_long, Within, offer_messages, Digests}
+use Rattle.mm_callers.proofs.Below.{Instance, opt, History, Move, Commit, Foreign, moved, IsFit, is_long, Within, offer_messages}
 use Rattle.mm_callers.proofs.Below.{digests_of, issued, StandsFor, BatchAnswer, Refusal, Device, Long, Verdict, opt_issued, same_closed}
 use Rattle.mm_callers.proofs.Below.{IsAsked, called, CallsOn, Blames, IsAccepted, by_lists, all_made, opt_content}
 use Rattle.mm_callers.proofs.Below.{AreAsked, AreShown, IsIdle, fault_of, shown, standing_items, foreign_first, opt_comes}

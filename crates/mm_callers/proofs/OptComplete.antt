@@ -3,7 +3,7 @@ use Rattle.mm_callers.proofs.Below.{◌≡◌, ℕ, Bool, true, false, List, [],
 use Rattle.mm_callers.proofs.Below.{AllByRecursion, Contains, Opt, extended_message, StepFault, Standing, quiet_plan, Meaning, Batch, One}
 use Rattle.mm_callers.proofs.Below.{guard, Instance, opt, History, Move, register_value_of, Within}
 use Rattle.mm_callers.proofs.Below.{Digests, digests_of, StandsFor, ask_steps, BatchAnswer, Refusal, Memory}
-use Rattle.mm_callers.proofs.Below.{Device, by_lists, by_digests, Found, found_at, found_unless_wanting, is_fresh, Done, Fate, Course, walk}
+use Rattle.mm_callers.proofs.Below.{Device, by_lists, by_digests, found_at, found_unless_wanting, is_fresh, Done, Fate, Course, walk}
 use Rattle.mm_callers.proofs.Below.{Called, Refuses, called, called_by, given_for, called_with, CallContinues}
 use Rattle.mm_callers.proofs.Below.{counted_part, counted_moves, moves_messages, foreign_in, IsAsked, AreAsked}
 use Rattle.mm_callers.proofs.Below.{asked_by, IsWelcome, AnswersOrLacks, AsksByQuietPlan, AsksInMemory}

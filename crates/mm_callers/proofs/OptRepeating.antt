@@ -3,7 +3,7 @@ use Rattle.mm_callers.proofs.Below.{◌≡◌, ℕ, Bool, true, false, List, Opt
 use Rattle.mm_callers.proofs.Below.{if◌then◌else◌, Opt, StepFault, Standing, Meaning, Batch, Instance, History, Move}
 use Rattle.mm_callers.proofs.Below.{total_of, Digests, StandsFor, ask_steps, BatchAnswer, Refusal, by_digests, Found, is_fresh}
 use Rattle.mm_callers.proofs.Below.{Fate, walk, ended_by, given_for, IsOnce, RepeatsReply, Comes, kept, grown}
-use Rattle.mm_callers.proofs.Below.{answered_at, Brought, reads_only, fault_of, [], ◌++◌, map}
+use Rattle.mm_callers.proofs.Below.{answered_at, Brought, reads_only, fault_of, ◌++◌, map}
 use Rattle.mm_callers.proofs.Below.{append_assoc, Item, foreign_item, One, Foreign, digests_of, by_lists, all_made, found_at}
 use Rattle.mm_callers.proofs.Below.{found_unless_wanting, Walked, called, seen_at, finds, SaysUnlessFault, MayClose}
 use Rattle.mm_callers.proofs.Below.{AreShownUnlessIdle, RepeatsBehind, EndsBehind, in_closing, ClosesBetween}
