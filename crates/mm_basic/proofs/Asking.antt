@@ -1,10 +1,10 @@
 -- What a whole call leaves and counts, what is left of one, and its turns.
-use Rattle.mm_basic.proofs.Below.{◌≡◌, ℕ, Bool, false, List, [], ◌∷◌, length, Option, None, Some, Result, Ok, Err, IfOk, refl, sym}
-use Rattle.mm_basic.proofs.Below.{ap, ◌∙◌, subst, inl, inr, StepFault, Standing, ReadCell, WriteCell, Goes, Meaning, IsLawful, Batch, One}
-use Rattle.mm_basic.proofs.Below.{IsFit, is_long, BatchAnswer, Refusal, Long, Found, Repeat, Change, Ready, Ended, goes_on, breaks_off}
-use Rattle.mm_basic.proofs.Below.{EndsTo, AsksTo, Calls, result_of, fault_of, fault_in, steps_give, reading_blamed, each_call, ends_result}
-use Rattle.mm_basic.proofs.Below.{ends_untouched, given_all, Reads, basic_call, ReadsOnce, StepsAnswered, StepsRefused}
-use Rattle.mm_basic.proofs.Below.{StepsBy, LeavesUntouched, Blames, blamed, read_untouched, same_untouched, steps_blamed, calls_from, Finishes}
+use Rattle.mm_basic.proofs.Below.{◌≡◌, ℕ, Bool, false, List, [], ◌∷◌, length, Option, None, Some, Result, Ok, Err, IfOk, refl, sym, ap, ◌∙◌}
+use Rattle.mm_basic.proofs.Below.{subst, inl, inr, StepFault, Standing, ReadCell, WriteCell, Goes, Meaning, IsLawful, Batch, One, IsFit}
+use Rattle.mm_basic.proofs.Below.{is_long, BatchAnswer, Refusal, Long, Found, Repeat, Change, Ready, Ended, goes_on, breaks_off, EndsTo}
+use Rattle.mm_basic.proofs.Below.{AsksTo, Calls, result_of, fault_of, fault_in, steps_give, reading_blamed, each_call, ends_result}
+use Rattle.mm_basic.proofs.Below.{ends_untouched, given_all, Reads, basic_call, ReadsOnce, StepsAnswered, StepsRefused, StepsBy}
+use Rattle.mm_basic.proofs.Below.{LeavesUntouched, Blames, blamed, read_untouched, same_untouched, steps_blamed, calls_from, Finishes}
 use Rattle.std.specs.Result.{result_err}
 use Rattle.mm_base.specs.Faults.{counted}
 use Rattle.mm_call.proofs.Above.{answered_result}

@@ -1,12 +1,13 @@
 -- What a call finds over the platform is what is found by digests, but for want of memory.
-use Rattle.mm_basic.proofs.Below.{◌≡◌, ℕ, ◌+◌, Bool, true, false, List, [], ◌∷◌, map, length, Some, Result, Ok, Err, inl, inr, refl}
-use Rattle.mm_basic.proofs.Below.{sym, ap, ◌∙◌, subst, nat_le, bytes_eq, bytes_eq-Decides, last_position, Basic, Meaning, Batch}
-use Rattle.mm_basic.proofs.Below.{size_of, normal, Cell, IsCell, cell_spelling, PartsFault, Form, Kind, Place, InBasic, InOpt, Content}
-use Rattle.mm_basic.proofs.Below.{Snapshot, ReadsParts, variant_of, tag_of, extended_of, Item, Standing, length-link, Step, Writes, link}
-use Rattle.mm_basic.proofs.Below.{Instance, basic, Commit, Foreign, Digests, made, verdict_by, basic_verdict, digest_of, BatchAnswer}
-use Rattle.mm_basic.proofs.Below.{Refusal, Verdict, OrMemory, all_made, by_digests, AsFound, lacks_in, brought_digests, cell_at, StandsAt}
-use Rattle.mm_basic.proofs.Below.{weighed_only, Found, Repeat, Change, Seen, found_in, found_from, answer_of, committed_cell, basic_call}
-use Rattle.mm_basic.proofs.Below.{Finds, if◌then◌else◌, linked, summary_in, verdict_by_digests, zero_bytes}
+use Rattle.mm_basic.proofs.Below.{◌≡◌, ℕ, ◌+◌, Bool, true, false, List, [], ◌∷◌, map, length, Some, Result, Ok, Err, inl, inr, refl, sym}
+use Rattle.mm_basic.proofs.Below.{ap, ◌∙◌, subst, nat_le, bytes_eq, bytes_eq-Decides, last_position, Basic, Meaning, Batch, size_of, normal}
+use Rattle.mm_basic.proofs.Below.{Cell, IsCell, cell_spelling, PartsFault, Form, Kind, Place, InBasic, InOpt, Content, Snapshot, ReadsParts}
+use Rattle.mm_basic.proofs.Below.{variant_of, tag_of, extended_of, Item, Standing, length-link, Step, Writes, link, Instance, basic, Commit}
+use Rattle.mm_basic.proofs.Below.{Foreign, Digests, made, verdict_by, basic_verdict, digest_of, BatchAnswer, Refusal, Verdict, OrMemory}
+use Rattle.mm_basic.proofs.Below.{all_made, by_digests, AsFound, lacks_in, brought_digests, cell_at, StandsAt, weighed_only, Found, Repeat}
+use Rattle.mm_basic.proofs.Below.{Change, Seen, found_in, found_from, answer_of, committed_cell, basic_call, SpellsCell, ReadsCell}
+use Rattle.mm_basic.proofs.Below.{IsCellOf, NoCell, OtherCell, NoOffer, Both, IsSeen as IsSight, Finds, if◌then◌else◌, linked, summary_in}
+use Rattle.mm_basic.proofs.Below.{verdict_by_digests, zero_bytes}
 use Rattle.std.specs.List.{fold}
 use Rattle.std.specs.Prelude.{◌&&◌}
 use Rattle.mm_module.specs.BatchLaws.{members_of-normal}
@@ -19,7 +20,39 @@ use Rattle.mm_call.specs.Answers.{answer_at}
 use Rattle.mm_call.specs.Trails.{IsWrite}
 use Rattle.mm_call.specs.Found as call
 use Rattle.mm_call.specs.FoundWords as call_words
-use Rattle.mm_basic.proofs.Reading.{one_sight, seen_by}
+use Rattle.mm_seal.specs.declared.cell.CellFault.{CellFault}
+use Rattle.mm_seal.specs.CellLaws.{reads_cell-same}
+use Rattle.mm_seal.specs.SnapshotLaws.{reads_parts-same}
+
+-- There is one way to see a cell and an offer.
+
+-- how a cell of this module and an offer that is taken apart are seen
+abbrev seen_by : Cell → Result Snapshot PartsFault → Seen
+seen_by cell (Ok offered) = Both cell offered
+seen_by cell (Err fault) = NoOffer fault
+
+no_cell : (bytes : List ℕ) (cell : Cell) (fault : CellFault) → SpellsCell bytes cell → ReadsCell bytes (Err fault) → ⊥
+no_cell bytes cell fault s v = let e : Err fault ≡ Ok cell = reads_cell-same bytes (Err fault) (Ok cell) v s in cc
+
+one_cell : (bytes : List ℕ) (cell other : Cell) → SpellsCell bytes cell → SpellsCell bytes other → other ≡ cell
+one_cell bytes cell other s v =
+    let there : Result Cell CellFault = Ok other in
+    let here : Result Cell CellFault = Ok cell in
+    let e : there ≡ here = reads_cell-same bytes there here v s in
+    cc
+
+one_sight : (id : ℕ) (bytes offer : List ℕ) (cell : Cell) (taken : Result Snapshot PartsFault) (seen : Seen) → SpellsCell bytes cell
+    → IsCellOf id cell → ReadsParts offer Basic id taken → IsSight id bytes offer seen → seen ≡ seen_by cell taken
+one_sight id bytes offer cell taken (NoCell fault) s is r v = absurd (no_cell bytes cell fault s v)
+one_sight id bytes offer cell taken OtherCell s is r v =
+    absurd (v.2 (subst (λ (c : Cell). IsCellOf id c) (sym (one_cell bytes cell v.0 s v.1)) is))
+one_sight id bytes offer cell taken (NoOffer fault) s is r v =
+    ap (λ (t : Result Snapshot PartsFault). seen_by cell t) (reads_parts-same offer Basic id (Err fault) taken v.3 r)
+one_sight id bytes offer cell taken (Both other offered) s is r v =
+    ap (λ (c : Cell). Both c offered) (one_cell bytes cell other s v.0)
+    ∙ ap (λ (t : Result Snapshot PartsFault). seen_by cell t) (reads_parts-same offer Basic id (Ok offered) taken v.2 r)
+
+-- What is found.
 
 -- what is found, where this offer is accepted
 abbrev found_as : Instance → Digests → Content → Bool → Batch → Found

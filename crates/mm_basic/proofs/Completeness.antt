@@ -1,9 +1,10 @@
--- A right offer that the verdict accepts is answered.
-use Rattle.mm_basic.proofs.Below.{◌≡◌, ℕ, ◌+◌, ◌≤◌, Bool, true, false, List, length, map, Option, None, Some, Result, Ok, Err, IsOk, refl, sym}
-use Rattle.mm_basic.proofs.Below.{ap, ◌∙◌, subst, inl, inr, extended_of, nat_le, bytes_eq, bytes_eq-Decides, last_position, Basic}
-use Rattle.mm_basic.proofs.Below.{StepFault, Standing, Meaning, Batch, size_of, normal, Content, Snapshot, PartsFault, tag_of, Instance, basic}
-use Rattle.mm_basic.proofs.Below.{History, Move, Foreign, judge, Digests, IsRight, ask_steps, is_long, BatchAnswer, Refusal}
-use Rattle.mm_basic.proofs.Below.{Blames, IsAccepted, IsAnswered, fault_in, offered_of, weighs, all_made, by_digests, brought_digests}
+-- A right offer that the verdict accepts is answered; and all that a whole call promises.
+use Rattle.mm_basic.proofs.Below.{◌≡◌, ℕ, ◌+◌, ◌≤◌, Bool, true, false, List, length, map, Option, None, Some, Result, Ok, Err, IsOk, refl}
+use Rattle.mm_basic.proofs.Below.{sym, ap, ◌∙◌, subst, inl, inr, extended_of, nat_le, bytes_eq, bytes_eq-Decides, last_position, Basic}
+use Rattle.mm_basic.proofs.Below.{StepFault, Standing, Meaning, Batch, size_of, normal, Content, Snapshot, PartsFault, tag_of, Instance}
+use Rattle.mm_basic.proofs.Below.{basic, History, Move, Foreign, judge, Digests, IsRight, ask_steps, is_long, BatchAnswer, Refusal, Blames}
+use Rattle.mm_basic.proofs.Below.{IsAccepted, IsAnswered, fault_in, offered_of, weighs, all_made, by_digests, brought_digests, IsLawful}
+use Rattle.mm_basic.proofs.Below.{Calls, basic_call, AskedInBasic}
 use Rattle.std.specs.List.{fold}
 use Rattle.std.proofs.lemmas.Bool.{le-leb}
 use Rattle.std.proofs.lemmas.List.{append-nil}
@@ -21,6 +22,7 @@ use Rattle.mm_call.specs.Found as call
 use Rattle.mm_call.specs.FoundWords.{found_unless_wanting, found_with, is_fresh}
 use Rattle.mm_call.proofs.Above.{stands_at}
 use Rattle.mm_basic.specs.Complete.{IsComplete}
+use Rattle.mm_basic.proofs.Asking.{untouched, blames, steps, fits}
 
 -- something is found at the history's digests, whatever the register holds
 found_right : (meaning : Meaning) (key : List ℕ) (y : History) (all : List (List ℕ)) (offer : List ℕ) (content : Content) (b : Batch)
@@ -73,3 +75,18 @@ complete meaning old new offer batch result goes blames short key y all content 
     (subst (λ (z : Digests). IsOk (call.found_at i (by_digests i) z b offer)) (sym sees)
     (found_right meaning key y all offer content b (fold extended_of d.register v) right names clear accepts few))
     (subst (λ (r : Result BatchAnswer Refusal). Blames (fault_in r) old.faults new.faults) gives blames))
+
+-- what a whole call promises, from what it does and from how it goes
+pub asked : (meaning : Meaning) → IsLawful meaning → (old new : Standing) (offer : List ℕ) (b : Batch)
+    (result : Result BatchAnswer Refusal) → Calls basic_call meaning old new offer b result
+    → (is_long b ≡ false → CallsOn Basic meaning old new offer b result)
+    → AskedInBasic meaning old new offer b result
+asked meaning lawful old new offer b result calls goes = record {
+  calls = calls;
+  untouched = untouched meaning old new offer b result calls;
+  faults = blames meaning old new offer b result calls;
+  steps = steps meaning lawful old new offer b result calls;
+  fits = fits meaning lawful old new offer b result calls;
+  goes = goes;
+  complete = complete meaning old new offer b result goes (blames meaning old new offer b result calls);
+}

@@ -128,14 +128,12 @@ abbrev pub Says : Instance → History → History → List ℕ → Batch → Re
 Says i y after offer b (Ok answer) = Unit {0}
 Says i y after offer b (Err why) = Said i y after offer b why
 
-says_by : (f : Option StepFault) (x : Result Found Refusal) (why : Refusal) → SaysFound x why → SaysUnlessFault f x why
-says_by (Some fault) x why s = tt
-says_by None x why s = s
-
-says_found : (x : Result Found Refusal) (lacks : Bool) (why : Refusal) → found_unless_wanting x lacks ≡ Err why → SaysFound x why
-says_found (Err is) lacks why e = cc
-says_found (Ok it) false why e = absurd (cc)
-says_found (Ok it) true why e = cc
+says_found : (f : Option StepFault) (x : Result Found Refusal) (lacks : Bool) (why : Refusal) → found_unless_wanting x lacks ≡ Err why
+    → SaysUnlessFault f x why
+says_found (Some fault) x lacks why e = tt
+says_found None (Err is) lacks why e = cc
+says_found None (Ok it) false why e = absurd (cc)
+says_found None (Ok it) true why e = cc
 
 -- by how it ended
 pub told : (i : Instance) (y seen after : History) (offer : List ℕ) (b : Batch) (lacks : Bool) (s : History) (found : Result Found Refusal)
@@ -150,10 +148,10 @@ told i y seen after offer b lacks s (Err why) moves None short calm is there =
     let same : seen ≡ after = there refl refl in
     record {
       calm = λ _. subst (IsCalm i y) same calm;
-      says = says_by (fault_of why) (finds i after offer b) why
-          (subst (λ (x : Result Found Refusal). SaysFound x why) (ap (λ (z : History). found_at i (by_lists i) z b offer) same
+      says = subst (λ (x : Result Found Refusal). SaysUnlessFault (fault_of why) x why)
+          (ap (λ (z : History). found_at i (by_lists i) z b offer) same
           ∙ ap (λ (t : Bool). if t then Err Long else found_at i (by_lists i) after b offer) (sym short))
-          (says_found (found_at i (by_lists i) seen b offer) lacks why is));
+          (says_found (fault_of why) (found_at i (by_lists i) seen b offer) lacks why is);
     }
 
 -- a call that found no new batch, and wasn't broken off, stands where it saw

@@ -9,7 +9,8 @@ use Rattle.mm_callers.proofs.Below.{stands_at, asked_for, asked_idle, idle_again
 use Rattle.mm_callers.proofs.Below.{alike_still, alike_foreign, issued_alike, names_after, Left as OptLeft, DigestMoves, GoesOn, Pushed}
 use Rattle.mm_callers.proofs.Below.{alike_call, call_goes_on, hands, seen_closes, bare, in_first, AsksOnce, AsksWelcome}
 use Rattle.mm_opt.specs.Asked.{AskedInOpt}
-use Rattle.mm_callers.specs.Opt.{AreAskedNext, AsksTwice}
+use Rattle.mm_callers.specs.Basic.{AreAskedNext}
+use Rattle.mm_callers.specs.Opt.{AsksTwice}
 use Rattle.mm_callers.proofs.Completing.{verdict_of, verdict_is}
 use Rattle.mm_callers.proofs.Leaving.{Call, by_length, not_long, answered, After, Left, asked_on, left_long, left_short, ends_once, ends_again, ends_next, asked_next}
 

@@ -4,7 +4,7 @@ use Rattle.mm_callers.proofs.Below.{append_assoc, Err, Contains, append-nil, map
 use Rattle.mm_callers.proofs.Below.{StepFault, Item, foreign_item, item_values, after, Instance, Entry, Value, History, Move, Foreign}
 use Rattle.mm_callers.proofs.Below.{Close, register_value_of, cell_digest_of, entry_values, Within, made, Reads, Writes, checkpoint_steps}
 use Rattle.mm_callers.proofs.Below.{after-append, End, Done, Fails, Fate, Walked, after_step, walk, closing_of, counted_part}
-use Rattle.mm_callers.proofs.Below.{foreign_items, finished, Said, closing_told, closing_messages}
+use Rattle.mm_callers.proofs.Below.{foreign_items, finished, Said, closing_told}
 use Rattle.mm_callers.proofs.Below.{MayClose, SaysClosing, life_of, is_lost, CheckpointRefusal, Result}
 use Rattle.mm_callers.proofs.Below.{AllByRecursion, Standing, trail, moved, IsClear, Digests, IsAllowed}
 use Rattle.mm_callers.proofs.Below.{digests_of, closes, checkpointed, IsClosedWithin, moves_messages}
@@ -12,7 +12,6 @@ use Rattle.mm_callers.proofs.Below.{foreign_in, IsWithin, standing_items}
 use Rattle.mm_callers.proofs.Below.{ChecksOn, option_map, Meaning, Batch, Content, opt, is_empty, Names, StandsFor, opt_names, by_lists}
 use Rattle.mm_callers.proofs.Below.{by_digests, all_made, seen_at, shown, AreShown, stands_at, StandsAt}
 use Rattle.mm_callers.proofs.Below.{same_batches}
-use Rattle.mm_digest.specs.Messages.{extended_of}
 use Rattle.mm_model.specs.Chains.{register_of}
 use Rattle.mm_model.specs.HistoryLaws.{values_of-append}
 use Rattle.mm_model.specs.ListLaws.{each_right}
@@ -93,10 +92,6 @@ foreign_of-items : (values : List (List ℕ)) → foreign_items (map foreign_ite
 foreign_of-items [] = refl
 foreign_of-items (v ∷ values) = ap (λ (vs : List (List ℕ)). v ∷ vs) (foreign_of-items values)
 
-extended_is : (r v : List ℕ) → extended_of r v ≡ after extended_message r (v ∷ [])
-unfolding extended_of
-extended_is r v = refl
-
 register-push : (barrier : List ℕ) (items : List Entry) (v : List ℕ)
     → register_of (entry_values barrier (items ++ Value v ∷ []))
     ≡ after extended_message (register_of (entry_values barrier items)) (v ∷ [])
@@ -105,44 +100,24 @@ register-push barrier items v =
     ap (after extended_message _) (values_of-append barrier items (Value v ∷ []))
     ∙ after-append extended_message _ (entry_values barrier items) (v ∷ [])
 
--- the messages for closing, further on
-closings_back : (all : List (List ℕ)) (a r : List ℕ) (values later : List (List ℕ))
-    → Within (closing_messages a r (values ++ later)) all → Within (closing_messages a (after extended_message r values) later) all
-closings_back all a r [] later w = w
-closings_back all a r (v ∷ values) later w =
-    closings_back all a (after extended_message r (v ∷ [])) values later
-    (subst (λ (s : List ℕ). Within (closing_messages a s (values ++ later)) all) (extended_is r v) w.1)
-
-closings_front : (all : List (List ℕ)) (a r : List ℕ) (values later : List (List ℕ)) → Within (closing_messages a r (values ++ later)) all
-    → Within (closing_messages a r values) all
-closings_front all a r [] [] w = w
-closings_front all a r [] (v ∷ later) w = (w.0, tt)
-closings_front all a r (v ∷ values) later w = (w.0, closings_front all a (extended_of r v) values later w.1)
-
-closings_here : (all : List (List ℕ)) (a r : List ℕ) (values : List (List ℕ)) → Within (closing_messages a r values) all
-    → Contains all (anchored_message a r)
-closings_here all a r [] w = w.0
-closings_here all a r (v ∷ values) w = w.0
-
--- by which the segment may be closed at any of these values
-abbrev Closings : List (List ℕ) → Instance → History → List (List ℕ) → Type 0
-Closings all i y values = Within (closing_messages (cell_digest_of i Opt y) (register_value_of i (counted_part y)) values) all
-
+-- what is asked for a closing at any of the items, for those in front and those behind
 pub may_close_front : (all : List (List ℕ)) (i : Instance) (y : History) (more later : List Item) → MayClose all i y (more ++ later)
     → MayClose all i y more
-may_close_front all i y more later w =
-    closings_front all (cell_digest_of i Opt y) (register_value_of i (counted_part y)) (item_values more) (item_values later)
-    (subst (Closings all i y) (map-append (λ (item : Item). item.value) more later) w)
+may_close_front all i y more later w first rest e =
+    w first (rest ++ item_values later) (sym (append_assoc first rest (item_values later))
+    ∙ ap (λ (vs : List (List ℕ)). vs ++ item_values later) e ∙ sym (map-append (λ (item : Item). item.value) more later))
 
 pub may_close_back : (all : List (List ℕ)) (i : Instance) (y z : History) (front later : List Item) → z.closed ≡ y.closed
     → register_value_of i (counted_part z) ≡ after extended_message (register_value_of i (counted_part y)) (item_values front)
     → MayClose all i y (front ++ later) → MayClose all i z later
-may_close_back all i y z front later closed register w =
-    subst (λ (a : List ℕ). Within (closing_messages a (register_value_of i (counted_part z)) (item_values later)) all)
-    (ap (λ (c : List (List Entry)). cell_digest_of i Opt (record y { closed = c })) (sym closed))
-    (subst (λ (r : List ℕ). Within (closing_messages (cell_digest_of i Opt y) r (item_values later)) all) (sym register)
-    (closings_back all (cell_digest_of i Opt y) (register_value_of i (counted_part y)) (item_values front) (item_values later)
-    (subst (Closings all i y) (map-append (λ (item : Item). item.value) front later) w)))
+may_close_back all i y z front later closed register w first rest e =
+    let r : List ℕ = register_value_of i (counted_part y) in
+    let message : List (List Entry) → List ℕ → List ℕ = λ c s. anchored_message (cell_digest_of i Opt (record y { closed = c })) s in
+    subst (Contains all) (ap (message y.closed) (after-append extended_message r (item_values front) first
+    ∙ ap (λ (s : List ℕ). after extended_message s first) (sym register))
+    ∙ ap (λ (c : List (List Entry)). message c (after extended_message (register_value_of i (counted_part z)) first)) (sym closed))
+    (w (item_values front ++ first) rest (append_assoc (item_values front) first rest
+    ∙ ap (λ (vs : List (List ℕ)). item_values front ++ vs) e ∙ sym (map-append (λ (item : Item). item.value) front later)))
 
 module _ (meaning : Meaning) (key barrier : List ℕ) where
   abbrev I : Instance
@@ -159,9 +134,14 @@ module _ (meaning : Meaning) (key barrier : List ℕ) where
   closing_shown (_ ∷ moves) _ d items c = absurd c
 
   -- their messages, by those of the values, and those by which the segment may be closed at any of these
+  abbrev MayCloseAt : List (List ℕ) → List ℕ → List ℕ → List (List ℕ) → Type 0
+  MayCloseAt all anchor register values =
+      (first later : List (List ℕ)) → first ++ later ≡ values
+      → Contains all (anchored_message anchor (after extended_message register first))
+
   closing_within : (all : List (List ℕ)) (moves : List Move) (may : Bool) (y : History) → AreClosing moves may
       → Within (trail extended_message (register_value_of I y) (foreign_in moves)) all
-      → (may ≡ true → Within (closing_messages (cell_digest_of I Opt y) (register_value_of I y) (foreign_in moves)) all)
+      → (may ≡ true → MayCloseAt all (cell_digest_of I Opt y) (register_value_of I y) (foreign_in moves))
       → Within (moves_messages I y moves) all
   closing_within all [] may y c t w = tt
   closing_within all (Foreign v ∷ moves) may y c t w =
@@ -169,13 +149,11 @@ module _ (meaning : Meaning) (key barrier : List ℕ) where
         t.0,
         closing_within all moves may (moved I y (Foreign v)) c
             (subst (λ (r : List ℕ). Within (trail extended_message r (foreign_in moves)) all) push t.1)
-            (λ e. subst (λ (r : List ℕ). Within (closing_messages (cell_digest_of I Opt y) r (foreign_in moves)) all)
-            (extended_is (register_value_of I y) v ∙ push) (w e).1),
+            (λ e. subst (λ (r : List ℕ). MayCloseAt all (cell_digest_of I Opt y) r (foreign_in moves)) push
+            (λ first later s. w e (v ∷ first) later (ap (λ (vs : List (List ℕ)). v ∷ vs) s))),
       )
-  closing_within all (Close ∷ moves) true y c t w = (
-    closings_here all (cell_digest_of I Opt y) (register_value_of I y) (foreign_in moves) (w refl),
-    closing_within all moves false (moved I y Close) c t (λ (e : false ≡ true). absurd (cc)),
-  )
+  closing_within all (Close ∷ moves) true y c t w =
+      (w refl [] (foreign_in moves) refl, closing_within all moves false (moved I y Close) c t (λ (e : false ≡ true). absurd (cc)))
   closing_within all (_ ∷ moves) _ y c t w = absurd c
 
   -- they may be made, where at the end no closed segment is empty
@@ -250,7 +228,7 @@ module _ (meaning : Meaning) (key barrier : List ℕ) (all others : List (List �
         within = within;
         messages = closing_within meaning key barrier all moves true y c
             (subst (λ (vs : List (List ℕ)). Within (trail extended_message (register_value_of C y) vs) all) values_are a.0.messages)
-            (λ _. subst (Closings all C y) values_are a.1);
+            (λ _ first later s. a.1 first later (s ∙ sym values_are));
         values = subst (AllByRecursion (Contains others)) (ap foreign_items (sym (same refl)) ∙ foreign_of-items (foreign_in moves))
             a.0.values;
       }

@@ -1,7 +1,7 @@
 -- Turns of a call of either core: the device step that each makes, and what it comes to.
 use Rattle.mm_flight.proofs.Below.{◌≡◌, ℕ, ◌+◌, Bool, List, [], ◌∷◌, Option, None, Some, Result, Ok, Err, refl, sym, ap, ◌∙◌, subst}
-use Rattle.mm_flight.proofs.Below.{StepFault, Standing, Act, cell_after, Goes, Meaning, Batch, Cell}
-use Rattle.mm_flight.proofs.Below.{BatchAnswer, Refusal, Ended, Answered, refused_as, fault_of, goes_on, StepsTo, acts_at}
+use Rattle.mm_flight.proofs.Below.{StepFault, Standing, Act, cell_after, Goes, Meaning, Batch, Cell, BatchAnswer, Refusal, Ended, Answered}
+use Rattle.mm_flight.proofs.Below.{refused_as, fault_of, goes_on, StepsTo, acts_at}
 use Rattle.mm_basic.proofs.Above.{turn_goes}
 use Rattle.mm_basic.specs.declared.found.Found.{Found as BasicFound}
 use Rattle.mm_basic.specs.declared.found.Found.TheVariants as basic_found
@@ -24,6 +24,7 @@ use Rattle.mm_flight.specs.declared.ask.AskCall.{AskCall}
 use Rattle.mm_flight.specs.declared.ask.AskCall.TheVariants.{Basic, Opt}
 use Rattle.mm_flight.specs.declared.ask.AskTurn.{AskTurn}
 use Rattle.mm_flight.specs.declared.ask.AskTurn.TheVariants.{Going, Done, Refused}
+use Rattle.mm_flight.proofs.Replanning.{GoesTo, goes_to}
 use Rattle.mm_flight.specs.Asks.{ask_number, of_basic, of_opt, ask_fault, AskTurns, AskFinishes}
 
 -- the device step that comes next
@@ -69,23 +70,11 @@ module _ (meaning : Meaning) (offer : List ℕ) (b : Batch) where
         room = a.room;
       }
 
-  -- A turn that goes on makes a step that writes no cell, and the next is that of the next number; whatever ends what is left
-  -- behind it ends what was left before.
-  pub record GoesTo (call : AskCall) (old new : Standing) (next : AskCall) : Type 0 where
-    pub counts : ask_number next ≡ ask_number call + 1
-    pub keeps : (made : Bool) (cell : Option (List ℕ)) → cell_after (ask_act call) made cell ≡ cell
-    pub joins : (end : Standing) (ended : Ended) → AskFinishes meaning next new end offer b ended
-        → AskFinishes meaning call old end offer b ended
+  abbrev pub Finishes : AskCall → Standing → Standing → Ended → Type 0
+  Finishes call old new ended = AskFinishes meaning call old new offer b ended
 
   abbrev pub Comes : AskCall → Standing → Standing → AskTurn → Type 0
-  Comes call old new turn = ComesBy (GoesTo call old new) (AskFinishes meaning call old new offer b) turn
-
-  -- it goes on with the step of the next number
-  on : {call next : AskCall} {old new : Standing} → ask_number next ≡ ask_number call + 1
-      → ((made : Bool) (cell : Option (List ℕ)) → cell_after (ask_act call) made cell ≡ cell)
-      → ((end : Standing) (ended : Ended) → AskFinishes meaning next new end offer b ended → AskFinishes meaning call old end offer b ended)
-      → GoesTo call old new next
-  on counts keeps joins = record { counts = counts; keeps = keeps; joins = joins }
+  Comes call old new turn = ComesBy (GoesTo ask_number ask_act Finishes call old new) (Finishes call old new) turn
 
   -- Basic
 
@@ -95,7 +84,7 @@ module _ (meaning : Meaning) (offer : List ℕ) (b : Batch) where
   basic_read {new = new} (Ok (basic_found.Repeat answer)) r =
       record { middle = new; found = Ok (basic_found.Repeat answer); reads = r; ends = (refl, refl) }
   basic_read {new = new} (Ok (basic_found.Change ready)) r =
-      on refl (λ made cell. refl)
+      goes_to refl (λ made cell. refl)
       (λ end ended f. record { middle = new; found = Ok (basic_found.Change ready); reads = r; ends = f })
 
   basic_wrote : {ready : Ready} {old new : Standing} (written : Result BatchAnswer StepFault) → basic_steps.Writes ready old new written
@@ -114,7 +103,7 @@ module _ (meaning : Meaning) (offer : List ℕ) (b : Batch) where
     ends = (refl, refl);
   }
   seen {new = new} (Ok cell) r =
-      on refl (λ made cell. refl) (λ end ended f. record {
+      goes_to refl (λ made cell. refl) (λ end ended f. record {
         middle = f.middle;
         found = f.found;
         reads = record { middle = new; cell = Ok cell; reads = r; on = f.reads };
@@ -126,19 +115,19 @@ module _ (meaning : Meaning) (offer : List ℕ) (b : Batch) where
   found {new = new} (Err why) r = λ none. record { middle = new; found = Err why; reads = r; ends = (refl, refl) }
   found {new = new} (Ok (Repeat answer)) r = record { middle = new; found = Ok (Repeat answer); reads = r; ends = (refl, refl) }
   found {new = new} (Ok (Inside ready)) r =
-      on refl (λ made cell. refl) (λ end ended f. record { middle = new; found = Ok (Inside ready); reads = r; ends = f })
+      goes_to refl (λ made cell. refl) (λ end ended f. record { middle = new; found = Ok (Inside ready); reads = r; ends = f })
   found {new = new} (Ok (Opens opening)) r =
-      on refl (λ made cell. refl) (λ end ended f. record { middle = new; found = Ok (Opens opening); reads = r; ends = f })
+      goes_to refl (λ made cell. refl) (λ end ended f. record { middle = new; found = Ok (Opens opening); reads = r; ends = f })
 
   emptied : {opening : Opening} {old new : Standing} (it : Result Opening StepFault) → Empties opening old new it
       → Comes (Opt (stage.Changing (change.Emptying opening))) old new (of_opt (emptied_turn it))
   emptied (Err fault) m = λ (none : Some fault ≡ None). absurd (cc)
-  emptied {new = new} (Ok it) m = on refl (λ made cell. refl) (λ end ended f. goes_on new m.goes (rw m.gives at f))
+  emptied {new = new} (Ok it) m = goes_to refl (λ made cell. refl) (λ end ended f. goes_on new m.goes (rw m.gives at f))
 
   placed : {opening : Opening} {old new : Standing} (it : Result Opening StepFault) → Places opening old new it
       → Comes (Opt (stage.Changing (change.Placing opening))) old new (of_opt (placed_turn it))
   placed (Err fault) m = λ (none : Some fault ≡ None). absurd (cc)
-  placed {new = new} (Ok it) m = on refl (λ made cell. refl) (λ end ended f. goes_on new m.goes (rw m.gives at f))
+  placed {new = new} (Ok it) m = goes_to refl (λ made cell. refl) (λ end ended f. goes_on new m.goes (rw m.gives at f))
 
   last : (goes : AskCall → Type 0) {act : Act} {answer : BatchAnswer} {old new : Standing} (written : Result BatchAnswer StepFault)
       → Makes act answer old new written → ComesBy goes (StepsTo (act ∷ []) answer old new) (of_opt (last_turn written))

@@ -1,10 +1,9 @@
 -- A call of either core, a turn at a time: under another plan, what is left behind a turn, and its end; and what its code says.
 use Rattle.mm_flight.proofs.Below.{◌≡◌, ℕ, ◌≤◌, true, List, Option, None, Some, Result, Ok, Err, refl, sym, ap, ◌∙◌, subst, arith}
 use Rattle.mm_flight.proofs.Below.{result_err, option_map, counted, StepFault, Meddle, Quiet, Plan, Standing, stopping, Act, ReadCell}
-use Rattle.mm_flight.proofs.Below.{WriteCell, ReadRegister, Goes, Meaning, Batch, Cell, BatchAnswer, Refusal}
-use Rattle.mm_flight.proofs.Below.{Device, Ended, Answered, Broken, CallsTo, refused_as, is_broken, fault_of, fault_in, Ready}
-use Rattle.mm_flight.proofs.Below.{EndsTo, goes_on, breaks_off, plan_by, under, Found, Inside, Opens}
-use Rattle.mm_flight.proofs.Below.{Makes, MakesRoom, ReadsOn, opt_call, Turn}
+use Rattle.mm_flight.proofs.Below.{WriteCell, ReadRegister, Goes, Meaning, Batch, Cell, BatchAnswer, Refusal, Device, Ended, Answered}
+use Rattle.mm_flight.proofs.Below.{Broken, CallsTo, refused_as, is_broken, fault_of, fault_in, Ready, EndsTo, goes_on, breaks_off, plan_by}
+use Rattle.mm_flight.proofs.Below.{under, Found, Inside, Opens, Makes, MakesRoom, ReadsOn, opt_call, Turn}
 use Rattle.mm_call.specs.Calls.{CallOf, StepTo}
 use Rattle.mm_call.specs.Ended.{result_of}
 use Rattle.mm_call.specs.Leaving.{Blames}
@@ -28,8 +27,9 @@ use Rattle.mm_flight.specs.declared.ask.AskCall.{AskCall}
 use Rattle.mm_flight.specs.declared.ask.AskCall.TheVariants.{Basic, Opt}
 use Rattle.mm_flight.specs.declared.ask.AskTurn.{AskTurn}
 use Rattle.mm_flight.specs.declared.ask.AskTurn.TheVariants.{Going, Done, Refused}
-use Rattle.mm_flight.specs.Asks.{begun, ask_number, of_basic, of_opt, AskTurns, MayAsk, TurnMayAsk, ask_fault, AdvancedAsk, AskFinishes, FinishedAsk}
-use Rattle.mm_flight.proofs.Replanning.{Replans, replanned, Moves, quiet_step, AlwaysFails, broken_by}
+use Rattle.mm_flight.specs.Asks.{begun, ask_number, of_basic, of_opt, AskTurns, MayAsk, TurnMayAsk, ask_fault, AdvancedAsk, AskFinishes}
+use Rattle.mm_flight.specs.Asks.{FinishedAsk}
+use Rattle.mm_flight.proofs.Replanning.{Replans, replanned, Moves, moves_by, quiet_step, AlwaysFails, broken_by}
 use Rattle.mm_flight.proofs.AskTurning.{ask_act, basic_fault, opt_fault, acts, came}
 
 -- under another plan that says the same of the step
@@ -111,16 +111,7 @@ ask_replanned (Opt stage) meaning old new offer b turn p q made r t = record {
 pub ask_moves : (call : AskCall) (meaning : Meaning) (old new : Standing) (offer : List ℕ) (b : Batch) (next : AskCall)
     → AskTurns meaning call old new offer b (Going next) → Moves old new (ask_number call) (ask_number next)
 ask_moves call meaning old new offer b next t =
-    let a = acts meaning offer b call old new (Going next) t in
-    let c = came meaning offer b call old new (Going next) t in
-    record {
-      act = ask_act call;
-      middle = a.middle;
-      goes = a.goes;
-      room = a.room;
-      keeps = a.goes.cell ∙ c.keeps a.goes.is_made old.cell;
-      counts = c.counts;
-    }
+    let a = acts meaning offer b call old new (Going next) t in moves_by a.goes a.room (came meaning offer b call old new (Going next) t)
 
 pub ask_then : (call : AskCall) (meaning : Meaning) (old mid new : Standing) (offer : List ℕ) (b : Batch) (next : AskCall)
     (ended : Ended) → AskTurns meaning call old mid offer b (Going next)

@@ -1,7 +1,7 @@
 -- Turns of a checkpoint: under another plan, what is left behind them, its end, and a step that fails.
-use Rattle.mm_flight.proofs.Below.{◌≡◌, ℕ, ◌+◌, Bool, true, List, Option, None, Some, Result, Ok, Err, refl, ◌∙◌, result_err}
-use Rattle.mm_flight.proofs.Below.{counted, StepFault, Meddle, Quiet, Plan, Standing, ReadCell, WriteCell, ReadRegister, cell_after, Goes}
-use Rattle.mm_flight.proofs.Below.{Cell, closing_acts_at, plan_by, under}
+use Rattle.mm_flight.proofs.Below.{◌≡◌, ℕ, ◌+◌, Bool, true, List, Option, None, Some, Result, Ok, Err, refl, ◌∙◌, result_err, counted}
+use Rattle.mm_flight.proofs.Below.{StepFault, Meddle, Quiet, Plan, Standing, ReadCell, WriteCell, ReadRegister, cell_after, Goes, Cell}
+use Rattle.mm_flight.proofs.Below.{closing_acts_at, plan_by, under}
 use Rattle.mm_opt.specs.declared.segment.Checkpointed.{Checkpointed}
 use Rattle.mm_opt.specs.declared.segment.CheckpointRefusal.{CheckpointRefusal}
 use Rattle.mm_opt.specs.declared.segment.CheckpointRefusal.TheVariants.{Device}
@@ -13,7 +13,7 @@ use Rattle.mm_opt.specs.declared.closing.CheckpointTurn.{CheckpointTurn}
 use Rattle.mm_opt.specs.declared.closing.CheckpointTurn.TheVariants.{Going, Done, Refused}
 use Rattle.mm_opt.specs.Checkpoints.{closing_act_of, closing_number_of, closing_fault_in, Looks, Weighs, Closes, FinishesClosing}
 use Rattle.mm_opt.specs.CheckpointTurns.{looked_turn, weighed_turn, closed_turn, ClosingTurns, closing_fault_turned}
-use Rattle.mm_flight.proofs.Replanning.{Replans, replanned, Moves, quiet_step}
+use Rattle.mm_flight.proofs.Replanning.{Replans, replanned, Moves, GoesTo, goes_to, moves_by, quiet_step}
 
 -- under another plan that says the same of the step
 
@@ -41,39 +41,24 @@ closing_replanned (stage.Closing next) old new turn p q made r t = record {
   gives = t.gives;
 }
 
--- What a turn comes to: it goes on with the next step, having written no cell, and whatever ends what is left behind it ends what
--- was left before; or that was the checkpoint's end.
-
-record GoesTo (call : CheckpointStage) (old new : Standing) (next : CheckpointStage) : Type 0 where
-  pub counts : closing_number_of next ≡ closing_number_of call + 1
-  pub keeps : (made : Bool) (cell : Option (List ℕ)) → cell_after (closing_act_of call) made cell ≡ cell
-  pub joins : (end : Standing) (result : Result Checkpointed CheckpointRefusal) → FinishesClosing next new end result
-      → FinishesClosing call old end result
-
+-- what a turn comes to: it goes on with the next step; or that was the checkpoint's end
 abbrev Comes : CheckpointStage → Standing → Standing → CheckpointTurn → Type 0
-Comes call old new (Going next) = GoesTo call old new next
+Comes call old new (Going next) = GoesTo closing_number_of closing_act_of FinishesClosing call old new next
 Comes call old new (Done it) = FinishesClosing call old new (Ok it)
 Comes call old new (Refused why) = FinishesClosing call old new (Err why)
-
--- it goes on with the step of the next number
-on : {call next : CheckpointStage} {old new : Standing} → closing_number_of next ≡ closing_number_of call + 1
-    → ((made : Bool) (cell : Option (List ℕ)) → cell_after (closing_act_of call) made cell ≡ cell)
-    → ((end : Standing) (result : Result Checkpointed CheckpointRefusal) → FinishesClosing next new end result
-    → FinishesClosing call old end result) → GoesTo call old new next
-on counts keeps joins = record { counts = counts; keeps = keeps; joins = joins }
 
 looked : {old new : Standing} (found : Result Segment CheckpointRefusal) → Looks old new found
     → Comes stage.Begun old new (looked_turn found)
 looked {new = new} (Err why) l = record { middle = new; found = Err why; looks = l; ends = (refl, refl) }
 looked {new = new} (Ok Shut) l = record { middle = new; found = Ok Shut; looks = l; ends = (refl, refl) }
 looked {new = new} (Ok (Open cell)) l =
-    on refl (λ made cell. refl) (λ end result f. record { middle = new; found = Ok (Open cell); looks = l; ends = f })
+    goes_to refl (λ made cell. refl) (λ end result f. record { middle = new; found = Ok (Open cell); looks = l; ends = f })
 
 weighed : {cell : Cell} {old new : Standing} (found : Result (List ℕ) CheckpointRefusal) → Weighs cell old new found
     → Comes (stage.Seen cell) old new (weighed_turn found)
 weighed {new = new} (Err why) w = record { middle = new; found = Err why; weighs = w; ends = (refl, refl) }
 weighed {new = new} (Ok next) w =
-    on refl (λ made cell. refl) (λ end result f. record { middle = new; found = Ok next; weighs = w; ends = f })
+    goes_to refl (λ made cell. refl) (λ end result f. record { middle = new; found = Ok next; weighs = w; ends = f })
 
 closed : {next : List ℕ} {old new : Standing} (written : Result Checkpointed StepFault) → Closes next old new written
     → Comes (stage.Closing next) old new (closed_turn written)
@@ -88,16 +73,7 @@ came (stage.Closing next) old new turn t = rw t.gives (closed t.outcome t.step)
 pub closing_moves : (call : CheckpointStage) (old new : Standing) (next : CheckpointStage) → ClosingTurns call old new (Going next)
     → Moves old new (closing_number_of call) (closing_number_of next)
 closing_moves call old new next t =
-    let goes = closing_acts_at call old new (Going next) t in
-    let c = came call old new (Going next) t in
-    record {
-      act = closing_act_of call;
-      middle = new;
-      goes = goes;
-      room = refl;
-      keeps = goes.cell ∙ c.keeps goes.is_made old.cell;
-      counts = c.counts;
-    }
+    moves_by (closing_acts_at call old new (Going next) t) refl (came call old new (Going next) t)
 
 pub closing_then : (call : CheckpointStage) (old mid new : Standing) (next : CheckpointStage)
     (result : Result Checkpointed CheckpointRefusal) → ClosingTurns call old mid (Going next)
