@@ -1,6 +1,6 @@
 -- Turns of a call of either core: the device step that each makes, and what it comes to.
-use Rattle.mm_flight.proofs.Below.{◌≡◌, ℕ, ◌+◌, Bool, List, [], ◌∷◌, Option, None, Some, Result, Ok, Err, refl, sym, ap, ◌∙◌, subst}
-use Rattle.mm_flight.proofs.Below.{StepFault, Standing, Act, cell_after, Goes, Meaning, Batch, Cell, BatchAnswer, Refusal, Ended, Answered}
+use Rattle.mm_flight.proofs.Below.{◌≡◌, ℕ, List, [], ◌∷◌, None, Some, Result, Ok, Err, refl, sym, ap, ◌∙◌, subst}
+use Rattle.mm_flight.proofs.Below.{StepFault, Standing, Act, Goes, Meaning, Batch, Cell, BatchAnswer, Refusal, Ended, Answered}
 use Rattle.mm_flight.proofs.Below.{refused_as, fault_of, goes_on, StepsTo, acts_at}
 use Rattle.mm_basic.proofs.Above.{turn_goes}
 use Rattle.mm_basic.specs.declared.found.Found.{Found as BasicFound}

@@ -1,5 +1,5 @@
 -- A call of either core, a turn at a time: under another plan, what is left behind a turn, and its end; and what its code says.
-use Rattle.mm_flight.proofs.Below.{◌≡◌, ℕ, ◌≤◌, true, List, Option, None, Some, Result, Ok, Err, refl, sym, ap, ◌∙◌, subst, arith}
+use Rattle.mm_flight.proofs.Below.{◌≡◌, ℕ, ◌≤◌, true, List, Option, None, Some, Result, Ok, Err, refl, sym, ap, subst, arith}
 use Rattle.mm_flight.proofs.Below.{result_err, option_map, counted, StepFault, Meddle, Quiet, Plan, Standing, stopping, Act, ReadCell}
 use Rattle.mm_flight.proofs.Below.{WriteCell, ReadRegister, Goes, Meaning, Batch, Cell, BatchAnswer, Refusal, Device, Ended, Answered}
 use Rattle.mm_flight.proofs.Below.{Broken, CallsTo, refused_as, is_broken, fault_of, fault_in, Ready, EndsTo, goes_on, breaks_off, plan_by}
@@ -40,14 +40,15 @@ room_under (Ok (Inside ready)) middle new p at r = record { room = r.room; same 
 room_under (Ok (Opens opening)) middle new p at r = record { room = r.room; same = ap (under p at) r.same }
 room_under _ middle new p at r = ap (under p at) r
 
+with_step : {A : Type 0} {steps other : A → Type 0} {given : A → Turn} {turn : Turn} (t : TurnsBy steps given turn) → other t.outcome
+    → TurnsBy other given turn
+with_step t step = record { outcome = t.outcome; step = step; gives = t.gives }
+
 changes_under : {A : Type 0} {act : Act} {it : A} {given : Result A StepFault → Turn} {old new : Standing} {turn : Turn} (p q : Plan)
     (made : ℕ) → Replans p q made old → TurnsBy (Makes act it old new) given turn
     → TurnsBy (Makes act it (under p made old) (under p (counted made) new)) given turn
-changes_under {act = act} {old = old} {new = new} p q made r t = record {
-  outcome = t.outcome;
-  step = record { goes = replanned act p q made old new (result_err t.outcome) r t.step.goes; gives = t.step.gives };
-  gives = t.gives;
-}
+changes_under {act = act} {old = old} {new = new} p q made r t =
+    with_step t (record { goes = replanned act p q made old new (result_err t.outcome) r t.step.goes; gives = t.step.gives })
 
 basic_under : (ready : Option Ready) (meaning : Meaning) (old new : Standing) (offer : List ℕ) (b : Batch) (core : basic_turn.Turn)
     (p q : Plan) (made : ℕ) → Replans p q made old → basic_turns.Turns meaning ready old new offer b core
@@ -72,24 +73,16 @@ basic_under (Some ready) meaning old new offer b core p q made r t = record {
 opt_under : (stage : Stage) (meaning : Meaning) (old new : Standing) (offer : List ℕ) (b : Batch) (core : Turn) (p q : Plan) (made : ℕ)
     → Replans p q made old → Turns meaning stage old new offer b core
     → Turns meaning stage (under p made old) (under p (counted made) new) offer b core
-opt_under stage.Begun meaning old new offer b core p q made r t = record {
-  outcome = t.outcome;
-  step = record {
-    goes = replanned ReadCell p q made old new (fault_in t.outcome) r t.step.goes;
-    finds = λ none. let f = t.step.finds none in record { bytes = f.bytes; told = f.told; sees = f.sees };
-  };
-  gives = t.gives;
-}
-opt_under (stage.Seen cell) meaning old new offer b core p q made r t = record {
-  outcome = t.outcome;
-  step = record {
-    middle = under p (counted made) t.step.middle;
-    goes = replanned ReadRegister p q made old t.step.middle (fault_in t.outcome) r t.step.goes;
-    finds = λ none. let f = t.step.finds none in record { register = f.register; told = f.told; size = f.size; finds = f.finds };
-    room = room_under t.outcome t.step.middle new p (counted made) t.step.room;
-  };
-  gives = t.gives;
-}
+opt_under stage.Begun meaning old new offer b core p q made r t = with_step t (record {
+  goes = replanned ReadCell p q made old new (fault_in t.outcome) r t.step.goes;
+  finds = λ none. let f = t.step.finds none in record { bytes = f.bytes; told = f.told; sees = f.sees };
+})
+opt_under (stage.Seen cell) meaning old new offer b core p q made r t = with_step t (record {
+  middle = under p (counted made) t.step.middle;
+  goes = replanned ReadRegister p q made old t.step.middle (fault_in t.outcome) r t.step.goes;
+  finds = λ none. let f = t.step.finds none in record { register = f.register; told = f.told; size = f.size; finds = f.finds };
+  room = room_under t.outcome t.step.middle new p (counted made) t.step.room;
+})
 opt_under (stage.Changing (change.Inside ready)) meaning old new offer b core p q made r t = changes_under p q made r t
 opt_under (stage.Changing _) meaning old new offer b core p q made r t = changes_under p q made r t
 

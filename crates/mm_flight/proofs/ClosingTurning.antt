@@ -1,7 +1,6 @@
 -- Turns of a checkpoint: under another plan, what is left behind them, its end, and a step that fails.
-use Rattle.mm_flight.proofs.Below.{◌≡◌, ℕ, ◌+◌, Bool, true, List, Option, None, Some, Result, Ok, Err, refl, ◌∙◌, result_err, counted}
-use Rattle.mm_flight.proofs.Below.{StepFault, Meddle, Quiet, Plan, Standing, ReadCell, WriteCell, ReadRegister, cell_after, Goes, Cell}
-use Rattle.mm_flight.proofs.Below.{closing_acts_at, plan_by, under}
+use Rattle.mm_flight.proofs.Below.{◌≡◌, ℕ, true, List, None, Some, Result, Ok, Err, refl, result_err, counted, StepFault, Meddle, Quiet}
+use Rattle.mm_flight.proofs.Below.{Plan, Standing, ReadCell, WriteCell, ReadRegister, Goes, Cell, closing_acts_at, plan_by, under}
 use Rattle.mm_opt.specs.declared.segment.Checkpointed.{Checkpointed}
 use Rattle.mm_opt.specs.declared.segment.CheckpointRefusal.{CheckpointRefusal}
 use Rattle.mm_opt.specs.declared.segment.CheckpointRefusal.TheVariants.{Device}
@@ -12,34 +11,28 @@ use Rattle.mm_opt.specs.declared.stage.CheckpointStage.TheVariants as stage
 use Rattle.mm_opt.specs.declared.closing.CheckpointTurn.{CheckpointTurn}
 use Rattle.mm_opt.specs.declared.closing.CheckpointTurn.TheVariants.{Going, Done, Refused}
 use Rattle.mm_opt.specs.Checkpoints.{closing_act_of, closing_number_of, closing_fault_in, Looks, Weighs, Closes, FinishesClosing}
-use Rattle.mm_opt.specs.CheckpointTurns.{looked_turn, weighed_turn, closed_turn, ClosingTurns, closing_fault_turned}
+use Rattle.mm_opt.specs.CheckpointTurns.{looked_turn, weighed_turn, closed_turn, TurnsClosingBy, ClosingTurns, closing_fault_turned}
 use Rattle.mm_flight.proofs.Replanning.{Replans, replanned, Moves, GoesTo, goes_to, moves_by, quiet_step}
 
 -- under another plan that says the same of the step
 
+with_step : {A : Type 0} {steps other : A → Type 0} {given : A → CheckpointTurn} {turn : CheckpointTurn}
+    (t : TurnsClosingBy steps given turn) → other t.outcome → TurnsClosingBy other given turn
+with_step t step = record { outcome = t.outcome; step = step; gives = t.gives }
+
 pub closing_replanned : (call : CheckpointStage) (old new : Standing) (turn : CheckpointTurn) (p q : Plan) (made : ℕ) → Replans p q made old
     → ClosingTurns call old new turn → ClosingTurns call (under p made old) (under p (counted made) new) turn
-closing_replanned stage.Begun old new turn p q made r t = record {
-  outcome = t.outcome;
-  step = record {
-    goes = replanned ReadCell p q made old new (closing_fault_in t.outcome) r t.step.goes;
-    finds = λ none. let f = t.step.finds none in record { bytes = f.bytes; told = f.told; sees = f.sees };
-  };
-  gives = t.gives;
-}
-closing_replanned (stage.Seen cell) old new turn p q made r t = record {
-  outcome = t.outcome;
-  step = record {
-    goes = replanned ReadRegister p q made old new (closing_fault_in t.outcome) r t.step.goes;
-    finds = λ none. let f = t.step.finds none in record { register = f.register; told = f.told; found_is = f.found_is };
-  };
-  gives = t.gives;
-}
-closing_replanned (stage.Closing next) old new turn p q made r t = record {
-  outcome = t.outcome;
-  step = record { goes = replanned (WriteCell next) p q made old new (result_err t.outcome) r t.step.goes; gives = t.step.gives };
-  gives = t.gives;
-}
+closing_replanned stage.Begun old new turn p q made r t = with_step t (record {
+  goes = replanned ReadCell p q made old new (closing_fault_in t.outcome) r t.step.goes;
+  finds = λ none. let f = t.step.finds none in record { bytes = f.bytes; told = f.told; sees = f.sees };
+})
+closing_replanned (stage.Seen cell) old new turn p q made r t = with_step t (record {
+  goes = replanned ReadRegister p q made old new (closing_fault_in t.outcome) r t.step.goes;
+  finds = λ none. let f = t.step.finds none in record { register = f.register; told = f.told; found_is = f.found_is };
+})
+closing_replanned (stage.Closing next) old new turn p q made r t =
+    with_step t
+    (record { goes = replanned (WriteCell next) p q made old new (result_err t.outcome) r t.step.goes; gives = t.step.gives })
 
 -- what a turn comes to: it goes on with the next step; or that was the checkpoint's end
 abbrev Comes : CheckpointStage → Standing → Standing → CheckpointTurn → Type 0
