@@ -1,15 +1,17 @@
--- What a whole call leaves and counts.
-use Rattle.mm_basic.proofs.Below.{◌≡◌, ℕ, Bool, true, false, List, [], ◌∷◌, length, Option, None, Some, Result, Ok, Err, IfOk, refl, sym}
-use Rattle.mm_basic.proofs.Below.{ap, ◌∙◌, subst, inl, inr, StepFault, Standing, ReadCell, WriteCell, Goes, Meaning, IsLawful, Batch, One}
-use Rattle.mm_basic.proofs.Below.{IsFit, is_long, BatchAnswer, Refusal, Long, Found, Repeat, Change, Ready, Ended, goes_on, breaks_off}
-use Rattle.mm_basic.proofs.Below.{EndsTo, AsksTo, Calls, result_of, fault_of, fault_in, steps_give, reading_blamed, each_call, ends_result}
-use Rattle.mm_basic.proofs.Below.{ends_untouched, given_all, Reads, basic_call, ReadsOnce, ReadsAndWrites, StepsAnswered, StepsRefused}
-use Rattle.mm_basic.proofs.Below.{StepsBy, IsUntouched, LeavesUntouched, Blames, blamed, read_untouched, same_untouched}
+-- What a whole call leaves and counts, what is left of one, and its turns.
+use Rattle.mm_basic.proofs.Below.{◌≡◌, ℕ, Bool, false, List, [], ◌∷◌, length, Option, None, Some, Result, Ok, Err, IfOk, refl, sym, ap, ◌∙◌}
+use Rattle.mm_basic.proofs.Below.{subst, inl, inr, StepFault, Standing, ReadCell, WriteCell, Goes, Meaning, IsLawful, Batch, One, IsFit}
+use Rattle.mm_basic.proofs.Below.{is_long, BatchAnswer, Refusal, Long, Found, Repeat, Change, Ready, Ended, goes_on, breaks_off, EndsTo}
+use Rattle.mm_basic.proofs.Below.{AsksTo, Calls, result_of, fault_of, fault_in, steps_give, reading_blamed, each_call, ends_result}
+use Rattle.mm_basic.proofs.Below.{ends_untouched, given_all, Reads, basic_call, ReadsOnce, StepsAnswered, StepsRefused, StepsBy}
+use Rattle.mm_basic.proofs.Below.{LeavesUntouched, Blames, blamed, read_untouched, same_untouched, steps_blamed, calls_from, Finishes}
+use Rattle.std.specs.Result.{result_err}
 use Rattle.mm_base.specs.Faults.{counted}
+use Rattle.mm_call.proofs.Above.{answered_result}
+use Rattle.mm_basic.specs.declared.call.Turn.{Turn}
+use Rattle.mm_basic.specs.Steps.{act_of}
+use Rattle.mm_basic.specs.Turns.{Turns, turn_fault, turn_of, last_turn}
 use Rattle.mm_basic.proofs.Findings.{IsShaped, shaped}
-
-goes_quietly : (old new : Standing) (fault : Option StepFault) → fault ≡ None → Goes ReadCell old new fault → Goes ReadCell old new None
-goes_quietly old new fault e g = subst (λ (f : Option StepFault). Goes ReadCell old new f) e g
 
 -- a reading step
 pub read_blamed : (meaning : Meaning) (old new : Standing) (offer : List ℕ) (b : Batch) (found : Result Found Refusal)
@@ -20,28 +22,22 @@ once_refused : (fault : Option StepFault) (old new : Standing) → ReadsOnce old
 once_refused None old new r = r
 once_refused (Some fault) old new r = inl r
 
-read_once : (fault : Option StepFault) (old new : Standing) → Goes ReadCell old new fault → ReadsOnce old new
-read_once fault old new g = (g.steps, g.writes)
-
-then_written : (fault last : Option StepFault) (ready : Ready) (old middle new : Standing) → Goes ReadCell old middle fault
-    → Goes (WriteCell ready.next) middle new last → ReadsAndWrites old new
-then_written fault last ready old middle new g h = (h.steps ∙ ap counted g.steps, h.writes ∙ ap counted g.writes)
-
-ends_stepped : (b : Batch) (found : Result Found Refusal) (old middle new : Standing) (ended : Ended) → IsShaped b found
-    → Goes ReadCell old middle (fault_in found) → EndsTo basic_call found middle new ended → StepsBy (result_of ended) old new
-ends_stepped b (Err why) old middle new ended shape g e =
-    ends_result basic_call (λ (s : Standing) (r : Result BatchAnswer Refusal). StepsBy r old s) why middle new ended e
-    (once_refused (fault_of why) old middle (read_once (fault_of why) old middle g))
-ends_stepped b (Ok (Repeat answer)) old middle new ended shape g e =
-    subst (λ (v : Ended). StepsBy (result_of v) old new) (sym e.1)
-    (subst (λ (t : Bool). StepsAnswered t old new) (sym shape.0)
-    (subst (λ (s : Standing). ReadsOnce old s) (sym e.0) (read_once None old middle g)))
-ends_stepped b (Ok (Change ready)) old middle new ended shape g (goes_on next h e) =
-    subst (λ (v : Ended). StepsBy (result_of v) old new) (sym e.1)
-    (subst (λ (t : Bool). StepsAnswered t old new) (sym shape.0)
-    (subst (λ (s : Standing). ReadsAndWrites old s) (sym e.0) (then_written None None ready old middle next g h)))
-ends_stepped b (Ok (Change ready)) old middle new ended shape g (breaks_off fault h e) =
-    subst (λ (v : Ended). StepsBy (result_of v) old new) (sym e) (inr (then_written None (Some fault) ready old middle new g h))
+module _ (old middle new : Standing) (ended : Ended) where
+  -- what is counted of a call, by what it found
+  ends_stepped : (b : Batch) (found : Result Found Refusal) → IsShaped b found → Goes ReadCell old middle (fault_in found)
+      → EndsTo basic_call found middle new ended → StepsBy (result_of ended) old new
+  ends_stepped b (Err why) shape g e =
+      ends_result basic_call (λ (s : Standing) (r : Result BatchAnswer Refusal). StepsBy r old s) why middle new ended e
+      (once_refused (fault_of why) old middle (g.steps, g.writes))
+  ends_stepped b (Ok (Repeat answer)) shape g e =
+      answered_result (λ (s : Standing) (r : Result BatchAnswer Refusal). StepsBy r old s) answer middle new ended e
+      (subst (λ (t : Bool). StepsAnswered t old middle) (sym shape.0) (g.steps, g.writes))
+  ends_stepped b (Ok (Change ready)) shape g (goes_on next h e) =
+      answered_result (λ (s : Standing) (r : Result BatchAnswer Refusal). StepsBy r old s) ready.answer next new ended e
+      (subst (λ (t : Bool). StepsAnswered t old next) (sym shape.0) (h.steps ∙ ap counted g.steps, h.writes ∙ ap counted g.writes))
+  ends_stepped b (Ok (Change ready)) shape g (breaks_off fault h e) =
+      subst (λ (v : Ended). StepsBy (result_of v) old new) (sym e)
+      (inr (h.steps ∙ ap counted g.steps, h.writes ∙ ap counted g.writes))
 
 -- what was found, by what a call asked: its shape, or a device's fault
 found_shaped : (meaning : Meaning) → IsLawful meaning → (old middle : Standing) (offer : List ℕ) (b : Batch) (found : Result Found Refusal)
@@ -58,7 +54,7 @@ untouched meaning old new offer b result c =
     (λ (ended : Ended) (a : AsksTo basic_call meaning old new offer b ended).
     ends_untouched basic_call a.found old a.middle new ended a.ends
     (λ (why : Refusal) (is : a.found ≡ Err why) (quiet : fault_of why ≡ None).
-    read_untouched old a.middle (goes_quietly old a.middle (fault_in a.found) (ap fault_in is ∙ quiet) a.reads.goes)))
+    read_untouched old a.middle (subst (Goes ReadCell old a.middle) (ap fault_in is ∙ quiet) a.reads.goes)))
     c
 
 pub blames : (meaning : Meaning) (old new : Standing) (offer : List ℕ) (b : Batch) (result : Result BatchAnswer Refusal)
@@ -76,7 +72,7 @@ steps meaning lawful old new offer b result c is =
     let k = c.asks is in
     let a = k.asks in
     subst (λ (r : Result BatchAnswer Refusal). StepsBy r old new) (sym k.gives)
-    (ends_stepped b a.found old a.middle new k.ended (found_shaped meaning lawful old a.middle offer b a.found a.reads) a.reads.goes a.ends)
+    (ends_stepped old a.middle new k.ended b a.found (found_shaped meaning lawful old a.middle offer b a.found a.reads) a.reads.goes a.ends)
 
 -- an answer is fit
 abbrev pub IsFitIn : Batch → Result BatchAnswer Refusal → Type 0
@@ -104,3 +100,41 @@ pub one_output : (request : List ℕ) (result : Result BatchAnswer Refusal) → 
     → IfOk result (λ answer. length answer.outputs ≡ 1)
 one_output request (Ok answer) fit = fit.counted
 one_output request (Err why) fit = tt
+
+-- What is left of a call, and its turns.
+
+-- the count of faults rises where a call hands one on
+pub finish_blamed : (meaning : Meaning) (call : Option Ready) (old new : Standing) (offer : List ℕ) (b : Batch) (ended : Ended)
+    → Finishes meaning call old new offer b ended → Blames (fault_in (result_of ended)) old.faults new.faults
+finish_blamed meaning None old new offer b ended a =
+    reading_blamed basic_call a.found ReadCell old a.middle a.middle new ended a.reads.goes refl a.ends
+finish_blamed meaning (Some ready) old new offer b ended s =
+    steps_blamed (WriteCell ready.next ∷ []) ready.answer old new ended s
+
+-- a call that was finished from its begin
+pub calls_finished : (meaning : Meaning) (call : Option Ready) (old new : Standing) (offer : List ℕ) (b : Batch) (ended : Ended)
+    (result : Result BatchAnswer Refusal) → call ≡ None → is_long b ≡ false → Finishes meaning call old new offer b ended
+    → result ≡ result_of ended → Calls basic_call meaning old new offer b result
+calls_finished meaning None old new offer b ended result e short f is =
+    calls_from basic_call meaning old new offer b ended result short f is
+calls_finished meaning (Some ready) old new offer b ended result e short f is = absurd (cc)
+
+found_fault : (found : Result Found Refusal) → turn_fault (turn_of found) ≡ fault_in found
+found_fault (Ok (Repeat answer)) = refl
+found_fault _ = refl
+
+written_fault : (written : Result BatchAnswer StepFault) → turn_fault (last_turn written) ≡ result_err written
+written_fault (Ok answer) = refl
+written_fault (Err fault) = refl
+
+-- a turn makes exactly the device step that comes next, and hands its fault on
+pub turn_goes : (meaning : Meaning) (call : Option Ready) (old new : Standing) (offer : List ℕ) (b : Batch) (turn : Turn)
+    → Turns meaning call old new offer b turn → Goes (act_of call) old new (turn_fault turn)
+turn_goes meaning None old new offer b turn t = rw (ap turn_fault t.gives ∙ found_fault t.found) t.reads.goes
+turn_goes meaning (Some ready) old new offer b turn t = rw (ap turn_fault t.gives ∙ written_fault t.written) t.writes.goes
+
+-- the count of faults rises where a turn hands one on
+pub turn_blamed : (meaning : Meaning) (call : Option Ready) (old new : Standing) (offer : List ℕ) (b : Batch) (turn : Turn)
+    → Turns meaning call old new offer b turn → Blames (turn_fault turn) old.faults new.faults
+turn_blamed meaning call old new offer b turn t =
+    let g = turn_goes meaning call old new offer b turn t in blamed (turn_fault turn) old new g.is_made g.ends

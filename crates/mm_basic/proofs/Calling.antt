@@ -1,12 +1,13 @@
 -- What a call finds over the platform is what is found by digests, but for want of memory.
-use Rattle.mm_basic.proofs.Below.{◌≡◌, ℕ, ◌+◌, Bool, true, false, List, [], ◌∷◌, map, length, Some, Result, Ok, Err, ◌⊎◌, inl, inr, refl}
-use Rattle.mm_basic.proofs.Below.{sym, ap, ◌∙◌, subst, nat_le, bytes_eq, bytes_eq-Decides, last_position, Basic, Digest, Meaning, Batch}
-use Rattle.mm_basic.proofs.Below.{size_of, normal, Cell, IsCell, cell_spelling, PartsFault, Form, Kind, Place, InBasic, InOpt, Content}
-use Rattle.mm_basic.proofs.Below.{Snapshot, ReadsParts, variant_of, tag_of, extended_of, Item, Standing, length-link, Step, Writes, link}
-use Rattle.mm_basic.proofs.Below.{Instance, basic, Commit, Foreign, Digests, made, verdict_by, basic_verdict, digest_of, BatchAnswer}
-use Rattle.mm_basic.proofs.Below.{Refusal, Verdict, OrMemory, all_made, by_digests, AsFound, lacks_in, brought_digests, cell_at, StandsAt}
-use Rattle.mm_basic.proofs.Below.{weighed_only, Found, Repeat, Change, Seen, found_in, found_from, answer_of, committed_cell, basic_call}
-use Rattle.mm_basic.proofs.Below.{Finds, if◌then◌else◌, linked, summary_in, verdict_by_digests, zero_bytes}
+use Rattle.mm_basic.proofs.Below.{◌≡◌, ℕ, ◌+◌, Bool, true, false, List, [], ◌∷◌, map, length, Some, Result, Ok, Err, inl, inr, refl, sym}
+use Rattle.mm_basic.proofs.Below.{ap, ◌∙◌, subst, nat_le, bytes_eq, bytes_eq-Decides, last_position, Basic, Meaning, Batch, size_of, normal}
+use Rattle.mm_basic.proofs.Below.{Cell, IsCell, cell_spelling, PartsFault, Form, Kind, Place, InBasic, InOpt, Content, Snapshot, ReadsParts}
+use Rattle.mm_basic.proofs.Below.{variant_of, tag_of, extended_of, Item, Standing, length-link, Step, Writes, link, Instance, basic, Commit}
+use Rattle.mm_basic.proofs.Below.{Foreign, Digests, made, verdict_by, basic_verdict, digest_of, BatchAnswer, Refusal, Verdict, OrMemory}
+use Rattle.mm_basic.proofs.Below.{all_made, by_digests, AsFound, lacks_in, brought_digests, cell_at, StandsAt, weighed_only, Found, Repeat}
+use Rattle.mm_basic.proofs.Below.{Change, Seen, found_in, found_from, answer_of, committed_cell, basic_call, SpellsCell, ReadsCell}
+use Rattle.mm_basic.proofs.Below.{IsCellOf, NoCell, OtherCell, NoOffer, Both, IsSeen as IsSight, Finds, if◌then◌else◌, linked, summary_in}
+use Rattle.mm_basic.proofs.Below.{verdict_by_digests, zero_bytes}
 use Rattle.std.specs.List.{fold}
 use Rattle.std.specs.Prelude.{◌&&◌}
 use Rattle.mm_module.specs.BatchLaws.{members_of-normal}
@@ -19,7 +20,39 @@ use Rattle.mm_call.specs.Answers.{answer_at}
 use Rattle.mm_call.specs.Trails.{IsWrite}
 use Rattle.mm_call.specs.Found as call
 use Rattle.mm_call.specs.FoundWords as call_words
-use Rattle.mm_basic.proofs.Reading.{one_sight, seen_by}
+use Rattle.mm_seal.specs.declared.cell.CellFault.{CellFault}
+use Rattle.mm_seal.specs.CellLaws.{reads_cell-same}
+use Rattle.mm_seal.specs.SnapshotLaws.{reads_parts-same}
+
+-- There is one way to see a cell and an offer.
+
+-- how a cell of this module and an offer that is taken apart are seen
+abbrev seen_by : Cell → Result Snapshot PartsFault → Seen
+seen_by cell (Ok offered) = Both cell offered
+seen_by cell (Err fault) = NoOffer fault
+
+no_cell : (bytes : List ℕ) (cell : Cell) (fault : CellFault) → SpellsCell bytes cell → ReadsCell bytes (Err fault) → ⊥
+no_cell bytes cell fault s v = let e : Err fault ≡ Ok cell = reads_cell-same bytes (Err fault) (Ok cell) v s in cc
+
+one_cell : (bytes : List ℕ) (cell other : Cell) → SpellsCell bytes cell → SpellsCell bytes other → other ≡ cell
+one_cell bytes cell other s v =
+    let there : Result Cell CellFault = Ok other in
+    let here : Result Cell CellFault = Ok cell in
+    let e : there ≡ here = reads_cell-same bytes there here v s in
+    cc
+
+one_sight : (id : ℕ) (bytes offer : List ℕ) (cell : Cell) (taken : Result Snapshot PartsFault) (seen : Seen) → SpellsCell bytes cell
+    → IsCellOf id cell → ReadsParts offer Basic id taken → IsSight id bytes offer seen → seen ≡ seen_by cell taken
+one_sight id bytes offer cell taken (NoCell fault) s is r v = absurd (no_cell bytes cell fault s v)
+one_sight id bytes offer cell taken OtherCell s is r v =
+    absurd (v.2 (subst (λ (c : Cell). IsCellOf id c) (sym (one_cell bytes cell v.0 s v.1)) is))
+one_sight id bytes offer cell taken (NoOffer fault) s is r v =
+    ap (λ (t : Result Snapshot PartsFault). seen_by cell t) (reads_parts-same offer Basic id (Err fault) taken v.3 r)
+one_sight id bytes offer cell taken (Both other offered) s is r v =
+    ap (λ (c : Cell). Both c offered) (one_cell bytes cell other s v.0)
+    ∙ ap (λ (t : Result Snapshot PartsFault). seen_by cell t) (reads_parts-same offer Basic id (Ok offered) taken v.2 r)
+
+-- What is found.
 
 -- what is found, where this offer is accepted
 abbrev found_as : Instance → Digests → Content → Bool → Batch → Found
@@ -29,10 +62,10 @@ found_as i d offered false b = Change (record {
   answer = (by_digests i).answer false d d offered b;
 })
 
--- this is found, where that is found by digests
-abbrev IsFound : Instance → Digests → Batch → Result call.Found Refusal → Result Found Refusal → Type 0
-IsFound i d b (Err why) found = found ≡ Err why
-IsFound i d b (Ok it) found = (found ≡ Ok (found_as i d it.offered it.again b)) ⊎ (found ≡ Err refusal.Memory)
+-- what is found, where that is found by digests
+abbrev given : Instance → Digests → Batch → Result call.Found Refusal → Result Found Refusal
+given i d b (Err why) = Err why
+given i d b (Ok it) = Ok (found_as i d it.offered it.again b)
 
 by_fresh : (a b : Bool) → verdict_by false a b ≡ Fresh → a ≡ true
 by_fresh true b e = refl
@@ -65,66 +98,64 @@ verdict_is : (d : Digests) (place : Place) (b : Batch) → variant_of place ≡ 
 verdict_is d (InBasic s) b v = refl
 verdict_is d (InOpt a x) b v = absurd (cc)
 
--- by what the offer is examined to
-found_examined : (meaning : Meaning) (key : List ℕ) (d : Digests) (offered : Content) (b : Batch) (e : Result Bool Refusal)
-    (found : Result Found Refusal) → (e ≡ Ok false → linked offered b ≡ link d.digest (normal b))
-    → (e ≡ Ok true → linked offered b ≡ d.digest)
-    → OrMemory (found_from e (committed_cell (cell_at (basic meaning key) d) offered b) (answer_of meaning key offered b)) found
-    → IsFound (basic meaning key) d (normal b) (call_words.found_with offered e) found
-found_examined meaning key d offered b (Err why) found f r m = m
-found_examined meaning key d offered b (Ok true) found f r m =
-    subst (λ (x : Found). OrMemory (Ok x) found)
-    (ap (λ (x : BatchAnswer). Repeat x) (answer_is meaning key offered (linked offered b) d.digest b true (r refl))) m
-found_examined meaning key d offered b (Ok false) found f r m =
-    let answers = answer_is meaning key offered (linked offered b) (link d.digest (normal b)) b false (f refl) in
-    subst (λ (x : Found). OrMemory (Ok x) found) (λ j. Change (record {
-      next = cell_spelling (record (cell_at (basic meaning key) d) { summary = digest_of (f refl j) });
-      answer = answers j;
-    })) m
+module _ (meaning : Meaning) (key : List ℕ) (d : Digests) (b : Batch) where
+  abbrev i : Instance
+  i = basic meaning key
 
--- an offer to Basic
-found_taken : (meaning : Meaning) (key : List ℕ) (d : Digests) (b : Batch) (taken : Result Snapshot PartsFault) (offer : List ℕ)
-    (found : Result Found Refusal) → ReadsParts offer Basic meaning.id taken
-    → OrMemory (found_in meaning (seen_by (cell_at (basic meaning key) d) taken) b) found
-    → IsFound (basic meaning key) d (normal b)
-    (call.found_by_verdict (basic meaning key) (by_digests (basic meaning key)) d (normal b) taken) found
-found_taken meaning key d b (Err Form) offer found r m = m
-found_taken meaning key d b (Err Kind) offer found r m = m
-found_taken meaning key d b (Ok snapshot) offer found r m =
-    let offered : Content = snapshot.content in
-    let v : Verdict = basic_verdict d.digest (summary_in offered.place) (normal b) in
-    let s : Bool = meaning.is_spelled offered.state in
-    let t : Bool = bytes_eq snapshot.tag (tag_of key offered) in
-    let fits : Bool = nat_le (offered.position + size_of b) last_position in
-    let fits' : Bool = nat_le (offered.position + size_of (normal b)) last_position in
-    let same : fits ≡ fits' = ap (λ (x : List (List ℕ)). nat_le (offered.position + length x) last_position) (sym (members_of-normal b)) in
-    let F : Verdict → Bool → Type 0 = λ x f. IsFound (basic meaning key) d (normal b)
-    (call_words.found_with offered (weighed s t x f)) found in
-    let examined_to : F v fits = found_examined meaning key d offered b (weighed s t v fits) found
-    (λ e. fresh_summary (summary_in offered.place) d.digest (normal b) (weighed_only s t v fits false e).verdict)
-    (λ e. again_summary (summary_in offered.place) d.digest (normal b) (weighed_only s t v fits true e).verdict) m in
-    subst (λ x. F x fits') (sym (verdict_is d offered.place (normal b) r.1.0)) (subst (F v) same examined_to)
+  -- by what the offer is examined to
+  found_examined : (offered : Content) (e : Result Bool Refusal) → (e ≡ Ok false → linked offered b ≡ link d.digest (normal b))
+      → (e ≡ Ok true → linked offered b ≡ d.digest)
+      → found_from e (committed_cell (cell_at i d) offered b) (answer_of meaning key offered b)
+      ≡ given i d (normal b) (call_words.found_with offered e)
+  found_examined offered (Err why) f r = refl
+  found_examined offered (Ok true) f r =
+      ap (λ (x : BatchAnswer). Ok (Repeat x)) (answer_is meaning key offered (linked offered b) d.digest b true (r refl))
+  found_examined offered (Ok false) f r =
+      let answers = answer_is meaning key offered (linked offered b) (link d.digest (normal b)) b false (f refl) in
+      λ j. Ok (Change (record {
+        next = cell_spelling (record (cell_at i d) { summary = digest_of (f refl j) });
+        answer = answers j;
+      }))
+
+  -- an offer to Basic
+  found_taken : (taken : Result Snapshot PartsFault) (offer : List ℕ) → ReadsParts offer Basic meaning.id taken
+      → found_in meaning (seen_by (cell_at i d) taken) b
+      ≡ given i d (normal b) (call.found_by_verdict i (by_digests i) d (normal b) taken)
+  found_taken (Err Form) offer r = refl
+  found_taken (Err Kind) offer r = refl
+  found_taken (Ok snapshot) offer r =
+      let offered : Content = snapshot.content in
+      let v : Verdict = basic_verdict d.digest (summary_in offered.place) (normal b) in
+      let s : Bool = meaning.is_spelled offered.state in
+      let t : Bool = bytes_eq snapshot.tag (tag_of key offered) in
+      let few : ℕ → Bool = λ n. nat_le (offered.position + n) last_position in
+      let same = λ (x : Result Bool Refusal). given i d (normal b) (call_words.found_with offered x) in
+      found_examined offered (weighed s t v (few (size_of b)))
+      (λ e. fresh_summary (summary_in offered.place) d.digest (normal b) (weighed_only s t v (few (size_of b)) false e).verdict)
+      (λ e. again_summary (summary_in offered.place) d.digest (normal b) (weighed_only s t v (few (size_of b)) true e).verdict)
+      ∙ ap (λ (x : Verdict). same (weighed s t x (few (size_of b)))) (sym (verdict_is d offered.place (normal b) r.1.0))
+      ∙ ap (λ (m : List (List ℕ)). same (weighed s t ((by_digests i).verdict d offered (normal b)) (few (length m))))
+      (sym (members_of-normal b))
 
 -- What is found at digests that a platform's cell has, whatever its register holds.
 found_here : (meaning : Meaning) (key : List ℕ) (d : Digests) (register : List ℕ) (old : Standing) (offer : List ℕ) (b : Batch)
     (found : Result Found Refusal)
     → IsCell (cell_at (basic meaning key) d) → old.cell ≡ Some (cell_spelling (cell_at (basic meaning key) d))
-    → Finds meaning old offer b found
-    → IsFound (basic meaning key) (record d { register = register }) (normal b)
-    (call.found_at (basic meaning key) (by_digests (basic meaning key)) (record d { register = register }) (normal b) offer) found
+    → (f : Finds meaning old offer b found) → found_in meaning f.finds.seen b
+    ≡ given (basic meaning key) (record d { register = register }) (normal b)
+    (call.found_at (basic meaning key) (by_digests (basic meaning key)) (record d { register = register }) (normal b) offer)
 found_here meaning key d register old offer b found spells cell f =
     let i : Instance = basic meaning key in
     let seen : Digests = record d { register = register } in
     let here : Cell = cell_at i d in
     let taken : Result Snapshot PartsFault = parts_of Basic meaning.id offer in
     let r = reads_parts Basic meaning.id offer in
-    let sight : f.finds.seen ≡ seen_by here taken =
-    one_sight meaning.id f.bytes offer here taken f.finds.seen (spells, f.told (cell_spelling here) cell) (refl, refl) r f.finds.is_seen in
-    subst (λ (lost : Bool). IsFound i seen (normal b)
-    (if lost then Err refusal.Lost else call.found_by_verdict i (by_digests i) seen (normal b) taken) found)
-    (ap (λ (flag : Bool). flag && bytes_eq register zero_bytes) (sym spells.variant.0))
-    (found_taken meaning key seen b taken offer found r
-    (subst (λ (s : Seen). OrMemory (found_in meaning s b) found) sight f.finds.found_is))
+    ap (λ (s : Seen). found_in meaning s b) (one_sight meaning.id f.bytes offer here taken f.finds.seen
+    (spells, f.told (cell_spelling here) cell) (refl, refl) r f.finds.is_seen)
+    ∙ found_taken meaning key seen b taken offer r
+    ∙ ap (λ (flag : Bool). given i seen (normal b)
+    (if flag && bytes_eq register zero_bytes then Err refusal.Lost
+    else call.found_by_verdict i (by_digests i) seen (normal b) taken)) (sym spells.variant.0)
 
 -- the steps of a call behind its reading step
 abbrev pub writing : Bool → Batch → List Step
@@ -160,13 +191,10 @@ IsSeen meaning key d b x found =
     AsFound basic_call (basic meaning key) d b y found (writing (call_words.is_fresh y) b)
 
 as_found : (meaning : Meaning) (key : List ℕ) (d : Digests) (b : Batch) (x : Result call.Found Refusal) (found : Result Found Refusal)
-    → IsCell (cell_at (basic meaning key) d) → IsFound (basic meaning key) d b x found → IsSeen meaning key d b x found
-as_found meaning key d b (Err why) found is f =
-    subst (λ (r : Result Found Refusal). IsSeen meaning key d b (Err why) r) (sym f) (refl, refl)
-as_found meaning key d b (Ok it) found is (inl f) =
-    subst (λ (r : Result Found Refusal). IsSeen meaning key d b (Ok it) r) (sym f) (as_given meaning key d b it.offered it.again is)
-as_found meaning key d b (Ok it) found is (inr f) =
-    subst (λ (r : Result Found Refusal). IsSeen meaning key d b (Ok it) r) (sym f) (refl, refl)
+    → IsCell (cell_at (basic meaning key) d) → OrMemory (given (basic meaning key) d b x) found → IsSeen meaning key d b x found
+as_found meaning key d b (Err why) found is f = rw f (refl, refl)
+as_found meaning key d b (Ok it) found is (inl f) = rw f (as_given meaning key d b it.offered it.again is)
+as_found meaning key d b (Ok it) found is (inr f) = rw f (refl, refl)
 
 -- at the digests of a platform's cell, whatever others put into the register before it was read
 pub seen_here : (meaning : Meaning) (key : List ℕ) (d : Digests) (values : List (List ℕ)) (old : Standing) (offer : List ℕ) (b : Batch)
@@ -180,4 +208,5 @@ seen_here meaning key d values old offer b found s f =
     (sym (brought_digests i d values))
     (as_found meaning key (record d { register = r }) (normal b)
     (call.found_at i (by_digests i) (record d { register = r }) (normal b) offer) found s.spells
-    (found_here meaning key d r old offer b found s.spells s.cell f))
+    (subst (λ (x : Result Found Refusal). OrMemory x found) (found_here meaning key d r old offer b found s.spells s.cell f)
+    f.finds.found_is))

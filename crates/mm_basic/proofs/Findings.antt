@@ -1,9 +1,9 @@
 -- What is found, by what the offer is examined to.
 use Rattle.mm_basic.proofs.Below.{◌≡◌, ℕ, Bool, true, false, List, Result, Ok, Err, IsTrue, refl, sym, subst, inl, inr, arith, Meaning}
-use Rattle.mm_basic.proofs.Below.{IsLawful, Batch, normal, Blank, Unspelled, Form, Kind, InBasic, Content, Snapshot, IsFit, length-link}
-use Rattle.mm_basic.proofs.Below.{Refusal, Verdict, digest_of, Found, Repeat, Change, Seen, NoCell, OtherCell, NoOffer, Both, examined}
-use Rattle.mm_basic.proofs.Below.{summary_in, verdict_of, linked, answer_of, committed_cell, found_from, found_in, OrMemory, FindsIn}
-use Rattle.mm_basic.proofs.Below.{weighed_only, Basic, Cell, IsCellOf, PartsFault, ReadsParts, SpellsCell}
+use Rattle.mm_basic.proofs.Below.{IsLawful, Batch, normal, Blank, Form, InBasic, Content, Snapshot, IsFit, length-link, Refusal, Verdict}
+use Rattle.mm_basic.proofs.Below.{digest_of, Found, Repeat, Change, Seen, NoCell, NoOffer, Both, examined, summary_in, verdict_of, linked}
+use Rattle.mm_basic.proofs.Below.{answer_of, committed_cell, found_from, found_in, OrMemory, FindsIn, weighed_only, Basic, Cell, IsCellOf}
+use Rattle.mm_basic.proofs.Below.{PartsFault, ReadsParts, SpellsCell}
 use Rattle.std.proofs.lemmas.Bool.Decides.{nat_tests}
 use Rattle.mm_model.specs.FitLaws.{is_fit}
 
@@ -40,13 +40,9 @@ shaped_in meaning lawful (Both cell offered) b =
 shaped_in meaning lawful _ b = tt
 
 shaped_or : (b : Batch) (x found : Result Found Refusal) → IsShaped b x → OrMemory x found → IsShaped b found
-shaped_or b (Err why) found h o = subst (λ (r : Result Found Refusal). IsShaped b r) (sym o) tt
-shaped_or b (Ok it) found h o =
-    elim o [
-      | inl e ↦ subst (λ (r : Result Found Refusal). IsShaped b r) (sym e) h
-      | inr e ↦ subst
-          (λ (r : Result Found Refusal). IsShaped b r) (sym e) tt
-    ]
+shaped_or b (Err why) found h o = rw o tt
+shaped_or b (Ok it) found h (inl e) = rw e h
+shaped_or b (Ok it) found h (inr e) = rw e tt
 
 pub shaped : (meaning : Meaning) → IsLawful meaning → (bytes offer : List ℕ) (b : Batch) (found : Result Found Refusal)
     → FindsIn meaning bytes offer b found → IsShaped b found

@@ -1,9 +1,9 @@
 -- A call of Basic is the walk of its steps on a course, by digests and by lists.
-use Rattle.mm_basic.proofs.Below.{◌≡◌, ℕ, Bool, true, false, List, [], ◌∷◌, length, map, Option, None, Some, Result, refl, sym, ap, ◌∙◌}
-use Rattle.mm_basic.proofs.Below.{subst, arith, Basic, Standing, ReadCell, Meaning, Batch, normal, Instance, basic, Move, Foreign, Digests}
-use Rattle.mm_basic.proofs.Below.{Step, Reading, ask_steps, Refusal, Ended, EndsTo, AsksTo, IsCallSoFar, CallsTo, all_made, by_digests}
-use Rattle.mm_basic.proofs.Below.{fault_in, StandsAt, basic_calls_agree, fate_of, ends_fates, reading_tale, Told, GoesTo, course_by}
-use Rattle.mm_basic.proofs.Below.{lacks_in, told_reading, so_far, Found, Repeat, Change, Ready, Reads, acts_for, basic_call, Finishes}
+use Rattle.mm_basic.proofs.Below.{◌≡◌, ℕ, Bool, true, false, List, ◌∷◌, length, map, Option, None, Some, Result, refl, sym, ap, subst}
+use Rattle.mm_basic.proofs.Below.{arith, Basic, Standing, ReadCell, Meaning, Batch, normal, Instance, basic, Move, Foreign, Digests, Step}
+use Rattle.mm_basic.proofs.Below.{Reading, ask_steps, Refusal, Ended, EndsTo, AsksTo, IsCallSoFar, CallsTo, all_made, by_digests, fault_in}
+use Rattle.mm_basic.proofs.Below.{StandsAt, basic_calls_agree, fate_of, ends_fates, reading_tale, Told, GoesTo, course_by, lacks_in}
+use Rattle.mm_basic.proofs.Below.{told_reading, so_far, Found, Repeat, Change, Ready, Reads, acts_for, basic_call, Finishes}
 use Rattle.std.specs.Prelude.{◌≤◌}
 use Rattle.std.proofs.lemmas.List.{append-nil}
 use Rattle.mm_platform.specs.Told.{next_plan}

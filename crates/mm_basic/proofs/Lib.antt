@@ -1,13 +1,8 @@
 pub mod Above
 mod Below
-mod Links
 mod Findings
 mod Asking
 mod FirstLaws
-mod Reading
 mod Completeness
-mod Asked
-mod Turning
 mod Calling
-mod Ending
 mod Going

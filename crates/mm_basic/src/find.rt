@@ -119,7 +119,7 @@ fn summary_in(place: &Place) -> Digest
 }
 
 // The summary after the batch.
-#[tactic(auto, using(crate::proofs::Links::links))]
+#[tactic(auto, using(crate::proofs::Below::links))]
 fn link(summary: &Digest, batch: Batch<'_>) -> Digest
     ensures { result.bytes ≡ link summary.now.bytes (normal (batch_of batch.entry)) }
 {
@@ -130,7 +130,7 @@ fn link(summary: &Digest, batch: Batch<'_>) -> Digest
 }
 
 // The summary after the requests between the TABs of a text.
-#[tactic(auto, using(crate::proofs::Links::links))]
+#[tactic(auto, using(crate::proofs::Below::links))]
 fn link_text(summary: &Digest, text: &[u8]) -> Digest
     ensures { result.bytes ≡ link summary.now.bytes (normal (Many text.now)) }
 {

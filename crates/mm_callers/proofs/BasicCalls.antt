@@ -1,10 +1,10 @@
 -- Basic: what a call leaves, and the callers' clauses, from those of their calls.
-use Rattle.mm_callers.proofs.Below.{◌≡◌, ℕ, List, [], Result, Ok, Err, refl, sym, subst, inl, inr, Contains, Basic, StepFault}
-use Rattle.mm_callers.proofs.Below.{Standing, Meaning, IsLawful, Batch, One, link_message, summary_of, basic, History, IsFit, StandsFor}
+use Rattle.mm_callers.proofs.Below.{◌≡◌, ℕ, List, [], Result, Ok, Err, refl, sym, subst, inl, inr, Basic, StepFault}
+use Rattle.mm_callers.proofs.Below.{Standing, Meaning, IsLawful, Batch, One, Within, offer_messages, issued, basic, History, IsFit, StandsFor}
 use Rattle.mm_callers.proofs.Below.{BatchAnswer, Refusal, Device, basic_issued, called, Blames, by_lists, basic_content, AreAsked}
 use Rattle.mm_callers.proofs.Below.{fault_of, foreign_made, basic_asked, basic_comes, names_made, IsOnce, AsksAgain, AreAskedNext}
 use Rattle.mm_callers.proofs.Below.{AsksTwice, in_first}
-use Rattle.mm_callers.proofs.Leaving.{Call, by_length, once_after, IsCalm, Left, asked_on, left_long, left_short, ends_once, ends_again, ends_next, asked_next}
+use Rattle.mm_callers.proofs.Leaving.{Call, by_length, once, IsCalm, Left, asked_on, left_long, left_short, ends_once, ends_again, ends_next, asked_next}
 
 module _ {meaning : Meaning} {old new : Standing} {offer request : List ℕ} {result : Result BatchAnswer Refusal}
     (call : Call Basic meaning old new offer request result) where
@@ -41,20 +41,18 @@ pub refused_first : {meaning : Meaning} {old new : Standing} {offer first : List
     → Call Basic meaning old new offer first (Err why) → AsksTwice meaning old new offer first second (Err why)
 refused_first second call key y all others asked s a n = in_first (asked_once call key y all others asked s a)
 
-next_listed : (meaning : Meaning) (key : List ℕ) (all : List (List ℕ)) (asked : List Batch) (y : History) (first second : Batch)
-    (after : List Batch) → AreAskedNext all asked (basic meaning key) y first second
-    → IsOnce y.batches first after → Contains all (link_message (summary_of meaning.id after) second)
-next_listed meaning key all asked y first second after n (inl more) =
-    subst (λ (bs : List Batch). Contains all (link_message (summary_of meaning.id bs) second)) (sym more) n.after_new
-next_listed meaning key all asked y first second after n (inr same) =
-    subst (λ (bs : List Batch). Contains all (link_message (summary_of meaning.id bs) second)) (sym same.0) n.after_repeat
+next_listed : (meaning : Meaning) (key : List ℕ) (all : List (List ℕ)) (asked : List Batch) (y after : History) (first second : Batch)
+    → AreAskedNext all asked (basic meaning key) y first second → IsOnce y.batches first after.batches
+    → Within (offer_messages (basic meaning key) (issued (basic meaning key) after).place second) all
+next_listed meaning key all asked y after first second n (inl more) = rw more n.after_new
+next_listed meaning key all asked y after first second n (inr same) = rw same.0 n.after_repeat
 
 pub asked_twice : {meaning : Meaning} {old middle new : Standing} {offer next first second : List ℕ} {one : BatchAnswer}
     {result : Result BatchAnswer Refusal} → IsLawful meaning → Call Basic meaning old middle offer first (Ok one) → IsFit (One first) one
     → next ≡ one.snapshot → Call Basic meaning middle new next second result → AsksTwice meaning old new offer first second result
-asked_twice {meaning = meaning} {old = old} {first = first} {second = second} {result = result} lawful before fit e call key y all others
+asked_twice {meaning = meaning} {old = old} {first = first} {second = second} {one = one} {result = result} lawful before fit e call key y all others
     asked s a n =
     let x = (left before key y all others asked s a).leaves in
     let so = asked_next old a x.within x.comes fit e (basic_content meaning lawful key x.after) (basic_issued meaning key x.after)
-    n.is_asked (next_listed meaning key all asked y (One first) (One second) x.after.batches n (once_after x.comes), tt) in
+    n.is_asked (next_listed meaning key all asked y x.after (One first) (One second) n ((once x.comes).answers one refl).0) in
     ends_next old a result before.counts.faults call.counts.faults e x so.0 (left call key x.after all others asked x.stands so.1)

@@ -71,7 +71,7 @@ pub use Rattle.mm_opt.specs.declared.segment.CheckpointRefusal.{CheckpointRefusa
 pub use Rattle.mm_opt.specs.declared.segment.Checkpointed.{Checkpointed as Said}
 pub use Rattle.mm_callers.specs.Basic.{AnswersOnce, AreAskedNext, AsksAgain, AsksTwice, finds, in_first, in_second, IsLeft, IsOfRun, IsOnce}
 pub use Rattle.mm_callers.specs.Basic.{SaysFound, SaysUnlessFault}
-pub use Rattle.mm_callers.specs.Closing.{AreShownUnlessIdle, ClosesBetween, closing_messages, EndsBehind, in_closing, MayClose}
+pub use Rattle.mm_callers.specs.Closing.{AreShownUnlessIdle, ClosesBetween, EndsBehind, in_closing, MayClose}
 pub use Rattle.mm_callers.specs.Closing.{RepeatsBehind, RepeatsReply, SaysClosing}
 pub use Rattle.mm_callers.specs.Complete.{batches_then, IsAnswer, IsOfferedAt, IsWelcome}
 pub use Rattle.mm_callers.specs.Counts.{again, alone, at_once, both, CountsAgain, CountsCall, replied, StepsFor, StepsOf}

@@ -1,13 +1,13 @@
 -- A welcome offer is found, and a call that finds it and isn't broken off answers.
-use Rattle.mm_callers.proofs.Below.{◌≡◌, ℕ, ◌+◌, ◌&&◌, Bool, true, false, List, [], ◌∷◌, ◌++◌, None, Result, Ok, refl, sym, ap, ◌∙◌}
-use Rattle.mm_callers.proofs.Below.{subst, if◌then◌else◌, nat_eq, Variant, Batch, size_of, Content}
-use Rattle.mm_callers.proofs.Below.{Instance, History, total_of, Life, Live, life_of, Step}
+use Rattle.mm_callers.proofs.Below.{◌≡◌, ℕ, ◌+◌, Bool, true, false, List, [], ◌∷◌, ◌++◌, None, Result, Ok, refl, sym, ap, ◌∙◌}
+use Rattle.mm_callers.proofs.Below.{subst, if◌then◌else◌, nat_eq, Variant, Batch, Content}
+use Rattle.mm_callers.proofs.Below.{Instance, History, total_of, Live, life_of, Step}
 use Rattle.mm_callers.proofs.Below.{ask_steps, at_the_end, before_the_last, Refusal, Verdict, by_lists, all_made, Found}
-use Rattle.mm_callers.proofs.Below.{found_at, found_with, found_unless_wanting, End, Done, Fails, Fate, Walked, after_step, walk}
+use Rattle.mm_callers.proofs.Below.{found_at, found_unless_wanting, End, Done, Fails, Fate, Walked, after_step, walk}
 use Rattle.mm_callers.proofs.Below.{seen_at, ended_by, called_with, again_of, fresh_of, same_batches, more_batches, Commits, nothing, batch}
 use Rattle.mm_callers.proofs.Below.{IsOfferedAt, IsWelcome, batches_then, IsAnswer}
 use Rattle.std.proofs.lemmas.Bool.{eq-eqb}
-use Rattle.mm_model.specs.Judge.{judge, judged, is_last}
+use Rattle.mm_model.specs.Judge.{judge}
 use Rattle.mm_model.specs.declared.verdict.Verdict.TheVariants.{Fresh, Again}
 use Rattle.mm_call.specs.Order.{admitted}
 use Rattle.mm_call.specs.WalkLaws.{call_commits}

@@ -1,18 +1,19 @@
 -- What a call leaves and says, in either variant; and so the same call made again, or another one on its answer.
-use Rattle.mm_callers.proofs.Below.{◌≡◌, ℕ, ◌≤◌, Bool, true, false, List, [], ◌∷◌, ◌++◌, map, Option, None, Some, Result, Ok, Err, refl}
+use Rattle.mm_callers.proofs.Below.{◌≡◌, ℕ, ◌≤◌, Bool, true, false, List, [], ◌∷◌, ◌++◌, Option, None, Some, Result, Ok, Err, refl}
 use Rattle.mm_callers.proofs.Below.{sym, ap, ◌∙◌, subst, ◌⊎◌, inl, inr, arith, if◌then◌else◌, Contains, last_position, Variant, Basic}
 use Rattle.mm_callers.proofs.Below.{Opt, StepFault, Standing, Meaning, Batch, One, parts_of, Content, IsContent, sealed_of, Instance}
-use Rattle.mm_callers.proofs.Below.{History, Move, Foreign, total_of, IsFit, is_long, Within, offer_messages, Names, issued, StandsFor}
+use Rattle.mm_callers.proofs.Below.{History, Move, EndsWith, total_of, IsFit, is_long, Within, offer_messages, Names, issued, StandsFor}
 use Rattle.mm_callers.proofs.Below.{IsRight, issued_bytes, Reads, ask_steps, total-push, BatchAnswer, Refusal, Long, right_messages}
 use Rattle.mm_callers.proofs.Below.{IsWithin, called, seen_at, ended_by, given_for, reading_steps, CallContinues, CallsOn, Comes, kept}
-use Rattle.mm_callers.proofs.Below.{grown, End, Done, FailsAs, Fate, Course, Walked, after_step, seen_in, walk, Found, found_at}
+use Rattle.mm_callers.proofs.Below.{grown, Course, Walked, seen_in, walk, Found, found_at, foreign_made}
 use Rattle.mm_callers.proofs.Below.{right_content, found_unless_wanting, is_fresh, Blames, by_lists, all_made, one_content, right_of}
-use Rattle.mm_callers.proofs.Below.{listed_by, issued_once, AreAsked, fault_of, fault_in, finished, answered_at, IsOnce, IsOfRun}
+use Rattle.mm_callers.proofs.Below.{listed_by, issued_once, AreAsked, fault_of, fault_in, answered_at, IsOnce}
 use Rattle.mm_callers.proofs.Below.{AnswersOnce, IsLeft, SaysFound, SaysUnlessFault, finds, in_second, CountsCall}
 use Rattle.mm_base.specs.Faults.{counted, Rose}
 use Rattle.mm_module.specs.BatchLaws.{size_of-pos}
 use Rattle.mm_call.specs.Answers.{answer_on}
-use Rattle.mm_callers.specs.Basic.{EndsOnce, EndsNext}
+use Rattle.mm_call.proofs.Above.{path_is, sight_is}
+use Rattle.mm_callers.specs.Basic.{EndsOnce, EndsNext, Stays}
 
 -- A call: one that is too long is refused as it stands, any other goes on a course; and its steps and faults are counted.
 pub record Call (variant : Variant) (meaning : Meaning) (old new : Standing) (offer request : List ℕ)
@@ -47,67 +48,70 @@ answered {answer = answer} call = call.goes (not_long call (λ (is : Ok answer �
 pub not_again : (batches front : List Batch) (b : Batch) → front ++ b ∷ [] ≡ batches → total_of batches ≡ total_of front → ⊥
 not_again batches front b e same = absurd (omega (arith, same, ap total_of e, total-push front b, size_of-pos b))
 
--- An answer is that of the run which stands then.
-pub of_run : {i : Instance} {after : History} {new : Standing} {b : Batch} {answer : BatchAnswer} → StandsFor i new after
-    → (batches : List Batch) → after.batches ≡ batches → (flag : Bool) → answer ≡ answer_on i after b flag
-    → IsOfRun i new batches b answer.again answer
-of_run {i = i} {after = after} {b = b} s batches e flag is = record {
-  after = after;
-  stands = s;
-  batches_are = e;
-  answer_is = is ∙ ap (λ (f : Bool). answer_on i after b f) (sym (ap (λ (a : BatchAnswer). a.again) is));
-}
-
 -- the batches after a call
 abbrev Grows : List Batch → Batch → List Batch → Type 0
 Grows before b after = (after ≡ before) ⊎ (after ≡ before ++ b ∷ [])
 
+-- What one call came to, or the same call made once more: the batch was committed once at most; and an answer tells the end.
+pub record Once (i : Instance) (before : List Batch) (b : Batch) (after : History) (result : Result BatchAnswer Refusal) : Type 0 where
+  pub grows : Grows before b after.batches
+  pub answers : (answer : BatchAnswer) → result ≡ Ok answer
+      → IsOnce before b after.batches × (answer ≡ answer_on i after b answer.again)
+
+as_told : (i : Instance) (after : History) (b : Batch) (answer : BatchAnswer) (flag : Bool) → answer ≡ answer_on i after b flag
+    → answer ≡ answer_on i after b answer.again
+as_told i after b answer flag is = is ∙ ap (λ (a : BatchAnswer). answer_on i after b a.again) (sym is)
+
+-- the offer stands before the batch, which is the last one
+pub record Offers (i : Instance) (batches : List Batch) (offer : List ℕ) (b : Batch) : Type 0 where
+  pub content : Content
+  pub right : IsRight i offer content
+  pub ends : EndsWith batches b
+  pub position : content.position ≡ total_of ends.front
+
+-- no such offer stands at the end
+pub not_at_end : {i : Instance} {batches : List Batch} {offer : List ℕ} {b : Batch} (o : Offers i batches offer b) (content : Content)
+    → IsRight i offer content → content.position ≡ total_of batches → ⊥
+not_at_end {i = i} {batches = batches} {offer = offer} {b = b} o content right at =
+    let same : o.content ≡ content = one_content i offer o.content content o.right right in
+    not_again batches o.ends.front b o.ends.is (sym at ∙ ap (λ (c : Content). c.position) (sym same) ∙ o.position)
+
 module _ {i : Instance} {y after : History} {offer : List ℕ} {b : Batch} where
-  grows : {result : Result BatchAnswer Refusal} → Comes i y offer b after result → Grows y.batches b after.batches
-  grows (kept same gives) = inl same
-  grows (grown content right at more gives) = inr more
+  pub once : {result : Result BatchAnswer Refusal} → Comes i y offer b after result → Once i y.batches b after result
+  once (kept same gives) = record {
+    grows = inl same;
+    answers = λ answer is.
+        let g = gives answer is in (inr (same, g.ends), as_told i after b answer true g.answer_is);
+  }
+  once (grown content right at more gives) = record {
+    grows = inr more;
+    answers = λ answer is. (inl more, as_told i after b answer false (gives answer is));
+  }
 
-  pub once_after : {answer : BatchAnswer} → Comes i y offer b after (Ok answer) → IsOnce y.batches b after.batches
-  once_after {answer = answer} (kept same gives) = inr (same, (gives answer refl).ends)
-  once_after (grown content right at more gives) = inl more
+-- the same call, made once more at the batches to which the first one came
+pub once_twice : {i : Instance} {y middle other after : History} {offer : List ℕ} {b : Batch} {first second : Result BatchAnswer Refusal}
+    → Comes i y offer b middle first → other.batches ≡ middle.batches → Comes i other offer b after second
+    → Once i y.batches b after second
+once_twice {i = i} {after = after} {b = b} {second = second} (kept same none) e c =
+    subst (λ (bs : List Batch). Once i bs b after second) (e ∙ same) (once c)
+once_twice {i = i} {after = after} {b = b} (grown content right at more none) e (kept same gives) = record {
+  grows = inr (same ∙ e ∙ more);
+  answers = λ answer is. (inl (same ∙ e ∙ more), as_told i after b answer true (gives answer is).answer_is);
+}
+once_twice {y = y} (grown content right at more none) e (grown other right' at' more' gives) =
+    absurd (not_at_end (record { content = content; right = right; ends = record { front = y.batches; is = sym (e ∙ more) }; position = at })
+    other right' at')
 
-  answers_by : {new : Standing} {answer : BatchAnswer} → StandsFor i new after → Comes i y offer b after (Ok answer)
-      → AnswersOnce i y new b answer
-  answers_by {answer = answer} s (kept same gives) =
-      let g = gives answer refl in
-      record { batches = y.batches; once = inr (refl, g.ends); run = of_run s y.batches same true g.answer_is }
-  answers_by {answer = answer} s (grown content right at more gives) =
-      let batches : List Batch = y.batches ++ b ∷ [] in
-      record { batches = batches; once = inl refl; run = of_run s batches more false (gives answer refl) }
-
--- an offer that was taken as new isn't taken as new once more
-never_twice : (i : Instance) (y middle : History) (offer : List ℕ) (b : Batch) (content other : Content) → IsRight i offer content
-    → content.position ≡ total_of y.batches → middle.batches ≡ y.batches ++ b ∷ [] → IsRight i offer other
-    → other.position ≡ total_of middle.batches → ⊥
-never_twice i y middle offer b content other right at more right' at' =
-    let same : content ≡ other = one_content i offer content other right right' in
-    not_again middle.batches y.batches b (sym more) (sym at' ∙ ap (λ (c : Content). c.position) (sym same) ∙ at)
-
--- the same call twice, by what the first left
-module _ {i : Instance} {y middle after : History} {offer : List ℕ} {b : Batch} where
-  grows_twice : {first second : Result BatchAnswer Refusal} → Comes i y offer b middle first → Comes i middle offer b after second
-      → Grows y.batches b after.batches
-  grows_twice (kept same none) (kept also gives) = inl (also ∙ same)
-  grows_twice (kept same none) (grown content right at more gives) = inr (more ∙ ap (λ (bs : List Batch). bs ++ b ∷ []) same)
-  grows_twice (grown content right at more none) (kept same gives) = inr (same ∙ more)
-  grows_twice (grown content right at more none) (grown other right' at' more' gives) =
-      absurd (never_twice i y middle offer b content other right at more right' at')
-
-  twice_by : {new : Standing} {first : Result BatchAnswer Refusal} {answer : BatchAnswer} → StandsFor i new after
-      → Comes i y offer b middle first → Comes i middle offer b after (Ok answer) → AnswersOnce i y new b answer
-  twice_by s (kept same none) second =
-      let r = answers_by s second in
-      record { batches = r.batches; once = subst (λ (bs : List Batch). IsOnce bs b r.batches) same r.once; run = r.run }
-  twice_by {answer = answer} s (grown content right at more none) (kept same gives) =
-      let batches : List Batch = y.batches ++ b ∷ [] in
-      record { batches = batches; once = inl refl; run = of_run s batches (same ∙ more) true (gives answer refl).answer_is }
-  twice_by s (grown content right at more none) (grown other right' at' more' gives) =
-      absurd (never_twice i y middle offer b content other right at more right' at')
+-- an answer is that of the run which stands then
+pub answers_once : {i : Instance} {y after : History} {new : Standing} {b : Batch} {answer : BatchAnswer} → StandsFor i new after
+    → Once i y.batches b after (Ok answer) → AnswersOnce i y new b answer
+answers_once {after = after} {answer = answer} s o =
+    let a = o.answers answer refl in
+    record {
+      batches = after.batches;
+      once = a.0;
+      run = record { after = after; stands = s; batches_are = refl; answer_is = a.1 };
+    }
 
 -- What a refused call says: what it found; and unless it handed on a fault, nothing was committed, and the snapshot that the history
 -- issues is as before.
@@ -124,17 +128,15 @@ abbrev pub Says : Instance → History → History → List ℕ → Batch → Re
 Says i y after offer b (Ok answer) = Unit {0}
 Says i y after offer b (Err why) = Said i y after offer b why
 
-says_by : (f : Option StepFault) (x : Result Found Refusal) (why : Refusal) → SaysFound x why → SaysUnlessFault f x why
-says_by (Some fault) x why s = tt
-says_by None x why s = s
-
-says_found : (x : Result Found Refusal) (lacks : Bool) (why : Refusal) → found_unless_wanting x lacks ≡ Err why → SaysFound x why
-says_found (Err is) lacks why e = cc
-says_found (Ok it) false why e = absurd (cc)
-says_found (Ok it) true why e = cc
+says_found : (f : Option StepFault) (x : Result Found Refusal) (lacks : Bool) (why : Refusal) → found_unless_wanting x lacks ≡ Err why
+    → SaysUnlessFault f x why
+says_found (Some fault) x lacks why e = tt
+says_found None (Err is) lacks why e = cc
+says_found None (Ok it) false why e = absurd (cc)
+says_found None (Ok it) true why e = cc
 
 -- by how it ended
-told : (i : Instance) (y seen after : History) (offer : List ℕ) (b : Batch) (lacks : Bool) (s : History) (found : Result Found Refusal)
+pub told : (i : Instance) (y seen after : History) (offer : List ℕ) (b : Batch) (lacks : Bool) (s : History) (found : Result Found Refusal)
     (moves : List Move) (broken : Option StepFault) → is_long b ≡ false → IsCalm i y seen
     → found_unless_wanting (found_at i (by_lists i) seen b offer) lacks ≡ found
     → (broken ≡ None → is_fresh found ≡ false → seen ≡ after)
@@ -146,32 +148,21 @@ told i y seen after offer b lacks s (Err why) moves None short calm is there =
     let same : seen ≡ after = there refl refl in
     record {
       calm = λ _. subst (IsCalm i y) same calm;
-      says = says_by (fault_of why) (finds i after offer b) why
-          (subst (λ (x : Result Found Refusal). SaysFound x why) (ap (λ (z : History). found_at i (by_lists i) z b offer) same
+      says = subst (λ (x : Result Found Refusal). SaysUnlessFault (fault_of why) x why)
+          (ap (λ (z : History). found_at i (by_lists i) z b offer) same
           ∙ ap (λ (t : Bool). if t then Err Long else found_at i (by_lists i) after b offer) (sym short))
-          (says_found (found_at i (by_lists i) seen b offer) lacks why is));
+          (says_found (fault_of why) (found_at i (by_lists i) seen b offer) lacks why is);
     }
 
--- A call that found no new batch, and wasn't broken off, has made its reading steps alone.
-
-reads_on : (values : List (List ℕ)) (ends : End) (rest : Walked) → (after_step Reads values ends rest).broken ≡ None
-    → (rest.broken ≡ None) × ((after_step Reads values ends rest).moves ≡ map Foreign values ++ rest.moves)
-reads_on values Done rest e = (e, refl)
-reads_on values (FailsAs fault made) rest e = absurd (cc)
-
-pub reads_both : (fates : ℕ → Fate) → (walk fates 1 (Reads ∷ Reads ∷ [])).broken ≡ None
-    → (walk fates 1 (Reads ∷ Reads ∷ [])).moves ≡ map Foreign (fates 1).brings ++ (map Foreign (fates 2).brings ++ [])
-reads_both fates whole =
-    let one = reads_on (fates 1).brings (fates 1).ends (walk fates 2 (Reads ∷ [])) whole in
-    one.1 ∙ ap (λ (ms : List Move). map Foreign (fates 1).brings ++ ms) (reads_on (fates 2).brings (fates 2).ends finished one.0).1
-
-still_walk : (variant : Variant) (fates : ℕ → Fate) (flag fresh : Bool) (b : Batch) → fresh ≡ false
-    → (walk fates 1 (ask_steps variant flag fresh b)).broken ≡ None → (walk fates 1 (ask_steps variant flag fresh b)).moves
-    ≡ seen_in fates (reading_steps variant) 1
-still_walk variant fates flag true b e whole = absurd (cc)
-still_walk Basic fates flag false b e whole = (reads_on (fates 1).brings (fates 1).ends finished whole).1
-still_walk Opt fates true false b e whole = reads_both fates whole
-still_walk Opt fates false false b e whole = reads_both fates whole
+-- a call that found no new batch, and wasn't broken off, stands where it saw
+pub sees_end : (variant : Variant) (i : Instance) (y : History) (c : Course) (flag fresh : Bool) (b : Batch) → fresh ≡ false
+    → (walk c.fates 1 (ask_steps variant flag fresh b)).broken ≡ None
+    → all_made (by_lists i) y (seen_in c.fates (reading_steps variant) 1)
+    ≡ all_made (by_lists i) y (walk c.fates 1 (ask_steps variant flag fresh b)).moves
+sees_end variant i y c flag true b e whole = absurd (cc)
+sees_end Basic i y c flag false b e whole =
+    foreign_made i (c.fates 1).brings [] y ∙ sym (path_is i c.fates (Reads ∷ []) 1 y whole)
+sees_end Opt i y c flag false b e whole = sight_is i y c ∙ sym (path_is i c.fates (Reads ∷ Reads ∷ []) 1 y whole)
 
 module _ (all others : List (List ℕ)) (asked : List Batch) (i : Instance) where
   -- what one call leaves: the history after it, and what is asked of that
@@ -217,7 +208,7 @@ module _ (all others : List (List ℕ)) (asked : List Batch) (i : Instance) wher
   }
 
   -- one that goes on a course, from what it sees, where nothing was committed
-  pub left_short : (y : History) (c : Course) (new : Standing) (offer : List ℕ) (b : Batch) (result : Result BatchAnswer Refusal)
+  abbrev pub left_short : (y : History) (c : Course) (new : Standing) (offer : List ℕ) (b : Batch) (result : Result BatchAnswer Refusal)
       → is_long b ≡ false → CallContinues all others asked i (called i (by_lists i) y c offer b) new result
       → Comes i y offer b (called i (by_lists i) y c offer b).state (given_for (called i (by_lists i) y c offer b).ending)
       → ((content : Content) → Names i y content → Names i (called i (by_lists i) y c offer b).state content)
@@ -236,7 +227,7 @@ module _ (all others : List (List ℕ)) (asked : List Batch) (i : Instance) wher
           names = names;
         };
         says = subst (Says i y end offer b) (sym k.gives) (told i y seen end offer b c.lacks end found w.moves w.broken short calm refl
-            (λ whole fresh. ap (all_made (by_lists i) y) (sym (still_walk i.variant c.fates y.is_open (is_fresh found) b fresh whole))));
+            (λ whole fresh. sees_end i.variant i y c y.is_open (is_fresh found) b fresh whole));
       }
 
 -- The callers' clauses.
@@ -264,35 +255,38 @@ says_next None i y after next b why e issues s =
 
 module _ {all others : List (List ℕ)} {asked : List Batch} {i : Instance} {y : History} {offer : List ℕ} {b : Batch} (old : Standing)
     (a : AreAsked all others asked i y offer b) where
+  -- the call may be made at what another one leaves
+  abbrev pub stays : {z : History} {new : Standing} {other : List ℕ} {c : Batch} {result : Result BatchAnswer Refusal}
+      → ((content : Content) → Names i y content → Names i z content) → After all others asked i z new other c result
+      → Stays all others asked i new offer b
+  stays names l = record {
+    after = l.after;
+    stands = l.stands;
+    asked_then = asked_on all others asked i l.within (λ content n. l.names content (names content n)) a;
+  }
+
   -- one call
   pub ends_once : {new : Standing} (result : Result BatchAnswer Refusal) → Blames (fault_in result) old.faults new.faults
       → Left all others asked i y new offer b result → EndsOnce all others asked i y old new offer b result
-  ends_once (Ok answer) blames x = answers_by x.leaves.stands x.leaves.comes
-  ends_once {new = new} (Err why) blames x =
-      let l = x.leaves in
-      record {
-        stays = record { after = l.after; stands = l.stands; asked_then = asked_on all others asked i l.within l.names a };
-        left = left_by (fault_of why) b old new blames (λ e. (x.says.calm e).batches) (grows l.comes);
-        says = x.says.says;
-      }
+  ends_once (Ok answer) blames x = answers_once x.leaves.stands (once x.leaves.comes)
+  ends_once {new = new} (Err why) blames x = record {
+    stays = stays (λ content n. n) x.leaves;
+    left = left_by (fault_of why) b old new blames (λ e. (x.says.calm e).batches) (once x.leaves.comes).grows;
+    says = x.says.says;
+  }
 
   -- a call that is made once more
   pub ends_again : {middle new : Standing} {first : Result BatchAnswer Refusal} (result : Result BatchAnswer Refusal)
       → Rose old.faults middle.faults → Blames (fault_in result) middle.faults new.faults
       → (x : After all others asked i y middle offer b first) → Left all others asked i x.after new offer b result
       → EndsOnce all others asked i y old new offer b result
-  ends_again (Ok answer) rose blames x z = twice_by z.leaves.stands x.comes z.leaves.comes
-  ends_again {middle = middle} {new = new} (Err why) rose blames x z =
-      let l = z.leaves in
-      record {
-        stays = record {
-          after = l.after;
-          stands = l.stands;
-          asked_then = asked_on all others asked i l.within (λ content n. l.names content (x.names content n)) a;
-        };
-        left = left_rose b old new (rose_on (fault_of why) old.faults middle.faults new.faults rose blames) (grows_twice x.comes l.comes);
-        says = z.says.says;
-      }
+  ends_again (Ok answer) rose blames x z = answers_once z.leaves.stands (once_twice x.comes refl z.leaves.comes)
+  ends_again {middle = middle} {new = new} (Err why) rose blames x z = record {
+    stays = stays x.names z.leaves;
+    left = left_rose b old new (rose_on (fault_of why) old.faults middle.faults new.faults rose blames)
+        (once_twice x.comes refl z.leaves.comes).grows;
+    says = z.says.says;
+  }
 
   -- The second of two calls, on the snapshot of the first answer, which says where the first came to: an answer is a new batch's.
   pub ends_next : {middle new : Standing} {one : BatchAnswer} {next : List ℕ} {second : Batch} (result : Result BatchAnswer Refusal)
@@ -300,27 +294,22 @@ module _ {all others : List (List ℕ)} {asked : List Batch} {i : Instance} {y :
       → (x : After all others asked i y middle offer b (Ok one))
       → ((content : Content) → IsRight i next content → issued i x.after ≡ content)
       → Left all others asked i x.after new next second result → EndsNext all others asked i y old new offer b second result
-  ends_next {second = second} (Ok answer) same blames e x says z = elim z.leaves.comes [
+  ends_next {one = one} {second = second} (Ok answer) same blames e x says z = elim z.leaves.comes [
     | kept also gives ↦
         let g = gives answer refl in
         absurd (not_again x.after.batches g.ends.front second g.ends.is
         (ap (λ (c : Content). c.position) (says g.content g.right) ∙ g.position))
     | grown content right at more gives ↦ record {
       batches = x.after.batches;
-      once = once_after x.comes;
+      once = ((once x.comes).answers one refl).0;
       run = record { after = z.leaves.after; stands = z.leaves.stands; batches_are = more; answer_is = gives answer refl };
     }
   ]
   ends_next {new = new} {one = one} {next = next} {second = second} (Err why) same blames e x says z =
       let l = z.leaves in
-      in_second x.after.batches (once_after x.comes)
-      (record {
-        after = l.after;
-        stands = l.stands;
-        asked_then = asked_on all others asked i l.within (λ content n. l.names content (x.names content n)) a;
-      })
+      in_second x.after.batches ((once x.comes).answers one refl).0 (stays x.names l)
       (left_by (fault_of why) second old new (subst (λ (n : ℕ). Blames (fault_of why) n new.faults) same blames)
-      (λ f. (z.says.calm f).batches) (grows l.comes))
+      (λ f. (z.says.calm f).batches) (once l.comes).grows)
       (says_next (fault_of why) i x.after l.after next second why (e ∙ (answered_at i y x.after offer b one x.comes).1)
       (λ f. (z.says.calm f).issues) z.says.says)
 

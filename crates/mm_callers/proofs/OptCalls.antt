@@ -1,17 +1,23 @@
 -- Opt: what a call hands on to the next, and the callers' clauses, from those of their calls.
 use Rattle.mm_callers.proofs.Below.{◌≡◌, ℕ, Bool, true, false, List, [], ◌++◌, map, Some, Result, Ok, Err, refl, sym, ap, ◌∙◌, subst, inl}
 use Rattle.mm_callers.proofs.Below.{inr, option_map, append-nil, Opt, StepFault, Item, Standing, Meaning, IsLawful, Batch, One, Content}
-use Rattle.mm_callers.proofs.Below.{Instance, opt, History, Move, Commit, Foreign, moved, IsFit, is_long, Within, offer_messages, Digests}
-use Rattle.mm_callers.proofs.Below.{digests_of, issued, StandsFor, BatchAnswer, Refusal, Device, Long, Verdict, opt_issued, closes-foreign}
-use Rattle.mm_callers.proofs.Below.{IsAsked, called, CallsOn, Comes, Blames, IsAccepted, by_lists, all_made, opt_content}
-use Rattle.mm_callers.proofs.Below.{AreAsked, AreShown, IsIdle, fault_of, shown, standing_items, committed-foreign, foreign_first, opt_comes}
+use Rattle.mm_callers.proofs.Below.{Instance, opt, History, Move, Commit, Foreign, moved, IsFit, is_long, Within, offer_messages}
+use Rattle.mm_callers.proofs.Below.{digests_of, issued, StandsFor, BatchAnswer, Refusal, Device, Long, Verdict, opt_issued, same_closed}
+use Rattle.mm_callers.proofs.Below.{IsAsked, called, CallsOn, Blames, IsAccepted, by_lists, all_made, opt_content}
+use Rattle.mm_callers.proofs.Below.{AreAsked, AreShown, IsIdle, fault_of, shown, standing_items, foreign_first, opt_comes}
 use Rattle.mm_callers.proofs.Below.{stands_at, asked_for, asked_idle, idle_again, idle_moves, unless_idle, Alike, still, grown_by}
-use Rattle.mm_callers.proofs.Below.{alike_still, issued_alike, names_after, Left as OptLeft, DigestMoves, GoesOn, Pushed}
-use Rattle.mm_callers.proofs.Below.{answered_clean_as, alike_call, call_goes_on, hands, seen_closes, bare, in_first, AsksOnce, AsksWelcome}
+use Rattle.mm_callers.proofs.Below.{alike_still, alike_foreign, issued_alike, names_after, Left as OptLeft, DigestMoves, GoesOn, Pushed}
+use Rattle.mm_callers.proofs.Below.{alike_call, call_goes_on, hands, seen_closes, bare, in_first, AsksOnce, AsksWelcome}
 use Rattle.mm_opt.specs.Asked.{AskedInOpt}
-use Rattle.mm_callers.specs.Opt.{AreAskedNext, AsksTwice}
+use Rattle.mm_callers.specs.Basic.{AreAskedNext}
+use Rattle.mm_callers.specs.Opt.{AsksTwice}
 use Rattle.mm_callers.proofs.Completing.{verdict_of, verdict_is}
 use Rattle.mm_callers.proofs.Leaving.{Call, by_length, not_long, answered, After, Left, asked_on, left_long, left_short, ends_once, ends_again, ends_next, asked_next}
+
+closed_same : (meaning : Meaning) (key barrier : List ℕ) (y after : History) (b : Batch) → Alike meaning key barrier y b after
+    → after.closed ≡ y.closed
+closed_same meaning key barrier y after b (still e) = ap (λ (x : History). x.closed) e
+closed_same meaning key barrier y after b (grown_by e) = same_closed meaning key barrier y after b e
 
 module _ (meaning : Meaning) (key barrier : List ℕ) (all others : List (List ℕ)) (asked : List Batch) where
   -- what is asked of the items, unless the call is idle
@@ -25,32 +31,8 @@ module _ (meaning : Meaning) (key barrier : List ℕ) (all others : List (List �
   module _ {old new : Standing} {offer request : List ℕ} {result : Result BatchAnswer Refusal} {y : History}
       (c : CallsOn Opt meaning old new offer (One request) result) (s : StandsFor (opt meaning key barrier) old y)
       (a : AreAsked all others asked (opt meaning key barrier) y offer (One request)) where
-    -- what an idle call leaves, after which it is idle again
-    left_idle : IsIdle (opt meaning key barrier) y offer (One request)
-        → (left : OptLeft meaning key barrier all others asked y new offer request result)
-        × IsIdle (opt meaning key barrier) left.after offer (One request)
-    left_idle idle =
-        let i : Instance = opt meaning key barrier in
-        let b : Batch = One request in
-        let k = c.continues key barrier y all others asked s (asked_idle meaning key barrier all others asked y c.course offer b a idle) in
-        let o = called i (by_lists i) y c.course offer b in
-        let only = idle_moves meaning key barrier y c.course offer b idle in
-        let same : bare o.state ≡ bare y = ap (λ (ms : List Move). bare (all_made (by_lists i) y ms)) only.are
-        ∙ alike_still meaning key barrier (map Foreign only.values) y (committed-foreign only.values) (closes-foreign only.values) in (
-          record {
-            after = o.state;
-            stands = k.stands;
-            within = k.within;
-            comes = subst (Comes i y offer b o.state) (sym k.gives) (opt_comes meaning key barrier all others asked y c.course offer b a);
-            alike = still same;
-            clean = λ answer is. answered_clean_as meaning key barrier all others asked y old new offer request result c a answer is
-                k.gives (still same);
-          },
-          idle_again meaning key barrier y o.state offer b same idle,
-        )
-
     -- what a call leaves and says, of whose moves so much is asked
-    pub left_asked : is_long (One request) ≡ false → IsAsked all others asked (opt meaning key barrier) y
+    abbrev pub left_asked : is_long (One request) ≡ false → IsAsked all others asked (opt meaning key barrier) y
         (DigestMoves meaning key barrier all others asked old new offer request result c y) offer (One request)
         → Left all others asked (opt meaning key barrier) y new offer (One request) result
     left_asked short is_asked =
@@ -72,60 +54,17 @@ module _ (meaning : Meaning) (key barrier : List ℕ) (all others : List (List �
           issues = issued_alike meaning key barrier (all_made (by_lists i) y seen) y same;
         })
 
-  -- What a call hands on to what comes next: what it leaves; and that behind the items that count then, the register shows at the
-  -- very end what is asked.
-  pub record HandsOn (y : History) (middle new : Standing) (offer request : List ℕ) (result : Result BatchAnswer Refusal)
-      (whole : List Item) : Type 0 where
-    pub left : OptLeft meaning key barrier all others asked y middle offer request result
-    pub items : List Item
-    pub known : middle.items ≡ Some items
-    pub more : List Item
-    pub ends : Ends left.after new items more
-    pub shown_are : Shown left.after offer request more
-    pub busy : left.after.is_open ≡ true → IsIdle (opt meaning key barrier) y offer (One request) → ⊥
-    pub pushed : left.after.is_open ≡ true → Pushed meaning key barrier all others asked y left.after whole more
+    -- an idle call, which leaves all but the items as it was
+    pub left_idle : is_long (One request) ≡ false → IsIdle (opt meaning key barrier) y offer (One request)
+        → (left : Left all others asked (opt meaning key barrier) y new offer (One request) result) × (bare left.leaves.after ≡ bare y)
+    left_idle short idle =
+        let only = idle_moves meaning key barrier y c.course offer (One request) idle in (
+          left_asked short (asked_idle meaning key barrier all others asked y c.course offer (One request) a idle),
+          ap (λ (ms : List Move). bare (all_made (by_lists (opt meaning key barrier)) y ms)) only.are
+              ∙ alike_foreign meaning key barrier only.values y,
+        )
 
-  pub hands_on : {old middle : Standing} (new : Standing) {offer request : List ℕ} {result : Result BatchAnswer Refusal} {y : History}
-      (c : CallsOn Opt meaning old middle offer (One request) result) → GoesOn meaning key barrier all others asked middle new
-      → (items more : List Item) → StandsFor (opt meaning key barrier) old y → old.items ≡ Some items → Ends y new items more
-      → AreAsked all others asked (opt meaning key barrier) y offer (One request) → Shown y offer request more
-      → HandsOn y middle new offer request result more
-  hands_on {old = old} {middle = middle} new {offer = offer} {request = request} {result = result} {y = y} c on items more s known
-      ends a shown_so =
-      let i : Instance = opt meaning key barrier in
-      elim (unless_idle {A = (IsIdle i y offer (One request) → ⊥) × AreShown all others i y more} i y offer (One request)
-      (λ busy. (busy, shown_so busy))) [
-        | inl it ↦
-            let h = hands meaning key barrier all others asked y old middle new offer request result items more c on s known ends a it.1 in
-            record {
-              left = h.left;
-              items = h.items;
-              known = h.known;
-              more = h.more;
-              ends = h.ends;
-              shown_are = λ _. h.shown_are;
-              busy = λ _. it.0;
-              pushed = h.pushed;
-            }
-        | inr idle ↦
-            let l = left_idle c s a idle in
-            let d : Digests = digests_of i y in
-            let moves : List Move = DigestMoves meaning key barrier all others asked old middle offer request result c y in
-            let xs : List Item = shown i d moves items in
-            record {
-              left = l.0;
-              items = xs;
-              known = (c.goes key barrier d (stands_at i old y s)).items ∙ ap (option_map (shown i d moves)) known;
-              more = more;
-              ends = ends ∙ ap (λ (flag : Bool). Some (standing_items flag items ++ more)) idle.shut
-                  ∙ ap (λ (flag : Bool). Some (standing_items flag xs ++ more)) (sym l.1.shut);
-              shown_are = λ busy. absurd (busy l.1);
-              busy = λ e. let clash : true ≡ false = sym e ∙ l.1.shut in absurd (cc);
-              pushed = λ e. let clash : true ≡ false = sym e ∙ l.1.shut in absurd (cc);
-            }
-      ]
-
-  -- what it leaves, and what is asked of the same call made again
+  -- what a call of mm_call's chain leaves
   abbrev pub after_left : {y : History} {new : Standing} {offer request : List ℕ} {result : Result BatchAnswer Refusal}
       → AreAsked all others asked (opt meaning key barrier) y offer (One request)
       → OptLeft meaning key barrier all others asked y new offer request result
@@ -135,9 +74,63 @@ module _ (meaning : Meaning) (key barrier : List ℕ) (all others : List (List �
     stands = l.stands;
     within = l.within;
     comes = l.comes;
-    names = λ content n.
-        names_after meaning key barrier y l.after (One request) content a.within.sound l.within.sound l.alike n;
+    names = λ content n. names_after meaning key barrier y l.after (One request) content a.within.sound l.within.sound l.alike n;
   }
+
+  -- What a call hands on to what comes next: what it leaves; and that behind the items that count then, the register shows at the
+  -- very end what is asked.
+  pub record HandsOn (y : History) (middle new : Standing) (offer request : List ℕ) (result : Result BatchAnswer Refusal)
+      (whole : List Item) : Type 0 where
+    pub left : After all others asked (opt meaning key barrier) y middle offer (One request) result
+    pub closed : left.after.closed ≡ y.closed
+    pub items : List Item
+    pub known : middle.items ≡ Some items
+    pub more : List Item
+    pub ends : Ends left.after new items more
+    pub shown_are : Shown left.after offer request more
+    pub pushed : left.after.is_open ≡ true → (IsIdle (opt meaning key barrier) y offer (One request) → ⊥)
+        × Pushed meaning key barrier all others asked y left.after whole more
+
+  pub hands_on : {old middle : Standing} (new : Standing) {offer request : List ℕ} {result : Result BatchAnswer Refusal} {y : History}
+      (c : CallsOn Opt meaning old middle offer (One request) result) → is_long (One request) ≡ false
+      → GoesOn meaning key barrier all others asked middle new → (items more : List Item) → StandsFor (opt meaning key barrier) old y
+      → old.items ≡ Some items → Ends y new items more → AreAsked all others asked (opt meaning key barrier) y offer (One request)
+      → Shown y offer request more → HandsOn y middle new offer request result more
+  hands_on {old = old} {middle = middle} new {offer = offer} {request = request} {result = result} {y = y} c short on items more s known
+      ends a shown_so =
+      let i : Instance = opt meaning key barrier in
+      elim (unless_idle {A = (IsIdle i y offer (One request) → ⊥) × AreShown all others i y more} i y offer (One request)
+      (λ busy. (busy, shown_so busy))) [
+        | inl it ↦
+            let h = hands meaning key barrier all others asked y old middle new offer request result items more c on s known ends a it.1 in
+            record {
+              left = after_left a h.left;
+              closed = closed_same meaning key barrier y h.left.after (One request) h.left.alike;
+              items = h.items;
+              known = h.known;
+              more = h.more;
+              ends = h.ends;
+              shown_are = λ _. h.shown_are;
+              pushed = λ e. (it.0, h.pushed e);
+            }
+        | inr idle ↦
+            let l = left_idle c s a short idle in
+            let again = idle_again meaning key barrier y l.0.leaves.after offer (One request) l.1 idle in
+            let moves : List Move = DigestMoves meaning key barrier all others asked old middle offer request result c y in
+            let xs : List Item = shown i (digests_of i y) moves items in
+            record {
+              left = l.0.leaves;
+              closed = ap (λ (x : History). x.closed) l.1;
+              items = xs;
+              known = (c.goes key barrier (digests_of i y) (stands_at i old y s)).items
+                  ∙ ap (option_map (shown i (digests_of i y) moves)) known;
+              more = more;
+              ends = ends ∙ ap (λ (flag : Bool). Some (standing_items flag items ++ more)) idle.shut
+                  ∙ ap (λ (flag : Bool). Some (standing_items flag xs ++ more)) (sym again.shut);
+              shown_are = λ busy. absurd (busy again);
+              pushed = λ e. let clash : true ≡ false = sym e ∙ again.shut in absurd (cc);
+            }
+      ]
 
 module _ {meaning : Meaning} {old new : Standing} {offer request : List ℕ} {result : Result BatchAnswer Refusal}
     (call : Call Opt meaning old new offer request result) where
@@ -177,9 +170,9 @@ pub asked_after_fault : {meaning : Meaning} {old middle new : Standing} {offer r
 asked_after_fault {meaning = meaning} {old = old} {middle = middle} {new = new} {first = first} {result = result} is before call key barrier
     y all others asked items more s known ends a shown_so =
     let short = not_long before (λ (e : Err first ≡ Err Long). cc) in
-    let h = hands_on meaning key barrier all others asked new (before.goes short) (goes_on call key barrier all others asked) items more
-    s known ends a shown_so in
-    let x = after_left meaning key barrier all others asked a h.left in
+    let h = hands_on meaning key barrier all others asked new (before.goes short) short (goes_on call key barrier all others asked) items
+    more s known ends a shown_so in
+    let x = h.left in
     ends_again old a result (subst (λ (w : Refusal). Blames (fault_of w) old.faults middle.faults) is before.counts.faults)
     call.counts.faults x
     (left call key barrier x.after all others asked h.items h.more x.stands h.known h.ends

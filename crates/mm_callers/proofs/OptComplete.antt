@@ -3,7 +3,7 @@ use Rattle.mm_callers.proofs.Below.{◌≡◌, ℕ, Bool, true, false, List, [],
 use Rattle.mm_callers.proofs.Below.{AllByRecursion, Contains, Opt, extended_message, StepFault, Standing, quiet_plan, Meaning, Batch, One}
 use Rattle.mm_callers.proofs.Below.{guard, Instance, opt, History, Move, register_value_of, Within}
 use Rattle.mm_callers.proofs.Below.{Digests, digests_of, StandsFor, ask_steps, BatchAnswer, Refusal, Memory}
-use Rattle.mm_callers.proofs.Below.{Device, by_lists, by_digests, Found, found_at, found_unless_wanting, is_fresh, Done, Fate, Course, walk}
+use Rattle.mm_callers.proofs.Below.{Device, by_lists, by_digests, found_at, found_unless_wanting, is_fresh, Done, Fate, Course, walk}
 use Rattle.mm_callers.proofs.Below.{Called, Refuses, called, called_by, given_for, called_with, CallContinues}
 use Rattle.mm_callers.proofs.Below.{counted_part, counted_moves, moves_messages, foreign_in, IsAsked, AreAsked}
 use Rattle.mm_callers.proofs.Below.{asked_by, IsWelcome, AnswersOrLacks, AsksByQuietPlan, AsksInMemory}
@@ -42,18 +42,7 @@ module _ (meaning : Meaning) (key barrier : List ℕ) where
       let fresh : Bool = is_fresh (found_unless_wanting (found_at I (by_digests I) d b offer) lacks) in
       let moves : List Move = (walk still_fates 1 (ask_steps Opt y.is_open fresh b)).moves in
       let k = counts_alone all y b y.is_open fresh c in
-      asked_by I all others asked y moves offer b a k.0 (subst (λ (vs : List (List ℕ)). AllByRecursion (Contains others) vs) (sym k.1) tt)
-
-  -- a call that lacks memory has made its reading steps alone
-  abbrev Lacking : History → Batch → Bool → Type 0
-  Lacking y b flag =
-      let level = by_lists I in
-      let o = called_by level y y b (Err Memory) (walk still_fates 1 (ask_steps Opt flag false b)) in
-      (o.state ≡ y) × (o.ending ≡ Refuses Memory)
-
-  lacking : (y : History) (b : Batch) (flag : Bool) → Lacking y b flag
-  lacking y b true = (refl, refl)
-  lacking y b false = (refl, refl)
+      asked_by I all others asked y moves offer b a k.0 (rw k.1 tt)
 
   answers_or_lacks : (lacks : Bool) (all others : List (List ℕ)) (asked : List Batch) (y : History) (new : Standing) (offer : List ℕ)
       (b : Batch) (again : Bool) (result : Result BatchAnswer Refusal) → IsWelcome I y offer b again
@@ -67,9 +56,8 @@ module _ (meaning : Meaning) (key barrier : List ℕ) where
   answers_or_lacks true all others asked y new offer b again result w k =
       let same : called I (by_lists I) y (still_course true) offer b ≡ called_with I (by_lists I) y y (still_course true) b (Err Memory) =
       simp (welcome_found I y offer b again w) in
-      let l = lacking y b y.is_open in
-      subst (AnswersOrLacks I y new b again) (sym (k.gives ∙ ap (λ (o : Called History). given_for o.ending) same ∙ ap given_for l.1))
-      (refl, subst (λ (z : History). StandsFor I new z) (ap (λ (o : Called History). o.state) same ∙ l.0) k.stands)
+      subst (AnswersOrLacks I y new b again) (sym (k.gives ∙ ap (λ (o : Called History). given_for o.ending) same))
+      (refl, subst (λ (o : Called History). StandsFor I new o.state) same k.stands)
 
 -- the course by a quiet plan
 course_is : (c : Course) → ((n : ℕ) → c.fates n ≡ still_fates n) → c ≡ still_course c.lacks

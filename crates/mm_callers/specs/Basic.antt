@@ -1,7 +1,7 @@
 -- What callers of Basic get, by lists alone.
 use Rattle.std.specs.Prelude.{◌≡◌, ◌≤◌, ℕ, Bool, false, List, [], ◌∷◌, ◌++◌, Option, None, Some, Result, Ok, Err, ◌⊎◌, if◌then◌else◌}
 use Rattle.std.specs.List.{Contains}
-use Rattle.mm_callers.specs.Below.{counted, Standing, StepFault, Batch, One, Meaning, link_message, summary_of, History, Instance, basic}
+use Rattle.mm_callers.specs.Below.{counted, Standing, StepFault, Batch, One, Meaning, History, Commit, moved, Instance, basic, Within, offer_messages, issued}
 use Rattle.mm_callers.specs.Below.{is_long, StandsFor, issued_bytes, BatchAnswer, Refusal, Memory, Long, answer_on, EndsWith, Found}
 use Rattle.mm_callers.specs.Below.{found_at, by_lists, AreAsked, fault_of}
 
@@ -77,14 +77,13 @@ AsksAgain meaning old new offer request result =
     → AreAsked all others asked (basic meaning key) y offer (One request) →
     EndsOnce all others asked (basic meaning key) y old new offer (One request) result
 
--- What is asked besides for a second batch, on the snapshot of the first answer: the messages by
--- which it may follow.
+-- What is asked besides for a second batch, on the snapshot of the first answer: the messages at
+-- the place that this snapshot says, where the first batch is a repeat and where it is new.
 pub record AreAskedNext (all : List (List ℕ)) (asked : List Batch) (i : Instance) (y : History)
     (first second : Batch) : Type 0 where
   pub is_asked : Contains asked second
-  pub after_repeat : Contains all (link_message (summary_of i.meaning.id y.batches) second)
-  pub after_new : Contains all
-      (link_message (summary_of i.meaning.id (y.batches ++ first ∷ [])) second)
+  pub after_repeat : Within (offer_messages i (issued i y).place second) all
+  pub after_new : Within (offer_messages i (issued i (moved i y (Commit first))).place second) all
 
 -- The first request was committed once, and the second follows it in the run that the answer is of.
 pub record AnswersNext (i : Instance) (y : History) (new : Standing) (first second : Batch)

@@ -1,7 +1,7 @@
 -- The words that the definitions of this crate take from the crates below.
 pub use Rattle.mm_base.specs.Faults.{counted}
 pub use Rattle.mm_base.specs.Limits.{last_position}
-pub use Rattle.mm_digest.specs.Messages.{anchored_message, extended_message, extended_of}
+pub use Rattle.mm_digest.specs.Messages.{anchored_message, extended_message}
 pub use Rattle.mm_digest.specs.declared.variant.Variant.{Variant}
 pub use Rattle.mm_digest.specs.declared.variant.Variant.TheVariants.{Basic, Opt}
 pub use Rattle.mm_seal.specs.Snapshot.{Content}
@@ -10,7 +10,7 @@ pub use Rattle.mm_platform.specs.Told.{quiet_plan}
 pub use Rattle.mm_platform.specs.declared.fault.StepFault.{StepFault}
 pub use Rattle.mm_module.specs.Batch.{Batch, One, size_of}
 pub use Rattle.mm_module.specs.Meaning.{Meaning}
-pub use Rattle.mm_model.specs.Chains.{guard, link_message, summary_of}
+pub use Rattle.mm_model.specs.Chains.{after, guard}
 pub use Rattle.mm_model.specs.History.{Commit, History, moved, register_value_of, total_of}
 pub use Rattle.mm_model.specs.HistoryWords.{cell_digest_of}
 pub use Rattle.mm_model.specs.Instance.{Instance}

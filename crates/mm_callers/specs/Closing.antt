@@ -1,8 +1,9 @@
 -- What a caller of Opt gets that closes the segment between a request and the same request once
 -- more, by lists.
-use Rattle.std.specs.Prelude.{◌≡◌, ℕ, true, List, [], ◌∷◌, Option, None, Some, Result, Ok, Err}
-use Rattle.mm_callers.specs.Below.{extended_of, anchored_message, Opt, Item, Standing, item_values, StepFault, Batch, One, Meaning, History}
-use Rattle.mm_callers.specs.Below.{register_value_of, cell_digest_of, Instance, life_of, is_lost, Within, Answer, BatchAnswer, Refusal}
+use Rattle.std.specs.Prelude.{◌≡◌, ℕ, true, List, ◌++◌, Option, None, Some, Result, Ok, Err}
+use Rattle.std.specs.List.{Contains}
+use Rattle.mm_callers.specs.Below.{extended_message, anchored_message, after, Opt, Item, Standing, item_values, StepFault, Batch, One, Meaning, History}
+use Rattle.mm_callers.specs.Below.{register_value_of, cell_digest_of, Instance, life_of, is_lost, Answer, BatchAnswer, Refusal}
 use Rattle.mm_callers.specs.Below.{counted_part, CallsOn, whole, AreShown, IsIdle, fault_of, ChecksOn, CheckpointRefusal, Device, Blank}
 use Rattle.mm_callers.specs.Below.{Cell, Kind, Lost, Checkpointed}
 use Rattle.mm_callers.specs.Basic.{IsOnce, AnswersOnce, finds, SaysFound, Stays, Refuses}
@@ -11,19 +12,13 @@ use Rattle.mm_callers.specs.declared.closing.Replies.{Replies}
 use Rattle.mm_callers.specs.declared.closing.Halted.{Halted}
 use Rattle.mm_callers.specs.declared.closing.Halted.TheVariants.{Asking, Closing}
 
--- The messages by which a segment may be closed at this anchor: with the register's value before
--- each of these values, and after the last of them.
-abbrev pub closing_messages : List ℕ → List ℕ → List (List ℕ) → List (List ℕ)
-closing_messages anchor register [] = anchored_message anchor register ∷ []
-closing_messages anchor register (v ∷ values) =
-    anchored_message anchor register ∷ closing_messages anchor (extended_of register v) values
-
 -- What is asked besides for a checkpoint: the messages by which it may close the segment, at any of
--- these items.
+-- these items, with the register's value behind the first of them.
 abbrev pub MayClose : List (List ℕ) → Instance → History → List Item → Type 0
 MayClose all i y more =
-    Within (closing_messages (cell_digest_of i Opt y) (register_value_of i (counted_part y))
-    (item_values more)) all
+    (first later : List (List ℕ)) → first ++ later ≡ item_values more →
+    Contains all (anchored_message (cell_digest_of i Opt y)
+    (after extended_message (register_value_of i (counted_part y)) first))
 
 -- What is asked of the items that the register shows. Where the first call is idle nothing is: it
 -- leaves no segment open, so there is none to close, and the second call is idle too.

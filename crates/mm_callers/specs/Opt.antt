@@ -2,10 +2,10 @@
 -- register's items at exit.
 use Rattle.std.specs.Prelude.{◌≡◌, ℕ, Bool, true, false, List, [], ◌++◌, Some, Result, Ok, Err}
 use Rattle.std.specs.List.{Contains}
-use Rattle.mm_callers.specs.Below.{extended_message, Item, Standing, quiet_plan, Batch, One, Meaning, guard, History, Commit, moved}
-use Rattle.mm_callers.specs.Below.{register_value_of, Instance, opt, is_long, Within, offer_messages, issued, StandsFor, BatchAnswer}
+use Rattle.mm_callers.specs.Below.{extended_message, Item, Standing, quiet_plan, Batch, One, Meaning, guard, History}
+use Rattle.mm_callers.specs.Below.{register_value_of, Instance, opt, is_long, StandsFor, BatchAnswer}
 use Rattle.mm_callers.specs.Below.{Refusal, Memory, counted_part, IsAnswered, AreAsked, AreShown, IsIdle, standing_items, foreign_items}
-use Rattle.mm_callers.specs.Basic.{EndsOnce, EndsNext, IsOfRun}
+use Rattle.mm_callers.specs.Basic.{AreAskedNext, EndsOnce, EndsNext, IsOfRun}
 use Rattle.mm_callers.specs.Complete.{IsWelcome, batches_then}
 
 -- So it is of each history that the platform stands for, of which what a call needs is asked, and
@@ -30,14 +30,6 @@ AsksOnce meaning old new offer request result =
     OnEach meaning old new offer (One request) (λ all others asked i y more.
     ((IsIdle i y offer (One request) → ⊥) → AreShown all others i y more) →
     EndsOnce all others asked i y old new offer (One request) result)
-
--- What is asked besides for a second batch, on the snapshot of the first answer: the messages at
--- the place that this snapshot says, where the first batch is a repeat and where it is new.
-pub record AreAskedNext (all : List (List ℕ)) (asked : List Batch) (i : Instance) (y : History)
-    (first second : Batch) : Type 0 where
-  pub is_asked : Contains asked second
-  pub after_repeat : Within (offer_messages i (issued i y).place second) all
-  pub after_new : Within (offer_messages i (issued i (moved i y (Commit first))).place second) all
 
 -- two calls, the second on the snapshot of the first answer; inside a segment or across an opening
 abbrev pub AsksTwice : Meaning → Standing → Standing → List ℕ → List ℕ → List ℕ

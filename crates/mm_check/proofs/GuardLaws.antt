@@ -1,31 +1,12 @@
--- The value of a batch, by the digest of its request or of its text.
+-- The values of the batches of a run, and those that others bring: what the loops have gathered of them.
 use Rattle.mm_check.proofs.Below.{◌≡◌, ℕ, zero, suc, ◌+◌, ◌<◌, Bool, true, false, cond, List, [], ◌∷◌, ◌++◌, length, map, take, get_or}
-use Rattle.mm_check.proofs.Below.{Option, None, Some, refl, if◌then◌else◌, sym, ap, ◌∙◌, arith, append-nil, ◌||◌, BTreeSet, flat_map-append}
+use Rattle.mm_check.proofs.Below.{Option, None, Some, refl, sym, ap, ◌∙◌, arith, append-nil, ◌||◌, BTreeSet, flat_map-append}
 use Rattle.mm_check.proofs.Below.{contains, slice_cmp, list_any, option_map, nat_cmp, is_eq, bytes_eq, take_more, map-append}
 use Rattle.mm_check.proofs.Below.{nat_list_eq_equiv, list_any-append, is_eq-slice_cmp, Meddle, CodeEvent, Event, event_of, own_values}
-use Rattle.mm_check.proofs.Below.{Batch, batches_of, asked_batches, first_where, events_of, HasAll, One, Many, normal}
+use Rattle.mm_check.proofs.Below.{Batch, batches_of, asked_batches, first_where, events_of, HasAll}
 use Rattle.mm_check.proofs.ListingLaws.{first_where-push}
-use Rattle.mm_digest.specs.MessagesWords.{secured_of, secured_batch_of}
-use Rattle.mm_module.specs.BatchWords.{has_tab}
 use Rattle.mm_model.specs.Chains.{guard}
-
-pub guard_one : (barrier request : List ℕ) → guard barrier (One request) ≡ secured_of barrier request
-unfolding guard secured_of
-guard_one barrier request = refl
-
-pub guard_many : (barrier text : List ℕ) → guard barrier (Many text) ≡ secured_batch_of barrier text
-unfolding guard secured_batch_of
-guard_many barrier text = refl
-
--- a text with a TAB is several requests
-pub guard_tab : (barrier text : List ℕ) → has_tab text ≡ true → guard barrier (normal (Many text)) ≡ secured_batch_of barrier text
-guard_tab barrier text h = ap (λ (t : Bool). guard barrier (if t then Many text else One text)) h ∙ guard_many barrier text
-
--- a text with no TAB is one request
-pub guard_no_tab : (barrier text : List ℕ) → has_tab text ≡ false → guard barrier (normal (Many text)) ≡ secured_of barrier text
-guard_no_tab barrier text h = ap (λ (t : Bool). guard barrier (if t then Many text else One text)) h ∙ guard_one barrier text
-
-pub ruleset guards = (guard_one, guard_tab, guard_no_tab)
+pub use Rattle.mm_model.proofs.Above.{guards}
 
 -- a value among those that others bring
 pub any_value : (p : List ℕ → Bool) (meddles : List Meddle)

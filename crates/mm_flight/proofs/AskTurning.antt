@@ -1,7 +1,8 @@
 -- Turns of a call of either core: the device step that each makes, and what it comes to.
-use Rattle.mm_flight.proofs.Below.{◌≡◌, ℕ, ◌+◌, Bool, List, [], ◌∷◌, Option, None, Some, Result, Ok, Err, refl, sym, ap, ◌∙◌, subst}
-use Rattle.mm_flight.proofs.Below.{result_err, StepFault, Standing, Act, ReadCell, WriteCell, cell_after, Goes, Meaning, Batch, Cell}
-use Rattle.mm_flight.proofs.Below.{BatchAnswer, Refusal, Ended, Answered, refused_as, fault_of, fault_in, goes_on, StepsTo, acts_at}
+use Rattle.mm_flight.proofs.Below.{◌≡◌, ℕ, List, [], ◌∷◌, None, Some, Result, Ok, Err, refl, sym, ap, ◌∙◌, subst}
+use Rattle.mm_flight.proofs.Below.{StepFault, Standing, Act, Goes, Meaning, Batch, Cell, BatchAnswer, Refusal, Ended, Answered}
+use Rattle.mm_flight.proofs.Below.{refused_as, fault_of, goes_on, StepsTo, acts_at}
+use Rattle.mm_basic.proofs.Above.{turn_goes}
 use Rattle.mm_basic.specs.declared.found.Found.{Found as BasicFound}
 use Rattle.mm_basic.specs.declared.found.Found.TheVariants as basic_found
 use Rattle.mm_basic.specs.declared.call.Turn as basic_turn
@@ -23,6 +24,7 @@ use Rattle.mm_flight.specs.declared.ask.AskCall.{AskCall}
 use Rattle.mm_flight.specs.declared.ask.AskCall.TheVariants.{Basic, Opt}
 use Rattle.mm_flight.specs.declared.ask.AskTurn.{AskTurn}
 use Rattle.mm_flight.specs.declared.ask.AskTurn.TheVariants.{Going, Done, Refused}
+use Rattle.mm_flight.proofs.Replanning.{GoesTo, goes_to}
 use Rattle.mm_flight.specs.Asks.{ask_number, of_basic, of_opt, ask_fault, AskTurns, AskFinishes}
 
 -- the device step that comes next
@@ -40,15 +42,6 @@ pub opt_fault : (core : opt_turn.Turn) → fault_turned core ≡ ask_fault (of_o
 opt_fault (in_opt.Going on) = refl
 opt_fault _ = refl
 
-read_fault : (found : Result BasicFound Refusal) → fault_in found ≡ basic_turns.turn_fault (basic_turns.turn_of found)
-read_fault (Err why) = refl
-read_fault (Ok (basic_found.Repeat answer)) = refl
-read_fault _ = refl
-
-write_fault : (written : Result BatchAnswer StepFault) → result_err written ≡ basic_turns.turn_fault (basic_turns.last_turn written)
-write_fault (Ok answer) = refl
-write_fault (Err fault) = refl
-
 -- A turn makes the device step that comes next, and room behind it.
 pub record Acts (call : AskCall) (old new : Standing) (turn : AskTurn) : Type 0 where
   pub middle : Standing
@@ -63,18 +56,10 @@ ComesBy goes ends (Refused why) = fault_of why ≡ None → ends (refused_as why
 
 module _ (meaning : Meaning) (offer : List ℕ) (b : Batch) where
   pub acts : (call : AskCall) (old new : Standing) (turn : AskTurn) → AskTurns meaning call old new offer b turn → Acts call old new turn
-  acts (Basic None) old new turn t = record {
+  acts (Basic ready) old new turn t = record {
     middle = new;
-    goes = subst (Goes ReadCell old new)
-        (read_fault t.turns.found ∙ ap basic_turns.turn_fault (sym t.turns.gives) ∙ basic_fault t.core ∙ ap ask_fault (sym t.gives))
-        t.turns.reads.goes;
-    room = refl;
-  }
-  acts (Basic (Some ready)) old new turn t = record {
-    middle = new;
-    goes = subst (Goes (WriteCell ready.next) old new)
-        (write_fault t.turns.written ∙ ap basic_turns.turn_fault (sym t.turns.gives) ∙ basic_fault t.core ∙ ap ask_fault (sym t.gives))
-        t.turns.writes.goes;
+    goes = subst (Goes (basic_steps.act_of ready) old new) (basic_fault t.core ∙ ap ask_fault (sym t.gives))
+        (turn_goes meaning ready old new offer b t.core t.turns);
     room = refl;
   }
   acts (Opt stage) old new turn t =
@@ -85,117 +70,80 @@ module _ (meaning : Meaning) (offer : List ℕ) (b : Batch) where
         room = a.room;
       }
 
-  -- A turn that goes on makes a step that writes no cell, and the next is that of the next number; whatever ends what is left
-  -- behind it ends what was left before.
-  pub record GoesTo (call : AskCall) (old new : Standing) (next : AskCall) : Type 0 where
-    pub counts : ask_number next ≡ ask_number call + 1
-    pub keeps : (made : Bool) (cell : Option (List ℕ)) → cell_after (ask_act call) made cell ≡ cell
-    pub joins : (end : Standing) (ended : Ended) → AskFinishes meaning next new end offer b ended
-        → AskFinishes meaning call old end offer b ended
+  abbrev pub Finishes : AskCall → Standing → Standing → Ended → Type 0
+  Finishes call old new ended = AskFinishes meaning call old new offer b ended
 
   abbrev pub Comes : AskCall → Standing → Standing → AskTurn → Type 0
-  Comes call old new turn = ComesBy (GoesTo call old new) (AskFinishes meaning call old new offer b) turn
+  Comes call old new turn = ComesBy (GoesTo ask_number ask_act Finishes call old new) (Finishes call old new) turn
 
   -- Basic
 
-  basic_read : (old new : Standing) (found : Result BasicFound Refusal) → basic_steps.Reads meaning old new offer b found
+  basic_read : {old new : Standing} (found : Result BasicFound Refusal) → basic_steps.Reads meaning old new offer b found
       → Comes (Basic None) old new (of_basic (basic_turns.turn_of found))
-  basic_read old new (Err why) r = λ none. record { middle = new; found = Err why; reads = r; ends = (refl, refl) }
-  basic_read old new (Ok (basic_found.Repeat answer)) r =
+  basic_read {new = new} (Err why) r = λ none. record { middle = new; found = Err why; reads = r; ends = (refl, refl) }
+  basic_read {new = new} (Ok (basic_found.Repeat answer)) r =
       record { middle = new; found = Ok (basic_found.Repeat answer); reads = r; ends = (refl, refl) }
-  basic_read old new (Ok (basic_found.Change ready)) r = record {
-    counts = refl;
-    keeps = λ made cell. refl;
-    joins = λ end ended f. record { middle = new; found = Ok (basic_found.Change ready); reads = r; ends = f };
-  }
+  basic_read {new = new} (Ok (basic_found.Change ready)) r =
+      goes_to refl (λ made cell. refl)
+      (λ end ended f. record { middle = new; found = Ok (basic_found.Change ready); reads = r; ends = f })
 
-  basic_wrote : (ready : Ready) (old new : Standing) (written : Result BatchAnswer StepFault) → basic_steps.Writes ready old new written
+  basic_wrote : {ready : Ready} {old new : Standing} (written : Result BatchAnswer StepFault) → basic_steps.Writes ready old new written
       → Comes (Basic (Some ready)) old new (of_basic (basic_turns.last_turn written))
-  basic_wrote ready old new (Ok answer) w = goes_on new w.goes (refl, ap Answered w.gives)
-  basic_wrote ready old new (Err fault) w = λ (none : Some fault ≡ None). absurd (cc)
+  basic_wrote {new = new} (Ok answer) w = goes_on new w.goes (refl, ap Answered w.gives)
+  basic_wrote (Err fault) w = λ (none : Some fault ≡ None). absurd (cc)
 
   -- Opt
 
-  seen : (old new : Standing) (cell : Result Cell Refusal) → ReadsOwnCell meaning.id old new cell
+  seen : {old new : Standing} (cell : Result Cell Refusal) → ReadsOwnCell meaning.id old new cell
       → Comes (Opt stage.Begun) old new (of_opt (seen_turn cell))
-  seen old new (Err why) r = λ none. record {
+  seen {new = new} (Err why) r = λ none. record {
     middle = new;
     found = Err why;
     reads = record { middle = new; cell = Err why; reads = r; on = (refl, refl) };
     ends = (refl, refl);
   }
-  seen old new (Ok cell) r = record {
-    counts = refl;
-    keeps = λ made cell. refl;
-    joins = λ end ended f. record {
-      middle = f.middle;
-      found = f.found;
-      reads = record { middle = new; cell = Ok cell; reads = r; on = f.reads };
-      ends = f.ends;
-    };
-  }
+  seen {new = new} (Ok cell) r =
+      goes_to refl (λ made cell. refl) (λ end ended f. record {
+        middle = f.middle;
+        found = f.found;
+        reads = record { middle = new; cell = Ok cell; reads = r; on = f.reads };
+        ends = f.ends;
+      })
 
-  found : (cell : Cell) (old new : Standing) (it : Result Found Refusal) → ReadsRegister meaning cell old new offer b it
+  found : {cell : Cell} {old new : Standing} (it : Result Found Refusal) → ReadsRegister meaning cell old new offer b it
       → Comes (Opt (stage.Seen cell)) old new (of_opt (found_turn it))
-  found cell old new (Err why) r = λ none. record { middle = new; found = Err why; reads = r; ends = (refl, refl) }
-  found cell old new (Ok (Repeat answer)) r = record { middle = new; found = Ok (Repeat answer); reads = r; ends = (refl, refl) }
-  found cell old new (Ok (Inside ready)) r = record {
-    counts = refl;
-    keeps = λ made cell. refl;
-    joins = λ end ended f. record { middle = new; found = Ok (Inside ready); reads = r; ends = f };
-  }
-  found cell old new (Ok (Opens opening)) r = record {
-    counts = refl;
-    keeps = λ made cell. refl;
-    joins = λ end ended f. record { middle = new; found = Ok (Opens opening); reads = r; ends = f };
-  }
+  found {new = new} (Err why) r = λ none. record { middle = new; found = Err why; reads = r; ends = (refl, refl) }
+  found {new = new} (Ok (Repeat answer)) r = record { middle = new; found = Ok (Repeat answer); reads = r; ends = (refl, refl) }
+  found {new = new} (Ok (Inside ready)) r =
+      goes_to refl (λ made cell. refl) (λ end ended f. record { middle = new; found = Ok (Inside ready); reads = r; ends = f })
+  found {new = new} (Ok (Opens opening)) r =
+      goes_to refl (λ made cell. refl) (λ end ended f. record { middle = new; found = Ok (Opens opening); reads = r; ends = f })
 
-  emptied : (opening : Opening) (old new : Standing) (it : Result Opening StepFault) → Empties opening old new it
+  emptied : {opening : Opening} {old new : Standing} (it : Result Opening StepFault) → Empties opening old new it
       → Comes (Opt (stage.Changing (change.Emptying opening))) old new (of_opt (emptied_turn it))
-  emptied opening old new (Err fault) m = λ (none : Some fault ≡ None). absurd (cc)
-  emptied opening old new (Ok it) m = record {
-    counts = refl;
-    keeps = λ made cell. refl;
-    joins = λ end ended f. goes_on new m.goes
-        (subst (λ (o : Opening). AskFinishes meaning (Opt (stage.Changing (change.Placing o))) new end offer b ended) m.gives f);
-  }
+  emptied (Err fault) m = λ (none : Some fault ≡ None). absurd (cc)
+  emptied {new = new} (Ok it) m = goes_to refl (λ made cell. refl) (λ end ended f. goes_on new m.goes (rw m.gives at f))
 
-  placed : (opening : Opening) (old new : Standing) (it : Result Opening StepFault) → Places opening old new it
+  placed : {opening : Opening} {old new : Standing} (it : Result Opening StepFault) → Places opening old new it
       → Comes (Opt (stage.Changing (change.Placing opening))) old new (of_opt (placed_turn it))
-  placed opening old new (Err fault) m = λ (none : Some fault ≡ None). absurd (cc)
-  placed opening old new (Ok it) m = record {
-    counts = refl;
-    keeps = λ made cell. refl;
-    joins = λ end ended f. goes_on new m.goes
-        (subst (λ (o : Opening). AskFinishes meaning (Opt (stage.Changing (change.Writing o))) new end offer b ended) m.gives f);
-  }
+  placed (Err fault) m = λ (none : Some fault ≡ None). absurd (cc)
+  placed {new = new} (Ok it) m = goes_to refl (λ made cell. refl) (λ end ended f. goes_on new m.goes (rw m.gives at f))
 
   last : (goes : AskCall → Type 0) {act : Act} {answer : BatchAnswer} {old new : Standing} (written : Result BatchAnswer StepFault)
       → Makes act answer old new written → ComesBy goes (StepsTo (act ∷ []) answer old new) (of_opt (last_turn written))
   last goes {new = new} (Ok it) m = goes_on new m.goes (refl, ap Answered m.gives)
   last goes (Err fault) m = λ (none : Some fault ≡ None). absurd (cc)
 
-  on_core : (call : Stage) (old new : Standing) {core given : opt_turn.Turn} → core ≡ given → Comes (Opt call) old new (of_opt given)
-      → Comes (Opt call) old new (of_opt core)
-  on_core call old new e = subst (λ (x : opt_turn.Turn). Comes (Opt call) old new (of_opt x)) (sym e)
-
   opt_came : (call : Stage) (old new : Standing) (core : opt_turn.Turn) → Turns meaning call old new offer b core
       → Comes (Opt call) old new (of_opt core)
-  opt_came stage.Begun old new core t = on_core stage.Begun old new t.gives (seen old new t.outcome t.step)
-  opt_came (stage.Seen cell) old new core t = on_core (stage.Seen cell) old new t.gives (found cell old new t.outcome t.step)
-  opt_came (stage.Changing (change.Emptying opening)) old new core t =
-      on_core (stage.Changing (change.Emptying opening)) old new t.gives (emptied opening old new t.outcome t.step)
-  opt_came (stage.Changing (change.Placing opening)) old new core t =
-      on_core (stage.Changing (change.Placing opening)) old new t.gives (placed opening old new t.outcome t.step)
-  opt_came (stage.Changing (change.Inside ready)) old new core t =
-      on_core (stage.Changing (change.Inside ready)) old new t.gives (last _ t.outcome t.step)
-  opt_came (stage.Changing (change.Writing opening)) old new core t =
-      on_core (stage.Changing (change.Writing opening)) old new t.gives (last _ t.outcome t.step)
+  opt_came stage.Begun old new core t = rw t.gives (seen t.outcome t.step)
+  opt_came (stage.Seen cell) old new core t = rw t.gives (found t.outcome t.step)
+  opt_came (stage.Changing (change.Emptying opening)) old new core t = rw t.gives (emptied t.outcome t.step)
+  opt_came (stage.Changing (change.Placing opening)) old new core t = rw t.gives (placed t.outcome t.step)
+  opt_came (stage.Changing (change.Inside ready)) old new core t = rw t.gives (last _ t.outcome t.step)
+  opt_came (stage.Changing (change.Writing opening)) old new core t = rw t.gives (last _ t.outcome t.step)
 
   pub came : (call : AskCall) (old new : Standing) (turn : AskTurn) → AskTurns meaning call old new offer b turn → Comes call old new turn
-  came (Basic None) old new turn t =
-      subst (Comes (Basic None) old new) (sym (t.gives ∙ ap of_basic t.turns.gives)) (basic_read old new t.turns.found t.turns.reads)
-  came (Basic (Some ready)) old new turn t =
-      subst (Comes (Basic (Some ready)) old new) (sym (t.gives ∙ ap of_basic t.turns.gives))
-      (basic_wrote ready old new t.turns.written t.turns.writes)
-  came (Opt stage) old new turn t = subst (Comes (Opt stage) old new) (sym t.gives) (opt_came stage old new t.core t.turns)
+  came (Basic None) old new turn t = rw (t.gives ∙ ap of_basic t.turns.gives) (basic_read t.turns.found t.turns.reads)
+  came (Basic (Some ready)) old new turn t = rw (t.gives ∙ ap of_basic t.turns.gives) (basic_wrote t.turns.written t.turns.writes)
+  came (Opt stage) old new turn t = rw t.gives (opt_came stage old new t.core t.turns)

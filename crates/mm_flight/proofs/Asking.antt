@@ -1,11 +1,10 @@
 -- A call of either core, a turn at a time: under another plan, what is left behind a turn, and its end; and what its code says.
-use Rattle.mm_flight.proofs.Below.{◌≡◌, ℕ, ◌≤◌, true, List, [], ◌∷◌, Option, None, Some, Result, Ok, Err, refl, sym, ap, ◌∙◌, subst, arith}
+use Rattle.mm_flight.proofs.Below.{◌≡◌, ℕ, ◌≤◌, true, List, Option, None, Some, Result, Ok, Err, refl, sym, ap, subst, arith}
 use Rattle.mm_flight.proofs.Below.{result_err, option_map, counted, StepFault, Meddle, Quiet, Plan, Standing, stopping, Act, ReadCell}
-use Rattle.mm_flight.proofs.Below.{WriteCell, ReadRegister, ResetRegister, ExtendRegister, Goes, Meaning, Batch, Cell, BatchAnswer, Refusal}
-use Rattle.mm_flight.proofs.Below.{Device, Ended, Answered, Broken, CallsTo, refused_as, is_broken, fault_of, fault_in, Ready, StepsTo}
-use Rattle.mm_flight.proofs.Below.{EndsTo, goes_on, breaks_off, plan_by, under, Found, Inside, Opens}
-use Rattle.mm_flight.proofs.Below.{Makes, MakesRoom, ReadsOn, opt_call, Turn}
-use Rattle.mm_call.specs.Calls.{CallOf}
+use Rattle.mm_flight.proofs.Below.{WriteCell, ReadRegister, Goes, Meaning, Batch, Cell, BatchAnswer, Refusal, Device, Ended, Answered}
+use Rattle.mm_flight.proofs.Below.{Broken, CallsTo, refused_as, is_broken, fault_of, fault_in, Ready, EndsTo, goes_on, breaks_off, plan_by}
+use Rattle.mm_flight.proofs.Below.{under, Found, Inside, Opens, Makes, MakesRoom, ReadsOn, opt_call, Turn}
+use Rattle.mm_call.specs.Calls.{CallOf, StepTo}
 use Rattle.mm_call.specs.Ended.{result_of}
 use Rattle.mm_call.specs.Leaving.{Blames}
 use Rattle.mm_digest.specs.declared.variant.Variant.{Variant}
@@ -28,8 +27,9 @@ use Rattle.mm_flight.specs.declared.ask.AskCall.{AskCall}
 use Rattle.mm_flight.specs.declared.ask.AskCall.TheVariants.{Basic, Opt}
 use Rattle.mm_flight.specs.declared.ask.AskTurn.{AskTurn}
 use Rattle.mm_flight.specs.declared.ask.AskTurn.TheVariants.{Going, Done, Refused}
-use Rattle.mm_flight.specs.Asks.{begun, ask_number, of_basic, of_opt, AskTurns, MayAsk, TurnMayAsk, ask_fault, AdvancedAsk, AskFinishes, FinishedAsk}
-use Rattle.mm_flight.proofs.Replanning.{Replans, replanned, Moves, quiet_step, AlwaysFails, broken_by}
+use Rattle.mm_flight.specs.Asks.{begun, ask_number, of_basic, of_opt, AskTurns, MayAsk, TurnMayAsk, ask_fault, AdvancedAsk, AskFinishes}
+use Rattle.mm_flight.specs.Asks.{FinishedAsk}
+use Rattle.mm_flight.proofs.Replanning.{Replans, replanned, Moves, moves_by, quiet_step, AlwaysFails, broken_by}
 use Rattle.mm_flight.proofs.AskTurning.{ask_act, basic_fault, opt_fault, acts, came}
 
 -- under another plan that says the same of the step
@@ -40,14 +40,15 @@ room_under (Ok (Inside ready)) middle new p at r = record { room = r.room; same 
 room_under (Ok (Opens opening)) middle new p at r = record { room = r.room; same = ap (under p at) r.same }
 room_under _ middle new p at r = ap (under p at) r
 
+with_step : {A : Type 0} {steps other : A → Type 0} {given : A → Turn} {turn : Turn} (t : TurnsBy steps given turn) → other t.outcome
+    → TurnsBy other given turn
+with_step t step = record { outcome = t.outcome; step = step; gives = t.gives }
+
 changes_under : {A : Type 0} {act : Act} {it : A} {given : Result A StepFault → Turn} {old new : Standing} {turn : Turn} (p q : Plan)
     (made : ℕ) → Replans p q made old → TurnsBy (Makes act it old new) given turn
     → TurnsBy (Makes act it (under p made old) (under p (counted made) new)) given turn
-changes_under {act = act} {old = old} {new = new} p q made r t = record {
-  outcome = t.outcome;
-  step = record { goes = replanned act p q made old new (result_err t.outcome) r t.step.goes; gives = t.step.gives };
-  gives = t.gives;
-}
+changes_under {act = act} {old = old} {new = new} p q made r t =
+    with_step t (record { goes = replanned act p q made old new (result_err t.outcome) r t.step.goes; gives = t.step.gives })
 
 basic_under : (ready : Option Ready) (meaning : Meaning) (old new : Standing) (offer : List ℕ) (b : Batch) (core : basic_turn.Turn)
     (p q : Plan) (made : ℕ) → Replans p q made old → basic_turns.Turns meaning ready old new offer b core
@@ -72,24 +73,16 @@ basic_under (Some ready) meaning old new offer b core p q made r t = record {
 opt_under : (stage : Stage) (meaning : Meaning) (old new : Standing) (offer : List ℕ) (b : Batch) (core : Turn) (p q : Plan) (made : ℕ)
     → Replans p q made old → Turns meaning stage old new offer b core
     → Turns meaning stage (under p made old) (under p (counted made) new) offer b core
-opt_under stage.Begun meaning old new offer b core p q made r t = record {
-  outcome = t.outcome;
-  step = record {
-    goes = replanned ReadCell p q made old new (fault_in t.outcome) r t.step.goes;
-    finds = λ none. let f = t.step.finds none in record { bytes = f.bytes; told = f.told; sees = f.sees };
-  };
-  gives = t.gives;
-}
-opt_under (stage.Seen cell) meaning old new offer b core p q made r t = record {
-  outcome = t.outcome;
-  step = record {
-    middle = under p (counted made) t.step.middle;
-    goes = replanned ReadRegister p q made old t.step.middle (fault_in t.outcome) r t.step.goes;
-    finds = λ none. let f = t.step.finds none in record { register = f.register; told = f.told; size = f.size; finds = f.finds };
-    room = room_under t.outcome t.step.middle new p (counted made) t.step.room;
-  };
-  gives = t.gives;
-}
+opt_under stage.Begun meaning old new offer b core p q made r t = with_step t (record {
+  goes = replanned ReadCell p q made old new (fault_in t.outcome) r t.step.goes;
+  finds = λ none. let f = t.step.finds none in record { bytes = f.bytes; told = f.told; sees = f.sees };
+})
+opt_under (stage.Seen cell) meaning old new offer b core p q made r t = with_step t (record {
+  middle = under p (counted made) t.step.middle;
+  goes = replanned ReadRegister p q made old t.step.middle (fault_in t.outcome) r t.step.goes;
+  finds = λ none. let f = t.step.finds none in record { register = f.register; told = f.told; size = f.size; finds = f.finds };
+  room = room_under t.outcome t.step.middle new p (counted made) t.step.room;
+})
 opt_under (stage.Changing (change.Inside ready)) meaning old new offer b core p q made r t = changes_under p q made r t
 opt_under (stage.Changing _) meaning old new offer b core p q made r t = changes_under p q made r t
 
@@ -111,16 +104,7 @@ ask_replanned (Opt stage) meaning old new offer b turn p q made r t = record {
 pub ask_moves : (call : AskCall) (meaning : Meaning) (old new : Standing) (offer : List ℕ) (b : Batch) (next : AskCall)
     → AskTurns meaning call old new offer b (Going next) → Moves old new (ask_number call) (ask_number next)
 ask_moves call meaning old new offer b next t =
-    let a = acts meaning offer b call old new (Going next) t in
-    let c = came meaning offer b call old new (Going next) t in
-    record {
-      act = ask_act call;
-      middle = a.middle;
-      goes = a.goes;
-      room = a.room;
-      keeps = a.goes.cell ∙ c.keeps a.goes.is_made old.cell;
-      counts = c.counts;
-    }
+    let a = acts meaning offer b call old new (Going next) t in moves_by a.goes a.room (came meaning offer b call old new (Going next) t)
 
 pub ask_then : (call : AskCall) (meaning : Meaning) (old mid new : Standing) (offer : List ℕ) (b : Batch) (next : AskCall)
     (ended : Ended) → AskTurns meaning call old mid offer b (Going next)
@@ -193,37 +177,29 @@ reads_break : {F : Type 0} (c : CallOf F) (act : Act) (found : Result F Refusal)
 reads_break c act (Err why) old mid next new ended fails g e = broken_by (fault_of why) why ended (fails act mid (fault_of why) g) e.1
 reads_break c act (Ok found) old mid next new ended fails g e = absurd (fails act mid None g refl)
 
-sees_break : (cell : Result Cell Refusal) (found : Result Found Refusal) (meaning : Meaning) (old mid next new : Standing)
-    (offer : List ℕ) (b : Batch) (ended : Ended) → AlwaysFails old → Goes ReadCell old mid (fault_in cell)
+sees_break : (meaning : Meaning) (offer : List ℕ) (b : Batch) (cell : Result Cell Refusal) (found : Result Found Refusal)
+    (old mid next new : Standing) (ended : Ended) → AlwaysFails old → Goes ReadCell old mid (fault_in cell)
     → ReadsOn meaning cell mid next offer b found → EndsTo opt_call found next new ended → is_broken ended ≡ true
-sees_break (Err why) found meaning old mid next new offer b ended fails g on e =
-    reads_break opt_call ReadCell (Err why) old mid next new ended fails g
-    (subst (λ (x : Result Found Refusal). EndsTo opt_call x next new ended) on.1 e)
-sees_break (Ok cell) found meaning old mid next new offer b ended fails g on e = absurd (fails ReadCell mid None g refl)
+sees_break meaning offer b (Err why) found old mid next new ended fails g on e =
+    reads_break opt_call ReadCell (Err why) old mid next new ended fails g (rw on.1 at e)
+sees_break meaning offer b (Ok cell) found old mid next new ended fails g on e = absurd (fails ReadCell mid None g refl)
 
-changes_break : (act : Act) (acts : List Act) (answer : BatchAnswer) (old new : Standing) (ended : Ended) → AlwaysFails old
-    → StepsTo (act ∷ acts) answer old new ended → is_broken ended ≡ true
-changes_break act acts answer old new ended fails (goes_on mid g s) = absurd (fails act mid None g refl)
-changes_break act acts answer old new ended fails (breaks_off fault g e) = ap is_broken e
+changes_break : {act : Act} {commits : Option ℕ} {rest : Standing → Type 0} {old new : Standing} {ended : Ended} → AlwaysFails old
+    → StepTo act commits rest old new ended → is_broken ended ≡ true
+changes_break {act = act} fails (goes_on mid g s) = absurd (fails act mid None g refl)
+changes_break fails (breaks_off fault g e) = ap is_broken e
 
 pub ask_breaks : (call : AskCall) (meaning : Meaning) (old new : Standing) (offer : List ℕ) (b : Batch) (ended : Ended)
     → AlwaysFails old → AskFinishes meaning call old new offer b ended → is_broken ended ≡ true
 ask_breaks (Basic None) meaning old new offer b ended fails f =
     reads_break basic_call ReadCell f.found old f.middle f.middle new ended fails f.reads.goes f.ends
-ask_breaks (Basic (Some ready)) meaning old new offer b ended fails f =
-    changes_break (WriteCell ready.next) [] ready.answer old new ended fails f
+ask_breaks (Basic (Some ready)) meaning old new offer b ended fails f = changes_break fails f
 ask_breaks (Opt stage.Begun) meaning old new offer b ended fails f =
-    sees_break f.reads.cell f.found meaning old f.reads.middle f.middle new offer b ended fails f.reads.reads.goes f.reads.on f.ends
+    sees_break meaning offer b f.reads.cell f.found old f.reads.middle f.middle new ended fails f.reads.reads.goes f.reads.on f.ends
 ask_breaks (Opt (stage.Seen cell)) meaning old new offer b ended fails f =
     reads_break opt_call ReadRegister f.found old f.reads.middle f.middle new ended fails f.reads.goes f.ends
-ask_breaks (Opt (stage.Changing (change.Inside ready))) meaning old new offer b ended fails f =
-    changes_break (ExtendRegister ready.value.bytes) [] ready.answer old new ended fails f
-ask_breaks (Opt (stage.Changing (change.Emptying opening))) meaning old new offer b ended fails f =
-    changes_break ResetRegister (ExtendRegister opening.value.bytes ∷ WriteCell opening.next ∷ []) opening.answer old new ended fails f
-ask_breaks (Opt (stage.Changing (change.Placing opening))) meaning old new offer b ended fails f =
-    changes_break (ExtendRegister opening.value.bytes) (WriteCell opening.next ∷ []) opening.answer old new ended fails f
-ask_breaks (Opt (stage.Changing (change.Writing opening))) meaning old new offer b ended fails f =
-    changes_break (WriteCell opening.next) [] opening.answer old new ended fails f
+ask_breaks (Opt (stage.Changing (change.Inside ready))) meaning old new offer b ended fails f = changes_break fails f
+ask_breaks (Opt (stage.Changing _)) meaning old new offer b ended fails f = changes_break fails f
 
 -- from its beginning
 pub ask_begun : (variant : Variant) (meaning : Meaning) (old new : Standing) (offer : List ℕ) (b : Batch) (ended : Ended)
@@ -244,35 +220,30 @@ opt_room _ new room = tt
 pub basic_advanced : (meaning : Meaning) (ready : Option Ready) (call : AskCall) (old new : Standing) (offer : List ℕ) (b : Batch)
     (core : basic_turn.Turn) (turn : AskTurn) → call ≡ Basic ready
     → AdvancedInBasic meaning ready old new offer b core → turn ≡ of_basic core → AdvancedAsk meaning call old new offer b turn
-basic_advanced meaning ready call old new offer b core turn is a gives =
-    subst (λ (x : AskCall). AdvancedAsk meaning x old new offer b turn) (sym is)
-    (subst (AdvancedAsk meaning (Basic ready) old new offer b) (sym gives) (record {
-      turns = record { core = core; turns = a.turns; gives = refl };
-      room = basic_room core new;
-      faults = subst (λ (f : Option StepFault). Blames f old.faults new.faults) (basic_fault core) a.faults;
-    }))
+basic_advanced meaning ready call old new offer b core turn is a gives = rw (is, gives) (record {
+  turns = record { core = core; turns = a.turns; gives = refl };
+  room = basic_room core new;
+  faults = subst (λ (f : Option StepFault). Blames f old.faults new.faults) (basic_fault core) a.faults;
+})
 
 pub opt_advanced : (meaning : Meaning) (stage : Stage) (call : AskCall) (old new : Standing) (offer : List ℕ) (b : Batch)
     (core : Turn) (turn : AskTurn) → call ≡ Opt stage
     → AdvancedInOpt meaning stage old new offer b core → turn ≡ of_opt core → AdvancedAsk meaning call old new offer b turn
-opt_advanced meaning stage call old new offer b core turn is a gives =
-    subst (λ (x : AskCall). AdvancedAsk meaning x old new offer b turn) (sym is)
-    (subst (AdvancedAsk meaning (Opt stage) old new offer b) (sym gives) (record {
-      turns = record { core = core; turns = a.turns; gives = refl };
-      room = opt_room core new a.room;
-      faults = subst (λ (f : Option StepFault). Blames f old.faults new.faults) (opt_fault core) a.faults;
-    }))
+opt_advanced meaning stage call old new offer b core turn is a gives = rw (is, gives) (record {
+  turns = record { core = core; turns = a.turns; gives = refl };
+  room = opt_room core new a.room;
+  faults = subst (λ (f : Option StepFault). Blames f old.faults new.faults) (opt_fault core) a.faults;
+})
 
 pub finished : (meaning : Meaning) (x call : AskCall) (old new : Standing) (offer : List ℕ) (b : Batch) (ended : Ended) → call ≡ x
     → AskFinishes meaning x old new offer b ended → Blames (fault_in (result_of ended)) old.faults new.faults
     → FinishedAsk meaning call old new offer b ended
-finished meaning x call old new offer b ended is f faults =
-    subst (λ (c : AskCall). FinishedAsk meaning c old new offer b ended) (sym is) (record {
-      finishes = f;
-      ends = λ variant first. ask_begun variant meaning old new offer b ended
-          (subst (λ (c : AskCall). AskFinishes meaning c old new offer b ended) first f);
-      faults = faults;
-    })
+finished meaning x call old new offer b ended is f faults = rw is (record {
+  finishes = f;
+  ends = λ variant first. ask_begun variant meaning old new offer b ended
+      (subst (λ (c : AskCall). AskFinishes meaning c old new offer b ended) first f);
+  faults = faults;
+})
 
 pub few_steps : (call : AskCall) → ask_number call ≤ 5
 few_steps (Basic None) = omega arith
@@ -281,8 +252,8 @@ few_steps _ = omega arith
 
 -- a call that was just begun takes no room
 pub begun_may_ask : (variant : Variant) (call : AskCall) (standing : Standing) → call ≡ begun variant → MayAsk call standing
-begun_may_ask variant.Basic call standing e = subst (λ (x : AskCall). MayAsk x standing) (sym e) tt
-begun_may_ask variant.Opt call standing e = subst (λ (x : AskCall). MayAsk x standing) (sym e) tt
+begun_may_ask variant.Basic call standing e = rw e tt
+begun_may_ask variant.Opt call standing e = rw e tt
 
 -- the room of a call doesn't hang on the plan
 pub may_ask_planned : (call : AskCall) (now : Standing) (plan : Option Plan) → MayAsk call now → MayAsk call (record now { plan = plan })

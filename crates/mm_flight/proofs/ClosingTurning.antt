@@ -1,7 +1,6 @@
 -- Turns of a checkpoint: under another plan, what is left behind them, its end, and a step that fails.
-use Rattle.mm_flight.proofs.Below.{◌≡◌, ℕ, ◌+◌, sym, Bool, true, List, Option, None, Some, Result, Ok, Err, refl, ◌∙◌, subst, result_err}
-use Rattle.mm_flight.proofs.Below.{counted, StepFault, Meddle, Quiet, Plan, Standing, ReadCell, WriteCell, ReadRegister, cell_after, Goes}
-use Rattle.mm_flight.proofs.Below.{Cell, closing_acts_at, plan_by, under}
+use Rattle.mm_flight.proofs.Below.{◌≡◌, ℕ, true, List, None, Some, Result, Ok, Err, refl, result_err, counted, StepFault, Meddle, Quiet}
+use Rattle.mm_flight.proofs.Below.{Plan, Standing, ReadCell, WriteCell, ReadRegister, Goes, Cell, closing_acts_at, plan_by, under}
 use Rattle.mm_opt.specs.declared.segment.Checkpointed.{Checkpointed}
 use Rattle.mm_opt.specs.declared.segment.CheckpointRefusal.{CheckpointRefusal}
 use Rattle.mm_opt.specs.declared.segment.CheckpointRefusal.TheVariants.{Device}
@@ -12,91 +11,62 @@ use Rattle.mm_opt.specs.declared.stage.CheckpointStage.TheVariants as stage
 use Rattle.mm_opt.specs.declared.closing.CheckpointTurn.{CheckpointTurn}
 use Rattle.mm_opt.specs.declared.closing.CheckpointTurn.TheVariants.{Going, Done, Refused}
 use Rattle.mm_opt.specs.Checkpoints.{closing_act_of, closing_number_of, closing_fault_in, Looks, Weighs, Closes, FinishesClosing}
-use Rattle.mm_opt.specs.CheckpointTurns.{looked_turn, weighed_turn, closed_turn, ClosingTurns, closing_fault_turned}
-use Rattle.mm_flight.proofs.Replanning.{Replans, replanned, Moves, quiet_step}
+use Rattle.mm_opt.specs.CheckpointTurns.{looked_turn, weighed_turn, closed_turn, TurnsClosingBy, ClosingTurns, closing_fault_turned}
+use Rattle.mm_flight.proofs.Replanning.{Replans, replanned, Moves, GoesTo, goes_to, moves_by, quiet_step}
 
 -- under another plan that says the same of the step
 
+with_step : {A : Type 0} {steps other : A → Type 0} {given : A → CheckpointTurn} {turn : CheckpointTurn}
+    (t : TurnsClosingBy steps given turn) → other t.outcome → TurnsClosingBy other given turn
+with_step t step = record { outcome = t.outcome; step = step; gives = t.gives }
+
 pub closing_replanned : (call : CheckpointStage) (old new : Standing) (turn : CheckpointTurn) (p q : Plan) (made : ℕ) → Replans p q made old
     → ClosingTurns call old new turn → ClosingTurns call (under p made old) (under p (counted made) new) turn
-closing_replanned stage.Begun old new turn p q made r t = record {
-  outcome = t.outcome;
-  step = record {
-    goes = replanned ReadCell p q made old new (closing_fault_in t.outcome) r t.step.goes;
-    finds = λ none. let f = t.step.finds none in record { bytes = f.bytes; told = f.told; sees = f.sees };
-  };
-  gives = t.gives;
-}
-closing_replanned (stage.Seen cell) old new turn p q made r t = record {
-  outcome = t.outcome;
-  step = record {
-    goes = replanned ReadRegister p q made old new (closing_fault_in t.outcome) r t.step.goes;
-    finds = λ none. let f = t.step.finds none in record { register = f.register; told = f.told; found_is = f.found_is };
-  };
-  gives = t.gives;
-}
-closing_replanned (stage.Closing next) old new turn p q made r t = record {
-  outcome = t.outcome;
-  step = record { goes = replanned (WriteCell next) p q made old new (result_err t.outcome) r t.step.goes; gives = t.step.gives };
-  gives = t.gives;
-}
+closing_replanned stage.Begun old new turn p q made r t = with_step t (record {
+  goes = replanned ReadCell p q made old new (closing_fault_in t.outcome) r t.step.goes;
+  finds = λ none. let f = t.step.finds none in record { bytes = f.bytes; told = f.told; sees = f.sees };
+})
+closing_replanned (stage.Seen cell) old new turn p q made r t = with_step t (record {
+  goes = replanned ReadRegister p q made old new (closing_fault_in t.outcome) r t.step.goes;
+  finds = λ none. let f = t.step.finds none in record { register = f.register; told = f.told; found_is = f.found_is };
+})
+closing_replanned (stage.Closing next) old new turn p q made r t =
+    with_step t
+    (record { goes = replanned (WriteCell next) p q made old new (result_err t.outcome) r t.step.goes; gives = t.step.gives })
 
--- What a turn comes to: it goes on with the next step, having written no cell, and whatever ends what is left behind it ends what
--- was left before; or that was the checkpoint's end.
-
-record GoesTo (call : CheckpointStage) (old new : Standing) (next : CheckpointStage) : Type 0 where
-  pub counts : closing_number_of next ≡ closing_number_of call + 1
-  pub keeps : (made : Bool) (cell : Option (List ℕ)) → cell_after (closing_act_of call) made cell ≡ cell
-  pub joins : (end : Standing) (result : Result Checkpointed CheckpointRefusal) → FinishesClosing next new end result
-      → FinishesClosing call old end result
-
+-- what a turn comes to: it goes on with the next step; or that was the checkpoint's end
 abbrev Comes : CheckpointStage → Standing → Standing → CheckpointTurn → Type 0
-Comes call old new (Going next) = GoesTo call old new next
+Comes call old new (Going next) = GoesTo closing_number_of closing_act_of FinishesClosing call old new next
 Comes call old new (Done it) = FinishesClosing call old new (Ok it)
 Comes call old new (Refused why) = FinishesClosing call old new (Err why)
 
-looked : (old new : Standing) (found : Result Segment CheckpointRefusal) → Looks old new found
+looked : {old new : Standing} (found : Result Segment CheckpointRefusal) → Looks old new found
     → Comes stage.Begun old new (looked_turn found)
-looked old new (Err why) l = record { middle = new; found = Err why; looks = l; ends = (refl, refl) }
-looked old new (Ok Shut) l = record { middle = new; found = Ok Shut; looks = l; ends = (refl, refl) }
-looked old new (Ok (Open cell)) l = record {
-  counts = refl;
-  keeps = λ made cell. refl;
-  joins = λ end result f. record { middle = new; found = Ok (Open cell); looks = l; ends = f };
-}
+looked {new = new} (Err why) l = record { middle = new; found = Err why; looks = l; ends = (refl, refl) }
+looked {new = new} (Ok Shut) l = record { middle = new; found = Ok Shut; looks = l; ends = (refl, refl) }
+looked {new = new} (Ok (Open cell)) l =
+    goes_to refl (λ made cell. refl) (λ end result f. record { middle = new; found = Ok (Open cell); looks = l; ends = f })
 
-weighed : (cell : Cell) (old new : Standing) (found : Result (List ℕ) CheckpointRefusal) → Weighs cell old new found
+weighed : {cell : Cell} {old new : Standing} (found : Result (List ℕ) CheckpointRefusal) → Weighs cell old new found
     → Comes (stage.Seen cell) old new (weighed_turn found)
-weighed cell old new (Err why) w = record { middle = new; found = Err why; weighs = w; ends = (refl, refl) }
-weighed cell old new (Ok next) w = record {
-  counts = refl;
-  keeps = λ made cell. refl;
-  joins = λ end result f. record { middle = new; found = Ok next; weighs = w; ends = f };
-}
+weighed {new = new} (Err why) w = record { middle = new; found = Err why; weighs = w; ends = (refl, refl) }
+weighed {new = new} (Ok next) w =
+    goes_to refl (λ made cell. refl) (λ end result f. record { middle = new; found = Ok next; weighs = w; ends = f })
 
-closed : (next : List ℕ) (old new : Standing) (written : Result Checkpointed StepFault) → Closes next old new written
+closed : {next : List ℕ} {old new : Standing} (written : Result Checkpointed StepFault) → Closes next old new written
     → Comes (stage.Closing next) old new (closed_turn written)
-closed next old new (Ok it) c = record { written = Ok it; closes = c; gives = refl }
-closed next old new (Err fault) c = record { written = Err fault; closes = c; gives = refl }
+closed (Ok it) c = record { written = Ok it; closes = c; gives = refl }
+closed (Err fault) c = record { written = Err fault; closes = c; gives = refl }
 
 came : (call : CheckpointStage) (old new : Standing) (turn : CheckpointTurn) → ClosingTurns call old new turn → Comes call old new turn
-came stage.Begun old new turn t = subst (Comes stage.Begun old new) (sym t.gives) (looked old new t.outcome t.step)
-came (stage.Seen cell) old new turn t = subst (Comes (stage.Seen cell) old new) (sym t.gives) (weighed cell old new t.outcome t.step)
-came (stage.Closing next) old new turn t = subst (Comes (stage.Closing next) old new) (sym t.gives) (closed next old new t.outcome t.step)
+came stage.Begun old new turn t = rw t.gives (looked t.outcome t.step)
+came (stage.Seen cell) old new turn t = rw t.gives (weighed t.outcome t.step)
+came (stage.Closing next) old new turn t = rw t.gives (closed t.outcome t.step)
 
 pub closing_moves : (call : CheckpointStage) (old new : Standing) (next : CheckpointStage) → ClosingTurns call old new (Going next)
     → Moves old new (closing_number_of call) (closing_number_of next)
 closing_moves call old new next t =
-    let goes = closing_acts_at call old new (Going next) t in
-    let c = came call old new (Going next) t in
-    record {
-      act = closing_act_of call;
-      middle = new;
-      goes = goes;
-      room = refl;
-      keeps = goes.cell ∙ c.keeps goes.is_made old.cell;
-      counts = c.counts;
-    }
+    moves_by (closing_acts_at call old new (Going next) t) refl (came call old new (Going next) t)
 
 pub closing_then : (call : CheckpointStage) (old mid new : Standing) (next : CheckpointStage)
     (result : Result Checkpointed CheckpointRefusal) → ClosingTurns call old mid (Going next)

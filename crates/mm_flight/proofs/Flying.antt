@@ -1,7 +1,7 @@
 -- How a call in flight begins, takes in others' values and goes on, and how it ends.
-use Rattle.mm_flight.proofs.Below.{◌≡◌, ℕ, ◌+◌, ◌<◌, Bool, true, false, List, [], ◌∷◌, ◌++◌, Option, Some, refl, sym, ap, ◌∙◌}
-use Rattle.mm_flight.proofs.Below.{subst, arith, option_map, counted, Meddle, Quiet, Plan, Standing, meddling, plan_by, under, SaySame}
-use Rattle.mm_flight.proofs.Below.{GoesOnAs, InFlight}
+use Rattle.mm_flight.proofs.Below.{◌≡◌, ℕ, ◌+◌, ◌<◌, Bool, true, false, List, [], ◌∷◌, ◌++◌, Option, Some, refl, sym, ap, ◌∙◌, subst, arith}
+use Rattle.mm_flight.proofs.Below.{option_map, counted, Meddle, Quiet, Plan, Standing, meddling, plan_by, under, SaySame, GoesOnAs}
+use Rattle.mm_flight.proofs.Below.{InFlight}
 use Rattle.std.specs.Prelude.{◌==◌, filter}
 use Rattle.std.proofs.lemmas.Bool.{ne_eqb}
 use Rattle.std.proofs.lemmas.List.{append-nil}

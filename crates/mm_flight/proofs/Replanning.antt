@@ -1,7 +1,7 @@
 -- A device step that goes as its plan says goes so under each plan that says the same of it.
-use Rattle.mm_flight.proofs.Below.{◌≡◌, ℕ, ◌+◌, ◌<◌, true, Bool, List, Option, None, Some, refl, ap, ◌∙◌, subst, arith, counted}
-use Rattle.mm_flight.proofs.Below.{StepFault, Meddle, Quiet, Plan, Standing, Act, Goes, EndsBy, GoesByPlan, will_answer}
-use Rattle.mm_flight.proofs.Below.{Ended, ended_with, is_broken, Refusal, plan_by, under, SaySame}
+use Rattle.mm_flight.proofs.Below.{◌≡◌, ℕ, ◌+◌, ◌<◌, true, Bool, List, Option, None, Some, refl, ap, ◌∙◌, subst, arith, counted, StepFault}
+use Rattle.mm_flight.proofs.Below.{Meddle, Quiet, Plan, Standing, Act, Goes, cell_after, EndsBy, GoesByPlan, will_answer, Ended, ended_with}
+use Rattle.mm_flight.proofs.Below.{is_broken, Refusal, plan_by, under, SaySame}
 use Rattle.mm_platform.specs.declared.fault.StepFault.TheVariants.{Failed, Off}
 
 pub counted_few : (made : ℕ) → made < 255 → counted made ≡ made + 1
@@ -61,6 +61,32 @@ pub record Moves (old new : Standing) (number next : ℕ) : Type 0 where
   pub room : new ≡ record middle { spare = new.spare }
   pub keeps : middle.cell ≡ old.cell
   pub counts : next ≡ number + 1
+
+-- What a turn of a call that goes on comes to, by the numbers of its steps, the step that comes next and what is left of the call:
+-- the step wrote no cell, and the next is that of the next number; whatever ends what is left behind it ends what was left before.
+pub record GoesTo {C E : Type 0} (number : C → ℕ) (act : C → Act) (finishes : C → Standing → Standing → E → Type 0) (call : C)
+    (old new : Standing) (next : C) : Type 0 where
+  pub counts : number next ≡ number call + 1
+  pub keeps : (made : Bool) (cell : Option (List ℕ)) → cell_after (act call) made cell ≡ cell
+  pub joins : (end : Standing) (ended : E) → finishes next new end ended → finishes call old end ended
+
+module _ {C E : Type 0} {number : C → ℕ} {act : C → Act} {finishes : C → Standing → Standing → E → Type 0} {call next : C}
+    {old new : Standing} where
+  pub goes_to : number next ≡ number call + 1 → ((made : Bool) (cell : Option (List ℕ)) → cell_after (act call) made cell ≡ cell)
+      → ((end : Standing) (ended : E) → finishes next new end ended → finishes call old end ended)
+      → GoesTo number act finishes call old new next
+  goes_to counts keeps joins = record { counts = counts; keeps = keeps; joins = joins }
+
+  pub moves_by : {middle : Standing} → Goes (act call) old middle None → new ≡ record middle { spare = new.spare }
+      → GoesTo number act finishes call old new next → Moves old new (number call) (number next)
+  moves_by {middle = middle} goes room c = record {
+    act = act call;
+    middle = middle;
+    goes = goes;
+    room = room;
+    keeps = goes.cell ∙ c.keeps goes.is_made old.cell;
+    counts = c.counts;
+  }
 
 -- with nothing planned to go wrong a step answers no fault
 pub quiet_step : (act : Act) (now new : Standing) (fault : Option StepFault) (meddles : List Meddle) (made : ℕ) → now.is_on ≡ true

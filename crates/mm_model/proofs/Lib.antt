@@ -11,3 +11,4 @@ mod Named
 mod KeptLaws
 mod Listing
 mod FreshLists
+mod BatchDigests

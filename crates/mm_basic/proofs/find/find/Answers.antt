@@ -1,5 +1,5 @@
-use Rattle.mm_basic.proofs.Below.{ℕ, refl, subst, rules, IsTrue, Err, Ok, Basic, ReadsParts, Blank, Unspelled, Form, Kind, IsCellOf, NoCell}
-use Rattle.mm_basic.proofs.Below.{NoOffer, Both}
+use Rattle.mm_basic.proofs.Below.{ℕ, refl, subst, rules, IsTrue, Ok, Basic, ReadsParts, Blank, Unspelled, Form, Kind, IsCellOf, NoCell}
+use Rattle.mm_basic.proofs.Below.{Both}
 use Rattle.mm_basic.proofs.Findings.{no_offer}
 use Rattle.mm_basic.proofs.find.find.Goals as goal
 

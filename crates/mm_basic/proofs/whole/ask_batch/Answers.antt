@@ -1,5 +1,5 @@
 use Rattle.mm_module.specs.Batches.{batch_of}
-use Rattle.mm_basic.proofs.Asked.{asked}
+use Rattle.mm_basic.proofs.Completeness.{asked}
 use Rattle.mm_basic.proofs.whole.ask_batch.Goals as goal
 
 pub returns : goal.returns

@@ -1,5 +1,5 @@
 use Rattle.mm_module.specs.Batches.{batch_of}
-use Rattle.mm_basic.proofs.Ending.{calls_finished}
+use Rattle.mm_basic.proofs.Asking.{calls_finished}
 use Rattle.mm_basic.proofs.whole.call.Goals as goal
 
 pub returns-in-Ok-clause-calls : goal.returns-in-Ok-clause-calls

@@ -1,5 +1,5 @@
 use Rattle.mm_module.specs.Batches.{batch_of}
-use Rattle.mm_basic.proofs.Turning.{turn_blamed}
+use Rattle.mm_basic.proofs.Asking.{turn_blamed}
 use Rattle.mm_basic.proofs.call.Call.advance_keeping.Goals as goal
 
 pub returns : goal.returns

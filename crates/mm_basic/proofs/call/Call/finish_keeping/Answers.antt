@@ -1,5 +1,5 @@
 use Rattle.mm_module.specs.Batches.{batch_of}
-use Rattle.mm_basic.proofs.Ending.{finish_blamed}
+use Rattle.mm_basic.proofs.Asking.{finish_blamed}
 use Rattle.mm_basic.proofs.Going.{finished_to}
 use Rattle.mm_basic.proofs.call.Call.finish_keeping.Goals as goal
 
