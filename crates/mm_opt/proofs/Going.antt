@@ -109,7 +109,7 @@ unseen why meaning key barrier d old s f =
     let i : Instance = opt meaning key barrier in
     let e : Err why ≡ Ok (cell_at i d) = seen_cell meaning key barrier d old (Err why) f s in cc
 
-few_acts : (it : Found) → length (acts_for it) ≤ 49
+pub few_acts : (it : Found) → length (acts_for it) ≤ 49
 few_acts (Repeat answer) = omega arith
 few_acts _ = omega arith
 

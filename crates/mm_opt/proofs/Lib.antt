@@ -6,7 +6,6 @@ mod Findings
 mod Asking
 mod Writing
 mod Fits
-mod EachClosing
 mod Checkpointing
 mod Acting
 mod Accepting
