@@ -49,6 +49,11 @@ reads_register meaning cell old middle new offer b register found result goes to
   room = room;
 }
 
+-- the cell that is seen is the one that was read
+pub own_is : (t : Bool) (cell seen : Cell) → own_cell t cell ≡ Ok seen → seen ≡ cell
+own_is true cell seen e = cc
+own_is false cell seen e = cc
+
 -- what the first step refuses, and what the second does: by the steps that are counted of it
 abbrev pub IsFirst : Refusal → Type 0
 IsFirst why = (old new : Standing) → OneStep old new → StepsRefused why old new
@@ -184,11 +189,7 @@ module _ (meaning : Meaning) (cell : Cell) (b : Batch) where
       (at_made f.register f.size f.finds.taken)) f.finds.found_is)
 
 -- what was found, once the cell and the register were read
-pub reads_made : (seen : Result Cell Refusal) (meaning : Meaning) (old new : Standing) (offer : List ℕ) (b : Batch) (found : Found)
-    → ReadsOn meaning seen old new offer b (Ok found) → (cell : Cell) × (seen ≡ Ok cell) × Made meaning cell b found
-reads_made (Err why) meaning old new offer b found on = let e : Ok found ≡ Err why = on.1 in absurd (cc)
-reads_made (Ok cell) meaning old new offer b found on = (cell, refl, made meaning cell b old new offer (Ok found) on)
-
 pub reads_shaped : (seen : Result Cell Refusal) (meaning : Meaning) (old new : Standing) (offer : List ℕ) (b : Batch) (found : Found)
     → ReadsOn meaning seen old new offer b (Ok found) → IsShaped (Ok found)
-reads_shaped seen meaning old new offer b found on = (reads_made seen meaning old new offer b found on).2.shape
+reads_shaped (Err why) meaning old new offer b found on = let e : Ok found ≡ Err why = on.1 in absurd (cc)
+reads_shaped (Ok cell) meaning old new offer b found on = (made meaning cell b old new offer (Ok found) on).shape

@@ -12,6 +12,7 @@ use Rattle.mm_opt.proofs.Below.{ReadsOn, Reads, acts_for, opt_call}
 use Rattle.std.specs.Prelude.{◌≤◌}
 use Rattle.mm_call.proofs.Above as completing
 use Rattle.mm_opt.proofs.Acting.{room_only}
+use Rattle.mm_opt.proofs.Asking.{refused_first}
 use Rattle.mm_opt.proofs.Accepting.{AsFound, as_found}
 use Rattle.mm_opt.proofs.Stepping.{two_brought, seen_is, change_inside, change_emptied, change_placed, write_opened, reset_kept, placed_kept, seen_cell, read_value}
 
@@ -112,14 +113,6 @@ unseen why meaning key barrier d old s f =
 pub few_acts : (it : Found) → length (acts_for it) ≤ 49
 few_acts (Repeat answer) = omega arith
 few_acts _ = omega arith
-
--- where the first step refuses, that ends the call
-pub refused_first : (why : Refusal) (found : Result Found Refusal) (meaning : Meaning) (first second new : Standing) (offer : List ℕ)
-    (b : Batch) (ended : Ended) → ReadsOn meaning (Err why) first second offer b found → EndsTo opt_call found second new ended
-    → (new ≡ first) × (ended ≡ refused_as why)
-refused_first why found meaning first second new offer b ended on e =
-    let x : (new ≡ second) × (ended ≡ refused_as why) = subst (λ (f : Result Found Refusal). EndsTo opt_call f second new ended) on.1 e in
-    (x.0 ∙ on.0, x.1)
 
 module _ (meaning : Meaning) (offer : List ℕ) (b : Batch) (old first second new : Standing) (found : Result Found Refusal) (ended : Ended)
     (e : EndsTo opt_call found second new ended) where
