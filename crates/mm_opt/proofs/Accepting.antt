@@ -1,6 +1,6 @@
 -- What is found on a platform that stands at some digests is what the call by digests finds.
 use Rattle.mm_opt.proofs.Below.{◌≡◌, ℕ, ◌+◌, Bool, true, false, List, length, Result, Ok, Err, refl, sym, ap, ◌∙◌, subst, inl, inr}
-use Rattle.mm_opt.proofs.Below.{if◌then◌else◌, nat_le, bytes_eq, last_position, Opt, Meaning, Batch, size_of, normal, members_of-normal}
+use Rattle.mm_opt.proofs.Below.{if◌then◌else◌, nat_le, bytes_eq, last_position, Opt, Meaning, Batch, normal, members_of-normal}
 use Rattle.mm_opt.proofs.Below.{PartsFault, Form, Kind, InBasic, InOpt, Content, Snapshot, ReadsParts, variant_of, tag_of, guard, Instance}
 use Rattle.mm_opt.proofs.Below.{opt, verdict_by_digests, Digests, BatchAnswer, Refusal, Verdict, examined, weighed, OrMemory, by_digests}
 use Rattle.mm_opt.proofs.Below.{place_then, Accepted, accepted_from, accepted_at, found_with, accepted_in, cell_at, Accepts, is_memory}

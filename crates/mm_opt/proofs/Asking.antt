@@ -1,7 +1,7 @@
 -- The ends of a call: what holds of each holds of every call; and what a call leaves.
 use Rattle.mm_opt.proofs.Below.{◌≡◌, ℕ, List, ◌++◌, None, Result, Ok, Err, sym, ap, ◌∙◌, subst, arith, Standing, ReadCell, ReadRegister, Goes}
 use Rattle.mm_opt.proofs.Below.{beside, Meaning, Batch, Cell, BatchAnswer, Refusal, Long, Ended, StepsTo, EndsTo, AsksTo, Calls, result_of}
-use Rattle.mm_opt.proofs.Below.{refused_as, fault_of, each_call, ends_result, ends_untouched, IsUntouched, LeavesUntouched, read_untouched}
+use Rattle.mm_opt.proofs.Below.{refused_as, each_call, ends_result, ends_untouched, IsUntouched, LeavesUntouched, read_untouched}
 use Rattle.mm_opt.proofs.Below.{same_untouched, Found, ReadsOwnCell, ReadsRegister, ReadsOn, acts_for, answer_in, opt_call}
 use Rattle.mm_platform.specs.CallLaws.{beside-beside}
 

@@ -3,17 +3,17 @@ use Rattle.mm_opt.proofs.Below.{◌≡◌, ℕ, ◌+◌, ◌≤◌, ◌^◌, Boo
 use Rattle.mm_opt.proofs.Below.{Err, refl, sym, ap, ◌∙◌, subst, inl, inr, le-leb, if◌then◌else◌, nat_eq, nat_le, bytes_eq, Opt}
 use Rattle.mm_opt.proofs.Below.{StepFault, Standing, Meaning, Batch, size_of, normal, members_of-normal, Content, tag_of, offered_of}
 use Rattle.mm_opt.proofs.Below.{Instance, opt, History, Move, Foreign, Value, total_of, judge, judged, is_last, Digests, digests_of}
-use Rattle.mm_opt.proofs.Below.{IsRight, ask_steps, BatchAnswer, Refusal, Verdict, Fresh, Again, Lost, Stale, called, ended_by}
+use Rattle.mm_opt.proofs.Below.{IsRight, ask_steps, BatchAnswer, Refusal, Verdict, Fresh, Again, called, ended_by}
 use Rattle.mm_opt.proofs.Below.{given_for, End, Done, Course, Walked, walk, found_by_verdict, found_at, found_with}
 use Rattle.mm_opt.proofs.Below.{found_unless_wanting, is_fresh, Blames, IsAccepted, IsAnswered, admitted, weighed, by_lists, by_digests}
 use Rattle.mm_opt.proofs.Below.{all_made, fault_in, shown, stands_at, asked_for, same_batches, is_agrees, before, sight_is, opt_calls_agree}
-use Rattle.mm_opt.proofs.Below.{two_reads, reading, past, cut, life_bare, opt_tied, changing, asks, foreign_first, foreign_in-first, Calls}
+use Rattle.mm_opt.proofs.Below.{two_reads, life_bare, opt_tied, changing, asks, foreign_first, foreign_in-first, Calls}
 use Rattle.mm_opt.proofs.Below.{opt_call}
 use Rattle.std.proofs.Common.{◌&&◌}
 use Rattle.std.proofs.lemmas.Slice.Eq.{bytes_eq-Decides}
 use Rattle.mm_seal.specs.Parts.{parts_of}
 use Rattle.mm_seal.specs.SealLaws.{sealed_parts}
-use Rattle.mm_model.specs.Life.{Life, Live, Spoiled, Lost as LostLife, life_of, is_lost}
+use Rattle.mm_model.specs.Life.{Life, Live, life_of, is_lost}
 use Rattle.mm_model.specs.declared.refusal.Refusal.TheVariants as refusal
 use Rattle.mm_call.specs.Asked.{counted_moves, foreign_in, IsAsked}
 use Rattle.mm_call.specs.Found.{Found}

@@ -3,7 +3,7 @@ use Rattle.mm_opt.proofs.Below.{◌≡◌, ℕ, Bool, true, false, List, length,
 use Rattle.mm_opt.proofs.Below.{inl, inr, arith, IsTrue, nat_tests, StepFault, Item, Standing, item_values, register_after, ReadRegister}
 use Rattle.mm_opt.proofs.Below.{Goes, nat_le, bytes_eq, last_position, IsLawful, Meaning, Batch, size_of, Cell, CellFault, Blank, IsCell}
 use Rattle.mm_opt.proofs.Below.{Unspelled, PartsFault, Form, Kind, Snapshot, tag_of, BatchAnswer, Refusal, Verdict, Fresh, Again}
-use Rattle.mm_opt.proofs.Below.{Lost, Stale, admitted, examined, weighed, fault_of, fault_in, OrMemory, Found, Repeat, Inside, Opens}
+use Rattle.mm_opt.proofs.Below.{admitted, examined, weighed, fault_of, fault_in, OrMemory, Found, Repeat, Inside, Opens}
 use Rattle.mm_opt.proofs.Below.{is_cell_of, own_cell, cell_in, batch_value, has_lost_power, verdict_of, answer_of, answer_in, change_by}
 use Rattle.mm_opt.proofs.Below.{found_from, found_in_offer, found_unless, found_in, opened_cell, ReadsOwnCell, FindsIn, MakesRoom}
 use Rattle.mm_opt.proofs.Below.{ReadsRegister, ReadsOn, OneStep, TwoSteps, one_step, two_steps, StepsRefused, extension_at, extension_after}

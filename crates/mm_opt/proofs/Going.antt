@@ -1,13 +1,13 @@
 -- A call of Opt is the walk of its steps on a course, by digests and by lists.
-use Rattle.mm_opt.proofs.Below.{◌≡◌, ℕ, Bool, true, false, List, [], ◌∷◌, length, map, None, Some, Result, Ok, Err, refl, sym, ap, ◌∙◌}
+use Rattle.mm_opt.proofs.Below.{◌≡◌, ℕ, Bool, true, false, List, [], ◌∷◌, length, map, None, Result, Ok, Err, refl, sym, ap, ◌∙◌}
 use Rattle.mm_opt.proofs.Below.{subst, arith, fold, Opt, zero_bytes, extended_of, Standing, ReadCell, ReadRegister, next_plan, Meaning}
 use Rattle.mm_opt.proofs.Below.{Batch, normal, Cell, IsCell, guard, Instance, opt, Commit, Foreign, Placed, Reset, Digests, Step, Reading}
 use Rattle.mm_opt.proofs.Below.{Changes, Writes, ask_steps, is_long, BatchAnswer, Refusal, Ended, EndsTo, AsksTo, Calls, IsCallSoFar}
 use Rattle.mm_opt.proofs.Below.{CallsOn, Course, Fate, step_moves, refused_as, CallsTo, Accepted, accepted_at, accepted_in}
 use Rattle.mm_opt.proofs.Below.{is_fresh, all_made, by_digests, fault_of, fault_in, cell_at, StandsAt, reads_of, reads_beside}
-use Rattle.mm_opt.proofs.Below.{with_register, IsWrite, changing, asks, fate_of, ends_fates, Tale, tale_on, reading_tale, MakesAll, AsMade}
-use Rattle.mm_opt.proofs.Below.{Told, GoesTo, course_by, lacks_in, told_on, refused_reading, told_reading, sees, finds, opt_calls_agree}
-use Rattle.mm_opt.proofs.Below.{Found, Repeat, Inside, Opens, Opening, opened_cell, FindsCell, ReadsOwnCell, FindsIn, ReadsRegister}
+use Rattle.mm_opt.proofs.Below.{with_register, IsWrite, changing, asks, fate_of, ends_fates, tale_on, reading_tale, MakesAll, AsMade}
+use Rattle.mm_opt.proofs.Below.{Told, course_by, lacks_in, told_on, refused_reading, told_reading, sees, finds, opt_calls_agree}
+use Rattle.mm_opt.proofs.Below.{Found, Repeat, Inside, Opens, Opening, opened_cell, FindsCell, ReadsOwnCell, ReadsRegister}
 use Rattle.mm_opt.proofs.Below.{ReadsOn, Reads, acts_for, opt_call}
 use Rattle.std.specs.Prelude.{◌≤◌}
 use Rattle.mm_call.proofs.Above as completing
@@ -57,13 +57,19 @@ module _ (meaning : Meaning) (key barrier : List ℕ) (seen : Digests) (b : Batc
       let same : changing seen.flag (is_fresh x) b ≡ [] = simp (so.1.found_is, changing_none seen.flag b) in
       (true, so.1, subst (MakesAll here seen []) (sym same) tt)
   as_made (Ok (Inside ready)) x is so =
-      let same : changing seen.flag (is_fresh x) b ≡ changing true true b = simp (so.1.found_is, so.0.0) in
-      (false, so.1, subst (MakesAll here seen (acts_for (Inside ready))) (sym same)
-      (change_inside meaning key barrier seen b ready.value.bytes so.0.0 so.0.1, refl, λ (_ : List (List ℕ)). tt))
+      let same : changing seen.flag (is_fresh x) b ≡ changing true true b = simp (so.1.found_is, so.0.0) in (
+        false,
+        so.1,
+        subst (MakesAll here seen (acts_for (Inside ready))) (sym same)
+            (change_inside meaning key barrier seen b ready.value.bytes so.0.0 so.0.1, refl, λ (_ : List (List ℕ)). tt),
+      )
   as_made (Ok (Opens opening)) x is so =
-      let same : changing seen.flag (is_fresh x) b ≡ changing false true b = simp (so.1.found_is, so.0.0) in
-      (false, so.1, subst (MakesAll here seen (acts_for (Opens opening))) (sym same)
-      (opening_made opening so.0.0 so.0.1 so.0.2 is))
+      let same : changing seen.flag (is_fresh x) b ≡ changing false true b = simp (so.1.found_is, so.0.0) in (
+        false,
+        so.1,
+        subst (MakesAll here seen (acts_for (Opens opening))) (sym same)
+            (opening_made opening so.0.0 so.0.1 so.0.2 is),
+      )
 
 -- The reading steps
 
@@ -114,7 +120,7 @@ module _ (meaning : Meaning) (offer : List ℕ) (b : Batch) (old new : Standing)
       let value : List ℕ = fold extended_of (fold extended_of d.register r.goes.others) on.goes.others in
       let x : Digests → Result Accepted Refusal = λ y. accepted_in (accepted_at i (by_digests i) y (normal b) offer) lacks in
       let makes : fault_in found ≡ None
-          → AsMade opt_call i seen (normal b) (x seen) found (changing d.flag (is_fresh (x seen)) (normal b)) = λ quiet.
+      → AsMade opt_call i seen (normal b) (x seen) found (changing d.flag (is_fresh (x seen)) (normal b)) = λ quiet.
       let f = on.finds quiet in
       let mine : Ok cell ≡ Ok (cell_at i d) = seen_cell meaning key barrier d old (Ok cell) (r.finds refl) s in
       let own : cell ≡ cell_at i d = cc in

@@ -1,12 +1,12 @@
 -- The steps of a call over a platform, each by digests, and what is read by the first two.
 use Rattle.mm_opt.proofs.Below.{◌≡◌, ℕ, Bool, true, false, List, [], ◌∷◌, ◌++◌, map, Option, None, Some, Result, Ok, refl, sym}
-use Rattle.mm_opt.proofs.Below.{ap, ◌∙◌, subst, arith, ◌&&◌, nat_eq, fold, nat_tests, Variant, Opt, zero_bytes, extended_of}
+use Rattle.mm_opt.proofs.Below.{ap, ◌∙◌, subst, arith, nat_eq, fold, nat_tests, Opt, zero_bytes, extended_of}
 use Rattle.mm_opt.proofs.Below.{Item, own_item, Standing, item_values, register_after, ResetRegister, ExtendRegister}
-use Rattle.mm_opt.proofs.Below.{Meaning, Batch, Cell, CellFault, IsCell, cell_spelling, reads_cell-same, guard, Instance, opt, Move, Commit}
+use Rattle.mm_opt.proofs.Below.{Meaning, Batch, Cell, IsCell, cell_spelling, reads_cell-same, guard, Instance, opt, Move, Commit}
 use Rattle.mm_opt.proofs.Below.{Foreign, Placed, Reset, Digests, made, Refusal}
 use Rattle.mm_opt.proofs.Below.{all_made, by_digests}
 use Rattle.mm_opt.proofs.Below.{cell_at, StandsAt, shown_by, IsChange, IsWrite, reads_of}
-use Rattle.mm_opt.proofs.Below.{with_register, foreign_made, all_made-append, is_opt, own_cell, cell_in, FindsCell}
+use Rattle.mm_opt.proofs.Below.{with_register, foreign_made, all_made-append, FindsCell}
 use Rattle.std.proofs.lemmas.List.{append-nil}
 
 -- The steps of a call

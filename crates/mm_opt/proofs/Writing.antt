@@ -1,5 +1,5 @@
 -- What a call counts: its steps, and how often it writes the cell, by the flag that the platform tells.
-use Rattle.mm_opt.proofs.Below.{◌≡◌, ℕ, Bool, true, false, List, Some, Result, Ok, Err, refl, sym, ap, ◌∙◌, inl, inr, counted, Standing}
+use Rattle.mm_opt.proofs.Below.{◌≡◌, ℕ, true, false, List, Some, Result, Ok, Err, refl, sym, ap, ◌∙◌, inl, inr, counted, Standing}
 use Rattle.mm_opt.proofs.Below.{Meaning, Batch, Cell, CellFault, IsCell, cell_spelling, reads_cell-same, is_long, BatchAnswer, Refusal, Long}
 use Rattle.mm_opt.proofs.Below.{Ended, goes_on, breaks_off, StepsTo, AsksTo, Calls, result_of, each_call, answered_result, Found, Repeat}
 use Rattle.mm_opt.proofs.Below.{Inside, Opens, is_cell_of, cell_in, ReadsOwnCell, ReadsRegister, acts_for, answer_in, opt_call, TwoSteps}
@@ -54,11 +54,14 @@ module _ (meaning : Meaning) (b : Batch) (old two new : Standing) (cell : Cell) 
       rw e (quiet (Device fault) old new (three_steps (g.steps ∙ ap counted t.0, g.writes ∙ t.1)) (g.writes ∙ t.1))
   commits_counted (Inside ready) m (goes_on last g s) =
       let three : ThreeSteps old last = (g.steps ∙ ap counted t.0, g.writes ∙ t.1) in
-      answered_result (Counted old) ready.answer last new ended s (rw m.shape (inl three), record {
-        once = inl three.1;
-        inside = λ c is at set. three.1;
-        answers = λ c is at. rw (← told c is at, m.by_flag, m.shape) three;
-      })
+      answered_result (Counted old) ready.answer last new ended s (
+        rw m.shape (inl three),
+        record {
+          once = inl three.1;
+          inside = λ c is at set. three.1;
+          answers = λ c is at. rw (← told c is at, m.by_flag, m.shape) three;
+        },
+      )
   commits_counted (Opens opening) m (breaks_off fault g e) =
       rw e (quiet (Device fault) old new (three_steps (g.steps ∙ ap counted t.0, g.writes ∙ t.1)) (g.writes ∙ t.1))
   commits_counted (Opens opening) m (goes_on third g (breaks_off fault h e)) =
@@ -71,11 +74,14 @@ module _ (meaning : Meaning) (b : Batch) (old two new : Standing) (cell : Cell) 
   commits_counted (Opens opening) m (goes_on third g (goes_on fourth h (goes_on last k s))) =
       let five : FiveSteps old last =
       (k.steps ∙ ap counted (h.steps ∙ ap counted (g.steps ∙ ap counted t.0)), k.writes ∙ ap counted (h.writes ∙ g.writes ∙ t.1)) in
-      answered_result (Counted old) opening.answer last new ended s (rw m.shape (inr five), record {
-        once = inr five.1;
-        inside = λ c is at set. absurd (shut m.by_flag c is at set);
-        answers = λ c is at. rw (← told c is at, m.by_flag, m.shape) five;
-      })
+      answered_result (Counted old) opening.answer last new ended s (
+        rw m.shape (inr five),
+        record {
+          once = inr five.1;
+          inside = λ c is at set. absurd (shut m.by_flag c is at set);
+          answers = λ c is at. rw (← told c is at, m.by_flag, m.shape) five;
+        },
+      )
 
 each_counted : (meaning : Meaning) (offer : List ℕ) (b : Batch) (old : Standing) → Each meaning offer b old (Counted old)
 each_counted meaning offer b old = record {
