@@ -47,12 +47,15 @@ last_tale (Some fault) at few act old new g =
 abbrev lost_on : Instance → Digests → Course → Bool
 lost_on i d c = (by_digests i).is_lost (seen_at i (by_digests i) d c)
 
+abbrev GoesBy : Instance → Digests → Course → Standing → Standing → Result Checkpointed CheckpointRefusal → Type 0
+GoesBy i d c old new result = ChecksBy i d (checkpointed i (by_digests i) d c) old new result
+
 -- A checkpoint whose steps made this trail
 concluded : (i : Instance) (d : Digests) (c : Course) (steps : List Step) (old new : Standing) (fault : Option StepFault)
     (result : Result Checkpointed CheckpointRefusal) → StandsAt i old d → checkpoint_steps i.variant d.flag (lost_on i d c) ≡ steps
     → Trail i d c.fates 1 steps old new fault
     → ((closed : Bool) → result ≡ closing_told (closed_by fault closed (closing_of i.variant d.flag (lost_on i d c))))
-    → ChecksBy i d (checkpointed i (by_digests i) d c) old new result
+    → GoesBy i d c old new result
 concluded i d c steps old new fault result s e t is =
     let all : List Step = checkpoint_steps i.variant d.flag (lost_on i d c) in
     let closed : Bool = closes (walk c.fates 1 all).moves in
@@ -82,31 +85,28 @@ trail_over None i d fates n step steps old new over s = rw (over refl) (trail_la
 trail_over (Some fault) i d fates n step steps old new over s = trail_fails i d fates n step steps old new fault s
 
 -- the steps of a checkpoint begin with a read; where a segment is open, with two
-abbrev later_steps : Variant → Bool → Bool → List Step
-later_steps Opt true true = Reads ∷ []
-later_steps Opt true false = Reads ∷ Writes Close ∷ []
-later_steps _ flag lost = []
-
-first_reads : (variant : Variant) (flag lost : Bool) → checkpoint_steps variant flag lost ≡ Reads ∷ later_steps variant flag lost
-first_reads Basic flag lost = refl
-first_reads Opt false lost = refl
-first_reads Opt true true = refl
-first_reads Opt true false = refl
-
 abbrev closing_steps : Bool → List Step
 closing_steps true = []
 closing_steps false = Writes Close ∷ []
 
+abbrev later_steps : Variant → Bool → Bool → List Step
+later_steps Opt true lost = Reads ∷ closing_steps lost
+later_steps _ flag lost = []
+
+first_reads : (variant : Variant) (flag lost : Bool) → checkpoint_steps variant flag lost ≡ Reads ∷ later_steps variant flag lost
+first_reads Opt true true = refl
+first_reads Opt true false = refl
+first_reads Opt false lost = refl
+first_reads Basic flag lost = refl
+
 open_steps : (flag lost : Bool) → flag ≡ true → checkpoint_steps Opt flag lost ≡ Reads ∷ Reads ∷ closing_steps lost
-open_steps true true e = refl
-open_steps true false e = refl
-open_steps false lost e = cc
+open_steps flag lost is_open = first_reads Opt flag lost ∙ ap (λ (f : Bool). Reads ∷ later_steps Opt f lost) is_open
 
 -- where the first step is the last
 first_goes : (i : Instance) (d : Digests) (fault : Option StepFault) (old one : Standing) (result : Result Checkpointed CheckpointRefusal)
     (g : Goes ReadCell old one fault) → StandsAt i old d
     → ((lost : Bool) → IsOver (later_steps i.variant d.flag lost) (closing_of i.variant d.flag lost) fault result)
-    → ChecksBy i d (checkpointed i (by_digests i) d (course_by (fate_of ReadCell old one fault g ∷ []) old false)) old one result
+    → GoesBy i d (course_by (fate_of ReadCell old one fault g ∷ []) old false) old one result
 first_goes i d fault old one result g s over =
     let c : Course = course_by (fate_of ReadCell old one fault g ∷ []) old false in
     let later : List Step = later_steps i.variant d.flag (lost_on i d c) in
@@ -185,7 +185,7 @@ module _ (meaning : Meaning) (key barrier : List ℕ) (d : Digests) (old one two
       rw (lost, f.found_is) (closing_is (bytes_eq f.register zero_bytes) cell f.register)
 
   later_goes : (why : CheckpointRefusal) (w : Weighs cell one two (Err why))
-      → ChecksBy I d (checkpointed I (by_digests I) d (on (closing_fault_of why) w.goes [])) old two (Err why)
+      → GoesBy I d (on (closing_fault_of why) w.goes []) old two (Err why)
   later_goes why w =
       let fault : Option StepFault = closing_fault_of why in
       let c : Course = on fault w.goes [] in
@@ -200,8 +200,7 @@ module _ (meaning : Meaning) (key barrier : List ℕ) (d : Digests) (old one two
 
   closed_goes : (next : List ℕ) (w : Weighs cell one two (Ok next)) → cell ≡ cell_at I d → (new : Standing) (fault : Option StepFault)
       (g : Goes (WriteCell next) two new fault)
-      → ChecksBy I d (checkpointed I (by_digests I) d (on None w.goes (fate_of (WriteCell next) two new fault g ∷ []))) old new
-      (closed_or fault)
+      → GoesBy I d (on None w.goes (fate_of (WriteCell next) two new fault g ∷ [])) old new (closed_or fault)
   closed_goes next w mine new fault g =
       let c : Course = on None w.goes (fate_of (WriteCell next) two new fault g ∷ []) in
       let f = w.finds refl in
@@ -224,17 +223,14 @@ module _ (meaning : Meaning) (key barrier : List ℕ) (d : Digests) (old one two
 abbrev GoesOn : Standing → Standing → Result Checkpointed CheckpointRefusal → List Fate → Type 0
 GoesOn old new result fates =
     (variant : Variant) (meaning : Meaning) (key barrier : List ℕ) (d : Digests) → StandsAt (instance_by variant meaning key barrier) old d
-    → ChecksBy (instance_by variant meaning key barrier) d
-    (checkpointed (instance_by variant meaning key barrier) (by_digests (instance_by variant meaning key barrier)) d
-    (course_by fates old false)) old new result
+    → GoesBy (instance_by variant meaning key barrier) d (course_by fates old false) old new result
 
 -- only Opt has open segments
 found_open : (old one new : Standing) (cell : Cell) (result : Result Checkpointed CheckpointRefusal) (fates : List Fate)
     → Looks old one (Ok (Open cell))
     → ((meaning : Meaning) (key barrier : List ℕ) (d : Digests) → StandsAt (opt meaning key barrier) old d → d.flag ≡ true
     → cell ≡ cell_at (opt meaning key barrier) d
-    → ChecksBy (opt meaning key barrier) d (checkpointed (opt meaning key barrier) (by_digests (opt meaning key barrier)) d
-    (course_by fates old false)) old new result) → GoesOn old new result fates
+    → GoesBy (opt meaning key barrier) d (course_by fates old false) old new result) → GoesOn old new result fates
 found_open old one new cell result fates l goes Basic meaning key barrier d s =
     let clash : Basic ≡ Opt = (seen_segment (instance_by Basic meaning key barrier) d old (Ok (Open cell)) (l.finds refl) s).0 in absurd (cc)
 found_open old one new cell result fates l goes Opt meaning key barrier d s =
@@ -244,23 +240,6 @@ agree : (variant : Variant) (meaning : Meaning) (key barrier : List ℕ) → Che
 agree Basic meaning key barrier = basic_checkpoints_agree meaning key
 agree Opt meaning key barrier = opt_checkpoints_agree meaning key barrier
 
-continued : (i : Instance) → CheckpointsAgree i → (old new : Standing) (c : Course) (result : Result Checkpointed CheckpointRefusal)
-    → ((d : Digests) → StandsAt i old d → ChecksBy i d (checkpointed i (by_digests i) d c) old new result)
-    → (y : History) (all others : List (List ℕ)) (asked : List Batch) → StandsFor i old y
-    → IsClosedWithin all others asked i y (checkpointed i (by_digests i) (digests_of i y) c).moves
-    → ChecksFor all others asked i (checkpointed i (by_lists i) y c) new result
-continued i law old new c result by y all others asked s a =
-    let d : Digests = digests_of i y in
-    let same = law all others asked y d c (is_agrees i y d refl) a in
-    let g = by d (stands_at i old y s) in
-    record {
-      gives = g.gives ∙ ap closing_told same.ending;
-      stands = stands_for i new (checkpointed i (by_lists i) y c).state
-          (subst (λ (x : Digests). StandsAt i new x)
-          (agrees_is i (checkpointed i (by_lists i) y c).state (checkpointed i (by_digests i) d c).state same.agrees) g.stands);
-      within = same.within;
-    }
-
 checks_by : (old new : Standing) (fault : Option StepFault) (result : Result Checkpointed CheckpointRefusal) (fates : List Fate)
     → closing_fault_in result ≡ fault → Tale fates 0 old new (ended_as fault) → GoesOn old new result fates → ChecksOn old new result
 checks_by old new fault result fates e t goes = record {
@@ -268,8 +247,18 @@ checks_by old new fault result fates e t goes = record {
   tells = told_by old fates (λ plan is_on known at. t.met_all plan (begins_at old plan is_on known at));
   goes = goes;
   continues = λ variant meaning key barrier y all others asked s a.
-      continued (instance_by variant meaning key barrier) (agree variant meaning key barrier) old new (course_by fates old false) result
-      (goes variant meaning key barrier) y all others asked s a;
+      let i : Instance = instance_by variant meaning key barrier in
+      let c : Course = course_by fates old false in
+      let d : Digests = digests_of i y in
+      let same = agree variant meaning key barrier all others asked y d c (is_agrees i y d refl) a in
+      let g = goes variant meaning key barrier d (stands_at i old y s) in
+      record {
+        gives = g.gives ∙ ap closing_told same.ending;
+        stands = stands_for i new (checkpointed i (by_lists i) y c).state
+            (subst (λ (x : Digests). StandsAt i new x)
+            (agrees_is i (checkpointed i (by_lists i) y c).state (checkpointed i (by_digests i) d c).state same.agrees) g.stands);
+        within = same.within;
+      };
   plans = λ plan is_on known at.
       subst (λ (b : Bool). StaysOn plan.stop b new × IsSome new.plan) (broken_if fault ∙ ap is_some (sym e))
       (t.stays plan (begins_at old plan is_on known at));
