@@ -21,7 +21,7 @@ use Rattle.mm_call.specs.declared.ended.Ended.TheVariants.{Broken}
 use Rattle.mm_opt.specs.Checkpoints.{FindsClosing}
 use Rattle.mm_opt.specs.declared.segment.Checkpointed.TheVariants.{NoSegment}
 use Rattle.mm_opt.specs.declared.segment.CheckpointRefusal.TheVariants as refusal
-use Rattle.mm_opt.proofs.Stepping.{read_value, two_brought, seen_is}
+use Rattle.mm_opt.proofs.Stepping.{read_is, two_brought, seen_is}
 use Rattle.mm_opt.proofs.Going.{few_acts}
 use Rattle.mm_opt.proofs.Checkpointing.{closed_or, closed_fault, ClosingIs, closing_is, Each, each_closing}
 
@@ -167,21 +167,14 @@ module _ (meaning : Meaning) (key barrier : List ℕ) (d : Digests) (old one two
   abbrev value : List (List ℕ) → List ℕ
   value others = fold extended_of (fold extended_of d.register l.goes.others) others
 
-  read : (fault : Option StepFault) (g : Goes ReadRegister one two fault) (found : Result (List ℕ) CheckpointRefusal)
-      (f : FindsClosing cell two found) → f.register ≡ value g.others
-  read fault g found f =
-      read_value two.items (value g.others) f.register
-      (ap reads_of g.items ∙ reads_beside one.items g.others (fold extended_of d.register l.goes.others)
-      (ap reads_of l.goes.items ∙ reads_beside old.items l.goes.others d.register s.reads)) f.told
-
   -- power was lost where it reads zero
   found_is : (fault : Option StepFault) (g : Goes ReadRegister one two fault) (rest : List Fate) (found : Result (List ℕ) CheckpointRefusal)
       (f : FindsClosing cell two found) → ClosingIs (lost_on I d (on fault g rest)) cell f.register found
   found_is fault g rest found f =
       let lost : lost_on I d (on fault g rest) ≡ bytes_eq f.register zero_bytes =
       ap (λ (y : Digests). y.flag && bytes_eq y.register zero_bytes)
-      (seen_is meaning key barrier d l.goes.others g.others ∙ two_brought I d l.goes.others g.others)
-      ∙ rw (is_open, read fault g found f) refl in
+      (seen_is I d l.goes.others g.others ∙ two_brought I d l.goes.others g.others)
+      ∙ rw (is_open, read_is meaning key barrier d old one two fault l.goes g f.register s f.told) refl in
       rw (lost, f.found_is) (closing_is (bytes_eq f.register zero_bytes) cell f.register)
 
   later_goes : (why : CheckpointRefusal) (w : Weighs cell one two (Err why))
@@ -209,7 +202,7 @@ module _ (meaning : Meaning) (key barrier : List ℕ) (d : Digests) (old one two
       let writes : IsWrite I both next Close = subst (λ (e : Digests). IsWrite I e next Close)
       (sym (two_brought I d l.goes.others w.goes.others))
       (write_closed meaning key barrier (with_register d (value w.goes.others)) next s.spells
-      (r.1 ∙ (λ j. closed_cell (mine j) (read None w.goes (Ok next) f j)))) in
+      (r.1 ∙ (λ j. closed_cell (mine j) (read_is meaning key barrier d old one two None l.goes w.goes f.register s f.told j)))) in
       concluded I d c (Reads ∷ Reads ∷ Writes Close ∷ []) old new fault (closed_or fault) s
       (open_steps d.flag (lost_on I d c) is_open ∙ ap (λ (t : Bool). Reads ∷ Reads ∷ closing_steps t) r.0)
       (trail_on I d c.fates 1 Reads (Reads ∷ Writes Close ∷ []) old one new fault (stepped I d ReadCell Reads old one None l.goes tt)

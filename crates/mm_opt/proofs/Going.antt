@@ -14,7 +14,7 @@ use Rattle.mm_call.proofs.Above as completing
 use Rattle.mm_opt.proofs.Acting.{room_only}
 use Rattle.mm_opt.proofs.Asking.{refused_first}
 use Rattle.mm_opt.proofs.Accepting.{AsFound, as_found}
-use Rattle.mm_opt.proofs.Stepping.{two_brought, seen_is, change_inside, change_emptied, change_placed, write_opened, reset_kept, placed_kept, seen_cell, read_value}
+use Rattle.mm_opt.proofs.Stepping.{two_brought, seen_is, change_inside, change_emptied, change_placed, write_opened, reset_kept, placed_kept, seen_cell, read_is}
 
 -- The steps that commit what was found
 
@@ -124,15 +124,13 @@ module _ (meaning : Meaning) (offer : List ℕ) (b : Batch) (old new : Standing)
       let f = on.finds quiet in
       let mine : Ok cell ≡ Ok (cell_at i d) = seen_cell meaning key barrier d old (Ok cell) (r.finds refl) s in
       let own : cell ≡ cell_at i d = cc in
-      let read : f.register ≡ value = read_value on.middle.items value f.register
-      (ap reads_of on.goes.items ∙ reads_beside one.items on.goes.others (fold extended_of d.register r.goes.others)
-      (ap reads_of r.goes.items ∙ reads_beside old.items r.goes.others d.register s.reads)) f.told in
+      let read = read_is meaning key barrier d old one on.middle (fault_in found) r.goes on.goes f.register s f.told in
       subst (λ (y : Digests). AsMade opt_call i y (normal b) (x y) found (changing d.flag (is_fresh (x y)) (normal b)))
       (sym (two_brought i d r.goes.others on.goes.others))
       (as_made meaning key barrier (with_register d value) (normal b) found (x (with_register d value)) s.spells
       (as_found meaning key barrier (with_register d value) b offer found (rw (own, read) at f.finds))) in
       subst (λ (y : Digests). Told i d y fates 1 (ask_steps Opt d.flag (is_fresh (x y)) (normal b)) (normal b) (x y) old new ended)
-      (sym (seen_is meaning key barrier d r.goes.others on.goes.others))
+      (sym (seen_is i d r.goes.others on.goes.others))
       (subst (λ (st : List Step). Told i d seen fates 1 st (normal b) (x seen) old new ended)
       (sym (asks d.flag (is_fresh (x seen)) (normal b)))
       (told_on i d seen (next_plan old) 1 (Reading ∷ changing d.flag (is_fresh (x seen)) (normal b)) (normal b) (x seen) ReadCell tt old one

@@ -5,7 +5,6 @@ mod FirstLaws
 mod Findings
 mod Asking
 mod Writing
-mod Fits
 mod Checkpointing
 mod Acting
 mod Accepting
