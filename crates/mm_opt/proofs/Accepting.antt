@@ -1,25 +1,31 @@
 -- What is found on a platform that stands at some digests is what the call by digests finds.
 use Rattle.mm_opt.proofs.Below.{◌≡◌, ℕ, ◌+◌, Bool, true, false, List, length, Result, Ok, Err, refl, sym, ap, ◌∙◌, subst, inl, inr}
-use Rattle.mm_opt.proofs.Below.{if◌then◌else◌, nat_le, bytes_eq, last_position, Opt, Meaning, Batch, size_of, normal, members_of-normal}
+use Rattle.mm_opt.proofs.Below.{if◌then◌else◌, nat_le, bytes_eq, last_position, Opt, Meaning, Batch, normal, members_of-normal}
 use Rattle.mm_opt.proofs.Below.{PartsFault, Form, Kind, InBasic, InOpt, Content, Snapshot, ReadsParts, variant_of, tag_of, guard, Instance}
 use Rattle.mm_opt.proofs.Below.{opt, verdict_by_digests, Digests, BatchAnswer, Refusal, Verdict, examined, weighed, OrMemory, by_digests}
 use Rattle.mm_opt.proofs.Below.{place_then, Accepted, accepted_from, accepted_at, found_with, accepted_in, cell_at, Accepts, is_memory}
 use Rattle.mm_opt.proofs.Below.{lacks_in, Found, Repeat, Inside, Opens, has_lost_power, verdict_at, verdict_of, answer_of, place_after}
-use Rattle.mm_opt.proofs.Below.{change_by, opened_cell, found_from, found_in_offer, found_unless, found_in, FindsIn}
+use Rattle.mm_opt.proofs.Below.{change_by, opened_cell, answer_in, found_from, found_in_offer, found_unless, found_in, FindsIn}
 use Rattle.mm_seal.specs.declared.snapshot.Place.{Place}
 use Rattle.mm_seal.specs.FieldLaws.{parts_are}
 use Rattle.mm_model.specs.declared.refusal.Refusal.TheVariants as refusal
 use Rattle.mm_call.specs.Answers.{answer_at}
 
+-- what was found is for these digests and this batch
+abbrev pub IsFor : Instance → Digests → Batch → Found → Type 0
+IsFor i seen b (Repeat answer) = Unit {0}
+IsFor i seen b (Inside ready) = (seen.flag ≡ true) × (ready.value.bytes ≡ guard i.barrier b)
+IsFor i seen b (Opens opening) =
+    (seen.flag ≡ false) × (opening.value.bytes ≡ guard i.barrier b) × (opening.next ≡ opened_cell (cell_at i seen))
+
+abbrev pub is_repeat : Found → Bool
+is_repeat (Repeat answer) = true
+is_repeat _ = false
+
 -- what is found, by what the call by digests finds
 abbrev pub AsFound : Instance → Digests → Batch → Result Accepted Refusal → Result Found Refusal → Type 0
 AsFound i seen b x (Err why) = x ≡ Err why
-AsFound i seen b x (Ok (Repeat answer)) = Accepts i seen b x true answer
-AsFound i seen b x (Ok (Inside ready)) =
-    (seen.flag ≡ true) × (ready.value.bytes ≡ guard i.barrier b) × Accepts i seen b x false ready.answer
-AsFound i seen b x (Ok (Opens opening)) =
-    (seen.flag ≡ false) × (opening.value.bytes ≡ guard i.barrier b) × (opening.next ≡ opened_cell (cell_at i seen))
-    × Accepts i seen b x false opening.answer
+AsFound i seen b x (Ok it) = IsFor i seen b it × Accepts i seen b x (is_repeat it) (answer_in it)
 
 module _ (i : Instance) (seen : Digests) (b : Batch) where
   as_unless : (lost : Bool) (x : Result Accepted Refusal) (found : Result Found Refusal)
@@ -27,32 +33,12 @@ module _ (i : Instance) (seen : Digests) (b : Batch) where
   as_unless true x found so = refl
   as_unless false x found so = so
 
-  given_with : {x : Result Accepted Refusal} {again : Bool} {answer : BatchAnswer} → Accepts i seen b x again answer
-      → Accepts i seen b (accepted_in x false) again answer
-  given_with a = record { offered = a.offered; found_is = simp a.found_is; answer_is = a.answer_is }
-
-  lacked_with : {x : Result Accepted Refusal} {again : Bool} {answer : BatchAnswer} → Accepts i seen b x again answer
-      → accepted_in x true ≡ Err refusal.Memory
-  lacked_with a = simp a.found_is
-
-  as_given : (it : Found) (x : Result Accepted Refusal) → AsFound i seen b x (Ok it) → AsFound i seen b (accepted_in x false) (Ok it)
-  as_given (Repeat answer) x so = given_with so
-  as_given (Inside ready) x so = (so.0, so.1, given_with so.2)
-  as_given (Opens opening) x so = (so.0, so.1, so.2, given_with so.3)
-
-  as_lacked : (it : Found) (x : Result Accepted Refusal) → AsFound i seen b x (Ok it) → accepted_in x true ≡ Err refusal.Memory
-  as_lacked (Repeat answer) x so = lacked_with so
-  as_lacked (Inside ready) x so = lacked_with so.2
-  as_lacked (Opens opening) x so = lacked_with so.3
-
   as_or : (y : Result Found Refusal) (x : Result Accepted Refusal) (found : Result Found Refusal) → AsFound i seen b x y → OrMemory y found
       → AsFound i seen b (accepted_in x (lacks_in found)) found
-  as_or (Err why) x found so o = subst (λ (r : Result Found Refusal). AsFound i seen b (accepted_in x (lacks_in r)) r) (sym o)
-      (ap (λ (y : Result Accepted Refusal). accepted_in y (is_memory why)) so)
+  as_or (Err why) x found so o = rw o (ap (λ (y : Result Accepted Refusal). accepted_in y (is_memory why)) so)
   as_or (Ok it) x found so (inl e) =
-      subst (λ (r : Result Found Refusal). AsFound i seen b (accepted_in x (lacks_in r)) r) (sym e) (as_given it x so)
-  as_or (Ok it) x found so (inr e) =
-      subst (λ (r : Result Found Refusal). AsFound i seen b (accepted_in x (lacks_in r)) r) (sym e) (as_lacked it x so)
+      rw e (so.0, record { offered = so.1.offered; found_is = simp so.1.found_is; answer_is = so.1.answer_is })
+  as_or (Ok it) x found so (inr e) = rw e (simp so.1.found_is)
 
 module _ (meaning : Meaning) (key barrier : List ℕ) (seen : Digests) (b : Batch) where
   abbrev here : Instance
@@ -93,13 +79,13 @@ module _ (meaning : Meaning) (key barrier : List ℕ) (seen : Digests) (b : Batc
   as_change : (flag : Bool) (x : Result Accepted Refusal) (answer : BatchAnswer) → flag ≡ seen.flag
       → Accepts here seen (normal b) x false answer
       → AsFound here seen (normal b) x (Ok (change_by flag (guard barrier (normal b)) (opened_cell (cell_at here seen)) answer))
-  as_change true x answer e a = (sym e, refl, a)
-  as_change false x answer e a = (sym e, refl, refl, a)
+  as_change true x answer e a = ((sym e, refl), a)
+  as_change false x answer e a = ((sym e, refl, refl), a)
 
   as_from : (e : Result Bool Refusal) (offered : Content) → AsFound here seen (normal b) (found_with offered e)
       (found_from e (cell_at here seen) (guard barrier (normal b)) (answer_of meaning (cell_at here seen) seen.register offered b))
   as_from (Err why) offered = refl
-  as_from (Ok true) offered = record { offered = offered; found_is = refl; answer_is = answer_alike offered true }
+  as_from (Ok true) offered = (tt, record { offered = offered; found_is = refl; answer_is = answer_alike offered true })
   as_from (Ok false) offered =
       as_change seen.flag (found_with offered (Ok false)) (answer_of meaning (cell_at here seen) seen.register offered b false) refl
       (record { offered = offered; found_is = refl; answer_is = answer_alike offered false })

@@ -1,7 +1,7 @@
 -- Each turn makes exactly the device step that comes next.
 use Rattle.mm_opt.proofs.Below.{◌≡◌, ℕ, List, Result, Ok, Err, refl, sym, subst, arith, result_err}
-use Rattle.mm_opt.proofs.Below.{StepFault, Standing, Act, ReadCell, WriteCell, ReadRegister, ResetRegister, ExtendRegister, Goes, blamed}
-use Rattle.mm_opt.proofs.Below.{Meaning, Batch, Cell, BatchAnswer, Refusal, Blames, Opening, Found, Repeat, Inside, Opens}
+use Rattle.mm_opt.proofs.Below.{StepFault, Standing, ResetRegister, ExtendRegister, Goes, blamed}
+use Rattle.mm_opt.proofs.Below.{Meaning, Batch, Cell, BatchAnswer, Refusal, Blames, Opening, Found, Inside, Opens}
 use Rattle.mm_opt.proofs.Below.{Checkpointed, CheckpointRefusal, Segment, Shut, Stage, MayGoOn, ReadsOwnCell, ReadsRegister, MakesRoom, closing_fault_in}
 use Rattle.mm_opt.specs.declared.stage.Stage.TheVariants as stage
 use Rattle.mm_opt.specs.declared.stage.Change.TheVariants as change
@@ -82,28 +82,20 @@ turn_blamed call old new turn a =
 
 -- the same of a checkpoint
 
-closing_by : {old new : Standing} {turn given : CheckpointTurn} (act : Act) → turn ≡ given → Goes act old new (closing_fault_turned given)
-    → Goes act old new (closing_fault_turned turn)
-closing_by {old = old} {new = new} act e = subst (λ (t : CheckpointTurn). Goes act old new (closing_fault_turned t)) (sym e)
+looked_fault : (found : Result Segment CheckpointRefusal) → closing_fault_turned (looked_turn found) ≡ closing_fault_in found
+looked_fault (Ok Shut) = refl
+looked_fault _ = refl
 
-module _ (old new : Standing) (turn : CheckpointTurn) where
-  looked : (found : Result Segment CheckpointRefusal) → Goes ReadCell old new (closing_fault_in found) → turn ≡ looked_turn found
-      → Goes ReadCell old new (closing_fault_turned turn)
-  looked (Ok Shut) g e = closing_by ReadCell e g
-  looked _ g e = closing_by ReadCell e g
+weighed_fault : (found : Result (List ℕ) CheckpointRefusal) → closing_fault_turned (weighed_turn found) ≡ closing_fault_in found
+weighed_fault (Ok next) = refl
+weighed_fault (Err why) = refl
 
-  weighed : (found : Result (List ℕ) CheckpointRefusal) → Goes ReadRegister old new (closing_fault_in found) → turn ≡ weighed_turn found
-      → Goes ReadRegister old new (closing_fault_turned turn)
-  weighed (Err why) g e = closing_by ReadRegister e g
-  weighed (Ok next) g e = closing_by ReadRegister e g
-
-  closed : (next : List ℕ) (written : Result Checkpointed StepFault) → Goes (WriteCell next) old new (result_err written)
-      → turn ≡ closed_turn written → Goes (WriteCell next) old new (closing_fault_turned turn)
-  closed next (Ok it) g e = closing_by (WriteCell next) e g
-  closed next (Err fault) g e = closing_by (WriteCell next) e g
+closed_fault : (written : Result Checkpointed StepFault) → closing_fault_turned (closed_turn written) ≡ result_err written
+closed_fault (Ok it) = refl
+closed_fault (Err fault) = refl
 
 pub closing_acts_at : (call : CheckpointStage) (old new : Standing) (turn : CheckpointTurn) → ClosingTurns call old new turn
     → ClosingActsAt call old new turn
-closing_acts_at checkpoint_stage.Begun old new turn t = looked old new turn t.outcome t.step.goes t.gives
-closing_acts_at (checkpoint_stage.Seen cell) old new turn t = weighed old new turn t.outcome t.step.goes t.gives
-closing_acts_at (checkpoint_stage.Closing next) old new turn t = closed old new turn next t.outcome t.step.goes t.gives
+closing_acts_at checkpoint_stage.Begun old new turn t = rw (t.gives, looked_fault t.outcome) t.step.goes
+closing_acts_at (checkpoint_stage.Seen cell) old new turn t = rw (t.gives, weighed_fault t.outcome) t.step.goes
+closing_acts_at (checkpoint_stage.Closing next) old new turn t = rw (t.gives, closed_fault t.outcome) t.step.goes

@@ -1,10 +1,9 @@
 -- What a whole call promises, from what it does.
 use Rattle.mm_opt.proofs.Below.{ℕ, List, Result, Standing, Meaning, IsLawful, Batch, BatchAnswer, Refusal, Blames, fault_in, Calls}
 use Rattle.mm_opt.proofs.Below.{opt_call, AskedInOpt}
-use Rattle.mm_opt.proofs.Asking.{untouched}
+use Rattle.mm_opt.proofs.Asking.{fits, untouched}
 use Rattle.mm_opt.proofs.Going.{calls_on}
 use Rattle.mm_opt.proofs.Completeness.{complete}
-use Rattle.mm_opt.proofs.Fits.{fits}
 use Rattle.mm_opt.proofs.Writing.{steps, writes}
 
 pub asked : (meaning : Meaning) → IsLawful meaning → (old new : Standing) (offer : List ℕ) (b : Batch)

@@ -32,7 +32,7 @@ pub use Rattle.mm_module.specs.Meaning.{IsLawful, Meaning}
 pub use Rattle.mm_model.specs.Chains.{anchor_of, guard}
 pub use Rattle.mm_model.specs.History.{Close, Commit, first_history, Foreign, History, Move, Placed, Reset, total_of, Value}
 pub use Rattle.mm_model.specs.Instance.{Instance}
-pub use Rattle.mm_model.specs.InstanceWords.{basic, opt}
+pub use Rattle.mm_model.specs.InstanceWords.{opt}
 pub use Rattle.mm_model.specs.Judge.{is_last, judge, judged, verdict_by_digests}
 pub use Rattle.mm_model.specs.Long.{is_long}
 pub use Rattle.mm_model.specs.Moves.{Digests, digests_of, made}
@@ -46,8 +46,8 @@ pub use Rattle.mm_model.specs.declared.verdict.Verdict.TheVariants.{Again, Fresh
 pub use Rattle.mm_call.specs.Called.{called, ended_by, given_for}
 pub use Rattle.mm_call.specs.Calls.{AsksTo, breaks_off, Calls, EndsTo, goes_on, IsCallSoFar, StepsTo}
 pub use Rattle.mm_call.specs.CallsOn.{CallsOn}
-pub use Rattle.mm_call.specs.Checkpoints.{checkpointed, checkpointed_by, CheckpointsAgree, Closing, closing_of, IsClosedWithin}
-pub use Rattle.mm_call.specs.CheckpointsWords.{checkpointed_with, closed_by}
+pub use Rattle.mm_call.specs.Checkpoints.{checkpointed, CheckpointsAgree, Closing, closing_of, IsClosedWithin}
+pub use Rattle.mm_call.specs.CheckpointsWords.{closed_by}
 pub use Rattle.mm_call.specs.Courses.{closes, Course, Done, End, Fate, step_moves, walk, Walked}
 pub use Rattle.mm_call.specs.Ended.{CallsTo, committed_as, refused_as, result_of, StaysOn}
 pub use Rattle.mm_call.specs.Found.{Found as Accepted, found_at, found_at as accepted_at, found_by_verdict}
@@ -61,7 +61,7 @@ pub use Rattle.mm_call.specs.Order.{admitted, examined}
 pub use Rattle.mm_call.specs.OrderWords.{weighed}
 pub use Rattle.mm_call.specs.Refusals.{fault_in, fault_of, OrMemory}
 pub use Rattle.mm_call.specs.Standing.{cell_at, instance_by, shown, shown_by, StandsAt}
-pub use Rattle.mm_call.specs.TellingLaws.{AreMet, begins_at, IsAt, met, met_at, stepped, then_at, told_by, trail_fails, trail_last}
+pub use Rattle.mm_call.specs.TellingLaws.{begins_at, stepped, told_by, trail_fails, trail_last}
 pub use Rattle.mm_call.specs.TellingLaws.{trail_on}
 pub use Rattle.mm_call.specs.TrailLaws.{all_made-append, foreign_made, leads, reads_beside, reads_of, with_register}
 pub use Rattle.mm_call.specs.Trails.{IsChange, IsWrite, Trail}
@@ -71,23 +71,23 @@ pub use Rattle.mm_call.specs.declared.ended.Ended.TheVariants.{Answered, Refused
 pub use Rattle.mm_call.proofs.Above.{Accepts, agrees_is, answered_result, AsFound as AsMade, asked_for, basic_checkpoints_agree, before}
 pub use Rattle.mm_call.proofs.Above.{BlamesFor, calls_from, course_by, cut, each_call, ends_fates, ends_result, ends_untouched, fate_of}
 pub use Rattle.mm_call.proofs.Above.{finds, given_all, GoesTo, is_agrees, is_memory, lacks_in, life_bare, MakesAll, opt_calls_agree}
-pub use Rattle.mm_call.proofs.Above.{opt_checkpoints_agree, opt_tied, past, planned_broken, planned_done, reading, reading_blamed}
+pub use Rattle.mm_call.proofs.Above.{opt_checkpoints_agree, opt_tied, past, reading, reading_blamed}
 pub use Rattle.mm_call.proofs.Above.{reading_tale, refused_reading, sees, sight_is, stands_at, stands_for, steps_blamed, steps_give, Tale}
 pub use Rattle.mm_call.proofs.Above.{tale_on, Told, told_on, told_reading, two_reads}
 pub use Rattle.mm_opt.specs.Answers.{answer_of, change_by, extension_after, extension_at, found_from, found_in, found_in_offer}
 pub use Rattle.mm_opt.specs.Answers.{found_unless, opened_cell, place_after}
 pub use Rattle.mm_opt.specs.Asked.{AskedInOpt}
-pub use Rattle.mm_opt.specs.Asks.{acts_for, answer_in, AnswersFrom, five_steps, four_steps, one_step, OneStep, opt_call, Reads, ReadsOn}
-pub use Rattle.mm_opt.specs.Asks.{StepsAnswered, StepsBy, StepsFrom, StepsMade, StepsRefused, three_steps, two_steps, TwoSteps}
-pub use Rattle.mm_opt.specs.Asks.{WritesAtMostOnce, WritesBy}
+pub use Rattle.mm_opt.specs.Asks.{acts_for, answer_in, five_steps, four_steps, one_step, OneStep, opt_call, Reads, ReadsOn}
+pub use Rattle.mm_opt.specs.Asks.{StepsBy, StepsRefused, three_steps, two_steps, TwoSteps}
+pub use Rattle.mm_opt.specs.Asks.{WritesBy}
 pub use Rattle.mm_opt.specs.Checkpoints.{closed_cell, Closes, ClosesSegment, closing_by, closing_fault_in, closing_fault_of}
 pub use Rattle.mm_opt.specs.Checkpoints.{closing_handed_on, ClosingStepsBy, ClosingStepsRefused, EndsClosing, EndsLooking, FindsSegment}
 pub use Rattle.mm_opt.specs.Checkpoints.{LeavesStill, Looks, segment_by, segment_in, Weighs}
 pub use Rattle.mm_opt.specs.ChecksOn.{ChecksBy, ChecksFor, ChecksOn, closing_told}
-pub use Rattle.mm_opt.specs.Finishes.{acts_left, answer_left, ChangesTo, Finishes}
+pub use Rattle.mm_opt.specs.Finishes.{acts_left, answer_left, Finishes}
 pub use Rattle.mm_opt.specs.Order.{batch_value, has_lost_power, verdict_at, verdict_of}
 pub use Rattle.mm_opt.specs.Seen.{cell_in, is_cell_of, is_opt, own_cell}
-pub use Rattle.mm_opt.specs.Steps.{FindsCell, FindsIn, Makes, MakesRoom, MayGoOn, ReadsOwnCell, ReadsOwnCell as ReadsStep, ReadsRegister}
+pub use Rattle.mm_opt.specs.Steps.{FindsCell, FindsIn, Makes, MakesRoom, MayGoOn, ReadsOwnCell, ReadsRegister}
 pub use Rattle.mm_opt.specs.declared.found.Found.{Found}
 pub use Rattle.mm_opt.specs.declared.found.Found.TheVariants.{Inside, Opens, Repeat}
 pub use Rattle.mm_opt.specs.declared.found.Opening.{Opening}

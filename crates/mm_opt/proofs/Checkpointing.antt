@@ -1,101 +1,136 @@
--- What a checkpoint leaves and counts.
-use Rattle.mm_opt.proofs.Below.{◌≡◌, ℕ, Bool, true, false, List, Option, None, Some, Result, Ok, Err, sym, ap, ◌∙◌, subst, bytes_eq, counted}
-use Rattle.mm_opt.proofs.Below.{Variant, Basic, Opt, zero_bytes, StepFault, Standing, Cell, CellFault, Blames, blamed, blamed_later}
-use Rattle.mm_opt.proofs.Below.{read_untouched, Checkpointed, CheckpointRefusal, Segment, OneStep, TwoSteps, closing_fault_of}
-use Rattle.mm_opt.proofs.Below.{closing_fault_in, segment_by, segment_in, closing_by, ClosesSegment, LeavesStill}
-use Rattle.mm_opt.proofs.Below.{ClosingStepsRefused, ClosingStepsBy}
+-- The ends of a checkpoint, and what it leaves and counts.
+use Rattle.mm_opt.proofs.Below.{◌≡◌, ℕ, Bool, true, false, List, Option, None, Some, Result, Ok, Err, refl, ap, ◌∙◌, sym, subst, counted, bytes_eq}
+use Rattle.mm_opt.proofs.Below.{Variant, Basic, Opt, zero_bytes, StepFault, Standing, ReadCell, WriteCell, ReadRegister, Goes, Cell, CellFault}
+use Rattle.mm_opt.proofs.Below.{Blames, blamed, blamed_later, read_untouched, Checkpointed, CheckpointRefusal, Segment, Open, Shut, OneStep}
+use Rattle.mm_opt.proofs.Below.{TwoSteps, closing_fault_of, closing_fault_in, segment_by, segment_in, closed_cell, closing_by, Looks, FindsSegment, Weighs}
+use Rattle.mm_opt.proofs.Below.{Closes, closing_handed_on, EndsClosing, EndsLooking, ClosesSegment, LeavesStill, ClosingStepsRefused}
+use Rattle.mm_opt.proofs.Below.{ClosingStepsBy}
 use Rattle.mm_seal.specs.declared.cell.CellFault.TheVariants as fault
-use Rattle.mm_opt.specs.Checkpoints.{one_step, two_steps, three_steps}
+use Rattle.mm_opt.specs.declared.segment.Checkpointed.TheVariants.{Done, NoSegment}
+use Rattle.mm_opt.specs.declared.segment.CheckpointRefusal.TheVariants as refusal
+use Rattle.mm_opt.specs.Checkpoints.{FindsClosing, ThreeStepsAndWrite, one_step, two_steps, three_steps}
 use Rattle.mm_opt.proofs.Asking.{register_untouched, then_untouched}
-use Rattle.mm_opt.proofs.EachClosing.{each_closing, Weighed}
+
+-- what a checkpoint gives by its last step
+abbrev pub closed_or : Option StepFault → Result Checkpointed CheckpointRefusal
+closed_or None = Ok Done
+closed_or (Some fault) = Err (refusal.Device fault)
+
+pub closed_fault : (fault : Option StepFault) → closing_fault_in (closed_or fault) ≡ fault
+closed_fault None = refl
+closed_fault (Some fault) = refl
+
+module _ (old : Standing) (P : Standing → Result Checkpointed CheckpointRefusal → Type 0) where
+  -- What holds at each end: the first step fails or is refused, or finds no segment; the second fails or is refused; the last is done or
+  -- fails. What holds of each holds of every checkpoint.
+  pub record Each : Type 0 where
+    pub refuses : (why : CheckpointRefusal) (one : Standing) → Looks old one (Err why) → P one (Err why)
+    pub shut : (one : Standing) → Looks old one (Ok Shut) → P one (Ok NoSegment)
+    pub later_refuses : (why : CheckpointRefusal) (cell : Cell) (one two : Standing) → Looks old one (Ok (Open cell))
+        → Weighs cell one two (Err why) → P two (Err why)
+    pub closes : (fault : Option StepFault) (cell : Cell) (next : List ℕ) (one two new : Standing) → Looks old one (Ok (Open cell))
+        → Weighs cell one two (Ok next) → Goes (WriteCell next) two new fault → P new (closed_or fault)
+
+  module _ (each : Each) where
+    closed : (written : Result Checkpointed StepFault) (cell : Cell) (next : List ℕ) (one two new : Standing)
+        → Looks old one (Ok (Open cell)) → Weighs cell one two (Ok next) → Closes next two new written → P new (closing_handed_on written)
+    closed (Ok it) cell next one two new l w c = rw c.gives (each.closes None cell next one two new l w c.goes)
+    closed (Err fault) cell next one two new l w c = each.closes (Some fault) cell next one two new l w c.goes
+
+    weighed : (found : Result (List ℕ) CheckpointRefusal) (cell : Cell) (one two new : Standing) (result : Result Checkpointed CheckpointRefusal)
+        → Looks old one (Ok (Open cell)) → Weighs cell one two found → EndsClosing found two new result → P new result
+    weighed (Err why) cell one two new result l w e = rw (e.0, e.1) (each.later_refuses why cell one two l w)
+    weighed (Ok next) cell one two new result l w e = rw e.gives (closed e.written cell next one two new l w e.closes)
+
+    looked : (found : Result Segment CheckpointRefusal) (one new : Standing) (result : Result Checkpointed CheckpointRefusal)
+        → Looks old one found → EndsLooking found one new result → P new result
+    looked (Err why) one new result l e = rw (e.0, e.1) (each.refuses why one l)
+    looked (Ok Shut) one new result l e = rw (e.0, e.1) (each.shut one l)
+    looked (Ok (Open cell)) one new result l e = weighed e.found cell one e.middle new result l e.weighs e.ends
+
+    pub each_closing : (new : Standing) (result : Result Checkpointed CheckpointRefusal) → ClosesSegment old new result → P new result
+    each_closing new result c = looked c.found c.middle new result c.looks c.ends
+
+-- what a checkpoint leaves
+
+still_closed : (fault : Option StepFault) (old new : Standing) → LeavesStill (closed_or fault) old new
+still_closed None old new = tt
+still_closed (Some fault) old new = λ (none : Some fault ≡ None). absurd (cc)
 
 pub leaves_still : (old new : Standing) (result : Result Checkpointed CheckpointRefusal) → ClosesSegment old new result
     → LeavesStill result old new
 leaves_still old = each_closing old (λ (n : Standing) (r : Result Checkpointed CheckpointRefusal). LeavesStill r old n) (record {
-  first_fails = λ fault one g (none : Some fault ≡ None). absurd (cc);
-  first_refuses = λ why one quiet g f _. read_untouched old one g;
-  shut = λ one g f. read_untouched old one g;
-  second_fails = λ cell fault one two o g (none : Some fault ≡ None). absurd (cc);
-  second_refuses = λ cell why one two quiet w _.
-      then_untouched old one two (read_untouched old one w.opened.goes) (register_untouched one two w.goes);
-  closes = λ cell next one two new w g. tt;
-  last_fails = λ cell next fault one two new w g (none : Some fault ≡ None). absurd (cc);
+  refuses = λ why one l quiet. read_untouched old one (subst (Goes ReadCell old one) quiet l.goes);
+  shut = λ one l. read_untouched old one l.goes;
+  later_refuses = λ why cell one two l w quiet.
+      then_untouched old one two (read_untouched old one l.goes) (register_untouched one two (subst (Goes ReadRegister one two) quiet w.goes));
+  closes = λ fault cell next one two new l w g. still_closed fault old new;
 })
 
 -- whom a checkpoint blames
-
-quietly : (why : CheckpointRefusal) (before now : ℕ) → closing_fault_of why ≡ None → now ≡ before
-    → Blames (closing_fault_of why) before now
-quietly why before now quiet same = subst (λ (f : Option StepFault). Blames f before now) (sym quiet) same
-
-as_before : (old one two : Standing) (cell : Cell) (found : Result (List ℕ) CheckpointRefusal) → Weighed old one two cell found
-    → two.faults ≡ old.faults
-as_before old one two cell found w = w.goes.ends.faults ∙ w.opened.goes.ends.faults
-
 pub closing_blamed : (old new : Standing) (result : Result Checkpointed CheckpointRefusal) → ClosesSegment old new result
     → Blames (closing_fault_in result) old.faults new.faults
 closing_blamed old = each_closing old
     (λ (n : Standing) (r : Result Checkpointed CheckpointRefusal). Blames (closing_fault_in r) old.faults n.faults) (record {
-      first_fails = λ fault one g. blamed (Some fault) old one g.is_made g.ends;
-      first_refuses = λ why one quiet g f. quietly why old.faults one.faults quiet g.ends.faults;
-      shut = λ one g f. g.ends.faults;
-      second_fails = λ cell fault one two o g.
-          blamed_later (Some fault) old.faults one.faults two.faults o.goes.ends.faults (blamed (Some fault) one two g.is_made g.ends);
-      second_refuses = λ cell why one two quiet w.
-          quietly why old.faults two.faults quiet (as_before old one two cell (Err why) w);
-      closes = λ cell next one two new w g. g.ends.faults ∙ as_before old one two cell (Ok next) w;
-      last_fails = λ cell next fault one two new w g.
-          blamed_later (Some fault) old.faults two.faults new.faults (as_before old one two cell (Ok next) w)
-          (blamed (Some fault) two new g.is_made g.ends);
+      refuses = λ why one l. blamed (closing_fault_of why) old one l.goes.is_made l.goes.ends;
+      shut = λ one l. l.goes.ends.faults;
+      later_refuses = λ why cell one two l w.
+          blamed_later (closing_fault_of why) old.faults one.faults two.faults l.goes.ends.faults
+          (blamed (closing_fault_of why) one two w.goes.is_made w.goes.ends);
+      closes = λ fault cell next one two new l w g.
+          rw (closed_fault fault) (blamed_later fault old.faults two.faults new.faults (w.goes.ends.faults ∙ l.goes.ends.faults)
+          (blamed fault two new g.is_made g.ends));
     })
 
--- what the first step refuses, and what the second does: by the steps that are counted of it
-abbrev IsFirst : CheckpointRefusal → Type 0
-IsFirst why = (old new : Standing) → OneStep old new → ClosingStepsRefused why old new
+-- the steps of a checkpoint: the first never tells of lost power, and the second of nothing else
 
-abbrev IsSecond : CheckpointRefusal → Type 0
-IsSecond why = (old new : Standing) → TwoSteps old new → ClosingStepsRefused why old new
+never_by : (variant : Variant) (flag : Bool) (cell : Cell) → Err refusal.Lost ≡ segment_by variant flag cell → ⊥
+never_by Basic flag cell e = cc
+never_by Opt true cell e = cc
+never_by Opt false cell e = cc
 
-abbrev IsFirstIn : Result Segment CheckpointRefusal → Type 0
-IsFirstIn (Ok segment) = Unit {0}
-IsFirstIn (Err why) = IsFirst why
+never_lost : (read : Result Cell CellFault) → Err refusal.Lost ≡ segment_in read → ⊥
+never_lost (Err fault.Blank) e = cc
+never_lost (Err fault.Cell) e = cc
+never_lost (Ok cell) e = never_by cell.variant cell.flag cell e
 
-abbrev IsSecondIn : Result (List ℕ) CheckpointRefusal → Type 0
-IsSecondIn (Ok next) = Unit {0}
-IsSecondIn (Err why) = IsSecond why
+first_steps : (why : CheckpointRefusal) (old one : Standing) → OneStep old one → (closing_fault_of why ≡ None → FindsSegment old (Err why))
+    → ClosingStepsRefused why old one
+first_steps (refusal.Device fault) old one s f = one_step s
+first_steps refusal.Lost old one s f = absurd (never_lost (f refl).sees.read (f refl).sees.found_is)
+first_steps _ old one s f = s
 
-first_by : (variant : Variant) (flag : Bool) (cell : Cell) → IsFirstIn (segment_by variant flag cell)
-first_by Basic flag cell = λ old new one. one
-first_by Opt false cell = tt
-first_by Opt true cell = tt
+-- the bytes that close the segment, by whether power was lost
+abbrev pub ClosingIs : Bool → Cell → List ℕ → Result (List ℕ) CheckpointRefusal → Type 0
+ClosingIs lost cell register (Err why) = (lost ≡ true) × (why ≡ refusal.Lost)
+ClosingIs lost cell register (Ok next) = (lost ≡ false) × (next ≡ closed_cell cell register)
 
-first_in : (read : Result Cell CellFault) → IsFirstIn (segment_in read)
-first_in (Err fault.Blank) = λ old new one. one
-first_in (Err fault.Cell) = λ old new one. one
-first_in (Ok cell) = first_by cell.variant cell.flag cell
+pub closing_is : (lost : Bool) (cell : Cell) (register : List ℕ) → ClosingIs lost cell register (closing_by lost cell register)
+closing_is true cell register = (refl, refl)
+closing_is false cell register = (refl, refl)
 
-second_by : (zero : Bool) (cell : Cell) (register : List ℕ) → IsSecondIn (closing_by zero cell register)
-second_by true cell register = λ old new two. two
-second_by false cell register = tt
+later_steps : (why : CheckpointRefusal) (cell : Cell) (old two : Standing) → TwoSteps old two
+    → (closing_fault_of why ≡ None → FindsClosing cell two (Err why)) → ClosingStepsRefused why old two
+later_steps (refusal.Device fault) cell old two s f = two_steps s
+later_steps _ cell old two s f =
+    let w = f refl in
+    let c = subst (ClosingIs (bytes_eq w.register zero_bytes) cell w.register) (sym w.found_is)
+    (closing_is (bytes_eq w.register zero_bytes) cell w.register) in
+    subst (λ (x : CheckpointRefusal). ClosingStepsRefused x old two) (sym c.1) s
 
-twice : (old one two : Standing) (cell : Cell) (found : Result (List ℕ) CheckpointRefusal) → Weighed old one two cell found
-    → TwoSteps old two
-twice old one two cell found w =
-    (w.goes.steps ∙ ap counted w.opened.goes.steps, w.goes.writes ∙ w.opened.goes.writes)
+last_steps : (fault : Option StepFault) (old new : Standing) → ThreeStepsAndWrite old new → ClosingStepsBy (closed_or fault) old new
+last_steps None old new s = s
+last_steps (Some fault) old new s = three_steps s
 
 pub closing_steps : (old new : Standing) (result : Result Checkpointed CheckpointRefusal) → ClosesSegment old new result
     → ClosingStepsBy result old new
 closing_steps old = each_closing old (λ (n : Standing) (r : Result Checkpointed CheckpointRefusal). ClosingStepsBy r old n) (record {
-  first_fails = λ fault one g. one_step (g.steps, g.writes);
-  first_refuses = λ why one quiet g f.
-      subst IsFirstIn (sym f.sees.found_is) (first_in f.sees.read) old one (g.steps, g.writes);
-  shut = λ one g f. (g.steps, g.writes);
-  second_fails = λ cell fault one two o g. two_steps (g.steps ∙ ap counted o.goes.steps, g.writes ∙ o.goes.writes);
-  second_refuses = λ cell why one two quiet w.
-      subst IsSecondIn (sym w.finds.found_is) (second_by (bytes_eq w.finds.register zero_bytes) cell w.finds.register) old two
-      (twice old one two cell (Err why) w);
-  closes = λ cell next one two new w g.
-      let t = twice old one two cell (Ok next) w in (g.steps ∙ ap counted t.0, g.writes ∙ ap counted t.1);
-  last_fails = λ cell next fault one two new w g.
-      let t = twice old one two cell (Ok next) w in three_steps (g.steps ∙ ap counted t.0, g.writes ∙ ap counted t.1);
+  refuses = λ why one l. first_steps why old one (l.goes.steps, l.goes.writes) l.finds;
+  shut = λ one l. (l.goes.steps, l.goes.writes);
+  later_refuses = λ why cell one two l w.
+      later_steps why cell old two (w.goes.steps ∙ ap counted l.goes.steps, w.goes.writes ∙ l.goes.writes) w.finds;
+  closes = λ fault cell next one two new l w g. last_steps fault old new (
+    g.steps ∙ ap counted (w.goes.steps ∙ ap counted l.goes.steps),
+    g.writes ∙ ap counted (w.goes.writes ∙ l.goes.writes),
+  );
 })

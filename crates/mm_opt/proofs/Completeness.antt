@@ -3,20 +3,21 @@ use Rattle.mm_opt.proofs.Below.{◌≡◌, ℕ, ◌+◌, ◌≤◌, ◌^◌, Boo
 use Rattle.mm_opt.proofs.Below.{Err, refl, sym, ap, ◌∙◌, subst, inl, inr, le-leb, if◌then◌else◌, nat_eq, nat_le, bytes_eq, Opt}
 use Rattle.mm_opt.proofs.Below.{StepFault, Standing, Meaning, Batch, size_of, normal, members_of-normal, Content, tag_of, offered_of}
 use Rattle.mm_opt.proofs.Below.{Instance, opt, History, Move, Foreign, Value, total_of, judge, judged, is_last, Digests, digests_of}
-use Rattle.mm_opt.proofs.Below.{IsRight, ask_steps, BatchAnswer, Refusal, Verdict, Fresh, Again, Lost, Stale, called, ended_by}
+use Rattle.mm_opt.proofs.Below.{IsRight, ask_steps, BatchAnswer, Refusal, Verdict, Fresh, Again, called, ended_by}
 use Rattle.mm_opt.proofs.Below.{given_for, End, Done, Course, Walked, walk, found_by_verdict, found_at, found_with}
 use Rattle.mm_opt.proofs.Below.{found_unless_wanting, is_fresh, Blames, IsAccepted, IsAnswered, admitted, weighed, by_lists, by_digests}
 use Rattle.mm_opt.proofs.Below.{all_made, fault_in, shown, stands_at, asked_for, same_batches, is_agrees, before, sight_is, opt_calls_agree}
-use Rattle.mm_opt.proofs.Below.{two_reads, reading, past, cut, life_bare, opt_tied, changing, asks, foreign_first, foreign_in-first, Calls}
+use Rattle.mm_opt.proofs.Below.{two_reads, life_bare, opt_tied, changing, asks, foreign_first, foreign_in-first, Calls}
 use Rattle.mm_opt.proofs.Below.{opt_call}
 use Rattle.std.proofs.Common.{◌&&◌}
 use Rattle.std.proofs.lemmas.Slice.Eq.{bytes_eq-Decides}
 use Rattle.mm_seal.specs.Parts.{parts_of}
 use Rattle.mm_seal.specs.SealLaws.{sealed_parts}
-use Rattle.mm_model.specs.Life.{Life, Live, Spoiled, Lost as LostLife, life_of, is_lost}
+use Rattle.mm_model.specs.Life.{Life, Live, life_of, is_lost}
 use Rattle.mm_model.specs.declared.refusal.Refusal.TheVariants as refusal
 use Rattle.mm_call.specs.Asked.{counted_moves, foreign_in, IsAsked}
 use Rattle.mm_call.specs.Found.{Found}
+use Rattle.mm_call.specs.Courses.{Fails}
 use Rattle.mm_call.specs.Tied.{standing_items, foreign_items}
 use Rattle.mm_call.specs.ShowingLaws.{shown_same, counts_open}
 use Rattle.mm_opt.specs.Complete.{AnswersAccepted}
@@ -29,16 +30,10 @@ live_if : (l : Life) (here repeat : Bool) → IsAccepted (judged l here repeat) 
 live_if Live here repeat a = refl
 live_if _ here repeat a = absurd a
 
--- the verdict by this life and these batches
-abbrev IsAcceptedBy : Life → List Batch → ℕ → Batch → Type 0
-IsAcceptedBy l batches p b =
-    IsAccepted (judged l (nat_eq p (total_of batches)) (nat_eq (p + size_of b) (total_of batches) && is_last batches b))
-
 -- and so it is accepted on another live history of the same batches
 accepted_then : (y sees : History) (p : ℕ) (b : Batch) → sees.batches ≡ y.batches → life_of Opt sees ≡ Live
     → life_of Opt y ≡ Live → IsAccepted (judge Opt y p b) → IsAccepted (judge Opt sees p b)
-accepted_then y sees p b same there live a =
-    subst IsAccepted (sym (simp (same, there, live))) a
+accepted_then y sees p b same there live a = subst IsAccepted (sym (simp (same, there, live))) a
 
 -- it was found
 record IsFound (x : Result Found Refusal) : Type 0 where
@@ -85,45 +80,31 @@ repeat_found i y offer b content live right again fits =
 
 -- What a call sees.
 
--- a walk that isn't broken off has made both reading steps
-both_done : (v : List (List ℕ)) (e : End) (w : List (List ℕ)) (f : End) (rest : Walked) → (two_reads v e w f rest).broken ≡ None
-    → (e ≡ Done) × (f ≡ Done)
-both_done v e w f rest whole =
-    elim (reading v w e f) [
-      | past p q ↦ (p, q)
-      | cut walked brought fault is moves broken ↦
-          let clash : None ≡ Some fault = sym whole ∙ ap (λ (x : Walked). x.broken) (is rest) ∙ broken in absurd (cc)
-    ]
-
 nil_front : (xs ys : List (List ℕ)) → xs ++ ys ≡ [] → (xs ≡ []) × (ys ≡ [])
 nil_front [] ys e = (refl, e)
 nil_front (x ∷ xs) ys e = absurd (cc)
 
-no_values : (v w : List (List ℕ)) (rest : List Move) → foreign_in (map Foreign v ++ (map Foreign w ++ rest)) ≡ [] → (v ≡ []) × (w ≡ [])
-no_values v w rest e =
-    let one = nil_front v (foreign_in (map Foreign w ++ rest)) (sym (foreign_in-first v (map Foreign w ++ rest)) ∙ e) in
-    let two = nil_front w (foreign_in rest) (sym (foreign_in-first w rest) ∙ one.1) in
-    (one.0, two.0)
+-- where a walk isn't broken off and nobody brought values, the reading steps brought none
+none_brought : (v : List (List ℕ)) (e : End) (w : List (List ℕ)) (f : End) (rest : Walked) → (two_reads v e w f rest).broken ≡ None
+    → foreign_in (two_reads v e w f rest).moves ≡ [] → (v ≡ []) × (w ≡ [])
+none_brought v Done w Done rest whole none =
+    let one = nil_front v (foreign_in (map Foreign w ++ rest.moves)) (sym (foreign_in-first v (map Foreign w ++ rest.moves)) ∙ none) in
+    (one.0, (nil_front w (foreign_in rest.moves) (sym (foreign_in-first w rest.moves) ∙ one.1)).0)
+none_brought v Done w (Fails fault made) rest whole none = absurd (cc)
+none_brought v (Fails fault made) w f rest whole none = absurd (cc)
 
 -- what a call sees is live, where nobody brought values inside a segment
-sees_open : (i : Instance) (y : History) (c : Course) → (c.fates 1).brings ≡ [] → (c.fates 2).brings ≡ []
-    → all_made (by_lists i) y (before c) ≡ y
-sees_open i y c p q =
-    ap (λ (v : List (List ℕ)). all_made (by_lists i) y (map Foreign v ++ (map Foreign (c.fates 2).brings ++ []))) p
-    ∙ ap (λ (w : List (List ℕ)). all_made (by_lists i) y (map Foreign w ++ [])) q
-
-sees_shut : (meaning : Meaning) (key barrier : List ℕ) (y : History) (c : Course) → y.is_open ≡ false
-    → life_of Opt (all_made (by_lists (opt meaning key barrier)) y (before c)) ≡ life_of Opt y
-sees_shut meaning key barrier y c e =
-    let items = (y.items ++ map Value (c.fates 1).brings) ++ map Value (c.fates 2).brings in
-    ap (life_of Opt) (sight_is (opt meaning key barrier) y c) ∙ life_bare y items e ∙ sym (life_bare y y.items e)
-
 sees_live : (flag : Bool) (meaning : Meaning) (key barrier : List ℕ) (y : History) (c : Course) → life_of Opt y ≡ Live → y.is_open ≡ flag
     → (flag ≡ true → ((c.fates 1).brings ≡ []) × ((c.fates 2).brings ≡ []))
     → life_of Opt (all_made (by_lists (opt meaning key barrier)) y (before c)) ≡ Live
 sees_live true meaning key barrier y c live e none =
-    ap (life_of Opt) (sees_open (opt meaning key barrier) y c (none refl).0 (none refl).1) ∙ live
-sees_live false meaning key barrier y c live e none = sees_shut meaning key barrier y c e ∙ live
+    let i : Instance = opt meaning key barrier in
+    let same : all_made (by_lists i) y (before c) ≡ y = λ j. all_made (by_lists i) y
+    (map Foreign ((none refl).0 j) ++ (map Foreign ((none refl).1 j) ++ [])) in
+    ap (life_of Opt) same ∙ live
+sees_live false meaning key barrier y c live e none =
+    let items = (y.items ++ map Value (c.fates 1).brings) ++ map Value (c.fates 2).brings in
+    ap (life_of Opt) (sight_is (opt meaning key barrier) y c) ∙ life_bare y items e ∙ sym (life_bare y y.items e) ∙ live
 
 -- a call that found an offer that is accepted, or lacked memory, or was broken off
 answered_by : (broken : Option StepFault) (lacks : Bool) (i : Instance) (sees end : History) (b : Batch) (moves : List Move)
@@ -131,14 +112,8 @@ answered_by : (broken : Option StepFault) (lacks : Bool) (i : Instance) (sees en
     → Blames (fault_in (given_for (ended_by (by_lists i) sees end b (found_unless_wanting x lacks) moves broken))) old.faults new.faults
     → IsAnswered (given_for (ended_by (by_lists i) sees end b (found_unless_wanting x lacks) moves broken)) old new
 answered_by (Some fault) lacks i sees end b moves old new x finds blames = inr (inr (refl, blames))
-answered_by None lacks i sees end b moves old new x finds blames =
-    subst (λ (r : Result Found Refusal). IsAnswered (given_for (ended_by (by_lists i) sees end b (found_unless_wanting r lacks) moves None))
-    old new) (sym (finds refl).is) (or_lacks lacks)
-  where
-    or_lacks : (lacks : Bool)
-        → IsAnswered (given_for (ended_by (by_lists i) sees end b (found_unless_wanting (Ok (finds refl).found) lacks) moves None)) old new
-    or_lacks false = inl refl
-    or_lacks true = inr (inl refl)
+answered_by None false i sees end b moves old new x finds blames = rw (finds refl).is (inl refl)
+answered_by None true i sees end b moves old new x finds blames = rw (finds refl).is (inr (inl refl))
 
 pub complete : (meaning : Meaning) (old new : Standing) (offer : List ℕ) (batch : Batch) (result : Result BatchAnswer Refusal)
     → Calls opt_call meaning old new offer batch result → Blames (fault_in result) old.faults new.faults
@@ -177,12 +152,8 @@ complete meaning old new offer batch result calls blames short key barrier y all
     (t.are items) (sym g.items ∙ ends) in
     let empty : foreign_in moves ≡ [] = ap (λ (f : Bool). foreign_in (counted_moves f moves)) (sym e) ∙ t.tied.values
     ∙ ap foreign_items more_is ∙ alone e in
-    let done = both_done v (c.course.fates 1).ends u (c.course.fates 2).ends rest (ap (λ (x : Walked). x.broken) (sym steps) ∙ whole) in
-    let there : foreign_in (two_reads v Done u Done rest).moves ≡ [] =
-    ap (λ (z : End). foreign_in (two_reads v Done u z rest).moves) (sym done.1)
-    ∙ ap (λ (z : End). foreign_in (two_reads v z u (c.course.fates 2).ends rest).moves) (sym done.0)
-    ∙ ap (λ (x : Walked). foreign_in x.moves) (sym steps) ∙ ap foreign_in (sym same.moves) ∙ empty in
-    no_values v u rest.moves there in
+    none_brought v (c.course.fates 1).ends u (c.course.fates 2).ends rest (ap (λ (x : Walked). x.broken) (sym steps) ∙ whole)
+    (ap (λ (x : Walked). foreign_in x.moves) (sym steps) ∙ ap foreign_in (sym same.moves) ∙ empty) in
     let batches : sees.batches ≡ y.batches = same_batches i (before c.course) y (foreign_first v (map Foreign u ++ []) ∙ foreign_first u [])
     in
     let finds : walked.broken ≡ None → IsFound at = λ whole.

@@ -3,7 +3,7 @@ use Rattle.mm_opt.proofs.Below.{◌≡◌, ℕ, Bool, true, false, List, length,
 use Rattle.mm_opt.proofs.Below.{inl, inr, arith, IsTrue, nat_tests, StepFault, Item, Standing, item_values, register_after, ReadRegister}
 use Rattle.mm_opt.proofs.Below.{Goes, nat_le, bytes_eq, last_position, IsLawful, Meaning, Batch, size_of, Cell, CellFault, Blank, IsCell}
 use Rattle.mm_opt.proofs.Below.{Unspelled, PartsFault, Form, Kind, Snapshot, tag_of, BatchAnswer, Refusal, Verdict, Fresh, Again}
-use Rattle.mm_opt.proofs.Below.{Lost, Stale, admitted, examined, weighed, fault_of, fault_in, OrMemory, Found, Repeat, Inside, Opens}
+use Rattle.mm_opt.proofs.Below.{admitted, examined, weighed, fault_of, fault_in, OrMemory, Found, Repeat, Inside, Opens}
 use Rattle.mm_opt.proofs.Below.{is_cell_of, own_cell, cell_in, batch_value, has_lost_power, verdict_of, answer_of, answer_in, change_by}
 use Rattle.mm_opt.proofs.Below.{found_from, found_in_offer, found_unless, found_in, opened_cell, ReadsOwnCell, FindsIn, MakesRoom}
 use Rattle.mm_opt.proofs.Below.{ReadsRegister, ReadsOn, OneStep, TwoSteps, one_step, two_steps, StepsRefused, extension_at, extension_after}
@@ -48,6 +48,11 @@ reads_register meaning cell old middle new offer b register found result goes to
   };
   room = room;
 }
+
+-- the cell that is seen is the one that was read
+pub own_is : (t : Bool) (cell seen : Cell) → own_cell t cell ≡ Ok seen → seen ≡ cell
+own_is true cell seen e = cc
+own_is false cell seen e = cc
 
 -- what the first step refuses, and what the second does: by the steps that are counted of it
 abbrev pub IsFirst : Refusal → Type 0
@@ -184,11 +189,7 @@ module _ (meaning : Meaning) (cell : Cell) (b : Batch) where
       (at_made f.register f.size f.finds.taken)) f.finds.found_is)
 
 -- what was found, once the cell and the register were read
-pub reads_made : (seen : Result Cell Refusal) (meaning : Meaning) (old new : Standing) (offer : List ℕ) (b : Batch) (found : Found)
-    → ReadsOn meaning seen old new offer b (Ok found) → (cell : Cell) × (seen ≡ Ok cell) × Made meaning cell b found
-reads_made (Err why) meaning old new offer b found on = let e : Ok found ≡ Err why = on.1 in absurd (cc)
-reads_made (Ok cell) meaning old new offer b found on = (cell, refl, made meaning cell b old new offer (Ok found) on)
-
 pub reads_shaped : (seen : Result Cell Refusal) (meaning : Meaning) (old new : Standing) (offer : List ℕ) (b : Batch) (found : Found)
     → ReadsOn meaning seen old new offer b (Ok found) → IsShaped (Ok found)
-reads_shaped seen meaning old new offer b found on = (reads_made seen meaning old new offer b found on).2.shape
+reads_shaped (Err why) meaning old new offer b found on = let e : Ok found ≡ Err why = on.1 in absurd (cc)
+reads_shaped (Ok cell) meaning old new offer b found on = (made meaning cell b old new offer (Ok found) on).shape

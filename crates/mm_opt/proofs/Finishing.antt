@@ -6,7 +6,8 @@ use Rattle.mm_opt.proofs.Below.{BlamesFor, steps_blamed, steps_give, reading_bla
 use Rattle.mm_opt.proofs.Below.{Makes, ReadsOn, acts_for, answer_in, opt_call, acts_left, answer_left, Finishes}
 use Rattle.mm_opt.specs.declared.stage.Stage.TheVariants as stage
 use Rattle.mm_opt.proofs.Acting.{room_only}
-use Rattle.mm_opt.proofs.Going.{calls_to, refused_first}
+use Rattle.mm_opt.proofs.Asking.{refused_first}
+use Rattle.mm_opt.proofs.Going.{calls_to}
 
 -- a call that was finished from its begin
 pub calls_finished : (call : Stage) (meaning : Meaning) (old new : Standing) (offer : List ℕ) (b : Batch) (ended : Ended)

@@ -1,19 +1,20 @@
 -- A call of Opt is the walk of its steps on a course, by digests and by lists.
-use Rattle.mm_opt.proofs.Below.{◌≡◌, ℕ, Bool, true, false, List, [], ◌∷◌, length, map, None, Some, Result, Ok, Err, refl, sym, ap, ◌∙◌}
+use Rattle.mm_opt.proofs.Below.{◌≡◌, ℕ, Bool, true, false, List, [], ◌∷◌, length, map, None, Result, Ok, Err, refl, sym, ap, ◌∙◌}
 use Rattle.mm_opt.proofs.Below.{subst, arith, fold, Opt, zero_bytes, extended_of, Standing, ReadCell, ReadRegister, next_plan, Meaning}
 use Rattle.mm_opt.proofs.Below.{Batch, normal, Cell, IsCell, guard, Instance, opt, Commit, Foreign, Placed, Reset, Digests, Step, Reading}
 use Rattle.mm_opt.proofs.Below.{Changes, Writes, ask_steps, is_long, BatchAnswer, Refusal, Ended, EndsTo, AsksTo, Calls, IsCallSoFar}
 use Rattle.mm_opt.proofs.Below.{CallsOn, Course, Fate, step_moves, refused_as, CallsTo, Accepted, accepted_at, accepted_in}
 use Rattle.mm_opt.proofs.Below.{is_fresh, all_made, by_digests, fault_of, fault_in, cell_at, StandsAt, reads_of, reads_beside}
-use Rattle.mm_opt.proofs.Below.{with_register, IsWrite, changing, asks, fate_of, ends_fates, Tale, tale_on, reading_tale, MakesAll, AsMade}
-use Rattle.mm_opt.proofs.Below.{Told, GoesTo, course_by, lacks_in, told_on, refused_reading, told_reading, sees, finds, opt_calls_agree}
-use Rattle.mm_opt.proofs.Below.{Found, Repeat, Inside, Opens, Opening, opened_cell, FindsCell, ReadsOwnCell, FindsIn, ReadsRegister}
+use Rattle.mm_opt.proofs.Below.{with_register, IsWrite, changing, asks, fate_of, ends_fates, tale_on, reading_tale, MakesAll, AsMade}
+use Rattle.mm_opt.proofs.Below.{Told, course_by, lacks_in, told_on, refused_reading, told_reading, sees, finds, opt_calls_agree}
+use Rattle.mm_opt.proofs.Below.{Found, Repeat, Inside, Opens, Opening, opened_cell, FindsCell, ReadsOwnCell, ReadsRegister}
 use Rattle.mm_opt.proofs.Below.{ReadsOn, Reads, acts_for, opt_call}
 use Rattle.std.specs.Prelude.{◌≤◌}
 use Rattle.mm_call.proofs.Above as completing
 use Rattle.mm_opt.proofs.Acting.{room_only}
+use Rattle.mm_opt.proofs.Asking.{refused_first}
 use Rattle.mm_opt.proofs.Accepting.{AsFound, as_found}
-use Rattle.mm_opt.proofs.Stepping.{two_brought, seen_is, change_inside, change_emptied, change_placed, write_opened, reset_kept, placed_kept, seen_cell, read_value}
+use Rattle.mm_opt.proofs.Stepping.{two_brought, seen_is, change_inside, change_emptied, change_placed, write_opened, reset_kept, placed_kept, seen_cell, read_is}
 
 -- The steps that commit what was found
 
@@ -53,55 +54,24 @@ module _ (meaning : Meaning) (key barrier : List ℕ) (seen : Digests) (b : Batc
   as_made (Err why) x is so =
       (so, ap (λ (y : Result Accepted Refusal). changing seen.flag (is_fresh y) b) so ∙ changing_none seen.flag b)
   as_made (Ok (Repeat answer)) x is so =
-      let same : changing seen.flag (is_fresh x) b ≡ [] = simp (so.found_is, changing_none seen.flag b) in
-      (true, so, subst (MakesAll here seen []) (sym same) tt)
-  as_made (Ok (Inside ready)) x is so = (
-    false,
-    so.2,
-    let same : changing seen.flag (is_fresh x) b ≡ changing true true b = simp (so.2.found_is, so.0) in
+      let same : changing seen.flag (is_fresh x) b ≡ [] = simp (so.1.found_is, changing_none seen.flag b) in
+      (true, so.1, subst (MakesAll here seen []) (sym same) tt)
+  as_made (Ok (Inside ready)) x is so =
+      let same : changing seen.flag (is_fresh x) b ≡ changing true true b = simp (so.1.found_is, so.0.0) in (
+        false,
+        so.1,
         subst (MakesAll here seen (acts_for (Inside ready))) (sym same)
-        (change_inside meaning key barrier seen b ready.value.bytes so.0 so.1, refl, λ (_ : List (List ℕ)). tt),
-  )
-  as_made (Ok (Opens opening)) x is so = (
-    false,
-    so.3,
-    let same : changing seen.flag (is_fresh x) b ≡ changing false true b = simp (so.3.found_is, so.0) in
+            (change_inside meaning key barrier seen b ready.value.bytes so.0.0 so.0.1, refl, λ (_ : List (List ℕ)). tt),
+      )
+  as_made (Ok (Opens opening)) x is so =
+      let same : changing seen.flag (is_fresh x) b ≡ changing false true b = simp (so.1.found_is, so.0.0) in (
+        false,
+        so.1,
         subst (MakesAll here seen (acts_for (Opens opening))) (sym same)
-        (opening_made opening so.0 so.1 so.2 is),
-  )
+            (opening_made opening so.0.0 so.0.1 so.0.2 is),
+      )
 
 -- The reading steps
-
--- what the second step reads, where the first was made on these digests
-second_found : (meaning : Meaning) (key barrier : List ℕ) (d : Digests) (cell : Cell) (old first second : Standing) (offer : List ℕ)
-    (b : Batch) (found : Result Found Refusal) → StandsAt (opt meaning key barrier) old d
-    → (r : ReadsOwnCell meaning.id old first (Ok cell)) → (on : ReadsRegister meaning cell first second offer b found)
-    → fault_in found ≡ None
-    → AsFound (opt meaning key barrier)
-    (all_made (by_digests (opt meaning key barrier)) (all_made (by_digests (opt meaning key barrier)) d (map Foreign r.goes.others))
-    (map Foreign on.goes.others)) (normal b)
-    (accepted_in (accepted_at (opt meaning key barrier) (by_digests (opt meaning key barrier))
-    (all_made (by_digests (opt meaning key barrier)) (all_made (by_digests (opt meaning key barrier)) d (map Foreign r.goes.others))
-    (map Foreign on.goes.others)) (normal b) offer) (lacks_in found)) found
-second_found meaning key barrier d cell old first second offer b found s r on quiet =
-    let i : Instance = opt meaning key barrier in
-    let v : List (List ℕ) = r.goes.others in
-    let w : List (List ℕ) = on.goes.others in
-    let seen : Digests = all_made (by_digests i) (all_made (by_digests i) d (map Foreign v)) (map Foreign w) in
-    let value : List ℕ = fold extended_of (fold extended_of d.register v) w in
-    let brought : seen ≡ with_register d value = two_brought i d v w in
-    let f = on.finds quiet in
-    let mine : Ok cell ≡ Ok (cell_at i d) = seen_cell meaning key barrier d old (Ok cell) (r.finds refl) s in
-    let own : cell ≡ cell_at i d = cc in
-    let same : cell ≡ cell_at i seen = own ∙ ap (λ (y : Digests). cell_at i y) (sym brought) in
-    let reads : reads_of on.middle.items ≡ Some value =
-    ap reads_of on.goes.items ∙ reads_beside first.items w (fold extended_of d.register v)
-    (ap reads_of r.goes.items ∙ reads_beside old.items v d.register s.reads) in
-    let read : f.register ≡ seen.register =
-    read_value on.middle.items value f.register reads f.told ∙ sym (ap (λ (y : Digests). y.register) brought) in
-    as_found meaning key barrier seen b offer found
-    (subst (λ (c : Cell). FindsIn meaning c seen.register offer b found) same
-    (subst (λ (v : List ℕ). FindsIn meaning cell v offer b found) read f.finds))
 
 unseen : (why : Refusal) (meaning : Meaning) (key barrier : List ℕ) (d : Digests) (old : Standing)
     → StandsAt (opt meaning key barrier) old d → FindsCell meaning.id old (Err why) → ⊥
@@ -109,87 +79,76 @@ unseen why meaning key barrier d old s f =
     let i : Instance = opt meaning key barrier in
     let e : Err why ≡ Ok (cell_at i d) = seen_cell meaning key barrier d old (Err why) f s in cc
 
-few_acts : (it : Found) → length (acts_for it) ≤ 49
+pub few_acts : (it : Found) → length (acts_for it) ≤ 49
 few_acts (Repeat answer) = omega arith
 few_acts _ = omega arith
 
--- where the first step refuses, that ends the call
-pub refused_first : (why : Refusal) (found : Result Found Refusal) (meaning : Meaning) (first second new : Standing) (offer : List ℕ)
-    (b : Batch) (ended : Ended) → ReadsOn meaning (Err why) first second offer b found → EndsTo opt_call found second new ended
-    → (new ≡ first) × (ended ≡ refused_as why)
-refused_first why found meaning first second new offer b ended on e =
-    let x : (new ≡ second) × (ended ≡ refused_as why) = subst (λ (f : Result Found Refusal). EndsTo opt_call f second new ended) on.1 e in
-    (x.0 ∙ on.0, x.1)
-
-module _ (meaning : Meaning) (offer : List ℕ) (b : Batch) (old first second new : Standing) (found : Result Found Refusal) (ended : Ended)
-    (e : EndsTo opt_call found second new ended) where
-  abbrev call_fates : (cell : Result Cell Refusal) → ReadsOwnCell meaning.id old first cell
-      → ReadsOn meaning cell first second offer b found → List Fate
-  call_fates (Err why) r on = fate_of ReadCell old first (fault_of why) r.goes ∷ []
-  call_fates (Ok cell) r on =
-      fate_of ReadCell old first None r.goes ∷ fate_of ReadRegister first on.middle (fault_in found) on.goes
-      ∷ ends_fates opt_call found second new ended e
-
-  call_tale : (cell : Result Cell Refusal) → (r : ReadsOwnCell meaning.id old first cell)
-      (on : ReadsOn meaning cell first second offer b found) → Tale (call_fates cell r on) 0 old new ended
-  call_tale (Err why) r on =
-      reading_tale ReadCell old first first new 0 (omega arith) refl opt_call (Err why) ended r.goes few_acts
-      (refused_first why found meaning first second new offer b ended on e)
-  call_tale (Ok cell) r on =
-      tale_on ReadCell old first first new
-      (fate_of ReadRegister first on.middle (fault_in found) on.goes ∷ ends_fates opt_call found second new ended e) 0 ended (omega arith)
-      r.goes refl
-      (reading_tale ReadRegister first on.middle second new 1 (omega arith) (room_only found on.middle second on.room) opt_call found ended
-      on.goes few_acts e)
-
-  -- what the call came to from digests that the platform stood at
-  goes_to : (cell : Result Cell Refusal) (key barrier : List ℕ) (d : Digests) → (r : ReadsOwnCell meaning.id old first cell)
-      (on : ReadsOn meaning cell first second offer b found) → StandsAt (opt meaning key barrier) old d
-      → GoesTo (opt meaning key barrier) d (course_by (call_fates cell r on) old (lacks_in found)) offer (normal b) old new ended
-  goes_to (Err why) key barrier d r on s =
+module _ (meaning : Meaning) (offer : List ℕ) (b : Batch) (old new : Standing) (ended : Ended) where
+  -- where the first step refuses
+  refused_to : (why : Refusal) (one : Standing) → ReadsOwnCell meaning.id old one (Err why) → (new ≡ one) × (ended ≡ refused_as why)
+      → CallsTo Opt meaning old new offer b ended
+  refused_to why one r e =
+      let fates : List Fate = fate_of ReadCell old one (fault_of why) r.goes ∷ [] in
+      let c : Course = course_by fates old false in
+      completing.calls_to Opt meaning old new offer b ended fates false (λ (key barrier : List ℕ). opt_calls_agree meaning key barrier)
+      (reading_tale ReadCell old one one new 0 (omega arith) refl opt_call (Err why) ended r.goes few_acts e)
+      (λ (key barrier : List ℕ) (d : Digests) (s : StandsAt (opt meaning key barrier) old d).
       let i : Instance = opt meaning key barrier in
-      let c : Course = course_by (call_fates (Err why) r on) old (lacks_in found) in
       let x : Result Accepted Refusal = finds i d c offer (normal b) in
       subst (λ (st : List Step). Told i d (sees i d c) c.fates 1 st (normal b) x old new ended)
       (sym (asks d.flag (is_fresh x) (normal b)))
-      (refused_reading i d (next_plan old) 1 (Reading ∷ changing d.flag (is_fresh x) (normal b)) (normal b) x ReadCell tt old first first
-      new refl (sees i d c) (fault_of why) why ended refl r.goes
-      (refused_first why found meaning first second new offer b ended on e)
-      (λ (quiet : fault_of why ≡ None). absurd (unseen why meaning key barrier d old s (r.finds quiet))))
-  goes_to (Ok cell) key barrier d r on s =
+      (refused_reading i d (next_plan old) 1 (Reading ∷ changing d.flag (is_fresh x) (normal b)) (normal b) x ReadCell tt old one one new
+      refl (sees i d c) (fault_of why) why ended refl r.goes e
+      (λ (quiet : fault_of why ≡ None). absurd (unseen why meaning key barrier d old s (r.finds quiet)))))
+
+  -- where it doesn't
+  found_to : (cell : Cell) (found : Result Found Refusal) (one two : Standing) → ReadsOwnCell meaning.id old one (Ok cell)
+      → ReadsRegister meaning cell one two offer b found → EndsTo opt_call found two new ended → CallsTo Opt meaning old new offer b ended
+  found_to cell found one two r on e =
+      let later : List Fate = fate_of ReadRegister one on.middle (fault_in found) on.goes ∷ ends_fates opt_call found two new ended e in
+      let lacks : Bool = lacks_in found in
+      let fates : ℕ → Fate = (course_by (fate_of ReadCell old one None r.goes ∷ later) old lacks).fates in
+      let room = room_only found on.middle two on.room in
+      completing.calls_to Opt meaning old new offer b ended (fate_of ReadCell old one None r.goes ∷ later) lacks
+      (λ (key barrier : List ℕ). opt_calls_agree meaning key barrier)
+      (tale_on ReadCell old one one new later 0 ended (omega arith) r.goes refl
+      (reading_tale ReadRegister one on.middle two new 1 (omega arith) room opt_call found ended on.goes few_acts e))
+      (λ (key barrier : List ℕ) (d : Digests) (s : StandsAt (opt meaning key barrier) old d).
       let i : Instance = opt meaning key barrier in
-      let c : Course = course_by (call_fates (Ok cell) r on) old (lacks_in found) in
-      let one : Digests = all_made (by_digests i) d (map Foreign r.goes.others) in
-      let seen : Digests = all_made (by_digests i) one (map Foreign on.goes.others) in
-      let brought = two_brought i d r.goes.others on.goes.others in
-      let x : Digests → Result Accepted Refusal = λ y. accepted_in (accepted_at i (by_digests i) y (normal b) offer) (lacks_in found) in
-      subst (λ (y : Digests). Told i d y c.fates 1 (ask_steps Opt d.flag (is_fresh (x y)) (normal b)) (normal b) (x y) old new ended)
-      (sym (seen_is meaning key barrier d r.goes.others on.goes.others))
-      (subst (λ (st : List Step). Told i d seen c.fates 1 st (normal b) (x seen) old new ended)
+      let first : Digests = all_made (by_digests i) d (map Foreign r.goes.others) in
+      let seen : Digests = all_made (by_digests i) first (map Foreign on.goes.others) in
+      let value : List ℕ = fold extended_of (fold extended_of d.register r.goes.others) on.goes.others in
+      let x : Digests → Result Accepted Refusal = λ y. accepted_in (accepted_at i (by_digests i) y (normal b) offer) lacks in
+      let makes : fault_in found ≡ None
+      → AsMade opt_call i seen (normal b) (x seen) found (changing d.flag (is_fresh (x seen)) (normal b)) = λ quiet.
+      let f = on.finds quiet in
+      let mine : Ok cell ≡ Ok (cell_at i d) = seen_cell meaning key barrier d old (Ok cell) (r.finds refl) s in
+      let own : cell ≡ cell_at i d = cc in
+      let read = read_is meaning key barrier d old one on.middle (fault_in found) r.goes on.goes f.register s f.told in
+      subst (λ (y : Digests). AsMade opt_call i y (normal b) (x y) found (changing d.flag (is_fresh (x y)) (normal b)))
+      (sym (two_brought i d r.goes.others on.goes.others))
+      (as_made meaning key barrier (with_register d value) (normal b) found (x (with_register d value)) s.spells
+      (as_found meaning key barrier (with_register d value) b offer found (rw (own, read) at f.finds))) in
+      subst (λ (y : Digests). Told i d y fates 1 (ask_steps Opt d.flag (is_fresh (x y)) (normal b)) (normal b) (x y) old new ended)
+      (sym (seen_is i d r.goes.others on.goes.others))
+      (subst (λ (st : List Step). Told i d seen fates 1 st (normal b) (x seen) old new ended)
       (sym (asks d.flag (is_fresh (x seen)) (normal b)))
-      (told_on i d seen (next_plan old) 1 (Reading ∷ changing d.flag (is_fresh (x seen)) (normal b)) (normal b) (x seen) ReadCell tt old
-      first first new refl
-      (fate_of ReadRegister first on.middle (fault_in found) on.goes ∷ ends_fates opt_call found second new ended e) ended r.goes
-      (told_reading i one (next_plan old) 2 (changing d.flag (is_fresh (x seen)) (normal b)) (normal b) (x seen) ReadRegister tt first
-      on.middle second new (room_only found on.middle second on.room) opt_call found ended on.goes e
-      (λ (quiet : fault_in found ≡ None).
-      subst (λ (f : Bool). AsMade opt_call i seen (normal b) (x seen) found (changing f (is_fresh (x seen)) (normal b)))
-      (ap (λ (y : Digests). y.flag) brought)
-      (as_made meaning key barrier seen (normal b) found (x seen)
-      (subst (λ (y : Digests). IsCell (cell_at i y)) (sym brought) s.spells)
-      (second_found meaning key barrier d cell old first second offer b found s r on quiet))))))
+      (told_on i d seen (next_plan old) 1 (Reading ∷ changing d.flag (is_fresh (x seen)) (normal b)) (normal b) (x seen) ReadCell tt old one
+      one new refl later ended r.goes
+      (told_reading i first (next_plan old) 2 (changing d.flag (is_fresh (x seen)) (normal b)) (normal b) (x seen) ReadRegister tt one
+      on.middle two new room opt_call found ended on.goes e makes))))
 
 -- a call from its first step to its end
 pub calls_to : (meaning : Meaning) (old new : Standing) (offer : List ℕ) (b : Batch) (ended : Ended)
     → AsksTo opt_call meaning old new offer b ended → CallsTo Opt meaning old new offer b ended
-calls_to meaning old new offer b ended a =
-    let r = a.reads in
-    completing.calls_to Opt meaning old new offer b ended
-    (call_fates meaning offer b old r.middle a.middle new a.found ended a.ends r.cell r.reads r.on) (lacks_in a.found)
-    (λ (key barrier : List ℕ). opt_calls_agree meaning key barrier)
-    (call_tale meaning offer b old r.middle a.middle new a.found ended a.ends r.cell r.reads r.on)
-    (λ (key barrier : List ℕ) (d : Digests) (s : StandsAt (opt meaning key barrier) old d).
-    goes_to meaning offer b old r.middle a.middle new a.found ended a.ends r.cell key barrier d r.reads r.on s)
+calls_to meaning old new offer b ended a = by_cell a.reads.cell a.reads.reads a.reads.on
+  where
+    by_cell : (cell : Result Cell Refusal) → ReadsOwnCell meaning.id old a.reads.middle cell
+        → ReadsOn meaning cell a.reads.middle a.middle offer b a.found → CallsTo Opt meaning old new offer b ended
+    by_cell (Err why) r on =
+        refused_to meaning offer b old new ended why a.reads.middle r
+        (refused_first why a.found meaning a.reads.middle a.middle new offer b ended on a.ends)
+    by_cell (Ok cell) r on = found_to meaning offer b old new ended cell a.found a.reads.middle a.middle r on a.ends
 
 -- the reading steps of a call, with the steps that commit what they found, are the whole call
 pub prepared : (meaning : Meaning) (old new : Standing) (offer : List ℕ) (b : Batch) (found : Result Found Refusal)

@@ -5,8 +5,6 @@ mod FirstLaws
 mod Findings
 mod Asking
 mod Writing
-mod Fits
-mod EachClosing
 mod Checkpointing
 mod Acting
 mod Accepting

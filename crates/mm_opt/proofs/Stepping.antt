@@ -1,12 +1,12 @@
 -- The steps of a call over a platform, each by digests, and what is read by the first two.
 use Rattle.mm_opt.proofs.Below.{◌≡◌, ℕ, Bool, true, false, List, [], ◌∷◌, ◌++◌, map, Option, None, Some, Result, Ok, refl, sym}
-use Rattle.mm_opt.proofs.Below.{ap, ◌∙◌, subst, arith, ◌&&◌, nat_eq, fold, nat_tests, Variant, Opt, zero_bytes, extended_of}
+use Rattle.mm_opt.proofs.Below.{ap, ◌∙◌, subst, arith, nat_eq, fold, nat_tests, Opt, zero_bytes, extended_of}
 use Rattle.mm_opt.proofs.Below.{Item, own_item, Standing, item_values, register_after, ResetRegister, ExtendRegister}
-use Rattle.mm_opt.proofs.Below.{Meaning, Batch, Cell, CellFault, IsCell, cell_spelling, reads_cell-same, guard, Instance, opt, Move, Commit}
+use Rattle.mm_opt.proofs.Below.{Meaning, Batch, Cell, IsCell, cell_spelling, reads_cell-same, guard, Instance, opt, Move, Commit}
 use Rattle.mm_opt.proofs.Below.{Foreign, Placed, Reset, Digests, made, Refusal}
 use Rattle.mm_opt.proofs.Below.{all_made, by_digests}
-use Rattle.mm_opt.proofs.Below.{cell_at, StandsAt, shown_by, IsChange, IsWrite, reads_of}
-use Rattle.mm_opt.proofs.Below.{with_register, foreign_made, all_made-append, is_opt, own_cell, cell_in, FindsCell}
+use Rattle.mm_opt.proofs.Below.{cell_at, StandsAt, shown_by, IsChange, IsWrite, reads_of, reads_beside, StepFault, Goes, ReadCell, ReadRegister}
+use Rattle.mm_opt.proofs.Below.{with_register, foreign_made, all_made-append, FindsCell}
 use Rattle.std.proofs.lemmas.List.{append-nil}
 
 -- The steps of a call
@@ -18,11 +18,9 @@ two_brought i d v w =
     ap (λ (e : Digests). all_made (by_digests i) e (map Foreign w)) (foreign_made i d v)
     ∙ foreign_made i (with_register d (fold extended_of d.register v)) w
 
-pub seen_is : (meaning : Meaning) (key barrier : List ℕ) (d : Digests) (v w : List (List ℕ))
-    → all_made (by_digests (opt meaning key barrier)) d (map Foreign v ++ (map Foreign w ++ [])) ≡ all_made
-    (by_digests (opt meaning key barrier)) (all_made (by_digests (opt meaning key barrier)) d (map Foreign v)) (map Foreign w)
-seen_is meaning key barrier d v w =
-    let i : Instance = opt meaning key barrier in
+pub seen_is : (i : Instance) (d : Digests) (v w : List (List ℕ)) → all_made (by_digests i) d (map Foreign v ++ (map Foreign w ++ []))
+    ≡ all_made (by_digests i) (all_made (by_digests i) d (map Foreign v)) (map Foreign w)
+seen_is i d v w =
     all_made-append i d (map Foreign v) (map Foreign w ++ [])
     ∙ ap (λ (ms : List Move). all_made (by_digests i) (all_made (by_digests i) d (map Foreign v)) ms) (append-nil (map Foreign w))
 
@@ -32,8 +30,7 @@ pub change_inside : (meaning : Meaning) (key barrier : List ℕ) (d : Digests) (
     → value ≡ guard barrier b → IsChange (opt meaning key barrier) d (ExtendRegister value) (Commit b)
 change_inside meaning key barrier d b value is_open value_is =
     let i : Instance = opt meaning key barrier in
-    subst (λ (v : List ℕ). IsChange i d (ExtendRegister v) (Commit b)) (sym value_is)
-    (subst (λ (f : Bool). IsChange i (record d { flag = f }) (ExtendRegister (guard barrier b)) (Commit b)) (sym is_open)
+    rw value_is (subst (λ (f : Bool). IsChange i (record d { flag = f }) (ExtendRegister (guard barrier b)) (Commit b)) (sym is_open)
     (record { cell = λ r. refl; register = λ r. refl; shows = λ items. refl }))
 
 shows_reset : (flag : Bool) (i : Instance) (items : List Item) → shown_by Opt flag i Reset items ≡ []
@@ -52,9 +49,7 @@ change_emptied meaning key barrier d =
 pub change_placed : (meaning : Meaning) (key barrier : List ℕ) (d : Digests) (b : Batch) (value : List ℕ) → value ≡ guard barrier b
     → IsChange (opt meaning key barrier) d (ExtendRegister value) (Placed b)
 change_placed meaning key barrier d b value value_is =
-    let i : Instance = opt meaning key barrier in
-    subst (λ (v : List ℕ). IsChange i d (ExtendRegister v) (Placed b)) (sym value_is)
-    (record { cell = λ r. refl; register = λ r. refl; shows = shows_placed d.flag i b })
+    rw value_is (record { cell = λ r. refl; register = λ r. refl; shows = shows_placed d.flag (opt meaning key barrier) b })
 
 -- the cell of these digests, with the flag set
 abbrev pub opened_at : Instance → Digests → Cell
@@ -98,7 +93,16 @@ seen_cell meaning key barrier d old found f s =
     f.sees.found_is ∙ simp (same, same_number meaning.id)
 
 -- the register's value that is read
-pub read_value : (items : Option (List Item)) (r register : List ℕ) → reads_of items ≡ Some r
+read_value : (items : Option (List Item)) (r register : List ℕ) → reads_of items ≡ Some r
     → ((xs : List Item) → items ≡ Some xs → register ≡ register_after (item_values xs)) → register ≡ r
 read_value None r register e h = cc
 read_value (Some xs) r register e h = let f : register_after (item_values xs) ≡ r = cc in h xs refl ∙ f
+
+pub read_is : (meaning : Meaning) (key barrier : List ℕ) (d : Digests) (old one two : Standing) (fault : Option StepFault)
+    (r : Goes ReadCell old one None) (g : Goes ReadRegister one two fault) (register : List ℕ) → StandsAt (opt meaning key barrier) old d
+    → ((xs : List Item) → two.items ≡ Some xs → register ≡ register_after (item_values xs))
+    → register ≡ fold extended_of (fold extended_of d.register r.others) g.others
+read_is meaning key barrier d old one two fault r g register s told =
+    let before : List ℕ = fold extended_of d.register r.others in
+    read_value two.items (fold extended_of before g.others) register (ap reads_of g.items ∙ reads_beside one.items g.others before
+    (ap reads_of r.items ∙ reads_beside old.items r.others d.register s.reads)) told

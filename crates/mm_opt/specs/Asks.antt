@@ -1,6 +1,6 @@
 -- What a whole call does to the platform, and what it answers.
 use Rattle.std.specs.Prelude.{◌≡◌, ℕ, Bool, true, false, List, [], ◌∷◌, Some, Result, Ok, Err, ◌⊎◌}
-use Rattle.mm_opt.specs.Below.{counted, Opt, IsCell, cell_spelling, Cell, Standing, Act, WriteCell, ResetRegister, ExtendRegister, Batch}
+use Rattle.mm_opt.specs.Below.{counted, counted_by, Opt, IsCell, cell_spelling, Cell, Standing, Act, WriteCell, ResetRegister, ExtendRegister, Batch}
 use Rattle.mm_opt.specs.Below.{Meaning, BatchAnswer, Refusal, Long, Device, Blank, OtherCell, CallOf}
 use Rattle.mm_opt.specs.declared.found.Found.{Found}
 use Rattle.mm_opt.specs.declared.found.Found.TheVariants.{Repeat, Inside, Opens}
@@ -47,24 +47,26 @@ abbrev pub LeavesRoom : Result Found Refusal → Standing → Type 0
 LeavesRoom (Err why) standing = Unit {0}
 LeavesRoom (Ok found) standing = MayCommit found standing
 
+-- so many steps were made, and so many of them that write the cell
+abbrev pub StepsAre : ℕ → ℕ → Standing → Standing → Type 0
+StepsAre steps writes old new =
+    (new.steps ≡ counted_by steps old.steps) × (new.writes ≡ counted_by writes old.writes)
+
 -- how many steps a call made; the fifth is the one that writes the cell
 abbrev pub OneStep : Standing → Standing → Type 0
-OneStep old new = (new.steps ≡ counted old.steps) × (new.writes ≡ old.writes)
+OneStep = StepsAre 1 0
 
 abbrev pub TwoSteps : Standing → Standing → Type 0
-TwoSteps old new = (new.steps ≡ counted (counted old.steps)) × (new.writes ≡ old.writes)
+TwoSteps = StepsAre 2 0
 
 abbrev pub ThreeSteps : Standing → Standing → Type 0
-ThreeSteps old new = (new.steps ≡ counted (counted (counted old.steps))) × (new.writes ≡ old.writes)
+ThreeSteps = StepsAre 3 0
 
 abbrev pub FourSteps : Standing → Standing → Type 0
-FourSteps old new =
-    (new.steps ≡ counted (counted (counted (counted old.steps)))) × (new.writes ≡ old.writes)
+FourSteps = StepsAre 4 0
 
 abbrev pub FiveSteps : Standing → Standing → Type 0
-FiveSteps old new =
-    (new.steps ≡ counted (counted (counted (counted (counted old.steps)))))
-    × (new.writes ≡ counted old.writes)
+FiveSteps = StepsAre 5 1
 
 pub data StepsMade (old new : Standing) : Type 0 where
   one_step : OneStep old new → StepsMade old new

@@ -12,6 +12,7 @@ use Rattle.mm_opt.specs.declared.stage.CheckpointStage.TheVariants as stage
 use Rattle.mm_opt.specs.declared.closing.CheckpointTurn.{CheckpointTurn}
 use Rattle.mm_opt.specs.declared.closing.CheckpointTurn.TheVariants.{Going, Done, Refused}
 use Rattle.mm_opt.specs.Checkpoints.{closing_act_of, closing_fault_of, Looks, Weighs, Closes}
+use Rattle.mm_opt.specs.Turns.{TurnsBy}
 
 -- what the first turn gives, by the segment that it finds
 abbrev pub looked_turn : Result Segment CheckpointRefusal → CheckpointTurn
@@ -29,19 +30,11 @@ abbrev pub closed_turn : Result Checkpointed StepFault → CheckpointTurn
 closed_turn (Err fault) = Refused (Device fault)
 closed_turn (Ok it) = Done it
 
--- a turn gives what is drawn from the outcome of its step
-pub record TurnsClosingBy {A : Type 0} (steps : A → Type 0) (given : A → CheckpointTurn)
-    (turn : CheckpointTurn) : Type 0 where
-  pub outcome : A
-  pub step : steps outcome
-  pub gives : turn ≡ given outcome
-
 -- one turn of a checkpoint
 abbrev pub ClosingTurns : CheckpointStage → Standing → Standing → CheckpointTurn → Type 0
-ClosingTurns stage.Begun old new turn = TurnsClosingBy (Looks old new) looked_turn turn
-ClosingTurns (stage.Seen cell) old new turn = TurnsClosingBy (Weighs cell old new) weighed_turn turn
-ClosingTurns (stage.Closing next) old new turn =
-    TurnsClosingBy (Closes next old new) closed_turn turn
+ClosingTurns stage.Begun old new turn = TurnsBy (Looks old new) looked_turn turn
+ClosingTurns (stage.Seen cell) old new turn = TurnsBy (Weighs cell old new) weighed_turn turn
+ClosingTurns (stage.Closing next) old new turn = TurnsBy (Closes next old new) closed_turn turn
 
 -- the fault that a turn hands on
 abbrev pub closing_fault_turned : CheckpointTurn → Option StepFault

@@ -1,7 +1,7 @@
 -- The device steps of a checkpoint: what each does to the platform, and what it gives.
 use Rattle.std.specs.Prelude.{◌≡◌, ℕ, Bool, true, false, List, Option, None, Some, Result, Ok, Err}
 use Rattle.std.specs.Str.{bytes_eq}
-use Rattle.mm_opt.specs.Below.{counted, zero_bytes, anchored_of, Variant, Basic, Opt, ReadsCell, cell_spelling, Cell, CellFault, Item}
+use Rattle.mm_opt.specs.Below.{zero_bytes, anchored_of, Variant, Basic, Opt, ReadsCell, cell_spelling, Cell, CellFault, Item}
 use Rattle.mm_opt.specs.Below.{Standing, item_values, register_after, Act, ReadCell, WriteCell, ReadRegister, Goes, StepFault, digest_of}
 use Rattle.mm_opt.specs.Below.{IsUntouched}
 use Rattle.mm_seal.specs.declared.cell.CellFault.TheVariants as fault
@@ -14,7 +14,7 @@ use Rattle.mm_opt.specs.declared.segment.Segment.TheVariants.{Open, Shut}
 use Rattle.mm_opt.specs.declared.stage.CheckpointStage.{CheckpointStage}
 use Rattle.mm_opt.specs.declared.stage.CheckpointStage.TheVariants as stage
 use Rattle.mm_opt.specs.Steps.{Makes}
-use Rattle.mm_opt.specs.Asks.{OneStep, TwoSteps}
+use Rattle.mm_opt.specs.Asks.{OneStep, StepsAre, TwoSteps}
 
 -- the device step that a checkpoint makes next, and its number
 abbrev pub closing_act_of : CheckpointStage → Act
@@ -155,8 +155,7 @@ LeavesStill (Err why) old new = closing_fault_of why ≡ None → IsUntouched ol
 
 -- the third step of a checkpoint writes the cell
 abbrev pub ThreeStepsAndWrite : Standing → Standing → Type 0
-ThreeStepsAndWrite old new =
-    (new.steps ≡ counted (counted (counted old.steps))) × (new.writes ≡ counted old.writes)
+ThreeStepsAndWrite = StepsAre 3 1
 
 pub data ClosingStepsMade (old new : Standing) : Type 0 where
   one_step : OneStep old new → ClosingStepsMade old new

@@ -10,14 +10,12 @@ use Rattle.mm_opt.specs.declared.stage.Change.{Change}
 use Rattle.mm_opt.specs.declared.stage.Change.TheVariants as change
 use Rattle.mm_opt.specs.declared.call.Turn.{Turn}
 use Rattle.mm_opt.specs.declared.call.Turn.TheVariants.{Going, Done, Refused}
+use Rattle.mm_opt.specs.Finishes.{answer_left}
 use Rattle.mm_opt.specs.Steps.{act_of, MayGoOn, ReadsOwnCell, ReadsRegister, Extends, Empties, Places, Writes}
 
 -- the position after the batch, once it has run in memory
 abbrev pub position_in : Change → ℕ
-position_in (change.Inside ready) = ready.answer.position
-position_in (change.Emptying opening) = opening.answer.position
-position_in (change.Placing opening) = opening.answer.position
-position_in (change.Writing opening) = opening.answer.position
+position_in it = (answer_left it).position
 
 abbrev pub stage_position : Stage → Option ℕ
 stage_position stage.Begun = None
@@ -64,7 +62,7 @@ last_turn (Err fault) = Refused (Device fault)
 last_turn (Ok answer) = Done answer
 
 -- a turn gives what is drawn from the outcome of its step
-pub record TurnsBy {A : Type 0} (steps : A → Type 0) (given : A → Turn) (turn : Turn) : Type 0 where
+pub record TurnsBy {A T : Type 0} (steps : A → Type 0) (given : A → T) (turn : T) : Type 0 where
   pub outcome : A
   pub step : steps outcome
   pub gives : turn ≡ given outcome

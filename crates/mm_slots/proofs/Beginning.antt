@@ -3,8 +3,8 @@ use Rattle.mm_slots.proofs.Below.{◌≡◌, ◌∙◌, ◌+◌, ◌<◌, ℕ, t
 use Rattle.mm_slots.proofs.Below.{arith, vec_capacity, option_map, sum_by, One, meaning_of, Meddle, Quiet, Item, Plan, Standing, next_step}
 use Rattle.mm_slots.proofs.Below.{item_values, register_after, next_plan, quiet_plan, meddling, cycled, Instance, Foreign, PowerMove}
 use Rattle.mm_slots.proofs.Below.{is_long, Digests, made, register_reads, Extend, rising_from, offered_bytes, begun_call, plan_by, meddled}
-use Rattle.mm_slots.proofs.Below.{digest_in, flag_in, Stands, IsQuiet, extended_by, stands_extended, stands_settled, AsksInFlight}
-use Rattle.mm_slots.proofs.Below.{ClosesInFlight, asks_begun, closes_begun, asks_take_in, closes_take_in, may_take_in, Action, Asking}
+use Rattle.mm_slots.proofs.Below.{digest_in, flag_in, Stands, IsQuiet, extended_by, stands_extended, stands_settled, flight_takes_in}
+use Rattle.mm_slots.proofs.Below.{asks_begun, closes_begun, may_take_in, Action, Asking}
 use Rattle.mm_slots.proofs.Below.{Closing, CodeFlight, Said, Begun, Replied, CodeSlot, Turned, Asks, Closes, slot_instance, plays, merely}
 use Rattle.mm_slots.proofs.Below.{flying, beginning, begun, acted, acted_by, joined, digests_in, slot_in, flight_in, call_in, instance_in}
 use Rattle.mm_slots.proofs.Below.{Fits, Comes, flown, HasRegister, within_64}
@@ -13,8 +13,11 @@ use Rattle.mm_schedule.specs.declared.reply.Reply.TheVariants as reply
 use Rattle.mm_opt.specs.declared.stage.CheckpointStage.TheVariants as stage
 use Rattle.mm_slots.specs.declared.event.Action.TheVariants as action
 use Rattle.mm_slots.specs.declared.flight.Flight.TheVariants as code
-use Rattle.mm_slots.specs.Held.{Loses}
-use Rattle.mm_slots.proofs.Fitting.{settled, idle, mine_are, flight_of, plan_is, asking_of, closing_of}
+use Rattle.mm_flight.proofs.Above.{may_ask_planned}
+use Rattle.mm_schedule.specs.declared.header.Header.{Header}
+use Rattle.mm_steps.specs.Stopping.{IsInFlight}
+use Rattle.mm_slots.specs.Held.{left_of, Loses, MayGoOn}
+use Rattle.mm_slots.proofs.Fitting.{settled, idle, mine_are, flight_of, plan_is, call_of}
 
 -- what is said by whether a call is in flight
 
@@ -40,18 +43,34 @@ acts_flying standing slot what flight some =
 quiet_next : (standing : Standing) → IsQuiet standing → next_plan standing ≡ quiet_plan
 quiet_next standing q = plan_is standing quiet_plan q.plan
 
-begins_comes : (standing : Standing) (slot : CodeSlot) (flight : CodeFlight) → IsQuiet standing → Fits standing (flown slot flight)
-    → Comes standing slot (flown slot flight) (merely (flying (slot_in standing slot) (beginning (call_in flight))) Begun) Begun
-begins_comes standing slot flight q fits = record {
-  goes = record { fits = fits; header = refl; number = refl; few = omega arith; short = omega arith };
-  stands = λ j. record {
-    digests = digests_in standing slot;
-    issued = slot.issued.items;
-    flight = Some (record { call = call_in flight; meddles = (quiet_next standing q j).meddles; next = (quiet_next standing q j).at + 1 });
-  };
-  says = refl;
-  sayable = tt;
-}
+flight_begins : (standing : Standing) (slot : CodeSlot) (flight : CodeFlight) (what : Action) → Fits standing slot → IsQuiet standing
+    → IsInFlight (left_of slot.header flight) (instance_in slot) (digests_in standing slot) standing standing [] 1
+    → MayGoOn slot.issued.items (vec_capacity slot.issued) flight
+    → merely (flying (slot_in standing slot) (beginning (call_in flight))) Begun ≡ acted (instance_in slot) (slot_in standing slot) what
+    → Comes standing slot (flown slot flight) (acted (instance_in slot) (slot_in standing slot) what) Begun
+flight_begins standing slot flight what fits q begins may opens =
+    let flies = subst (λ (p : Plan). IsInFlight (left_of slot.header flight) (instance_in slot) (digests_in standing slot) standing standing
+    p.meddles (p.at + 1)) (sym (quiet_next standing q)) begins in
+    let next = quiet_next standing q in
+    comes_by standing slot (flown slot flight) (merely (flying (slot_in standing slot) (beginning (call_in flight))) Begun)
+    (acted (instance_in slot) (slot_in standing slot) what) Begun opens
+    (record {
+      goes =
+          record {
+            fits = record { flight = record { from = standing; flies = flies; may = may }; kept = fits.kept };
+            header = refl;
+            number = refl;
+            few = omega arith;
+            short = omega arith;
+          };
+      stands = λ j. record {
+        digests = digests_in standing slot;
+        issued = slot.issued.items;
+        flight = Some (record { call = call_in flight; meddles = (next j).meddles; next = (next j).at + 1 });
+      };
+      says = refl;
+      sayable = tt;
+    })
 
 pub ask_begins : (standing : Standing) (slot : CodeSlot) (asking : Asking) → Fits standing slot → slot.flight ≡ None
     → offered_bytes slot.issued.items asking.offer ≡ Some asking.bytes → is_long (One asking.request) ≡ false
@@ -62,37 +81,22 @@ ask_begins standing slot asking fits none some short is room =
     let s = slot_in standing slot in
     let i = instance_in slot in
     let at = idle standing slot none fits in
-    let key = rising_from slot.number in
-    let barrier = rising_from (128 + slot.number) in
-    let begins = asks_begun slot.header.variant (meaning_of slot.header.«module») key barrier (digests_in standing slot) standing
-    asking.call asking.bytes (One asking.request) is at.0 at.1 in
-    let flies = subst (λ (p : Plan). AsksInFlight slot.header.variant (meaning_of slot.header.«module») key barrier
-    (digests_in standing slot) standing
-    asking.call standing p.meddles (p.at + 1) asking.bytes (One asking.request)) (sym (quiet_next standing at.1)) begins in
     let on : Turned = merely (flying s (beginning (Asks asking.offer (One asking.request)))) Begun in
     let opens : begun i s asking.offer (One asking.request) (offered_bytes s.issued asking.offer) ≡ on = rw (some, short) refl in
-    comes_by standing slot (flown slot (code.Asks asking)) on (acted i s (action.Begin asking.offer asking.request)) Begun
+    flight_begins standing slot (code.Asks asking) (action.Begin asking.offer asking.request) fits at.1
+    (asks_begun slot.header.variant (meaning_of slot.header.«module») (rising_from slot.number) (rising_from (128 + slot.number))
+    (digests_in standing slot) standing at.0 at.1 asking.call asking.bytes (One asking.request) is)
+    (record { offered = some; short = short; room = room })
     (sym (acts_idle standing slot (action.Begin asking.offer asking.request) none ∙ opens))
-    (begins_comes standing slot (code.Asks asking) at.1
-    (record { flight = record { from = standing; flies = flies; offered = some; short = short; room = room }; kept = fits.kept }))
 
 pub close_begins : (standing : Standing) (slot : CodeSlot) → Fits standing slot → slot.flight ≡ None
     → Comes standing slot (flown slot (code.Closes (record { call = stage.Begun })))
     (acted (instance_in slot) (slot_in standing slot) action.Close) Begun
 close_begins standing slot fits none =
-    let s = slot_in standing slot in
     let at = idle standing slot none fits in
-    let key = rising_from slot.number in
-    let barrier = rising_from (128 + slot.number) in
-    let closing : Closing = record { call = stage.Begun } in
-    let begins = closes_begun slot.header.variant (meaning_of slot.header.«module») key barrier (digests_in standing slot) standing at.0
-    at.1 in
-    let flies = subst (λ (p : Plan). ClosesInFlight slot.header.variant (meaning_of slot.header.«module») key barrier
-    (digests_in standing slot) standing stage.Begun standing p.meddles (p.at + 1)) (sym (quiet_next standing at.1)) begins in
-    comes_by standing slot (flown slot (code.Closes closing)) (merely (flying s (beginning Closes)) Begun)
-    (acted (instance_in slot) s action.Close) Begun (sym (acts_idle standing slot action.Close none))
-    (begins_comes standing slot (code.Closes closing) at.1
-    (record { flight = record { from = standing; flies = flies }; kept = fits.kept }))
+    flight_begins standing slot (code.Closes (record { call = stage.Begun })) action.Close fits at.1
+    (closes_begun slot.header.variant (meaning_of slot.header.«module») (rising_from slot.number) (rising_from (128 + slot.number))
+    (digests_in standing slot) standing at.0 at.1) tt (sym (acts_idle standing slot action.Close none))
 
 -- others extend the register
 
@@ -174,11 +178,8 @@ back_from standing slot flight some fits = subst (λ (x : CodeSlot). Fits standi
 -- there is a next step to plan a value for
 may_meddle : (standing : Standing) (slot : CodeSlot) (flight : CodeFlight) → Fits standing slot → slot.flight ≡ Some flight
     → (next_plan standing).at < 255
-may_meddle standing slot (code.Asks asking) fits some =
-    let a = (asking_of standing slot asking (some_flight standing slot (code.Asks asking) some fits)).flies in
-    may_take_in standing (plan_by Quiet (next_plan standing).meddles) a.made a.flies.planned a.flies.few
-may_meddle standing slot (code.Closes closing) fits some =
-    let a = (closing_of standing slot closing (some_flight standing slot (code.Closes closing) some fits)).flies in
+may_meddle standing slot flight fits some =
+    let a = (call_of standing slot flight (some_flight standing slot flight some fits)).flies in
     may_take_in standing (plan_by Quiet (next_plan standing).meddles) a.made a.flies.planned a.flies.few
 
 -- what held of where the slot stood, and of the plan with the value in it, holds of where it stands and of its plan
@@ -214,34 +215,26 @@ moves old new slot value m P h =
     { stop = Quiet; meddles = meddled (next_plan old).meddles ((next_plan old).at + 1) value } in
     subst (λ (q : Plan). P (digests_in new slot) q) (sym m.plan) (subst (λ (x : Digests). P x p) (sym d) h)
 
+-- the room that a call takes is the same under another plan
+may_planned : (header : Header) (flight : CodeFlight) (old new : Standing) (plan : Option Plan) → new ≡ record old { plan = plan }
+    → (left_of header flight).may old → (left_of header flight).may new
+may_planned header (code.Asks asking) old new plan e may = rw e (may_ask_planned asking.call old plan may)
+may_planned header (code.Closes closing) old new plan e may = tt
+
 extends_flying : (old new : Standing) (slot : CodeSlot) (flight : CodeFlight) (value : Digest) → Fits old slot
     → slot.flight ≡ Some flight → new ≡ record old { plan = option_map (meddling value) old.plan }
     → Comes new slot slot (acted (instance_in slot) (slot_in old slot) (action.Extend value)) (Replied reply.Extended)
-extends_flying old new slot (code.Asks asking) value fits some e =
-    let f = asking_of old slot asking (some_flight old slot (code.Asks asking) some fits) in
+extends_flying old new slot flight value fits some e =
+    let f = call_of old slot flight (some_flight old slot flight some fits) in
     let a = f.flies in
     let p = next_plan old in
+    let left = left_of slot.header flight in
     let m = moved_by old new slot value a.made a.flies.planned a.flies.few a.is_next e in
-    let key = rising_from slot.number in
-    let barrier = rising_from (128 + slot.number) in
-    let flies = moves old new slot value m (λ x q. AsksInFlight slot.header.variant (meaning_of slot.header.«module») key barrier x f.from
-    asking.call new q.meddles (q.at + 1) asking.bytes (One asking.request)) (asks_take_in slot.header.variant
-    (meaning_of slot.header.«module») key barrier (digests_in old slot) f.from asking.call old new p.meddles (p.at + 1) asking.bytes
-    (One asking.request) value a e) in
-    joins_comes old new slot (code.Asks asking) value some m.cell m.plan (back_from new slot (code.Asks asking) some
-    (record { flight = record { from = f.from; flies = flies; offered = f.offered; short = f.short; room = f.room }; kept = fits.kept }))
-extends_flying old new slot (code.Closes closing) value fits some e =
-    let f = closing_of old slot closing (some_flight old slot (code.Closes closing) some fits) in
-    let a = f.flies in
-    let p = next_plan old in
-    let m = moved_by old new slot value a.made a.flies.planned a.flies.few a.is_next e in
-    let key = rising_from slot.number in
-    let barrier = rising_from (128 + slot.number) in
-    let flies = moves old new slot value m (λ x q. ClosesInFlight slot.header.variant (meaning_of slot.header.«module») key barrier x
-    f.from closing.call new q.meddles (q.at + 1)) (closes_take_in slot.header.variant (meaning_of slot.header.«module») key barrier
-    (digests_in old slot) f.from closing.call old new p.meddles (p.at + 1) value a e) in
-    joins_comes old new slot (code.Closes closing) value some m.cell m.plan
-    (back_from new slot (code.Closes closing) some (record { flight = record { from = f.from; flies = flies }; kept = fits.kept }))
+    let flies = moves old new slot value m (λ x q. IsInFlight left (instance_in slot) x f.from new q.meddles (q.at + 1))
+    (flight_takes_in left (instance_in slot) (digests_in old slot) f.from old new p.meddles (p.at + 1) value a e
+    (may_planned slot.header flight old new (option_map (meddling value) old.plan) e a.room)) in
+    joins_comes old new slot flight value some m.cell m.plan
+    (back_from new slot flight some (record { flight = record { from = f.from; flies = flies; may = f.may }; kept = fits.kept }))
 
 -- power is lost
 
@@ -258,12 +251,8 @@ emptied (Some xs) value e = refl
 stood : (standing : Standing) (slot : CodeSlot) (flight : Option CodeFlight) → slot.flight ≡ flight → Fits standing slot
     → (from : Standing) × Stands (instance_in slot) from (digests_in standing slot) × (from.cell ≡ standing.cell)
 stood standing slot None none fits = let at = idle standing slot none fits in (standing, at.0, refl)
-stood standing slot (Some (code.Asks asking)) some fits =
-    let f = asking_of standing slot asking (some_flight standing slot (code.Asks asking) some fits)
-    in (f.from, f.flies.stands, sym f.flies.flies.cell)
-stood standing slot (Some (code.Closes closing)) some fits =
-    let f = closing_of standing slot closing (some_flight standing slot (code.Closes closing) some fits)
-    in (f.from, f.flies.stands, sym f.flies.flies.cell)
+stood standing slot (Some flight) some fits =
+    let f = call_of standing slot flight (some_flight standing slot flight some fits) in (f.from, f.flies.stands, sym f.flies.flies.cell)
 
 items_told : (from : Standing) (value : List ℕ) → register_reads from ≡ Some value → option_map none_left from.items ≡ Some []
 items_told from value e = by_items from.items e

@@ -49,22 +49,22 @@ pub use Rattle.mm_world.specs.Held.{digest_in, flag_in, value_in}
 pub use Rattle.mm_world.specs.Stands.{IsQuiet, Stands}
 pub use Rattle.mm_world.specs.declared.call.Called.{Called}
 pub use Rattle.mm_world.proofs.Above.{count_none, counting, digests_are, extended_by, stands_extended, stands_new, stands_settled}
-pub use Rattle.mm_steps.specs.Asking.{AsksInFlight, BreaksAs, StepsAs}
-pub use Rattle.mm_steps.specs.Closing.{BreaksClosingAs, ClosesInFlight, StepsClosingAs}
+pub use Rattle.mm_steps.specs.Asking.{BreaksAs, StepsAs}
+pub use Rattle.mm_steps.specs.Closing.{BreaksClosingAs, StepsClosingAs}
 pub use Rattle.mm_steps.specs.Stopping.{is_nothing, stop_behind}
-pub use Rattle.mm_steps.proofs.Above.{asks_begun, asks_take_in, closes_begun, closes_take_in, may_take_in}
+pub use Rattle.mm_steps.proofs.Above.{asks_begun, closes_begun, flight_takes_in, may_take_in}
 pub use Rattle.mm_play.specs.Events.{AreEvents, behind, NoneIsOver, replies, TakesEvents}
 pub use Rattle.mm_play.proofs.Above.{along, ends_with, events_from, header_first, Means, none_answered, plays_err, refused_over, unrefused}
 pub use Rattle.mm_play.proofs.Above.{whole_err, whole_ok}
 pub use Rattle.mm_slots.specs.Answers.{answer_text, answers_text, end_lines, IsSayable, slot_end_line}
 pub use Rattle.mm_slots.specs.First.{AddsSlot, AreFirst, IsFirst}
 pub use Rattle.mm_slots.specs.Grammar.{action_at, event_at}
-pub use Rattle.mm_slots.specs.Held.{call_in, Comes, digests_in, EndsCall, Fits, FitsAsking, FitsClosing, FitsFlight, flight_in, flown}
+pub use Rattle.mm_slots.specs.Held.{call_in, Comes, digests_in, EndsCall, Fits, FitsCall, FitsFlight, flight_in, flown}
 pub use Rattle.mm_slots.specs.Held.{GoesOn, HasRegister, instance_in, IsNewSlot, KeepsSlot, Loses as Lost, slot_in, Wants, within_64}
 pub use Rattle.mm_slots.specs.Laws.{SlotRuns, SlotsAreAlone, SlotsRun}
-pub use Rattle.mm_slots.specs.Progress.{committed_in, issued_in, Reports}
+pub use Rattle.mm_slots.specs.Progress.{Reports}
 pub use Rattle.mm_slots.specs.Rows.{ActsAt, AllFit, FitsWithin, Follows, IsInside, KeepsAll, LosesAll, LosesAt, LosesIf, LosesUnless}
-pub use Rattle.mm_slots.specs.Rows.{only_at, others_lose, row_in, rows_in, Tells, touched}
+pub use Rattle.mm_slots.specs.Rows.{only_at, others_lose, row_in, rows_in, Tells, touched, Touches}
 pub use Rattle.mm_slots.specs.Slot.{acted, acted_by, Acts, Asks, beginning, begun, Closes, event_by, first_slot, Flight, flying, folded}
 pub use Rattle.mm_slots.specs.Slot.{followed_by, joined, Loses, merely, Met, outcome_in, plays, Slot, slot_instance, so_far, stepped}
 pub use Rattle.mm_slots.specs.Slot.{stop_at, Turned, turned, unpowered}

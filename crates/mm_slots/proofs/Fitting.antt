@@ -6,9 +6,8 @@ use Rattle.mm_slots.proofs.Below.{Outcome, few_committed, printable, Called, Cam
 use Rattle.mm_slots.proofs.Below.{digests_are, counting, CodeFlight, Said, Replied, CodeSlot, IsSayable, Slot, slot_instance, outcome_in}
 use Rattle.mm_slots.proofs.Below.{plays, digests_in, slot_in, flight_in, instance_in, FitsFlight, Fits, Comes, flown, HasRegister}
 use Rattle.mm_slots.proofs.Below.{within_64, EndsCall, KeepsSlot, next_plan, Bool, true, cond, option_map_or, Meddle, Quiet, Plan}
-use Rattle.mm_slots.proofs.Below.{quiet_plan, made, plan_by, is_nothing, Asking, Closing, Going, Flight, Turned, merely, flying, so_far}
-use Rattle.mm_slots.proofs.Below.{stepped, call_in, FitsAsking, FitsClosing}
-use Rattle.mm_slots.specs.declared.flight.Flight.TheVariants as code
+use Rattle.mm_slots.proofs.Below.{quiet_plan, made, plan_by, is_nothing, Going, Flight, Turned, merely, flying, so_far}
+use Rattle.mm_slots.proofs.Below.{stepped, call_in, FitsCall}
 use Rattle.mm_modules.specs.ModulesLaws.{any_is_lawful}
 use Rattle.mm_schedule.specs.Replies.{IsPrintable}
 use Rattle.mm_slots.specs.Lengths.{length_if}
@@ -195,12 +194,7 @@ goes_comes slot before after keys old new step same planned fits number nothing 
       sayable = tt;
     })
 
--- the slot fits the flight of a call that asks
-pub asking_of : (standing : Standing) (slot : CodeSlot) (asking : Asking) → Fits standing (flown slot (code.Asks asking))
-    → FitsAsking slot.header slot.number (digests_in standing (flown slot (code.Asks asking))) slot.issued.items (vec_capacity slot.issued)
-    standing asking
-asking_of standing slot asking f = f.flight
-
-pub closing_of : (standing : Standing) (slot : CodeSlot) (closing : Closing) → Fits standing (flown slot (code.Closes closing))
-    → FitsClosing slot.header slot.number (digests_in standing (flown slot (code.Closes closing))) standing closing
-closing_of standing slot closing f = f.flight
+-- the slot fits its call in flight
+pub call_of : (standing : Standing) (slot : CodeSlot) (flight : CodeFlight) → Fits standing (flown slot flight)
+    → FitsCall slot.header slot.number (digests_in standing (flown slot flight)) slot.issued.items (vec_capacity slot.issued) standing flight
+call_of standing slot flight f = f.flight

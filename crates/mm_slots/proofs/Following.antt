@@ -3,7 +3,7 @@ use Rattle.mm_slots.proofs.Below.{◌≡◌, ◌∙◌, ◌+◌, ◌≤◌, ◌<
 use Rattle.mm_slots.proofs.Below.{refl, sym, ap, arith, option_map_or, ne_eqb, Standing, new_platform, Action, Power, At, Said, CodeSlot}
 use Rattle.mm_slots.proofs.Below.{slot_in, Met, Acts, Loses, Row, is_cut, cuts_all, met_in, rows_in, AllFit, ActsAt, LosesIf, LosesAll}
 use Rattle.mm_slots.proofs.Below.{others_lose, touched, only_at, Follows, Tells}
-use Rattle.mm_slots.proofs.Rowing.{touched_more, touched_same, untouched, rows_length, all_more, same_length, get_row}
+use Rattle.mm_slots.proofs.Rowing.{touches_as, touches_then, touches_none, rows_length, all_more, same_length, get_row}
 
 -- where no slot has the number, all lose their power
 all_lose : (but k : ℕ) → (k ≡ but → ⊥) → others_lose but k ≡ Loses ∷ []
@@ -13,17 +13,14 @@ pub power_follows : (events n : ℕ) (standings standings' : List Standing) (slo
     → AllFit events standings slots
     → LosesAll events n standings standings' slots slots' → Follows events Power standings standings' slots slots'
 power_follows events n standings standings' slots slots' past fit l =
-    let size = rows_length events standings slots fit in
-    record {
-      rows = l.rows ∙ touched_same (others_lose n) (λ k. met_in k (rows_in standings slots) Power) (rows_in standings slots)
-          (λ k few. all_lose n k (λ e. omega (arith, e, few, size, past)));
-      fit = all_more events (events + 1) standings' slots' (omega arith) l.fit;
-    }
+    let t = touches_as l (λ k. met_in k (rows_in standings slots) Power)
+    (λ k few. let size = rows_length events standings slots fit in all_lose n k (λ e. omega (arith, e, few, size, past))) in
+    record { rows = t.rows; fit = all_more events (events + 1) standings' slots' (omega arith) t.fit }
 
 pub uncut_loses : (events but : ℕ) (cuts : Bool) (standings : List Standing) (slots : List CodeSlot) → cuts ≡ false
     → AllFit events standings slots → LosesIf events but cuts standings standings slots slots
 uncut_loses events but true standings slots is fit = cc
-uncut_loses events but false standings slots is fit = record { rows = sym (untouched (rows_in standings slots)); fit = fit }
+uncut_loses events but false standings slots is fit = touches_none events standings slots fit
 
 -- what a slot meets where one acts, and where that is a cut
 acts_then : (number k : ℕ) (what : Action) (own cuts : Bool) → (k == number) ≡ own
@@ -38,16 +35,10 @@ pub tells : (events number : ℕ) (what : Action) (cuts : Bool) (first second la
     → LosesIf (events + 1) number cuts second last slots1 slots2 → Tells events number what first last slots0 slots2 said
 tells events number what cuts first second last slots0 slots1 slots2 said is a l =
     let rows = rows_in first slots0 in
-    let f = only_at number (Acts what) in
-    let g : ℕ → List Met = λ k. cond cuts (others_lose number k) [] in
     record {
-      follows = record {
-        rows = l.rows ∙ ap (touched g) a.rows ∙ touched_more f g rows
-            ∙ touched_same (λ k. f k ++ g k) (λ k. met_in k rows (At number what)) rows
-            (λ k few. acts_then number k what (k == number) cuts refl
-            ∙ ap (λ (c : Bool). cond (k == number) (Acts what ∷ []) (cond c (Loses ∷ []) [])) is);
-        fit = l.fit;
-      };
+      follows = touches_as (touches_then a.touches l) (λ k. met_in k rows (At number what))
+          (λ k few. acts_then number k what (k == number) cuts refl
+          ∙ ap (λ (c : Bool). cond (k == number) (Acts what ∷ []) (cond c (Loses ∷ []) [])) is);
       says = a.says;
       sayable = a.sayable;
     }

@@ -3,7 +3,7 @@ use Rattle.mm_slots.proofs.Below.{◌≡◌, ◌∙◌, ◌+◌, ◌≤◌, ◌<
 use Rattle.mm_slots.proofs.Below.{slice_set, Option, Some, refl, sym, ap, subst, append-nil, arith, slice_get, Result, IfOk, OnErr, eq-eqb}
 use Rattle.mm_slots.proofs.Below.{ne_eqb, eqb-true, nat_tests, if◌then◌else◌, Standing, CodeSlot, option_map_or, Action, Said, instance_in}
 use Rattle.mm_slots.proofs.Below.{slot_in, GoesOn, Comes, Lost, Slot, Turned, Met, Acts, Loses, acted, unpowered, Row, instance_of}
-use Rattle.mm_slots.proofs.Below.{row_after, by_place, row_in, rows_in, FitsWithin, AllFit, ActsAt, LosesAt, LosesUnless, LosesAll}
+use Rattle.mm_slots.proofs.Below.{row_after, by_place, row_in, rows_in, FitsWithin, AllFit, ActsAt, LosesAt, LosesUnless, LosesAll, Touches}
 use Rattle.mm_slots.proofs.Below.{others_lose, touched, only_at}
 use Rattle.std.specs.Prelude.{Ok, Err}
 use Rattle.std.specs.Prelude.{nat_lt}
@@ -130,62 +130,54 @@ few_on : (events : ℕ) (old new : Standing) (slot slot' : CodeSlot) → FitsWit
     → FitsWithin (events + 1) new slot'
 few_on events old new slot slot' f g = record { fits = g.fits; few = omega (arith, f.few, g.few); short = omega (arith, f.short, g.short) }
 
+-- a slot went on, or wanted memory
+pub lacks_at : (events number : ℕ) (standings : List Standing) (slots : List CodeSlot) (new : Standing) (slot' : CodeSlot) (ds : Standing)
+    (dc : CodeSlot) → number < length slots → AllFit events standings slots → GoesOn new (get_or slots number dc) slot'
+    → AllFit (events + 1) (slice_set standings number new) (slice_set slots number slot')
+lacks_at events number standings slots new slot' ds dc few fit g =
+    set_fit events (events + 1) number standings slots new slot' (omega arith) fit
+    (few_on events (get_or standings number ds) new (get_or slots number dc) slot' (fit_at events number standings slots ds dc few fit) g)
+
 -- something happened in the slot with this number
-pub acts_at : (events number : ℕ) (what : Action) (standings standings' : List Standing) (slots slots' : List CodeSlot) (new : Standing)
-    (slot' : CodeSlot) (said : Said) (ds : Standing) (dc : CodeSlot) → standings' ≡ slice_set standings number new
-    → slots' ≡ slice_set slots number slot' → number < length slots → AllFit events standings slots →
+pub acts_at : (events number : ℕ) (what : Action) (standings : List Standing) (slots : List CodeSlot) (new : Standing) (slot' : CodeSlot)
+    (said : Said) (ds : Standing) (dc : CodeSlot) → number < length slots → AllFit events standings slots →
     (let s = get_or standings number ds in let c = get_or slots number dc in Comes new c slot'
-    (acted (instance_in c) (slot_in s c) what) said → ActsAt events number what standings standings' slots slots' said)
-acts_at events number what standings standings' slots slots' new slot' said ds dc ps cs few fit c =
+    (acted (instance_in c) (slot_in s c) what) said
+    → ActsAt events number what standings (slice_set standings number new) slots (slice_set slots number slot') said)
+acts_at events number what standings slots new slot' said ds dc few fit c =
     let s = get_or standings number ds in
     let slot = get_or slots number dc in
     let there : number < length standings = omega (arith, few, same_length events standings slots fit) in
-    let here = fit_at events number standings slots ds dc few fit in
     let row = row_on new slot slot' (slot_in s slot) (acted (instance_in slot) (slot_in s slot) what).slot c.goes c.stands in
     record {
-      rows = (λ j. rows_in (ps j) (cs j)) ∙ set_rows number (Acts what) standings slots new slot' ds dc there few row;
-      fit = subst (λ (x : List Standing). AllFit (events + 1) x slots') (sym ps)
-          (subst (λ (x : List CodeSlot). AllFit (events + 1) (slice_set standings number new) x) (sym cs)
-          (set_fit events (events + 1) number standings slots new slot' (omega arith) fit (few_on events s new slot slot' here c.goes)));
+      touches = record {
+        rows = set_rows number (Acts what) standings slots new slot' ds dc there few row;
+        fit = lacks_at events number standings slots new slot' ds dc few fit c.goes;
+      };
       says =
           ap (λ (found : Option Row). option_map_or (λ (r : Row). (acted (instance_of r) r.slot what).said) found [])
           (get_row number standings slots ds dc there few) ∙ c.says;
       sayable = c.sayable;
     }
 
--- or memory was wanting
-pub lacks_at : (events number : ℕ) (standings standings' : List Standing) (slots slots' : List CodeSlot) (new : Standing) (slot' : CodeSlot)
-    (ds : Standing) (dc : CodeSlot) → standings' ≡ slice_set standings number new → slots' ≡ slice_set slots number slot'
-    → number < length slots → AllFit events standings slots → GoesOn new (get_or slots number dc) slot'
-    → AllFit (events + 1) standings' slots'
-lacks_at events number standings standings' slots slots' new slot' ds dc ps cs few fit g =
-    let here = fit_at events number standings slots ds dc few fit in
-    subst (λ (x : List Standing). AllFit (events + 1) x slots') (sym ps)
-    (subst (λ (x : List CodeSlot). AllFit (events + 1) (slice_set standings number new) x) (sym cs)
-    (set_fit events (events + 1) number standings slots new slot' (omega arith) fit
-    (few_on events (get_or standings number ds) new (get_or slots number dc) slot' here g)))
-
 -- the slot with this number lost its power
-pub loses_at : (events number : ℕ) (standings standings' : List Standing) (slots slots' : List CodeSlot) (new : Standing) (slot' : CodeSlot)
-    (ds : Standing) (dc : CodeSlot) → standings' ≡ slice_set standings number new → slots' ≡ slice_set slots number slot'
-    → number < length slots → AllFit events standings slots → Lost (get_or standings number ds) new (get_or slots number dc) slot'
-    → LosesAt events number standings standings' slots slots'
-loses_at events number standings standings' slots slots' new slot' ds dc ps cs few fit l =
+pub loses_at : (events number : ℕ) (standings : List Standing) (slots : List CodeSlot) (new : Standing) (slot' : CodeSlot) (ds : Standing)
+    (dc : CodeSlot) → number < length slots → AllFit events standings slots
+    → Lost (get_or standings number ds) new (get_or slots number dc) slot'
+    → LosesAt events number standings (slice_set standings number new) slots (slice_set slots number slot')
+loses_at events number standings slots new slot' ds dc few fit l =
     let s = get_or standings number ds in
     let slot = get_or slots number dc in
     let there : number < length standings = omega (arith, few, same_length events standings slots fit) in
     let here = fit_at events number standings slots ds dc few fit in
     let row = row_on new slot slot' (slot_in s slot) (unpowered (instance_in slot) (slot_in s slot)).slot l.goes l.stands in
     record {
-      rows = (λ j. rows_in (ps j) (cs j)) ∙ set_rows number Loses standings slots new slot' ds dc there few row;
-      fit = subst (λ (x : List Standing). AllFit events x slots') (sym ps)
-          (subst (λ (x : List CodeSlot). AllFit events (slice_set standings number new) x) (sym cs)
-          (set_fit events events number standings slots new slot' (omega arith) fit
-          (record {
-            fits = l.goes.fits;
-            few = omega (arith, l.same, here.few);
-            short = omega (arith, ap (λ (x : Slot). length x.issued) l.stands, here.short);
-          })));
+      rows = set_rows number Loses standings slots new slot' ds dc there few row;
+      fit = set_fit events events number standings slots new slot' (omega arith) fit (record {
+        fits = l.goes.fits;
+        few = omega (arith, l.same, here.few);
+        short = omega (arith, ap (λ (x : Slot). length x.issued) l.stands, here.short);
+      });
     }
 
 -- all slots but one lose their power, one after another
@@ -196,8 +188,19 @@ rows_length events [] [] fit = refl
 rows_length events (standing ∷ standings) (slot ∷ slots) fit = ap (λ (n : ℕ). suc n) (rows_length events standings slots fit.1)
 rows_length events _ _ fit = absurd fit
 
-pub untouched : (rows : List Row) → touched (λ _. []) rows ≡ rows
-untouched rows = untouched_from (λ _. []) 0 rows (λ k low. refl)
+module _ {f : ℕ → List Met} {e : ℕ} {standings standings' : List Standing} {slots slots' : List CodeSlot}
+    (t : Touches f e standings standings' slots slots') where
+  pub touches_as : (g : ℕ → List Met) → ((k : ℕ) → k < length (rows_in standings slots) → f k ≡ g k)
+      → Touches g e standings standings' slots slots'
+  touches_as g same = record { rows = t.rows ∙ touched_same f g (rows_in standings slots) same; fit = t.fit }
+
+  pub touches_then : {g : ℕ → List Met} {more : ℕ} {last : List Standing} {lasts : List CodeSlot} → Touches g more standings' last slots' lasts
+      → Touches (λ k. f k ++ g k) more standings last slots lasts
+  touches_then {g = g} u = record { rows = u.rows ∙ ap (touched g) t.rows ∙ touched_more f g (rows_in standings slots); fit = u.fit }
+
+pub touches_none : (events : ℕ) (standings : List Standing) (slots : List CodeSlot) → AllFit events standings slots
+    → Touches (λ _. []) events standings standings slots slots
+touches_none events standings slots fit = record { rows = sym (untouched_from (λ _. []) 0 (rows_in standings slots) (λ k low. refl)); fit = fit }
 
 none_lost : (but number k : ℕ) (here : Bool) → (number == but) ≡ true → (k == number) ≡ here → cond here (others_lose but number) [] ≡ []
 none_lost but number k true same own = rw same refl
@@ -205,16 +208,13 @@ none_lost but number k false same own = refl
 
 pub loses_none : (events number but : ℕ) (standings : List Standing) (slots : List CodeSlot) → number ≡ but → AllFit events standings slots
     → LosesUnless events number but standings standings slots slots
-loses_none events number but standings slots same fit = record {
-  rows = sym (touched_same (λ k. cond (k == number) (others_lose but number) []) (λ _. []) (rows_in standings slots)
-      (λ k few. none_lost but number k (k == number) (eq-eqb number but same) refl) ∙ untouched (rows_in standings slots));
-  fit = fit;
-}
+loses_none events number but standings slots same fit =
+    touches_as (touches_none events standings slots fit) (λ k. cond (k == number) (others_lose but number) [])
+    (λ k few. sym (none_lost but number k (k == number) (eq-eqb number but same) refl))
 
 -- so many have lost it
-pub record LostBelow (events but below : ℕ) (standings standings' : List Standing) (slots slots' : List CodeSlot) : Type 0 where
-  pub rows : rows_in standings' slots' ≡ touched (λ k. if nat_lt k below then others_lose but k else []) (rows_in standings slots)
-  pub fit : AllFit events standings' slots'
+abbrev pub LostBelow : (events but below : ℕ) → List Standing → List Standing → List CodeSlot → List CodeSlot → Type 0
+LostBelow events but below = Touches (λ k. if nat_lt k below then others_lose but k else []) events
 
 one_more : (but below k : ℕ) (less here : Bool) → nat_lt k below ≡ less → (k == below) ≡ here
     → cond less (others_lose but k) [] ++ cond here (others_lose but below) [] ≡ (if nat_lt k (below + 1) then others_lose but k else [])
@@ -232,32 +232,20 @@ pub lost_more : (events but below : ℕ) (first standings standings' : List Stan
     → LostBelow events but below first standings slots0 slots → LosesUnless events below but standings standings' slots slots'
     → LostBelow events but (below + 1) first standings' slots0 slots'
 lost_more events but below first standings standings' slots0 slots slots' b l =
-    let f : ℕ → List Met = λ k. if nat_lt k below then others_lose but k else [] in
-    let g : ℕ → List Met = λ k. if k == below then others_lose but below else [] in
-    record {
-      rows = l.rows ∙ ap (touched g) b.rows ∙ touched_more f g (rows_in first slots0)
-          ∙ touched_same (λ k. f k ++ g k) (λ k. if nat_lt k (below + 1) then others_lose but k else []) (rows_in first slots0)
-          (λ k few. one_more but below k (nat_lt k below) (k == below) refl refl);
-      fit = l.fit;
-    }
+    touches_as (touches_then b l) (λ k. if nat_lt k (below + 1) then others_lose but k else [])
+    (λ k few. one_more but below k (nat_lt k below) (k == below) refl refl)
 
 pub lost_first : (events but : ℕ) (standings : List Standing) (slots : List CodeSlot) → AllFit events standings slots
     → LostBelow events but 0 standings standings slots slots
-lost_first events but standings slots fit = record {
-  rows = sym (touched_same (λ k. if nat_lt k 0 then others_lose but k else []) (λ _. []) (rows_in standings slots)
-      (λ k few. let none : nat_lt k 0 ≡ false = grind (arith, nat_tests) in rw none refl) ∙ untouched (rows_in standings slots));
-  fit = fit;
-}
+lost_first events but standings slots fit =
+    touches_as (touches_none events standings slots fit) (λ k. if nat_lt k 0 then others_lose but k else [])
+    (λ k few. let none : nat_lt k 0 ≡ false = grind (arith, nat_tests) in rw none refl)
 
 pub lost_all : (events but : ℕ) (first standings : List Standing) (slots0 slots : List CodeSlot) (n : ℕ) → length slots0 ≤ n
     → AllFit events first slots0 → LostBelow events but n first standings slots0 slots → LosesAll events but first standings slots0 slots
-lost_all events but first standings slots0 slots n size fit b =
+lost_all events but first standings slots0 slots n size fit b = touches_as b (others_lose but) (λ k few.
     let len = rows_length events first slots0 fit in
-    record {
-      rows = b.rows ∙ touched_same (λ k. if nat_lt k n then others_lose but k else []) (others_lose but) (rows_in first slots0)
-          (λ k few. let less : nat_lt k n ≡ true = grind (arith, nat_tests) in rw less refl);
-      fit = b.fit;
-    }
+    let less : nat_lt k n ≡ true = grind (arith, nat_tests) in rw less refl)
 
 -- what holds of an answer leads on
 pub on_ok : {T E : Type 0} (r : Result T E) (p q : T → Type 0) → ((x : T) → p x → q x) → IfOk r p → IfOk r q

@@ -20,24 +20,31 @@ record Completes (i : Instance) (slot : Slot) (it : Turned) : Type 0 where
   issued : (told_from i slot it.events).issued ≡ it.slot.issued
   replies : (told_from i slot it.events).replies ≡ it.replies
 
-begun_completes : (i : Instance) (slot : Slot) (offer : Offer) (batch : Batch) (bytes : List ℕ) (long : Bool) → is_long batch ≡ long
-    → Completes i slot (begun i slot offer batch (Some bytes))
-begun_completes i slot offer batch bytes true is = rw is (record { state = refl; issued = refl; replies = refl })
-begun_completes i slot offer batch bytes false is = rw is (record { state = refl; issued = refl; replies = refl })
+by_test : (P : Turned → Type 0) (test : Bool) (one other : Turned) → P one → P other → P (if test then one else other)
+by_test P true one other first second = first
+by_test P false one other first second = second
 
-asked_completes : (i : Instance) (slot : Slot) (offer : Offer) (batch : Batch) (bytes : Option (List ℕ))
-    → Completes i slot (begun i slot offer batch bytes)
-asked_completes i slot offer batch None = record { state = refl; issued = refl; replies = refl }
-asked_completes i slot offer batch (Some bytes) = begun_completes i slot offer batch bytes (is_long batch) refl
+begun_by : (P : Turned → Type 0) (i : Instance) (slot : Slot) (offer : Offer) (batch : Batch) (bytes : Option (List ℕ))
+    → P (plays i slot (Ask [] stop.Quiet offer batch)) → P (merely (flying slot (beginning (Asks offer batch))) Begun)
+    → P (begun i slot offer batch bytes)
+begun_by P i slot offer batch None refuses begins = refuses
+begun_by P i slot offer batch (Some bytes) refuses begins =
+    by_test P (is_long batch) (plays i slot (Ask [] stop.Quiet offer batch)) (merely (flying slot (beginning (Asks offer batch))) Begun)
+    refuses begins
 
-step_completes : (i : Instance) (slot : Slot) (flight : Flight) (nothing : Bool)
-    → is_nothing (outcome_in i slot (so_far flight)).reply ≡ nothing → Completes i slot (stepped i slot flight)
-step_completes i slot flight true is = rw is (record { state = refl; issued = refl; replies = refl })
-step_completes i slot flight false is = rw is (record { state = refl; issued = refl; replies = refl })
+stepped_by : (P : Turned → Type 0) (i : Instance) (slot : Slot) (flight : Flight)
+    → P (merely (flying slot (record flight { next = flight.next + 1 })) (Going (flight.next + 1))) → P (plays i slot (so_far flight))
+    → P (stepped i slot flight)
+stepped_by P i slot flight =
+    by_test P (is_nothing (outcome_in i slot (so_far flight)).reply)
+    (merely (flying slot (record flight { next = flight.next + 1 })) (Going (flight.next + 1))) (plays i slot (so_far flight))
 
 action_completes : (i : Instance) (slot : Slot) (flight : Option Flight) (what : Action) → Completes i slot (acted_by i slot flight what)
-action_completes i slot None (action.Begin offer request) = asked_completes i slot offer (One request) (offered_bytes slot.issued offer)
-action_completes i slot (Some flight) action.Step = step_completes i slot flight (is_nothing (outcome_in i slot (so_far flight)).reply) refl
+action_completes i slot None (action.Begin offer request) =
+    begun_by (Completes i slot) i slot offer (One request) (offered_bytes slot.issued offer)
+    (record { state = refl; issued = refl; replies = refl }) (record { state = refl; issued = refl; replies = refl })
+action_completes i slot (Some flight) action.Step = stepped_by (Completes i slot) i slot flight
+    (record { state = refl; issued = refl; replies = refl }) (record { state = refl; issued = refl; replies = refl })
 action_completes i slot _ _ = record { state = refl; issued = refl; replies = refl }
 
 met_completes : (i : Instance) (slot : Slot) (met : Met) → Completes i slot (turned i slot met)
@@ -97,25 +104,10 @@ slots_run basic opt runs law variant meaning key barrier mets = λ clear genuine
 abbrev TellsReplies : Turned → Type 0
 TellsReplies it = flat_map said_to_call it.said ≡ flat_map to_call it.replies
 
-by_test : (test : Bool) (one other : Turned) → TellsReplies one → TellsReplies other → TellsReplies (if test then one else other)
-by_test true one other first second = first
-by_test false one other first second = second
-
-begun_tells : (i : Instance) (slot : Slot) (offer : Offer) (batch : Batch) (bytes : Option (List ℕ))
-    → TellsReplies (begun i slot offer batch bytes)
-begun_tells i slot offer batch None = refl
-begun_tells i slot offer batch (Some bytes) =
-    by_test (is_long batch) (plays i slot (Ask [] stop.Quiet offer batch))
-    (merely (flying slot (beginning (Asks offer batch))) Begun) refl refl
-
-stepped_tells : (i : Instance) (slot : Slot) (flight : Flight) → TellsReplies (stepped i slot flight)
-stepped_tells i slot flight =
-    by_test (is_nothing (outcome_in i slot (so_far flight)).reply)
-    (merely (flying slot (record flight { next = flight.next + 1 })) (Going (flight.next + 1))) (plays i slot (so_far flight)) refl refl
-
 acted_tells : (i : Instance) (slot : Slot) (flight : Option Flight) (what : Action) → TellsReplies (acted_by i slot flight what)
-acted_tells i slot None (action.Begin offer request) = begun_tells i slot offer (One request) (offered_bytes slot.issued offer)
-acted_tells i slot (Some flight) action.Step = stepped_tells i slot flight
+acted_tells i slot None (action.Begin offer request) =
+    begun_by TellsReplies i slot offer (One request) (offered_bytes slot.issued offer) refl refl
+acted_tells i slot (Some flight) action.Step = stepped_by TellsReplies i slot flight refl refl
 acted_tells i slot _ _ = refl
 
 turned_tells : (i : Instance) (slot : Slot) (met : Met) → TellsReplies (turned i slot met)

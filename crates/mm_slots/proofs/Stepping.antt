@@ -1,9 +1,9 @@
 -- The call in flight of a slot: its next step, a step that breaks it off, a value that comes, a loss of power.
-use Rattle.mm_slots.proofs.Below.{◌≡◌, ◌∙◌, ◌+◌, ◌^◌, ◌<◌, ℕ, Bool, false, cond, List, [], ◌∷◌, ◌++◌, map, length, None, Some, Ok, Err}
+use Rattle.mm_slots.proofs.Below.{◌≡◌, ◌∙◌, ◌+◌, ◌^◌, ◌<◌, ℕ, Bool, true, false, cond, List, [], ◌∷◌, ◌++◌, map, length, None, Some, Ok, Err}
 use Rattle.mm_slots.proofs.Below.{refl, sym, ap, subst, arith, ◌⊎◌, inl, inr, sum_by, One, meaning_of, Meddle, Stop, Quiet, Plan, Standing}
 use Rattle.mm_slots.proofs.Below.{next_plan, cell_spelling, Instance, Move, Foreign, Digests, made, by_digests, all_made, cell_at}
 use Rattle.mm_slots.proofs.Below.{course_of, rising_from, ask_number, plan_by, Called, Lacks, quiet_as, Reply, Stands, is_nothing}
-use Rattle.mm_slots.proofs.Below.{stop_behind, AsksInFlight, StepsAs, BreaksAs, ClosesInFlight, StepsClosingAs, BreaksClosingAs, Asking}
+use Rattle.mm_slots.proofs.Below.{stop_behind, StepsAs, BreaksAs, StepsClosingAs, BreaksClosingAs, Asking}
 use Rattle.mm_slots.proofs.Below.{Closing, CodeFlight, Said, Going, CodeSlot, Turned, outcome_in, plays, merely, flying, so_far, stepped}
 use Rattle.mm_slots.proofs.Below.{event_by, stop_at, digests_in, slot_in, call_in, instance_in, Fits, GoesOn, Wants, Comes, flown}
 use Rattle.mm_slots.proofs.Below.{HasRegister, within_64, EndsCall, count_none}
@@ -18,71 +18,61 @@ use Rattle.mm_flight.specs.declared.ask.AskCall.{AskCall}
 use Rattle.mm_world.specs.Calls.{stopped_step}
 use Rattle.mm_steps.specs.declared.asks.Stepped.TheVariants as asks
 use Rattle.mm_steps.specs.declared.closings.SteppedClosing.TheVariants as closings
+use Rattle.std.specs.Prelude.{vec_capacity}
+use Rattle.mm_steps.specs.Stopping.{IsInFlight}
+use Rattle.mm_slots.specs.Held.{left_of, MayGoOn}
 use Rattle.mm_slots.specs.declared.event.Breaking.{Breaking}
 use Rattle.mm_slots.specs.declared.event.Breaking.TheVariants as breaking
 use Rattle.mm_slots.specs.declared.flight.Flight.TheVariants as code
 use Rattle.mm_call.specs.WalkLaws.{seen_none}
-use Rattle.mm_slots.proofs.Fitting.{mine_are, settled, over_comes, same_instance, flight_of, goes_planned, digests_kept, goes_comes, asking_of, closing_of}
+use Rattle.mm_slots.proofs.Fitting.{mine_are, settled, over_comes, same_instance, flight_of, goes_planned, digests_kept, goes_comes, call_of}
 
--- what holds of the bytes and the request that were lent holds of those that are kept
-for_asked : (asking : Asking) (bytes request : List ℕ) → bytes ≡ asking.bytes → request ≡ asking.request
-    → (holds : List ℕ → List ℕ → Type 0) → holds bytes request → holds asking.bytes asking.request
-for_asked asking bytes request same-bytes same-request holds h =
-    subst (λ (x : List ℕ). holds x asking.request) same-bytes (subst (λ (y : List ℕ). holds bytes y) same-request h)
-
--- a call that asks goes on
-pub ask_goes : (slot : CodeSlot) (asking : Asking) (call : AskCall) (keys : Unit {0}) (old new : Standing) (bytes request : List ℕ)
-    (step : ℕ) → bytes ≡ asking.bytes → request ≡ asking.request → Fits old (flown slot (code.Asks asking))
-    → StepsAs (meaning_of slot.header.«module») asking.call old new bytes (One request) (Ok (asks.Going call)) → step ≡ ask_number call
-    → Comes new (flown slot (code.Asks asking)) (record slot { flight = Some (code.Asks (record asking { call = call })); keys = keys })
-    (stepped (instance_in slot) (slot_in old (flown slot (code.Asks asking))) (flight_of old (code.Asks asking))) (Going step)
-ask_goes slot asking call keys old new bytes request step same-bytes same-request fits goes number =
-    let f = asking_of old slot asking fits in
-    let key = rising_from slot.number in
-    let barrier = rising_from (128 + slot.number) in
-    let d = digests_in old (flown slot (code.Asks asking)) in
+-- a call goes on
+flight_goes : (slot : CodeSlot) (before after : CodeFlight) (keys : Unit {0}) (old new : Standing) (step : ℕ)
+    → (fits : Fits old (flown slot before)) → call_in after ≡ call_in before → MayGoOn slot.issued.items (vec_capacity slot.issued) after
+    → IsInFlight (left_of slot.header after) (instance_in slot) (digests_in old (flown slot before)) (call_of old slot before fits).from new
+    (next_plan old).meddles ((next_plan old).at + 1 + 1)
+    → is_nothing (outcome_in (instance_in slot) (slot_in old (flown slot before)) (so_far (flight_of old before))).reply ≡ true
+    → step ≡ (left_of slot.header after).number
+    → Comes new (flown slot before) (record slot { flight = Some after; keys = keys })
+    (stepped (instance_in slot) (slot_in old (flown slot before)) (flight_of old before)) (Going step)
+flight_goes slot before after keys old new step fits same may a nothing number =
+    let f = call_of old slot before fits in
     let p = next_plan old in
-    let there = for_asked asking bytes request same-bytes same-request
-    (λ x y. StepsAs (meaning_of slot.header.«module») asking.call old new x (One y) (Ok (asks.Going call))) goes in
-    let t = there slot.header.variant key barrier d f.from slot.issued.items p.meddles (p.at + 1) asking.offer f.flies f.offered in
-    let a = t.0 in
     let planned = goes_planned old new f.from p.meddles a.made (p.at + 1) f.flies.flies.cell a.flies.cell a.flies.planned a.is_next in
-    let slot' = record slot { flight = Some (code.Asks (record asking { call = call })); keys = keys } in
-    let P : Digests → Plan → Type 0 = λ x q. AsksInFlight slot.header.variant (meaning_of slot.header.«module») key barrier x f.from
-    call new q.meddles (q.at + 1) asking.bytes (One asking.request) in
+    let slot' = record slot { flight = Some after; keys = keys } in
+    let P : Digests → Plan → Type 0 = λ x q.
+    IsInFlight (left_of slot.header after) (instance_in slot) x f.from new q.meddles (q.at + 1) in
     let flies = subst (λ (q : Plan). P (digests_in new slot') q) (sym planned.plan)
     (subst (λ (x : Digests). P x (record (plan_by Quiet p.meddles) { at = p.at + 1 }))
-    (sym (digests_kept old new slot (Some (code.Asks asking)) slot'.flight keys planned.cell)) a) in
-    goes_comes slot (code.Asks asking) (code.Asks (record asking { call = call })) keys old new step refl planned
-    (record { flight = record { from = f.from; flies = flies; offered = f.offered; short = f.short; room = f.room }; kept = fits.kept })
-    (number ∙ a.number ∙ sym a.is_next) t.1
+    (sym (digests_kept old new slot (Some before) slot'.flight keys planned.cell)) a) in
+    goes_comes slot before after keys old new step same planned
+    (record { flight = record { from = f.from; flies = flies; may = may }; kept = fits.kept }) (number ∙ a.number ∙ sym a.is_next) nothing
 
--- a checkpoint goes on
+pub ask_goes : (slot : CodeSlot) (asking : Asking) (call : AskCall) (keys : Unit {0}) (old new : Standing) (step : ℕ)
+    → Fits old (flown slot (code.Asks asking))
+    → StepsAs (meaning_of slot.header.«module») asking.call old new asking.bytes (One asking.request) (Ok (asks.Going call))
+    → step ≡ ask_number call
+    → Comes new (flown slot (code.Asks asking)) (record slot { flight = Some (code.Asks (record asking { call = call })); keys = keys })
+    (stepped (instance_in slot) (slot_in old (flown slot (code.Asks asking))) (flight_of old (code.Asks asking))) (Going step)
+ask_goes slot asking call keys old new step fits goes number =
+    let f = call_of old slot (code.Asks asking) fits in
+    let p = next_plan old in
+    let t = goes slot.header.variant (rising_from slot.number) (rising_from (128 + slot.number))
+    (digests_in old (flown slot (code.Asks asking))) f.from slot.issued.items p.meddles (p.at + 1) asking.offer f.flies f.may.offered in
+    flight_goes slot (code.Asks asking) (code.Asks (record asking { call = call })) keys old new step fits refl f.may t.0 t.1 number
+
 pub close_goes : (slot : CodeSlot) (closing : Closing) (call : CheckpointStage) (old new : Standing) (step : ℕ)
     → Fits old (flown slot (code.Closes closing)) → StepsClosingAs closing.call old new (closings.Going call)
     → step ≡ closing_number_of call
     → Comes new (flown slot (code.Closes closing)) (record slot { flight = Some (code.Closes (record { call = call })) })
     (stepped (instance_in slot) (slot_in old (flown slot (code.Closes closing))) (flight_of old (code.Closes closing))) (Going step)
 close_goes slot closing call old new step fits goes number =
-    let f = closing_of old slot closing fits in
-    let key = rising_from slot.number in
-    let barrier = rising_from (128 + slot.number) in
-    let d = digests_in old (flown slot (code.Closes closing)) in
+    let f = call_of old slot (code.Closes closing) fits in
     let p = next_plan old in
-    let t = goes slot.header.variant (meaning_of slot.header.«module») key barrier d f.from slot.issued.items p.meddles (p.at + 1) f.flies
-    in
-    let a = t.0 in
-    let planned = goes_planned old new f.from p.meddles a.made (p.at + 1) f.flies.flies.cell a.flies.cell a.flies.planned a.is_next in
-    let slot' = record slot { flight = Some (code.Closes (record { call = call })) } in
-    let P : Digests → Plan
-    → Type 0 = λ x q. ClosesInFlight slot.header.variant (meaning_of slot.header.«module») key barrier x f.from call new q.meddles
-    (q.at + 1) in
-    let flies = subst (λ (q : Plan). P (digests_in new slot') q) (sym planned.plan)
-    (subst (λ (x : Digests). P x (record (plan_by Quiet p.meddles) { at = p.at + 1 }))
-    (sym (digests_kept old new slot (Some (code.Closes closing)) slot'.flight slot.keys planned.cell)) a) in
-    goes_comes slot (code.Closes closing) (code.Closes (record { call = call })) slot.keys old new step refl planned
-    (record { flight = record { from = f.from; flies = flies }; kept = fits.kept })
-    (number ∙ a.number ∙ sym a.is_next) t.1
+    let t = goes slot.header.variant (meaning_of slot.header.«module») (rising_from slot.number) (rising_from (128 + slot.number))
+    (digests_in old (flown slot (code.Closes closing))) f.from slot.issued.items p.meddles (p.at + 1) f.flies in
+    flight_goes slot (code.Closes closing) (code.Closes (record { call = call })) slot.keys old new step fits refl tt t.0 t.1 number
 
 -- a step that ends the call
 stepped_over : (slot slot' : CodeSlot) (flight : CodeFlight) (old new : Standing) (said : Said) → (let i = instance_in slot in
@@ -98,19 +88,16 @@ stepped_over slot slot' flight old new said something c =
     let P : Bool → Type 0 = λ b. Comes new (flown slot flight) slot' (cond b on (plays i s (so_far f))) said in
     subst P (sym something) c
 
-pub ask_over : (slot slot' : CodeSlot) (asking : Asking) (old new : Standing) (bytes request : List ℕ) (it : Called) (said : Said)
-    → bytes ≡ asking.bytes → request ≡ asking.request → slot.flight ≡ None → slot.committed < 2 ^ 63
-    → Fits old (flown slot (code.Asks asking)) → StepsAs (meaning_of slot.header.«module») asking.call old new bytes (One request)
-    (Ok (asks.Over it)) → EndsCall new it slot slot' said → Comes new (flown slot (code.Asks asking)) slot'
+pub ask_over : (slot slot' : CodeSlot) (asking : Asking) (old new : Standing) (it : Called) (said : Said) → slot.flight ≡ None
+    → slot.committed < 2 ^ 63 → Fits old (flown slot (code.Asks asking))
+    → StepsAs (meaning_of slot.header.«module») asking.call old new asking.bytes (One asking.request) (Ok (asks.Over it))
+    → EndsCall new it slot slot' said → Comes new (flown slot (code.Asks asking)) slot'
     (stepped (instance_in slot) (slot_in old (flown slot (code.Asks asking))) (flight_of old (code.Asks asking))) said
-ask_over slot slot' asking old new bytes request it said same-bytes same-request none few fits goes ends =
-    let f = asking_of old slot asking fits in
-    let d = digests_in old (flown slot (code.Asks asking)) in
+ask_over slot slot' asking old new it said none few fits goes ends =
+    let f = call_of old slot (code.Asks asking) fits in
     let p = next_plan old in
-    let there = for_asked asking bytes request same-bytes same-request
-    (λ x y. StepsAs (meaning_of slot.header.«module») asking.call old new x (One y) (Ok (asks.Over it))) goes in
-    let t = there slot.header.variant (rising_from slot.number) (rising_from (128 + slot.number)) d f.from slot.issued.items p.meddles
-    (p.at + 1) asking.offer f.flies f.offered in
+    let t = goes slot.header.variant (rising_from slot.number) (rising_from (128 + slot.number))
+    (digests_in old (flown slot (code.Asks asking))) f.from slot.issued.items p.meddles (p.at + 1) asking.offer f.flies f.may.offered in
     stepped_over slot slot' (code.Asks asking) old new said t.1
     (over_comes slot slot' (code.Asks asking) old f.from new (so_far (flight_of old (code.Asks asking))) it said none fits.kept few t.0
     ends)
@@ -120,7 +107,7 @@ pub close_over : (slot slot' : CodeSlot) (closing : Closing) (old new : Standing
     → EndsCall new (quiet_as reply) slot slot' said → Comes new (flown slot (code.Closes closing)) slot'
     (stepped (instance_in slot) (slot_in old (flown slot (code.Closes closing))) (flight_of old (code.Closes closing))) said
 close_over slot slot' closing old new reply said none few fits goes ends =
-    let f = closing_of old slot closing fits in
+    let f = call_of old slot (code.Closes closing) fits in
     let d = digests_in old (flown slot (code.Closes closing)) in
     let p = next_plan old in
     let t = goes slot.header.variant (meaning_of slot.header.«module») (rising_from slot.number) (rising_from (128 + slot.number)) d f.from
@@ -135,25 +122,21 @@ pub stopped_at : (how : Breaking) (n : ℕ) → stopped_step (stop_at how n) ≡
 stopped_at (breaking.Fail done) n = refl
 stopped_at _ n = refl
 
-pub ask_broken : (how : Breaking) (slot slot' : CodeSlot) (asking : Asking) (old new : Standing) (bytes request : List ℕ) (n : ℕ)
-    (it : Called) (said : Said) → bytes ≡ asking.bytes → request ≡ asking.request → slot.flight ≡ None → slot.committed < 2 ^ 63
-    → Fits old (flown slot (code.Asks asking)) → n ≡ ask_number asking.call
-    → BreaksAs (meaning_of slot.header.«module») asking.call old new bytes (One request) (stop_at how n) it
+pub ask_broken : (how : Breaking) (slot slot' : CodeSlot) (asking : Asking) (old new : Standing) (n : ℕ) (it : Called) (said : Said)
+    → slot.flight ≡ None → slot.committed < 2 ^ 63 → Fits old (flown slot (code.Asks asking)) → n ≡ ask_number asking.call
+    → BreaksAs (meaning_of slot.header.«module») asking.call old new asking.bytes (One asking.request) (stop_at how n) it
     → EndsCall new it slot slot' said → Comes new (flown slot (code.Asks asking)) slot'
     (plays (instance_in slot) (slot_in old (flown slot (code.Asks asking)))
     (event_by (call_in (code.Asks asking)) (next_plan old).meddles (stop_at how ((next_plan old).at + 1)))) said
-ask_broken how slot slot' asking old new bytes request n it said same-bytes same-request none few fits is breaks ends =
-    let f = asking_of old slot asking fits in
-    let d = digests_in old (flown slot (code.Asks asking)) in
+ask_broken how slot slot' asking old new n it said none few fits is breaks ends =
+    let f = call_of old slot (code.Asks asking) fits in
     let p = next_plan old in
     let at : n ≡ p.at + 1 = is ∙ f.flies.number ∙ sym f.flies.is_next in
-    let P : List ℕ → List ℕ → ℕ
-    → Type 0 = λ x y k. BreaksAs (meaning_of slot.header.«module») asking.call old new x (One y) (stop_at how k) it in
-    let there : P asking.bytes asking.request (p.at + 1) =
-    subst (λ (k : ℕ). P asking.bytes asking.request k) at
-    (subst (λ (x : List ℕ). P x asking.request n) same-bytes (subst (λ (y : List ℕ). P bytes y n) same-request breaks)) in
-    let t = there slot.header.variant (rising_from slot.number) (rising_from (128 + slot.number)) d f.from slot.issued.items p.meddles
-    (p.at + 1) asking.offer f.flies f.offered (stopped_at how (p.at + 1)) in
+    let there = subst (λ (k : ℕ). BreaksAs (meaning_of slot.header.«module») asking.call old new asking.bytes (One asking.request)
+    (stop_at how k) it) at breaks in
+    let t = there slot.header.variant (rising_from slot.number) (rising_from (128 + slot.number))
+    (digests_in old (flown slot (code.Asks asking))) f.from slot.issued.items p.meddles (p.at + 1) asking.offer f.flies f.may.offered
+    (stopped_at how (p.at + 1)) in
     over_comes slot slot' (code.Asks asking) old f.from new (event_by (call_in (code.Asks asking)) p.meddles (stop_at how (p.at + 1))) it
     said none fits.kept few t ends
 
@@ -163,7 +146,7 @@ pub close_broken : (how : Breaking) (slot slot' : CodeSlot) (closing : Closing) 
     → Comes new (flown slot (code.Closes closing)) slot' (plays (instance_in slot) (slot_in old (flown slot (code.Closes closing)))
     (event_by (call_in (code.Closes closing)) (next_plan old).meddles (stop_at how ((next_plan old).at + 1)))) said
 close_broken how slot slot' closing old new n reply said none few fits is breaks ends =
-    let f = closing_of old slot closing fits in
+    let f = call_of old slot (code.Closes closing) fits in
     let d = digests_in old (flown slot (code.Closes closing)) in
     let p = next_plan old in
     let at : n ≡ p.at + 1 = is ∙ f.flies.number ∙ sym f.flies.is_next in
@@ -215,21 +198,20 @@ lacks_stands slot slot' d meddles stop old new l s h n c r =
     ]
 
 -- want of memory: the call is over, and nothing was done but that it has read
-pub ask_lacks : (slot slot' : CodeSlot) (asking : Asking) (old new : Standing) (bytes request : List ℕ) (memory : Memory)
-    → bytes ≡ asking.bytes → request ≡ asking.request → Fits old (flown slot (code.Asks asking))
-    → StepsAs (meaning_of slot.header.«module») asking.call old new bytes (One request) (Err memory) → slot'.header ≡ slot.header
-    → slot'.number ≡ slot.number → slot'.committed ≡ slot.committed → slot'.flight ≡ None → slot'.kept ≡ slot.kept
-    → slot'.issued.items ≡ slot.issued.items → HasRegister new slot' → Wants old new (flown slot (code.Asks asking)) slot'
-ask_lacks slot slot' asking old new bytes request memory same-bytes same-request fits steps h n c none k issued r =
-    let f = asking_of old slot asking fits in
+pub ask_lacks : (slot slot' : CodeSlot) (asking : Asking) (old new : Standing) (memory : Memory)
+    → Fits old (flown slot (code.Asks asking))
+    → StepsAs (meaning_of slot.header.«module») asking.call old new asking.bytes (One asking.request) (Err memory)
+    → slot'.header ≡ slot.header → slot'.number ≡ slot.number → slot'.committed ≡ slot.committed → slot'.flight ≡ None
+    → slot'.kept ≡ slot.kept → slot'.issued.items ≡ slot.issued.items → HasRegister new slot'
+    → Wants old new (flown slot (code.Asks asking)) slot'
+ask_lacks slot slot' asking old new memory fits steps h n c none k issued r =
+    let f = call_of old slot (code.Asks asking) fits in
     let i = instance_in slot in
     let d = digests_in old (flown slot (code.Asks asking)) in
     let p = next_plan old in
-    let there = for_asked asking bytes request same-bytes same-request
-    (λ x y. StepsAs (meaning_of slot.header.«module») asking.call old new x (One y) (Err memory)) steps in
     let l : Lacks i d p.meddles (stop_behind (p.at + 1)) f.from new =
-    there slot.header.variant (rising_from slot.number) (rising_from (128 + slot.number)) d f.from slot.issued.items p.meddles (p.at + 1)
-    asking.offer f.flies f.offered in
+    steps slot.header.variant (rising_from slot.number) (rising_from (128 + slot.number)) d f.from slot.issued.items p.meddles (p.at + 1)
+    asking.offer f.flies f.may.offered in
     let kept = k ∙ fits.kept ∙ ap (λ (x : List (List ℕ)). within_64 (sum_by length x)) (sym issued) in
     let at : (x : Digests) → Stands i new x → GoesOn new (flown slot (code.Asks asking)) slot' = λ x s. record {
       fits = settled new slot' x none (subst (λ (j : Instance). Stands j new x) (sym (same_instance slot slot' h n)) s) l.quiet r kept;

@@ -12,15 +12,14 @@ use Rattle.mm_model.specs.Long.{is_long}
 use Rattle.mm_model.specs.Moves.{Digests}
 use Rattle.mm_model.specs.Standing.{register_reads}
 use Rattle.mm_world.specs.declared.call.Called.{Called}
+use Rattle.mm_schedule.specs.declared.event.Offer.{Offer}
 use Rattle.mm_schedule.specs.declared.header.Header.{Header}
-use Rattle.mm_run.specs.Held.{rising_from}
 use Rattle.mm_run.specs.Offered.{offered_bytes}
-use Rattle.mm_steps.specs.Asking.{AsksInFlight}
-use Rattle.mm_steps.specs.Closing.{ClosesInFlight}
+use Rattle.mm_steps.specs.Asking.{ask_left}
+use Rattle.mm_steps.specs.Closing.{close_left}
+use Rattle.mm_steps.specs.Stopping.{CallLeft, IsInFlight}
 use Rattle.mm_world.specs.Held.{digest_in, flag_in}
 use Rattle.mm_world.specs.Stands.{Stands, IsQuiet}
-use Rattle.mm_slots.specs.declared.flight.Asking.{Asking}
-use Rattle.mm_slots.specs.declared.flight.Closing.{Closing}
 use Rattle.mm_slots.specs.declared.flight.Flight.{Flight as CodeFlight}
 use Rattle.mm_slots.specs.declared.flight.Flight.TheVariants as code
 use Rattle.mm_slots.specs.declared.said.Said.{Said}
@@ -61,37 +60,42 @@ slot_in standing slot = record {
 abbrev pub instance_in : CodeSlot → Instance
 instance_in slot = slot_instance slot.header slot.number
 
--- A call that asks is in flight: begun over a platform that stood so, with the bytes that its offer
--- names, and with room for the snapshot that it may hand out.
-pub record FitsAsking (header : Header) (number : ℕ) (d : Digests) (issued : List (List ℕ))
-    (capacity : ℕ) (standing : Standing)
-    (asking : Asking) : Type 0 where
-  pub from : Standing
-  pub flies : AsksInFlight header.variant (meaning_of header.«module») (rising_from number)
-      (rising_from (128 + number)) d from
-      asking.call standing (next_plan standing).meddles ((next_plan standing).at + 1) asking.bytes
-      (One asking.request)
-  pub offered : offered_bytes issued asking.offer ≡ Some asking.bytes
-  pub short : is_long (One asking.request) ≡ false
+-- what is left of a call in flight
+abbrev pub left_of : Header → CodeFlight → CallLeft
+left_of header (code.Asks asking) =
+    ask_left header.variant (meaning_of header.«module») asking.call asking.bytes
+    (One asking.request)
+left_of header (code.Closes closing) = close_left closing.call
+
+-- The bytes are those that the offer names, the request isn't too long, and there is room for the
+-- snapshot that may be handed out.
+pub record MayAsk (issued : List (List ℕ)) (capacity : ℕ) (offer : Offer)
+    (bytes request : List ℕ) : Type 0 where
+  pub offered : offered_bytes issued offer ≡ Some bytes
+  pub short : is_long (One request) ≡ false
   pub room : length issued < capacity
 
--- a checkpoint is in flight
-pub record FitsClosing (header : Header) (number : ℕ) (d : Digests) (standing : Standing)
-    (closing : Closing) : Type 0 where
+abbrev pub MayGoOn : List (List ℕ) → ℕ → CodeFlight → Type 0
+MayGoOn issued capacity (code.Asks asking) =
+    MayAsk issued capacity asking.offer asking.bytes asking.request
+MayGoOn issued capacity (code.Closes closing) = Unit {0}
+
+-- A call is in flight, that was begun over a platform that stood so.
+pub record FitsCall (header : Header) (number : ℕ) (d : Digests) (issued : List (List ℕ))
+    (capacity : ℕ) (standing : Standing)
+    (flight : CodeFlight) : Type 0 where
   pub from : Standing
-  pub flies : ClosesInFlight header.variant (meaning_of header.«module») (rising_from number)
-      (rising_from (128 + number)) d from
-      closing.call standing (next_plan standing).meddles ((next_plan standing).at + 1)
+  pub flies : IsInFlight (left_of header flight) (slot_instance header number) d from standing
+      (next_plan standing).meddles ((next_plan standing).at + 1)
+  pub may : MayGoOn issued capacity flight
 
 -- the platform stands so that the call in flight, if there is one, goes on
 abbrev pub FitsFlight : Header → ℕ → Digests → List (List ℕ) → ℕ → Standing → Option CodeFlight
     → Type 0
 FitsFlight header number d issued capacity standing None =
     Stands (slot_instance header number) standing d × IsQuiet standing
-FitsFlight header number d issued capacity standing (Some (code.Asks asking)) =
-    FitsAsking header number d issued capacity standing asking
-FitsFlight header number d issued capacity standing (Some (code.Closes closing)) =
-    FitsClosing header number d standing closing
+FitsFlight header number d issued capacity standing (Some flight) =
+    FitsCall header number d issued capacity standing flight
 
 -- a count of 64 bits stays at the greatest once it is there
 abbrev pub within_64 : ℕ → ℕ

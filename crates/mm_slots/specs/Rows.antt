@@ -10,7 +10,7 @@ use Rattle.mm_slots.specs.declared.slot.Slot.{Slot as CodeSlot}
 use Rattle.mm_slots.specs.Answers.{IsSayable, answers_text}
 use Rattle.mm_slots.specs.Held.{slot_in, Fits}
 use Rattle.mm_slots.specs.Slot.{Met, Acts, Loses}
-use Rattle.mm_slots.specs.Table.{Row, row_after, by_place, after_event, said_at, answers_to}
+use Rattle.mm_slots.specs.Table.{Row, row_after, by_place, met_in, said_at, answers_to}
 
 abbrev pub row_in : Standing → CodeSlot → Row
 row_in standing slot =
@@ -44,21 +44,24 @@ touched mets rows = by_place (λ number row. row_after row (mets number)) 0 rows
 abbrev pub only_at : ℕ → Met → ℕ → List Met
 only_at number met other = if other == number then met ∷ [] else []
 
+-- Each slot has met this, by its number, and is over its platform.
+pub record Touches (mets : ℕ → List Met) (events : ℕ) (standings standings' : List Standing)
+    (slots slots' : List CodeSlot) : Type 0 where
+  pub rows : rows_in standings' slots' ≡ touched mets (rows_in standings slots)
+  pub fit : AllFit events standings' slots'
+
 -- Something happened in the slot with this number, and this was said.
 pub record ActsAt (events number : ℕ) (what : Action) (standings standings' : List Standing)
     (slots slots' : List CodeSlot)
     (said : Said) : Type 0 where
-  pub rows : rows_in standings' slots' ≡ touched (only_at number (Acts what))
-      (rows_in standings slots)
-  pub fit : AllFit (events + 1) standings' slots'
+  pub touches : Touches (only_at number (Acts what)) (events + 1) standings standings' slots slots'
   pub says : said_at (rows_in standings slots) number what ≡ said ∷ []
   pub sayable : IsSayable said
 
 -- the slot with this number lost its power
-pub record LosesAt (events number : ℕ) (standings standings' : List Standing)
-    (slots slots' : List CodeSlot) : Type 0 where
-  pub rows : rows_in standings' slots' ≡ touched (only_at number Loses) (rows_in standings slots)
-  pub fit : AllFit events standings' slots'
+abbrev pub LosesAt : (events number : ℕ) → List Standing → List Standing → List CodeSlot
+    → List CodeSlot → Type 0
+LosesAt events number = Touches (only_at number Loses) events
 
 -- what the fields of a run among its events keep
 pub record KeepsAll (standings : List Standing) (slots : List CodeSlot) (events read : ℕ) : Type 0
@@ -74,24 +77,20 @@ abbrev pub others_lose : ℕ → ℕ → List Met
 others_lose but number = if number == but then [] else Loses ∷ []
 
 -- all slots lost their power but the one with this number, if there is one
-pub record LosesAll (events but : ℕ) (standings standings' : List Standing)
-    (slots slots' : List CodeSlot) : Type 0 where
-  pub rows : rows_in standings' slots' ≡ touched (others_lose but) (rows_in standings slots)
-  pub fit : AllFit events standings' slots'
+abbrev pub LosesAll : (events but : ℕ) → List Standing → List Standing → List CodeSlot
+    → List CodeSlot → Type 0
+LosesAll events but = Touches (others_lose but) events
 
 -- the slot with this number lost its power, if it isn't that one
-pub record LosesUnless (events number but : ℕ) (standings standings' : List Standing)
-    (slots slots' : List CodeSlot) : Type 0 where
-  pub rows : rows_in standings' slots' ≡ touched
-      (λ k. if k == number then others_lose but number else []) (rows_in standings slots)
-  pub fit : AllFit events standings' slots'
+abbrev pub LosesUnless : (events number but : ℕ) → List Standing → List Standing → List CodeSlot
+    → List CodeSlot → Type 0
+LosesUnless events number but =
+    Touches (λ k. if k == number then others_lose but number else []) events
 
 -- where a call was cut, all slots but the one with this number lost their power
-pub record LosesIf (events but : ℕ) (is_cut : Bool) (standings standings' : List Standing)
-    (slots slots' : List CodeSlot) : Type 0 where
-  pub rows : rows_in standings' slots' ≡ touched (λ k. if is_cut then others_lose but k else [])
-      (rows_in standings slots)
-  pub fit : AllFit events standings' slots'
+abbrev pub LosesIf : (events but : ℕ) → Bool → List Standing → List Standing → List CodeSlot
+    → List CodeSlot → Type 0
+LosesIf events but is_cut = Touches (λ k. if is_cut then others_lose but k else []) events
 
 -- the event is in one of so many slots, or in all
 abbrev pub IsInside : ℕ → SlotEvent → Type 0
@@ -99,10 +98,11 @@ IsInside slots Power = Unit {0}
 IsInside slots (At number what) = number < slots
 
 -- all slots are as this event leaves them
-pub record Follows (events : ℕ) (event : SlotEvent) (standings standings' : List Standing)
-    (slots slots' : List CodeSlot) : Type 0 where
-  pub rows : rows_in standings' slots' ≡ after_event (rows_in standings slots) event
-  pub fit : AllFit (events + 1) standings' slots'
+abbrev pub Follows : ℕ → SlotEvent → List Standing → List Standing → List CodeSlot → List CodeSlot
+    → Type 0
+Follows events event standings standings' slots slots' =
+    Touches (λ k. met_in k (rows_in standings slots) event) (events + 1) standings standings' slots
+    slots'
 
 -- something happened in the slot with this number, and this was said
 pub record Tells (events number : ℕ) (what : Action) (standings standings' : List Standing)

@@ -20,7 +20,7 @@ use Rattle.mm_schedule.specs.declared.reply.Reply.{Reply}
 use Rattle.mm_schedule.specs.declared.reply.Way.TheVariants as way
 use Rattle.mm_run.specs.FoldsWords.{stopped_reply}
 use Rattle.mm_steps.specs.declared.closings.SteppedClosing.TheVariants.{Going, Over}
-use Rattle.mm_steps.proofs.Stopping.{goes_as, fails_next, behind, replans_behind, settled_under}
+use Rattle.mm_steps.proofs.Stopping.{goes_as, fails_next, behind, replans_behind, settled_under, fewer, later_than, settled_behind, stopped_under}
 
 abbrev Said : Type 0
 Said = Result Checkpointed CheckpointRefusal
@@ -96,21 +96,15 @@ module _ (variant : Variant) (meaning : Meaning) (key barrier : List ℕ) (d : D
 
 -- a turn that goes on
 
-three_steps : (call : CheckpointStage) → closing_number_of call ≤ 3
+three_steps : (call : CheckpointStage) → closing_number_of call ≤ 5
 three_steps stage.Begun = omega arith
 three_steps _ = omega arith
-
-fewer : (on call made : ℕ) → on ≤ 3 → on ≡ call + 1 → call ≡ made + 1 → made + 1 < 255
-fewer on call made few counts number = omega arith
 
 no_effect : (third : Bool) → (third && false) ≡ false
 no_effect true = refl
 no_effect false = refl
 
 -- a step that breaks it off
-
-later_than : (made stop next : ℕ) → stop ≡ next → next ≡ made + 1 → made < stop
-later_than made stop next at is = omega arith
 
 module _ (variant : Variant) (meaning : Meaning) (key barrier : List ℕ) (d : Digests) (from : Standing) (issued : List (List ℕ)) where
   -- the checkpoint has come to nothing so far: its next step may still fail without effect
@@ -123,15 +117,7 @@ module _ (variant : Variant) (meaning : Meaning) (key barrier : List ℕ) (d : D
       let last : Standing = step_made (closing_act_of call) at in let ended : Said = Err (refusal.Device Failed) in
       let finishes = closing_fails call at last Failed (fails_next (closing_act_of call) now meddles made f.flies.is_on f.flies.few) in
       let settled : Standing = record last { plan = Some quiet_plan } in
-      let settles : SettlesPlan stop true last settled = record {
-        cell = refl;
-        items = refl;
-        is_on = refl;
-        plan = refl;
-        steps = refl;
-        writes = refl;
-      } in
-      let came = comes variant meaning key barrier d from call now meddles next f stop last settled ended (omega arith) finishes settles
+      let came = comes variant meaning key barrier d from call now meddles next f stop last settled ended (omega arith) finishes (settled_behind made last)
       issued in
       let effect : closes_at stop ≡ false = no_effect (made + 1 == 3) in
       let nothing : is_nothing (told_closing stop ended) ≡ true = ap (λ (x : Bool). is_nothing (stopped_reply way.Fault x)) effect in
@@ -154,6 +140,7 @@ module _ (variant : Variant) (meaning : Meaning) (key barrier : List ℕ) (d : D
         quiet = f.quiet;
         made = made + 1;
         flies = flies;
+        room = tt;
         number = m.counts ∙ ap (λ (n : ℕ). n + 1) f.number;
         is_next = ap (λ (n : ℕ). n + 1) f.is_next;
       } in
@@ -166,8 +153,7 @@ module _ (variant : Variant) (meaning : Meaning) (key barrier : List ℕ) (d : D
       (closed_so (instance_by variant meaning key barrier) d issued meddles stop) d.count issued from new (quiet_as said)
   breaks_to call now stopped mid meddles next stop new ended said f at is finishes e =
       let i = instance_by variant meaning key barrier in
-      let under_it : stopped ≡ under (plan_by stop meddles) f.made now = is ∙ ap
-      (λ (p : Option Plan). record now { plan = option_map (stopping stop) p }) f.flies.planned in
+      let under_it = stopped_under stop now stopped meddles f.made f.flies.planned is in
       let later : f.made < stopped_step stop = later_than f.made (stopped_step stop) next at f.is_next in
       let came = comes variant meaning key barrier d from call now meddles next f stop mid new ended later
       (subst (λ (s : Standing). FinishesClosing call s mid ended) under_it finishes) e.settles issued in

@@ -27,7 +27,7 @@ use Rattle.mm_flight.specs.declared.ask.AskTurn.TheVariants as turn
 use Rattle.mm_world.specs.declared.call.Called.{Called}
 use Rattle.mm_steps.specs.declared.asks.Stepped.{Stepped}
 use Rattle.mm_steps.specs.declared.asks.Stepped.TheVariants.{Going}
-use Rattle.mm_steps.proofs.Stopping.{goes_as, fails_next, always_fails, behind, replans_behind, settled_under}
+use Rattle.mm_steps.proofs.Stopping.{goes_as, fails_next, always_fails, behind, replans_behind, settled_under, fewer, later_than, settled_behind, stopped_under}
 
 -- what a call came to that was made whole by what ended it
 
@@ -89,12 +89,7 @@ unbroken_as : (fault : Option StepFault) (why : Refusal) → fault ≡ None → 
 unbroken_as None why e = refl
 unbroken_as (Some fault) why e = cc
 
--- a turn that goes on
-
-fewer : (on call made : ℕ) → on ≤ 5 → on ≡ call + 1 → call ≡ made + 1 → made + 1 < 255
-fewer on call made few counts number = omega arith
-
--- its end
+-- the end of a turn
 
 finishes_under : (call : AskCall) (meaning : Meaning) (now mid : Standing) (meddles : List Meddle) (made : ℕ) (bytes : List ℕ)
     (b : Batch) (turned : AskTurn) → now.is_on ≡ true → now.plan ≡ Some (record (plan_by Quiet meddles) { at = made })
@@ -145,16 +140,8 @@ module _ (variant : Variant) (meaning : Meaning) (key barrier : List ℕ) (d : D
       let fails = ask_fails call meaning at last bytes b Failed (fails_next (ask_act call) now meddles made f.flies.is_on f.flies.few) in
       let settled : Standing = record last { plan = Some quiet_plan } in
       let it : Called = broken_as stop None (size_of b) in
-      let settles : SettlesPlan stop true last settled = record {
-        cell = refl;
-        items = refl;
-        is_on = refl;
-        plan = refl;
-        steps = refl;
-        writes = refl;
-      } in
       let came = comes variant meaning key barrier d from call now meddles next bytes b f short stop last settled (Broken Failed fails.0)
-      (size_of b) (Ok it) (omega arith) fails.1 refl settles refl issued in
+      (size_of b) (Ok it) (omega arith) fails.1 refl (settled_behind made last) refl issued in
       let so = comes_so i d issued meddles stop offer bytes b from settled it offered came in
       let said : is_nothing (asked_so i d issued meddles stop offer b).reply ≡ true = sym (ap (λ x. is_nothing x) so.reply) in
       subst (λ (k : ℕ). is_nothing (asked_so i d issued meddles (Fail k false) offer b).reply ≡ true) (sym f.is_next) said
@@ -230,9 +217,6 @@ over_may result new called e = subst (λ (r : Result Stepped Memory). MayStepOn 
 
 -- a step that breaks it off
 
-later_than : (made stop next : ℕ) → stop ≡ next → next ≡ made + 1 → made < stop
-later_than made stop next at is = omega arith
-
 -- a call that was broken off wants no memory
 pub wants_none : (stop : Stop) (size : ℕ) (ended : Ended) (memory : Memory) (result : Result Called Memory) → is_broken ended ≡ true
     → result ≡ Err memory → CalledAs stop size ended result → ⊥
@@ -258,8 +242,7 @@ pub breaks_to : (variant : Variant) (meaning : Meaning) (key barrier : List ℕ)
 breaks_to variant meaning key barrier d from issued call now stopped mid meddles next offer bytes b stop new size broken ended it result
     f short n offered at is finishes known settles told e =
     let i = instance_by variant meaning key barrier in
-    let under_it : stopped ≡ under (plan_by stop meddles) f.made now = is ∙ ap
-    (λ (p : Option Plan). record now { plan = option_map (stopping stop) p }) f.flies.planned in
+    let under_it = stopped_under stop now stopped meddles f.made f.flies.planned is in
     let later : f.made < stopped_step stop = later_than f.made (stopped_step stop) next at f.is_next in
     let came = comes variant meaning key barrier d from call now meddles next bytes b f short stop mid new ended size result later
     (subst (λ (s : Standing). AskFinishes meaning call s mid bytes b ended) under_it finishes) n

@@ -2,7 +2,7 @@
 use Rattle.mm_steps.proofs.Below.{◌≡◌, ℕ, ◌+◌, ◌<◌, ◌≤◌, Bool, true, false, not, List, Option, None, Some, refl, sym, ap, ◌∙◌, arith, ◌==◌}
 use Rattle.mm_steps.proofs.Below.{is_some, if◌then◌else◌, option_map, counted, StepFault, Failed, Off, Meddle, Stop, Quiet, Cut, Drop, Fail}
 use Rattle.mm_steps.proofs.Below.{Plan, Standing, next_step, stopping, step_made, plan_by, under, SaySame, GoesOnAs, AlwaysFails}
-use Rattle.mm_steps.proofs.Below.{counted_few, Replans, stopped_step, SettlesPlan, BreaksNext, stop_behind, replans}
+use Rattle.mm_steps.proofs.Below.{counted_few, Replans, stopped_step, SettlesPlan, BreaksNext, stop_behind, replans, quiet_plan}
 use Rattle.std.proofs.lemmas.Bool.{ne_eqb}
 use Rattle.std.proofs.lemmas.Bool.Decides.{nat_tests}
 use Rattle.mm_platform.specs.Steps.{Act, Goes, fault_at, will_answer}
@@ -131,3 +131,21 @@ settled_under stop broken plan at mid new s = record {
   steps = s.steps;
   writes = s.writes;
 }
+
+-- a step that failed without effect, and its plan over
+pub settled_behind : (made : ℕ) (last : Standing) → SettlesPlan (stop_behind made) true last (record last { plan = Some quiet_plan })
+settled_behind made last = record { cell = refl; items = refl; is_on = refl; plan = refl; steps = refl; writes = refl }
+
+-- few steps were made where the next one has a low number
+pub fewer : (on call made : ℕ) → on ≤ 5 → on ≡ call + 1 → call ≡ made + 1 → made + 1 < 255
+fewer on call made few counts number = omega arith
+
+pub later_than : (made stop next : ℕ) → stop ≡ next → next ≡ made + 1 → made < stop
+later_than made stop next at is = omega arith
+
+-- a platform that is stopped at its next step
+pub stopped_under : (stop : Stop) (now stopped : Standing) (meddles : List Meddle) (made : ℕ)
+    → now.plan ≡ Some (record (plan_by Quiet meddles) { at = made }) → stopped ≡ record now { plan = option_map (stopping stop) now.plan }
+    → stopped ≡ under (plan_by stop meddles) made now
+stopped_under stop now stopped meddles made planned is =
+    is ∙ ap (λ (p : Option Plan). record now { plan = option_map (stopping stop) p }) planned

@@ -20,14 +20,12 @@ use Rattle.mm_run.specs.Folds.{Outcome, event_outcome}
 use Rattle.mm_run.specs.Offered.{offered_bytes}
 use Rattle.mm_flight.specs.declared.ask.AskCall.{AskCall}
 use Rattle.mm_flight.specs.Asks.{ask_number, MayAsk, AskFinishes}
-use Rattle.mm_flight.specs.InFlight.{InFlight}
 use Rattle.mm_world.specs.declared.call.Called.{Called}
-use Rattle.mm_world.specs.Stands.{Stands, IsQuiet}
 use Rattle.mm_world.specs.Calls.{stopped_step, CalledAs, SettlesPlan}
 use Rattle.mm_world.specs.Asks.{Came, Lacks}
 use Rattle.mm_steps.specs.declared.asks.Stepped.{Stepped}
 use Rattle.mm_steps.specs.declared.asks.Stepped.TheVariants.{Going, Over}
-use Rattle.mm_steps.specs.Stopping.{is_nothing, stop_behind}
+use Rattle.mm_steps.specs.Stopping.{CallLeft, IsInFlight, is_nothing, stop_behind}
 
 -- the whole call, and what is left of it
 abbrev pub asks_whole : Variant → Meaning → List ℕ → Batch → Standing → Standing → Ended → Type 0
@@ -36,21 +34,21 @@ asks_whole variant meaning bytes b old new ended = CallsTo variant meaning old n
 abbrev pub asks_rest : Meaning → AskCall → List ℕ → Batch → Standing → Standing → Ended → Type 0
 asks_rest meaning call bytes b old new ended = AskFinishes meaning call old new bytes b ended
 
--- A call that offers these bytes and asks for this batch is in flight. It was begun over a platform
--- that stood so, quiet, at these digests; others have extended the register by these meddles since;
--- and its next step has this number.
-pub record AsksInFlight (variant : Variant) (meaning : Meaning) (key barrier : List ℕ) (d : Digests)
-    (from : Standing)
-    (call : AskCall) (now : Standing) (meddles : List Meddle) (next : ℕ) (bytes : List ℕ)
-    (b : Batch) : Type 0 where
-  pub stands : Stands (instance_by variant meaning key barrier) from d
-  pub quiet : IsQuiet from
-  pub made : ℕ
-  pub flies : InFlight (asks_whole variant meaning bytes b) (asks_rest meaning call bytes b) from
-      now meddles made
-  pub room : MayAsk call now
-  pub number : ask_number call ≡ made + 1
-  pub is_next : next ≡ made + 1
+abbrev pub ask_left : Variant → Meaning → AskCall → List ℕ → Batch → CallLeft
+ask_left variant meaning call bytes b = record {
+  Ends = Ended;
+  whole = asks_whole variant meaning bytes b;
+  rest = asks_rest meaning call bytes b;
+  may = MayAsk call;
+  number = ask_number call;
+}
+
+-- a call that offers these bytes and asks for this batch is in flight
+abbrev pub AsksInFlight : Variant → Meaning → (key barrier : List ℕ) → Digests → Standing → AskCall
+    → Standing → List Meddle → ℕ → List ℕ → Batch → Type 0
+AsksInFlight variant meaning key barrier d from call now meddles next bytes b =
+    IsInFlight (ask_left variant meaning call bytes b) (instance_by variant meaning key barrier) d
+    from now meddles next
 
 -- the event of such a call that is stopped so
 abbrev pub asked_so : Instance → Digests → List (List ℕ) → List Meddle → Stop → Offer → Batch

@@ -17,13 +17,11 @@ use Rattle.mm_opt.specs.ChecksOn.{ChecksOn}
 use Rattle.mm_schedule.specs.declared.reply.Reply.{Reply}
 use Rattle.mm_schedule.specs.Events.{Checkpoint}
 use Rattle.mm_run.specs.Folds.{Outcome, event_outcome}
-use Rattle.mm_flight.specs.InFlight.{InFlight}
-use Rattle.mm_world.specs.Stands.{Stands, IsQuiet}
 use Rattle.mm_world.specs.Calls.{stopped_step, SettlesPlan, told_closing, stops_in}
 use Rattle.mm_world.specs.Asks.{Came, quiet_as}
 use Rattle.mm_steps.specs.declared.closings.SteppedClosing.{SteppedClosing}
 use Rattle.mm_steps.specs.declared.closings.SteppedClosing.TheVariants.{Going, Over}
-use Rattle.mm_steps.specs.Stopping.{is_nothing, stop_behind}
+use Rattle.mm_steps.specs.Stopping.{CallLeft, IsInFlight, is_nothing, stop_behind}
 
 -- the whole checkpoint, and what is left of it
 abbrev pub checks_whole : Standing → Standing → Result Checkpointed CheckpointRefusal → Type 0
@@ -33,17 +31,20 @@ abbrev pub checks_rest : CheckpointStage → Standing → Standing
     → Result Checkpointed CheckpointRefusal → Type 0
 checks_rest call old new ended = FinishesClosing call old new ended
 
--- A checkpoint is in flight. It was begun over a platform that stood so, quiet, at these digests;
--- others have extended the register by these meddles since; and its next step has this number.
-pub record ClosesInFlight (variant : Variant) (meaning : Meaning) (key barrier : List ℕ)
-    (d : Digests) (from : Standing)
-    (call : CheckpointStage) (now : Standing) (meddles : List Meddle) (next : ℕ) : Type 0 where
-  pub stands : Stands (instance_by variant meaning key barrier) from d
-  pub quiet : IsQuiet from
-  pub made : ℕ
-  pub flies : InFlight checks_whole (checks_rest call) from now meddles made
-  pub number : closing_number_of call ≡ made + 1
-  pub is_next : next ≡ made + 1
+abbrev pub close_left : CheckpointStage → CallLeft
+close_left call = record {
+  Ends = Result Checkpointed CheckpointRefusal;
+  whole = checks_whole;
+  rest = checks_rest call;
+  may = λ standing. Unit {0};
+  number = closing_number_of call;
+}
+
+-- a checkpoint is in flight
+abbrev pub ClosesInFlight : Variant → Meaning → (key barrier : List ℕ) → Digests → Standing
+    → CheckpointStage → Standing → List Meddle → ℕ → Type 0
+ClosesInFlight variant meaning key barrier d from call now meddles next =
+    IsInFlight (close_left call) (instance_by variant meaning key barrier) d from now meddles next
 
 -- the event of a checkpoint that is stopped so
 abbrev pub closed_so : Instance → Digests → List (List ℕ) → List Meddle → Stop → Outcome Digests

@@ -1,5 +1,4 @@
-use Rattle.mm_opt.proofs.Below.{refl, subst, goes_on, breaks_off, Opening, ChangesTo}
-use Rattle.mm_opt.specs.declared.stage.Change.TheVariants as change
+use Rattle.mm_opt.proofs.Below.{refl, goes_on, breaks_off}
 use Rattle.mm_opt.proofs.finish.place_on.Goals as goal
 
 pub returns-in-Err : goal.returns-in-Err
@@ -7,6 +6,4 @@ returns-in-Err g c = breaks_off c.in-Err.fault c.in-Err.ensures.goes refl
 
 pub returns-in-Ok : goal.returns-in-Ok
 returns-in-Ok g c =
-    goes_on (g.P.Device.standing c.place.new.platform) c.in-Ok.ensures.goes
-    (subst (λ (o : Opening). ChangesTo (change.Writing o) (g.P.Device.standing c.place.new.platform)
-    (g.P.Device.standing c.write_last.new.platform) c.write_last.result) c.in-Ok.ensures.gives c.write_last.ensures)
+    goes_on (g.P.Device.standing c.place.new.platform) c.in-Ok.ensures.goes (rw (← c.in-Ok.ensures.gives) c.write_last.ensures)

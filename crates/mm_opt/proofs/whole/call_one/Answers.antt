@@ -1,4 +1,4 @@
-use Rattle.mm_opt.proofs.Fits.{one_output}
+use Rattle.mm_opt.proofs.Asking.{one_output}
 use Rattle.mm_opt.proofs.whole.call_one.Goals as goal
 
 pub returns-clause-one : goal.returns-clause-one

@@ -9,4 +9,4 @@ returns-in-Ok-clause-ok c = λ events fit.
     c.act_at.new.platform.slots c.lose_if.new.platform.slots c.args.slots.now c.act_at.new.slots c.lose_if.new.slots c.in-Ok.said
     (cuts_at events c.args.number c.args.action c.args.platform.now.slots c.args.slots.now
     c.index-slots-number.result c.is_cut-is_cut.result c.requires.inside fit c.is_cut-is_cut.ensures)
-    a (c.lose_if.ensures (events + 1) a.fit)
+    a (c.lose_if.ensures (events + 1) a.touches.fit)

@@ -27,9 +27,9 @@ returns-clause-ok c =
     → ActsAt events c.args.number c.args.action c.args.platform.now.slots
     (slice_set c.args.platform.now.slots c.args.number c.act.new.platform)
     c.args.slots.now (slice_set c.args.slots.now c.args.number c.act.new.self) said)
-    (λ said d events fit. acts_at events c.args.number c.args.action c.args.platform.now.slots _ c.args.slots.now _ c.act.new.platform
+    (λ said d events fit. acts_at events c.args.number c.args.action c.args.platform.now.slots c.args.slots.now c.act.new.platform
     c.act.new.self said (new_platform [])
-    c.index-slots-number.result refl refl c.requires.inside fit
+    c.index-slots-number.result c.requires.inside fit
     (subst (λ (s : Standing). Comes c.act.new.platform slot c.act.new.self (acted (instance_in slot) (slot_in s slot) c.args.action) said)
     c.slot.ensures.value d)) c.act.ensures.ok
 
@@ -40,6 +40,6 @@ returns-clause-err c =
     ((events : ℕ) → AllFit events c.args.platform.now.slots c.args.slots.now
     → AllFit (events + 1) (slice_set c.args.platform.now.slots c.args.number c.act.new.platform)
     (slice_set c.args.slots.now c.args.number c.act.new.self))
-    (λ w events fit. lacks_at events c.args.number c.args.platform.now.slots _ c.args.slots.now _ c.act.new.platform c.act.new.self
+    (λ w events fit. lacks_at events c.args.number c.args.platform.now.slots c.args.slots.now c.act.new.platform c.act.new.self
     (new_platform [])
-    c.index-slots-number.result refl refl c.requires.inside fit w.goes) c.act.ensures.err
+    c.index-slots-number.result c.requires.inside fit w.goes) c.act.ensures.err

@@ -14,7 +14,7 @@ lose_power-requires c =
 
 pub returns : goal.returns
 returns c = λ events fit.
-    loses_at events c.args.number c.args.platform.now.slots _ c.args.slots.now _ c.lose_power.new.platform c.lose_power.new.self
-    (new_platform []) c.index-slots-number.result refl refl c.requires.inside fit
+    loses_at events c.args.number c.args.platform.now.slots c.args.slots.now c.lose_power.new.platform c.lose_power.new.self
+    (new_platform []) c.index-slots-number.result c.requires.inside fit
     (subst (λ (s : Standing). Loses s c.lose_power.new.platform (get_or c.args.slots.now c.args.number c.index-slots-number.result)
     c.lose_power.new.self) c.slot.ensures.value c.lose_power.ensures)

@@ -1,4 +1,3 @@
-use Rattle.mm_slots.proofs.Below.{subst, Stop, BreaksClosingAs, Called, EndsCall}
 use Rattle.mm_slots.proofs.Stepping.{close_broken}
 use Rattle.mm_slots.proofs.slot.Slot.break_closing.Goals as goal
 
@@ -6,7 +5,4 @@ pub returns : goal.returns
 returns c =
     close_broken c.args.how c.args.self.now c.end.new.self c.args.closing c.args.platform.now c.break_closing-reply.new.platform
     c.next_step.result c.break_closing-reply.result c.end.result c.requires.idle c.requires.few c.requires.fits c.next_step.ensures
-    (subst (λ (s : Stop). BreaksClosingAs c.args.closing.call c.args.platform.now c.break_closing-reply.new.platform s
-    c.break_closing-reply.result) c.stop_at-stop.ensures c.break_closing-reply.ensures)
-    (subst (λ (it : Called). EndsCall c.break_closing-reply.new.platform it c.args.self.now c.end.new.self c.end.result) c.quiet.ensures
-    c.end.ensures)
+    (rw c.stop_at-stop.ensures at c.break_closing-reply.ensures) (rw c.quiet.ensures at c.end.ensures)
