@@ -2,21 +2,20 @@
 -- snapshot is issued.
 use Rattle.mm_run.proofs.Below.{found_with_tells, unless_lost, bytes_eq, tag_of, kept_at, commits, broken_reply}
 use Rattle.mm_run.proofs.Below.{◌≡◌, ℕ, ◌+◌, ◌≤◌, Bool, true, false, List, [], ◌∷◌, ◌++◌, length, IsTrue, Option, None, Some, Result, Ok}
-use Rattle.mm_run.proofs.Below.{Err, refl, sym, ap, subst, arith, length-append, All, ◌||◌, nat_lt, list_any, nat_tests}
+use Rattle.mm_run.proofs.Below.{Err, refl, sym, ap, subst, arith, length-append, All, nat_tests}
 use Rattle.mm_run.proofs.Below.{All-nil, All-cons, last_position, longest_request, most_members, Variant, Basic, Opt, Meaning, IsLawful}
-use Rattle.mm_run.proofs.Below.{outputs_from, Batch, members_of, size_of, batch_text, normal, members_of-normal}
-use Rattle.mm_run.proofs.Below.{StepFault, Stop, Cut, PartsFault, Form, Kind, parts_of, Content, Snapshot}
+use Rattle.mm_run.proofs.Below.{outputs_from, Batch, members_of, size_of, normal, members_of-normal}
+use Rattle.mm_run.proofs.Below.{StepFault, PartsFault, Form, Kind, parts_of, Content, Snapshot}
 use Rattle.mm_run.proofs.Below.{Instance, Move, Commit, is_long, Digests, made, committing}
 use Rattle.mm_run.proofs.Below.{ask_steps, Refusal, examined, by_digests, all_made, Found}
 use Rattle.mm_run.proofs.Below.{found_by_verdict, found_at, found_unless_wanting, is_fresh, Course, Walked, walk, Ending}
-use Rattle.mm_run.proofs.Below.{Answers, Breaks, Called, ended_by, seen_at, called, Closing}
+use Rattle.mm_run.proofs.Below.{Answers, Called, ended_by, seen_at, called, Closing}
 use Rattle.mm_run.proofs.Below.{Stops, Checkpointed, checkpointed, committed_in, Commits, nothing, batch, call_commits}
-use Rattle.mm_run.proofs.Below.{unlacked, checkpoint_none, Event, Way, way_of, after_stop, course_of}
-use Rattle.mm_run.proofs.Below.{reply_of, snapshots_of, moves_then, closing_reply, closing_then}
+use Rattle.mm_run.proofs.Below.{unlacked, checkpoint_none, Event, Way, way_of, course_of}
+use Rattle.mm_run.proofs.Below.{reply_of, snapshots_of, closing_reply}
 use Rattle.mm_run.proofs.Below.{event_outcome, world_key, world_barrier}
 use Rattle.mm_seal.specs.ReadingLaws.{le_tells}
 use Rattle.mm_call.specs.WeighingLaws.{weighed_only}
-use Rattle.mm_model.specs.LongWords.{is_lf}
 use Rattle.mm_modules.specs.Modules.{meaning_of}
 use Rattle.mm_modules.specs.ModulesLaws.{any_is_lawful}
 use Rattle.mm_call.specs.Standing.{instance_by}

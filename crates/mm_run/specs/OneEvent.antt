@@ -5,8 +5,7 @@ use Rattle.mm_run.specs.Below.{Variant, Basic, Opt, Content, Batch, History, req
 use Rattle.mm_run.specs.Below.{IsSound, moves_messages, IsWithin, by_lists, by_digests, Agrees, Event, Steps}
 use Rattle.mm_run.specs.Folds.{Outcome, event_outcome}
 use Rattle.mm_run.specs.Laws.{IsIssued}
-use Rattle.mm_run.specs.Premises.{moves_of, event_messages, foreign_of, batches_of, IsGenuineEvent}
-use Rattle.mm_run.specs.PremisesWords.{AreApartIn}
+use Rattle.mm_run.specs.Premises.{moves_of, event_messages, foreign_of, batches_of, AreApartIn, IsGenuineEvent}
 
 -- the digests are those of the history, which is within the list
 pub record Keeps (all others : List (List ℕ)) (asked_for : List Batch) (i : Instance) (y : History)
