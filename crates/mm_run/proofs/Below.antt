@@ -91,6 +91,7 @@ pub use Rattle.mm_run.specs.Laws.{after_two_segments, AgreesThroughout, continue
 pub use Rattle.mm_run.specs.Laws.{IssuedNamePositions, one_ask, two_segments}
 pub use Rattle.mm_run.specs.Offered.{flipped, offered_bytes}
 pub use Rattle.mm_run.specs.OneEvent.{EventsAgree, EventsKeepNames, IsSameOutcome, IsSoundIn, Keeps, KeepsNames}
-pub use Rattle.mm_run.specs.Premises.{AreApartIn, AreGenuine, batches_of, event_messages, foreign_of, IsClearRun, IsGenuineEvent, IsGenuineRun}
+pub use Rattle.mm_run.specs.Premises.{AreApartIn, AreGenuine, batches_of, event_messages, foreign_of, IsClearRun, IsGenuineEvent}
+pub use Rattle.mm_run.specs.Premises.{IsGenuineRun}
 pub use Rattle.mm_run.specs.Premises.{messages_from, moves_of}
 pub use Rattle.mm_run.specs.Premises.{ask_moves, asked_batches, asking_messages, foreign_values, IsGenuineOffer, run_messages}

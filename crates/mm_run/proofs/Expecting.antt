@@ -26,7 +26,8 @@ module _ (meaning : Meaning) (key : List ℕ) (all others : List (List ℕ)) (as
 
   -- what stands in the place of the register's items doesn't matter
   plain_within : (y : History) (m : Move) → IsBasicMove m → IsWithin all others asked_for it y → (let z : History = moved it y m in
-      Within (history_messages it (counted_part z)) all → AllByRecursion (Contains asked_for) z.batches → IsWithin all others asked_for it z)
+      Within (history_messages it (counted_part z)) all → AllByRecursion (Contains asked_for) z.batches
+      → IsWithin all others asked_for it z)
   plain_within y m is w listed batches =
       let z : History = moved it y m in let plain : IsPlain z = plain-moved meaning key y m is w.sound in record {
         sound = plain;

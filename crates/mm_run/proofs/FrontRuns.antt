@@ -2,7 +2,8 @@
 use Rattle.mm_run.proofs.Below.{ℕ, ◌≡◌, List, [], ◌∷◌, ◌++◌, refl, sym, ap, ◌∙◌, add_assoc, zero-add, append_assoc, Instance, History}
 use Rattle.mm_run.proofs.Below.{Event, Level, by_lists, Outcome, event_outcome, Followed, followed_by, followed, moves_messages}
 use Rattle.mm_run.proofs.Below.{event_messages, moves_of, messages_from, continued, subst, Contains-append_left, Contains, flat_map}
-use Rattle.mm_run.proofs.Below.{by_digests, start_message, Variant, instance_by, Meaning, first_history, requests_of, IsClear, Runs, Reply, expected}
+use Rattle.mm_run.proofs.Below.{by_digests, start_message, Variant, instance_by, Meaning, first_history, requests_of, IsClear, Runs, Reply}
+use Rattle.mm_run.proofs.Below.{expected}
 use Rattle.mm_run.proofs.Below.{replies_by_digests, first_digests, first_issued, AreGenuine, IsClearRun, IsGenuineRun}
 use Rattle.mm_run.proofs.Below.{batches_of, foreign_of, run_messages, each_left, each_self}
 use Rattle.std.proofs.lemmas.Grind.{flat_map-append}
