@@ -2,7 +2,7 @@
 use Rattle.mm_gen.proofs.Below.{◌≡◌, ◌<◌, ◌≤◌, ℕ, zero, suc, ◌+◌, ◌-◌, ◌*◌, List, [], ◌∷◌, ◌++◌, length, take, refl, sym, ap, ◌∙◌, arith}
 use Rattle.mm_gen.proofs.Below.{append_assoc, inl, inr, min, cases_lt, length-take, lines_joined, joined-append, Header, lines_from}
 use Rattle.mm_gen.proofs.Below.{schedule_text, words_at, turn_lines}
-use Rattle.mm_gen.proofs.Rows.{some_lines}
+use Rattle.mm_gen.proofs.Spelled.{are_few}
 
 -- so many lines are done, and the next words are drawn from this place on
 pub record Going (number count : ℕ) (header : Header) (text key : List ℕ) (place done : ℕ) : Type 0 where
@@ -47,7 +47,7 @@ module _ (number count : ℕ) (header : Header) (text : List ℕ) where
       let rest : List (List ℕ) = lines_from header key (place + 4) (done + 1 + length lines) turns in
       let later : List (List ℕ) = take (count - (done + shown)) (lines_from header key (place + 4) (done + shown + 1) turns) in
       let size : shown ≡ min left (length lines) = is ∙ length-take left lines in
-      let some : 0 < length lines = some_lines header (done + 1) (words_at key place) in
+      let some : 0 < length lines = (are_few header (done + 1) (words_at key place)).some in
       let fewer : left - shown ≡ count - (done + shown) = omega arith in
       let cut : take (left - length lines) rest ≡ later = behind header key (place + 4) turns left done shown (length lines) size
       ∙ ap (λ (n : ℕ). take n (lines_from header key (place + 4) (done + shown + 1) turns)) fewer in

@@ -1,17 +1,20 @@
 -- A replay of a generated schedule, from its header line to its end.
-use Rattle.mm_gen.proofs.Below.{◌≡◌, ◌∙◌, ◌≤◌, ◌+◌, ℕ, Bool, true, false, List, [], ◌∷◌, ◌++◌, length, map, Result, Ok, Err, Some, refl}
-use Rattle.mm_gen.proofs.Below.{sym, ap, arith, lit≤, IfOk, AllByRecursion, nat_tests, recursion_from_All, sha256, longest_line}
+use Rattle.mm_gen.proofs.Below.{◌≡◌, ◌∙◌, ◌≤◌, ◌+◌, ℕ, Bool, true, false, List, [], ◌∷◌, length, map, Result, Ok, Err, Some, refl}
+use Rattle.mm_gen.proofs.Below.{sym, ap, arith, lit≤, IfOk, AllByRecursion, nat_tests, recursion_from_All, longest_line}
 use Rattle.mm_gen.proofs.Below.{most_events, Variant, Basic, Opt, name_of, any_is_found, Header, Event, event_at, header_at, header_text}
-use Rattle.mm_gen.proofs.Below.{variant_text, end_line, header-read, spelled_is_read, IsEventLine, schedule_lines, replies_by_digests}
+use Rattle.mm_gen.proofs.Below.{variant_text, header-read, spelled_is_read, IsEventLine, schedule_lines, replies_by_digests}
 use Rattle.mm_gen.proofs.Below.{world_of, Running, ReplayStage, AtHeader, InEvents, after_event, begun, is_too_much, running_outcome}
 use Rattle.mm_gen.proofs.Below.{schedule_answer, schedule_closing, texts_of, text_of_replies, IsLimited, is_over, SumsUp, BulkFault, Memory}
 use Rattle.mm_gen.proofs.Below.{TooMuch, Summary}
 use Rattle.std.proofs.Common.{nat_lt, length-append}
 use Rattle.mm_base.specs.declared.replay_fault.ReplayFault.TheVariants as fault
-use Rattle.mm_gen.proofs.Readable.{is_schedule}
+use Rattle.mm_gen.proofs.Spelled.{is_schedule}
 use Rattle.mm_play.specs.Play.{Told, told, after_writing, and_then, ended, run}
 use Rattle.mm_gen.specs.Replayed.{IsReplayed, replay_of}
-use Rattle.mm_gen.proofs.Tallying.{heads, left_of, over_at, over_behind}
+use Rattle.std.specs.Prelude.{◌||◌}
+use Rattle.mm_gen.proofs.Below.{subst}
+use Rattle.mm_gen.specs.Sums.{bulk_summary}
+use Rattle.mm_gen.proofs.Tallying.{events_of, events_read, left_of}
 
 -- the replay of event lines, of which the first has this number
 abbrev lines_run : ℕ → Running → List (List ℕ) → Told ReplayStage
@@ -33,51 +36,41 @@ record AreAnswered (number : ℕ) (r : Running) (lines : List (List ℕ)) (event
   digests : last.digests ≡ (left_of r events).state
   issued : last.issued ≡ (left_of r events).issued
 
-module _ (number : ℕ) (r : Running) (line : List ℕ) (lines : List (List ℕ)) (event : Event) where
-  -- an event line that passes no limit, and the others behind it
-  answered_more : (events : List Event) → length line ≤ longest_line → event_at line ≡ Some event → is_too_much r line ≡ false
-      → AreAnswered (number + 1) (after_event r line event) lines events → AreAnswered number r (line ∷ lines) (event ∷ events)
-  answered_more events short is room rest = record {
-    last = rest.last;
-    ran = goes number r line lines event short is room ∙ ap (after_writing (text_of_replies (running_outcome r event).reply)) rest.ran;
-    digests = rest.digests;
-    issued = rest.issued;
-  }
+-- what they come to, by whether one of them is one too many
+abbrev ComesTo : ℕ → Running → List (List ℕ) → List Event → Bool → Type 0
+ComesTo number r lines events true = (lines_run number r lines).outcome ≡ Err fault.TooMuch
+ComesTo number r lines events false = AreAnswered number r lines events
 
-  -- by whether the line passes a limit
-  answered_line : (events : List Event) (much : Bool) → is_too_much r line ≡ much → length line ≤ longest_line → event_at line ≡ Some event
-      → is_over r (line ∷ lines) ≡ false → (is_over (after_event r line event) lines ≡ false
-      → AreAnswered (number + 1) (after_event r line event) lines events) → AreAnswered number r (line ∷ lines) (event ∷ events)
-  answered_line events true is short read over on = let much = over_at r line lines is in cc
-  answered_line events false is short read over on = answered_more events short read is (on (over_behind r line lines event read is ∙ over))
+line_comes : (number : ℕ) (r : Running) (line : List ℕ) (lines : List (List ℕ)) (event : Event) (events : List Event) (much over : Bool)
+    → is_too_much r line ≡ much → length line ≤ longest_line → event_at line ≡ Some event
+    → ComesTo (number + 1) (after_event r line event) lines events over
+    → ComesTo number r (line ∷ lines) (event ∷ events) (much || over)
+line_comes number r line lines event events true over is short read rest = rw (fits line short, read, is) refl
+line_comes number r line lines event events false true is short read rest =
+    ap (λ (t : Told ReplayStage). t.outcome) (goes number r line lines event short read is) ∙ rest
+line_comes number r line lines event events false false is short read rest = record {
+  last = rest.last;
+  ran = goes number r line lines event short read is ∙ ap (after_writing (text_of_replies (running_outcome r event).reply)) rest.ran;
+  digests = rest.digests;
+  issued = rest.issued;
+}
 
-all_answered : (lines : List (List ℕ)) (events : List Event) → AllByRecursion IsEventLine lines → map event_at lines ≡ map Some events
-    → (number : ℕ) (r : Running) → is_over r lines ≡ false → AreAnswered number r lines events
-all_answered [] [] are read number r over = record { last = r; ran = refl; digests = refl; issued = refl }
-all_answered [] (event ∷ events) are read number r over = cc
-all_answered (line ∷ lines) [] are read number r over = cc
-all_answered (line ∷ lines) (event ∷ events) are read number r over =
-    let both = heads (event_at line) (Some event) (map event_at lines) (map Some events) read in
-    answered_line number r line lines event events (is_too_much r line) refl are.0.short both.0 over
-    (λ within. all_answered lines events are.1 both.1 (number + 1) (after_event r line event) within)
-
--- one of them is one too many
-much_line : (number : ℕ) (r : Running) (line : List ℕ) (lines : List (List ℕ)) (event : Event) (much : Bool) → is_too_much r line ≡ much
-    → length line ≤ longest_line → event_at line ≡ Some event → is_over r (line ∷ lines) ≡ true
-    → (is_over (after_event r line event) lines ≡ true → (lines_run (number + 1) (after_event r line event) lines).outcome
-    ≡ Err fault.TooMuch) → (lines_run number r (line ∷ lines)).outcome ≡ Err fault.TooMuch
-much_line number r line lines event true is short read over on = rw (fits line short, read, is) refl
-much_line number r line lines event false is short read over on =
-    ap (λ (t : Told ReplayStage). t.outcome) (goes number r line lines event short read is)
-    ∙ on (over_behind r line lines event read is ∙ over)
-
-much_answered : (lines : List (List ℕ)) → AllByRecursion IsEventLine lines → (number : ℕ) (r : Running) → is_over r lines ≡ true
-    → (lines_run number r lines).outcome ≡ Err fault.TooMuch
-much_answered [] are number r over = cc
-much_answered (line ∷ lines) are number r over =
+comes_to : (lines : List (List ℕ)) (are : AllByRecursion IsEventLine lines) (number : ℕ) (r : Running)
+    → ComesTo number r lines (events_of lines are) (is_over r lines)
+comes_to [] are number r = record { last = r; ran = refl; digests = refl; issued = refl }
+comes_to (line ∷ lines) are number r =
     let event : Event = are.0.event in
-    much_line number r line lines event (is_too_much r line) refl are.0.short (spelled_is_read line event are.0.spelled) over
-    (λ behind. much_answered lines are.1 (number + 1) (after_event r line event) behind)
+    let read = spelled_is_read line event are.0.spelled in
+    let over : (is_too_much r line || is_over (after_event r line event) lines) ≡ is_over r (line ∷ lines) = rw read refl in
+    subst (ComesTo number r (line ∷ lines) (event ∷ events_of lines are.1)) over
+    (line_comes number r line lines event (events_of lines are.1) (is_too_much r line) (is_over (after_event r line event) lines) refl
+    are.0.short read (comes_to lines are.1 (number + 1) (after_event r line event)))
+
+same_events : (xs ys : List Event) → map Some xs ≡ map Some ys → xs ≡ ys
+same_events [] [] e = refl
+same_events (x ∷ xs) (y ∷ ys) e =
+    let first : x ≡ y = cc in let others : map Some xs ≡ map Some ys = cc in λ j. first j ∷ same_events xs ys others j
+same_events _ _ e = cc
 
 -- ---- the header
 
@@ -111,34 +104,38 @@ module _ (number count : ℕ) where
   whole header few =
       let is = is_schedule number count header few in rw (is.lines, is.ends, headed header (schedule_lines number count header)) refl
 
+  -- the event lines, with what their replay comes to
+  lines_come : (header : Header) (few : count ≤ most_events) (over : Bool)
+      → is_over (begun header) (schedule_lines number count header) ≡ over
+      → (let lines : List (List ℕ) = schedule_lines number count header in
+      let are = recursion_from_All IsEventLine lines (is_schedule number count header few).events in
+      ComesTo 2 (begun header) lines (events_of lines are) over)
+  lines_come header few over is =
+      let lines : List (List ℕ) = schedule_lines number count header in
+      let are = recursion_from_All IsEventLine lines (is_schedule number count header few).events in
+      subst (ComesTo 2 (begun header) lines (events_of lines are)) is (comes_to lines are 2 (begun header))
+
   replayed_ok : (header : Header) (summary : Summary) → count ≤ most_events → SumsUp header (schedule_lines number count header) summary
       → is_over (begun header) (schedule_lines number count header) ≡ false → IsReplayed (replay_of number count header) (Ok summary)
   replayed_ok header summary few sums over =
-      let is = is_schedule number count header few in let lines : List (List ℕ) = schedule_lines number count header in
-      let a = all_answered lines sums.events (recursion_from_All IsEventLine lines is.events) sums.read 2 (begun header) over in
-      let replies = replies_by_digests (world_of header) sums.events in
-      let ran : replay_of number count header ≡ told (texts_of replies.replies ++ end_line a.last.digests.count (length a.last.issued))
-      (Ok (InEvents a.last)) = whole header few ∙ ap (λ (t : Told ReplayStage). and_then t (ends header lines)) a.ran in (
-        ap (λ (it : Summary). it.replies.bytes) sums.told
-            ∙ ap (λ (c : ℕ). sha256 (texts_of replies.replies ++ end_line c (length replies.issued))) (sym (ap (λ d. d.count) a.digests))
-            ∙ ap (λ (issued : List (List ℕ)). sha256 (texts_of replies.replies ++ end_line a.last.digests.count (length issued)))
-            (sym a.issued)
-            ∙ ap (λ (t : Told ReplayStage). sha256 t.written) (sym ran),
+      let lines : List (List ℕ) = schedule_lines number count header in
+      let are = recursion_from_All IsEventLine lines (is_schedule number count header few).events in
+      let a = lines_come header few false over in
+      let same = same_events sums.events (events_of lines are) (sym sums.read ∙ events_read lines are) in
+      let ran = whole header few ∙ ap (λ (t : Told ReplayStage). and_then t (ends header lines)) a.ran in (
+        ap (λ (it : Summary). it.replies.bytes)
+            (sums.told ∙ ap (λ (es : List Event). bulk_summary (replies_by_digests (world_of header) es)) same)
+            ∙ rw (ran, a.digests, a.issued) refl,
         InEvents a.last,
         ap (λ (t : Told ReplayStage). t.outcome) ran,
       )
-
-  replayed_much : (header : Header) → count ≤ most_events → is_over (begun header) (schedule_lines number count header) ≡ true
-      → (replay_of number count header).outcome ≡ Err fault.TooMuch
-  replayed_much header few over =
-      let is = is_schedule number count header few in let lines : List (List ℕ) = schedule_lines number count header in
-      let stopped = much_answered lines (recursion_from_All IsEventLine lines is.events) 2 (begun header) over in
-      ap (λ (t : Told ReplayStage). t.outcome) (whole header few) ∙ rw stopped refl
 
   -- what a run of a schedule comes to is what a replay of its text does
   pub replayed : (header : Header) (result : Result Summary BulkFault) → count ≤ most_events
       → IfOk result (SumsUp header (schedule_lines number count header))
       → IsLimited (is_over (begun header) (schedule_lines number count header)) result → IsReplayed (replay_of number count header) result
   replayed header (Ok summary) few sums limit = replayed_ok header summary few sums limit
-  replayed header (Err TooMuch) few sums limit = replayed_much header few limit
+  replayed header (Err TooMuch) few sums limit =
+      let stopped = lines_come header few true limit in
+      ap (λ (t : Told ReplayStage). t.outcome) (whole header few) ∙ rw stopped refl
   replayed header (Err Memory) few sums limit = tt

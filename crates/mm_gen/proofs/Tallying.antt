@@ -11,7 +11,7 @@ use Rattle.std.proofs.Math.Seq.{take-append_seam, drop-append-add}
 use Rattle.mm_digest.specs.declared.digest.Digest.{Digest}
 use Rattle.mm_schedule.specs.declared.reply.Reply.{Reply}
 use Rattle.mm_schedule.specs.declared.reply.Reply.TheVariants.{Told}
-use Rattle.mm_gen.proofs.Readable.{header-unbroken, is_schedule}
+use Rattle.mm_gen.proofs.Spelled.{header-unbroken, is_schedule}
 use Rattle.mm_model.specs.Moves.{Digests}
 use Rattle.mm_call.specs.Levels.{by_digests}
 use Rattle.mm_gen.specs.Answered.{RunsLine}
@@ -39,6 +39,18 @@ line_again line more unbroken =
     (length line) = rw (first_break line more (recursion_from_All IsNoBreak line unbroken), test) refl in
     rw (found, take-append_seam line (10 ∷ more), drop-append-add line (10 ∷ more) 1) refl
 
+-- ---- the events of lines
+
+abbrev pub events_of : (lines : List (List ℕ)) → AllByRecursion IsEventLine lines → List Event
+events_of [] are = []
+events_of (line ∷ lines) are = are.0.event ∷ events_of lines are.1
+
+pub events_read : (lines : List (List ℕ)) (are : AllByRecursion IsEventLine lines) → map event_at lines ≡ map Some (events_of lines are)
+events_read [] are = refl
+events_read (line ∷ lines) are =
+    rw (spelled_is_read line are.0.event are.0.spelled)
+    (ap (λ (more : List (Option Event)). Some are.0.event ∷ more) (events_read lines are.1))
+
 -- ---- what is left
 
 -- what follows of these events
@@ -52,22 +64,20 @@ record Rests (r : Running) (counts : Counts) (text : List ℕ) (left whole : Fol
   state : left.state ≡ whole.state
   issued : left.issued ≡ whole.issued
 
--- with these lines and events left
+-- with these lines left, each of which is an event's
 record GoingWith (lines : List (List ℕ)) (rest : List ℕ) (r : Running) (counts : Counts) (text : List ℕ) (left : List (List ℕ))
-    (events : List Event) : Type 0 where
+    (are : AllByRecursion IsEventLine left) : Type 0 where
   all : List Event
   bytes : rest ≡ lines_joined left
-  are : AllByRecursion IsEventLine left
-  read : map event_at left ≡ map Some events
   whole : map event_at lines ≡ map Some all
   few : total counts + length left ≤ most_events
   over : is_over r left ≡ is_over (begun r.header) lines
-  rests : Rests r counts text (left_of r events) (replies_by_digests (world_of r.header) all)
+  rests : Rests r counts text (left_of r (events_of left are)) (replies_by_digests (world_of r.header) all)
 
 pub record Going (lines : List (List ℕ)) (rest : List ℕ) (r : Running) (counts : Counts) (text : List ℕ) : Type 0 where
   left : List (List ℕ)
-  events : List Event
-  stands : GoingWith lines rest r counts text left events
+  are : AllByRecursion IsEventLine left
+  stands : GoingWith lines rest r counts text left are
 
 -- the summary of what was counted and written so far
 abbrev pub so_far : Running → Counts → List ℕ → Summary
@@ -93,10 +103,6 @@ total-counted : (counts : Counts) (reply : Reply) → total (counted_reply count
 total-counted counts (Told false position outputs) = omega arith
 total-counted counts _ = omega arith
 
--- the first of the options, and the others
-pub heads : (one other : Option Event) (more others : List (Option Event)) → one ∷ more ≡ other ∷ others → (one ≡ other) × (more ≡ others)
-heads one other more others is = (cc, cc)
-
 -- a line that passes no limit: those behind it decide
 pub over_behind : (r : Running) (line : List ℕ) (more : List (List ℕ)) (event : Event) → event_at line ≡ Some event
     → is_too_much r line ≡ false → is_over (after_event r line event) more ≡ is_over r (line ∷ more)
@@ -107,88 +113,82 @@ pub over_at : (r : Running) (line : List ℕ) (more : List (List ℕ)) → is_to
 over_at r line more much = rw much refl
 
 module _ (lines : List (List ℕ)) where
-  answered_on : (more : List (List ℕ)) (line rest : List ℕ) (r : Running) (counts : Counts) (text : List ℕ) (event : Event)
-      (events : List Event) → event_at line ≡ Some event → is_too_much r line ≡ false
-      → GoingWith lines rest r counts text (line ∷ more) (event ∷ events) → map event_at more ≡ map Some events
-      → Going lines (lines_joined more) (after_event r line event) (counted_reply counts (running_outcome r event).reply)
-      (text ++ text_of_replies (running_outcome r event).reply)
-  answered_on more line rest r counts text event events is room going read =
+  answered_on : (more : List (List ℕ)) (line rest : List ℕ) (r : Running) (counts : Counts) (text : List ℕ)
+      (are : AllByRecursion IsEventLine (line ∷ more)) → event_at line ≡ Some are.0.event → is_too_much r line ≡ false
+      → GoingWith lines rest r counts text (line ∷ more) are
+      → (let said : Reply = (running_outcome r are.0.event).reply in
+      Going lines (lines_joined more) (after_event r line are.0.event) (counted_reply counts said) (text ++ text_of_replies said))
+  answered_on more line rest r counts text are is room going =
+      let event : Event = are.0.event in
       let said : Reply = (running_outcome r event).reply in
-      let behind : Followed Digests = left_of (after_event r line event) events in
-      let few = going.few in let rests = going.rests in
+      let few = going.few in
       record {
         left = more;
-        events = events;
+        are = are.1;
         stands = record {
           all = going.all;
           bytes = refl;
-          are = going.are.1;
-          read = read;
           whole = going.whole;
           few = omega (arith, total-counted counts said, few);
           over = over_behind r line more event is room ∙ going.over;
           rests = record {
-            replies = append_assoc text (text_of_replies said) (texts_of behind.replies) ∙ rests.replies;
-            counted = rests.counted;
-            state = rests.state;
-            issued = rests.issued;
+            replies = append_assoc text (text_of_replies said) (texts_of (left_of (after_event r line event) (events_of more are.1)).replies)
+                ∙ going.rests.replies;
+            counted = going.rests.counted;
+            state = going.rests.state;
+            issued = going.rests.issued;
           };
         };
       }
 
-  next_line : (left : List (List ℕ)) (rest : List ℕ) (r : Running) (counts : Counts) (text : List ℕ) (events : List Event)
-      (line behind : List ℕ) → GoingWith lines rest r counts text left events → line_at rest ≡ Some (line, behind)
+  next_line : (left : List (List ℕ)) (are : AllByRecursion IsEventLine left) (rest : List ℕ) (r : Running) (counts : Counts)
+      (text line behind : List ℕ) → GoingWith lines rest r counts text left are → line_at rest ≡ Some (line, behind)
       → Next lines rest r counts text line behind
   unfolding line_at
-  next_line [] rest r counts text events line behind going found =
-      let nothing : line_at rest ≡ None = ap line_at going.bytes in cc
-  next_line (l ∷ more) rest r counts text [] line behind going found =
-      let clash = going.read in cc
-  next_line (l ∷ more) rest r counts text (event ∷ events) line behind going found =
-      let few = going.few in let are = going.are in
-      let both = heads (event_at l) (Some event) (map event_at more) (map Some events) going.read in
+  next_line [] are rest r counts text line behind going found = let nothing : line_at rest ≡ None = ap line_at going.bytes in cc
+  next_line (l ∷ more) are rest r counts text line behind going found =
+      let few = going.few in
+      let read = spelled_is_read l are.0.event are.0.spelled in
       let again = line_again l (lines_joined more) are.0.unbroken in let at = ap line_at going.bytes in
-      let same : (l, lines_joined more) ≡ (line, behind) = cc in
       let made : Next lines rest r counts text l (lines_joined more) = record {
         less = omega (arith, length-append l (10 ∷ lines_joined more), ap (λ (b : List ℕ). length b) going.bytes);
-        header = λ reply new answered. ap (λ (x : Running). x.header) (answered.1 event both.0).1;
+        header = λ reply new answered. ap (λ (x : Running). x.header) (answered.1 are.0.event read).1;
         short = are.0.short;
-        known = rw both.0 refl;
+        known = rw read refl;
         room = omega (arith, few);
         over = λ much. sym going.over ∙ over_at r l more much;
         on = λ reply new answered.
-            let is = answered.1 event both.0 in
-            rw (is.0, is.1) (answered_on more l rest r counts text event events both.0 answered.0 going both.1);
+            let is = answered.1 are.0.event read in rw (is.0, is.1) (answered_on more l rest r counts text are read answered.0 going);
       } in
+      let same : (l, lines_joined more) ≡ (line, behind) = cc in
       subst (λ (p : List ℕ × List ℕ). Next lines rest r counts text p.0 p.1) same made
 
   pub next : (rest : List ℕ) (r : Running) (counts : Counts) (text line behind : List ℕ) → Going lines rest r counts text
       → line_at rest ≡ Some (line, behind) → Next lines rest r counts text line behind
   next rest r counts text line behind going found =
-      next_line going.left rest r counts text going.events line behind going.stands found
+      next_line going.left going.are rest r counts text line behind going.stands found
 
   -- ---- the end
 
-  ended_at : (left : List (List ℕ)) (rest : List ℕ) (r : Running) (counts : Counts) (text : List ℕ) (events : List Event)
-      → GoingWith lines rest r counts text left events → line_at rest ≡ None
+  ended_at : (left : List (List ℕ)) (are : AllByRecursion IsEventLine left) (rest : List ℕ) (r : Running) (counts : Counts)
+      (text : List ℕ) → GoingWith lines rest r counts text left are → line_at rest ≡ None
       → (is_over (begun r.header) lines ≡ false) × SumsUp r.header lines (so_far r counts text)
-  ended_at [] rest r counts text [] going none =
+  ended_at [] are rest r counts text going none =
       let rests = going.rests in
       let written : text ≡ texts_of (replies_by_digests (world_of r.header) going.all).replies = sym (append-nil text) ∙ rests.replies in
       let numbered = rests.counted in let state = rests.state in let issued = rests.issued in (
         sym going.over,
         record { events = going.all; read = going.whole; told = rw (sym state, sym issued, sym numbered, sym written) refl },
       )
-  ended_at [] rest r counts text (event ∷ events) going none = let clash = going.read in cc
-  ended_at (l ∷ more) rest r counts text events going none =
-      let found = ap line_at going.bytes ∙ line_again l (lines_joined more) going.are.0.unbroken in cc
+  ended_at (l ∷ more) are rest r counts text going none =
+      let found = ap line_at going.bytes ∙ line_again l (lines_joined more) are.0.unbroken in cc
 
   -- no line was one too many
   pub within : (rest : List ℕ) (r : Running) (counts : Counts) (text : List ℕ) (header : Header) → Going lines rest r counts text
       → r.header ≡ header → line_at rest ≡ None → is_over (begun header) lines ≡ false
   within rest r counts text header going same none =
       subst (λ (h : Header). is_over (begun h) lines ≡ false) same
-      (ended_at going.left rest r counts text going.events going.stands none).0
+      (ended_at going.left going.are rest r counts text going.stands none).0
 
   -- a line was one too many, or memory was wanting
   pub stops : (rest : List ℕ) (r : Running) (counts : Counts) (text line behind : List ℕ) (header : Header) (fault : BulkFault)
@@ -200,35 +200,22 @@ module _ (lines : List (List ℕ)) where
 
   pub ended : (rest : List ℕ) (r : Running) (counts : Counts) (text : List ℕ) → Going lines rest r counts text → line_at rest ≡ None
       → SumsUp r.header lines (so_far r counts text)
-  ended rest r counts text going none = (ended_at going.left rest r counts text going.events going.stands none).1
+  ended rest r counts text going none = (ended_at going.left going.are rest r counts text going.stands none).1
 
 -- ---- the beginning
-
-events_of : (lines : List (List ℕ)) → AllByRecursion IsEventLine lines → List Event
-events_of [] are = []
-events_of (line ∷ lines) are = are.0.event ∷ events_of lines are.1
-
-events_read : (lines : List (List ℕ)) (are : AllByRecursion IsEventLine lines) → map event_at lines ≡ map Some (events_of lines are)
-unfolding events_of
-events_read [] are = refl
-events_read (line ∷ lines) are =
-    rw (spelled_is_read line are.0.event are.0.spelled)
-    (ap (λ (more : List (Option Event)). Some are.0.event ∷ more) (events_read lines are.1))
 
 pub begins : (number count : ℕ) (header : Header) → count ≤ most_events
     → Going (schedule_lines number count header) (lines_joined (schedule_lines number count header)) (begun header) no_counts []
 begins number count header few =
     let is = is_schedule number count header few in let lines : List (List ℕ) = schedule_lines number count header in
-    let are = recursion_from_All IsEventLine lines is.events in let read = events_read lines are in
+    let are = recursion_from_All IsEventLine lines is.events in
     record {
       left = lines;
-      events = events_of lines are;
+      are = are;
       stands = record {
         all = events_of lines are;
         bytes = refl;
-        are = are;
-        read = read;
-        whole = read;
+        whole = events_read lines are;
         few = omega (arith, is.counted, few);
         over = refl;
         rests = record { replies = refl; counted = refl; state = refl; issued = refl };

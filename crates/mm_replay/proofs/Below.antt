@@ -1,6 +1,6 @@
 -- The words and laws that the proofs of this crate take from specs/ and from the crates below.
 pub use Rattle.std.specs.List.{concat, slice_get, sum_by}
-pub use Rattle.std.proofs.Common.{◌++◌, ◌+◌, ◌-◌, ◌<◌, ◌^◌, ◌∙◌, ◌∷◌, ◌≡◌, ◌≤◌, [], add-one, ap, append-nil, append_assoc, arith}
+pub use Rattle.std.proofs.Common.{◌*◌, ◌++◌, ◌+◌, ◌-◌, ◌<◌, ◌^◌, ◌∙◌, ◌∷◌, ◌≡◌, ◌≤◌, [], add-one, ap, append-nil, append_assoc, arith}
 pub use Rattle.std.proofs.Common.{drop, drop-cons, inl, inr, length, List, map, None, Option, refl, Some, subst, suc, sym, ℕ}
 pub use Rattle.std.proofs.lemmas.Option.{get_or_from_slice_get, slice_get_past, slice_get_within}
 pub use Rattle.mm_platform.specs.declared.plan.Meddle.{Meddle}
@@ -15,8 +15,9 @@ pub use Rattle.mm_schedule.specs.declared.reply.Reply.{Reply}
 pub use Rattle.mm_schedule.proofs.Above.{promises-kept}
 pub use Rattle.mm_run.specs.Folds.{course_of, event_outcome, Followed, followed, replies_by_digests, snapshots_of}
 pub use Rattle.mm_run.specs.Held.{Follows, having_read, Held, instance_of, Wants, within_bits, world_of}
+pub use Rattle.mm_run.specs.OneEvent.{Issues}
+pub use Rattle.mm_run.proofs.Above.{issues, meaning_by}
 pub use Rattle.mm_world.proofs.Above.{count_none}
 pub use Rattle.mm_play.proofs.Above.{along, answered_headed, finished_headed, Means, much_headed, plays_err, unrefused, whole_err, whole_ok}
-pub use Rattle.mm_replay.specs.Issues.{Issues}
 pub use Rattle.mm_replay.specs.Schedule.{after_event, AtHeader, begun, replaying, ReplayStage, Running, running_outcome, schedule_answer}
 pub use Rattle.mm_replay.specs.Schedule.{schedule_closing}

@@ -1,5 +1,3 @@
 mod Below
-mod Writing
 mod Telling
-mod Issuing
 mod Progressing

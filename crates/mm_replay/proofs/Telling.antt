@@ -3,34 +3,25 @@ use Rattle.mm_replay.proofs.Below.{◌≡◌, ◌∙◌, ℕ, List, [], ◌++◌
 use Rattle.mm_replay.proofs.Below.{inr, sum_by, Header, Digests, Means, along, answered_headed, finished_headed, much_headed, Event}
 use Rattle.mm_replay.proofs.Below.{end_line, Reply, promises-kept, Followed, followed, replies_by_digests, world_of, by_digests, Running}
 use Rattle.mm_replay.proofs.Below.{begun, replaying, running_outcome, ReplayStage, AtHeader, schedule_answer, schedule_closing}
+use Rattle.mm_replay.proofs.Below.{meaning_by}
 use Rattle.mm_digest.specs.declared.variant.Variant.{Variant}
-use Rattle.mm_digest.specs.declared.variant.Variant.TheVariants.{Basic, Opt}
 use Rattle.mm_module.specs.Meaning.{Meaning}
 use Rattle.mm_modules.specs.Modules.{meaning_of}
-use Rattle.mm_model.specs.InstanceWords as words
 use Rattle.mm_play.specs.Events.{TakesEvents, behind, replies, NoneIsOver, AreHeaded}
 use Rattle.mm_schedule.specs.Grammar.{event_at}
 use Rattle.mm_schedule.specs.Machine.{Runs}
-use Rattle.mm_run.specs.HeldWords.{world_key, world_barrier}
+use Rattle.mm_run.specs.Held.{world_key, world_barrier}
 use Rattle.mm_run.specs.OneRun.{IsOneRun, FrontsAreOneRun}
 use Rattle.mm_call.specs.Standing.{instance_by}
 use Rattle.mm_replay.specs.Text.{texts_of}
 use Rattle.mm_replay.specs.TextWords.{text_of_replies}
-use Rattle.mm_replay.specs.Headline.{IsContinuous, IsPromisedRun, IsWithinLimits, AnswersEvents, AnswersLines, AnswersAll, IsTooMuch, unended}
+use Rattle.mm_replay.specs.Headline.{IsContinuous, IsPromisedRun, IsWithinLimits, AnswersEvents, AnswersLines, AnswersAll, IsTooMuch}
+use Rattle.mm_replay.specs.Headline.{unended}
 
 -- each first part of the events is one run, in either variant
-pub record FrontsRun : Type 0 where
-  pub basic : (meaning : Meaning) (key : List ℕ) (events : List Event) → FrontsAreOneRun (words.basic meaning key) events
-  pub opt : (meaning : Meaning) (key barrier : List ℕ) (events : List Event) → FrontsAreOneRun (words.opt meaning key barrier) events
-
-fronts_run : FrontsRun → (variant : Variant) (meaning : Meaning) (events : List Event)
-    → FrontsAreOneRun (instance_by variant meaning world_key world_barrier) events
-fronts_run law Basic meaning events = law.basic meaning world_key events
-fronts_run law Opt meaning events = law.opt meaning world_key world_barrier events
-
-meaning_is : (variant : Variant) (meaning : Meaning) → (instance_by variant meaning world_key world_barrier).meaning ≡ meaning
-meaning_is Basic meaning = refl
-meaning_is Opt meaning = refl
+abbrev FrontsRun : Type 0
+FrontsRun = (variant : Variant) (meaning : Meaning) (key barrier : List ℕ) (events : List Event)
+    → FrontsAreOneRun (instance_by variant meaning key barrier) events
 
 -- the module's promises hold of one run
 promised_run : (header : Header) (events : List Event) (replies : List Reply) (committed : ℕ) (issued : List (List ℕ))
@@ -38,13 +29,14 @@ promised_run : (header : Header) (events : List Event) (replies : List Reply) (c
 promised_run header events replies committed issued one = record {
   run = one;
   promised = promises-kept header.«module» events replies one.requests
-      (subst (λ m. Runs m [] events replies one.requests) (meaning_is header.variant (meaning_of header.«module»)) one.runs);
+      (subst (λ m. Runs m [] events replies one.requests) (meaning_by header.variant (meaning_of header.«module») world_key
+      world_barrier) one.runs);
 }
 
 -- the law of whole runs gives the headline
 continuous : FrontsRun → (header : Header) (events : List Event) → IsContinuous header events
 continuous law header events front rest is =
-    let own = fronts_run law header.variant (meaning_of header.«module») events front rest is in (
+    let own = law header.variant (meaning_of header.«module») world_key world_barrier events front rest is in (
       own.0,
       λ clear genuine. promised_run header front _ _ _ (own.1 clear genuine),
     )

@@ -2,7 +2,6 @@ pub mod Text
 pub mod Schedule
 pub mod Headline
 pub mod Counting
-pub mod Issues
 pub mod Progress
 pub mod Replays
 pub mod TextWords

@@ -1,10 +1,10 @@
 -- What crates above may cite of these proofs: the other files can be read and changed by this crate alone.
-pub use Rattle.mm_run.proofs.BasicRuns.{basic_begins, basic_events_agree}
-pub use Rattle.mm_run.proofs.Counting.{count-made, few_committed, grown, issues_one, printable, printed, short_size, sizes_of, world_few}
+pub use Rattle.mm_run.proofs.Expecting.{basic_begins, basic_events_agree, opt_begins, opt_events_agree}
+pub use Rattle.mm_run.proofs.Counting.{count-made, few_committed, grown, issues, issues_one, meaning_by, printable, printed, short_size}
+pub use Rattle.mm_run.proofs.Counting.{sizes_of, world_few}
 pub use Rattle.mm_run.proofs.EachWay.{in_any_way}
 pub use Rattle.mm_run.proofs.FirstBytes.{clear_within}
-pub use Rattle.mm_run.proofs.GoingOn.{goes_on}
+pub use Rattle.mm_run.proofs.FrontRuns.{goes_on}
 pub use Rattle.mm_run.proofs.MetPremises.{anchor_nil}
 pub use Rattle.mm_run.proofs.Naming.{basic_events_keep_names, basic_issued_named, last_steps, opt_events_keep_names, opt_issued_named}
-pub use Rattle.mm_run.proofs.OptRuns.{opt_begins, opt_events_agree}
 pub use Rattle.mm_run.proofs.Running.{event_steps}

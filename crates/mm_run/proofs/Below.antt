@@ -12,7 +12,7 @@ pub use Rattle.std.proofs.lemmas.List.{append-nil, ext_get_or, set_split}
 pub use Rattle.std.proofs.lemmas.List.Elements.{All-cons, All-nil, Contains-append_cases, Contains-append_left, Contains-push_cases}
 pub use Rattle.sha2.specs.Sha256.{add_state, digest_bytes, first_words, initial_hash_256, next_word, padded_message, rounds, sha256}
 pub use Rattle.mm_base.specs.Limits.{last_position, longest_request, most_members}
-pub use Rattle.mm_digest.specs.Messages.{anchored_message, anchored_of, extended_message, start_message, start_of}
+pub use Rattle.mm_digest.specs.Messages.{anchored_message, anchored_of, extended_message, start_message, start_of, zero_bytes}
 pub use Rattle.mm_digest.specs.declared.variant.Variant.{Variant}
 pub use Rattle.mm_digest.specs.declared.variant.Variant.TheVariants.{Basic, Opt}
 pub use Rattle.mm_seal.specs.Parts.{parts_of}
@@ -67,6 +67,7 @@ pub use Rattle.mm_call.specs.Levels.{all_made, by_digests, by_lists, Level}
 pub use Rattle.mm_call.specs.MoveLaws.{agrees-moved, anchor-nil, committed_in, more_batches, plain-moved, same_batches, summary-nil}
 pub use Rattle.mm_call.specs.Order.{admitted, examined}
 pub use Rattle.mm_call.specs.OrderWords.{weighed}
+pub use Rattle.mm_call.specs.Standing.{instance_by}
 pub use Rattle.mm_call.specs.WalkLaws.{asks, batch, call_commits, Commits, commits-none, commits_batch, foreign_in-append, foreign_in-first}
 pub use Rattle.mm_call.specs.WalkLaws.{foreign_in-foreign, from_reset-foreign, messages-made, nothing, seen_none, taking, taking_is}
 pub use Rattle.mm_call.proofs.Above.{admitted_tells, again_of, AllMay, AreOwn, ask_may, bare, basic_checkpoint_same, basic_same, before}
@@ -84,12 +85,13 @@ pub use Rattle.mm_schedule.specs.declared.reply.Way.{Way}
 pub use Rattle.mm_run.specs.Folds.{after_stop, asked, closed_outcome, closing_reply, closing_then, course_of, event_outcome, expected}
 pub use Rattle.mm_run.specs.Folds.{first_digests, first_issued, followed, Followed, followed_by, moves_then, Outcome, outcome_by}
 pub use Rattle.mm_run.specs.Folds.{replies_by_digests, reply_of, snapshots_of, uncalled, way_of}
-pub use Rattle.mm_run.specs.FoldsWords.{broken_reply}
-pub use Rattle.mm_run.specs.HeldWords.{world_barrier, world_key}
-pub use Rattle.mm_run.specs.Laws.{after_two_segments, AgreesThroughout, BasicIsExpected, continued, ExpectedRuns, IsIssued}
-pub use Rattle.mm_run.specs.Laws.{IssuedNamePositions, one_ask, OptIsExpected, two_segments}
+pub use Rattle.mm_run.specs.Folds.{broken_reply}
+pub use Rattle.mm_run.specs.Held.{world_barrier, world_key}
+pub use Rattle.mm_run.specs.Laws.{after_two_segments, AgreesThroughout, continued, ExpectedRuns, IsExpected, IsIssued}
+pub use Rattle.mm_run.specs.Laws.{IssuedNamePositions, one_ask, two_segments}
 pub use Rattle.mm_run.specs.Offered.{flipped, offered_bytes}
 pub use Rattle.mm_run.specs.OneEvent.{EventsAgree, EventsKeepNames, IsSameOutcome, IsSoundIn, Keeps, KeepsNames}
-pub use Rattle.mm_run.specs.Premises.{AreGenuine, batches_of, event_messages, foreign_of, IsClearRun, IsGenuineEvent, IsGenuineRun}
+pub use Rattle.mm_run.specs.Premises.{AreApartIn, AreGenuine, batches_of, event_messages, foreign_of, IsClearRun, IsGenuineEvent}
+pub use Rattle.mm_run.specs.Premises.{IsGenuineRun}
 pub use Rattle.mm_run.specs.Premises.{messages_from, moves_of}
-pub use Rattle.mm_run.specs.PremisesWords.{ask_moves, asked_batches, asking_messages, foreign_values, IsGenuineOffer, run_messages}
+pub use Rattle.mm_run.specs.Premises.{ask_moves, asked_batches, asking_messages, foreign_values, IsGenuineOffer, run_messages}

@@ -2,21 +2,22 @@
 -- snapshot is issued.
 use Rattle.mm_run.proofs.Below.{found_with_tells, unless_lost, bytes_eq, tag_of, kept_at, commits, broken_reply}
 use Rattle.mm_run.proofs.Below.{◌≡◌, ℕ, ◌+◌, ◌≤◌, Bool, true, false, List, [], ◌∷◌, ◌++◌, length, IsTrue, Option, None, Some, Result, Ok}
-use Rattle.mm_run.proofs.Below.{Err, refl, sym, ap, subst, arith, length-append, All, ◌||◌, nat_lt, list_any, nat_tests}
+use Rattle.mm_run.proofs.Below.{Err, refl, sym, ap, subst, arith, length-append, All, nat_tests}
 use Rattle.mm_run.proofs.Below.{All-nil, All-cons, last_position, longest_request, most_members, Variant, Basic, Opt, Meaning, IsLawful}
-use Rattle.mm_run.proofs.Below.{outputs_from, Batch, members_of, size_of, batch_text, normal, members_of-normal}
-use Rattle.mm_run.proofs.Below.{StepFault, Stop, Cut, PartsFault, Form, Kind, parts_of, Content, Snapshot}
+use Rattle.mm_run.proofs.Below.{outputs_from, Batch, members_of, size_of, normal, members_of-normal}
+use Rattle.mm_run.proofs.Below.{StepFault, PartsFault, Form, Kind, parts_of, Content, Snapshot}
 use Rattle.mm_run.proofs.Below.{Instance, Move, Commit, is_long, Digests, made, committing}
 use Rattle.mm_run.proofs.Below.{ask_steps, Refusal, examined, by_digests, all_made, Found}
 use Rattle.mm_run.proofs.Below.{found_by_verdict, found_at, found_unless_wanting, is_fresh, Course, Walked, walk, Ending}
-use Rattle.mm_run.proofs.Below.{Answers, Breaks, Called, ended_by, seen_at, called, Closing}
+use Rattle.mm_run.proofs.Below.{Answers, Called, ended_by, seen_at, called, Closing}
 use Rattle.mm_run.proofs.Below.{Stops, Checkpointed, checkpointed, committed_in, Commits, nothing, batch, call_commits}
-use Rattle.mm_run.proofs.Below.{unlacked, checkpoint_none, Event, Way, way_of, after_stop, course_of}
-use Rattle.mm_run.proofs.Below.{reply_of, snapshots_of, moves_then, closing_reply, closing_then}
+use Rattle.mm_run.proofs.Below.{unlacked, checkpoint_none, Event, Way, way_of, course_of}
+use Rattle.mm_run.proofs.Below.{reply_of, snapshots_of, closing_reply}
 use Rattle.mm_run.proofs.Below.{event_outcome, world_key, world_barrier}
+use Rattle.mm_run.proofs.Below.{inl, inr, append-nil}
+use Rattle.mm_run.specs.OneEvent.{Issues}
 use Rattle.mm_seal.specs.ReadingLaws.{le_tells}
 use Rattle.mm_call.specs.WeighingLaws.{weighed_only}
-use Rattle.mm_model.specs.LongWords.{is_lf}
 use Rattle.mm_modules.specs.Modules.{meaning_of}
 use Rattle.mm_modules.specs.ModulesLaws.{any_is_lawful}
 use Rattle.mm_call.specs.Standing.{instance_by}
@@ -154,24 +155,32 @@ printable i lawful d issued event = in_any_way i (by_digests i) d issued (λ o. 
 
 -- at most one snapshot is issued
 
-ending_issues : (issued : List (List ℕ)) (ending : Ending) → length (issued ++ snapshots_of ending) ≤ length issued + 1
-ending_issues issued (Answers answer) = omega (arith, length-append issued (answer.snapshot ∷ []))
-ending_issues issued _ = omega (arith, length-append issued [])
+ending_issues : (issued : List (List ℕ)) (ending : Ending) → Issues issued (issued ++ snapshots_of ending)
+ending_issues issued (Answers answer) = inr (answer.snapshot, refl)
+ending_issues issued _ = inl (append-nil issued)
+
+pub issues : (i : Instance) (d : Digests) (issued : List (List ℕ)) (event : Event)
+    → Issues issued (event_outcome i (by_digests i) d issued event).issued
+issues i d issued event = in_any_way i (by_digests i) d issued (λ o. Issues issued o.issued) (record {
+  refused = λ why. inl refl;
+  call = λ stop meddles bytes b short.
+      ending_issues issued (called i (by_digests i) d (course_of stop meddles) bytes (normal b)).ending;
+  check = λ stop meddles. inl refl;
+  power = inl refl;
+  extend = λ value. inl refl;
+}) event
 
 pub issues_one : (i : Instance) (d : Digests) (issued : List (List ℕ)) (event : Event)
     → length (event_outcome i (by_digests i) d issued event).issued ≤ length issued + 1
-issues_one i d issued event = in_any_way i (by_digests i) d issued (λ o. length o.issued ≤ length issued + 1) (record {
-  refused = λ why. omega arith;
-  call = λ stop meddles bytes b short.
-      ending_issues issued (called i (by_digests i) d (course_of stop meddles) bytes (normal b)).ending;
-  check = λ stop meddles. omega arith;
-  power = omega arith;
-  extend = λ value. omega arith;
-}) event
+issues_one i d issued event = elim (issues i d issued event) [
+  | inl none ↦ omega (arith, ap (λ (x : List (List ℕ)). length x) none)
+  | inr one ↦ omega (arith, ap (λ (x : List (List ℕ)). length x) one.1, length-append issued (one.0 ∷ []))
+]
 
 -- over a world
 
-meaning_by : (variant : Variant) (meaning : Meaning) (key barrier : List ℕ) → (instance_by variant meaning key barrier).meaning ≡ meaning
+pub meaning_by : (variant : Variant) (meaning : Meaning) (key barrier : List ℕ)
+    → (instance_by variant meaning key barrier).meaning ≡ meaning
 meaning_by Basic meaning key barrier = refl
 meaning_by Opt meaning key barrier = refl
 

@@ -1,93 +1,40 @@
--- Messages are told apart by the first bytes of their digests; and SHA-256 with each word computed once.
-use Rattle.mm_run.proofs.Below.{ℕ, zero, suc, ◌≡◌, ◌≢◌, ◌+◌, ◌*◌, ◌/◌, take, drop, Bool, true, false, List, [], ◌∷◌, ◌++◌, length, map}
-use Rattle.mm_run.proofs.Below.{refl, sym, ap, ◌∙◌, arith, inl, inr, ◌⊎◌, if◌then◌else◌, nat_eq, slice_index, AllByRecursion, Contains}
-use Rattle.mm_run.proofs.Below.{nat_tests, Contains-append_cases, Contains-push_cases, next_word, first_words, rounds, add_state}
-use Rattle.mm_run.proofs.Below.{digest_bytes, initial_hash_256, padded_message, IsClear, Within, each_at}
-use Rattle.sha2.specs.Sha256.{sha256, schedule, compress, hash_after}
-use Rattle.mm_digest.specs.Messages.{zero_bytes}
+-- Messages are told apart by the first bytes of their digests; SHA-256 with each word computed once; and so the messages of two runs.
+use Rattle.mm_run.proofs.Below.{ℕ, zero, suc, ◌≡◌, ◌+◌, ◌*◌, ◌/◌, take, drop, List, [], ◌∷◌, ◌++◌, length, refl, sym, ap, ◌∙◌, subst, arith}
+use Rattle.mm_run.proofs.Below.{Option, None, Some, if◌then◌else◌, nat_eq, slice_index, replicate, codes, AllByRecursion, Contains, each_at}
+use Rattle.mm_run.proofs.Below.{next_word, first_words, rounds, add_state, digest_bytes, initial_hash_256, padded_message, IsClear, Within}
+use Rattle.mm_run.proofs.Below.{Basic, Opt, Batch, One, start_message, link_message, extended_message, anchored_message, guard_message}
+use Rattle.mm_run.proofs.Below.{world_barrier}
+use Rattle.sha2.specs.Sha256.{sha256, schedule, compress, hash_after, first_words, rounds, digest_bytes}
+use Rattle.mm_digest.specs.Messages.{zero_bytes, start_of, extended_of, anchored_of}
+use Rattle.mm_model.specs.Chains.{guard}
+use Rattle.mm_run.specs.Held.{rising_from}
 
 -- the first byte of a message's digest
 unfoldable pub first_byte : (List ℕ → List ℕ) → List ℕ → ℕ
 first_byte hash m = slice_index (hash m) 0
 
--- no number of the list is this one
-abbrev apart_from : ℕ → List ℕ → Bool
-apart_from a [] = true
-apart_from a (b ∷ bs) = if nat_eq b a then false else apart_from a bs
+-- the first of these messages whose digest begins with a byte that isn't 0
+abbrev pub begun_by : (List ℕ → List ℕ) → List (List ℕ) → ℕ → Option (List ℕ)
+begun_by hash ms zero = None
+begun_by hash [] a = None
+begun_by hash (m ∷ ms) a = if nat_eq (first_byte hash m) a then Some m else begun_by hash ms a
 
--- no number is 0, and none stands twice
-abbrev pub all_apart : List ℕ → Bool
-all_apart [] = true
-all_apart (a ∷ others) = if apart_from a others then (if nat_eq a 0 then false else all_apart others) else false
+-- each message is found by its first byte
+abbrev pub AreFound : (List ℕ → List ℕ) → List (List ℕ) → Type 0
+AreFound hash all = AllByRecursion (λ m. begun_by hash all (first_byte hash m) ≡ Some m) all
 
-if_true : (c : Bool) (b : Bool) → (if c then b else false) ≡ true → (c ≡ true) × (b ≡ true)
-if_true true b e = (refl, e)
-if_true false b e = cc
+same_some : (m n : List ℕ) → Some m ≡ Some n → m ≡ n
+same_some m n e = cc
 
-if_false : (c : Bool) (b : Bool) → (if c then false else b) ≡ true → (c ≡ false) × (b ≡ true)
-if_false false b e = (refl, e)
-if_false true b e = cc
-
-nat_eq_self : (a b : ℕ) → nat_eq b a ≡ false → b ≢ a
-nat_eq_self a b e f = grind (arith, nat_tests)
-
-apart_at : (hash : List ℕ → List ℕ) (a : ℕ) (ms : List (List ℕ)) → apart_from a (map (first_byte hash) ms) ≡ true
-    → AllByRecursion (λ m. first_byte hash m ≢ a) ms
-apart_at hash a [] e = tt
-apart_at hash a (m ∷ ms) e =
-    let t = if_false (nat_eq (first_byte hash m) a) (apart_from a (map (first_byte hash) ms)) e in
-    (nat_eq_self a (first_byte hash m) t.0, apart_at hash a ms t.1)
-
-member : (x m : List ℕ) (xs : List (List ℕ)) → Contains (x ∷ xs) m → (x ≡ m) ⊎ Contains xs m
-member x m xs c = elim (Contains-append_cases (x ∷ []) xs m c) [
-  | inl first ↦
-      elim (Contains-push_cases [] x m first) [
-        | inl none ↦ absurd (omega (arith, none.1))
-        | inr e ↦ inl e
-      ]
-  | inr later ↦ inr later
-]
-
--- messages whose digests begin with bytes that are apart are apart
-same_by_first : (hash : List ℕ → List ℕ) (all : List (List ℕ)) → all_apart (map (first_byte hash) all) ≡ true
-    → (m n : List ℕ) → Contains all m → Contains all n → first_byte hash m ≡ first_byte hash n → m ≡ n
-same_by_first hash [] e m n c d f = absurd (omega (arith, c.1))
-same_by_first hash (x ∷ xs) e m n c d f =
-    let t = if_true (apart_from (first_byte hash x) (map (first_byte hash) xs)) _ e in
-    let u = if_false (nat_eq (first_byte hash x) 0) (all_apart (map (first_byte hash) xs)) t.1 in
-    let others = apart_at hash (first_byte hash x) xs t.0 in
-    elim (member x m xs c) [
-      | inl a ↦
-          elim (member x n xs d) [
-            | inl b ↦ sym a ∙ b
-            | inr b ↦ absurd (each_at (λ v. first_byte hash v ≢ first_byte hash x) xs n others b (sym f ∙ ap (first_byte hash) (sym a)))
-          ]
-      | inr a ↦
-          elim (member x n xs d) [
-            | inl b ↦ absurd (each_at (λ v. first_byte hash v ≢ first_byte hash x) xs m others a (f ∙ ap (first_byte hash) (sym b)))
-            | inr b ↦ same_by_first hash xs u.1 m n a b f
-          ]
-    ]
-
-none_zero : (hash : List ℕ → List ℕ) (all : List (List ℕ)) → all_apart (map (first_byte hash) all) ≡ true
-    → AllByRecursion (λ m. first_byte hash m ≢ 0) all
-none_zero hash [] e = tt
-none_zero hash (x ∷ xs) e =
-    let t = if_true (apart_from (first_byte hash x) (map (first_byte hash) xs)) _ e in
-    let u = if_false (nat_eq (first_byte hash x) 0) (all_apart (map (first_byte hash) xs)) t.1 in
-    (nat_eq_self 0 (first_byte hash x) u.0, none_zero hash xs u.1)
-
-zero_first : slice_index zero_bytes 0 ≡ 0
-unfolding zero_bytes
-zero_first = refl
-
-clear_by_first : (all : List (List ℕ)) → all_apart (map (first_byte sha256) all) ≡ true → IsClear all
-unfolding first_byte
-clear_by_first all e = record {
-  apart = λ m n c d same. same_by_first sha256 all e m n c d (ap (λ v. slice_index v 0) same);
-  nonzero =
-      λ m c same. each_at (λ v. first_byte sha256 v ≢ 0) all m (none_zero sha256 all e) c (ap (λ v. slice_index v 0) same ∙ zero_first);
-}
+clear_by_first : (all : List (List ℕ)) → AreFound sha256 all → IsClear all
+unfolding first_byte zero_bytes
+clear_by_first all found =
+    let by : List ℕ → Option (List ℕ) = λ digest. begun_by sha256 all (slice_index digest 0) in
+    let at : (m : List ℕ) → Contains all m → by (sha256 m) ≡ Some m = λ m c. each_at (λ m. by (sha256 m) ≡ Some m) all m found c in
+    record {
+      apart = λ m n c d same. same_some m n (sym (at m c) ∙ ap by same ∙ at n d);
+      nonzero = λ m c same. let clash : None ≡ Some m = sym (ap by same) ∙ at m c in absurd (cc);
+    }
 
 -- what is asked of a list is asked of each part of it
 pub clear_within : (all some : List (List ℕ)) → IsClear all → Within some all → IsClear some
@@ -129,12 +76,104 @@ blocks_are h p (suc n) =
 abbrev pub digest : List ℕ → List ℕ
 digest m = digest_bytes (blocks initial_hash_256 (padded_message m) (length (padded_message m) / 64)) 8
 
-pub digest_is : (m : List ℕ) → digest m ≡ sha256 m
+digest_is : (m : List ℕ) → digest m ≡ sha256 m
 unfolding sha256
 digest_is m = ap (λ h. digest_bytes h 8) (blocks_are initial_hash_256 (padded_message m) (length (padded_message m) / 64))
 
 -- messages that a hash makes are clear, as their digests show
-pub clear_by_digests : (messages : (List ℕ → List ℕ) → List (List ℕ)) → all_apart (map (first_byte digest) (messages digest)) ≡ true
-    → IsClear (messages sha256)
-clear_by_digests messages e = clear_by_first (messages sha256)
-    (ap (λ (hash : List ℕ → List ℕ). all_apart (map (first_byte hash) (messages hash))) (λ j. λ m. sym (digest_is m) j) ∙ e)
+clear_by_digests : (messages : (List ℕ → List ℕ) → List (List ℕ)) → AreFound digest (messages digest) → IsClear (messages sha256)
+clear_by_digests messages found =
+    clear_by_first (messages sha256) (subst (λ (hash : List ℕ → List ℕ). AreFound hash (messages hash)) (λ j. λ m. digest_is m j) found)
+
+-- the request of both runs
+abbrev pub five : Batch
+five = One (codes "add 5")
+
+-- one request in Basic: the run's messages, by the hash
+
+abbrev basic_by : (List ℕ → List ℕ) → List (List ℕ)
+basic_by hash = start_message Basic 1 ∷ link_message (hash (start_message Basic 1)) five ∷ []
+
+pub basic_messages : List (List ℕ)
+basic_messages = basic_by sha256
+
+pub basic_listed : Contains basic_messages (start_message Basic 1) × Contains basic_messages (link_message (start_of Basic 1) five)
+unfolding basic_messages start_of
+basic_listed = ((0, omega arith, refl), (1, omega arith, refl))
+
+pub basic_clear : IsClear basic_messages
+unfolding basic_messages first_byte first_words rounds digest_bytes
+basic_clear = clear_by_digests basic_by (refl, (refl, tt))
+
+-- three requests in Opt, with a segment closed between them
+
+-- the batch's guard; what the register has after it was committed once, twice and three times
+
+abbrev pub five_guard : List ℕ
+five_guard = guard world_barrier five
+
+abbrev pub once : List ℕ → List ℕ
+once v = extended_of zero_bytes v
+
+abbrev pub twice : List ℕ → List ℕ
+twice v = extended_of (once v) v
+
+abbrev pub thrice : List ℕ → List ℕ
+thrice v = extended_of (twice v) v
+
+abbrev pub ff_bytes : List ℕ
+ff_bytes = replicate 32 255
+
+-- The messages of such a run are listed, with the guard `v` of its batch and the value `d` of others.
+pub record AreListed (id : ℕ) (barrier v d : List ℕ) (all : List (List ℕ)) : Type 0 where
+  pub begins : Contains all (start_message Opt id)
+  pub guarded : Contains all (guard_message barrier five)
+  pub first : Contains all (extended_message zero_bytes v)
+  pub closes_first : Contains all (anchored_message (start_of Opt id) (once v))
+  pub second : Contains all (extended_message (once v) v)
+  pub closes_second : Contains all (anchored_message (start_of Opt id) (twice v))
+  pub behind_first : Contains all (anchored_message (anchored_of (start_of Opt id) (once v)) (once v))
+  pub by_others : Contains all (extended_message (twice v) d)
+  pub third : Contains all (extended_message (twice v) v)
+  pub closes_third : Contains all (anchored_message (start_of Opt id) (thrice v))
+  pub behind_second : Contains all (anchored_message (anchored_of (start_of Opt id) (twice v)) (once v))
+
+-- the messages, by the hash
+abbrev messages_by : (List ℕ → List ℕ) → List (List ℕ)
+messages_by hash =
+    let start = hash (start_message Opt 1) in let v = hash (guard_message world_barrier five) in
+    let first = hash (extended_message zero_bytes v) in let second = hash (extended_message first v) in
+    let third = hash (extended_message second v) in
+    start_message Opt 1 ∷ guard_message world_barrier five ∷ extended_message zero_bytes v ∷ anchored_message start first
+    ∷ extended_message first v ∷ anchored_message start second ∷ anchored_message (hash (anchored_message start first)) first
+    ∷ extended_message second ff_bytes ∷ extended_message second v ∷ anchored_message start third
+    ∷ anchored_message (hash (anchored_message start second)) first ∷ []
+
+pub segment_messages : List (List ℕ)
+segment_messages = messages_by sha256
+
+pub segments_clear : IsClear segment_messages
+unfolding segment_messages first_byte rising_from zero_bytes first_words rounds digest_bytes
+segments_clear =
+    clear_by_digests messages_by (refl, (refl, (refl, (refl, (refl, (refl, (refl, (refl, (refl, (refl, (refl, tt)))))))))))
+
+-- the guard begins with another byte than the value of others
+pub guard_first : slice_index five_guard 0 ≡ 152
+unfolding guard rising_from first_words rounds digest_bytes
+guard_first = ap (λ d. slice_index d 0) (sym (digest_is (guard_message world_barrier five))) ∙ refl
+
+pub segments_listed : AreListed 1 world_barrier five_guard ff_bytes segment_messages
+unfolding segment_messages start_of guard extended_of anchored_of
+segments_listed = record {
+  begins = (0, omega arith, refl);
+  guarded = (1, omega arith, refl);
+  first = (2, omega arith, refl);
+  closes_first = (3, omega arith, refl);
+  second = (4, omega arith, refl);
+  closes_second = (5, omega arith, refl);
+  behind_first = (6, omega arith, refl);
+  by_others = (7, omega arith, refl);
+  third = (8, omega arith, refl);
+  closes_third = (9, omega arith, refl);
+  behind_second = (10, omega arith, refl);
+}

@@ -1,10 +1,10 @@
 -- A schedule gives the same by digests as by lists: one induction over events, for both variants.
 use Rattle.mm_run.proofs.Below.{ℕ, ◌+◌, Bool, true, false, List, [], ◌∷◌, ◌++◌, map, Option, None, Some, refl, sym, ap, subst}
-use Rattle.mm_run.proofs.Below.{if◌then◌else◌, AllByRecursion, Contains, Meddle, Stop, Cut, Batch, normal, Instance, History, Foreign}
+use Rattle.mm_run.proofs.Below.{if◌then◌else◌, AllByRecursion, Contains, Meddle, Stop, Batch, normal, Instance, History, Foreign}
 use Rattle.mm_run.proofs.Below.{PowerMove, moved, is_long, Within, Digests, made, IsGenuine, each_left, each_right, by_lists, by_digests}
-use Rattle.mm_run.proofs.Below.{all_made, right_content, Ending, Breaks, Called, called, Closing, Stops, Checkpointed, checkpointed}
+use Rattle.mm_run.proofs.Below.{all_made, right_content, Called, called, Checkpointed, checkpointed}
 use Rattle.mm_run.proofs.Below.{IsSameCheckpoint, moves_messages, right_messages, IsSameCall, Event, Ask, Checkpoint, Power, Extend, Reply}
-use Rattle.mm_run.proofs.Below.{offered_bytes, Outcome, way_of, after_stop, course_of, reply_of, snapshots_of, moves_then, outcome_by}
+use Rattle.mm_run.proofs.Below.{offered_bytes, Outcome, way_of, course_of, reply_of, snapshots_of, moves_then, outcome_by}
 use Rattle.mm_run.proofs.Below.{uncalled, asked, closing_reply, closing_then, closed_outcome, event_outcome, followed, moves_of}
 use Rattle.mm_run.proofs.Below.{event_messages, messages_from, foreign_of, batches_of, AreGenuine, ask_moves}
 use Rattle.mm_run.proofs.Below.{asking_messages, foreign_values, asked_batches, IsGenuineOffer, AgreesThroughout, Keeps, IsSameOutcome}

@@ -1,41 +1,71 @@
--- Each first part of the events is one run, where it meets the premises.
-use Rattle.mm_run.proofs.Below.{◌∙◌, ℕ, List, [], ◌∷◌, ◌++◌, ap, sym, subst, Contains-append_left, Contains, flat_map, by_digests, by_lists}
-use Rattle.mm_run.proofs.Below.{start_message, Meaning, Instance, basic, opt, History, first_history, requests_of, IsClear, Event, Runs}
-use Rattle.mm_run.proofs.Below.{Reply, event_outcome, expected, replies_by_digests, first_digests, first_issued, AgreesThroughout}
-use Rattle.mm_run.proofs.Below.{AreGenuine, IsClearRun, IsGenuineRun, batches_of, foreign_of, run_messages}
-use Rattle.mm_run.proofs.Below.{Followed, messages_from, each_left, each_self}
+-- A schedule goes on from what stands after its first events; and each first part of it is one run, where it meets the premises.
+use Rattle.mm_run.proofs.Below.{ℕ, ◌≡◌, List, [], ◌∷◌, ◌++◌, refl, sym, ap, ◌∙◌, add_assoc, zero-add, append_assoc, Instance, History}
+use Rattle.mm_run.proofs.Below.{Event, Level, by_lists, Outcome, event_outcome, Followed, followed_by, followed, moves_messages}
+use Rattle.mm_run.proofs.Below.{event_messages, moves_of, messages_from, continued, subst, Contains-append_left, Contains, flat_map}
+use Rattle.mm_run.proofs.Below.{by_digests, start_message, Variant, instance_by, Meaning, first_history, requests_of, IsClear, Runs, Reply}
+use Rattle.mm_run.proofs.Below.{expected}
+use Rattle.mm_run.proofs.Below.{replies_by_digests, first_digests, first_issued, AreGenuine, IsClearRun, IsGenuineRun}
+use Rattle.mm_run.proofs.Below.{batches_of, foreign_of, run_messages, each_left, each_self}
 use Rattle.std.proofs.lemmas.Grind.{flat_map-append}
 use Rattle.mm_run.proofs.FirstBytes.{clear_within}
 use Rattle.mm_run.specs.OneRun.{FrontsAreOneRun}
-use Rattle.mm_run.proofs.BasicRuns.{basic_expected}
-use Rattle.mm_run.proofs.GoingOn.{goes_on, messages-append}
-use Rattle.mm_run.proofs.OptRuns.{opt_expected}
+use Rattle.mm_run.proofs.Expecting.{is_expected}
 use Rattle.mm_run.proofs.Running.{expected_runs}
 
-abbrev IsExpected : Instance → Type 0
-IsExpected i = (events : List Event) → IsClearRun i events → IsGenuineRun i events
-    → AgreesThroughout i (expected i events) (replies_by_digests i events)
+nothing_first : {S : Type 0} (s : S) (issued : List (List ℕ)) (f : Followed S)
+    → f ≡ continued (record { state = s; issued = issued; replies = []; steps = 0; writes = 0 }) f
+nothing_first s issued f = λ j. record {
+  state = f.state;
+  issued = f.issued;
+  replies = f.replies;
+  steps = sym (zero-add f.steps) j;
+  writes = sym (zero-add f.writes) j;
+}
 
-fronts_run : (i : Instance) → IsExpected i → (events : List Event) → FrontsAreOneRun i events
-fronts_run i law events front rest is = (
-  ap (λ (es : List Event). replies_by_digests i es) is ∙ goes_on i (by_digests i) front rest (first_digests i) (first_issued i),
-  λ clear genuine.
-      let a = law front clear genuine in
-      let requests = requests_of (expected i front).state.batches in
-      record {
-        requests = requests;
-        runs = subst (λ (rs : List Reply). Runs i.meaning [] front rs requests) (sym a.replies) (expected_runs i front);
-        judged = a.replies;
-        count = a.stands.count;
-        shown = a.issued;
-      },
-)
+event_first : {S : Type 0} (o : Outcome S) (f g : Followed S) → followed_by o (continued f g) ≡ continued (followed_by o f) g
+event_first o f g = λ j. record {
+  state = g.state;
+  issued = g.issued;
+  replies = o.reply ∷ (f.replies ++ g.replies);
+  steps = sym (add_assoc o.steps f.steps g.steps) j;
+  writes = sym (add_assoc o.writes f.writes g.writes) j;
+}
 
-pub basic_fronts_run : (meaning : Meaning) (key : List ℕ) (events : List Event) → FrontsAreOneRun (basic meaning key) events
-basic_fronts_run meaning key events = fronts_run (basic meaning key) (λ es. basic_expected meaning key es) events
+pub goes_on : {S : Type 0} (i : Instance) (level : Level S) (es fs : List Event) (s : S) (issued : List (List ℕ))
+    → (let f : Followed S = followed i level s issued es in
+    followed i level s issued (es ++ fs) ≡ continued f (followed i level f.state f.issued fs))
+goes_on i level [] fs s issued = nothing_first s issued (followed i level s issued fs)
+goes_on i level (event ∷ es) fs s issued =
+    let o = event_outcome i level s issued event in
+    let f = followed i level o.state o.issued es in
+    ap (followed_by o) (goes_on i level es fs o.state o.issued) ∙ event_first o f (followed i level f.state f.issued fs)
 
-pub opt_fronts_run : (meaning : Meaning) (key barrier : List ℕ) (events : List Event) → FrontsAreOneRun (opt meaning key barrier) events
-opt_fronts_run meaning key barrier events = fronts_run (opt meaning key barrier) (λ es. opt_expected meaning key barrier es) events
+pub messages-append : (i : Instance) (es fs : List Event) (y : History) (issued : List (List ℕ))
+    → (let f : Followed History = followed i (by_lists i) y issued es in
+    messages_from i y issued (es ++ fs) ≡ messages_from i y issued es ++ messages_from i f.state f.issued fs)
+messages-append i [] fs y issued = refl
+messages-append i (event ∷ es) fs y issued =
+    let o = event_outcome i (by_lists i) y issued event in
+    let here = event_messages i issued event ++ moves_messages i y (moves_of i y issued event) in
+    ap (λ v. here ++ v) (messages-append i es fs o.state o.issued) ∙ sym (append_assoc here _ _)
+
+-- what is told of each first part is what is expected: so it is one run
+pub fronts_run : (variant : Variant) (meaning : Meaning) (key barrier : List ℕ) (events : List Event)
+    → FrontsAreOneRun (instance_by variant meaning key barrier) events
+fronts_run variant meaning key barrier events front rest is =
+    let i : Instance = instance_by variant meaning key barrier in (
+      ap (λ (es : List Event). replies_by_digests i es) is ∙ goes_on i (by_digests i) front rest (first_digests i) (first_issued i),
+      λ clear genuine.
+          let a = is_expected variant meaning key barrier front clear genuine in
+          let requests = requests_of (expected i front).state.batches in
+          record {
+            requests = requests;
+            runs = subst (λ (rs : List Reply). Runs i.meaning [] front rs requests) (sym a.replies) (expected_runs i front);
+            judged = a.replies;
+            count = a.stands.count;
+            shown = a.issued;
+          },
+    )
 
 first_of_all : {A : Type 0} (items : Event → List A) (front later : List Event) (x : A) → Contains (flat_map items front) x
     → Contains (flat_map items (front ++ later)) x

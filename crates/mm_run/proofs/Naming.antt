@@ -1,24 +1,27 @@
 -- An event keeps what names a position of the history, whichever snapshot or ticket says it; and each snapshot that was issued
 -- names one.
 use Rattle.mm_run.proofs.Below.{ℕ, ◌≡◌, Bool, true, false, List, [], ◌∷◌, Option, None, Some, Result, Ok, Err, refl, sym, ap, ◌∙◌}
-use Rattle.mm_run.proofs.Below.{AllByRecursion, Variant, Basic, Opt, Meaning, Batch, normal, StepFault, Stop, Cut}
+use Rattle.mm_run.proofs.Below.{AllByRecursion, Variant, Basic, Opt, Meaning, Batch, normal, StepFault, Stop}
 use Rattle.mm_run.proofs.Below.{Instance, basic, opt, History, Move, Foreign, Close, PowerMove, moved, first_history, joined, life_of}
 use Rattle.mm_run.proofs.Below.{has_value, is_lost, IsSound, Names, content_issued, Content, Step, Reads, Writes, ask_steps}
 use Rattle.mm_run.proofs.Below.{checkpoint_steps, Refusal, first_sound, sound_moved, basic_names, basic_issued, opt_names, opt_issued}
 use Rattle.mm_run.proofs.Below.{by_lists, all_made, Found, found_at, found_unless_wanting, is_fresh, Fate, Course, Walked, walk, closes}
-use Rattle.mm_run.proofs.Below.{Ending, Breaks, Called, seen_at, ended_by, called, Closing, Stops, Checkpointed}
+use Rattle.mm_run.proofs.Below.{Called, seen_at, ended_by, called, Checkpointed}
 use Rattle.mm_run.proofs.Below.{checkpointed, foreign_in, not_lost, live_found, foreign_fine, power_fine, ready_closing, before, sight}
 use Rattle.mm_run.proofs.Below.{sight_is, Ready, walk_fine, asks, unlacked, opt_closes, closed_kept, AllMay, may_of, first_in}
-use Rattle.mm_run.proofs.Below.{ask_may, each_self, each_append, Event, Outcome, after_stop}
+use Rattle.mm_run.proofs.Below.{ask_may, each_self, each_append, Event, Outcome}
 use Rattle.mm_run.proofs.Below.{course_of, snapshots_of, moves_then, outcome_by, closing_then, event_outcome, Followed, followed}
 use Rattle.mm_run.proofs.Below.{first_issued, IsIssued, IssuedNamePositions, IsSoundIn, KeepsNames, EventsKeepNames}
-use Rattle.mm_run.proofs.Below.{AreOwn}
+use Rattle.mm_run.proofs.Below.{AreOwn, instance_by, zero_bytes}
 use Rattle.mm_run.proofs.EachWay.{in_any_way, then_all, closing_all}
 
 -- from one history to another, whichever snapshots were issued
 pub record Lasts (i : Instance) (y z : History) : Type 0 where
   pub sound : IsSoundIn i.variant z
   pub names : (content : Content) → Names i y content → Names i z content
+
+lasts_on : (i : Instance) (x y z : History) → Lasts i x y → Lasts i y z → Lasts i x z
+lasts_on i x y z a b = record { sound = b.sound; names = λ content named. b.names content (a.names content named) }
 
 -- Opt: moves may be made
 abbrev pub MayIn : Variant → Instance → History → List Move → Type 0
@@ -35,8 +38,8 @@ each_issued i y z go [] h = tt
 each_issued i y z go (x ∷ xs) h =
     (record { content = h.0.content; sealed = h.0.sealed; names = go h.0.content h.0.names }, each_issued i y z go xs h.1)
 
--- What one variant gives: moves that may be made keep what holds; those of events may be; and what an answer's snapshot says names
--- the end.
+-- What one variant gives: moves that may be made keep what holds; those of events may be; what an answer's snapshot says names the
+-- end, and what the first one says the start.
 pub record Keeping (i : Instance) : Type 0 where
   pub made : (moves : List Move) (y : History) → IsSoundIn i.variant y → MayIn i.variant i y moves
       → Lasts i y (all_made (by_lists i) y moves)
@@ -46,19 +49,14 @@ pub record Keeping (i : Instance) : Type 0 where
   pub foreign_may : (y : History) (value : List ℕ) → MayIn i.variant i y (Foreign value ∷ [])
   pub answers : (y : History) (c : Course) (bytes : List ℕ) (b : Batch) → IsSoundIn i.variant y
       → (let o = called i (by_lists i) y c bytes b in AllByRecursion (IsIssued i o.state) (snapshots_of o.ending))
+  pub sound : IsSoundIn i.variant first_history
+  pub named : Names i first_history (content_issued i first_history)
 
 module _ (i : Instance) (v : Keeping i) where
   keeps_same : (y z : History) (xs : List (List ℕ)) → Lasts i y z → KeepsNames i y z xs xs
   keeps_same y z xs l = record { sound = l.sound; names = l.names; issued = λ h. each_issued i y z l.names xs h }
 
-  -- a call, or a checkpoint, and what follows where it is broken off
-  lasts_then : (y : History) (moves rest : List Move) → IsSoundIn i.variant y → MayIn i.variant i y moves
-      → (let z = all_made (by_lists i) y moves in MayIn i.variant i z rest → Lasts i y (all_made (by_lists i) z rest))
-  lasts_then y moves rest sound may later =
-      let a = v.made moves y sound may in
-      let b = v.made rest (all_made (by_lists i) y moves) a.sound later in
-      record { sound = b.sound; names = λ content named. b.names content (a.names content named) }
-
+  -- a call, and what follows where it is broken off
   call_keeps : (y : History) (issued : List (List ℕ)) (stop : Stop) (c : Course) (bytes : List ℕ) (b : Batch) → IsSoundIn i.variant y
       → (let o : Outcome History = outcome_by (by_lists i) stop issued (called i (by_lists i) y c bytes b) in
       KeepsNames i y o.state issued o.issued)
@@ -69,11 +67,11 @@ module _ (i : Instance) (v : Keeping i) where
       let a = v.made o.moves y sound (v.call_may y c bytes b) in
       let e = v.made rest o.state a.sound (then_all (MayIn i.variant i o.state) (none_may i.variant i o.state)
       (v.power_may o.state) stop o.ending) in
-      let names : (content : Content) → Names i y content → Names i z content = λ content named. e.names content (a.names content named) in
+      let l = lasts_on i y o.state z a e in
       record {
-        sound = e.sound;
-        names = names;
-        issued = λ h. each_append (IsIssued i z) issued (snapshots_of o.ending) (each_issued i y z names issued h)
+        sound = l.sound;
+        names = l.names;
+        issued = λ h. each_append (IsIssued i z) issued (snapshots_of o.ending) (each_issued i y z l.names issued h)
             (each_issued i o.state z e.names (snapshots_of o.ending) (v.answers y c bytes b sound));
       }
 
@@ -85,9 +83,9 @@ module _ (i : Instance) (v : Keeping i) where
         call = λ stop meddles bytes b short. call_keeps y issued stop (course_of stop meddles) bytes (normal b) sound;
         check = λ stop meddles.
             let c : Course = course_of stop meddles in let o : Checkpointed History = checkpointed i (by_lists i) y c in
-            keeps_same y _ issued
-            (lasts_then y o.moves (closing_then stop o.ending) sound (v.check_may y c)
-            (closing_all (MayIn i.variant i o.state) (none_may i.variant i o.state) (v.power_may o.state) stop o.ending));
+            let a = v.made o.moves y sound (v.check_may y c) in
+            keeps_same y _ issued (lasts_on i y o.state _ a (v.made (closing_then stop o.ending) o.state a.sound
+            (closing_all (MayIn i.variant i o.state) (none_may i.variant i o.state) (v.power_may o.state) stop o.ending)));
         power = keeps_same y _ issued (v.made (PowerMove ∷ []) y sound (v.power_may y));
         extend = λ value. keeps_same y _ issued (v.made (Foreign value ∷ []) y sound (v.foreign_may y value));
       }) event
@@ -99,9 +97,9 @@ module _ (i : Instance) (v : Keeping i) where
       let o : Outcome History = event_outcome i (by_lists i) y issued event in
       let k = event_keeps y issued event sound in follow_named events o.state o.issued k.sound (k.issued h)
 
-  issued_named : IsSoundIn i.variant first_history → Names i first_history (content_issued i first_history) → IssuedNamePositions i
-  issued_named sound named events = follow_named events first_history (first_issued i) sound
-      (record { content = content_issued i first_history; sealed = refl; names = named }, tt)
+  issued_named : IssuedNamePositions i
+  issued_named events = follow_named events first_history (first_issued i) v.sound
+      (record { content = content_issued i first_history; sealed = refl; names = v.named }, tt)
 
 -- an answer hands out a snapshot of the history at its end
 ended_issues : (i : Instance) (seen end : History) (b : Batch) (moves : List Move) (broken : Option StepFault)
@@ -171,13 +169,9 @@ module _ (meaning : Meaning) (key barrier : List ℕ) where
     power_may = λ y. ((power_fine meaning key barrier [] [] [] y).may, tt);
     foreign_may = λ y value. ((foreign_fine meaning key barrier [] (value ∷ []) [] y value (first_in value [])).may, tt);
     answers = opt_answers;
+    sound = first_sound;
+    named = opt_issued meaning key barrier first_history first_sound refl;
   }
-
-  pub opt_events_keep_names : EventsKeepNames me
-  opt_events_keep_names = event_keeps me opt_keeping
-
-  pub opt_issued_named : IssuedNamePositions me
-  opt_issued_named = issued_named me opt_keeping first_sound (opt_issued meaning key barrier first_history first_sound refl)
 
 -- Basic: moves keep what a snapshot names, whichever they are
 
@@ -208,10 +202,33 @@ module _ (meaning : Meaning) (key : List ℕ) where
     power_may = λ y. tt;
     foreign_may = λ y value. tt;
     answers = basic_answers;
+    sound = tt;
+    named = basic_issued meaning key first_history;
   }
 
-  pub basic_events_keep_names : EventsKeepNames it
-  basic_events_keep_names = event_keeps it basic_keeping
+-- either variant
 
-  pub basic_issued_named : IssuedNamePositions it
-  basic_issued_named = issued_named it basic_keeping tt (basic_issued meaning key first_history)
+keeping : (variant : Variant) (meaning : Meaning) (key barrier : List ℕ) → Keeping (instance_by variant meaning key barrier)
+keeping Basic meaning key barrier = basic_keeping meaning key
+keeping Opt meaning key barrier = opt_keeping meaning key barrier
+
+module _ (variant : Variant) (meaning : Meaning) (key barrier : List ℕ) where
+  pub events_keep_names : EventsKeepNames (instance_by variant meaning key barrier)
+  events_keep_names = event_keeps (instance_by variant meaning key barrier) (keeping variant meaning key barrier)
+
+  pub issued_names : IssuedNamePositions (instance_by variant meaning key barrier)
+  issued_names = issued_named (instance_by variant meaning key barrier) (keeping variant meaning key barrier)
+
+module _ (meaning : Meaning) (key : List ℕ) where
+  pub basic_events_keep_names : EventsKeepNames (basic meaning key)
+  basic_events_keep_names = events_keep_names Basic meaning key zero_bytes
+
+  pub basic_issued_named : IssuedNamePositions (basic meaning key)
+  basic_issued_named = issued_names Basic meaning key zero_bytes
+
+  module _ (barrier : List ℕ) where
+    pub opt_events_keep_names : EventsKeepNames (opt meaning key barrier)
+    opt_events_keep_names = events_keep_names Opt meaning key barrier
+
+    pub opt_issued_named : IssuedNamePositions (opt meaning key barrier)
+    opt_issued_named = issued_names Opt meaning key barrier

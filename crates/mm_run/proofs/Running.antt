@@ -2,16 +2,16 @@
 use Rattle.mm_run.proofs.Below.{ℕ, ◌≡◌, ◌+◌, Bool, true, false, ◌&&◌, List, [], ◌∷◌, ◌++◌, length, Option, None, Some, Result, Ok, Err}
 use Rattle.mm_run.proofs.Below.{refl, sym, ap, ◌∙◌, subst, nat_eq, bytes_eq, and_parts, Meaning, state_after, outputs_from}
 use Rattle.mm_run.proofs.Below.{Batch, members_of, size_of, normal, members_of-normal, PartsFault, Form, Kind}
-use Rattle.mm_run.proofs.Below.{Snapshot, tag_of, parts_of, StepFault, Meddle, Stop, Cut, Instance, History, Move}
+use Rattle.mm_run.proofs.Below.{Snapshot, tag_of, parts_of, StepFault, Meddle, Stop, Instance, History, Move}
 use Rattle.mm_run.proofs.Below.{requests_of, total_of, first_history, Life, Live, life_of, is_lost, is_last, judged, judge}
 use Rattle.mm_run.proofs.Below.{ask_steps, Refusal, admitted, examined, by_lists, all_made, Found, found_by_verdict, found_at}
-use Rattle.mm_run.proofs.Below.{found_unless_wanting, is_fresh, Course, Walked, walk, seen_in, commits, Ending, Answers, Breaks, Called}
+use Rattle.mm_run.proofs.Below.{found_unless_wanting, is_fresh, Course, Walked, walk, seen_in, commits, Answers, Breaks, Called}
 use Rattle.mm_run.proofs.Below.{reading_steps, ended_by, called, kept_at, Closing, Stops}
 use Rattle.mm_run.proofs.Below.{Checkpointed, checkpointed_with, same_batches, more_batches, Commits, nothing, batch, commits-none}
 use Rattle.mm_run.proofs.Below.{call_commits, commits_batch, seen_none, admitted_tells, weighed_tells, found_with_tells, unless_lost}
 use Rattle.mm_run.proofs.Below.{requests-push, said_last, again_of, fresh_of, unlacked, checkpoint_none, Event, Ask}
 use Rattle.mm_run.proofs.Below.{Checkpoint, IsTold, StepsOn, AsksNone, Steps, Runs, Way, Reply, offered_bytes, Outcome}
-use Rattle.mm_run.proofs.Below.{way_of, after_stop, course_of, reply_of, moves_then, outcome_by, closing_reply, closing_then}
+use Rattle.mm_run.proofs.Below.{way_of, course_of, reply_of, outcome_by, closing_reply}
 use Rattle.mm_run.proofs.Below.{closed_outcome, event_outcome, Followed, followed, first_issued, ExpectedRuns}
 use Rattle.mm_model.specs.BatchLaws.{EndsWith, is_last_tells}
 use Rattle.mm_call.specs.Answers.{answer_on}

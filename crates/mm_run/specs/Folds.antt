@@ -1,7 +1,7 @@
 -- A schedule followed by a level: each event's reply, and what stands after it.
-use Rattle.std.specs.Prelude.{ℕ, ◌+◌, false, List, [], ◌∷◌, ◌++◌, Option, None, Some, Err, if◌then◌else◌}
+use Rattle.std.specs.Prelude.{ℕ, ◌+◌, Bool, false, List, [], ◌∷◌, ◌++◌, Option, None, Some, Err, if◌then◌else◌}
 use Rattle.std.specs.Option.{option_map_or}
-use Rattle.mm_run.specs.Below.{zero_bytes, start_of, Meddle, Stop, Quiet, Cut, Drop, Fail, Batch, One, normal, History, Move, Foreign}
+use Rattle.mm_run.specs.Below.{zero_bytes, start_of, Plan, BatchAnswer, Meddle, Stop, Cut, Drop, Batch, One, normal, History, Move, Foreign}
 use Rattle.mm_run.specs.Below.{PowerMove, first_history, Instance, is_long, Digests, issued_bytes, Reads, Refusal, Ending, Answers, Refuses}
 use Rattle.mm_run.specs.Below.{Breaks, Called, called, called_by, Closing, Closes, HasNone, NoSegment, LostPower, Stops, Checkpointed}
 use Rattle.mm_run.specs.Below.{checkpointed, Course, planned, walk, Level, all_made, by_lists, by_digests, Event, Ask, Checkpoint, Power}
@@ -23,22 +23,21 @@ pub record Outcome (S : Type 0) : Type 0 where
 
 -- how a call is broken off
 abbrev pub way_of : Stop → Way
-way_of Quiet = way.Fault
 way_of (Cut step) = way.Cut
 way_of (Drop step) = way.Drop
-way_of (Fail step done) = way.Fault
+way_of stop = way.Fault
 
 -- power is lost where the call is cut, and comes back
 abbrev pub after_stop : Stop → List Move
 after_stop (Cut step) = PowerMove ∷ []
-after_stop Quiet = []
-after_stop (Drop step) = []
-after_stop (Fail step done) = []
+after_stop stop = []
 
--- the course that a schedule plans for a call
+-- what a schedule plans for a call, and the course by it
+abbrev pub plan_of : Stop → List Meddle → Plan
+plan_of stop meddles = record { stop = stop; meddles = meddles; at = 0 }
+
 abbrev pub course_of : Stop → List Meddle → Course
-course_of stop meddles =
-    record { fates = planned (record { stop = stop; meddles = meddles; at = 0 }); lacks = false }
+course_of stop meddles = record { fates = planned (plan_of stop meddles); lacks = false }
 
 -- the cause that a reply names. A planned call is refused for no other reason.
 abbrev pub cause_of : Refusal → Cause
@@ -49,31 +48,33 @@ cause_of refusal.State = cause.State
 cause_of refusal.Tag = cause.Tag
 cause_of refusal.Stale = cause.Stale
 cause_of refusal.Full = cause.Full
-cause_of refusal.Memory = cause.Long
-cause_of refusal.Long = cause.Long
-cause_of (refusal.Device fault) = cause.Long
 cause_of refusal.Blank = cause.Blank
 cause_of refusal.Cell = cause.Cell
+cause_of why = cause.Long
 
--- The reply to a call, with the position after its batch; of a call that was broken off if that was
--- committed.
+-- the reply that tells an answer
+abbrev pub told_reply : BatchAnswer → Reply
+told_reply answer = reply.Told answer.again answer.position answer.outputs
+
+-- a call that was broken off: with the position after its batch, if that was committed
+abbrev pub broken_reply : Way → Option ℕ → Reply
+broken_reply how kept = option_map_or (λ position. reply.Kept how position) kept (reply.Nothing how)
+
+-- the reply to a call
 abbrev pub reply_of : Way → Ending → Reply
-reply_of how (Answers answer) = reply.Told answer.again answer.position answer.outputs
+reply_of how (Answers answer) = told_reply answer
 reply_of how (Refuses why) = reply.No (cause_of why)
-reply_of how (Breaks fault kept) =
-    option_map_or (λ position. reply.Kept how position) kept (reply.Nothing how)
+reply_of how (Breaks fault kept) = broken_reply how kept
 
 -- an answer hands out a snapshot
 abbrev pub snapshots_of : Ending → List (List ℕ)
 snapshots_of (Answers answer) = answer.snapshot ∷ []
-snapshots_of (Refuses why) = []
-snapshots_of (Breaks fault kept) = []
+snapshots_of ending = []
 
 -- what follows a call that is broken off
 abbrev pub moves_then : Stop → Ending → List Move
-moves_then stop (Answers answer) = []
-moves_then stop (Refuses why) = []
 moves_then stop (Breaks fault kept) = after_stop stop
+moves_then stop ending = []
 
 -- what a call comes to in a schedule
 abbrev pub outcome_by : {S : Type 0} → Level S → Stop → List (List ℕ) → Called S → Outcome S
@@ -114,20 +115,21 @@ asked_in_vain level s issued meddles stop why (Some bytes) b =
     if is_long b then uncalled s issued (reply.No cause.Long)
     else reads_only level s issued meddles stop why
 
--- The reply to a checkpoint. One that was broken off tells whether its segment was closed.
+-- a checkpoint that was broken off: whether its segment was closed
+abbrev pub stopped_reply : Way → Bool → Reply
+stopped_reply how closed = if closed then reply.Closed how else reply.Nothing how
+
+-- the reply to a checkpoint
 abbrev pub closing_reply : Way → Closing → Reply
 closing_reply how Closes = reply.Checkpointed
 closing_reply how HasNone = reply.No cause.Kind
 closing_reply how NoSegment = reply.No cause.Segment
 closing_reply how LostPower = reply.No cause.Lost
-closing_reply how (Stops fault closed) = if closed then reply.Closed how else reply.Nothing how
+closing_reply how (Stops fault closed) = stopped_reply how closed
 
 abbrev pub closing_then : Stop → Closing → List Move
-closing_then stop Closes = []
-closing_then stop HasNone = []
-closing_then stop NoSegment = []
-closing_then stop LostPower = []
 closing_then stop (Stops fault closed) = after_stop stop
+closing_then stop closing = []
 
 -- what a checkpoint comes to in a schedule
 abbrev pub closed_outcome : {S : Type 0} → Level S → Stop → List (List ℕ) → Checkpointed S

@@ -2,17 +2,24 @@
 use Rattle.std.specs.Prelude.{◌≡◌, ℕ, ◌-◌, ◌^◌, List, length, min, ◌⊎◌}
 use Rattle.std.specs.List.{range_with_len}
 use Rattle.mm_run.specs.Below.{Meddle, Stop, meaning_of, Instance, Digests, seen_at, reading_steps, by_digests, instance_by, counted_by}
-use Rattle.mm_run.specs.Below.{Event, Ask, Checkpoint, Power, Extend, Header, Reply}
+use Rattle.mm_run.specs.Below.{Event, Ask, Power, Header, Reply}
 use Rattle.mm_run.specs.Folds.{Outcome, course_of, event_outcome, first_issued, first_digests}
 
 -- 32 bytes in rising order, from this one on
 unfoldable pub rising_from : ℕ → List ℕ
 rising_from first = range_with_len first 32
 
--- the instance that a world with this header is, with its key and its barrier
+-- the key of each world, and its barrier
+abbrev pub world_key : List ℕ
+world_key = rising_from 0x00
+
+abbrev pub world_barrier : List ℕ
+world_barrier = rising_from 0x20
+
+-- the instance that a world with this header is
 abbrev pub world_of : Header → Instance
 world_of header =
-    instance_by header.variant (meaning_of header.«module») (rising_from 0x00) (rising_from 0x20)
+    instance_by header.variant (meaning_of header.«module») world_key world_barrier
 
 -- the header; where the world stands by digests; the issued snapshots by their numbers; and how
 -- many steps were called, and how many of them were to write the cell
@@ -68,6 +75,5 @@ having_read stop meddles world = record world {
 -- steps.
 abbrev pub Wants : Event → Held → Held → Type 0
 Wants (Ask meddles stop offer b) old new = (new ≡ old) ⊎ (new ≡ having_read stop meddles old)
-Wants (Checkpoint meddles stop) old new = new ≡ old
 Wants Power old new = ⊥
-Wants (Extend value) old new = new ≡ old
+Wants event old new = new ≡ old

@@ -18,11 +18,16 @@ pub record AgreesThroughout (i : Instance) (lists : Followed History)
 
 -- Where no two messages of the run share a digest and each right offer names a position, what is
 -- told by digests is what is expected.
+abbrev pub IsExpected : Instance → Type 0
+IsExpected i = (events : List Event) → IsClearRun i events → IsGenuineRun i events →
+    AgreesThroughout i (expected i events) (replies_by_digests i events)
+
+-- of Basic, and of Opt
 abbrev pub BasicIsExpected : Type 0
-BasicIsExpected = (meaning : Meaning) (key : List ℕ) (events : List Event) →
-    IsClearRun (basic meaning key) events → IsGenuineRun (basic meaning key) events →
-    AgreesThroughout (basic meaning key) (expected (basic meaning key) events)
-    (replies_by_digests (basic meaning key) events)
+BasicIsExpected = (meaning : Meaning) (key : List ℕ) → IsExpected (basic meaning key)
+
+abbrev pub OptIsExpected : Type 0
+OptIsExpected = (meaning : Meaning) (key barrier : List ℕ) → IsExpected (opt meaning key barrier)
 
 -- In both variants, and without a premise, what is expected is one run of the machine, on one list
 -- of requests.
@@ -54,13 +59,6 @@ SchedulesGoOn =
     (followed i (by_digests i) digests.state digests.issued fs))
     × (messages_from i y issued (es ++ fs) ≡ messages_from i y issued es
     ++ messages_from i lists.state lists.issued fs)
-
--- The same for Opt.
-abbrev pub OptIsExpected : Type 0
-OptIsExpected = (meaning : Meaning) (key barrier : List ℕ) (events : List Event) →
-    IsClearRun (opt meaning key barrier) events → IsGenuineRun (opt meaning key barrier) events →
-    AgreesThroughout (opt meaning key barrier) (expected (opt meaning key barrier) events)
-    (replies_by_digests (opt meaning key barrier) events)
 
 -- A snapshot says, sealed under the key, what names a position of the history.
 pub record IsIssued (i : Instance) (y : History) (bytes : List ℕ) : Type 0 where

@@ -1,12 +1,11 @@
 -- The laws of one event.
-use Rattle.std.specs.Prelude.{◌≡◌, ℕ, List}
+use Rattle.std.specs.Prelude.{◌≡◌, ℕ, List, [], ◌∷◌, ◌++◌, ◌⊎◌}
 use Rattle.std.specs.List.{AllByRecursion, Contains}
 use Rattle.mm_run.specs.Below.{Variant, Basic, Opt, Content, Batch, History, requests_of, Instance, Within, IsClear, Digests, Names}
 use Rattle.mm_run.specs.Below.{IsSound, moves_messages, IsWithin, by_lists, by_digests, Agrees, Event, Steps}
 use Rattle.mm_run.specs.Folds.{Outcome, event_outcome}
 use Rattle.mm_run.specs.Laws.{IsIssued}
-use Rattle.mm_run.specs.Premises.{moves_of, event_messages, foreign_of, batches_of, IsGenuineEvent}
-use Rattle.mm_run.specs.PremisesWords.{AreApartIn}
+use Rattle.mm_run.specs.Premises.{moves_of, event_messages, foreign_of, batches_of, AreApartIn, IsGenuineEvent}
 
 -- the digests are those of the history, which is within the list
 pub record Keeps (all others : List (List ℕ)) (asked_for : List Batch) (i : Instance) (y : History)
@@ -70,3 +69,7 @@ abbrev pub EventsKeepNames : Instance → Type 0
 EventsKeepNames i = (y : History) (issued : List (List ℕ)) (event : Event) → IsSoundIn i.variant y →
     let o : Outcome History = event_outcome i (by_lists i) y issued event in
     KeepsNames i y o.state issued o.issued
+
+-- An event hands out no snapshot, or one.
+abbrev pub Issues : List (List ℕ) → List (List ℕ) → Type 0
+Issues old new = (new ≡ old) ⊎ ((snapshot : List ℕ) × (new ≡ old ++ snapshot ∷ []))

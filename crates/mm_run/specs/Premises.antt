@@ -1,33 +1,39 @@
 -- The messages that a run of events hashes, as far as a proof looks at them, and what is asked of
 -- the run.
-use Rattle.std.specs.Prelude.{◌≡◌, ℕ, List, [], ◌∷◌, ◌++◌, IfSome, map, flat_map, if◌then◌else◌}
+use Rattle.std.specs.Prelude.{◌≡◌, ℕ, List, [], ◌∷◌, ◌++◌, Option, IfSome, map, flat_map, if◌then◌else◌}
 use Rattle.std.specs.Option.{option_map_or}
-use Rattle.mm_run.specs.Below.{start_message, Opt, Batch, normal, History, Move, Foreign, PowerMove, first_history, Instance, is_long}
-use Rattle.mm_run.specs.Below.{IsClear, AreNoGuards, issued_bytes, IsGenuine, moves_messages, right_messages, called, checkpointed}
+use Rattle.mm_run.specs.Below.{start_message, Variant, Opt, Meddle, Stop, Batch, normal, History, Move, Foreign, PowerMove}
+use Rattle.mm_run.specs.Below.{first_history, Instance, is_long, IsClear, AreNoGuards, IsGenuine, moves_messages, right_messages}
+use Rattle.mm_run.specs.Below.{called, checkpointed}
 use Rattle.mm_run.specs.Below.{right_content, by_lists, Event, Ask, Checkpoint, Power, Extend}
 use Rattle.mm_run.specs.Offered.{offered_bytes}
-use Rattle.mm_run.specs.Folds.{course_of, event_outcome}
+use Rattle.mm_run.specs.Folds.{course_of, event_outcome, first_issued}
+
+-- the moves of a call that is asked
+abbrev pub ask_moves : Instance → History → List Meddle → Stop → Option (List ℕ) → Batch → List Move
+ask_moves i y meddles stop offered b =
+    option_map_or (λ bytes. if is_long b then []
+    else (called i (by_lists i) y (course_of stop meddles) bytes (normal b)).moves) offered []
 
 -- the moves of an event's call, by lists. The loss of power after one that was cut has no messages.
 abbrev pub moves_of : Instance → History → List (List ℕ) → Event → List Move
 moves_of i y issued (Ask meddles stop offer b) =
-    option_map_or (λ bytes. if is_long b then []
-    else (called i (by_lists i) y (course_of stop meddles) bytes (normal b)).moves)
-    (offered_bytes issued offer) []
+    ask_moves i y meddles stop (offered_bytes issued offer) b
 moves_of i y issued (Checkpoint meddles stop) =
     (checkpointed i (by_lists i) y (course_of stop meddles)).moves
 moves_of i y issued Power = PowerMove ∷ []
 moves_of i y issued (Extend value) = Foreign value ∷ []
 
 -- the messages of what is asked of a right offer, where the batch isn't too long
+abbrev pub asking_messages : Instance → Option (List ℕ) → Batch → List (List ℕ)
+asking_messages i offered b =
+    option_map_or (λ bytes. if is_long b then []
+    else right_messages i (normal b) (right_content i bytes)) offered []
+
 abbrev pub event_messages : Instance → List (List ℕ) → Event → List (List ℕ)
 event_messages i issued (Ask meddles stop offer b) =
-    option_map_or (λ bytes. if is_long b then []
-    else right_messages i (normal b) (right_content i bytes))
-    (offered_bytes issued offer) []
-event_messages i issued (Checkpoint meddles stop) = []
-event_messages i issued Power = []
-event_messages i issued (Extend value) = []
+    asking_messages i (offered_bytes issued offer) b
+event_messages i issued event = []
 
 -- the messages of events from a history on, event by event: those of what is asked, then those of
 -- the moves
@@ -48,25 +54,42 @@ foreign_of (Extend value) = value ∷ []
 -- the batches asked that aren't too long, of whatever offer
 abbrev pub batches_of : Event → List Batch
 batches_of (Ask meddles stop offer b) = if is_long b then [] else normal b ∷ []
-batches_of (Checkpoint meddles stop) = []
-batches_of Power = []
-batches_of (Extend value) = []
+batches_of event = []
+
+-- the messages of a run
+abbrev pub run_messages : Instance → List Event → List (List ℕ)
+run_messages i events =
+    start_message i.variant i.meaning.id ∷ messages_from i first_history (first_issued i) events
+
+-- the values by which others extend the register, and the batches asked
+abbrev pub foreign_values : List Event → List (List ℕ)
+foreign_values events = flat_map foreign_of events
+
+abbrev pub asked_batches : List Event → List Batch
+asked_batches events = flat_map batches_of events
+
+-- in Opt, none of the values is the guard of one of the batches
+abbrev pub AreApartIn : Variant → Instance → List (List ℕ) → List Batch → Type 0
+AreApartIn variant i others batches = variant ≡ Opt → AreNoGuards i.barrier others batches
+
+-- the same of the events
+abbrev pub AreApart : Variant → Instance → List Event → Type 0
+AreApart variant i events = AreApartIn variant i (foreign_values events) (asked_batches events)
 
 -- What is asked of the digests: no two messages of the run share one, and none is zero. In Opt, no
 -- value that others extend the register by is the guard of a batch that is asked.
 pub record IsClearRun (i : Instance) (events : List Event) : Type 0 where
-  pub clear : IsClear (start_message i.variant i.meaning.id
-      ∷ messages_from i first_history (issued_bytes i first_history ∷ []) events)
-  pub apart : i.variant ≡ Opt
-      → AreNoGuards i.barrier (flat_map foreign_of events) (flat_map batches_of events)
+  pub clear : IsClear (run_messages i events)
+  pub apart : AreApart i.variant i events
 
 -- each right offer names a position of the history before its event: nobody else sealed it
+abbrev pub IsGenuineOffer : Instance → History → Option (List ℕ) → Type 0
+IsGenuineOffer i y offered = IfSome offered (λ bytes. IsGenuine i y bytes)
+
 abbrev pub IsGenuineEvent : Instance → History → List (List ℕ) → Event → Type 0
 IsGenuineEvent i y issued (Ask meddles stop offer b) =
-    IfSome (offered_bytes issued offer) (λ bytes. IsGenuine i y bytes)
-IsGenuineEvent i y issued (Checkpoint meddles stop) = Unit {0}
-IsGenuineEvent i y issued Power = Unit {0}
-IsGenuineEvent i y issued (Extend value) = Unit {0}
+    IsGenuineOffer i y (offered_bytes issued offer)
+IsGenuineEvent i y issued event = Unit {0}
 
 abbrev pub AreGenuine : Instance → History → List (List ℕ) → List Event → Type 0
 AreGenuine i y issued [] = Unit {0}
@@ -75,4 +98,4 @@ AreGenuine i y issued (event ∷ events) =
     IsGenuineEvent i y issued event × AreGenuine i o.state o.issued events
 
 abbrev pub IsGenuineRun : Instance → List Event → Type 0
-IsGenuineRun i events = AreGenuine i first_history (issued_bytes i first_history ∷ []) events
+IsGenuineRun i events = AreGenuine i first_history (first_issued i) events

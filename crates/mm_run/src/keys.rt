@@ -2,7 +2,7 @@
 
 ghost use Rattle.std.specs.Prelude.{◌≡◌, ◌≤◌};
 ghost use Rattle.mm_run.specs.Held.{rising_from};
-ghost use Rattle.mm_run.specs.HeldWords.{world_key, world_barrier};
+ghost use Rattle.mm_run.specs.Held.{world_key, world_barrier};
 
 /// The key: the bytes 00 to 1f.
 #[tactic(auto, unfolding(crate::specs::Held::rising_from))]

@@ -1,11 +1,13 @@
 //! The laws of whole runs, each the contract of a function that does nothing.
 
 ghost use Rattle.std.specs.Prelude.{◌≡◌, ◌++◌, ℕ, List};
+ghost use Rattle.mm_digest.specs.declared.variant.Variant.{Variant};
 ghost use Rattle.mm_module.specs.Meaning.{Meaning};
 ghost use Rattle.mm_module.specs.CounterTable.{counter};
 ghost use Rattle.mm_model.specs.Instance.{Instance};
 ghost use Rattle.mm_model.specs.InstanceWords.{basic, opt};
-ghost use Rattle.mm_run.specs.HeldWords.{world_barrier};
+ghost use Rattle.mm_call.specs.Standing.{instance_by};
+ghost use Rattle.mm_run.specs.Held.{world_barrier};
 ghost use Rattle.mm_run.specs.Folds.{expected};
 ghost use Rattle.mm_run.specs.Premises.{IsClearRun, IsGenuineRun};
 ghost use Rattle.mm_run.specs.Laws.{BasicIsExpected, OptIsExpected, ExpectedRuns, SchedulesGoOn, IssuedNamePositions, one_ask, two_segments, after_two_segments};
@@ -33,10 +35,9 @@ pub fn expected_runs()
 /// and each right offer in it names a position, it is one run of the module on one list of requests. So it is of each first
 /// part of a schedule of which that holds.
 pub fn fronts_are_one_run()
-    ensures basic { (meaning : Meaning) (key : List ℕ) (events : List Event)
-        → FrontsAreOneRun (basic meaning key) events }
-    ensures opt { (meaning : Meaning) (key barrier : List ℕ) (events : List Event)
-        → FrontsAreOneRun (opt meaning key barrier) events }
+    ensures one { (variant : Variant) (meaning : Meaning) (key barrier : List ℕ)
+        (events : List Event)
+        → FrontsAreOneRun (instance_by variant meaning key barrier) events }
     ensures clear { (i : Instance) (front later : List Event)
         → IsClearRun i (front ++ later) → IsClearRun i front }
     ensures genuine { (i : Instance) (front later : List Event)
@@ -51,9 +52,8 @@ pub fn schedules_go_on()
 /// One event comes by digests to what it comes to by lists, where its messages and those of the history are among some of
 /// which no two share a digest, and each right offer names a position.
 pub fn events_agree()
-    ensures basic { (meaning : Meaning) (key : List ℕ) → EventsAgree (basic meaning key) }
-    ensures opt { (meaning : Meaning) (key barrier : List ℕ)
-        → EventsAgree (opt meaning key barrier) }
+    ensures { (variant : Variant) (meaning : Meaning) (key barrier : List ℕ)
+        → EventsAgree (instance_by variant meaning key barrier) }
 {}
 
 /// One event is one step of the machine.
@@ -63,16 +63,14 @@ pub fn events_step()
 
 /// What named a position of the history before an event names one after it, and so do the snapshots issued by then.
 pub fn events_keep_names()
-    ensures basic { (meaning : Meaning) (key : List ℕ) → EventsKeepNames (basic meaning key) }
-    ensures opt { (meaning : Meaning) (key barrier : List ℕ)
-        → EventsKeepNames (opt meaning key barrier) }
+    ensures { (variant : Variant) (meaning : Meaning) (key barrier : List ℕ)
+        → EventsKeepNames (instance_by variant meaning key barrier) }
 {}
 
 /// Every snapshot that was issued names a position of the history, after each schedule.
 pub fn issued_snapshots_name_positions()
-    ensures basic { (meaning : Meaning) (key : List ℕ) → IssuedNamePositions (basic meaning key) }
-    ensures opt { (meaning : Meaning) (key barrier : List ℕ)
-        → IssuedNamePositions (opt meaning key barrier) }
+    ensures { (variant : Variant) (meaning : Meaning) (key barrier : List ℕ)
+        → IssuedNamePositions (instance_by variant meaning key barrier) }
 {}
 
 /// The premises on digests and offers can be met: a counter's run of `ask last add 5` meets them, under every key; in Opt

@@ -1,28 +1,179 @@
--- A planned call over a cell that it doesn't go on with comes to what its one reading step gives.
-use Rattle.mm_world.proofs.Below.{◌≡◌, ℕ, Bool, true, false, ◌&&◌, List, [], ◌∷◌, ◌++◌, map, Option, None, Some, Result}
-use Rattle.mm_world.proofs.Below.{Ok, Err, refl, sym, ap, ◌∙◌, subst, append-nil, if◌then◌else◌, ◌==◌, is_some, MatchResult, option_to_list}
-use Rattle.mm_world.proofs.Below.{Memory, Variant, Meaning, Batch, One, size_of, StepFault, Meddle, Stop}
-use Rattle.mm_world.proofs.Below.{Standing, ReadCell, Goes, fault_at, is_made_at, will_answer}
-use Rattle.mm_world.proofs.Below.{will_bring, Cell, CellFault, Blank, same_variant, Instance, Move, Foreign, is_long}
-use Rattle.mm_world.proofs.Below.{Digests, made, register_reads, Refusal, Ended, by_digests, all_made, Walked, after_step, commits, end_of}
-use Rattle.mm_world.proofs.Below.{Reads, called_by, kept_at, ended_with, is_broken, StaysOn, Said}
-use Rattle.mm_world.proofs.Below.{CheckpointRefusal, AskCall, begun, FinishedAsk, Reply, Outcome, way_of}
-use Rattle.mm_world.proofs.Below.{cause_of, outcome_by, uncalled, reads_only, plan_of, broken_reply, stopped_reply, IsQuiet, quiet_as}
-use Rattle.mm_world.proofs.Below.{refused_call, broken_as, takes_effect, size_if, is_cut, CalledAs, SettlesPlan, told_closing}
-use Rattle.mm_world.proofs.Below.{stops_in, missing, why_vain, CameInVain, AsksInVain, ChecksInVain, AsksPlanned, ChecksPlanned}
-use Rattle.mm_base.specs.Faults.{counted}
+-- A planned call over a cell that it doesn't go on with makes one reading step, and comes to what that gives.
+use Rattle.mm_world.proofs.Below.{◌≡◌, ℕ, Bool, true, false, ◌&&◌, List, Option, None, Some, Result, Ok, Err, refl, sym, ap, ◌∙◌, subst}
+use Rattle.mm_world.proofs.Below.{eq-eqb, if◌then◌else◌, ◌==◌, Variant, Basic, Opt, Meaning, Batch, StepFault, Standing, ReadCell, Goes}
+use Rattle.mm_world.proofs.Below.{Cell, CellFault, Blank, Unspelled, ReadsCell, same_variant, Refusal, Ended, Refused, ended_with, fault_of}
+use Rattle.mm_world.proofs.Below.{OrMemory, Said, CheckpointRefusal, closing_fault_of, segment_in, SeesSegment, Looks, EndsLooking, AskCall}
+use Rattle.mm_world.proofs.Below.{begun, AskFinishes, why_vain, [], ◌∷◌, ◌++◌, map, append-nil, is_some, MatchResult, option_to_list}
+use Rattle.mm_world.proofs.Below.{Memory, One, size_of, Meddle, Stop, fault_at, is_made_at, will_answer, will_bring, Instance}
+use Rattle.mm_world.proofs.Below.{Foreign, is_long, Digests, made, register_reads, by_digests, all_made, Walked, after_step, commits}
+use Rattle.mm_world.proofs.Below.{end_of, Reads, called_by, kept_at, is_broken, StaysOn, FinishedAsk, Reply, Outcome, way_of, cause_of}
+use Rattle.mm_world.proofs.Below.{outcome_by, uncalled, reads_only, plan_of, broken_reply, stopped_reply, IsQuiet, quiet_as, refused_call}
+use Rattle.mm_world.proofs.Below.{broken_as, takes_effect, size_if, is_cut, CalledAs, SettlesPlan, told_closing, stops_in, missing}
+use Rattle.mm_world.proofs.Below.{CameInVain, AsksInVain, ChecksInVain, AsksPlanned, ChecksPlanned, beside, reads_of, reads_beside}
+use Rattle.mm_world.proofs.Below.{foreign_made}
+use Rattle.mm_seal.specs.CellLaws.{reads_cell-same}
+use Rattle.mm_call.specs.Calls.{EndsTo}
+use Rattle.mm_opt.specs.Checkpoints.{closing_fault_in}
+use Rattle.mm_call.specs.Refusals.{fault_in}
+use Rattle.mm_opt.specs.Seen.{cell_in, own_cell, is_opt, SeesCell}
+use Rattle.mm_opt.specs.declared.segment.Segment.{Segment}
 use Rattle.mm_platform.specs.StandingWords.{due}
-use Rattle.mm_model.specs.declared.refusal.Refusal.TheVariants as refusal
 use Rattle.mm_opt.specs.Closed.{ClosedInOpt}
+use Rattle.mm_world.proofs.Asking.{stopped_at}
+use Rattle.mm_world.proofs.Asking.{settled_reads, stop_power, on_settled, power_if}
+use Rattle.mm_world.proofs.Calling.{asks_planned}
+use Rattle.mm_world.proofs.Calling.{checks_planned}
+use Rattle.mm_model.specs.declared.refusal.Refusal.TheVariants as refusal
+use Rattle.mm_basic.specs.Seen as seen
+use Rattle.mm_basic.specs.Asks as basic_asks
+use Rattle.mm_basic.specs.Answers as basic_answers
+use Rattle.mm_basic.specs.declared.found.Found as basic_found
+use Rattle.mm_opt.specs.declared.stage.Stage.TheVariants as stage
+use Rattle.mm_opt.specs.Finishes as opt_finishes
+use Rattle.mm_opt.specs.Asks as opt_asks
+use Rattle.mm_opt.specs.declared.found.Found as opt_found
+use Rattle.mm_opt.specs.declared.segment.CheckpointRefusal.TheVariants as closing
 use Rattle.mm_schedule.specs.declared.reply.Cause.TheVariants as cause
 use Rattle.mm_schedule.specs.declared.reply.Reply.TheVariants as reply
 use Rattle.mm_world.specs.declared.call.Called as code
-use Rattle.mm_world.proofs.Committing.{stopped_at}
-use Rattle.mm_world.proofs.StoppingReading.{ask_stops, unless_own, closing_ended, stops_looking}
-use Rattle.mm_world.proofs.Below.{beside, reads_of, reads_beside, foreign_made}
-use Rattle.mm_world.proofs.Asking.{settled_reads, stop_power, on_settled}
-use Rattle.mm_world.proofs.Calling.{asks_planned}
-use Rattle.mm_world.proofs.Checking.{checks_planned}
+
+-- The one reading step of a call, which ended as it does by the step's fault, if it had one.
+pub record StopsAs {A : Type 0} (ends_by : Option StepFault → A) (old new : Standing) (ended : A) : Type 0 where
+  pub fault : Option StepFault
+  pub goes : Goes ReadCell old new fault
+  pub ends : ended ≡ ends_by fault
+
+-- A reading step that fails or finds this error, and what ends by that error, which touches nothing.
+stops_at : {A E D : Type 0} (fault_in : Result A E → Option StepFault) (ends_by : Option StepFault → D) (ends : Result A E → Type 0)
+    (why : E) (old middle new : Standing) (ended : D) (found : Result A E) → ((it : A) → fault_in (Ok it) ≡ None)
+    → Goes ReadCell old middle (fault_in found) → (fault_in found ≡ None → found ≡ Err why) → ends found
+    → ((w : E) → ends (Err w) → (fault_in (Err w) ≡ None → w ≡ why) → (new ≡ middle) × (ended ≡ ends_by (fault_in (Err w))))
+    → StopsAs ends_by old new ended
+stops_at fault_in ends_by ends why old middle new ended (Ok it) fine goes finds e on =
+    let clash : Ok it ≡ Err why = finds (fine it) in absurd (cc)
+stops_at fault_in ends_by ends why old middle new ended (Err w) fine goes finds e on =
+    let t = on w e (λ none. let same : Err w ≡ Err why = finds none in cc) in record {
+      fault = fault_in (Err w);
+      goes = subst (λ (s : Standing). Goes ReadCell old s (fault_in (Err w))) (sym t.0) goes;
+      ends = t.1;
+    }
+
+-- a call that was refused for this, or broken off there
+abbrev StopsReading : Standing → Standing → Refusal → Ended → Type 0
+StopsReading old new why ended = StopsAs (λ fault. ended_with fault why) old new ended
+
+-- what is found in the cell
+
+-- by whether the cell is the call's own
+unless_own : (own : Bool) (why : Refusal) → (let x : Option Refusal = (if own then None else Some refusal.Cell) in x ≡ Some why)
+    → (own ≡ false) × (refusal.Cell ≡ why)
+unless_own true why e = cc
+unless_own false why e = (refl, cc)
+
+-- a refusal at the step, or its fault
+with_why : (fault : Option StepFault) (w why : Refusal) → (fault ≡ None → w ≡ why) → ended_with fault w ≡ ended_with fault why
+with_why None w why known = ap Refused (known refl)
+with_why (Some fault) w why known = refl
+
+opt_own : (variant : Variant) (own : Bool) (cell : Cell) (why : Refusal)
+    → (let x : Option Refusal = (if same_variant variant Opt && own then None else Some refusal.Cell) in x ≡ Some why)
+    → own_cell (is_opt variant && own) cell ≡ Err why
+opt_own Opt true cell why e = cc
+opt_own _ _ cell why e = cc
+
+found_opt : (id : ℕ) (read : Result Cell CellFault) (why : Refusal) → why_vain Opt id read ≡ Some why → cell_in id read ≡ Err why
+found_opt id (Ok cell) why e = opt_own cell.variant (cell.module == id) cell why e
+found_opt id (Err Blank) why e = cc
+found_opt id _ why e = cc
+
+module _ (meaning : Meaning) (bytes offer : List ℕ) (b : Batch) (read : Result Cell CellFault) (why : Refusal)
+    (reads : ReadsCell bytes read) where
+  -- what the bytes read as
+  same_read : (other : Result Cell CellFault) → ReadsCell bytes other → read ≡ other
+  same_read other others = reads_cell-same bytes read other reads others
+
+  module _ (vain : why_vain Basic meaning.id read ≡ Some why) where
+    vain_at : (other : Result Cell CellFault) → ReadsCell bytes other → why_vain Basic meaning.id other ≡ Some why
+    vain_at other others = ap (why_vain Basic meaning.id) (sym (same_read other others)) ∙ vain
+
+    never_own : (cell : Cell) → ReadsCell bytes (Ok cell) → seen.IsCellOf meaning.id cell → ⊥
+    never_own cell others own =
+        let is : (same_variant cell.variant Basic && (cell.module == meaning.id)) ≡ true =
+        rw (own.0, own.1) (eq-eqb meaning.id meaning.id refl) in
+        let clash : true ≡ false = sym is ∙ (unless_own _ why (vain_at (Ok cell) others)).0 in absurd (cc)
+
+    found_basic : (found : Result basic_found.Found Refusal) (it : seen.Seen) → seen.IsSeen meaning.id bytes offer it
+        → OrMemory (basic_answers.found_in meaning it b) found → found ≡ Err why
+    found_basic found (seen.NoCell Blank) is or = let e : Some refusal.Blank ≡ Some why = vain_at (Err Blank) is in or ∙ cc
+    found_basic found (seen.NoCell Unspelled) is or = let e : Some refusal.Cell ≡ Some why = vain_at (Err Unspelled) is in or ∙ cc
+    found_basic found seen.OtherCell is or = or ∙ ap (λ w. Err w) (unless_own _ why (vain_at (Ok is.0) is.1)).1
+    found_basic found (seen.NoOffer fault) is or = absurd (never_own is.0 is.1 is.2)
+    found_basic found (seen.Both cell offered) is or = absurd (never_own cell is.0 is.1)
+
+  module _ (old new : Standing) (ended : Ended) (cell : old.cell ≡ Some bytes) where
+    basic_stops : why_vain Basic meaning.id read ≡ Some why → basic_asks.Finishes meaning None old new offer b ended
+        → StopsReading old new why ended
+    basic_stops vain asks =
+        stops_at fault_in (λ fault. ended_with fault why) (λ found. EndsTo basic_asks.basic_call found asks.middle new ended) why old
+        asks.middle new ended asks.found (λ it. refl) asks.reads.goes
+        (λ none. let f = asks.reads.finds none in found_basic vain asks.found f.finds.seen
+        (subst (λ (x : List ℕ). seen.IsSeen meaning.id x offer f.finds.seen) (f.told bytes cell) f.finds.is_seen) f.finds.found_is)
+        asks.ends (λ w e known. (e.0, e.1 ∙ with_why (fault_of w) w why known))
+
+    opt_stops : why_vain Opt meaning.id read ≡ Some why → opt_finishes.Finishes meaning stage.Begun old new offer b ended
+        → StopsReading old new why ended
+    opt_stops vain asks =
+        let first = asks.reads in
+        let last = EndsTo opt_asks.opt_call in
+        stops_at fault_in (λ fault. ended_with fault why)
+        (λ found. opt_asks.ReadsOn meaning found first.middle asks.middle offer b asks.found) why old
+        first.middle new ended first.cell (λ it. refl) first.reads.goes
+        (λ none. let f = first.reads.finds none in
+        let sees = subst (λ (x : List ℕ). SeesCell meaning.id x first.cell) (f.told bytes cell) f.sees in
+        sees.found_is ∙ ap (cell_in meaning.id) (sym (same_read sees.read sees.reads)) ∙ found_opt meaning.id read why vain)
+        first.on (λ w on known. let e : (new ≡ asks.middle) × (ended ≡ ended_with (fault_of w) w) =
+        subst (λ (x : Result opt_found.Found Refusal). last x asks.middle new ended) on.1 asks.ends in
+        (e.0 ∙ on.0, e.1 ∙ with_why (fault_of w) w why known))
+
+    ask_stops : (variant : Variant) (call : AskCall) → call ≡ begun variant → AskFinishes meaning call old new offer b ended
+        → why_vain variant meaning.id read ≡ Some why → StopsReading old new why ended
+    ask_stops Basic call is asks vain = basic_stops vain (subst (λ (c : AskCall). AskFinishes meaning c old new offer b ended) is asks)
+    ask_stops Opt call is asks vain = opt_stops vain (subst (λ (c : AskCall). AskFinishes meaning c old new offer b ended) is asks)
+
+-- a checkpoint
+
+-- what a checkpoint ended with that found no cell, or was broken off at its first step
+abbrev missing_segment : CellFault → CheckpointRefusal
+missing_segment Blank = closing.Blank
+missing_segment Unspelled = closing.Cell
+
+abbrev closing_ended : Option StepFault → CellFault → Result Said CheckpointRefusal
+closing_ended None fault = Err (missing_segment fault)
+closing_ended (Some failed) fault = Err (closing.Device failed)
+
+device_of : (w : CheckpointRefusal) (fault : StepFault) → closing_fault_of w ≡ Some fault → w ≡ closing.Device fault
+device_of (closing.Device f) fault e = let s : f ≡ fault = cc in ap closing.Device s
+device_of _ fault e = cc
+
+missing_in : (missed : CellFault) → segment_in (Err missed) ≡ Err (missing_segment missed)
+missing_in Blank = refl
+missing_in Unspelled = refl
+
+with_missing : (w : CheckpointRefusal) (fault : Option StepFault) (missed : CellFault) → closing_fault_of w ≡ fault
+    → (fault ≡ None → w ≡ missing_segment missed) → Err w ≡ closing_ended fault missed
+with_missing w None missed e known = ap (λ x. Err x) (known refl)
+with_missing w (Some fault) missed e known = ap (λ x. Err x) (device_of w fault e)
+
+stops_looking : (old middle new : Standing) (bytes : List ℕ) (missed : CellFault) (found : Result Segment CheckpointRefusal)
+    (result : Result Said CheckpointRefusal) → old.cell ≡ Some bytes → ReadsCell bytes (Err missed) → Looks old middle found
+    → EndsLooking found middle new result → StopsAs (λ fault. closing_ended fault missed) old new result
+stops_looking old middle new bytes missed found result cell reads looks ends =
+    stops_at closing_fault_in (λ fault. closing_ended fault missed) (λ found. EndsLooking found middle new result)
+    (missing_segment missed) old middle new result found (λ it. refl) looks.goes
+    (λ none. let f = looks.finds none in
+    let sees = subst (λ (x : List ℕ). SeesSegment x found) (f.told bytes cell) f.sees in
+    sees.found_is ∙ ap segment_in (reads_cell-same bytes sees.read (Err missed) sees.reads reads) ∙ missing_in missed)
+    ends (λ w e known. (e.0, e.1 ∙ with_missing w (closing_fault_of w) missed refl known))
 
 -- the outcome of the one step
 
@@ -53,34 +204,25 @@ record TellsVain (stop : Stop) (why : Refusal) (fault : Option StepFault) (it : 
   pub committed : it.committed ≡ 0
 
 module _ (i : Instance) where
-  came_by : (d : Digests) (stop : Stop) (issued values : List (List ℕ)) (why : Refusal) (fault : Option StepFault) (made : Bool)
-      (old planned_at mid new : Standing) (it : code.Called) → Goes ReadCell planned_at mid fault → planned_at.cell ≡ old.cell
-      → planned_at.steps ≡ old.steps → planned_at.writes ≡ old.writes → SettlesPlan stop (is_some fault) mid new
-      → StaysOn stop (is_some fault) mid → register_reads mid ≡ Some (all_made (by_digests i) d (map Foreign values)).register
-      → TellsVain stop why fault it → CameInVain (read_by i d issued stop why values fault made) issued old new it
-  came_by d stop issued values why None made old planned_at mid new it goes cell steps writes settles stays register t = record {
-    reply = t.reply;
-    issues = ap (λ x. issued ++ option_to_list x) t.snapshot;
-    committed = t.committed;
-    cell = settles.cell ∙ goes.cell ∙ cell;
-    register = settled_reads i (all_made (by_digests i) d (map Foreign values)) mid new false register settles.items
-        ∙ ap (λ (ms : List Move). Some (all_made (by_digests i) d ms).register) (sym (append-nil (map Foreign values)));
-    quiet = record { is_on = on_settled stop false mid new stays settles.is_on; plan = settles.plan };
-    steps = settles.steps ∙ goes.steps ∙ ap counted steps;
-    writes = settles.writes ∙ goes.writes ∙ writes;
+  -- what the one step comes to, by whether it failed
+  abbrev read_to : Digests → List (List ℕ) → Stop → Refusal → List (List ℕ) → Option StepFault → Outcome Digests
+  read_to d issued stop why values fault = record {
+    state = all_made (by_digests i) (all_made (by_digests i) d (map Foreign values)) (power_if (is_some fault && is_cut stop));
+    issued = issued ++ [];
+    reply = told_vain stop why fault;
+    steps = 1;
+    writes = 0;
   }
-  came_by d stop issued values why (Some fault) made old planned_at mid new it goes cell steps writes settles stays register t =
-      let seen : Digests = all_made (by_digests i) d (map Foreign values) in record {
-        reply = t.reply ∙ ap (λ (c : Bool). broken_reply (way_of stop) (kept_at c 0)) (sym (foreign_commits values));
-        issues = ap (λ x. issued ++ option_to_list x) t.snapshot;
-        committed = t.committed;
-        cell = settles.cell ∙ goes.cell ∙ cell;
-        register = settled_reads i seen mid new (is_cut stop) register settles.items
-            ∙ ap (λ (ms : List Move). Some (all_made (by_digests i) seen ms).register) (sym (stop_power stop));
-        quiet = record { is_on = on_settled stop true mid new stays settles.is_on; plan = settles.plan };
-        steps = settles.steps ∙ goes.steps ∙ ap counted steps;
-        writes = settles.writes ∙ goes.writes ∙ writes;
-      }
+
+  read_is : (d : Digests) (issued : List (List ℕ)) (stop : Stop) (why : Refusal) (values : List (List ℕ)) (fault : Option StepFault)
+      (made : Bool) → read_by i d issued stop why values fault made ≡ read_to d issued stop why values fault
+  read_is d issued stop why values None made = λ j. record (read_to d issued stop why values None) {
+    state = all_made (by_digests i) d (append-nil (map Foreign values) j);
+  }
+  read_is d issued stop why values (Some fault) made = λ j. record (read_to d issued stop why values (Some fault)) {
+    state = all_made (by_digests i) (all_made (by_digests i) d (map Foreign values)) (stop_power stop j);
+    reply = broken_reply (way_of stop) (kept_at (foreign_commits values j) 0);
+  }
 
   -- the step over a planned platform
   stopped_came : (d : Digests) (stop : Stop) (meddles : List Meddle) (issued : List (List ℕ)) (why : Refusal) (old mid new : Standing)
@@ -95,8 +237,18 @@ module _ (i : Instance) where
       let read : register_reads mid ≡ Some (all_made (by_digests i) d (map Foreign (due 1 meddles))).register =
       ap reads_of (goes.items ∙ ap (λ vs. beside vs old.items) brings) ∙ reads_beside old.items (due 1 meddles) d.register register
       ∙ ap (λ (e : Digests). Some e.register) (sym (foreign_made i d (due 1 meddles))) in
+      let comes = sym (read_is d issued stop why (due 1 meddles) fault (is_made_at stop 1)) in
       subst (λ f. CameInVain (read_by i d issued stop why (due 1 meddles) f (is_made_at stop 1)) issued old new it) is
-      (came_by d stop issued (due 1 meddles) why fault (is_made_at stop 1) old _ mid new it goes refl refl refl settles stays read tells)
+      (subst (λ o. CameInVain o issued old new it) comes (record {
+        reply = tells.reply;
+        issues = ap (λ x. issued ++ option_to_list x) tells.snapshot;
+        committed = tells.committed;
+        cell = settles.cell ∙ goes.cell;
+        register = settled_reads i _ mid new (is_some fault && is_cut stop) read settles.items;
+        quiet = record { is_on = on_settled stop (is_some fault) mid new stays settles.is_on; plan = settles.plan };
+        steps = settles.steps ∙ goes.steps;
+        writes = settles.writes ∙ goes.writes;
+      }))
 
 -- what is told of a call that ended so
 
@@ -185,8 +337,8 @@ module _ (variant : Variant) (meaning : Meaning) (old planned_at mid new : Stand
   asks_in_vain : FinishedAsk meaning call (record old { plan = Some (plan_of stop meddles) }) mid offer b ended
       → SettlesPlan stop (is_broken ended) mid new → AsksInVain variant meaning old new issued meddles stop (Some offer) b result
   asks_in_vain finished settles = λ i d read why at vain.
-      let r = ask_stops variant meaning call (record old { plan = Some (plan_of stop meddles) }) mid offer b ended is finished.finishes
-      at.bytes read why at.cell at.reads vain in
+      let r = ask_stops meaning at.bytes offer b read why at.reads (record old { plan = Some (plan_of stop meddles) }) mid ended at.cell
+      variant call is finished.finishes vain in
       let calls = finished.ends variant is in let p = calls.plans (plan_of stop meddles) at.quiet.is_on refl refl in
       let breaks : is_broken ended ≡ is_some r.fault = ap is_broken r.ends ∙ broken_with r.fault why in
       let it : code.Called = vain_call stop size r.fault why in

@@ -1,13 +1,12 @@
--- A world goes on as its platform does.
+-- A world goes on as its platform does; each of its replies can be printed, and an event issues at most one snapshot.
 use Rattle.mm_world.proofs.Below.{◌≡◌, ℕ, ◌+◌, ◌-◌, ◌<◌, ◌≤◌, ◌^◌, Bool, true, false, List, [], ◌∷◌, ◌++◌, length, take, drop, Option, None}
-use Rattle.mm_world.proofs.Below.{Some, Result, Ok, Err, IfOk, OnErr, inl, inr, refl, sym, ap, ◌∙◌, subst, arith, length-append}
-use Rattle.mm_world.proofs.Below.{◌⊎◌, ◌==◌, option_to_list, min, slice_index, Memory, Variant, Basic, Opt, zero_bytes, Batch}
-use Rattle.mm_world.proofs.Below.{Meaning, Cell, flag_byte, Meddle, Stop, Standing, beside}
-use Rattle.mm_world.proofs.Below.{Instance, Foreign, first_history, Digests, made, cell_of}
+use Rattle.mm_world.proofs.Below.{Some, Result, Ok, Err, IfOk, OnErr, inl, inr, refl, sym, ap, ◌∙◌, subst, arith, length-append, ◌⊎◌, ◌==◌}
+use Rattle.mm_world.proofs.Below.{option_to_list, min, slice_index, Memory, Variant, Basic, Opt, zero_bytes, Batch, Meaning, Cell}
+use Rattle.mm_world.proofs.Below.{flag_byte, Meddle, Stop, Standing, beside, Instance, Foreign, first_history, Digests, made, cell_of}
 use Rattle.mm_world.proofs.Below.{issued_bytes, register_reads, by_digests, seen_in, seen_at, reading_steps, instance_by, cell_at}
-use Rattle.mm_world.proofs.Below.{anchor-nil, summary-nil, seen_none, meaning_of, Reply, Ask, Checkpoint, Outcome, course_of}
-use Rattle.mm_world.proofs.Below.{first_issued, first_digests, Held, world_of, first_held, outcome_in, Follows, having_read, Wants, Stands}
-use Rattle.mm_world.proofs.Below.{IsQuiet, Came, Lacks, AsksAs, ChecksAs, quiet_as}
+use Rattle.mm_world.proofs.Below.{anchor-nil, summary-nil, seen_none, meaning_of, Reply, Ask, Checkpoint, Outcome, course_of, first_issued}
+use Rattle.mm_world.proofs.Below.{first_digests, Held, world_of, first_held, outcome_in, Follows, having_read, Wants, Stands, IsQuiet, Came}
+use Rattle.mm_world.proofs.Below.{Lacks, AsksAs, ChecksAs, quiet_as, reads_beside, Event, printed, grown}
 use Rattle.mm_digest.specs.LengthLaws.{length-zero_bytes, length-start_of}
 use Rattle.mm_seal.specs.Cell.{cell_spelling}
 use Rattle.mm_seal.specs.FieldLaws.{take_front}
@@ -19,9 +18,9 @@ use Rattle.mm_run.specs.HeldWords.{world_key, world_barrier}
 use Rattle.mm_run.specs.Offered.{offered_bytes}
 use Rattle.mm_world.specs.declared.call.Called.{Called}
 use Rattle.mm_world.specs.Held.{digest_in, flag_in, value_in, digests_in, held_in, KeepsWorld}
-use Rattle.mm_world.proofs.Below.{reads_beside}
-use Rattle.mm_world.proofs.Committing.{count_none}
-use Rattle.mm_world.proofs.Asking.{register_at}
+use Rattle.mm_world.proofs.Asking.{count_none, stands_read}
+use Rattle.mm_schedule.specs.Events.{Power}
+use Rattle.mm_schedule.specs.Replies.{IsPrintable}
 
 -- what a cell and a register show
 
@@ -173,19 +172,10 @@ module _ (h : Header) (old new : Standing) (issued : List (List ℕ)) (committed
 abbrev pub extended_by : Standing → List ℕ → Standing
 extended_by old value = record old { items = beside (value ∷ []) old.items }
 
-module _ (i : Instance) (d : Digests) (value : List ℕ) where
-  pub stands_extended : (old : Standing) → Stands i old d → Stands i (extended_by old value) (made i d (Foreign value))
-  stands_extended old s =
-      let r : register_reads (extended_by old value) ≡ Some (made i d (Foreign value)).register =
-      reads_beside old.items (value ∷ []) d.register s.register in
-      record {
-        at = record {
-          spells = s.at.spells;
-          cell = s.at.cell;
-          reads = register_at i.variant (register_reads (extended_by old value)) (made i d (Foreign value)).register r;
-        };
-        register = r;
-      }
+pub stands_extended : (i : Instance) (d : Digests) (value : List ℕ) (old : Standing) → Stands i old d
+    → Stands i (extended_by old value) (made i d (Foreign value))
+stands_extended i d value old s =
+    stands_read i d old (extended_by old value) _ s refl (reads_beside old.items (value ∷ []) d.register s.register)
 
 -- a new world
 
@@ -243,3 +233,18 @@ module _ (h : Header) (cell snapshot : List ℕ) (standing : Standing) (issued :
       stands_first in
       let snapshots : issued ≡ first_issued (world_of h) = i ∙ ap (λ (x : List ℕ). x ∷ []) s in
       λ j. record { header = h; digests = there j; issued = snapshots j; steps = (f j).steps; writes = (f j).writes }
+
+pub printed_event : (old new : Held) (event : Event) (result : Result Reply Memory) → IfOk result (Follows (outcome_in old event) old new)
+    → IfOk result IsPrintable
+printed_event old new event (Err memory) f = tt
+printed_event old new event (Ok said) f = subst (λ (r : Reply). IsPrintable r) (sym f.reply) (printed old event)
+
+same_issued : (event : Event) (old new : Held) → Wants event old new → new.issued ≡ old.issued
+same_issued (Ask meddles stop offer b) old new w = elim w [ inl e ↦ ap (λ (h : Held). h.issued) e | inr e ↦ ap (λ (h : Held). h.issued) e ]
+same_issued Power old new e = absurd e
+same_issued _ old new e = ap (λ (h : Held). h.issued) e
+
+pub grown_event : (old new : Held) (event : Event) (result : Result Reply Memory) → IfOk result (Follows (outcome_in old event) old new)
+    → OnErr result (Wants event old new) → length new.issued ≤ length old.issued + 1
+grown_event old new event (Err memory) f w = omega (arith, ap (λ (x : List (List ℕ)). length x) (same_issued event old new w))
+grown_event old new event (Ok said) f w = omega (arith, ap (λ (x : List (List ℕ)). length x) f.issued, grown old event)

@@ -1,4 +1,4 @@
-use Rattle.mm_gen.proofs.Readable as law
+use Rattle.mm_gen.proofs.Spelled as law
 use Rattle.mm_gen.proofs.laws.schedules_are_read.Goals as goal
 
 pub returns : goal.returns

@@ -7,12 +7,12 @@ use Rattle.mm_replay.proofs.schedules.replay.Goals as goal
 
 pub returns-clause-replays : goal.returns-clause-replays
 returns-clause-replays g c =
-    whole_err Reports (means header_at (record { basic = c.fronts_are_one_run.ensures.basic; opt = c.fronts_are_one_run.ensures.opt }))
+    whole_err Reports (means header_at c.fronts_are_one_run.ensures.one)
     c.new-player.ensures c.play.ensures.plays c.in-Err.fault c.in-Err.is
 
 pub returns-in-Ok-clause-replays : goal.returns-in-Ok-clause-replays
 returns-in-Ok-clause-replays g c =
-    whole_ok Reports (means header_at (record { basic = c.fronts_are_one_run.ensures.basic; opt = c.fronts_are_one_run.ensures.opt }))
+    whole_ok Reports (means header_at c.fronts_are_one_run.ensures.one)
     c.new-player.ensures c.play.ensures.plays tt c.in-Ok.is c.report.result c.report.ensures
 
 pub returns-clause-complete : goal.returns-clause-complete

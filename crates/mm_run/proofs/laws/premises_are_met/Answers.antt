@@ -1,5 +1,4 @@
-use Rattle.mm_run.proofs.MetPremises.{basic_met}
-use Rattle.mm_run.proofs.MetSegments.{opt_met, segments_met}
+use Rattle.mm_run.proofs.MetPremises.{basic_met, opt_met, segments_met}
 use Rattle.mm_run.proofs.laws.premises_are_met.Goals as goal
 
 pub returns : goal.returns

@@ -1,5 +1,5 @@
 use Rattle.mm_call.specs.Levels.{by_lists, by_digests}
-use Rattle.mm_run.proofs.GoingOn.{goes_on, messages-append}
+use Rattle.mm_run.proofs.FrontRuns.{goes_on, messages-append}
 use Rattle.mm_run.proofs.laws.schedules_go_on.Goals as goal
 
 pub returns : goal.returns

@@ -1,5 +1,5 @@
 use Rattle.mm_world.proofs.Below.{event_of, world_few}
-use Rattle.mm_world.proofs.Printing.{printed_event, grown_event}
+use Rattle.mm_world.proofs.Worlds.{printed_event, grown_event}
 use Rattle.mm_world.proofs.world.World.event.Goals as goal
 
 pub returns-clause-printable : goal.returns-clause-printable

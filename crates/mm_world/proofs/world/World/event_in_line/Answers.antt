@@ -1,6 +1,6 @@
 use Rattle.mm_world.proofs.Below.{meddles_of, world_few}
 use Rattle.mm_schedule.specs.Texts.{event_in}
-use Rattle.mm_world.proofs.Printing.{printed_event, grown_event}
+use Rattle.mm_world.proofs.Worlds.{printed_event, grown_event}
 use Rattle.mm_world.proofs.world.World.event_in_line.Goals as goal
 
 pub returns-clause-printable : goal.returns-clause-printable

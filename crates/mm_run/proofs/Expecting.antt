@@ -1,21 +1,65 @@
--- Opt: what is told by digests is what is expected.
-use Rattle.mm_run.proofs.Below.{ℕ, ◌≡◌, ◌+◌, Bool, true, false, cond, List, [], ◌∷◌, ◌++◌, map, refl, sym, ap, ◌∙◌, subst, ◌==◌}
-use Rattle.mm_run.proofs.Below.{if◌then◌else◌, filter, AllByRecursion, Contains, append-nil, Opt, Meaning, Batch, Meddle}
-use Rattle.mm_run.proofs.Below.{Instance, opt, Value, History, Move, Foreign, Reset, PowerMove, moved, Within, IsClear}
-use Rattle.mm_run.proofs.Below.{AreNoGuards, history_messages, Digests, made, Step, Reads, Changes, Writes, ask_steps}
-use Rattle.mm_run.proofs.Below.{checkpoint_steps, reads_zero, each_left, each_right, each_append, sound_moved, outside_moved}
-use Rattle.mm_run.proofs.Below.{first_sound, first_outside, by_lists, all_made, found_at, is_fresh}
-use Rattle.mm_run.proofs.Below.{found_unless_wanting, End, Done, Fails, Fate, Course, Walked, step_moves, after_step, walk, seen_at}
-use Rattle.mm_run.proofs.Below.{counted_moves, from_reset, moves_messages, foreign_in}
-use Rattle.mm_run.proofs.Below.{IsWithin, anchor-nil, opt_agrees_moved, foreign_may, power_may, power_brings}
-use Rattle.mm_run.proofs.Below.{holds_moved, foreign_fine, asks, taking, taking_is, messages-made, foreign_in-append, foreign_in-foreign}
-use Rattle.mm_run.proofs.Below.{foreign_in-first, from_reset-foreign, AreOwn, own_asked, own_checked, Shape, still, reset, shape, bare}
-use Rattle.mm_run.proofs.Below.{listed_bare, holds_open, within_of, within_items, reset_messages, opt_calls_agree_by_lists, read_moves}
-use Rattle.mm_run.proofs.Below.{opt_checkpoints_agree_by_lists, course_of}
-use Rattle.mm_run.proofs.Below.{OptIsExpected, Keeps, EventsAgree, first_history, first_digests, start_message}
+-- In either variant, what is told by digests is what is expected.
+use Rattle.mm_run.proofs.Below.{ℕ, List, refl, sym, Contains, Meaning, Batch, Instance, basic, History, Foreign, PowerMove, Move, moved}
+use Rattle.mm_run.proofs.Below.{IsClear, reads_zero, IsPlain, IsWithin, agrees-moved, plain-moved, summary-nil, plain_outside, basic_same}
+use Rattle.mm_run.proofs.Below.{basic_checkpoint_same, course_of, EventsAgree, Within, history_messages, counted_part}
+use Rattle.mm_run.proofs.Below.{AllByRecursion, Keeps, first_digests, first_history, start_message, Basic, ◌≡◌, ◌+◌, Bool, true, false}
+use Rattle.mm_run.proofs.Below.{cond, [], ◌∷◌, ◌++◌, map, ap, ◌∙◌, subst, ◌==◌, if◌then◌else◌, filter, append-nil, Opt, Meddle, opt, Value}
+use Rattle.mm_run.proofs.Below.{Reset, AreNoGuards, Digests, made, Step, Reads, Changes, Writes, ask_steps, checkpoint_steps, each_left}
+use Rattle.mm_run.proofs.Below.{each_right, each_append, sound_moved, outside_moved, first_sound, first_outside, by_lists, all_made}
+use Rattle.mm_run.proofs.Below.{found_at, is_fresh, found_unless_wanting, End, Done, Fails, Fate, Course, Walked, step_moves, after_step}
+use Rattle.mm_run.proofs.Below.{walk, seen_at, counted_moves, from_reset, moves_messages, foreign_in, anchor-nil, opt_agrees_moved}
+use Rattle.mm_run.proofs.Below.{foreign_may, power_may, power_brings, holds_moved, foreign_fine, asks, taking, taking_is, messages-made}
+use Rattle.mm_run.proofs.Below.{foreign_in-append, foreign_in-foreign, foreign_in-first, from_reset-foreign, AreOwn, own_asked, own_checked}
+use Rattle.mm_run.proofs.Below.{Shape, still, reset, shape, bare, listed_bare, holds_open, within_of, within_items, reset_messages}
+use Rattle.mm_run.proofs.Below.{opt_calls_agree_by_lists, read_moves, opt_checkpoints_agree_by_lists}
+use Rattle.mm_call.specs.MoveLaws.{IsBasicMove}
+use Rattle.mm_run.proofs.Below.{Variant, instance_by, AreApartIn, IsExpected, zero_bytes, run_messages, foreign_values, asked_batches}
+use Rattle.mm_run.proofs.Following.{Variants, event_same, expected_from}
 use Rattle.mm_platform.specs.StandingWords.{due}
 use Rattle.mm_model.specs.MessagesWords.{move_messages}
-use Rattle.mm_run.proofs.Following.{Variants, event_same, expected_from}
+
+-- Basic
+
+module _ (meaning : Meaning) (key : List ℕ) (all others : List (List ℕ)) (asked_for : List Batch) where
+  abbrev it : Instance
+  it = basic meaning key
+
+  -- what stands in the place of the register's items doesn't matter
+  plain_within : (y : History) (m : Move) → IsBasicMove m → IsWithin all others asked_for it y → (let z : History = moved it y m in
+      Within (history_messages it (counted_part z)) all → AllByRecursion (Contains asked_for) z.batches
+      → IsWithin all others asked_for it z)
+  plain_within y m is w listed batches =
+      let z : History = moved it y m in let plain : IsPlain z = plain-moved meaning key y m is w.sound in record {
+        sound = plain;
+        outside = plain_outside others z.closed z.is_open z.items plain.closed plain.shut;
+        listed = listed;
+        batches = batches;
+      }
+
+  pub basic_begins : Contains all (start_message Basic meaning.id) → Keeps all others asked_for it first_history (first_digests it)
+  basic_begins first = record {
+    agrees = record { digest = summary-nil meaning.id; flag = refl; register = sym reads_zero; count = refl };
+    within = record { sound = record { closed = refl; shut = refl }; outside = tt; listed = (first, tt); batches = tt };
+  }
+
+  pub basic_gives : IsClear all → Variants all others asked_for it
+  basic_gives clear = record {
+    calls = λ y d stop meddles bytes b k a. basic_same meaning key all others asked_for y d (course_of stop meddles) bytes b k.agrees
+        (record { clear = clear; within = k.within; is_asked = a.is_asked; genuine = a.genuine; offered = a.listed });
+    checkpoints = λ y d stop meddles k outside messages.
+        basic_checkpoint_same meaning key all others asked_for y d (course_of stop meddles) k.agrees k.within;
+    power = λ y d k. record {
+      agrees = agrees-moved meaning key y d PowerMove tt k.agrees;
+      within = plain_within y PowerMove tt k.within k.within.listed k.within.batches;
+    };
+    foreign = λ y d v k c messages. record {
+      agrees = agrees-moved meaning key y d (Foreign v) tt k.agrees;
+      within = plain_within y (Foreign v) tt k.within k.within.listed k.within.batches;
+    };
+    starts = basic_begins;
+  }
+
+-- Opt
 
 -- the values that are due before a step are among those of the meddles
 
@@ -189,12 +233,26 @@ module _ (meaning : Meaning) (key barrier : List ℕ) (all others : List (List �
     starts = opt_begins;
   }
 
-pub opt_expected : OptIsExpected
-opt_expected meaning key barrier events clear genuine =
-    expected_from (opt meaning key barrier) events
-    (opt_gives meaning key barrier _ _ _ clear.clear (clear.apart refl)) genuine
+-- what each variant gives, where no value of others is the guard of a batch that is asked
+gives : (variant : Variant) (meaning : Meaning) (key barrier : List ℕ) (all others : List (List ℕ)) (asked_for : List Batch) → IsClear all
+    → (let i = instance_by variant meaning key barrier in AreApartIn i.variant i others asked_for → Variants all others asked_for i)
+gives Basic meaning key barrier all others asked_for clear apart = basic_gives meaning key all others asked_for clear
+gives Opt meaning key barrier all others asked_for clear apart = opt_gives meaning key barrier all others asked_for clear (apart refl)
+
+module _ (variant : Variant) (meaning : Meaning) (key barrier : List ℕ) where
+  pub is_expected : IsExpected (instance_by variant meaning key barrier)
+  is_expected events clear genuine =
+      let i = instance_by variant meaning key barrier in
+      let own = gives variant meaning key barrier (run_messages i events) (foreign_values events) (asked_batches events) in
+      expected_from i events (own clear.clear clear.apart) genuine
+
+  pub events_agree : EventsAgree (instance_by variant meaning key barrier)
+  events_agree all others asked_for clear apart y d issued event k w =
+      event_same all others asked_for (instance_by variant meaning key barrier)
+      (gives variant meaning key barrier all others asked_for clear apart) y d issued event k w
+
+pub basic_events_agree : (meaning : Meaning) (key : List ℕ) → EventsAgree (basic meaning key)
+basic_events_agree meaning key = events_agree Basic meaning key zero_bytes
 
 pub opt_events_agree : (meaning : Meaning) (key barrier : List ℕ) → EventsAgree (opt meaning key barrier)
-opt_events_agree meaning key barrier all others asked_for clear apart y d issued event k w =
-    event_same all others asked_for (opt meaning key barrier) (opt_gives meaning key barrier all others asked_for clear (apart refl)) y d
-    issued event k w
+opt_events_agree meaning key barrier = events_agree Opt meaning key barrier
