@@ -1,7 +1,8 @@
 -- What crates above may cite of these proofs: the other files can be read and changed by this crate alone.
 pub use Rattle.mm_run.proofs.BasicRuns.{basic_begins, basic_events_agree}
-pub use Rattle.mm_run.proofs.Counting.{count-made, few_committed, grown, issues_one, printable, printed, short_size, sizes_of, world_few}
-pub use Rattle.mm_run.proofs.EachWay.{in_any_way}
+pub use Rattle.mm_run.proofs.Counting.{count-made, few_committed, grown, issues_one, printable, printed, printed_closing, short_outputs}
+pub use Rattle.mm_run.proofs.Counting.{short_size, sizes_of, world_few}
+pub use Rattle.mm_run.proofs.EachWay.{closing_all, in_any_way, then_all}
 pub use Rattle.mm_run.proofs.FirstBytes.{clear_within}
 pub use Rattle.mm_run.proofs.GoingOn.{goes_on}
 pub use Rattle.mm_run.proofs.MetPremises.{anchor_nil}
