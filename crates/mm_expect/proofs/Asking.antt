@@ -1,6 +1,6 @@
 -- A call by lists, step by step.
 use Rattle.mm_expect.proofs.Below.{◌≡◌, ℕ, ◌+◌, ◌≤◌, Bool, true, false, List, [], ◌∷◌, ◌++◌, map, Option, None, Some, Result, Ok, Err}
-use Rattle.mm_expect.proofs.Below.{refl, sym, ap, ◌∙◌, subst, arith, if◌then◌else◌, nat_eq, append-nil, Decides-eqb}
+use Rattle.mm_expect.proofs.Below.{refl, sym, ap, ◌∙◌, subst, arith, if◌then◌else◌, nat_eq, append-nil}
 use Rattle.mm_expect.proofs.Below.{last_position, Variant, Basic, Opt, StepFault, Meddle, Stop, Batch, size_of, Instance, History, Move}
 use Rattle.mm_expect.proofs.Below.{Commit, Foreign, total_of, is_last, Step, Reads, ask_steps, Refusal}
 use Rattle.mm_expect.proofs.Below.{is_last_of, total-push, answer_on, by_lists, all_made, Found, found_at, found_unless_wanting, is_fresh}
@@ -15,7 +15,6 @@ use Rattle.mm_call.specs.WalkLaws as walks
 use Rattle.mm_call.specs.WalkLaws.{foreign_made, taking}
 use Rattle.std.proofs.lemmas.Bool.Decides.{nat_tests}
 use Rattle.std.specs.Prelude.{length}
-use Rattle.std.proofs.lemmas.Bool.{false_from_ne_true}
 use Rattle.mm_expect.proofs.Walking.{broken_walked, then_walked, walks_then}
 
 -- what the steps of a new batch commit
@@ -31,54 +30,47 @@ commits-append [] ys e = refl
 commits-append (Commit c ∷ xs) ys e = cc
 commits-append (_ ∷ xs) ys e = commits-append xs ys e
 
--- the batches once a new batch was walked through
-whole_batches : (old new : Recorded) (walked : Walked) (b : Batch) → Commits b true walked → walked.broken ≡ None
-    → Went old new walked.moves → new.history.batches ≡ old.history.batches ++ b ∷ []
-whole_batches old new walked b (nothing none unless) whole went = let no : true ≡ false = unless whole in cc
-whole_batches old new walked b (batch one is) whole went =
-    ap (λ (y : History). y.batches) went.history ∙ more_batches (recorded_instance old) walked.moves old.history b one
+module _ (old new : Recorded) (stop : Stop) (meddles : List Meddle) (b : Batch) where
+  abbrev changes : Walked
+  changes = changes_on old stop meddles b
 
-pub new_last : (old new : Recorded) (stop : Stop) (meddles : List Meddle) (b : Batch) → ChangesBy old new stop meddles b None
-    → is_last new.history.batches b ≡ true
-new_last old new stop meddles b w =
-    let grown = whole_batches old new (changes_on old stop meddles b) b
-    (changing_commits (planned (plan_of stop meddles)) old.variant old.history.is_open b) (sym w.broken) w.went in
-    ap (λ (bs : List Batch). is_last bs b) grown ∙ is_last_of old.history.batches b
+  commits_one : Commits b true changes
+  commits_one = changing_commits (planned (plan_of stop meddles)) old.variant old.history.is_open b
 
-pub new_few : (old new : Recorded) (stop : Stop) (meddles : List Meddle) (b : Batch) → ChangesBy old new stop meddles b None
-    → Admits old.history b false → total_of new.history.batches ≤ last_position
-new_few old new stop meddles b w admits =
-    let grown = whole_batches old new (changes_on old stop meddles b) b
-    (changing_commits (planned (plan_of stop meddles)) old.variant old.history.is_open b) (sym w.broken) w.went in
-    subst (λ n. n ≤ last_position) (sym (ap total_of grown ∙ total-push old.history.batches b)) admits.fits
+  -- the batches once a new batch was walked through
+  whole_batches : Commits b true changes → ChangesBy old new stop meddles b None → new.history.batches ≡ old.history.batches ++ b ∷ []
+  whole_batches (nothing none unless) w = let no : true ≡ false = unless (sym w.broken) in cc
+  whole_batches (batch one is) w =
+      ap (λ (y : History). y.batches) w.went.history ∙ more_batches (recorded_instance old) changes.moves old.history b one
 
--- whether the total rose tells whether the batch was committed
-kept_by : (old new : Recorded) (walked : Walked) (b : Batch) → Commits b true walked → Went old new walked.moves
-    → (if nat_eq (total_of new.history.batches) (total_of old.history.batches) then None else Some (total_of new.history.batches))
-    ≡ kept_at (commits walked.moves) (total_of new.history.batches)
-kept_by old new walked b (nothing none unless) went =
-    let same : total_of new.history.batches ≡ total_of old.history.batches = ap (λ (y : History). total_of y.batches) went.history
-    ∙ ap total_of (same_batches (recorded_instance old) walked.moves old.history none) in
-    rw ((Decides-eqb (total_of new.history.batches) (total_of old.history.batches)).1 same, commits-none walked.moves none) refl
-kept_by old new walked b (batch one is) went =
-    let more : total_of new.history.batches ≡ total_of old.history.batches + size_of b =
-    ap (λ (y : History). total_of y.batches) went.history
-    ∙ ap total_of (more_batches (recorded_instance old) walked.moves old.history b one) ∙ total-push old.history.batches b in
-    let other : nat_eq (total_of new.history.batches) (total_of old.history.batches) ≡ false = false_from_ne_true _ (λ e.
-    let same = (Decides-eqb (total_of new.history.batches) (total_of old.history.batches)).0 e in
-    absurd (omega (arith, more, same, size_of-pos b))) in
-    rw (other, commits_batch walked.moves b one) refl
+  pub new_last : ChangesBy old new stop meddles b None → is_last new.history.batches b ≡ true
+  new_last w = ap (λ (bs : List Batch). is_last bs b) (whole_batches commits_one w) ∙ is_last_of old.history.batches b
 
-pub new_broken : (old new : Recorded) (stop : Stop) (meddles : List Meddle) (b : Batch) (fault : StepFault) (kept : Option ℕ)
-    → ChangesBy old new stop meddles b (Some fault)
-    → kept ≡ (if nat_eq (total_of new.history.batches) (total_of old.history.batches) then None else Some (total_of new.history.batches))
-    → GoesOnNew old new stop meddles b (Broken fault kept)
-new_broken old new stop meddles b fault kept w is = record {
-  went = w.went;
-  ends = ap (Breaks fault) (is ∙ kept_by old new (changes_on old stop meddles b) b
-      (changing_commits (planned (plan_of stop meddles)) old.variant old.history.is_open b) w.went)
-      ∙ ap (new_ending new b (changes_on old stop meddles b).moves) w.broken;
-}
+  pub new_few : ChangesBy old new stop meddles b None → Admits old.history b false → total_of new.history.batches ≤ last_position
+  new_few w admits = omega (arith, admits.fits, ap total_of (whole_batches commits_one w), total-push old.history.batches b)
+
+  abbrev pub KeptBy : Option ℕ → Type 0
+  KeptBy kept =
+      kept ≡ (if nat_eq (total_of new.history.batches) (total_of old.history.batches) then None else Some (total_of new.history.batches))
+
+  -- whether the total rose tells whether the batch was committed
+  kept_by : Commits b true changes → Went old new changes.moves → KeptBy (kept_at (commits changes.moves) (total_of new.history.batches))
+  kept_by (nothing none unless) went =
+      let same : total_of new.history.batches ≡ total_of old.history.batches = ap (λ (y : History). total_of y.batches) went.history
+      ∙ ap total_of (same_batches (recorded_instance old) changes.moves old.history none) in
+      rw (commits-none changes.moves none) (grind (arith, nat_tests, same))
+  kept_by (batch one is) went =
+      let more : total_of new.history.batches ≡ total_of old.history.batches + size_of b =
+      ap (λ (y : History). total_of y.batches) went.history
+      ∙ ap total_of (more_batches (recorded_instance old) changes.moves old.history b one) ∙ total-push old.history.batches b in
+      rw (commits_batch changes.moves b one) (grind (arith, nat_tests, more, size_of-pos b))
+
+  pub new_broken : (fault : StepFault) (kept : Option ℕ) → ChangesBy old new stop meddles b (Some fault) → KeptBy kept
+      → GoesOnNew old new stop meddles b (Broken fault kept)
+  new_broken fault kept w is = record {
+    went = w.went;
+    ends = ap (Breaks fault) (is ∙ sym (kept_by commits_one w.went)) ∙ ap (new_ending new b changes.moves) w.broken;
+  }
 
 -- the reading steps, and those behind them
 
@@ -230,14 +222,6 @@ module _ (a : Recorded) (stop : Stop) (meddles : List Meddle) (bytes : List ℕ)
 pub unbroken : (fault : Option StepFault) → ((f : StepFault) → fault ≡ Some f → ⊥) → fault ≡ None
 unbroken None h = refl
 unbroken (Some f) h = absurd (h f refl)
-
-pub kept_same : (total before now was : ℕ) → now ≡ total → was ≡ before → now ≡ was
-    → None ≡ (if nat_eq total before then None else Some total)
-kept_same total before now was n w e = grind (arith, nat_tests)
-
-pub kept_other : (total before now was : ℕ) → now ≡ total → was ≡ before → (now ≡ was → ⊥)
-    → Some now ≡ (if nat_eq total before then None else Some total)
-kept_other total before now was n w e = grind (arith, nat_tests)
 
 -- what others put into the register commits nothing
 pub foreign_batches : (i : Instance) (fates : ℕ → Fate) (steps : List Step) (n : ℕ) (y : History)

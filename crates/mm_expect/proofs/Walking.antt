@@ -96,15 +96,13 @@ module _ (fates : ℕ → Fate) where
         broken = more.broken ∙ sym t.broken;
       }
 
-added : (xs : List (List ℕ)) (v : List ℕ) (flag : Bool) → map Foreign (xs ++ (if flag then v ∷ [] else [])) ≡ map Foreign xs
-    ++ (if flag then Foreign v ∷ [] else [])
-added xs v true = map-append Foreign xs (v ∷ [])
-added xs v false = map-append Foreign xs []
-
-kept_value : (m : Meddle) (flag : Bool)
-    → map (λ (x : Meddle). x.value.bytes) (cond flag (m ∷ []) []) ≡ (if flag then m.value.bytes ∷ [] else [])
-kept_value m true = refl
-kept_value m false = refl
+-- the values of some meddles, and of one more where the test passes
+value_more : (front : List Meddle) (m : Meddle) (flag : Bool) → (let v : Meddle → List ℕ = λ x. x.value.bytes in
+    map Foreign (map v (front ++ cond flag (m ∷ []) [])) ≡ map Foreign (map v front) ++ (if flag then Foreign (v m) ∷ [] else []))
+value_more front m true = ap (map Foreign) (map-append (λ (x : Meddle). x.value.bytes) front (m ∷ []))
+    ∙ map-append Foreign (map (λ (x : Meddle). x.value.bytes) front) (m.value.bytes ∷ [])
+value_more front m false =
+    ap (λ (ms : List Meddle). map Foreign (map (λ (x : Meddle). x.value.bytes) ms)) (append-nil front) ∙ sym (append-nil _)
 
 -- the values that are due, one more meddle looked at
 due_taken : (step : ℕ) (meddles : List Meddle) (i : ℕ) (d : Meddle) (flag : Bool) → i < length meddles
@@ -113,11 +111,9 @@ due_taken : (step : ℕ) (meddles : List Meddle) (i : ℕ) (d : Meddle) (flag : 
 due_taken step meddles i d flag l e =
     let m : Meddle = get_or meddles i d in
     let p : Meddle → Bool = λ x. x.step == step in
-    let v : Meddle → List ℕ = λ x. x.value.bytes in
     let front : List Meddle = filter p (take i meddles) in
-    ap (λ (ms : List Meddle). map Foreign (map v ms)) (filter_more p meddles i d l ∙ ap (λ (b : Bool). front ++ cond b (m ∷ []) []) e)
-    ∙ ap (map Foreign) (map-append v front (cond flag (m ∷ []) []) ∙ ap (λ (vs : List (List ℕ)). map v front ++ vs) (kept_value m flag))
-    ∙ added (map v front) m.value.bytes flag
+    ap (λ (ms : List Meddle). map Foreign (map (λ (x : Meddle). x.value.bytes) ms))
+    (filter_more p meddles i d l ∙ ap (λ (b : Bool). front ++ cond b (m ∷ []) []) e) ∙ value_more front m flag
 
 pub bring_one : (a b c : Recorded) (step : ℕ) (meddles : List Meddle) (i : ℕ) (d : Meddle) → i < length meddles
     → (get_or meddles i d).step ≡ step → Went a b (map Foreign (due step (take i meddles)))
@@ -143,21 +139,6 @@ pub made_where_whole : (stop : Stop) (step : ℕ) → fault_at stop step ≡ Non
 made_where_whole (Fail at done) step none = made_at at step (at == step) done refl none
 made_where_whole stop step none = refl
 
-module _ (a b c : Recorded) (stop : Stop) (meddles : List Meddle) (n : ℕ) (step : Step) (later : List Step) where
-  abbrev fates : ℕ → Fate
-  fates = planned (plan_of stop meddles)
-
-  pub walks_whole : (fault : Option StepFault) → fault_at stop n ≡ None → Went a b (step_moves step (is_made_at stop n) (due n meddles))
-      → Walks b c (walk fates (n + 1) later) fault → Walks a c (walk fates n (step ∷ later)) fault
-  walks_whole fault whole first more =
-      let W : Option StepFault
-      → Type 0 = λ f. Walks a c (after_step step (due n meddles) (end_of f (is_made_at stop n)) (walk fates (n + 1) later)) fault in
-      subst W (sym whole) (record {
-        went = went_then a b c (step_moves step true (due n meddles)) (walk fates (n + 1) later).moves
-            (subst (λ (m : Bool). Went a b (step_moves step m (due n meddles))) (made_where_whole stop n whole) first) more.went;
-        broken = more.broken;
-      })
-
 pub changes_then : (a b c : Recorded) (action : code.Move) (made : Bool) (values : List (List ℕ)) (step : code_step.Step)
     → step ≡ Changes action → Went a b (map Foreign values) → Went b c (made_move made (move_of action))
     → Went a c (step_moves (step_as step) made values)
@@ -171,6 +152,13 @@ pub walks_on : (a b c : Recorded) (stop : Stop) (meddles : List Meddle) (n : ℕ
     → Walks b c (walk (planned (plan_of stop meddles)) (n + 1) (steps_of later)) fault
     → Walks a c (walk (planned (plan_of stop meddles)) n (steps_of all)) fault
 walks_on a b c stop meddles n step later all is whole made m first fault more =
-    subst (λ (s : List code_step.Step). Walks a c (walk (planned (plan_of stop meddles)) n (steps_of s)) fault) (sym is)
-    (walks_whole a b c stop meddles n (step_as step) (steps_of later) fault whole
-    (subst (λ (x : Bool). Went a b (step_moves (step_as step) x (due n meddles))) m first) more)
+    let fates : ℕ → Fate = planned (plan_of stop meddles) in
+    let effect : made ≡ true = m ∙ made_where_whole stop n whole in
+    let rest : Walked = walk fates (n + 1) (steps_of later) in
+    let W : Option StepFault
+    → Type 0 = λ f. Walks a c (after_step (step_as step) (due n meddles) (end_of f (is_made_at stop n)) rest) fault in
+    subst (λ (s : List code_step.Step). Walks a c (walk fates n (steps_of s)) fault) (sym is) (subst W (sym whole) (record {
+      went = went_then a b c (step_moves (step_as step) true (due n meddles)) rest.moves
+          (subst (λ (x : Bool). Went a b (step_moves (step_as step) x (due n meddles))) effect first) more.went;
+      broken = more.broken;
+    }))
