@@ -10,7 +10,12 @@ use Rattle.mm_check.proofs.Below.{moves_of, messages_from, foreign_of, foreign_v
 use Rattle.mm_check.proofs.Below.{messages_where, numbered_event, first_where, listed, message_digests, shared_with, shared_in, is_zero}
 use Rattle.mm_check.proofs.Below.{zero_in, numbered_from, numbered, is_secured}
 use Rattle.std.specs.Option.{is_some}
-use Rattle.std.proofs.lemmas.Bool.{or_cases, or_parts, or_from, false_from_ne_true}
+use Rattle.mm_check.proofs.Below.{Variant, Basic, Opt, AreApart, secured_by}
+use Rattle.std.specs.List.{All, IsDistinct}
+use Rattle.std.proofs.lemmas.Bool.{both_ways, false_from_ne_true}
+use Rattle.std.proofs.lemmas.List.Elements.{All-contains, All-from_recursion}
+use Rattle.std.proofs.lemmas.List.Folds.{Any-from_list_any}
+use Rattle.std.proofs.lemmas.Map.Keys.{IsDistinct-head, IsDistinct-push, IsDistinct-tail}
 use Rattle.std.proofs.lemmas.Map.Views.{Contains-from_any}
 use Rattle.mm_check.proofs.SetLaws.{or_swap}
 
@@ -33,19 +38,11 @@ any_in : {A : Type 0} (p : A → Bool) (xs : List A) (x : A) → Contains xs x �
 any_in p xs x h e = list_any_at p xs h.0 x h.1 (ap p h.2 ∙ e)
 
 any_some : {A : Type 0} (p : A → Bool) (xs : List A) → list_any p xs ≡ true → (x : A) × Contains xs x × (p x ≡ true)
-any_some p [] h = absurd (cc)
-any_some p (x ∷ xs) h = elim (or_cases (p x) (list_any p xs) h) [
-  | inl here ↦ (x, first_in x xs, here)
-  | inr later ↦ let f = any_some p xs later in (f.0, Contains-append_right (x ∷ []) xs f.0 f.1, f.2)
-]
+any_some p xs h = let f = Any-from_list_any p xs h in (f.1, (f.0, f.2, f.3), f.4)
 
 any_map : {A B : Type 0} (p : B → Bool) (f : A → B) (xs : List A) → list_any p (map f xs) ≡ list_any (λ x. p (f x)) xs
 any_map p f [] = refl
 any_map p f (x ∷ xs) = ap (λ (b : Bool). p (f x) || b) (any_map p f xs)
-
--- no test comes out both ways
-true_false : (b : Bool) → b ≡ true → b ≡ false → ⊥
-true_false b t f = cc
 
 -- there is a first that passes where the list passes
 
@@ -73,8 +70,8 @@ no_where p xs h = none_from (first_where p xs) (where_any p xs ∙ false_from_ne
 
 found_none : (p : List ℕ → Bool) (ms : List (List ℕ)) (m : List ℕ) → Contains ms m → p (sha256 m) ≡ true
     → first_where p (message_digests ms) ≡ None → ⊥
-found_none p ms m h pass none = true_false (list_any p (message_digests ms))
-    (any_map p sha256 ms ∙ any_in (λ x. p (sha256 x)) ms m h pass) (not_any p (message_digests ms) none)
+found_none p ms m h pass none = both_ways (list_any p (message_digests ms)) (not_any p (message_digests ms) none)
+    (any_map p sha256 ms ∙ any_in (λ x. p (sha256 x)) ms m h pass)
 
 none_found : (p : List ℕ → Bool) (ms : List (List ℕ)) → ((m : List ℕ) → Contains ms m → p (sha256 m) ≡ true → ⊥)
     → first_where p (message_digests ms) ≡ None
@@ -87,9 +84,6 @@ pairs_none : (found : Option ℕ) (later : Option (ℕ × ℕ)) → shared_with 
 pairs_none (Some n) later h = absurd (cc)
 pairs_none None None h = (refl, refl)
 pairs_none None (Some pair) h = absurd (cc)
-
-none_of_pairs : (found : Option ℕ) (later : Option (ℕ × ℕ)) → found ≡ None → later ≡ None → shared_with found later ≡ None
-none_of_pairs found later f l = rw (f, l) refl
 
 same_digest : (a b : List ℕ) → a ≡ b → bytes_eq a b ≡ true
 same_digest a b e = (bytes_eq-Decides a b).1 e
@@ -122,37 +116,27 @@ clear_of_fewer xs ys within clear = record {
   nonzero = λ m h e. clear.nonzero m (within m h) e;
 }
 
--- a list with no element twice
-abbrev IsOnce : List (List ℕ) → Type 0
-IsOnce [] = Unit {0}
-IsOnce (x ∷ xs) = (list_any (bytes_eq x) xs ≡ false) × IsOnce xs
+-- no message is listed twice
 
-once_push : (xs : List (List ℕ)) (x : List ℕ) → IsOnce xs → list_any (bytes_eq x) xs ≡ false → IsOnce (xs ++ x ∷ [])
-once_push [] x once new = (refl, tt)
-once_push (y ∷ xs) x once new =
-    let parts = or_parts (bytes_eq x y) (list_any (bytes_eq x) xs) new in (
-      list_any-append (bytes_eq y) xs (x ∷ []) ∙ or_from (list_any (bytes_eq y) xs) (bytes_eq y x || false) once.0
-          (or_from (bytes_eq y x) false (nat_list_eq_equiv.symm y x ∙ parts.0) refl),
-      once_push xs x once.1 parts.1,
-    )
-
-listed_once : (seen : List (List ℕ)) (x : List ℕ) (has : Bool) → list_any (bytes_eq x) seen ≡ has → IsOnce seen
-    → IsOnce (cond has seen (seen ++ x ∷ []))
+listed_once : (seen : List (List ℕ)) (x : List ℕ) (has : Bool) → list_any (bytes_eq x) seen ≡ has → IsDistinct bytes_eq seen
+    → IsDistinct bytes_eq (cond has seen (seen ++ x ∷ []))
 listed_once seen x true e once = once
-listed_once seen x false e once = once_push seen x once e
+listed_once seen x false e once = IsDistinct-push nat_list_eq_equiv seen x once e
 
-all_once : (ms seen : List (List ℕ)) → IsOnce seen → IsOnce (fold listed seen ms)
+all_once : (ms seen : List (List ℕ)) → IsDistinct bytes_eq seen → IsDistinct bytes_eq (fold listed seen ms)
 all_once [] seen once = once
 all_once (x ∷ ms) seen once = all_once ms (listed seen x) (listed_once seen x (list_any (bytes_eq x) seen) refl once)
 
-clear_none : (ms : List (List ℕ)) → IsOnce ms → IsClear ms → shared_in (message_digests ms) ≡ None
+clear_none : (ms : List (List ℕ)) → IsDistinct bytes_eq ms → IsClear ms → shared_in (message_digests ms) ≡ None
 clear_none [] once clear = refl
 clear_none (x ∷ ms) once clear =
-    none_of_pairs (first_where (bytes_eq (sha256 x)) (message_digests ms)) (shared_in (message_digests ms))
-    (none_found (bytes_eq (sha256 x)) ms (λ m h e.
-    let same = clear.apart x m (first_in x ms) (Contains-append_right (x ∷ []) ms m h) ((bytes_eq-Decides (sha256 x) (sha256 m)).0 e) in
-    true_false (list_any (bytes_eq x) ms) (any_in (bytes_eq x) ms m h (same_digest x m same)) once.0))
-    (clear_none ms once.1 (clear_of_fewer ms (x ∷ ms) (λ m h. Contains-append_right (x ∷ []) ms m h) clear))
+    let Other : List ℕ → Type 0 = λ m. bytes_eq x m ≡ false in
+    let apart : All Other ms = All-from_recursion Other ms (IsDistinct-head bytes_eq x ms once) in
+    let none = none_found (bytes_eq (sha256 x)) ms (λ m h e. both_ways (bytes_eq x m) (All-contains Other ms m apart h)
+    (same_digest x m (clear.apart x m (first_in x ms) (Contains-append_right (x ∷ []) ms m h)
+    ((bytes_eq-Decides (sha256 x) (sha256 m)).0 e)))) in
+    let later = clear_none ms (IsDistinct-tail bytes_eq x ms once)
+    (clear_of_fewer ms (x ∷ ms) (λ m h. Contains-append_right (x ∷ []) ms m h) clear) in rw (none, later) refl
 
 -- two lists of the same elements
 abbrev Same : List (List ℕ) → List (List ℕ) → Type 0
@@ -238,9 +222,11 @@ module _ (i : Instance) (events : List Event) (clear : IsClear (run_messages i e
       (same_in (numbered i events) (run_messages i events) (run_same i events)) clear
 
   pub unshared : shared_in (message_digests (numbered i events)) ≡ None
+  unfolding IsDistinct
   unshared =
-      clear_none (numbered i events) (all_once (numbered_from i first_history (first_issued i) events)
-      (start_message i.variant i.meaning.id ∷ []) (refl, tt)) numbers_clear
+      let start = start_message i.variant i.meaning.id in
+      clear_none (numbered i events) (all_once (numbered_from i first_history (first_issued i) events) (start ∷ [])
+      (tt, tt)) numbers_clear
 
   pub no_zero : zero_in (message_digests (numbered i events)) ≡ None
   no_zero =
@@ -257,16 +243,26 @@ module _ (barrier : List ℕ) (es : List Event) where
   abbrev guards : List (List ℕ)
   guards = own_values barrier (asked_batches es)
 
-  pub no_guards : first_where (is_secured guards) es ≡ None → AreNoGuards barrier (foreign_values es) (asked_batches es)
+  no_guards : first_where (is_secured guards) es ≡ None → AreNoGuards barrier (foreign_values es) (asked_batches es)
   no_guards none d b hd hb same =
       let known = any_map (bytes_eq d) (guard barrier) (asked_batches es)
       ∙ any_in (λ c. bytes_eq d (guard barrier c)) (asked_batches es) b hb (same_digest d (guard barrier b) same) in
-      true_false (list_any (is_secured guards) es) (sym (foreign_any (λ v. list_any (bytes_eq v) guards) es)
-      ∙ any_in (λ v. list_any (bytes_eq v) guards) (foreign_values es) d hd known) (not_any (is_secured guards) es none)
+      both_ways (list_any (is_secured guards) es) (not_any (is_secured guards) es none)
+      (sym (foreign_any (λ v. list_any (bytes_eq v) guards) es)
+      ∙ any_in (λ v. list_any (bytes_eq v) guards) (foreign_values es) d hd known)
 
-  pub none_secured : AreNoGuards barrier (foreign_values es) (asked_batches es) → first_where (is_secured guards) es ≡ None
+  none_secured : AreNoGuards barrier (foreign_values es) (asked_batches es) → first_where (is_secured guards) es ≡ None
   none_secured apart = no_where (is_secured guards) es (λ e.
       let f = any_some (λ v. list_any (bytes_eq v) guards) (foreign_values es) (foreign_any (λ v. list_any (bytes_eq v) guards) es ∙ e) in
       let g = any_some (λ c. bytes_eq f.0 (guard barrier c)) (asked_batches es)
       (sym (any_map (bytes_eq f.0) (guard barrier) (asked_batches es)) ∙ f.2) in
       apart f.0 g.0 f.1 g.1 ((bytes_eq-Decides f.0 (guard barrier g.0)).0 g.2))
+
+-- in either variant
+pub none_apart : (variant : Variant) (i : Instance) (es : List Event) → secured_by variant i.barrier es ≡ None → AreApart variant i es
+none_apart Basic i es none = λ is. cc
+none_apart Opt i es none = λ is. no_guards i.barrier es none
+
+pub apart_none : (variant : Variant) (i : Instance) (es : List Event) → AreApart variant i es → secured_by variant i.barrier es ≡ None
+apart_none Basic i es apart = refl
+apart_none Opt i es apart = none_secured i.barrier es (apart refl)

@@ -35,19 +35,11 @@ differ_at t e i n b h =
     let here = drop_at e i ∙ ap (λ (o : Option (List ℕ)). with_line o (drop (i + 1) e)) h in
     (λ j. difference_from n (drop_at t i j) (here j)) ∙ found_by (slice_get t i) b (drop (i + 1) t) (drop (i + 1) e) n
 
-pub same_more : (t e : List (List ℕ)) (i : ℕ) (b : List ℕ) (found : Bool) → first_difference t e ≡ difference_from (i + 1) (drop i t)
-    (drop i e) → slice_get e i ≡ Some b → found ≡ is_found (slice_get t i) b → found ≡ true
-    → first_difference t e ≡ difference_from (i + 1 + 1) (drop (i + 1) t) (drop (i + 1) e)
-same_more t e i b found h at f is =
-    h ∙ differ_at t e i (i + 1) b at
-    ∙ ap (λ (c : Bool). cond c (difference_from (i + 1 + 1) (drop (i + 1) t) (drop (i + 1) e)) (Some (i + 1))) (sym f ∙ is)
-
-pub differs_here : (t e : List (List ℕ)) (i : ℕ) (b : List ℕ) (found : Bool)
-    → first_difference t e ≡ difference_from (i + 1) (drop i t) (drop i e) → slice_get e i ≡ Some b
-    → found ≡ is_found (slice_get t i) b → found ≡ false → Differ (i + 1) ≡ agreement_of (first_difference t e)
-differs_here t e i b found h at f is =
-    sym (ap agreement_of (h ∙ differ_at t e i (i + 1) b at
-    ∙ ap (λ (c : Bool). cond c (difference_from (i + 1 + 1) (drop (i + 1) t) (drop (i + 1) e)) (Some (i + 1))) (sym f ∙ is)))
+pub next_line : (t e : List (List ℕ)) (i : ℕ) (b : List ℕ) (found : Bool)
+    → first_difference t e ≡ difference_from (i + 1) (drop i t) (drop i e) → slice_get e i ≡ Some b → found ≡ is_found (slice_get t i) b
+    → first_difference t e ≡ cond found (difference_from (i + 1 + 1) (drop (i + 1) t) (drop (i + 1) e)) (Some (i + 1))
+next_line t e i b found h at f = h ∙ differ_at t e i (i + 1) b at
+    ∙ ap (λ (c : Bool). cond c (difference_from (i + 1 + 1) (drop (i + 1) t) (drop (i + 1) e)) (Some (i + 1))) (sym f)
 
 surplus_at : (t : List (List ℕ)) (k n : ℕ) → k < length t → difference_from n (drop k t) [] ≡ Some n
 surplus_at [] k n h = absurd (omega arith)

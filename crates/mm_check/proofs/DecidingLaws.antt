@@ -4,7 +4,7 @@ use Rattle.mm_check.proofs.Below.{subst, arith, append_assoc, append-nil, length
 use Rattle.mm_check.proofs.Below.{start_message}
 use Rattle.mm_check.proofs.Below.{variant_byte, Meaning, meaning_of, Instance, History, first_history, total_of, Header, Event}
 use Rattle.mm_check.proofs.Below.{lines_of_reply, end_line, by_lists, Followed, followed, event_outcome, first_issued, expected, world_of}
-use Rattle.mm_check.proofs.Below.{world_key, world_barrier, IsGenuineEvent, AreGenuine, IsClearRun, AreApart, goes_on, numbered_event}
+use Rattle.mm_check.proofs.Below.{world_key, world_barrier, IsGenuineEvent, AreGenuine, IsClearRun, goes_on, numbered_event}
 use Rattle.mm_check.proofs.Below.{listed, message_digests, shared_in, zero_in, Lists, pair_of, numbered_from, numbered, secured_in}
 use Rattle.mm_check.proofs.Below.{lines_of_all, expected_lines, IsForgedAt, Decides, secured_by, IsFirstForged, StandsBehind, forged_then}
 use Rattle.mm_check.proofs.Below.{premise_by}
@@ -17,7 +17,7 @@ use Rattle.mm_history.specs.Naming.{IsDecided}
 use Rattle.mm_expect.specs.Traced.{Traced, IsAfter}
 use Rattle.mm_expect.specs.declared.expecting.Heard.{Heard}
 use Rattle.mm_check.proofs.FewLaws.{heard_few, numbered_few}
-use Rattle.mm_check.proofs.ClearLaws.{clear_run, no_guards}
+use Rattle.mm_check.proofs.ClearLaws.{clear_run, none_apart}
 use Rattle.mm_check.specs.declared.deciding.Deciding.{Deciding}
 
 -- what is heard of an event behind those that were followed so far
@@ -117,44 +117,37 @@ stands_next header es e old new heard h hears after few lists lines forged =
 
 -- what is told at the end
 
-apart_by : (variant : Variant) (meaning : Meaning) (es : List Event) → secured_by variant world_barrier es ≡ None
-    → (let i : Instance = instance_by variant meaning world_key world_barrier in AreApart i.variant i es)
-apart_by Basic meaning es none = λ is. cc
-apart_by Opt meaning es none = λ is. no_guards world_barrier es none
+clear_by : (i : Instance) (es : List Event) → shared_in (message_digests (numbered i es)) ≡ None
+    → zero_in (message_digests (numbered i es)) ≡ None → secured_by i.variant i.barrier es ≡ None → IsClearRun i es
+clear_by i es p z s = record { clear = clear_run i es p z; apart = none_apart i.variant i es s }
 
-clear_by : (variant : Variant) (meaning : Meaning) (es : List Event)
+secured_told : (variant : Variant) (i : Instance) (es : List Event) (n : ℕ) → secured_by variant i.barrier es ≡ Some n
+    → (variant ≡ Opt) × (secured_in i es ≡ Some n)
+secured_told Basic i es n is = absurd (cc)
+secured_told Opt i es n is = (refl, is)
+
+decided_by : (i : Instance) (es : List Event) (pair : Option (ℕ × ℕ)) (zero secured forged : Option ℕ)
+    → pair ≡ shared_in (message_digests (numbered i es)) → zero ≡ zero_in (message_digests (numbered i es))
+    → secured ≡ secured_by i.variant i.barrier es → IsFirstForged i es forged → Decides i es (premise_by pair zero secured forged)
+decided_by i es (Some pair) zero secured forged p z s f = sym p
+decided_by i es None (Some message) secured forged p z s f = (sym p, sym z)
+decided_by i es None None (Some event) forged p z s f =
+    let told = secured_told i.variant i es event (sym s) in (clear_run i es (sym p) (sym z), told.0, told.1)
+decided_by i es None None None (Some event) p z s f = (clear_by i es (sym p) (sym z) (sym s), f)
+decided_by i es None None None None p z s f = (clear_by i es (sym p) (sym z) (sym s), f)
+
+secured_world : (variant : Variant) (meaning : Meaning) (es : List Event)
     → (let i : Instance = instance_by variant meaning world_key world_barrier in
-    shared_in (message_digests (numbered i es)) ≡ None → zero_in (message_digests (numbered i es)) ≡ None
-    → secured_by variant world_barrier es ≡ None → IsClearRun i es)
-clear_by variant meaning es p z s = record {
-  clear = clear_run (instance_by variant meaning world_key world_barrier) es p z;
-  apart = apart_by variant meaning es s;
-}
-
-secured_told : (variant : Variant) (meaning : Meaning) (es : List Event) (n : ℕ) → secured_by variant world_barrier es ≡ Some n
-    → (let i : Instance = instance_by variant meaning world_key world_barrier in (i.variant ≡ Opt) × (secured_in i es ≡ Some n))
-secured_told Basic meaning es n is = absurd (cc)
-secured_told Opt meaning es n is = (refl, is)
-
-decided_by : (variant : Variant) (meaning : Meaning) (es : List Event) (pair : Option (ℕ × ℕ)) (zero secured forged : Option ℕ)
-    → (let i : Instance = instance_by variant meaning world_key world_barrier in
-    pair ≡ shared_in (message_digests (numbered i es)) → zero ≡ zero_in (message_digests (numbered i es))
-    → secured ≡ secured_by variant world_barrier es → IsFirstForged i es forged → Decides i es (premise_by pair zero secured forged))
-decided_by variant meaning es (Some pair) zero secured forged p z s f = sym p
-decided_by variant meaning es None (Some message) secured forged p z s f = (sym p, sym z)
-decided_by variant meaning es None None (Some event) forged p z s f =
-    let i = instance_by variant meaning world_key world_barrier in
-    let told = secured_told variant meaning es event (sym s) in
-    (clear_run i es (sym p) (sym z), told.0, told.1)
-decided_by variant meaning es None None None (Some event) p z s f = (clear_by variant meaning es (sym p) (sym z) (sym s), f)
-decided_by variant meaning es None None None None p z s f = (clear_by variant meaning es (sym p) (sym z) (sym s), f)
+    secured_by variant world_barrier es ≡ secured_by i.variant i.barrier es)
+secured_world Basic meaning es = refl
+secured_world Opt meaning es = refl
 
 pub decided : (header : Header) (es : List Event) (it : Deciding) (secured : Option ℕ) → StandsBehind header es it
     → secured ≡ secured_by header.variant world_barrier es
     → Decides (world_of header) es (premise_by (pair_of it.numbers.digests.shared) it.numbers.digests.zero secured it.forged)
 decided header es it secured h s =
-    decided_by header.variant (meaning_of header.«module») es (pair_of it.numbers.digests.shared) it.numbers.digests.zero secured it.forged
-    h.lists.counts.shared h.lists.counts.zero s h.forged
+    decided_by (world_of header) es (pair_of it.numbers.digests.shared) it.numbers.digests.zero secured it.forged
+    h.lists.counts.shared h.lists.counts.zero (s ∙ secured_world header.variant (meaning_of header.«module») es) h.forged
 
 -- at the first event
 

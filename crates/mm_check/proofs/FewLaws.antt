@@ -62,17 +62,13 @@ walk_few fates h (step ∷ steps) n =
 
 ask_few : (variant : Variant) (flag fresh : Bool) (b : Batch) → length (ask_steps variant flag fresh b) ≤ 5
 ask_few Basic flag true b = omega arith
-ask_few Basic flag false b = omega arith
 ask_few Opt true true b = omega arith
 ask_few Opt false true b = omega arith
-ask_few Opt true false b = omega arith
-ask_few Opt false false b = omega arith
+ask_few _ _ _ b = omega arith
 
 close_few : (variant : Variant) (flag zero : Bool) → length (checkpoint_steps variant flag zero) ≤ 5
-close_few Basic flag zero = omega arith
-close_few Opt false zero = omega arith
 close_few Opt true true = omega arith
-close_few Opt true false = omega arith
+close_few _ _ _ = omega arith
 
 walked_few : (stop : Stop) (meddles : List Meddle) (steps : List Step) → length meddles ≤ 8 → length steps ≤ 5
     → length (walk (course_of stop meddles).fates 1 steps).moves ≤ 45
@@ -103,7 +99,6 @@ moves_few i y issued _ = omega arith
 -- their messages
 
 move_few : (variant : Variant) (flag : Bool) (i : Instance) (y : History) (m : Move) → length (moving_messages variant flag i y m) ≤ 1
-move_few Basic flag i y m = omega arith
 move_few Opt true i y (Commit b) = omega arith
 move_few Opt false i y (Commit b) = omega arith
 move_few _ _ i y _ = omega arith

@@ -1,18 +1,15 @@
 -- An event is answered by few lines.
-use Rattle.mm_check.proofs.Below.{◌≡◌, ℕ, ◌+◌, ◌-◌, ◌*◌, ◌≤◌, Bool, true, false, List, [], ◌∷◌, length, Option, None, Some, Result, Ok, Err}
-use Rattle.mm_check.proofs.Below.{refl, arith, length-append, length-drop, most_members, Batch, size_of, normal, outputs_from, Meddle, Stop}
-use Rattle.mm_check.proofs.Below.{Instance, History, Move, requests_of, total_of, first_history, is_long, Course, Walked, walk, commits}
-use Rattle.mm_check.proofs.Below.{Found, found_at, ask_steps, by_lists, all_made, Event, Ask, Checkpoint, Power, Extend, told_lines}
-use Rattle.mm_check.proofs.Below.{lines_of_reply, end_line, offered_bytes, way_of, course_of, reply_of, closing_reply, uncalled, outcome_by}
-use Rattle.mm_check.proofs.Below.{asked, event_outcome, followed, first_issued, expected, short_size, lines_of_all, expected_lines}
-use Rattle.std.specs.Prelude.{if◌then◌else◌}
+use Rattle.mm_check.proofs.Below.{◌≡◌, ℕ, ◌+◌, ◌-◌, ◌*◌, ◌≤◌, Bool, true, List, [], ◌∷◌, length, Option, None, Some, Result, Ok, Err}
+use Rattle.mm_check.proofs.Below.{refl, arith, length-append, length-drop, most_members, Batch, size_of, normal, outputs_from}
+use Rattle.mm_check.proofs.Below.{Instance, History, Move, requests_of, total_of, first_history, Course, Walked, walk, commits}
+use Rattle.mm_check.proofs.Below.{Found, found_at, ask_steps, by_lists, all_made, Event, told_lines}
+use Rattle.mm_check.proofs.Below.{lines_of_reply, end_line, way_of, course_of, reply_of, closing_reply}
+use Rattle.mm_check.proofs.Below.{event_outcome, followed, first_issued, expected, in_any_way, short_size, lines_of_all, expected_lines}
 use Rattle.mm_module.specs.RunLaws.{length-outputs_from}
 use Rattle.mm_platform.specs.declared.fault.StepFault.{StepFault}
 use Rattle.mm_model.specs.declared.refusal.Refusal.{Refusal}
 use Rattle.mm_call.specs.AnswersWords.{last_outputs}
 use Rattle.mm_call.specs.FoundWords.{found_unless_wanting, is_fresh}
-use Rattle.mm_schedule.specs.declared.reply.Reply.TheVariants as reply
-use Rattle.mm_schedule.specs.declared.reply.Cause.TheVariants as cause
 use Rattle.mm_call.specs.Called.{ended_by, position_of, seen_at, called}
 use Rattle.mm_call.specs.CalledWords.{kept_at}
 use Rattle.mm_call.specs.Checkpoints.{Closing, Stops, checkpointed}
@@ -54,29 +51,20 @@ called_few i y how c bytes b h =
     let w : Walked = walk c.fates 1 (ask_steps i.variant y.is_open (is_fresh found) b) in
     ended_few i seen (all_made (by_lists i) y w.moves) how b found w.moves w.broken h
 
-long_few : (i : Instance) (y : History) (issued : List (List ℕ)) (meddles : List Meddle) (stop : Stop) (bytes : List ℕ) (b : Batch)
-    (long : Bool) → is_long b ≡ long → length (lines_of_reply
-    (if long then uncalled y issued (reply.No cause.Long) else outcome_by (by_lists i) stop issued
-    (called i (by_lists i) y (course_of stop meddles) bytes (normal b))).reply) ≤ most_members
-long_few i y issued meddles stop bytes b true e = omega arith
-long_few i y issued meddles stop bytes b false e = called_few i y (way_of stop) (course_of stop meddles) bytes (normal b) (short_size b e)
-
-asked_few : (i : Instance) (y : History) (issued : List (List ℕ)) (meddles : List Meddle) (stop : Stop) (bytes : Option (List ℕ))
-    (b : Batch) → length (lines_of_reply (asked i (by_lists i) y issued meddles stop bytes b).reply) ≤ most_members
-asked_few i y issued meddles stop None b = omega arith
-asked_few i y issued meddles stop (Some bytes) b = long_few i y issued meddles stop bytes b (is_long b) refl
-
 closing_few : (how : Way) (closing : Closing) → length (lines_of_reply (closing_reply how closing)) ≤ most_members
 closing_few how (Stops fault true) = omega arith
 closing_few how _ = omega arith
 
 event_lines_few : (i : Instance) (y : History) (issued : List (List ℕ)) (event : Event)
     → length (lines_of_reply (event_outcome i (by_lists i) y issued event).reply) ≤ most_members
-event_lines_few i y issued (Ask meddles stop offer b) = asked_few i y issued meddles stop (offered_bytes issued offer) b
-event_lines_few i y issued (Checkpoint meddles stop) =
-    closing_few (way_of stop) (checkpointed i (by_lists i) y (course_of stop meddles)).ending
-event_lines_few i y issued Power = omega arith
-event_lines_few i y issued (Extend value) = omega arith
+event_lines_few i y issued event = in_any_way i (by_lists i) y issued (λ o. length (lines_of_reply o.reply) ≤ most_members) (record {
+  refused = λ why. omega arith;
+  call = λ stop meddles bytes b short.
+      called_few i y (way_of stop) (course_of stop meddles) bytes (normal b) (short_size b short);
+  check = λ stop meddles. closing_few (way_of stop) (checkpointed i (by_lists i) y (course_of stop meddles)).ending;
+  power = omega arith;
+  extend = λ value. omega arith;
+}) event
 
 replies_few : (i : Instance) (events : List Event) (y : History) (issued : List (List ℕ))
     → length (lines_of_all (followed i (by_lists i) y issued events).replies) ≤ most_members * length events

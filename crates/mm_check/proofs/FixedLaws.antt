@@ -1,62 +1,56 @@
 -- One premise alone is told of a run.
-use Rattle.mm_check.proofs.Below.{◌≡◌, ◌∙◌, ℕ, ◌<◌, List, [], ◌∷◌, ◌++◌, length, Option, None, Some, refl, sym, ap, subst, arith, inl}
-use Rattle.mm_check.proofs.Below.{inr, append-nil, length-append, Variant, Basic, Opt, first_history, by_lists, Event, Followed, followed}
-use Rattle.mm_check.proofs.Below.{event_outcome, first_issued, IsGenuineEvent, AreGenuine, IsGenuineRun, Instance, History, AreApart}
+use Rattle.mm_check.proofs.Below.{◌≡◌, ◌∙◌, ℕ, List, [], ◌∷◌, ◌++◌, length, Option, None, Some, refl, sym, ap, subst, arith}
+use Rattle.mm_check.proofs.Below.{Variant, first_history, by_lists, Event, Followed, followed}
+use Rattle.mm_check.proofs.Below.{event_outcome, first_issued, IsGenuineEvent, AreGenuine, IsGenuineRun, Instance, History}
 use Rattle.mm_check.proofs.Below.{message_digests, shared_in, zero_in, numbered, IsForgedAt, Decides, Premise, secured_by, IsFirstForged}
 use Rattle.mm_check.proofs.Below.{premise_by}
-use Rattle.std.proofs.lemmas.Bool.{cases_lt}
 use Rattle.mm_check.specs.declared.verdicts.Premise.TheVariants.{Held, Shared, Zero, Secured, Forged}
-use Rattle.mm_check.proofs.ClearLaws.{unshared, no_zero, none_secured}
-
-apart_none : (variant : Variant) (i : Instance) (es : List Event) → AreApart variant i es → secured_by variant i.barrier es ≡ None
-apart_none Basic i es apart = refl
-apart_none Opt i es apart = none_secured i.barrier es (apart refl)
+use Rattle.mm_check.proofs.ClearLaws.{unshared, no_zero, apart_none}
 
 -- the first event that isn't genuine
 
-genuine_at : (i : Instance) (before : List Event) (e : Event) (after : List Event) (y : History) (issued : List (List ℕ))
-    → AreGenuine i y issued (before ++ e ∷ after)
-    → (let f : Followed History = followed i (by_lists i) y issued before in IsGenuineEvent i f.state f.issued e)
-genuine_at i [] e after y issued h = h.0
-genuine_at i (x ∷ before) e after y issued h =
-    let o = event_outcome i (by_lists i) y issued x in genuine_at i before e after o.state o.issued h.1
+module _ (i : Instance) where
+  -- behind these events this one isn't genuine
+  abbrev IsForged : History → List (List ℕ) → List Event → Event → Type 0
+  IsForged y issued before e = (let f : Followed History = followed i (by_lists i) y issued before in IsGenuineEvent i f.state f.issued e) → ⊥
 
-earlier : (b : List Event) (e : Event) (a c d : List Event) → b ++ e ∷ a ≡ c ++ d → length b < length c
-    → (rest : List Event) × (c ≡ b ++ e ∷ rest)
-earlier b e a [] d h less = absurd (omega arith)
-earlier [] e a (x ∷ c) d h less = let same : x ≡ e = cc in (c, ap (λ (y : Event). y ∷ c) same)
-earlier (y ∷ b) e a (x ∷ c) d h less =
-    let same : x ≡ y = cc in
-    let later : b ++ e ∷ a ≡ c ++ d = cc in
-    let r = earlier b e a c d later (omega arith) in
-    (r.0, ap (λ (z : Event). z ∷ c) same ∙ ap (λ (l : List Event). y ∷ l) r.1)
+  not_genuine : (before : List Event) (e : Event) (after : List Event) (y : History) (issued : List (List ℕ))
+      → AreGenuine i y issued (before ++ e ∷ after) → IsForged y issued before e → ⊥
+  not_genuine [] e after y issued h forged = forged h.0
+  not_genuine (x ∷ before) e after y issued h forged =
+      let o = event_outcome i (by_lists i) y issued x in not_genuine before e after o.state o.issued h.1 forged
 
--- a forged event isn't among first ones that are genuine
-not_within : (i : Instance) (es front rest : List Event) (n : ℕ) (h : IsForgedAt i es n) → es ≡ front ++ rest → IsGenuineRun i front
-    → length h.before < length front → ⊥
-not_within i es front rest n h split genuine less =
-    let r = earlier h.before h.event h.after front rest (sym h.split ∙ split) less in
-    h.forged (genuine_at i h.before h.event r.0 first_history (first_issued i)
-    (subst (λ (l : List Event). AreGenuine i first_history (first_issued i) l) r.1 genuine))
+  -- two such events behind genuine ones stand at one place
+  one_place : (b c : List Event) (e x : Event) (a d : List Event) (y : History) (issued : List (List ℕ)) → b ++ e ∷ a ≡ c ++ x ∷ d
+      → AreGenuine i y issued b → IsForged y issued b e → AreGenuine i y issued c → IsForged y issued c x → length b ≡ length c
+  one_place [] [] e x a d y issued split g f h k = refl
+  one_place [] (z ∷ c) e x a d y issued split g f h k =
+      let same : z ≡ e = cc in absurd (f (subst (λ (v : Event). IsGenuineEvent i y issued v) same h.0))
+  one_place (z ∷ b) [] e x a d y issued split g f h k =
+      let same : z ≡ x = cc in absurd (k (subst (λ (v : Event). IsGenuineEvent i y issued v) same g.0))
+  one_place (z ∷ b) (w ∷ c) e x a d y issued split g f h k =
+      let same : w ≡ z = cc in
+      let o = event_outcome i (by_lists i) y issued z in
+      let rest : b ++ e ∷ a ≡ c ++ x ∷ d = cc in
+      let genuine = subst (λ (v : Event). AreGenuine i y issued (v ∷ c)) same h in
+      let forged = subst (λ (v : Event). IsForged y issued (v ∷ c) x) same k in
+      omega (arith, one_place b c e x a d o.state o.issued rest g.1 f genuine.1 forged)
 
-not_forged : (i : Instance) (es : List Event) (n : ℕ) → IsGenuineRun i es → IsForgedAt i es n → ⊥
-not_forged i es n genuine h = not_within i es es [] n h (sym (append-nil es)) genuine
-    (omega (arith, ap length h.split, length-append h.before (h.event ∷ h.after)))
+  not_forged : (es : List Event) (n : ℕ) → IsGenuineRun i es → IsForgedAt i es n → ⊥
+  not_forged es n genuine h = not_genuine h.before h.event h.after first_history (first_issued i)
+      (subst (λ (l : List Event). AreGenuine i first_history (first_issued i) l) h.split genuine) h.forged
 
-same_number : (i : Instance) (es : List Event) (m n : ℕ) → IsForgedAt i es m → IsForgedAt i es n → m ≡ n
-same_number i es m n h k = elim (cases_lt (length h.before) (length k.before)) [
-  | inl less ↦ absurd (not_within i es k.before (k.event ∷ k.after) m h k.split k.genuine less)
-  | inr others ↦ elim (cases_lt (length k.before) (length h.before)) [
-    | inl less ↦ absurd (not_within i es h.before (h.event ∷ h.after) n k h.split h.genuine less)
-    | inr same ↦ omega (arith, h.place, k.place)
-  ]
-]
-
-first_same : (i : Instance) (es : List Event) (f g : Option ℕ) → IsFirstForged i es f → IsFirstForged i es g → f ≡ g
-first_same i es None None h k = refl
-first_same i es None (Some n) h k = absurd (not_forged i es n h k)
-first_same i es (Some m) None h k = absurd (not_forged i es m k h)
-first_same i es (Some m) (Some n) h k = ap Some (same_number i es m n h k)
+  first_same : (es : List Event) (f g : Option ℕ) → IsFirstForged i es f → IsFirstForged i es g → f ≡ g
+  first_same es None None h k = refl
+  first_same es None (Some n) h k = absurd (not_forged es n h k)
+  first_same es (Some m) None h k = absurd (not_forged es m k h)
+  first_same es (Some m) (Some n) h k = ap Some (omega (
+    arith,
+    h.place,
+    k.place,
+    one_place h.before k.before h.event k.event h.after k.after
+        first_history (first_issued i) (sym h.split ∙ k.split) h.genuine h.forged k.genuine k.forged,
+  ))
 
 some_none : {A : Type 0} (o : Option A) (x : A) → o ≡ Some x → o ≡ None → ⊥
 some_none o x s n = cc

@@ -1,5 +1,5 @@
 -- What one more digest changes, and the numbers in code after it.
-use Rattle.mm_check.proofs.Below.{◌≡◌, ◌∙◌, ℕ, ◌+◌, ◌≤◌, nat_lt, Bool, true, false, cond, List, [], ◌∷◌, ◌++◌, length, Option, None, Some}
+use Rattle.mm_check.proofs.Below.{◌≡◌, ◌∙◌, ℕ, ◌+◌, ◌≤◌, Bool, true, false, cond, List, [], ◌∷◌, ◌++◌, length, Option, None, Some}
 use Rattle.mm_check.proofs.Below.{refl, sym, ap, arith, length-append, option_map, bytes_eq, nat_tests, nat_list_eq_equiv, bytes_eq-Decides}
 use Rattle.mm_check.proofs.Below.{slice_cmp, nat_cmp, is_eq, is_eq-slice_cmp, first_where, both_more, shared_with, shared_in, is_zero}
 use Rattle.mm_check.proofs.Below.{zero_in, lower, zero_then, pair_of, CountsDigests}
@@ -57,38 +57,24 @@ shared_in-from_one : (ds : List (List ℕ)) → FromOne (shared_in ds)
 shared_in-from_one [] = tt
 shared_in-from_one (d ∷ ds) = shared_with-from_one (first_where (bytes_eq d) ds) (shared_in ds)
 
-lt_more : (m n : ℕ) → nat_lt (m + 1) (n + 1) ≡ nat_lt m n
-lt_more m n = grind (arith, nat_tests)
-
-not_below_one : (m : ℕ) → nat_lt (m + 1) 1 ≡ false
-not_below_one m = grind (arith, nat_tests)
-
-one_below : (n : ℕ) → 1 ≤ n → nat_lt 1 (n + 1) ≡ true
-one_below n h = grind (arith, nat_tests)
-
-chosen_more : (test : Bool) (a : ℕ × ℕ) (m last : ℕ)
-    → option_map both_more (cond test (Some (m, last)) (Some a)) ≡ cond test (Some (m + 1, last + 1)) (Some (both_more a))
-chosen_more true a m last = refl
-chosen_more false a m last = refl
-
 -- the first digest comes again already
 again_step : (n m next : ℕ) (here : Bool) (x : Option ℕ)
     → Some (1, n + 1) ≡ lower_if (Some (1, n + 1)) (cond here (Some 1) (option_map (λ k. k + 1) x)) next
 again_step n m next true x = refl
 again_step n m next false None = refl
-again_step n m next false (Some k) = rw (not_below_one k) refl
+again_step n m next false (Some k) = grind (arith, nat_tests)
 
 -- it comes again now
 now_step : (s : Option (ℕ × ℕ)) (last next : ℕ) → FromOne s → last + 1 ≡ next → Some (1, last + 1) ≡ lower (option_map both_more s) 1 next
 now_step None last next h e = ap (λ (n : ℕ). Some (1, n)) e
-now_step (Some a) last next h e = rw (one_below a.0 h) (ap (λ (n : ℕ). Some (1, n)) e)
+now_step (Some a) last next h e = grind (arith, nat_tests)
 
 -- it doesn't come again
 later_step : (s : Option (ℕ × ℕ)) (x : Option ℕ) (last next : ℕ) → last + 1 ≡ next
     → option_map both_more (lower_if s x last) ≡ lower_if (option_map both_more s) (option_map (λ k. k + 1) x) next
 later_step s None last next e = refl
 later_step None (Some m) last next e = ap (λ (n : ℕ). Some (m + 1, n)) e
-later_step (Some a) (Some m) last next e = rw (lt_more m a.0, ← e) (chosen_more (nat_lt m a.0) a m last)
+later_step (Some a) (Some m) last next e = grind (arith, nat_tests)
 
 shared_step : (found : Option ℕ) (s : Option (ℕ × ℕ)) (x : Option ℕ) (here : Bool) (last next : ℕ) → FromOne s → last + 1 ≡ next
     → shared_with (or_here found here last) (lower_if s x last) ≡ lower_if (shared_with found s)

@@ -3,23 +3,20 @@ use Rattle.mm_check.proofs.Below.{◌≡◌, ◌∙◌, ℕ, Bool, true, false, 
 use Rattle.mm_check.proofs.Below.{nat_cmp, is_eq, match_ordering, bytes_eq, is_eq-slice_cmp, has_message}
 use Rattle.std.specs.declared.cmp.Ordering.TheVariants.{Less, Equal, Greater}
 use Rattle.std.specs.declared.cmp.Ordering.{Ordering}
+use Rattle.std.proofs.lemmas.Bool.{or_right}
 use Rattle.std.proofs.lemmas.Map.Lookups.{exact_bytes}
 
 pub has_compared : {A : Type 0} (m : List ℕ) (keys : List (Vec ℕ A))
     → list_any (λ (k : Vec ℕ A). is_eq (slice_cmp nat_cmp m k.items)) keys ≡ has_message keys m
-has_compared m [] = refl
-has_compared m (k ∷ keys) = ap (λ (b : Bool). b || list_any (λ k. is_eq (slice_cmp nat_cmp m k.items)) keys) (is_eq-slice_cmp m k.items)
-    ∙ ap (λ (b : Bool). bytes_eq m k.items || b) (has_compared m keys)
+has_compared m keys = ap (λ p. list_any p keys) (λ j k. is_eq-slice_cmp m k.items j)
 
 or_same : (a r : Bool) → (a || r) ≡ (a || (a || r))
 or_same true r = refl
 or_same false r = refl
 
 pub or_swap : (a b r : Bool) → (a || (b || r)) ≡ (b || (a || r))
-or_swap true true r = refl
-or_swap true false r = refl
-or_swap false true r = refl
-or_swap false false r = refl
+or_swap true b r = sym (or_right b true refl)
+or_swap false b r = refl
 
 has_step : {A : Type 0} (m : List ℕ) (key x : Vec ℕ A) (keys rest : List (Vec ℕ A)) (o : Ordering) → slice_cmp nat_cmp key.items x.items ≡ o
     → has_message rest m ≡ (bytes_eq m key.items || has_message keys m)

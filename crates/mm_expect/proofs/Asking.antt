@@ -1,21 +1,21 @@
 -- A call by lists, step by step.
-use Rattle.mm_expect.proofs.Below.{◌≡◌, ℕ, ◌+◌, ◌<◌, ◌≤◌, Bool, true, false, List, [], ◌∷◌, ◌++◌, map, Option, None, Some, Result, Ok, Err}
-use Rattle.mm_expect.proofs.Below.{refl, sym, ap, ◌∙◌, subst, arith, append_assoc, if◌then◌else◌, nat_eq, IfOk, append-nil, Decides-eqb}
+use Rattle.mm_expect.proofs.Below.{◌≡◌, ℕ, ◌+◌, ◌≤◌, Bool, true, false, List, [], ◌∷◌, ◌++◌, map, Option, None, Some, Result, Ok, Err}
+use Rattle.mm_expect.proofs.Below.{refl, sym, ap, ◌∙◌, subst, arith, if◌then◌else◌, nat_eq, append-nil}
 use Rattle.mm_expect.proofs.Below.{last_position, Variant, Basic, Opt, StepFault, Meddle, Stop, Batch, size_of, Instance, History, Move}
-use Rattle.mm_expect.proofs.Below.{Commit, Foreign, Placed, Reset, Close, Power, total_of, is_last, Step, Reads, ask_steps, Refusal}
+use Rattle.mm_expect.proofs.Below.{Commit, Foreign, total_of, is_last, Step, Reads, ask_steps, Refusal}
 use Rattle.mm_expect.proofs.Below.{is_last_of, total-push, answer_on, by_lists, all_made, Found, found_at, found_unless_wanting, is_fresh}
-use Rattle.mm_expect.proofs.Below.{End, Done, Fails, Fate, Walked, step_moves, after_step, walk, seen_in, commits, planned, Answers, Breaks}
+use Rattle.mm_expect.proofs.Below.{End, Done, Fails, Fate, Walked, after_step, walk, seen_in, commits, planned, Answers, Breaks}
 use Rattle.mm_expect.proofs.Below.{Called, reading_steps, position_of, ended_by, called, seen_at, kept_at, called_with, Ended, Refused}
 use Rattle.mm_expect.proofs.Below.{Broken, committed_in, same_batches, more_batches, Commits, nothing, batch, finished, commits-none}
 use Rattle.mm_expect.proofs.Below.{writing_commits, commits_batch, seen_none, reading_none, course_of, plan_of, Recorded, Went}
 use Rattle.mm_expect.proofs.Below.{recorded_instance, instance_with, Walks, again_in, Admits, changing_steps, changing_from, changes_on}
 use Rattle.mm_expect.proofs.Below.{ChangesBy, ending_of, new_ending, GoesOnNew, CallsBy}
 use Rattle.mm_module.specs.BatchLaws.{size_of-pos}
-use Rattle.mm_call.specs.AlongLaws.{GoesAlong, walk_along}
 use Rattle.mm_call.specs.WalkLaws as walks
-use Rattle.mm_call.specs.WalkLaws.{made-append, taking_is}
-use Rattle.std.proofs.lemmas.Bool.{false_from_ne_true}
-use Rattle.mm_expect.proofs.Walking.{went_then}
+use Rattle.mm_call.specs.WalkLaws.{foreign_made, taking}
+use Rattle.std.proofs.lemmas.Bool.Decides.{nat_tests}
+use Rattle.std.specs.Prelude.{length}
+use Rattle.mm_expect.proofs.Walking.{broken_walked, then_walked, walks_then}
 
 -- what the steps of a new batch commit
 
@@ -28,122 +28,82 @@ changing_commits fates Opt false b = walks.changing_commits fates false true b
 commits-append : (xs ys : List Move) → committed_in xs ≡ [] → commits (xs ++ ys) ≡ commits ys
 commits-append [] ys e = refl
 commits-append (Commit c ∷ xs) ys e = cc
-commits-append (Foreign v ∷ xs) ys e = commits-append xs ys e
-commits-append (Placed c ∷ xs) ys e = commits-append xs ys e
-commits-append (Reset ∷ xs) ys e = commits-append xs ys e
-commits-append (Close ∷ xs) ys e = commits-append xs ys e
-commits-append (Power ∷ xs) ys e = commits-append xs ys e
+commits-append (_ ∷ xs) ys e = commits-append xs ys e
 
--- the batches once a new batch was walked through
-whole_batches : (old new : Recorded) (walked : Walked) (b : Batch) → Commits b true walked → walked.broken ≡ None
-    → Went old new walked.moves → new.history.batches ≡ old.history.batches ++ b ∷ []
-whole_batches old new walked b (nothing none unless) whole went = let no : true ≡ false = unless whole in cc
-whole_batches old new walked b (batch one is) whole went =
-    ap (λ (y : History). y.batches) went.history ∙ more_batches (recorded_instance old) walked.moves old.history b one
+module _ (old new : Recorded) (stop : Stop) (meddles : List Meddle) (b : Batch) where
+  abbrev changes : Walked
+  changes = changes_on old stop meddles b
 
-pub new_last : (old new : Recorded) (stop : Stop) (meddles : List Meddle) (b : Batch) → ChangesBy old new stop meddles b None
-    → is_last new.history.batches b ≡ true
-new_last old new stop meddles b w =
-    let grown = whole_batches old new (changes_on old stop meddles b) b
-    (changing_commits (planned (plan_of stop meddles)) old.variant old.history.is_open b) (sym w.broken) w.went in
-    ap (λ (bs : List Batch). is_last bs b) grown ∙ is_last_of old.history.batches b
+  commits_one : Commits b true changes
+  commits_one = changing_commits (planned (plan_of stop meddles)) old.variant old.history.is_open b
 
-pub new_few : (old new : Recorded) (stop : Stop) (meddles : List Meddle) (b : Batch) → ChangesBy old new stop meddles b None
-    → Admits old.history b false → total_of new.history.batches ≤ last_position
-new_few old new stop meddles b w admits =
-    let grown = whole_batches old new (changes_on old stop meddles b) b
-    (changing_commits (planned (plan_of stop meddles)) old.variant old.history.is_open b) (sym w.broken) w.went in
-    subst (λ n. n ≤ last_position) (sym (ap total_of grown ∙ total-push old.history.batches b)) admits.fits
+  -- the batches once a new batch was walked through
+  whole_batches : Commits b true changes → ChangesBy old new stop meddles b None → new.history.batches ≡ old.history.batches ++ b ∷ []
+  whole_batches (nothing none unless) w = let no : true ≡ false = unless (sym w.broken) in cc
+  whole_batches (batch one is) w =
+      ap (λ (y : History). y.batches) w.went.history ∙ more_batches (recorded_instance old) changes.moves old.history b one
 
--- whether the total rose tells whether the batch was committed
-kept_by : (old new : Recorded) (walked : Walked) (b : Batch) → Commits b true walked → Went old new walked.moves
-    → (if nat_eq (total_of new.history.batches) (total_of old.history.batches) then None else Some (total_of new.history.batches))
-    ≡ kept_at (commits walked.moves) (total_of new.history.batches)
-kept_by old new walked b (nothing none unless) went =
-    let same : total_of new.history.batches ≡ total_of old.history.batches = ap (λ (y : History). total_of y.batches) went.history
-    ∙ ap total_of (same_batches (recorded_instance old) walked.moves old.history none) in
-    rw ((Decides-eqb (total_of new.history.batches) (total_of old.history.batches)).1 same, commits-none walked.moves none) refl
-kept_by old new walked b (batch one is) went =
-    let more : total_of new.history.batches ≡ total_of old.history.batches + size_of b =
-    ap (λ (y : History). total_of y.batches) went.history
-    ∙ ap total_of (more_batches (recorded_instance old) walked.moves old.history b one) ∙ total-push old.history.batches b in
-    let other : nat_eq (total_of new.history.batches) (total_of old.history.batches) ≡ false = false_from_ne_true _ (λ e.
-    let same = (Decides-eqb (total_of new.history.batches) (total_of old.history.batches)).0 e in
-    absurd (omega (arith, more, same, size_of-pos b))) in
-    rw (other, commits_batch walked.moves b one) refl
+  pub new_last : ChangesBy old new stop meddles b None → is_last new.history.batches b ≡ true
+  new_last w = ap (λ (bs : List Batch). is_last bs b) (whole_batches commits_one w) ∙ is_last_of old.history.batches b
 
-pub new_broken : (old new : Recorded) (stop : Stop) (meddles : List Meddle) (b : Batch) (fault : StepFault) (kept : Option ℕ)
-    → ChangesBy old new stop meddles b (Some fault)
-    → kept ≡ (if nat_eq (total_of new.history.batches) (total_of old.history.batches) then None else Some (total_of new.history.batches))
-    → GoesOnNew old new stop meddles b (Broken fault kept)
-new_broken old new stop meddles b fault kept w is = record {
-  went = w.went;
-  ends = ap (Breaks fault) (is ∙ kept_by old new (changes_on old stop meddles b) b
-      (changing_commits (planned (plan_of stop meddles)) old.variant old.history.is_open b) w.went)
-      ∙ ap (new_ending new b (changes_on old stop meddles b).moves) w.broken;
-}
+  pub new_few : ChangesBy old new stop meddles b None → Admits old.history b false → total_of new.history.batches ≤ last_position
+  new_few w admits = omega (arith, admits.fits, ap total_of (whole_batches commits_one w), total-push old.history.batches b)
+
+  abbrev pub KeptBy : Option ℕ → Type 0
+  KeptBy kept =
+      kept ≡ (if nat_eq (total_of new.history.batches) (total_of old.history.batches) then None else Some (total_of new.history.batches))
+
+  -- whether the total rose tells whether the batch was committed
+  kept_by : Commits b true changes → Went old new changes.moves → KeptBy (kept_at (commits changes.moves) (total_of new.history.batches))
+  kept_by (nothing none unless) went =
+      let same : total_of new.history.batches ≡ total_of old.history.batches = ap (λ (y : History). total_of y.batches) went.history
+      ∙ ap total_of (same_batches (recorded_instance old) changes.moves old.history none) in
+      rw (commits-none changes.moves none) (grind (arith, nat_tests, same))
+  kept_by (batch one is) went =
+      let more : total_of new.history.batches ≡ total_of old.history.batches + size_of b =
+      ap (λ (y : History). total_of y.batches) went.history
+      ∙ ap total_of (more_batches (recorded_instance old) changes.moves old.history b one) ∙ total-push old.history.batches b in
+      rw (commits_batch changes.moves b one) (grind (arith, nat_tests, more, size_of-pos b))
+
+  pub new_broken : (fault : StepFault) (kept : Option ℕ) → ChangesBy old new stop meddles b (Some fault) → KeptBy kept
+      → GoesOnNew old new stop meddles b (Broken fault kept)
+  new_broken fault kept w is = record {
+    went = w.went;
+    ends = ap (Breaks fault) (is ∙ sym (kept_by commits_one w.went)) ∙ ap (new_ending new b changes.moves) w.broken;
+  }
 
 -- the reading steps, and those behind them
-
--- the second walk goes on from the first, which wasn't broken off
-pub record Then (first second whole : Walked) : Type 0 where
-  pub moves : whole.moves ≡ first.moves ++ second.moves
-  pub broken : whole.broken ≡ second.broken
-
-after_broken : (step : Step) (values : List (List ℕ)) (ends : End) (r s : Walked) (fault : StepFault)
-    → (after_step step values ends r).broken ≡ Some fault → (r.broken ≡ Some fault → s ≡ r)
-    → after_step step values ends s ≡ after_step step values ends r
-after_broken step values Done r s fault e same = ap (after_step step values Done) (same e)
-after_broken step values (Fails f made) r s fault e same = refl
-
-after_whole : (step : Step) (values : List (List ℕ)) (ends : End) (r m s : Walked)
-    → (after_step step values ends r).broken ≡ None → (r.broken ≡ None → Then r m s)
-    → Then (after_step step values ends r) m (after_step step values ends s)
-after_whole step values Done r m s e goes = record {
-  moves = ap (λ v. step_moves step true values ++ v) (goes e).moves ∙ sym (append_assoc (step_moves step true values) r.moves m.moves);
-  broken = (goes e).broken;
-}
-after_whole step values (Fails f made) r m s e goes = cc
 
 after_seen : (values : List (List ℕ)) (ends : End) (r : Walked) (xs : List Move) → (after_step Reads values ends r).broken ≡ None
     → (r.broken ≡ None → r.moves ≡ xs) → (after_step Reads values ends r).moves ≡ map Foreign values ++ xs
 after_seen values Done r xs e same = ap (λ v. map Foreign values ++ v) (same e)
 after_seen values (Fails f made) r xs e same = cc
 
-module _ (fates : ℕ → Fate) where
-  pub read_broken : (variant : Variant) (rest : List Step) (fault : StepFault) → (walk fates 1 (reading_steps variant)).broken ≡ Some fault
-      → walk fates 1 (reading_steps variant ++ rest) ≡ walk fates 1 (reading_steps variant)
-  read_broken Basic rest fault e = after_broken Reads (fates 1).brings (fates 1).ends finished (walk fates 2 rest) fault e (λ no. cc)
-  read_broken Opt rest fault e =
-      after_broken Reads (fates 1).brings (fates 1).ends (after_step Reads (fates 2).brings (fates 2).ends finished)
-      (after_step Reads (fates 2).brings (fates 2).ends (walk fates 3 rest)) fault e
-      (λ f. after_broken Reads (fates 2).brings (fates 2).ends finished (walk fates 3 rest) fault f (λ no. cc))
+pub read_seen : (fates : ℕ → Fate) (variant : Variant) → (walk fates 1 (reading_steps variant)).broken ≡ None
+    → (walk fates 1 (reading_steps variant)).moves ≡ seen_in fates (reading_steps variant) 1
+read_seen fates Basic e = after_seen (fates 1).brings (fates 1).ends finished [] e (λ w. refl)
+read_seen fates Opt e = after_seen (fates 1).brings (fates 1).ends (after_step Reads (fates 2).brings (fates 2).ends finished)
+    (map Foreign (fates 2).brings ++ []) e (λ f. after_seen (fates 2).brings (fates 2).ends finished [] f (λ w. refl))
 
-  pub read_whole : (variant : Variant) (rest : List Step) → (walk fates 1 (reading_steps variant)).broken ≡ None
-      → Then (walk fates 1 (reading_steps variant)) (walk fates (changing_from variant) rest) (walk fates 1 (reading_steps variant ++ rest))
-  read_whole Basic rest e = after_whole Reads (fates 1).brings (fates 1).ends finished (walk fates 2 rest) (walk fates 2 rest) e
-      (λ w. record { moves = refl; broken = refl })
-  read_whole Opt rest e =
-      after_whole Reads (fates 1).brings (fates 1).ends (after_step Reads (fates 2).brings (fates 2).ends finished) (walk fates 3 rest)
-      (after_step Reads (fates 2).brings (fates 2).ends (walk fates 3 rest)) e
-      (λ f. after_whole Reads (fates 2).brings (fates 2).ends finished (walk fates 3 rest) (walk fates 3 rest) f
-      (λ w. record { moves = refl; broken = refl }))
+ask_reading : (variant : Variant) (is_open : Bool) (b : Batch) → ask_steps variant is_open false b ≡ reading_steps variant
+ask_reading Basic is_open b = refl
+ask_reading Opt is_open b = refl
 
-  pub read_seen : (variant : Variant) → (walk fates 1 (reading_steps variant)).broken ≡ None
-      → (walk fates 1 (reading_steps variant)).moves ≡ seen_in fates (reading_steps variant) 1
-  read_seen Basic e = after_seen (fates 1).brings (fates 1).ends finished [] e (λ w. refl)
-  read_seen Opt e = after_seen (fates 1).brings (fates 1).ends (after_step Reads (fates 2).brings (fates 2).ends finished)
-      (map Foreign (fates 2).brings ++ []) e (λ f. after_seen (fates 2).brings (fates 2).ends finished [] f (λ w. refl))
+ask_changing : (variant : Variant) (is_open : Bool) (b : Batch)
+    → ask_steps variant is_open true b ≡ reading_steps variant ++ changing_steps variant is_open b
+ask_changing Basic is_open b = refl
+ask_changing Opt true b = refl
+ask_changing Opt false b = refl
 
--- the steps of a call: the reading ones, and those behind them
-steps_are : (variant : Variant) (is_open fresh : Bool) (b : Batch)
-    → ask_steps variant is_open fresh b ≡ reading_steps variant ++ (if fresh then changing_steps variant is_open b else [])
-steps_are Basic is_open true b = refl
-steps_are Basic is_open false b = refl
-steps_are Opt true true b = refl
-steps_are Opt false true b = refl
-steps_are Opt true false b = refl
-steps_are Opt false false b = refl
+-- in either case they begin with the reading ones
+ask_some : (variant : Variant) (is_open fresh : Bool) (b : Batch)
+    → (rest : List Step) × (ask_steps variant is_open fresh b ≡ reading_steps variant ++ rest)
+ask_some variant is_open true b = (changing_steps variant is_open b, ask_changing variant is_open b)
+ask_some variant is_open false b = ([], ask_reading variant is_open b ∙ sym (append-nil (reading_steps variant)))
+
+changing_behind : (variant : Variant) → changing_from variant ≡ 1 + length (reading_steps variant)
+changing_behind Basic = refl
+changing_behind Opt = refl
 
 unlack : (found : Result Found Refusal) → found_unless_wanting found false ≡ found
 unlack (Ok f) = refl
@@ -173,122 +133,95 @@ module _ (a : Recorded) (stop : Stop) (meddles : List Meddle) (bytes : List ℕ)
   abbrev found : Result Found Refusal
   found = found_at at (by_lists at) seen b bytes
 
-  abbrev walked : Result Found Refusal → Walked
-  walked f = walk fates 1 (ask_steps a.variant a.history.is_open (is_fresh f) b)
+  abbrev steps_for : Result Found Refusal → List Step
+  steps_for f = ask_steps a.variant a.history.is_open (is_fresh f) b
 
   abbrev all : Called History
   all = called at (by_lists at) a.history (course_of stop meddles) bytes b
 
-  by_parts : (n : Recorded) (ended : Ended) (f : Result Found Refusal) (moves : List Move) (broken : Option StepFault)
-      → found_unless_wanting found false ≡ f → (walked f).moves ≡ moves → (walked f).broken ≡ broken → Went a n moves
-      → ending_of ended ≡ ended_by (by_lists at) seen (all_made (by_lists at) a.history moves) b f moves broken → CallsBy a n all ended
-  by_parts n ended f moves broken is m br went ends =
+  -- by the walk of its steps, and what was found
+  calls_by : (n : Recorded) (ended : Ended) (f : Result Found Refusal) {broken : Option StepFault} → found_unless_wanting found false ≡ f
+      → Walks a n (walk fates 1 (steps_for f)) broken
+      → ending_of ended ≡ ended_by (by_lists at) seen n.history b f (walk fates 1 (steps_for f)).moves broken → CallsBy a n all ended
+  calls_by n ended f is w ends =
       let C : Result Found Refusal
       → Type 0 = λ g. CallsBy a n (called_with at (by_lists at) a.history seen (course_of stop meddles) b g) ended in
       subst C (sym is) (record {
-        went = subst (Went a n) (sym m) went;
-        ends = ends ∙ (λ j. ended_by (by_lists at) seen (all_made (by_lists at) a.history (sym m j)) b f (sym m j) (sym br j));
+        went = w.went;
+        ends = ends ∙ (λ j. ended_by (by_lists at) seen (w.went.history j) b f (walk fates 1 (steps_for f)).moves (w.broken j));
       })
+
+  reading_commits : commits reading.moves ≡ false
+  reading_commits = commits-none reading.moves (reading_none a.variant fates)
 
   pub ask_broken : (n : Recorded) (fault : StepFault) → Walks a n reading (Some fault) → CallsBy a n all (Broken fault None)
   ask_broken n fault w =
       let f = found_unless_wanting found false in
-      let rest : List Step = (if is_fresh f then changing_steps a.variant a.history.is_open b else []) in
-      let same : walked f ≡ reading = ap (walk fates 1) (steps_are a.variant a.history.is_open (is_fresh f) b)
-      ∙ read_broken fates a.variant rest fault (sym w.broken) in
-      by_parts n (Broken fault None) f reading.moves (Some fault) refl (ap (λ (v : Walked). v.moves) same)
-      (ap (λ (v : Walked). v.broken) same ∙ sym w.broken) w.went
-      (ap (λ (k : Bool). Breaks fault (kept_at k (position_of (by_lists at) seen (all_made (by_lists at) a.history reading.moves) b f)))
-      (sym (commits-none reading.moves (reading_none a.variant fates))))
+      let some = ask_some a.variant a.history.is_open (is_fresh f) b in
+      let same : walk fates 1 (steps_for f) ≡ reading = ap (walk fates 1) some.1
+      ∙ broken_walked fates 1 (reading_steps a.variant) some.0 fault (sym w.broken) in
+      calls_by n (Broken fault None) f refl (subst (λ (v : Walked). Walks a n v (Some fault)) (sym same) w)
+      (ap (λ (k : Bool). Breaks fault (kept_at k (position_of (by_lists at) seen n.history b f)))
+      (sym (ap (λ (v : Walked). commits v.moves) same ∙ reading_commits)))
 
-  -- what is found where the chronicle stands is what the call finds
+  -- where the chronicle stands behind the reading steps is what the call sees
+  stands : (n : Recorded) → Walks a n reading None → n.history ≡ seen
+  stands n w = w.went.history ∙ ap (all_made (by_lists at) a.history) (read_seen fates a.variant (sym w.broken))
+
   found_there : (n : Recorded) → Walks a n reading None
       → found_at (recorded_instance n) (by_lists (recorded_instance n)) n.history b bytes ≡ found
   found_there n w =
       let same : recorded_instance n ≡ at = λ j. instance_with (w.went.variant j) (w.went.«module» j) in
-      let there = w.went.history ∙ ap (all_made (by_lists at) a.history) (read_seen fates a.variant (sym w.broken)) in
-      λ j. found_at (same j) (by_lists (same j)) (there j) b bytes
-
-  -- nothing comes behind the reading steps
-  read_only : (f : Result Found Refusal) → reading.broken ≡ None → is_fresh f ≡ false → Then reading finished (walked f)
-  read_only f whole e =
-      let T : List Step → Type 0 = λ s. Then reading finished (walk fates 1 s) in
-      subst T (sym (steps_are a.variant a.history.is_open (is_fresh f) b ∙ ap (λ (k : Bool). reading_steps a.variant
-      ++ (if k then changing_steps a.variant a.history.is_open b else [])) e)) (read_whole fates a.variant [] whole)
+      λ j. found_at (same j) (by_lists (same j)) (stands n w j) b bytes
 
   pub ask_refused : (n : Recorded) (why : Refusal) → Walks a n reading None
       → Err why ≡ again_in (found_at (recorded_instance n) (by_lists (recorded_instance n)) n.history b bytes)
       → CallsBy a n all (Refused why)
-  ask_refused n why w e =
-      let is : found ≡ Err why = again_err found why (e ∙ ap again_in (found_there n w)) in
-      let t = read_only (Err why) (sym w.broken) refl in
-      by_parts n (Refused why) (Err why) reading.moves None (unlack found ∙ is) (t.moves ∙ append-nil reading.moves) t.broken w.went refl
-
-  -- the ending of a new batch, behind the reading steps
-  ends_new : (n m : Recorded) (f : Found) (moves : List Move) (broken : Option StepFault) → f.again ≡ false → Walks a n reading None
-      → Went n m moves → new_ending m b moves broken
-      ≡ ended_by (by_lists at) seen (all_made (by_lists at) a.history (reading.moves ++ moves)) b (Ok f) (reading.moves ++ moves) broken
-  ends_new n m f moves None new w went =
-      let both = went_then a n m reading.moves moves w.went went in
-      let same : recorded_instance m ≡ at = λ j. instance_with (both.variant j) (both.«module» j) in
-      λ j. Answers (answer_on (same j) (both.history j) b (sym new j))
-  ends_new n m f moves (Some fault) new w went =
-      let both = went_then a n m reading.moves moves w.went went in
-      λ j. Breaks fault
-      (kept_at (sym (commits-append reading.moves moves (reading_none a.variant fates)) j) (total_of (both.history j).batches))
+  ask_refused n why w e = calls_by n (Refused why) (Err why) (unlack found ∙ again_err found why (e ∙ ap again_in (found_there n w)))
+      (subst (λ (s : List Step). Walks a n (walk fates 1 s) None) (sym (ask_reading a.variant a.history.is_open b)) w) refl
 
   -- what is read leaves a segment open or shut
-  open_along : GoesAlong (λ moves. (y : History) → (all_made (by_lists at) y moves).is_open ≡ y.is_open)
-  open_along = record {
-    more = λ xs ys p q y.
-        ap (λ (h : History). h.is_open) (made-append (by_lists at) xs ys y) ∙ q (all_made (by_lists at) y xs) ∙ p y;
-    others = λ values y. ap (λ (h : History). h.is_open) (taking_is at values y);
-  }
+  open_seen : (steps : List Step) (n : ℕ) (y : History) → (all_made (by_lists at) y (seen_in fates steps n)).is_open ≡ y.is_open
+  open_seen [] n y = refl
+  open_seen (step ∷ steps) n y = ap (λ (h : History). h.is_open) (foreign_made at (fates n).brings (seen_in fates steps (n + 1)) y)
+      ∙ open_seen steps (n + 1) (taking y (fates n).brings)
 
-  read_open : (variant : Variant) (y : History)
-      → (all_made (by_lists at) y (walk fates 1 (reading_steps variant)).moves).is_open ≡ y.is_open
-  read_open Basic y = walk_along _ open_along fates 1 (reading_steps Basic) tt y
-  read_open Opt y = walk_along _ open_along fates 1 (reading_steps Opt) tt y
+  -- the ending of a new batch, behind the reading steps
+  ends_new : (m : Recorded) (f : Found) (moves all : List Move) (broken : Option StepFault) → f.again ≡ false → recorded_instance m ≡ at
+      → commits moves ≡ commits all
+      → new_ending m b moves broken ≡ ended_by (by_lists at) seen m.history b (Ok f) all broken
+  ends_new m f moves all None new same commit = λ j. Answers (answer_on (same j) m.history b (sym new j))
+  ends_new m f moves all (Some fault) new same commit = λ j. Breaks fault (kept_at (commit j) (total_of m.history.batches))
 
-  pub ask_new : (n m : Recorded) (ended : Ended) → Walks a n reading None
+  pub ask_new : (n m : Recorded) → Walks a n reading None
       → Ok false ≡ again_in (found_at (recorded_instance n) (by_lists (recorded_instance n)) n.history b bytes)
-      → GoesOnNew n m stop meddles b ended → CallsBy a m all ended
-  ask_new n m ended w e goes =
+      → (ended : Ended) → GoesOnNew n m stop meddles b ended → CallsBy a m all ended
+  ask_new n m w e ended goes =
       let f = again_ok found false (e ∙ ap again_in (found_there n w)) in
-      let more : Walked = walk fates (changing_from a.variant) (changing_steps a.variant a.history.is_open b) in
-      let opens : n.history.is_open ≡ a.history.is_open = ap (λ (y : History). y.is_open) w.went.history ∙ read_open a.variant a.history in
+      let changing : List Step = changing_steps a.variant a.history.is_open b in
+      let more : Walked = walk fates (changing_from a.variant) changing in
+      let opens : n.history.is_open ≡ a.history.is_open =
+      ap (λ (y : History). y.is_open) (stands n w) ∙ open_seen (reading_steps a.variant) 1 a.history in
       let same : changes_on n stop meddles b ≡ more =
       (λ j. walk fates (changing_from (w.went.variant j)) (changing_steps (w.went.variant j) (opens j) b)) in
-      let went : Went n m more.moves = subst (λ (v : Walked). Went n m v.moves) same goes.went in
-      let ends : ending_of ended ≡ new_ending m b more.moves more.broken = goes.ends
-      ∙ ap (λ (v : Walked). new_ending m b v.moves v.broken) same in
-      let fresh : is_fresh (Ok f.0) ≡ true = ap (λ (k : Bool). if k then false else true) f.2 in
-      let t : Then reading more (walked (Ok f.0)) = (let T : List Step → Type 0 = λ s. Then reading more (walk fates 1 s) in
-      subst T (sym (steps_are a.variant a.history.is_open (is_fresh (Ok f.0)) b ∙ ap (λ (k : Bool). reading_steps a.variant
-      ++ (if k then changing_steps a.variant a.history.is_open b else [])) fresh))
-      (read_whole fates a.variant (changing_steps a.variant a.history.is_open b) (sym w.broken))) in
-      by_parts m ended (Ok f.0) (reading.moves ++ more.moves) more.broken (unlack found ∙ f.1) t.moves t.broken
-      (went_then a n m reading.moves more.moves w.went went) (ends ∙ ends_new n m f.0 more.moves more.broken f.2 w went)
-
-  pub ask_new_in : {E : Type 0} (n m : Recorded) (r : Result Ended E) → Walks a n reading None
-      → Ok false ≡ again_in (found_at (recorded_instance n) (by_lists (recorded_instance n)) n.history b bytes)
-      → IfOk r (GoesOnNew n m stop meddles b) → IfOk r (CallsBy a m all)
-  ask_new_in n m (Ok ended) w e goes = ask_new n m ended w e goes
-  ask_new_in n m (Err why) w e goes = tt
+      let went : Walks n m more more.broken =
+      record { went = subst (λ (v : Walked). Went n m v.moves) same goes.went; broken = refl } in
+      let steps : reading_steps a.variant ++ changing ≡ steps_for (Ok f.0) = sym (ask_changing a.variant a.history.is_open b)
+      ∙ ap (λ (k : Bool). ask_steps a.variant a.history.is_open (if k then false else true) b) (sym f.2) in
+      let t = then_walked fates 1 (changing_from a.variant) (reading_steps a.variant) changing (changing_behind a.variant) (sym w.broken) in
+      let whole : Walks a m (walk fates 1 (steps_for (Ok f.0))) more.broken =
+      subst (λ (s : List Step). Walks a m (walk fates 1 s) more.broken) steps
+      (walks_then fates 1 (changing_from a.variant) (reading_steps a.variant) changing (changing_behind a.variant) w went) in
+      let commit : commits more.moves ≡ commits (walk fates 1 (steps_for (Ok f.0))).moves =
+      sym (commits-append reading.moves more.moves (reading_none a.variant fates)) ∙ ap commits (sym t.moves)
+      ∙ ap (λ (s : List Step). commits (walk fates 1 s).moves) steps in
+      calls_by m ended (Ok f.0) (unlack found ∙ f.1) whole (goes.ends ∙ ap (λ (v : Walked). new_ending m b v.moves v.broken) same
+      ∙ ends_new m f.0 more.moves (walk fates 1 (steps_for (Ok f.0))).moves more.broken f.2
+      (λ j. instance_with (whole.went.variant j) (whole.went.«module» j)) commit)
 
 pub unbroken : (fault : Option StepFault) → ((f : StepFault) → fault ≡ Some f → ⊥) → fault ≡ None
 unbroken None h = refl
 unbroken (Some f) h = absurd (h f refl)
-
-pub kept_same : (total before now was : ℕ) → now ≡ total → was ≡ before → now ≡ was
-    → None ≡ (if nat_eq total before then None else Some total)
-kept_same total before now was n w e =
-    sym (ap (λ (b : Bool). if b then None else Some total) ((Decides-eqb total before).1 (sym n ∙ e ∙ w)))
-
-pub kept_other : (total before now was : ℕ) → now ≡ total → was ≡ before → (now ≡ was → ⊥)
-    → Some now ≡ (if nat_eq total before then None else Some total)
-kept_other total before now was n w e = ap (λ (t : ℕ). Some t) n ∙ sym (ap (λ (b : Bool). if b then None else Some total)
-    (false_from_ne_true (nat_eq total before) (λ t. e (n ∙ (Decides-eqb total before).0 t ∙ sym w))))
 
 -- what others put into the register commits nothing
 pub foreign_batches : (i : Instance) (fates : ℕ → Fate) (steps : List Step) (n : ℕ) (y : History)

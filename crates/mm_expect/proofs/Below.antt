@@ -62,7 +62,7 @@ pub use Rattle.mm_call.specs.WalkLaws.{batch, call_commits, Commits, commits-non
 pub use Rattle.mm_call.specs.WalkLaws.{writing_commits}
 pub use Rattle.mm_call.specs.declared.ended.Ended.{Ended}
 pub use Rattle.mm_call.specs.declared.ended.Ended.TheVariants.{Answered, Broken, Refused}
-pub use Rattle.mm_call.proofs.Above.{admitted_tells, found_with_tells, fresh_found, requests-push, said_last, unlacked, unless_lost}
+pub use Rattle.mm_call.proofs.Above.{admitted_tells, again_of, found_with_tells, fresh_found, requests-push, said_last, unlacked, unless_lost}
 pub use Rattle.mm_call.proofs.Above.{weighed_tells}
 pub use Rattle.mm_schedule.specs.Events.{Ask, Checkpoint, Event, event_of}
 pub use Rattle.mm_schedule.specs.Replies.{IsPrintable}
@@ -78,7 +78,8 @@ pub use Rattle.mm_run.specs.HeldWords.{world_barrier, world_key}
 pub use Rattle.mm_run.specs.Laws.{IsIssued}
 pub use Rattle.mm_run.specs.Offered.{offered_bytes}
 pub use Rattle.mm_run.specs.Premises.{IsGenuineEvent}
-pub use Rattle.mm_run.proofs.Above.{basic_issued_named, goes_on, last_steps, opt_issued_named}
+pub use Rattle.mm_run.proofs.Above.{basic_issued_named, closing_all, goes_on, in_any_way, last_steps, opt_issued_named, printed_closing}
+pub use Rattle.mm_run.proofs.Above.{short_outputs, then_all}
 pub use Rattle.mm_expect.specs.Calls.{Admits, again_in, CallsBy, changes_on, ChangesBy, changing_from, changing_steps, ending_of, GoesOnNew}
 pub use Rattle.mm_expect.specs.Calls.{new_ending, reached}
 pub use Rattle.mm_expect.specs.Coming.{called_on, moves_if, WentByCall, WentByEvent}

@@ -1,10 +1,10 @@
 -- Whether an offer is genuine, by whether what it says names a position.
 use Rattle.mm_expect.proofs.Below.{◌≡◌, ℕ, zero, suc, ◌≤◌, Bool, true, false, List, [], ◌∷◌, length, None, Some, Ok, refl, sym, ap, ◌∙◌}
-use Rattle.mm_expect.proofs.Below.{subst, arith, get_or, slice_get, AllByRecursion, Basic, Opt, Meaning, IsLawful, state_after}
+use Rattle.mm_expect.proofs.Below.{subst, arith, get_or, slice_get, AllByRecursion, Basic, Opt, IsLawful, state_after}
 use Rattle.mm_expect.proofs.Below.{state_after-is_spelled, Batch, InBasic, InOpt, parts_of, Content, IsContent, IsPlace, tag_of, offered_of}
-use Rattle.mm_expect.proofs.Below.{last_position, limit_of, Instance, basic, opt, History, requests_of, total_of, IsPoint, at_anchor}
+use Rattle.mm_expect.proofs.Below.{last_position, limit_of, Instance, History, requests_of, total_of, at_anchor}
 use Rattle.mm_expect.proofs.Below.{in_closed, in_current, IsPlaceOf, Names, IsRight, IsGenuine, total-append, right_content, IsIssued}
-use Rattle.mm_expect.proofs.Below.{IsDecided, EachOfferIsDecided, BasicIssuedAreGenuine, OptIssuedAreGenuine}
+use Rattle.mm_expect.proofs.Below.{IsDecided, EachOfferIsDecided, IssuedAreGenuine, Variant}
 use Rattle.std.proofs.lemmas.Slice.Eq.{bytes_eq-Decides}
 use Rattle.mm_digest.specs.LengthLaws.{length-zero_bytes}
 use Rattle.mm_seal.specs.declared.snapshot.Place.{Place}
@@ -37,23 +37,16 @@ offers_decided i = record {
 
 -- What names a position is formed.
 
-basic_sized : (meaning : Meaning) (key : List ℕ) (y : History) (named : List Batch) (place : Place)
-    → IsPlaceOf Basic (basic meaning key) y named place → IsPlace place
-basic_sized meaning key y named (InBasic s) p = ap length p ∙ length-summary_of meaning.id named
-basic_sized meaning key y named (InOpt a e) p = absurd p
-
-point_sized : (i : Instance) (y : History) (named : List Batch) (a e : List ℕ) → IsPoint i y named a e → (length a ≡ 32) × (length e ≡ 32)
-point_sized i y named a e (at_anchor p) =
+place_sized : (variant : Variant) (i : Instance) (y : History) (named : List Batch) (place : Place) → IsPlaceOf variant i y named place
+    → IsPlace place
+place_sized Basic i y named (InBasic s) p = ap length p ∙ length-summary_of i.meaning.id named
+place_sized Opt i y named (InOpt a e) (at_anchor p) =
     (ap length p.anchor_is ∙ length-anchor_of i.meaning.id _, ap length p.extension_is ∙ length-zero_bytes)
-point_sized i y named a e (in_closed p) =
+place_sized Opt i y named (InOpt a e) (in_closed p) =
     (ap length p.anchor_is ∙ length-anchor_of i.meaning.id _, ap length p.extension_is ∙ length-register_of _)
-point_sized i y named a e (in_current p) =
+place_sized Opt i y named (InOpt a e) (in_current p) =
     (ap length p.anchor_is ∙ length-anchor_of i.meaning.id _, ap length p.extension_is ∙ length-register_of _)
-
-opt_sized : (meaning : Meaning) (key barrier : List ℕ) (y : History) (named : List Batch) (place : Place)
-    → IsPlaceOf Opt (opt meaning key barrier) y named place → IsPlace place
-opt_sized meaning key barrier y named (InBasic s) p = absurd p
-opt_sized meaning key barrier y named (InOpt a e) p = point_sized (opt meaning key barrier) y named a.bytes e.bytes p
+place_sized _ i y named place p = absurd p
 
 -- the module's id stands at a fixed place
 same_id : (key other : List ℕ) (x z : Content) → sealed_of key x ≡ sealed_of other z → x.id ≡ z.id
@@ -61,24 +54,14 @@ unfolding sealed_of snapshot_front
 same_id key other x z e = ap (λ (xs : List ℕ). get_or xs 5 0) e
 
 formed_by : (i : Instance) (y : History) (content : Content) → IsLawful i.meaning → total_of y.batches ≤ last_position
-    → content.id ≡ i.meaning.id → ((named : List Batch) → IsPlaceOf i.variant i y named content.place → IsPlace content.place)
-    → Names i y content → IsContent content
-formed_by i y content lawful few id sized n = record {
-  place = sized n.named n.place;
+    → content.id ≡ i.meaning.id → Names i y content → IsContent content
+formed_by i y content lawful few id n = record {
+  place = place_sized i.variant i y n.named content.place n.place;
   position = omega (arith, n.position, few, ap total_of n.first, total-append n.named n.rest);
   state = subst (λ (m : ℕ). length content.state ≤ limit_of m) (sym id)
       (subst (λ (s : List ℕ). length s ≤ limit_of i.meaning.id) (sym n.state)
       (lawful.fits (state_after i.meaning (requests_of n.named)) (state_after-is_spelled i.meaning lawful (requests_of n.named))));
 }
-
-issued_by : (i : Instance) (y : History) (bytes : List ℕ) → IsLawful i.meaning → total_of y.batches ≤ last_position
-    → ((named : List Batch) (place : Place) → IsPlaceOf i.variant i y named place → IsPlace place) → IsIssued i y bytes
-    → IsGenuine i y bytes
-issued_by i y bytes lawful few sized s = λ content right.
-    let id : s.content.id ≡ i.meaning.id = same_id i.key i.key s.content content (sym s.sealed ∙ right.sealed) ∙ right.id in
-    let formed : IsContent s.content = formed_by i y s.content lawful few id (λ named p. sized named s.content.place p) s.names in
-    let same : s.content ≡ content = sealed_once i.key i.key s.content content formed right.formed (sym s.sealed ∙ right.sealed) in
-    subst (λ (x : Content). Names i y x) same s.names
 
 each_at : (i : Instance) (y : History) (xs : List (List ℕ)) (n : ℕ) (x : List ℕ) → AllByRecursion (IsIssued i y) xs
     → slice_get xs n ≡ Some x → IsIssued i y x
@@ -86,11 +69,10 @@ each_at i y [] n x h e = absurd (cc)
 each_at i y (z ∷ xs) zero x h e = subst (IsIssued i y) (let same : z ≡ x = cc in same) h.0
 each_at i y (z ∷ xs) (suc n) x h e = each_at i y xs n x h.1 e
 
-pub basic_issued_genuine : BasicIssuedAreGenuine
-basic_issued_genuine meaning key y issued number bytes lawful few h e =
-    issued_by (basic meaning key) y bytes lawful few (basic_sized meaning key y) (each_at (basic meaning key) y issued number bytes h e)
-
-pub opt_issued_genuine : OptIssuedAreGenuine
-opt_issued_genuine meaning key barrier y issued number bytes lawful few h e =
-    issued_by (opt meaning key barrier) y bytes lawful few (opt_sized meaning key barrier y)
-    (each_at (opt meaning key barrier) y issued number bytes h e)
+pub issued_genuine : (i : Instance) → IssuedAreGenuine i
+issued_genuine i y issued number bytes lawful few h e = λ content right.
+    let s = each_at i y issued number bytes h e in
+    let id : s.content.id ≡ i.meaning.id = same_id i.key i.key s.content content (sym s.sealed ∙ right.sealed) ∙ right.id in
+    let formed : IsContent s.content = formed_by i y s.content lawful few id s.names in
+    let same : s.content ≡ content = sealed_once i.key i.key s.content content formed right.formed (sym s.sealed ∙ right.sealed) in
+    subst (λ (x : Content). Names i y x) same s.names

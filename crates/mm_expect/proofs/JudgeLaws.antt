@@ -3,20 +3,17 @@ use Rattle.mm_expect.proofs.Below.{◌≡◌, ℕ, ◌-◌, Bool, true, List, le
 use Rattle.mm_expect.proofs.Below.{AllByRecursion, Variant, Basic, Opt, Meaning, AnyModule, meaning_of, any_is_lawful, parts_of, Content}
 use Rattle.mm_expect.proofs.Below.{Instance, opt, Names, IsGenuine, right_content, History, instance_by, Header, Event, offered_bytes}
 use Rattle.mm_expect.proofs.Below.{expected, world_of, world_key, world_barrier, IsIssued, IsGenuineEvent, basic_issued_named}
-use Rattle.mm_expect.proofs.Below.{opt_issued_named, IssuedAreGenuine, AreIssued, IsAmong, IsSaidAt, DecidesBytes, DecidesOffer}
+use Rattle.mm_expect.proofs.Below.{opt_issued_named, AreIssued, IsAmong, IsSaidAt, DecidesBytes, DecidesOffer}
 use Rattle.mm_expect.proofs.Below.{DecidesEvent, IsDecided, Recorded, barrier_of, instance_with, recorded_instance, Traced, IsAfter}
-use Rattle.std.specs.Prelude.{Result, Ok, Err}
+use Rattle.std.specs.Prelude.{Result}
 use Rattle.mm_schedule.specs.declared.event.Offer.{Offer}
 use Rattle.mm_schedule.specs.declared.event.Offer.TheVariants.{Number, Last}
 use Rattle.mm_run.specs.PremisesWords.{IsGenuineOffer}
 use Rattle.mm_expect.proofs.AfterLaws.{header_of, traced, instance_is}
-use Rattle.mm_expect.proofs.FewLaws.{few_expected}
-use Rattle.mm_expect.proofs.GenuineLaws.{offers_decided, basic_issued_genuine, opt_issued_genuine}
+use Rattle.mm_expect.proofs.EventLaws.{few_expected}
+use Rattle.std.proofs.lemmas.Result.{IfOk-weaker}
+use Rattle.mm_expect.proofs.GenuineLaws.{offers_decided, issued_genuine}
 use Rattle.mm_call.specs.OfferLaws.{right_of}
-
-issued_are : (variant : Variant) («module» : AnyModule) → IssuedAreGenuine (instance_with variant «module»)
-issued_are Basic «module» = basic_issued_genuine (meaning_of «module») world_key
-issued_are Opt «module» = opt_issued_genuine (meaning_of «module») world_key world_barrier
 
 named_by : (variant : Variant) (meaning : Meaning) (events : List Event)
     → (let i = instance_by variant meaning world_key world_barrier in AllByRecursion (IsIssued i (expected i events).state)
@@ -42,14 +39,10 @@ event_decided old issued event true_or_not header events decides at =
     subst (λ (i : Instance). IsDecided true_or_not (IsGenuineEvent i old.history issued event)) same
     (decides (subst (λ (i : Instance). AreIssued i old.history issued) (sym same) (are_issued header events (traced old issued) at)))
 
-if_ok : {T E : Type 0} {P Q : T → Type 0} (r : Result T E) → ((x : T) → P x → Q x) → IfOk r P → IfOk r Q
-if_ok (Ok x) f p = f x p
-if_ok (Err why) f p = tt
-
 pub genuine_some : {E : Type 0} (r : Result Bool E) (i : Instance) (y : History) (bytes : List ℕ) {content : Content}
     → right_content i bytes ≡ Some content → IfOk r (λ true_or_not. IsDecided true_or_not (Names i y content))
     → IfOk r (λ true_or_not. IsDecided true_or_not (IsGenuine i y bytes))
-genuine_some r i y bytes {content} e = if_ok r (λ true_or_not n. (offers_decided i).right y bytes content true_or_not e n)
+genuine_some r i y bytes {content} e = IfOk-weaker r _ _ (λ true_or_not n. (offers_decided i).right y bytes content true_or_not e n)
 
 pub decided_none : (i : Instance) (y : History) (issued : List (List ℕ)) (offer : Offer) → offered_bytes issued offer ≡ None
     → DecidesOffer i y issued offer true
@@ -58,7 +51,7 @@ decided_none i y issued offer e are = subst (IsGenuineOffer i y) (sym e) tt
 pub decided_some : {E : Type 0} (r : Result Bool E) (i : Instance) (y : History) (issued : List (List ℕ)) (offer : Offer)
     {bytes given : List ℕ} → offered_bytes issued offer ≡ Some bytes → given ≡ bytes → IfOk r (DecidesBytes i y issued given)
     → IfOk r (DecidesOffer i y issued offer)
-decided_some r i y issued offer e same = if_ok r
+decided_some r i y issued offer e same = IfOk-weaker r _ _
     (λ b d are. subst (λ (f : Option (List ℕ)). IsDecided b (IsGenuineOffer i y f)) (ap Some same ∙ sym e) (d are))
 
 -- an issued snapshot, and what is offered beside one
@@ -67,7 +60,7 @@ module _ (r : Recorded) (issued : List (List ℕ)) where
       → AreIssued (recorded_instance r) r.history issued → IsGenuineOffer (recorded_instance r) r.history found
   issued_found number None e are = tt
   issued_found number (Some bytes) e are =
-      issued_are r.variant r.«module» r.history issued number bytes (any_is_lawful r.«module») are.few are.names e
+      issued_genuine (recorded_instance r) r.history issued number bytes (any_is_lawful r.«module») are.few are.names e
 
   pub decided_number : {offer : Offer} {number : ℕ} → offer ≡ Number number → DecidesOffer (recorded_instance r) r.history issued offer true
   decided_number {number = number} is = subst (λ (o : Offer). DecidesOffer (recorded_instance r) r.history issued o true) (sym is)
@@ -107,7 +100,7 @@ module _ {old seen : Recorded} {barrier : List ℕ} (is : old ≡ seen) (guarded
       → IfOk r (λ b. (key : List ℕ) → IsDecided b (Names (instance_by old.variant (meaning_of old.«module») key barrier) old.history
       content))
       → IfOk r (λ b. IsDecided b (Names (recorded_instance seen) seen.history content))
-  names_there r content = if_ok r (λ b. there (λ i y. IsDecided b (Names i y content)))
+  names_there r content = IfOk-weaker r _ _ (λ b. there (λ i y. IsDecided b (Names i y content)))
 
   -- the same beside what else is said
   pub beside_there : (b : Bool) (content other : Content)

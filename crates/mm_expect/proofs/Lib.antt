@@ -6,7 +6,6 @@ mod Asking
 mod GenuineLaws
 mod CheckLaws
 mod AfterLaws
-mod PrintLaws
-mod FewLaws
+mod EventLaws
 mod JudgeLaws
 mod CallLaws

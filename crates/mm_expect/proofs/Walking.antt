@@ -1,11 +1,10 @@
 -- A chronicle goes on by moves, one after another.
 use Rattle.mm_expect.proofs.Below.{◌≡◌, ℕ, ◌+◌, ◌<◌, Bool, true, false, List, [], ◌∷◌, ◌++◌, length, map, take, get_or, filter, cond}
-use Rattle.mm_expect.proofs.Below.{Option, None, Some, refl, sym, ap, ◌∙◌, subst, append_assoc, ◌==◌, if◌then◌else◌, OnOk, IfOk, append-nil}
+use Rattle.mm_expect.proofs.Below.{Option, None, Some, refl, sym, ap, ◌∙◌, subst, append_assoc, ◌==◌, if◌then◌else◌, append-nil}
 use Rattle.mm_expect.proofs.Below.{map-append, filter_more, Decides-eqb, StepFault, Meddle, Stop, Fail, due, fault_at, is_made_at, Instance}
 use Rattle.mm_expect.proofs.Below.{History, Move, Foreign, moved, Step, by_lists, all_made, Fate, step_moves, after_step, walk, planned}
 use Rattle.mm_expect.proofs.Below.{made_move, end_of, made-append, plan_of, Recorded, Went, recorded_instance, instance_with, move_of}
-use Rattle.mm_expect.proofs.Below.{step_as, steps_of, Walks}
-use Rattle.std.specs.Prelude.{Result, Ok, Err}
+use Rattle.mm_expect.proofs.Below.{step_as, steps_of, Walks, arith, End, Done, Fails, Walked, finished}
 use Rattle.std.proofs.lemmas.Bool.{false_from_ne_true}
 use Rattle.mm_platform.specs.declared.fault.StepFault.TheVariants.{Failed}
 use Rattle.mm_expect.specs.Numbered.{messages_if, messages_where}
@@ -46,15 +45,64 @@ went_then a b c xs ys first second =
           first.history first.closing second.closing;
     }
 
-added : (xs : List (List ℕ)) (v : List ℕ) (flag : Bool) → map Foreign (xs ++ (if flag then v ∷ [] else [])) ≡ map Foreign xs
-    ++ (if flag then Foreign v ∷ [] else [])
-added xs v true = map-append Foreign xs (v ∷ [])
-added xs v false = map-append Foreign xs []
+-- The second walk goes on from the first, which wasn't broken off.
+pub record Then (first second whole : Walked) : Type 0 where
+  pub moves : whole.moves ≡ first.moves ++ second.moves
+  pub broken : whole.broken ≡ second.broken
 
-kept_value : (m : Meddle) (flag : Bool)
-    → map (λ (x : Meddle). x.value.bytes) (cond flag (m ∷ []) []) ≡ (if flag then m.value.bytes ∷ [] else [])
-kept_value m true = refl
-kept_value m false = refl
+after_broken : (step : Step) (values : List (List ℕ)) (ends : End) (r s : Walked) (fault : StepFault)
+    → (after_step step values ends r).broken ≡ Some fault → (r.broken ≡ Some fault → s ≡ r)
+    → after_step step values ends s ≡ after_step step values ends r
+after_broken step values Done r s fault e same = ap (after_step step values Done) (same e)
+after_broken step values (Fails f made) r s fault e same = refl
+
+after_whole : (step : Step) (values : List (List ℕ)) (ends : End) (r m s : Walked)
+    → (after_step step values ends r).broken ≡ None → (r.broken ≡ None → Then r m s)
+    → Then (after_step step values ends r) m (after_step step values ends s)
+after_whole step values Done r m s e goes = record {
+  moves = ap (λ v. step_moves step true values ++ v) (goes e).moves ∙ sym (append_assoc (step_moves step true values) r.moves m.moves);
+  broken = (goes e).broken;
+}
+after_whole step values (Fails f made) r m s e goes = cc
+
+module _ (fates : ℕ → Fate) where
+  pub broken_walked : (n : ℕ) (xs ys : List Step) (fault : StepFault) → (walk fates n xs).broken ≡ Some fault
+      → walk fates n (xs ++ ys) ≡ walk fates n xs
+  broken_walked n [] ys fault e = cc
+  broken_walked n (x ∷ xs) ys fault e =
+      after_broken x (fates n).brings (fates n).ends (walk fates (n + 1) xs) (walk fates (n + 1) (xs ++ ys)) fault e
+      (broken_walked (n + 1) xs ys fault)
+
+  pub then_walked : (n m : ℕ) (xs ys : List Step) → m ≡ n + length xs → (walk fates n xs).broken ≡ None
+      → Then (walk fates n xs) (walk fates m ys) (walk fates n (xs ++ ys))
+  then_walked n m [] ys at e =
+      let same : m ≡ n = omega (arith, at) in
+      subst (λ (k : ℕ). Then finished (walk fates m ys) (walk fates k ys)) same (record { moves = refl; broken = refl })
+  then_walked n m (x ∷ xs) ys at e =
+      after_whole x (fates n).brings (fates n).ends (walk fates (n + 1) xs) (walk fates m ys) (walk fates (n + 1) (xs ++ ys)) e
+      (then_walked (n + 1) m xs ys (omega (arith, at)))
+
+  -- a chronicle that went on by some steps, and by more unless they were broken off, went on by all of them
+  pub walks_broken : {a b : Recorded} (n : ℕ) (xs ys : List Step) {fault : StepFault} → Walks a b (walk fates n xs) (Some fault)
+      → Walks a b (walk fates n (xs ++ ys)) (Some fault)
+  walks_broken {a} {b} n xs ys {fault} w =
+      subst (λ (v : Walked). Walks a b v (Some fault)) (sym (broken_walked n xs ys fault (sym w.broken))) w
+
+  pub walks_then : {a b c : Recorded} (n m : ℕ) (xs ys : List Step) {fault : Option StepFault} → m ≡ n + length xs
+      → Walks a b (walk fates n xs) None → Walks b c (walk fates m ys) fault → Walks a c (walk fates n (xs ++ ys)) fault
+  walks_then {a} {b} {c} n m xs ys at first more =
+      let t = then_walked n m xs ys at (sym first.broken) in record {
+        went = subst (Went a c) (sym t.moves) (went_then a b c (walk fates n xs).moves (walk fates m ys).moves first.went more.went);
+        broken = more.broken ∙ sym t.broken;
+      }
+
+-- the values of some meddles, and of one more where the test passes
+value_more : (front : List Meddle) (m : Meddle) (flag : Bool) → (let v : Meddle → List ℕ = λ x. x.value.bytes in
+    map Foreign (map v (front ++ cond flag (m ∷ []) [])) ≡ map Foreign (map v front) ++ (if flag then Foreign (v m) ∷ [] else []))
+value_more front m true = ap (map Foreign) (map-append (λ (x : Meddle). x.value.bytes) front (m ∷ []))
+    ∙ map-append Foreign (map (λ (x : Meddle). x.value.bytes) front) (m.value.bytes ∷ [])
+value_more front m false =
+    ap (λ (ms : List Meddle). map Foreign (map (λ (x : Meddle). x.value.bytes) ms)) (append-nil front) ∙ sym (append-nil _)
 
 -- the values that are due, one more meddle looked at
 due_taken : (step : ℕ) (meddles : List Meddle) (i : ℕ) (d : Meddle) (flag : Bool) → i < length meddles
@@ -63,11 +111,9 @@ due_taken : (step : ℕ) (meddles : List Meddle) (i : ℕ) (d : Meddle) (flag : 
 due_taken step meddles i d flag l e =
     let m : Meddle = get_or meddles i d in
     let p : Meddle → Bool = λ x. x.step == step in
-    let v : Meddle → List ℕ = λ x. x.value.bytes in
     let front : List Meddle = filter p (take i meddles) in
-    ap (λ (ms : List Meddle). map Foreign (map v ms)) (filter_more p meddles i d l ∙ ap (λ (b : Bool). front ++ cond b (m ∷ []) []) e)
-    ∙ ap (map Foreign) (map-append v front (cond flag (m ∷ []) []) ∙ ap (λ (vs : List (List ℕ)). map v front ++ vs) (kept_value m flag))
-    ∙ added (map v front) m.value.bytes flag
+    ap (λ (ms : List Meddle). map Foreign (map (λ (x : Meddle). x.value.bytes) ms))
+    (filter_more p meddles i d l ∙ ap (λ (b : Bool). front ++ cond b (m ∷ []) []) e) ∙ value_more front m flag
 
 pub bring_one : (a b c : Recorded) (step : ℕ) (meddles : List Meddle) (i : ℕ) (d : Meddle) → i < length meddles
     → (get_or meddles i d).step ≡ step → Went a b (map Foreign (due step (take i meddles)))
@@ -93,37 +139,26 @@ pub made_where_whole : (stop : Stop) (step : ℕ) → fault_at stop step ≡ Non
 made_where_whole (Fail at done) step none = made_at at step (at == step) done refl none
 made_where_whole stop step none = refl
 
-module _ (a b c : Recorded) (stop : Stop) (meddles : List Meddle) (n : ℕ) (step : Step) (later : List Step) where
-  abbrev fates : ℕ → Fate
-  fates = planned (plan_of stop meddles)
-
-  pub walks_whole : (fault : Option StepFault) → fault_at stop n ≡ None → Went a b (step_moves step (is_made_at stop n) (due n meddles))
-      → Walks b c (walk fates (n + 1) later) fault → Walks a c (walk fates n (step ∷ later)) fault
-  walks_whole fault whole first more =
-      let W : Option StepFault
-      → Type 0 = λ f. Walks a c (after_step step (due n meddles) (end_of f (is_made_at stop n)) (walk fates (n + 1) later)) fault in
-      subst W (sym whole) (record {
-        went = went_then a b c (step_moves step true (due n meddles)) (walk fates (n + 1) later).moves
-            (subst (λ (m : Bool). Went a b (step_moves step m (due n meddles))) (made_where_whole stop n whole) first) more.went;
-        broken = more.broken;
-      })
-
-pub changes_then : {E : Type 0} (r : Result (Unit {0}) E) (a b c : Recorded) (action : code.Move) (made : Bool) (values : List (List ℕ))
-    (step : code_step.Step) → step ≡ Changes action → OnOk r (Went b c (made_move made (move_of action))) → Went a b (map Foreign values)
-    → OnOk r (Went a c (step_moves (step_as step) made values))
-changes_then (Err e) a b c action made values step is second first = tt
-changes_then (Ok x) a b c action made values step is second first =
+pub changes_then : (a b c : Recorded) (action : code.Move) (made : Bool) (values : List (List ℕ)) (step : code_step.Step)
+    → step ≡ Changes action → Went a b (map Foreign values) → Went b c (made_move made (move_of action))
+    → Went a c (step_moves (step_as step) made values)
+changes_then a b c action made values step is first second =
     subst (λ (s : code_step.Step). Went a c (step_moves (step_as s) made values)) (sym is)
     (went_then a b c (map Foreign values) (made_move made (move_of action)) first second)
 
-pub walks_on : {E : Type 0} (r : Result (Option StepFault) E) (a b c : Recorded) (stop : Stop) (meddles : List Meddle) (n : ℕ)
-    (step : code_step.Step)
-    (later all : List code_step.Step) → all ≡ step ∷ later → fault_at stop n ≡ None → (made : Bool) → made ≡ is_made_at stop n
-    → Went a b (step_moves (step_as step) made (due n meddles))
-    → IfOk r (Walks b c (walk (planned (plan_of stop meddles)) (n + 1) (steps_of later)))
-    → IfOk r (Walks a c (walk (planned (plan_of stop meddles)) n (steps_of all)))
-walks_on (Err e) a b c stop meddles n step later all is whole made m first more = tt
-walks_on (Ok fault) a b c stop meddles n step later all is whole made m first more =
-    subst (λ (s : List code_step.Step). Walks a c (walk (planned (plan_of stop meddles)) n (steps_of s)) fault) (sym is)
-    (walks_whole a b c stop meddles n (step_as step) (steps_of later) fault whole
-    (subst (λ (x : Bool). Went a b (step_moves (step_as step) x (due n meddles))) m first) more)
+pub walks_on : (a b c : Recorded) (stop : Stop) (meddles : List Meddle) (n : ℕ) (step : code_step.Step) (later all : List code_step.Step)
+    → all ≡ step ∷ later → fault_at stop n ≡ None → (made : Bool) → made ≡ is_made_at stop n
+    → Went a b (step_moves (step_as step) made (due n meddles)) → (fault : Option StepFault)
+    → Walks b c (walk (planned (plan_of stop meddles)) (n + 1) (steps_of later)) fault
+    → Walks a c (walk (planned (plan_of stop meddles)) n (steps_of all)) fault
+walks_on a b c stop meddles n step later all is whole made m first fault more =
+    let fates : ℕ → Fate = planned (plan_of stop meddles) in
+    let effect : made ≡ true = m ∙ made_where_whole stop n whole in
+    let rest : Walked = walk fates (n + 1) (steps_of later) in
+    let W : Option StepFault
+    → Type 0 = λ f. Walks a c (after_step (step_as step) (due n meddles) (end_of f (is_made_at stop n)) rest) fault in
+    subst (λ (s : List code_step.Step). Walks a c (walk fates n (steps_of s)) fault) (sym is) (subst W (sym whole) (record {
+      went = went_then a b c (step_moves (step_as step) true (due n meddles)) rest.moves
+          (subst (λ (x : Bool). Went a b (step_moves (step_as step) x (due n meddles))) effect first) more.went;
+      broken = more.broken;
+    }))

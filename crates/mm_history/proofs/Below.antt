@@ -39,7 +39,7 @@ pub use Rattle.mm_model.specs.SegmentLaws.{joined-push, not_empty}
 pub use Rattle.mm_model.specs.declared.kept.KeptBatch.{KeptBatch}
 pub use Rattle.mm_model.specs.declared.kept.KeptEntry.{KeptEntry}
 pub use Rattle.mm_call.specs.Standing.{instance_by}
-pub use Rattle.mm_history.specs.MarkLaws.{taken, value_taken}
+pub use Rattle.mm_history.specs.MarkLaws.{and_true, own_more}
 pub use Rattle.mm_history.specs.Naming.{anchor_at, BasicNamesAreDecided, first_with, is_at, is_behind, is_here, is_inside_at, is_named}
 pub use Rattle.mm_history.specs.Naming.{is_named_at, is_place, is_place_in, is_within, IsDecided, OptNamesAreDecided, same_batches}
 pub use Rattle.mm_history.specs.Naming.{same_summary, some_place}

@@ -1,17 +1,13 @@
 -- The first batches with so many requests, and tests of lists, decide what they say.
 use Rattle.mm_history.proofs.Below.{◌≡◌, ℕ, ◌-◌, ◌<◌, ◌≤◌, Bool, true, false, ◌&&◌, List, [], ◌∷◌, ◌++◌, length, Option, None, Some, refl}
-use Rattle.mm_history.proofs.Below.{sym, ap, ◌∙◌, arith, le-leb, if◌then◌else◌, not, ◌==◌, nat_le, option_map, Decides, Decides-eqb}
+use Rattle.mm_history.proofs.Below.{sym, ap, ◌∙◌, arith, le-leb, if◌then◌else◌, ◌==◌, nat_le, option_map, Decides, Decides-eqb}
 use Rattle.mm_history.proofs.Below.{Decides-and, Decides-like, append-nil, Batch, size_of, total_of, is_empty, same_batch}
 use Rattle.mm_history.proofs.Below.{same_batch-Decides, total-cons, first_with, same_batches}
 use Rattle.mm_module.specs.BatchLaws.{size_of-pos}
-use Rattle.mm_seal.specs.ReadingLaws.{le_tells}
+use Rattle.std.proofs.lemmas.Bool.{leb-true, ne_eqb}
 
 pub le-Decides : (m n : ℕ) → Decides (nat_le m n) (m ≤ n)
-le-Decides m n = (le_tells m n, le-leb m n)
-
-not_zero : (t : Bool) (p : ℕ) → 0 < p → (p == 0) ≡ t → t ≡ false
-not_zero false p lt e = refl
-not_zero true p lt e = absurd (omega (arith, lt, (Decides-eqb p 0).0 e))
+le-Decides m n = (leb-true m n, le-leb m n)
 
 -- The first batches with so many requests.
 
@@ -50,14 +46,10 @@ first_is [] (b ∷ rest) = refl
 first_is (b ∷ named) rest =
     let p : ℕ = total_of (b ∷ named) in
     let cons = total-cons b named in
-    let some : (p == 0) ≡ false = not_zero (p == 0) p (omega (arith, cons, size_of-pos b)) refl in
+    let some : (p == 0) ≡ false = ne_eqb p 0 (λ none. absurd (omega (arith, none, cons, size_of-pos b))) in
     let fits : nat_le (size_of b) p ≡ true = (le-Decides (size_of b) p).1 (omega (arith, cons)) in
     let left : p - size_of b ≡ total_of named = omega (arith, cons) in
-    ap (λ (z : Bool). if z then Some [] else if nat_le (size_of b) p then option_map (λ (front : List Batch). b ∷ front)
-    (first_with (p - size_of b) (named ++ rest)) else None) some
-    ∙ ap (λ (f : Bool). if f then option_map (λ (front : List Batch). b ∷ front) (first_with (p - size_of b) (named ++ rest)) else None)
-    fits ∙ ap (λ (q : ℕ). option_map (λ (front : List Batch). b ∷ front) (first_with q (named ++ rest))) left
-    ∙ ap (option_map (λ (front : List Batch). b ∷ front)) (first_is named rest)
+    rw (some, fits, left, first_is named rest) refl
 
 -- Lists of batches.
 
@@ -77,7 +69,3 @@ empty-Decides (x ∷ xs) = (λ e. absurd (cc), λ e. absurd (cc))
 pub some_taken : {A : Type 0} (xs : List A) → 0 < length xs → is_empty xs ≡ false
 some_taken [] lt = absurd (omega (arith, lt))
 some_taken (x ∷ xs) lt = refl
-
-pub not-Decides : (b : Bool) → Decides (not b) (b ≡ false)
-not-Decides true = (λ e. absurd (cc), λ e. absurd (cc))
-not-Decides false = (λ e. refl, λ e. refl)

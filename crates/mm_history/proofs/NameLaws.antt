@@ -2,16 +2,15 @@
 use Rattle.mm_history.proofs.Below.{◌≡◌, ℕ, ◌+◌, ◌-◌, ◌<◌, ◌≤◌, Bool, true, false, ◌&&◌, List, [], ◌∷◌, ◌++◌, length, drop, take, Option}
 use Rattle.mm_history.proofs.Below.{None, Some, refl, sym, ap, ◌∙◌, subst, inl, inr, ◌⊎◌, arith, append_assoc, length-append, not, bytes_eq}
 use Rattle.mm_history.proofs.Below.{Decides, Decides-eqb, Decides-and, Decides-or, Decides-like, Decides-ltb, append-nil, take-append-drop}
-use Rattle.mm_history.proofs.Below.{length-take, drop-append-le, take-append-le, length-drop, not_empty, Variant, Basic, Opt, instance_by}
-use Rattle.mm_history.proofs.Below.{zero_bytes, Batch, Meaning, state_after, Place, InBasic, InOpt, Content, summary_of, register_of}
-use Rattle.mm_history.proofs.Below.{own_values, Instance, Entry, History, requests_of, total_of, joined, is_empty, has_value, IsPoint}
-use Rattle.mm_history.proofs.Below.{at_anchor, in_closed, in_current, IsPlaceOf, Names, anchor_after, same_fronts, IsDecided, first_with}
+use Rattle.mm_history.proofs.Below.{length-take, drop-append-le, take-append-le, length-drop, not_empty, Variant, Basic, Opt}
+use Rattle.mm_history.proofs.Below.{zero_bytes, Batch, state_after, Place, InBasic, InOpt, Content, summary_of, register_of}
+use Rattle.mm_history.proofs.Below.{own_values, Instance, Entry, History, requests_of, joined, is_empty, has_value, IsPoint}
+use Rattle.mm_history.proofs.Below.{at_anchor, in_closed, in_current, IsPlaceOf, Names, anchor_after, IsDecided, first_with}
 use Rattle.mm_history.proofs.Below.{is_at, is_behind, is_within, is_inside_at, some_place, is_place, is_named_at, is_named, same_summary}
-use Rattle.mm_history.proofs.Below.{BasicNamesAreDecided, OptNamesAreDecided}
 use Rattle.std.proofs.Math.Seq.{drop-append_seam}
 use Rattle.std.proofs.lemmas.Slice.Eq.{bytes_eq-Decides}
-use Rattle.mm_model.specs.InstanceWords.{basic, opt}
-use Rattle.mm_history.proofs.FirstLaws.{le-Decides, first_tells, first_is, same-Decides, empty-Decides, some_taken, not-Decides}
+use Rattle.std.proofs.lemmas.Bool.{not-true, not_from_false}
+use Rattle.mm_history.proofs.FirstLaws.{le-Decides, first_tells, first_is, same-Decides, empty-Decides, some_taken}
 
 pub decided : {P : Type 0} (r : Bool) → Decides r P → IsDecided r P
 decided true d = d.0 refl
@@ -49,7 +48,7 @@ module _ (i : Instance) (y : History) (named : List Batch) (a e : List ℕ) wher
       (λ (p : ((has_value (joined before) ≡ false) × (length named ≡ length (joined before)))
       × ((a ≡ anchor_after i before) × (e ≡ zero_bytes))). record { clean = p.0.0; counted = p.0.1; anchor = p.1.0; extension = p.1.1 })
       (λ (p : IsAt before). ((p.clean, p.counted), (p.anchor, p.extension)))
-      (Decides-and _ _ (Decides-and _ _ (not-Decides (has_value (joined before))) (Decides-eqb (length named) (length (joined before))))
+      (Decides-and _ _ (Decides-and _ _ (not-true (has_value (joined before)), not_from_false (has_value (joined before))) (Decides-eqb (length named) (length (joined before))))
       (Decides-and _ _ (bytes_eq-Decides a (anchor_after i before)) (bytes_eq-Decides e zero_bytes)))
 
   behind-Decides : (start : ℕ) (before : List (List Entry))
@@ -219,99 +218,67 @@ module _ (i : Instance) (y : History) (named : List Batch) (a e : List ℕ) wher
 
 -- The test of a whole content.
 
-basic_place : (meaning : Meaning) (key : List ℕ) (y : History) (named : List Batch) (place : Place)
-    → Decides (is_place Basic (basic meaning key) y named place) (IsPlaceOf Basic (basic meaning key) y named place)
-basic_place meaning key y named (InBasic s) = bytes_eq-Decides s.bytes (summary_of meaning.id named)
-basic_place meaning key y named (InOpt a e) = (λ t. absurd (cc), λ p. absurd p)
+place-Decides : (variant : Variant) (i : Instance) (y : History) (named rest : List Batch) (place : Place) → y.batches ≡ named ++ rest
+    → Decides (is_place variant i y named place) (IsPlaceOf variant i y named place)
+place-Decides Basic i y named rest (InBasic s) first = bytes_eq-Decides s.bytes (summary_of i.meaning.id named)
+place-Decides Opt i y named rest (InOpt a e) first = point-Decides i y named a.bytes e.bytes rest first
+place-Decides _ i y named rest place first = (λ t. absurd (cc), λ p. absurd p)
 
-opt_place : (meaning : Meaning) (key barrier : List ℕ) (y : History) (named rest : List Batch) (place : Place) → y.batches ≡ named ++ rest
-    → Decides (is_place Opt (opt meaning key barrier) y named place) (IsPlaceOf Opt (opt meaning key barrier) y named place)
-opt_place meaning key barrier y named rest (InBasic s) first = (λ t. absurd (cc), λ p. absurd p)
-opt_place meaning key barrier y named rest (InOpt a e) first = point-Decides (opt meaning key barrier) y named a.bytes e.bytes rest first
-
-names_by : (i : Instance) (y : History) (content : Content) → ((named rest : List Batch) → y.batches ≡ named ++ rest
-    → Decides (is_place i.variant i y named content.place) (IsPlaceOf i.variant i y named content.place))
-    → (found : Option (List Batch)) → first_with content.position y.batches ≡ found
-    → Decides (is_named_at i y content found) (Names i y content)
-names_by i y content places None e = (
-  λ t. absurd (cc),
-  λ n.
-      let there : first_with content.position y.batches ≡ Some n.named =
-      ap (λ (p : ℕ). first_with p y.batches) n.position ∙ ap (first_with (total_of n.named)) n.first ∙ first_is n.named n.rest in
-      absurd (cc),
-)
-names_by i y content places (Some named) e =
-    let t = first_tells content.position y.batches named e in
-    let state : List ℕ = state_after i.meaning (requests_of named) in
-    let both = Decides-and (bytes_eq content.state state) (is_place i.variant i y named content.place)
-    (bytes_eq-Decides content.state state) (places named t.0 t.1.0) in (
-      λ yes. let p = both.0 yes in record { named = named; rest = t.0; first = t.1.0; position = t.1.1; state = p.0; place = p.1 },
-      λ n.
-          let same : n.named ≡ named = same_fronts n.named named n.rest t.0 (sym n.first ∙ t.1.0) (sym n.position ∙ t.1.1) in
-          both.1 (subst (λ (bs : List Batch). (content.state ≡ state_after i.meaning (requests_of bs))
-          × IsPlaceOf i.variant i y bs content.place) same (n.state, n.place)),
-    )
-
-pub basic_decided : BasicNamesAreDecided
-basic_decided meaning key y content =
-    let i : Instance = basic meaning key in
-    decided (is_named i y content)
-    (names_by i y content (λ named rest first. basic_place meaning key y named content.place) (first_with content.position y.batches) refl)
-
-pub opt_decided : OptNamesAreDecided
-opt_decided meaning key barrier y content =
-    let i : Instance = opt meaning key barrier in
-    decided (is_named i y content)
-    (names_by i y content (λ named rest first. opt_place meaning key barrier y named rest content.place first)
-    (first_with content.position y.batches) refl)
-
--- the same of either variant, by what the test gave
-pub named_by : (variant : Variant) (meaning : Meaning) (key barrier : List ℕ) (y : History) (content : Content) (r : Bool)
-    → (let i = instance_by variant meaning key barrier in r ≡ is_named i y content → IsDecided r (Names i y content))
-named_by Basic meaning key barrier y content r e =
-    subst (λ (t : Bool). IsDecided t (Names (basic meaning key) y content)) (sym e) (basic_decided meaning key y content)
-named_by Opt meaning key barrier y content r e =
-    subst (λ (t : Bool). IsDecided t (Names (opt meaning key barrier) y content)) (sym e) (opt_decided meaning key barrier y content)
-
--- By what another snapshot says that names the same position.
-
+-- the first batches that are found, where another content of the same position names them
 pub first_beside : (i : Instance) (y : History) (content other : Content) → content.position ≡ other.position → (n : Names i y other)
     → first_with content.position y.batches ≡ Some n.named
 first_beside i y content other same n =
     (λ j. first_with ((same ∙ n.position) j) (n.first j)) ∙ first_is n.named n.rest
 
-pub named_beside : (i : Instance) (y : History) (content other : Content) → content.position ≡ other.position → (n : Names i y other)
-    → is_named i y content ≡ (bytes_eq content.state other.state && is_place i.variant i y n.named content.place)
-named_beside i y content other same n = ap (is_named_at i y content) (first_beside i y content other same n)
-    ∙ ap (λ (s : List ℕ). bytes_eq content.state s && is_place i.variant i y n.named content.place) (sym n.state)
+names-Decides : (i : Instance) (y : History) (content : Content) (found : Option (List Batch))
+    → first_with content.position y.batches ≡ found → Decides (is_named_at i y content found) (Names i y content)
+names-Decides i y content None e = (
+  λ t. absurd (cc),
+  λ n. let clash : Some n.named ≡ None = sym (first_beside i y content content refl n) ∙ e in absurd (cc),
+)
+names-Decides i y content (Some named) e =
+    let t = first_tells content.position y.batches named e in
+    let state : List ℕ = state_after i.meaning (requests_of named) in
+    let both = Decides-and (bytes_eq content.state state) (is_place i.variant i y named content.place)
+    (bytes_eq-Decides content.state state) (place-Decides i.variant i y named t.0 content.place t.1.0) in (
+      λ yes. let p = both.0 yes in record { named = named; rest = t.0; first = t.1.0; position = t.1.1; state = p.0; place = p.1 },
+      λ n.
+          let found : Some n.named ≡ Some named = sym (first_beside i y content content refl n) ∙ e in
+          let same : n.named ≡ named = cc in
+          both.1 (subst (λ (bs : List Batch). (content.state ≡ state_after i.meaning (requests_of bs))
+          × IsPlaceOf i.variant i y bs content.place) same (n.state, n.place)),
+    )
 
-pub stated_beside : (i : Instance) (y : History) (content other : Content) → content.position ≡ other.position → (r : Bool)
-    → r ≡ bytes_eq content.state other.state → r ≡ true
-    → (n : Names i y other) → is_place i.variant i y n.named content.place ≡ is_named i y content
-stated_beside i y content other same r test on n =
-    sym (named_beside i y content other same n ∙ ap (λ (b : Bool). b && is_place i.variant i y n.named content.place) (sym test ∙ on))
+-- by what the test gave
+pub named_by : (i : Instance) (y : History) (content : Content) (r : Bool) → r ≡ is_named i y content → IsDecided r (Names i y content)
+named_by i y content r e =
+    let whole = names-Decides i y content (first_with content.position y.batches) refl in
+    subst (λ (t : Bool). IsDecided t (Names i y content)) (sym e) (decided (is_named i y content) whole)
 
-summary_beside : (meaning : Meaning) (key : List ℕ) (y : History) (named : List Batch) (place other : Place)
-    → IsPlaceOf Basic (basic meaning key) y named other → same_summary place other ≡ is_place Basic (basic meaning key) y named place
-summary_beside meaning key y named (InBasic s) (InBasic t) p = ap (bytes_eq s.bytes) p
-summary_beside meaning key y named (InBasic s) (InOpt a e) p = absurd p
-summary_beside meaning key y named (InOpt a e) other p = refl
+-- By what another snapshot says that names the same position.
 
-module _ (variant : Variant) (meaning : Meaning) (key barrier : List ℕ) (y : History) (content other : Content)
-    (same : content.position ≡ other.position) {r : Bool} (test : r ≡ bytes_eq content.state other.state) where
-  abbrev i : Instance
-  i = instance_by variant meaning key barrier
+summary_beside : (i : Instance) (y : History) (named : List Batch) (place other : Place) → IsPlaceOf Basic i y named other
+    → same_summary place other ≡ is_place Basic i y named place
+summary_beside i y named (InBasic s) (InBasic t) p = ap (bytes_eq s.bytes) p
+summary_beside i y named (InBasic s) (InOpt a e) p = absurd p
+summary_beside i y named (InOpt a e) other p = refl
 
-  pub state_beside : r ≡ false → Names i y other → IsDecided false (Names i y content)
-  state_beside off n = named_by variant meaning key barrier y content false
-      (sym (named_beside i y content other same n ∙ ap (λ (b : Bool). b && is_place i.variant i y n.named content.place) (sym test ∙ off)))
+module _ (i : Instance) (y : History) (content other : Content) (same : content.position ≡ other.position) {r : Bool}
+    (test : r ≡ bytes_eq content.state other.state) (n : Names i y other) where
+  named_beside : is_named i y content ≡ (r && is_place i.variant i y n.named content.place)
+  named_beside = ap (is_named_at i y content) (first_beside i y content other same n)
+      ∙ ap (λ (b : Bool). b && is_place i.variant i y n.named content.place) (ap (bytes_eq content.state) (sym n.state) ∙ sym test)
 
-  basic_by : (v : Variant) → v ≡ Basic → (let x = instance_by v meaning key barrier in r ≡ true → Names x y other
-      → same_summary content.place other.place ≡ is_named x y content)
-  basic_by Basic e on n = summary_beside meaning key y n.named content.place other.place n.place
-      ∙ stated_beside (basic meaning key) y content other same r test on n
-  basic_by Opt e on n = absurd (cc)
+  pub state_beside : r ≡ false → IsDecided false (Names i y content)
+  state_beside off =
+      named_by i y content false (sym (named_beside ∙ ap (λ (b : Bool). b && is_place i.variant i y n.named content.place) off))
 
-  pub basic_beside : {s : Bool} → variant ≡ Basic → r ≡ true → s ≡ same_summary content.place other.place → Names i y other
+  pub stated_beside : r ≡ true → is_place i.variant i y n.named content.place ≡ is_named i y content
+  stated_beside on = sym (named_beside ∙ ap (λ (b : Bool). b && is_place i.variant i y n.named content.place) on)
+
+  pub basic_beside : {s : Bool} → i.variant ≡ Basic → r ≡ true → s ≡ same_summary content.place other.place
       → IsDecided s (Names i y content)
-  basic_beside {s} e on is n = named_by variant meaning key barrier y content s (is ∙ basic_by variant e on n)
+  basic_beside {s} basic on is =
+      let named : IsPlaceOf Basic i y n.named other.place = subst (λ (v : Variant). IsPlaceOf v i y n.named other.place) basic n.place in
+      named_by i y content s (is ∙ summary_beside i y n.named content.place other.place named
+      ∙ ap (λ (v : Variant). is_place v i y n.named content.place) (sym basic) ∙ stated_beside on)

@@ -1,16 +1,18 @@
 -- The loops that look for a named position.
-use Rattle.mm_history.proofs.Below.{◌≡◌, ℕ, zero, suc, ◌+◌, ◌-◌, ◌<◌, ◌≤◌, Bool, true, false, ◌||◌, List, [], ◌∷◌, ◌++◌, length, take, drop}
+use Rattle.mm_history.proofs.Below.{◌≡◌, ℕ, ◌+◌, ◌-◌, ◌<◌, ◌≤◌, Bool, true, false, List, [], ◌∷◌, ◌++◌, length, take, drop}
 use Rattle.mm_history.proofs.Below.{get_or, Option, None, Some, refl, sym, ap, ◌∙◌, subst, arith, length-append, length-drop, Vec, not}
-use Rattle.mm_history.proofs.Below.{◌==◌, bytes_eq, list_any, option_map, or_parts, or_from, Decides-eqb, take-map, drop-map, take_all}
-use Rattle.mm_history.proofs.Below.{length-map, Batch, Meaning, state_after, Variant, Place, InBasic, InOpt, Content, Instance, Names}
-use Rattle.mm_history.proofs.Below.{Basic, Opt, start_of, anchored_of, register_of, own_values, Entry, History, requests_of, joined}
-use Rattle.mm_history.proofs.Below.{values_of, is_empty, has_value, has_value-append, joined-push, is_long, KeptBatch, KeptEntry}
+use Rattle.mm_history.proofs.Below.{◌==◌, bytes_eq, option_map, Decides-eqb, take-map, drop-map, take_all}
+use Rattle.mm_history.proofs.Below.{length-map, Batch, Meaning, state_after, Variant, Place, InBasic, Content, Instance, Names}
+use Rattle.mm_history.proofs.Below.{Basic, Opt, start_of, anchored_of, register_of, Entry, History, requests_of, joined}
+use Rattle.mm_history.proofs.Below.{values_of, is_empty, has_value, has_value-append, joined-push, KeptBatch, KeptEntry}
 use Rattle.mm_history.proofs.Below.{kept_batch, kept_batches, kept_entry, kept_entries, kept_segments, first_with, same_batches, anchor_at}
-use Rattle.mm_history.proofs.Below.{is_at, is_behind, is_within, is_here, is_inside_at, some_place, is_place_in, is_place, is_named_at}
-use Rattle.mm_history.proofs.Below.{instance_by, IsDecided, taken}
+use Rattle.mm_history.proofs.Below.{is_at, is_behind, is_here, is_inside_at, some_place, is_place_in, is_place, is_named_at}
+use Rattle.mm_history.proofs.Below.{instance_by, IsDecided, and_true, zero_bytes, nat_lt}
 use Rattle.std.specs.Prelude.{◌&&◌}
 use Rattle.mm_history.proofs.NameLaws.{first_beside, named_by, stated_beside}
-use Rattle.mm_history.proofs.TakenLaws.{not_equal, not_less, at_elsewhere_as, not_or, segments_left, anchor_more, anchor_none}
+use Rattle.mm_call.specs.MoveLaws.{anchor-nil}
+use Rattle.std.proofs.lemmas.Bool.{and_left, and_right, ne_eqb, le-ltb}
+use Rattle.mm_history.proofs.TakenLaws.{not_or, segments_left, anchor_more, taken}
 
 -- all from a place on
 pub back_is : (xs : List KeptBatch) (n : ℕ) → take (length xs - n) (drop n xs) ≡ drop n xs
@@ -28,12 +30,9 @@ inside_by barrier last y named a e bs cs {start} all current at same is =
     is ∙ (λ j. (same ∙ (λ k. same_batches (back k) (current k))) j && is_behind barrier last start named a e)
     ∙ ap (λ (n : ℕ). same_batches (drop n y.batches) y.current && is_behind barrier last n named a e) begins
 
-false_first : (x z : Bool) → x ≡ false → z ≡ (x || z)
-false_first x z f = sym (ap (λ (b : Bool). b || z) f)
-
 is_empty_by : (xs : List (List Entry)) (n : ℕ) → n ≡ length xs → (n == 0) ≡ is_empty xs
 is_empty_by [] n same = (Decides-eqb n 0).1 same
-is_empty_by (x ∷ xs) n same = not_equal n 0 (λ z. absurd (omega (arith, same, z)))
+is_empty_by (x ∷ xs) n same = ne_eqb n 0 (λ z. absurd (omega (arith, same, z)))
 
 -- How far the walk over the closed segments has come.
 module _ (id : ℕ) (barrier : List ℕ) (y : History) (named : List Batch) (a e : List ℕ) where
@@ -45,28 +44,23 @@ module _ (id : ℕ) (barrier : List ℕ) (y : History) (named : List Batch) (a e
     pub left : later ≡ length rest
     pub same : some_place id barrier y named a e before rest ≡ some_place id barrier y named a e [] all
 
+  not_at : (here : List ℕ) (start : ℕ) (t : Bool) → length named < start → is_at t here start named a e ≡ false
+  not_at here start t lt = and_left (t && (length named == start)) (bytes_eq a here && bytes_eq e zero_bytes)
+      (and_right t (length named == start) (ne_eqb (length named) start (λ s. absurd (omega (arith, lt, s)))))
+
+  not_behind : (here : List ℕ) (start : ℕ) → length named < start → is_behind barrier here start named a e ≡ false
+  not_behind here start lt = and_left (nat_lt start (length named)) _ (le-ltb start (length named) (omega (arith, lt)))
+
   -- behind more entries than there are named batches, only the open segment is left
-  past : (last : List ℕ) → last ≡ anchor_at id barrier y.closed → (before rest : List (List Entry)) → length named < length (joined before)
-      → is_inside_at barrier last y named a e ≡ some_place id barrier y named a e before rest
-  past last l before [] lt = ap (λ (x : List ℕ). is_inside_at barrier x y named a e) l
-      ∙ false_first _ (is_inside_at barrier (anchor_at id barrier y.closed) y named a e)
-      (sym (at_elsewhere_as (anchor_at id barrier before) (length (joined before)) named a e (not (has_value (joined before)))
-      (λ s. absurd (omega (arith, lt, s)))))
-  past last l before (segment ∷ rest) lt =
-      let start : ℕ = length (joined before) in
-      let at : Bool = is_at (not (has_value (joined before))) (anchor_at id barrier before) start named a e in
-      let behind : Bool = is_behind barrier (anchor_at id barrier before) start named a e in
-      let within : Bool = is_within start named (length segment) (is_empty rest && is_empty y.current) in
-      let off : at ≡ false = sym
-      (at_elsewhere_as (anchor_at id barrier before) start named a e (not (has_value (joined before))) (λ s. absurd (omega (arith, lt, s))))
-      in
-      let gone : behind ≡ false = ap (λ (b : Bool). b && (bytes_eq a (anchor_at id barrier before) && bytes_eq e
-      (register_of (own_values barrier (drop start named))))) (not_less start (length named) (omega (arith, lt))) in
-      let none : (at || (behind && within)) ≡ false = ap (λ (b : Bool). b || (behind && within)) off
-      ∙ ap (λ (b : Bool). b && within) gone in
-      past last l (before ++ segment ∷ []) rest
-      (omega (arith, lt, ap length (joined-push before segment), length-append (joined before) segment))
-      ∙ false_first (at || (behind && within)) (some_place id barrier y named a e (before ++ segment ∷ []) rest) none
+  past : (before rest : List (List Entry)) → length named < length (joined before)
+      → is_inside_at barrier (anchor_at id barrier y.closed) y named a e ≡ some_place id barrier y named a e before rest
+  past before [] lt = rw (not_at (anchor_at id barrier before) (length (joined before)) (not (has_value (joined before))) lt) refl
+  past before (segment ∷ rest) lt =
+      rw (
+        not_at (anchor_at id barrier before) (length (joined before)) (not (has_value (joined before))) lt,
+        not_behind (anchor_at id barrier before) (length (joined before)) lt,
+      ) (past (before ++ segment ∷ []) rest
+      (omega (arith, lt, ap length (joined-push before segment), length-append (joined before) segment)))
 
 -- The walk, over owned segments and batches.
 module _ (id : ℕ) (barrier : List ℕ) (y : History) (named : List KeptBatch) (a e : List ℕ) where
@@ -78,7 +72,7 @@ module _ (id : ℕ) (barrier : List ℕ) (y : History) (named : List KeptBatch) 
   pub walk_begins : {A : Type 0} (closed : List (Vec KeptEntry A)) (here : List ℕ) → here ≡ start_of Opt id
       → Reached id barrier y (kept_batches named) a e [] (kept_segments closed) (kept_segments closed) here 0 true (length closed)
   walk_begins {A} closed here is = record {
-    here_is = anchor_none id barrier here is;
+    here_is = is ∙ anchor-nil id;
     entries_is = refl;
     clean_is = refl;
     fits = omega arith;
@@ -121,9 +115,7 @@ module _ {A : Type 0} {id : ℕ} {barrier : List ℕ} {y : History} {a e here : 
 
   on_then : some_place id barrier y (kept_batches named) a e (before ++ items ∷ []) rest
       ≡ some_place id barrier y (kept_batches named) a e [] (kept_segments closed)
-  on_then =
-      let x = cut in
-      false_first _ (some_place id barrier y (kept_batches named) a e (before ++ items ∷ []) rest) (sym here_by ∙ not_here) ∙ x.same
+  on_then = let x = cut in rw (sym here_by ∙ not_here) at x.same
 
   pub walk_past : {last : List ℕ} {r : Bool} → length named - entries < size → kept_segments closed ≡ y.closed
       → last ≡ anchor_at id barrier (kept_segments closed) → r ≡ is_inside_at barrier last y (kept_batches named) a e
@@ -132,7 +124,8 @@ module _ {A : Type 0} {id : ℕ} {barrier : List ℕ} {y : History} {a e here : 
       let x = cut in
       let more : length (joined (before ++ items ∷ [])) ≡ length (joined before) + length items =
       ap length (joined-push before items) ∙ length-append (joined before) items in
-      inside ∙ past id barrier y (kept_batches named) a e last (reads ∙ ap (anchor_at id barrier) all) (before ++ items ∷ []) rest
+      inside ∙ ap (λ (l : List ℕ). is_inside_at barrier l y (kept_batches named) a e) (reads ∙ ap (anchor_at id barrier) all)
+      ∙ past id barrier y (kept_batches named) a e (before ++ items ∷ []) rest
       (omega (arith, over, sizes, x.entries_is, x.fits, more, length-map named kept_batch)) ∙ on_then
       ∙ ap (some_place id barrier y (kept_batches named) a e []) all
 
@@ -157,31 +150,13 @@ module _ {A : Type 0} {id : ℕ} {barrier : List ℕ} {y : History} {a e here : 
         same = on_then;
       })
 
--- the first batches aren't long either
-pub short_front : (n : ℕ) (batches : List KeptBatch) → list_any is_long (kept_batches batches) ≡ false
-    → list_any is_long (kept_batches (take n batches)) ≡ false
-short_front zero batches short = refl
-short_front (suc n) [] short = refl
-short_front (suc n) (x ∷ batches) short =
-    let p = or_parts (is_long (kept_batch x)) (list_any is_long (kept_batches batches)) short in
-    or_from (is_long (kept_batch x)) (list_any is_long (kept_batches (take n batches))) p.0 (short_front n batches p.1)
-
 -- The whole test, by what was found.
-
-and_no : (b : Bool) → (b && false) ≡ false
-and_no true = refl
-and_no false = refl
-
-and_yes : (b : Bool) → (b && true) ≡ b
-and_yes true = refl
-and_yes false = refl
 
 place_as : (variant : Variant) (meaning : Meaning) (key barrier : List ℕ) (y : History) (named : List Batch) (place : Place)
     → (let i = instance_by variant meaning key barrier in
     is_place_in variant meaning.id barrier y named place ≡ is_place i.variant i y named place)
 place_as Basic meaning key barrier y named (InBasic s) = refl
-place_as Basic meaning key barrier y named (InOpt a e) = refl
-place_as Opt meaning key barrier y named place = refl
+place_as _ meaning key barrier y named place = refl
 
 state_as : (variant : Variant) (meaning : Meaning) (key barrier : List ℕ) (requests : List (List ℕ))
     → state_after meaning requests ≡ state_after (instance_by variant meaning key barrier).meaning requests
@@ -201,7 +176,7 @@ module _ (variant : Variant) (meaning : Meaning) (key barrier : List ℕ) (y : H
   counted = ap (first_with content.position) (sym all) ∙ sym counts
 
   pub not_counted : found ≡ None → IsDecided false (Names i y content)
-  not_counted none = named_by variant meaning key barrier y content false
+  not_counted none = named_by i y content false
       (sym (ap (is_named_at i y content) (counted ∙ ap (option_map (λ (n : ℕ). take n (kept_batches batches))) none)))
 
   module _ {count id : ℕ} {placed : Bool} (some : found ≡ Some count) (ids : id ≡ meaning.id)
@@ -220,16 +195,16 @@ module _ (variant : Variant) (meaning : Meaning) (key barrier : List ℕ) (y : H
     pub other_place : placed ≡ false → IsDecided false (Names i y content)
     other_place off =
         let s = bytes_eq content.state (state_after i.meaning (requests_of named)) in
-        named_by variant meaning key barrier y content false
-        (sym (ap (is_named_at i y content) named_is ∙ ap (λ (b : Bool). s && b) (placed_is ∙ off) ∙ and_no s))
+        named_by i y content false
+        (sym (ap (is_named_at i y content) named_is ∙ ap (λ (b : Bool). s && b) (placed_is ∙ off) ∙ and_right s false refl))
 
     pub stated_by : {state : List ℕ} {s : Bool} → placed ≡ true → state ≡ state_after meaning (requests_of named)
         → s ≡ bytes_eq content.state state → IsDecided s (Names i y content)
     stated_by {state} {s} on run test =
         let t = bytes_eq content.state (state_after i.meaning (requests_of named)) in
-        named_by variant meaning key barrier y content s
+        named_by i y content s
         (test ∙ ap (bytes_eq content.state) (run ∙ state_as variant meaning key barrier (requests_of named))
-        ∙ sym (ap (is_named_at i y content) named_is ∙ ap (λ (b : Bool). t && b) (placed_is ∙ on) ∙ and_yes t))
+        ∙ sym (ap (is_named_at i y content) named_is ∙ ap (λ (b : Bool). t && b) (placed_is ∙ on) ∙ and_true t))
 
     -- by what another snapshot says that names the position
     pub placed_beside : {s : Bool} (other : Content) → content.position ≡ other.position → s ≡ bytes_eq content.state other.state
@@ -237,5 +212,5 @@ module _ (variant : Variant) (meaning : Meaning) (key barrier : List ℕ) (y : H
     placed_beside {s} other same test on n =
         let there : Some named ≡ Some n.named = sym named_is ∙ first_beside i y content other same n in
         let one : named ≡ n.named = cc in
-        named_by variant meaning key barrier y content placed (sym placed_is
-        ∙ ap (λ (bs : List Batch). is_place i.variant i y bs content.place) one ∙ stated_beside i y content other same s test on n)
+        named_by i y content placed (sym placed_is
+        ∙ ap (λ (bs : List Batch). is_place i.variant i y bs content.place) one ∙ stated_beside i y content other same test n on)

@@ -1,36 +1,46 @@
--- One more batch, or one more segment, of what is walked over.
-use Rattle.mm_history.proofs.Below.{◌≡◌, ◌≢◌, ℕ, zero, suc, ◌+◌, ◌<◌, ◌≤◌, Bool, true, false, ◌||◌, List, [], ◌∷◌, ◌++◌, length, map, take}
-use Rattle.mm_history.proofs.Below.{drop, get_or, Some, refl, sym, ap, ◌∙◌, arith, Vec, not, ◌==◌, nat_lt, bytes_eq, list_any, option_map}
-use Rattle.mm_history.proofs.Below.{or_parts, Decides-eqb, Decides-ltb, append-nil, map-append, take-map, drop-map, drop_more}
-use Rattle.mm_history.proofs.Below.{flat_map-append, length-map, Batch, members_of, Meaning, state_after, state_after-append, Opt}
-use Rattle.mm_history.proofs.Below.{zero_bytes, start_of, anchored_of, link, summary_of, register_of, own_values, Entry, requests_of}
+-- One more of a list that is walked over.
+use Rattle.mm_history.proofs.Below.{◌≡◌, ◌≢◌, ℕ, zero, suc, ◌+◌, ◌<◌, Bool, true, false, ◌||◌, List, [], ◌∷◌, ◌++◌, length, map, take}
+use Rattle.mm_history.proofs.Below.{drop, get_or, Some, refl, sym, ap, ◌∙◌, arith, Vec, not, nat_lt, bytes_eq, list_any, option_map}
+use Rattle.mm_history.proofs.Below.{or_parts, or_from, Decides-ltb, append-nil, map-append, take-map, drop-map, drop_more}
+use Rattle.mm_history.proofs.Below.{length-map, Batch, members_of, Meaning, state_after, state_after-append}
+use Rattle.mm_history.proofs.Below.{anchored_of, register_of, own_values, Entry, requests_of}
 use Rattle.mm_history.proofs.Below.{values_of, is_long, KeptBatch, KeptEntry, kept_batch, kept_batches, kept_entries, kept_segments}
-use Rattle.mm_history.proofs.Below.{first_with, same_batches, anchor_at, is_at, is_behind, taken}
+use Rattle.mm_history.proofs.Below.{first_with, same_batches, anchor_at, is_behind}
 use Rattle.std.specs.Prelude.{◌&&◌}
 use Rattle.mm_module.specs.MeaningWords.{state_from}
 use Rattle.mm_model.specs.Chains.{anchor_of}
-use Rattle.mm_model.specs.DigestLaws.{summary-push, anchor-push}
+use Rattle.mm_model.specs.DigestLaws.{anchor-push}
+use Rattle.mm_call.proofs.Above.{requests-push}
+use Rattle.std.proofs.lemmas.Bool.{false_from_ne_true}
+use Rattle.std.proofs.lemmas.List.{take_more}
 use Rattle.mm_history.proofs.FirstLaws.{same-Decides}
 
-pub summary_taken : (id : ℕ) (batches : List KeptBatch) (i : ℕ) (batch : KeptBatch) {b : Batch} {s next : List ℕ} → i < length batches
-    → batch ≡ get_or batches i batch → s ≡ summary_of id (kept_batches (take i batches))
-    → b ≡ kept_batch batch → next ≡ link s b → next ≡ summary_of id (kept_batches (take (i + 1) batches))
-summary_taken id batches i batch l is so_far same n = n ∙ (λ j. link (so_far j) (same j))
-    ∙ sym (summary-push id (kept_batches (take i batches)) (kept_batch batch)) ∙ ap (summary_of id) (taken kept_batch batches i batch l is)
+-- one more of a list, as contracts see it
+pub taken : {K E : Type 0} (kept : K → E) (xs : List K) (i : ℕ) (x : K) → i < length xs → x ≡ get_or xs i x
+    → map kept (take i xs) ++ kept x ∷ [] ≡ map kept (take (i + 1) xs)
+taken kept xs i x l is = ap (λ y. map kept (take i xs) ++ kept y ∷ []) is
+    ∙ sym (ap (map kept) (take_more xs i x l) ∙ map-append kept (take i xs) (get_or xs i x ∷ []))
 
-requests-push : (batches : List Batch) (b : Batch) → requests_of (batches ++ b ∷ []) ≡ requests_of batches ++ members_of b
-requests-push batches b =
-    flat_map-append members_of batches (b ∷ []) ∙ ap (λ (rs : List (List ℕ)). requests_of batches ++ rs) (append-nil (members_of b))
+-- what goes on by each of a list has gone on by one more
+pub more_taken : {K E S : Type 0} (kept : K → E) (found : List E → S) (on : S → E → S)
+    → ((es : List E) (e : E) → found (es ++ e ∷ []) ≡ on (found es) e) → (xs : List K) (i : ℕ) (x : K) {s next : S} → i < length xs
+    → x ≡ get_or xs i x → s ≡ found (map kept (take i xs)) → next ≡ on s (kept x) → next ≡ found (map kept (take (i + 1) xs))
+more_taken kept found on push xs i x l is so_far n = n ∙ ap (λ y. on y (kept x)) so_far
+    ∙ sym (push (map kept (take i xs)) (kept x)) ∙ ap found (taken kept xs i x l is)
 
-pub state_taken : (meaning : Meaning) (batches : List KeptBatch) (i : ℕ) (batch : KeptBatch) {b : Batch} {s lent next : List ℕ}
-    → i < length batches → batch ≡ get_or batches i batch → s ≡ state_after meaning (requests_of (kept_batches (take i batches)))
-    → lent ≡ s → b ≡ kept_batch batch → next ≡ state_from meaning lent (members_of b)
-    → next ≡ state_after meaning (requests_of (kept_batches (take (i + 1) batches)))
-state_taken meaning batches i batch l is so_far lend same n =
-    n ∙ (λ j. state_from meaning ((lend ∙ so_far) j) (members_of (same j)))
-    ∙ sym (state_after-append meaning (requests_of (kept_batches (take i batches))) (members_of (kept_batch batch)))
-    ∙ ap (state_after meaning) (sym (requests-push (kept_batches (take i batches)) (kept_batch batch)))
-    ∙ ap (λ (bs : List Batch). state_after meaning (requests_of bs)) (taken kept_batch batches i batch l is)
+pub state_more : (meaning : Meaning) (batches : List Batch) (b : Batch) → state_after meaning (requests_of (batches ++ b ∷ []))
+    ≡ state_from meaning (state_after meaning (requests_of batches)) (members_of b)
+state_more meaning batches b =
+    ap (state_after meaning) (requests-push batches b) ∙ state_after-append meaning (requests_of batches) (members_of b)
+
+-- the first batches aren't long either, nor is each
+pub short_front : (n : ℕ) (batches : List KeptBatch) → list_any is_long (kept_batches batches) ≡ false
+    → list_any is_long (kept_batches (take n batches)) ≡ false
+short_front zero batches short = refl
+short_front (suc n) [] short = refl
+short_front (suc n) (x ∷ batches) short =
+    let p = or_parts (is_long (kept_batch x)) (list_any is_long (kept_batches batches)) short in
+    or_from (is_long (kept_batch x)) (list_any is_long (kept_batches (take n batches))) p.0 (short_front n batches p.1)
 
 pub short_at : (batches : List KeptBatch) (i : ℕ) (batch : KeptBatch) → i < length batches → batch ≡ get_or batches i batch
     → list_any is_long (kept_batches batches) ≡ false → is_long (kept_batch batch) ≡ false
@@ -54,29 +64,9 @@ first_stops batches i count left position same empty so_far = ap (λ (n : ℕ). 
     ∙ ap (option_map (λ (front : List Batch). kept_batches (take i batches) ++ front))
     (sym (ap (λ (n : ℕ). first_with n (kept_batches (drop i batches))) empty ∙ none_left (kept_batches (drop i batches)))) ∙ so_far
 
-and_false : (t : Bool) → (t && false) ≡ false
-and_false true = refl
-and_false false = refl
-
-false_of : (r : Bool) → (r ≡ true → ⊥) → false ≡ r
-false_of true n = absurd (n refl)
-false_of false n = refl
-
 pub same_not : (bs cs : List KeptBatch) → length bs ≢ length cs → false ≡ same_batches (kept_batches bs) (kept_batches cs)
-same_not bs cs n = false_of (same_batches (kept_batches bs) (kept_batches cs)) (λ t.
-    n (sym (length-map bs kept_batch) ∙ ap length ((same-Decides (kept_batches bs) (kept_batches cs)).0 t) ∙ length-map cs kept_batch))
-
-pub not_equal : (m n : ℕ) → m ≢ n → (m == n) ≡ false
-not_equal m n d = sym (false_of (m == n) (λ t. d ((Decides-eqb m n).0 t)))
-
-pub not_less : (m n : ℕ) → n ≤ m → nat_lt m n ≡ false
-not_less m n le = sym (false_of (nat_lt m n) (λ t. absurd (omega (arith, le, (Decides-ltb m n).0 t))))
-
-pub at_elsewhere_as : (here : List ℕ) (start : ℕ) (named : List Batch) (a e : List ℕ) (t : Bool) → length named ≢ start
-    → false ≡ is_at t here start named a e
-at_elsewhere_as here start named a e true d =
-    sym (ap (λ (b : Bool). b && (bytes_eq a here && bytes_eq e zero_bytes)) (not_equal (length named) start d))
-at_elsewhere_as here start named a e false d = refl
+same_not bs cs n = sym (false_from_ne_true _ (λ t.
+    n (sym (length-map bs kept_batch) ∙ ap length ((same-Decides (kept_batches bs) (kept_batches cs)).0 t) ∙ length-map cs kept_batch)))
 
 pub not_or : (s t : Bool) → not (s || t) ≡ (not s && not t)
 not_or true t = refl
@@ -108,17 +98,3 @@ pub anchor_more : (id : ℕ) (barrier : List ℕ) (before : List (List Entry)) (
     → anchor_at id barrier (before ++ segment ∷ []) ≡ anchored_of (anchor_at id barrier before) (register_of (values_of barrier segment))
 anchor_more id barrier before segment = ap (anchor_of id) (map-append (values_of barrier) before (segment ∷ []))
     ∙ anchor-push id (map (values_of barrier) before) (values_of barrier segment)
-
-pub anchor_taken : {A : Type 0} (id : ℕ) (barrier : List ℕ) (closed : List (Vec KeptEntry A)) (k : ℕ) (segment : Vec KeptEntry A)
-    {lent : List KeptEntry} {anchor register next : List ℕ} → k < length closed → segment ≡ get_or closed k segment
-    → anchor ≡ anchor_at id barrier (kept_segments (take k closed)) → lent ≡ segment.items
-    → register ≡ register_of (values_of barrier (kept_entries lent)) → next ≡ anchored_of anchor register
-    → next ≡ anchor_at id barrier (kept_segments (take (k + 1) closed))
-anchor_taken {A} id barrier closed k segment {register = register} l is so_far items reads n =
-    n ∙ (λ j. anchored_of (so_far j) ((reads ∙ ap (λ (xs : List KeptEntry). register_of (values_of barrier (kept_entries xs))) items) j))
-    ∙ sym (anchor_more id barrier (kept_segments (take k closed)) (kept_entries segment.items))
-    ∙ ap (anchor_at id barrier) (taken (λ (v : Vec KeptEntry A). kept_entries v.items) closed k segment l is)
-
-pub anchor_none : (id : ℕ) (barrier s : List ℕ) → s ≡ start_of Opt id → s ≡ anchor_at id barrier []
-unfolding anchor_of
-anchor_none id barrier s e = e

@@ -1,7 +1,8 @@
 -- What a history comes to goes on with its moves.
-use Rattle.std.proofs.Common.{ℕ, suc, ◌≡◌, ◌+◌, ◌<◌, Bool, true, false, ◌&&◌, List, [], ◌∷◌, ◌++◌, length, map, take, get_or, refl, sym, ap, ◌∙◌, arith}
+use Rattle.std.proofs.Common.{ℕ, suc, ◌≡◌, Bool, true, false, ◌&&◌, List, [], ◌∷◌, ◌++◌, length, map, refl, sym, ap, ◌∙◌, arith}
 use Rattle.std.specs.Prelude.{nat_le}
-use Rattle.std.proofs.lemmas.List.{map-append, take_more}
+use Rattle.std.proofs.lemmas.Bool.{and_right}
+use Rattle.std.proofs.lemmas.List.{map-append}
 use Rattle.std.proofs.lemmas.Bool.Decides.{nat_tests}
 use Rattle.mm_digest.specs.declared.variant.Variant.{Variant}
 use Rattle.mm_digest.specs.declared.variant.Variant.TheVariants.{Basic, Opt}
@@ -10,7 +11,7 @@ use Rattle.mm_module.specs.Batch.{Batch, size_of}
 use Rattle.mm_model.specs.Chains.{link, guard, register_of, anchor_of, summary_of}
 use Rattle.mm_model.specs.ChainsWords.{own_values}
 use Rattle.mm_model.specs.Instance.{Instance}
-use Rattle.mm_model.specs.History.{Entry, Own, Value, History, joined, total_of, value_of, renamed, committed, register_value_of}
+use Rattle.mm_model.specs.History.{Entry, Own, Value, History, joined, total_of, renamed, committed, register_value_of}
 use Rattle.mm_model.specs.HistoryWords.{values_of, cell_digest_of}
 use Rattle.mm_model.specs.Life.{is_empty, has_value, are_own, same_batch}
 use Rattle.mm_model.specs.PlacesWords.{digest_of}
@@ -26,34 +27,16 @@ pub own_more : (barrier : List ℕ) (batches : List Batch) (b : Batch)
 own_more barrier batches b =
     ap register_of (own_values-append barrier batches (b ∷ [])) ∙ register-push (own_values barrier batches) (guard barrier b)
 
--- one more of a list, as contracts see it
-pub taken : {K E : Type 0} (kept : K → E) (xs : List K) (i : ℕ) (x : K) → i < length xs → x ≡ get_or xs i x
-    → map kept (take i xs) ++ kept x ∷ [] ≡ map kept (take (i + 1) xs)
-taken kept xs i x l is = ap (λ y. map kept (take i xs) ++ kept y ∷ []) is
-    ∙ sym (ap (map kept) (take_more xs i x l) ∙ map-append kept (take i xs) (get_or xs i x ∷ []))
-
--- the register takes in its value
-pub value_taken : {K E : Type 0} (kept : K → E) (value : E → List ℕ) (xs : List K) (i : ℕ) (x : K) (register v next : List ℕ)
-    → i < length xs → x ≡ get_or xs i x → register ≡ register_of (map value (map kept (take i xs))) → v ≡ value (kept x)
-    → next ≡ extended_of register v → next ≡ register_of (map value (map kept (take (i + 1) xs)))
-value_taken kept value xs i x register v next l is so_far same n =
-    n ∙ (λ j. extended_of (so_far j) (same j)) ∙ sym (register-push (map value (map kept (take i xs))) (value (kept x)))
-    ∙ ap register_of (sym (map-append value (map kept (take i xs)) (kept x ∷ [])) ∙ ap (map value) (taken kept xs i x l is))
-
 -- entries and batches
 
-and_false : (b : Bool) → (b && false) ≡ false
-and_false true = refl
-and_false false = refl
-
-and_true : (b : Bool) → (b && true) ≡ b
+pub and_true : (b : Bool) → (b && true) ≡ b
 and_true true = refl
 and_true false = refl
 
 not_own_with : (items : List Entry) (v : List ℕ) (current : List Batch) → are_own (items ++ Value v ∷ []) current ≡ false
 not_own_with [] v current = refl
 not_own_with (Own b ∷ items) v [] = refl
-not_own_with (Own b ∷ items) v (c ∷ current) = ap (λ x. same_batch b c && x) (not_own_with items v current) ∙ and_false (same_batch b c)
+not_own_with (Own b ∷ items) v (c ∷ current) = ap (λ x. same_batch b c && x) (not_own_with items v current) ∙ and_right (same_batch b c) false refl
 not_own_with (Value d ∷ items) v current = refl
 
 own_none : (current : List Batch) → are_own [] current ≡ is_empty current
@@ -71,16 +54,16 @@ own_no_more (Own c ∷ items) b = refl
 own_no_more (Value d ∷ items) b = refl
 
 own_alone : (b : Batch) (c : Batch) (current : List Batch) → are_own (Own b ∷ []) (c ∷ (current ++ b ∷ [])) ≡ false
-own_alone b c [] = and_false (same_batch b c)
-own_alone b c (d ∷ current) = and_false (same_batch b c)
+own_alone b c [] = and_right (same_batch b c) false refl
+own_alone b c (d ∷ current) = and_right (same_batch b c) false refl
 
 -- both grow by the same batch
 own_grown : (items : List Entry) (current : List Batch) (b : Batch)
     → are_own (items ++ Own b ∷ []) (current ++ b ∷ []) ≡ are_own items current
 own_grown [] [] b = and_true (same_batch b b) ∙ (same_batch-Decides b b).1 refl
 own_grown [] (c ∷ current) b = own_alone b c current
-own_grown (Own c ∷ []) [] b = and_false (same_batch c b)
-own_grown (Own c ∷ d ∷ items) [] b = ap (λ x. same_batch c b && x) (own_no_more (d ∷ items) b) ∙ and_false (same_batch c b)
+own_grown (Own c ∷ []) [] b = and_right (same_batch c b) false refl
+own_grown (Own c ∷ d ∷ items) [] b = ap (λ x. same_batch c b && x) (own_no_more (d ∷ items) b) ∙ and_right (same_batch c b) false refl
 own_grown (Own c ∷ items) (d ∷ current) b = ap (λ x. same_batch c d && x) (own_grown items current b)
 own_grown (Value d ∷ items) current b = refl
 
@@ -94,9 +77,9 @@ two_many n = grind (arith, nat_tests)
 own_opened : (items : List Entry) (b : Batch) → are_own (renamed items b) (b ∷ []) ≡ nat_le (length items) 1
 own_opened [] b = and_true (same_batch b b) ∙ (same_batch-Decides b b).1 refl
 own_opened (x ∷ []) b = and_true (same_batch b b) ∙ (same_batch-Decides b b).1 refl
-own_opened (Own c ∷ y ∷ []) b = and_false (same_batch c b)
+own_opened (Own c ∷ y ∷ []) b = and_right (same_batch c b) false refl
 own_opened (Own c ∷ y ∷ z ∷ items) b =
-    ap (λ x. same_batch c b && x) (own_of_none (renamed (y ∷ z ∷ items) b) ∙ still_some y z items b) ∙ and_false (same_batch c b)
+    ap (λ x. same_batch c b && x) (own_of_none (renamed (y ∷ z ∷ items) b) ∙ still_some y z items b) ∙ and_right (same_batch c b) false refl
     ∙ sym (two_many (suc (length items)))
 own_opened (Value d ∷ y ∷ []) b = refl
 own_opened (Value d ∷ y ∷ z ∷ items) b = sym (two_many (suc (length items)))

@@ -1,8 +1,8 @@
 -- What crates above may cite of these proofs: the other files can be read and changed by this crate alone.
 pub use Rattle.mm_run.proofs.Expecting.{basic_begins, basic_events_agree, opt_begins, opt_events_agree}
-pub use Rattle.mm_run.proofs.Counting.{count-made, few_committed, grown, issues, issues_one, meaning_by, printable, printed, short_size}
-pub use Rattle.mm_run.proofs.Counting.{sizes_of, world_few}
-pub use Rattle.mm_run.proofs.EachWay.{in_any_way}
+pub use Rattle.mm_run.proofs.Counting.{count-made, few_committed, grown, issues, issues_one, meaning_by, printable, printed, printed_closing}
+pub use Rattle.mm_run.proofs.Counting.{short_outputs, short_size, sizes_of, world_few}
+pub use Rattle.mm_run.proofs.EachWay.{closing_all, in_any_way, then_all}
 pub use Rattle.mm_run.proofs.FirstBytes.{clear_within}
 pub use Rattle.mm_run.proofs.FrontRuns.{goes_on}
 pub use Rattle.mm_run.proofs.MetPremises.{anchor_nil}

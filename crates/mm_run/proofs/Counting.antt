@@ -87,7 +87,7 @@ few_committed i d issued event =
 
 -- the reply can be printed: an output is a line, and no position is past the last
 
-short_outputs : (meaning : Meaning) → IsLawful meaning → (state : List ℕ) (members : List (List ℕ)) → IsTrue (meaning.is_spelled state)
+pub short_outputs : (meaning : Meaning) → IsLawful meaning → (state : List ℕ) (members : List (List ℕ)) → IsTrue (meaning.is_spelled state)
     → All (λ (output : List ℕ). length output ≤ longest_request) (outputs_from meaning state members)
 short_outputs meaning lawful state [] spelled = All-nil (λ (output : List ℕ). length output ≤ longest_request)
 short_outputs meaning lawful state (request ∷ members) spelled =
@@ -138,7 +138,7 @@ printed_called i lawful d how c bytes b =
     (λ it is. accepted_from i seen b (parts_of i.variant i.meaning.id bytes) it
     (unless_lost ((by_digests i).is_lost seen) _ it (unlacked offered c.lacks it is)))
 
-printed_closing : (how : Way) (closing : Closing) → IsPrintable (closing_reply how closing)
+pub printed_closing : (how : Way) (closing : Closing) → IsPrintable (closing_reply how closing)
 printed_closing how (Stops fault true) = tt
 printed_closing how (Stops fault false) = tt
 printed_closing how closing = tt

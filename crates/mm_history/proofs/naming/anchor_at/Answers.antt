@@ -1,10 +1,15 @@
-use Rattle.mm_history.proofs.TakenLaws.{anchor_none, anchor_taken}
+use Rattle.mm_history.proofs.Below.{◌∙◌, ap, anchored_of, register_of, values_of, kept_entries, anchor_at}
+use Rattle.mm_call.specs.MoveLaws.{anchor-nil}
+use Rattle.mm_history.proofs.TakenLaws.{more_taken, anchor_more}
 use Rattle.mm_history.proofs.naming.anchor_at.Goals as goal
 
 pub closed-init : goal.closed-init
-closed-init c = anchor_none c.args.id c.args.barrier.now c.start-anchor.result.bytes c.start-anchor.ensures
+closed-init c = c.start-anchor.ensures ∙ anchor-nil c.args.id
 
 pub closed-preserved : goal.closed-preserved
 closed-preserved c =
-    anchor_taken c.args.id c.args.barrier.now c.args.closed.now c.closed.segment-index c.segment-item.result c.closed-test.true
-    c.segment-item.is c.closed.invariant c.as_slice.ensures.value c.register_of.ensures c.anchored-anchor.ensures
+    let barrier = c.args.barrier.now in
+    more_taken (λ v. kept_entries v.items) (anchor_at c.args.id barrier) (λ a es. anchored_of a (register_of (values_of barrier es)))
+    (anchor_more c.args.id barrier) c.args.closed.now c.closed.segment-index c.segment-item.result c.closed-test.true c.segment-item.is
+    c.closed.invariant (c.anchored-anchor.ensures ∙ ap (anchored_of _) (c.register_of.ensures
+    ∙ ap (λ xs. register_of (values_of barrier (kept_entries xs))) c.as_slice.ensures.value))

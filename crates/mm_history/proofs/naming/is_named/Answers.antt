@@ -1,5 +1,6 @@
 use Rattle.mm_history.proofs.Below.{◌∙◌, ap, list_any, meaning_of, content_of, is_long}
-use Rattle.mm_history.proofs.PlaceLaws.{short_front, not_counted, other_place, stated_by}
+use Rattle.mm_history.proofs.PlaceLaws.{not_counted, other_place, stated_by}
+use Rattle.mm_history.proofs.TakenLaws.{short_front}
 use Rattle.mm_history.proofs.naming.is_named.Goals as goal
 
 pub returns-in-None : goal.returns-in-None

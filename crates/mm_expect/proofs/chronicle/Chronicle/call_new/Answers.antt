@@ -1,5 +1,6 @@
-use Rattle.mm_expect.proofs.Below.{◌∙◌, ◌≡◌, None, Some, nat_eq, if◌then◌else◌, batch_of, total_of}
-use Rattle.mm_expect.proofs.Asking.{new_few, new_last, new_broken, kept_same, kept_other}
+use Rattle.mm_expect.proofs.Below.{arith, batch_of}
+use Rattle.std.proofs.lemmas.Bool.Decides.{nat_tests}
+use Rattle.mm_expect.proofs.Asking.{KeptBy, new_few, new_last, new_broken}
 use Rattle.mm_expect.proofs.chronicle.Chronicle.call_new.Goals as goal
 use Rattle.mm_expect.proofs.chronicle.Chronicle.call_new.Goals.{then-total-before, else-total-before}
 
@@ -13,13 +14,25 @@ answer-requires-clause-last c = new_last c.args.self.now _ c.args.course.now.sto
 
 pub returns-after-total-before : goal.returns-after-total-before
 returns-after-total-before c =
-    let total = total_of c.change.new.self.history.batches in
-    let before = total_of c.args.self.now.history.batches in
-    let kept : c.if-total-before.commits ≡ (if nat_eq total before then None else Some total) = elim c.if-total-before.branch [
-      | then-total-before w ↦ w.commits-is
-          ∙ kept_same total before _ _ c.total-total.ensures c.total-before.ensures w.if-total-before.true
-      | else-total-before w ↦ w.commits-is
-          ∙ kept_other total before _ _ c.total-total.ensures c.total-before.ensures w.if-total-before.false
+    let stop = c.args.course.now.stop in
+    let meddles = c.args.course.now.meddles.now in
+    let b = batch_of c.args.batch in
+    let kept : KeptBy c.args.self.now c.change.new.self stop meddles b c.if-total-before.commits = elim c.if-total-before.branch [
+      | then-total-before w ↦ grind (
+        arith,
+        nat_tests,
+        w.commits-is,
+        c.total-total.ensures,
+        c.total-before.ensures,
+        w.if-total-before.true,
+      )
+      | else-total-before w ↦ grind (
+        arith,
+        nat_tests,
+        w.commits-is,
+        c.total-total.ensures,
+        c.total-before.ensures,
+        w.if-total-before.false,
+      )
     ] in
-    new_broken c.args.self.now _ c.args.course.now.stop c.args.course.now.meddles.now (batch_of c.args.batch) _ _
-    (rw c.in-Some.is at c.in_ok-change.ensures) kept
+    new_broken c.args.self.now _ stop meddles b _ _ (rw c.in-Some.is at c.in_ok-change.ensures) kept

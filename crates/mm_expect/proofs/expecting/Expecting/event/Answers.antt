@@ -3,7 +3,7 @@ use Rattle.mm_expect.proofs.Below.{IsDecided, Traced, IsAfter, after_traced}
 use Rattle.mm_schedule.specs.declared.reply.Reply.{Reply}
 use Rattle.mm_expect.proofs.AfterLaws.{event_state, goes_after}
 use Rattle.mm_expect.proofs.JudgeLaws.{event_decided}
-use Rattle.mm_expect.proofs.PrintLaws.{printable}
+use Rattle.mm_expect.proofs.EventLaws.{printable}
 use Rattle.mm_expect.proofs.expecting.Expecting.event.Goals as goal
 
 pub returns-clause-state : goal.returns-clause-state
