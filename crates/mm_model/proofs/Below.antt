@@ -44,6 +44,6 @@ pub use Rattle.mm_model.specs.Moves.{batch_messages, Brings, committing, Digests
 pub use Rattle.mm_model.specs.Moves.{MayMove}
 pub use Rattle.mm_model.specs.Places.{anchor_after, at_anchor, AtAnchor, in_closed, in_current, InClosed, InCurrent, IsPlaceOf, IsPoint}
 pub use Rattle.mm_model.specs.Places.{issued, issued_place, Names}
-pub use Rattle.mm_model.specs.SegmentLaws.{Again, again_from, again_joins, Fresh, fresh_from, fresh_joins, IsHeld, joined-append}
-pub use Rattle.mm_model.specs.SegmentLaws.{joined-push, nothing_left, Reaches, same_halves, taken_in, true_not_false}
+pub use Rattle.mm_model.specs.SegmentLaws.{Again, again_from, again_joins, AgainSomehow, Fresh, fresh_from, fresh_joins, FreshSomehow, IsHeld}
+pub use Rattle.mm_model.specs.SegmentLaws.{joined-append, joined-push, nothing_left, Reaches, same_halves, taken_in, true_not_false}
 pub use Rattle.mm_model.specs.Sound.{AreItems, batches_in, IsClean, IsMarred, IsSound}
