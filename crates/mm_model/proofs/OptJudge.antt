@@ -129,7 +129,8 @@ verdict_told Spoiled fresh again here repeat f g = rw (f refl, g refl) refl
 verdict_told Lost fresh again here repeat f g = refl
 
 -- the register reads zero under a set flag exactly where power was lost inside an open segment
-pub zero_is_lost : (i : Instance) (y : History) (all : List (List ℕ)) → IsClear all → Within (register_trail (values_of i.barrier y.items)) all
+pub zero_is_lost : (i : Instance) (y : History) (all : List (List ℕ)) → IsClear all
+    → Within (register_trail (values_of i.barrier y.items)) all
     → (y.is_open && bytes_eq (register_of (values_of i.barrier y.items)) zero_bytes) ≡ is_lost_life (life_of Opt y)
 zero_is_lost i y all clear items =
     ap (λ (x : Bool). y.is_open && x) (zero_tells all clear (values_of i.barrier y.items) items ∙ zero_items i.barrier y.items)
@@ -211,7 +212,8 @@ module _ (i : Instance) (y : History) (named rest : List Batch) (a e : List ℕ)
       (λ f. sym q.flat ∙ fresh_joins y.is_open closed_here items_here q.before q.taken f ∙ flat_here) fresh_path guards_of_named
       (λ d c among asked. foreign d c among (among_all y.batches named rest q.first c asked)) (life_of Opt y) refl)
 
-  again_told : IsSound y → (b : Batch) → AreNoGuards i.barrier (values_in (counting y)) (b ∷ y.batches) → Contains all (guard_message i.barrier b)
+  again_told : IsSound y → (b : Batch) → AreNoGuards i.barrier (values_in (counting y)) (b ∷ y.batches)
+      → Contains all (guard_message i.barrier b)
       → Within (point_messages (anchor_of i.meaning.id q.before) (register_of q.taken) (guard i.barrier b)) all
       → is_lost_life (life_of Opt y) ≡ false
       → list_any (fits_again y.is_open (anchor_of i.meaning.id closed_here) (register_of items_here) (guard i.barrier b)) (forms_of a e)
@@ -220,8 +222,9 @@ module _ (i : Instance) (y : History) (named rest : List Batch) (a e : List ℕ)
       let v = guard i.barrier b in
       let more : own_values i.barrier (named ++ b ∷ []) ≡ (joined q.before ++ q.taken) ++ v ∷ [] =
       own_values-append i.barrier named (b ∷ []) ∙ ap (λ (w : List (List ℕ)). w ++ v ∷ []) (sym q.flat) in
-      rw (q.anchor_is, q.extension_is) (test_told sound (named ++ b ∷ []) (AgainSomehow y.is_open closed_here items_here v q.before q.taken) _
-      (repeats_here b) (again_somehow i.meaning.id all q.clears y.is_open closed_here items_here q.before q.taken q.history q.path v listed)
+      rw (q.anchor_is, q.extension_is) (test_told sound (named ++ b ∷ [])
+      (AgainSomehow y.is_open closed_here items_here v q.before q.taken) _ (repeats_here b)
+      (again_somehow i.meaning.id all q.clears y.is_open closed_here items_here q.before q.taken q.history q.path v listed)
       (before_the_last y.batches named rest b q.first)
       (λ f. more ∙ again_joins y.is_open closed_here items_here v q.before q.taken f ∙ flat_here)
       (λ held is. again_from y.is_open closed_here q.before q.later items_here v q.taken q.split q.filled held q.reaches
