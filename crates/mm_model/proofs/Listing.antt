@@ -6,7 +6,7 @@ use Rattle.mm_model.proofs.Below.{anchored_message, Batch, Meaning, trail, guard
 use Rattle.mm_model.proofs.Below.{Entry, Own, Value, History, Move, Commit, Foreign, Placed, Reset, Close, Power, joined, value_of, renamed}
 use Rattle.mm_model.proofs.Below.{moved, values_of, IsSound, IsClean, batches_in, Within, register_trail, closed_runs, runs_of, messages_of}
 use Rattle.mm_model.proofs.Below.{moving_messages, IsAllowed, MayMove, batch_messages, each_append, each_left, each_right, trail_push}
-use Rattle.mm_model.proofs.Below.{nothing_left, listed_value, own_values-append, values_of-append, length-batches_in, values_renamed}
+use Rattle.mm_model.proofs.Below.{nil_from_length, listed_value, own_values-append, values_of-append, length-batches_in, values_renamed}
 use Rattle.mm_model.specs.Chains.{register_of, anchor_of}
 use Rattle.mm_model.specs.MessagesWords.{move_messages}
 use Rattle.mm_model.proofs.Paths.{RunsListed, current_clean, shut_current}
@@ -117,7 +117,7 @@ runs_push : (P : List Batch → Type 0) (closed : List (List Entry)) (segment : 
     → length bs ≡ length (joined closed) → AllByRecursion P (closed_runs closed bs) → P more
     → AllByRecursion P (closed_runs (closed ++ segment ∷ []) (bs ++ more))
 runs_push P [] segment bs more l h p =
-    subst (λ (v : List Batch). AllByRecursion P (closed_runs (segment ∷ []) (v ++ more))) (sym (nothing_left bs l)) (p, tt)
+    subst (λ (v : List Batch). AllByRecursion P (closed_runs (segment ∷ []) (v ++ more))) (sym (nil_from_length bs l)) (p, tt)
 runs_push P (c ∷ []) segment bs more l h p =
     let size : length bs ≡ length c = l ∙ ap length (append-nil c) in
     (subst P (sym (take_at bs more (length c) size)) h.0, (subst P (sym (drop_at bs more (length c) size)) p, tt))

@@ -8,17 +8,15 @@ use Rattle.mm_model.proofs.Below.{IsOutside, Brings, each_append, each_left, sam
 use Rattle.mm_model.proofs.Below.{has_value-append, batches_in-append, register_more, values_renamed, renamed-push, if◌then◌else◌}
 use Rattle.mm_model.proofs.Below.{AllByRecursion, Contains, zero_bytes, anchored_of, values_of, values_in}
 use Rattle.mm_model.proofs.Below.{summary-push, anchor-push, reads_zero}
+use Rattle.std.proofs.lemmas.Bool.{or_left, or_right}
 use Rattle.mm_model.proofs.Paths.{current_clean, empty_cases, marred_has, shut_current}
 use Rattle.mm_model.specs.Symbolic.{commit_moves, moved_by, with_batch}
 
 has_value-push : (es : List Entry) (d : List ℕ) → has_value (es ++ Value d ∷ []) ≡ true
-has_value-push (Own b ∷ es) d = has_value-push es d
-has_value-push _ d = refl
+has_value-push es d = has_value-append es (Value d ∷ []) ∙ or_right (has_value es) true refl
 
 has_value-own : (es : List Entry) (b : Batch) → has_value es ≡ true → has_value (es ++ Own b ∷ []) ≡ true
-has_value-own [] b h = absurd (true_not_false (sym h))
-has_value-own (Own c ∷ es) b h = has_value-own es b h
-has_value-own (Value c ∷ es) b h = refl
+has_value-own es b h = has_value-append es (Own b ∷ []) ∙ or_left (has_value es) false h
 
 are_own-push : (es : List Entry) (bs : List Batch) (b : Batch) → are_own es bs ≡ true → are_own (es ++ Own b ∷ []) (bs ++ b ∷ []) ≡ true
 are_own-push [] [] b h = and_from (same_batch b b) true ((same_batch-Decides b b).1 refl) refl
@@ -93,10 +91,8 @@ module _ (y : History) where
         });
         register = λ _. elim (sound.register f) [
           | inl own ↦ inl (are_own-push y.items y.current b own)
-          | inr others ↦ elim others [
-            | inl none ↦ absurd (true_not_false (ap is_empty (sym none) ∙ some))
-            | inr has ↦ inr (inr (has_value-own y.items b has))
-          ]
+          | inr (inl none) ↦ absurd (true_not_false (ap is_empty (sym none) ∙ some))
+          | inr (inr has) ↦ inr (inr (has_value-own y.items b has))
         ];
       }
 

@@ -3,17 +3,19 @@ use Rattle.mm_model.proofs.Below.{ℕ, ◌≡◌, ◌≤◌, Bool, true, false, 
 use Rattle.mm_model.proofs.Below.{arith, append_assoc, length-append, append-nil, append_cancel_right, Basic, Opt, Batch, Meaning, Place}
 use Rattle.mm_model.proofs.Below.{InBasic, InOpt, Content, guard, Instance, basic, opt, Entry, Own, Value, History, Move, Commit, Foreign}
 use Rattle.mm_model.proofs.Below.{Placed, Close, joined, moved, renamed, has_value, IsSound, IsClean, batches_in, AtAnchor}
-use Rattle.mm_model.proofs.Below.{InClosed, IsPoint, at_anchor, in_closed, in_current, IsPlaceOf, Names, issued, issued_place, IsAllowed}
+use Rattle.mm_model.proofs.Below.{InClosed, InCurrent, IsPoint, at_anchor, in_closed, in_current, IsPlaceOf, Names, issued, issued_place, IsAllowed}
 use Rattle.mm_model.proofs.Below.{MayMove, joined-append, length-batches_in}
 use Rattle.mm_model.proofs.Below.{anchor_after}
-use Rattle.mm_model.proofs.Paths.{current_clean, live_clean, shut_current}
+use Rattle.mm_model.proofs.Paths.{clean_size, current_clean, live_clean, shut_current}
 use Rattle.mm_model.proofs.Moves.{moving, moving_is, open_current, opening_clean}
 
--- a place at an anchor or in a closed segment, in a history with these closed segments and perhaps more
+-- a place in a history with these closed segments and perhaps more, where a place in the open one is a place there
 module _ (i : Instance) (key : List ℕ) (y z : History) (more : List (List Entry)) (longer : z.closed ≡ y.closed ++ more)
     (named : List Batch) (a e : List ℕ) where
-  anchor_kept : AtAnchor i y named a e → IsPoint (record i { key = key }) z named a e
-  anchor_kept p = at_anchor (record {
+  point_grown : ((p : InClosed i y named a e) → (length p.taken ≤ length p.segment) ⊎ ((p.later ++ more ≡ []) × (z.current ≡ [])))
+      → (InCurrent i y named a e → IsPoint (record i { key = key }) z named a e) → IsPoint i y named a e
+      → IsPoint (record i { key = key }) z named a e
+  point_grown within inner (at_anchor p) = at_anchor (record {
     before = p.before;
     later = p.later ++ more;
     split = longer ∙ ap (λ (v : List (List Entry)). v ++ more) p.split ∙ append_assoc p.before p.later more;
@@ -22,10 +24,7 @@ module _ (i : Instance) (key : List ℕ) (y z : History) (more : List (List Entr
     anchor_is = p.anchor_is;
     extension_is = p.extension_is;
   })
-
-  closed_kept : (p : InClosed i y named a e) → (length p.taken ≤ length p.segment) ⊎ ((p.later ++ more ≡ []) × (z.current ≡ []))
-      → IsPoint (record i { key = key }) z named a e
-  closed_kept p within = in_closed (record {
+  point_grown within inner (in_closed p) = in_closed (record {
     before = p.before;
     segment = p.segment;
     later = p.later ++ more;
@@ -35,33 +34,32 @@ module _ (i : Instance) (key : List ℕ) (y z : History) (more : List (List Entr
     named_is = p.named_is;
     counted = p.counted;
     begun = p.begun;
-    within = within;
+    within = within p;
     anchor_is = p.anchor_is;
     extension_is = p.extension_is;
   })
+  point_grown within inner (in_current p) = inner p
 
 -- a place in a history with the same closed segments, whose open one has perhaps more batches
 point_more : (i : Instance) (key : List ℕ) (y z : History) (more : List Batch) → z.closed ≡ y.closed → z.current ≡ y.current ++ more
     → z.batches ≡ y.batches ++ more → (named : List Batch) (a e : List ℕ)
     → ((p : InClosed i y named a e) → (length p.taken ≤ length p.segment) ⊎ ((p.later ≡ []) × (z.current ≡ []))) → IsPoint i y named a e
     → IsPoint (record i { key = key }) z named a e
-point_more i key y z more closed current batches named a e within (at_anchor p) =
-    anchor_kept i key y z [] (closed ∙ sym (append-nil y.closed)) named a e p
-point_more i key y z more closed current batches named a e within (in_closed p) =
-    closed_kept i key y z [] (closed ∙ sym (append-nil y.closed)) named a e p
-    (elim (within p) [ inl inside ↦ inl inside | inr last ↦ inr (append-nil p.later ∙ last.0, last.1) ])
-point_more i key y z more closed current batches named a e within (in_current p) = in_current (record {
-  done = p.done;
-  taken = p.taken;
-  more = p.more ++ more;
-  split = current ∙ ap (λ (v : List Batch). v ++ more) p.split ∙ append_assoc p.taken p.more more;
-  start = batches ∙ ap (λ (v : List Batch). v ++ more) p.start ∙ append_assoc p.done y.current more
-      ∙ ap (λ (v : List Batch). p.done ++ v) (sym current);
-  named_is = p.named_is;
-  begun = p.begun;
-  anchor_is = p.anchor_is ∙ ap (anchor_after i) (sym closed);
-  extension_is = p.extension_is;
-})
+point_more i key y z more closed current batches named a e within =
+    point_grown i key y z [] (closed ∙ sym (append-nil y.closed)) named a e
+    (λ p. elim (within p) [ inl inside ↦ inl inside | inr last ↦ inr (append-nil p.later ∙ last.0, last.1) ])
+    (λ p. in_current (record {
+      done = p.done;
+      taken = p.taken;
+      more = p.more ++ more;
+      split = current ∙ ap (λ (v : List Batch). v ++ more) p.split ∙ append_assoc p.taken p.more more;
+      start = batches ∙ ap (λ (v : List Batch). v ++ more) p.start ∙ append_assoc p.done y.current more
+          ∙ ap (λ (v : List Batch). p.done ++ v) (sym current);
+      named_is = p.named_is;
+      begun = p.begun;
+      anchor_is = p.anchor_is ∙ ap (anchor_after i) (sym closed);
+      extension_is = p.extension_is;
+    }))
 
 -- neither the key nor the register's items are part of a place
 pub point_kept : (i : Instance) (key : List ℕ) (y : History) (items : List Entry) (named : List Batch) (a e : List ℕ)
@@ -80,18 +78,19 @@ ends_within : (i : Instance) (y : History) (named rest : List Batch) (a e : List
 ends_within i y named rest a e clean first p = elim p.within [
   | inl within ↦ within
   | inr last ↦
-      let whole : joined y.closed ≡ joined p.before ++ (p.segment ++ joined p.later) =
-      ap joined p.split ∙ joined-append p.before (p.segment ∷ p.later) in
       let none : length (joined p.later) ≡ 0 = ap (λ (v : List (List Entry)). length (joined v)) last.0 in
-      let sizes = ap length whole in
-      let parts = length-append (joined p.before) (p.segment ++ joined p.later) in
-      let inner = length-append p.segment (joined p.later) in
-      let count = length-batches_in (joined y.closed) clean.clean in let all = ap length clean.batches in
-      let cut = length-append (batches_in (joined y.closed)) y.current in
-      let nothing : length y.current ≡ 0 = ap length last.1 in let names = ap length p.named_is in
-      let split = length-append p.done p.taken in let rests = ap length first in
-      let ends = length-append named rest in
-      omega (arith, sizes, parts, inner, count, all, cut, nothing, names, split, rests, ends, none, p.counted)
+      let nothing : length y.current ≡ 0 = ap length last.1 in
+      omega (
+        arith,
+        clean_size y clean p.before p.segment p.later p.split,
+        p.counted,
+        none,
+        nothing,
+        ap length p.named_is,
+        length-append p.done p.taken,
+        ap length first,
+        length-append named rest,
+      )
 ]
 
 -- a batch more in the open segment, or a new one
@@ -105,27 +104,24 @@ point_commit i y current is_open items b named rest a e clean first grown p =
 -- the open segment becomes the last closed one
 point_close : (i : Instance) (y : History) (named rest : List Batch) (a e : List ℕ) → IsClean y → y.batches ≡ named ++ rest
     → IsPoint i y named a e → IsPoint i (record y { closed = y.closed ++ y.items ∷ []; current = []; is_open = false }) named a e
-point_close i y named rest a e clean first (at_anchor p) =
-    let z : History = record y { closed = y.closed ++ y.items ∷ []; current = []; is_open = false } in
-    anchor_kept i i.key y z (y.items ∷ []) refl named a e p
-point_close i y named rest a e clean first (in_closed p) =
-    let z : History = record y { closed = y.closed ++ y.items ∷ []; current = []; is_open = false } in
-    closed_kept i i.key y z (y.items ∷ []) refl named a e p (inl (ends_within i y named rest a e clean first p))
-point_close i y named rest a e clean first (in_current p) = in_closed (record {
-  before = y.closed;
-  segment = y.items;
-  later = [];
-  done = p.done;
-  taken = p.taken;
-  split = refl;
-  named_is = p.named_is;
-  counted = ap length (append_cancel_right p.done (batches_in (joined y.closed)) y.current (sym p.start ∙ clean.batches))
-      ∙ length-batches_in (joined y.closed) clean.clean;
-  begun = p.begun;
-  within = inr (refl, refl);
-  anchor_is = p.anchor_is;
-  extension_is = p.extension_is;
-})
+point_close i y named rest a e clean first =
+    point_grown i i.key y (record y { closed = y.closed ++ y.items ∷ []; current = []; is_open = false }) (y.items ∷ []) refl named a e
+    (λ p. inl (ends_within i y named rest a e clean first p))
+    (λ p. in_closed (record {
+      before = y.closed;
+      segment = y.items;
+      later = [];
+      done = p.done;
+      taken = p.taken;
+      split = refl;
+      named_is = p.named_is;
+      counted = ap length (append_cancel_right p.done (batches_in (joined y.closed)) y.current (sym p.start ∙ clean.batches))
+          ∙ length-batches_in (joined y.closed) clean.clean;
+      begun = p.begun;
+      within = inr (refl, refl);
+      anchor_is = p.anchor_is;
+      extension_is = p.extension_is;
+    }))
 
 point_at : (i : Instance) (y : History) (flag : Bool) (m : Move) (named rest : List Batch) (a e : List ℕ) → IsSound y → y.is_open ≡ flag
     → IsAllowed Opt flag i y m → y.batches ≡ named ++ rest → IsPoint i y named a e → IsPoint i (moving flag i y m) named a e

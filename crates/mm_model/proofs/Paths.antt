@@ -1,12 +1,13 @@
 -- Opt: a place of a sound history as a path, some first closed segments and some batches after them.
-use Rattle.mm_model.proofs.Below.{ℕ, zero, suc, ◌≡◌, ◌-◌, ◌≤◌, Bool, true, false, ◌||◌, List, [], ◌∷◌, ◌++◌, length, map, take, drop, refl}
+use Rattle.mm_model.proofs.Below.{ℕ, ◌≡◌, ◌+◌, ◌-◌, ◌≤◌, Bool, true, false, ◌||◌, List, [], ◌∷◌, ◌++◌, length, map, take, drop, refl}
 use Rattle.mm_model.proofs.Below.{sym, ap, ◌∙◌, subst, ◌⊎◌, inl, inr, arith, append_assoc, length-append, append-nil, append_cancel_right}
 use Rattle.mm_model.proofs.Below.{length-map, length-drop, drop-append-le, or_parts, AllByRecursion, zero_bytes, extended_message, Batch}
 use Rattle.mm_model.proofs.Below.{guard, register_of, own_values, Instance, Entry, History, joined, value_of, values_of, is_empty}
 use Rattle.mm_model.proofs.Below.{has_value, AtAnchor, InClosed, InCurrent, IsPoint, at_anchor, in_closed, in_current, anchor_after, Within}
 use Rattle.mm_model.proofs.Below.{register_trail, closed_runs, runs_of, IsSound, IsClean, IsMarred, batches_in, each_left, each_right}
-use Rattle.mm_model.proofs.Below.{trail_front, same_halves, joined-append, joined-push, true_not_false, nothing_left, Reaches, reads_zero}
+use Rattle.mm_model.proofs.Below.{trail_front, same_halves, joined-append, joined-push, true_not_false, nil_from_length, Reaches, reads_zero}
 use Rattle.mm_model.proofs.Below.{own_values-append, has_value-append, batches_in-append, length-batches_in, values_of-clean, sooner}
+use Rattle.std.proofs.Math.Seq.{take-append-add}
 
 -- the batches begin with those of these segments, which hold no value that stands for none
 pub record Begins (y : History) (before : List (List Entry)) : Type 0 where
@@ -169,7 +170,7 @@ run_holds : (P : List Batch → Type 0) (before : List (List Entry)) (segment : 
     (bs done more : List Batch) → bs ≡ done ++ more → length done ≡ length (joined before)
     → AllByRecursion P (closed_runs (before ++ segment ∷ later) bs) → P (run_at segment later more)
 run_holds P [] segment later bs done more e l h =
-    run_first P segment later bs more (e ∙ ap (λ (v : List Batch). v ++ more) (nothing_left done l)) h
+    run_first P segment later bs more (e ∙ ap (λ (v : List Batch). v ++ more) (nil_from_length done l)) h
 run_holds P (s ∷ []) segment later bs done more e l h =
     let whole = length-append s [] in let fits : length s ≤ length done = omega (arith, l, whole) in
     let dropped = length-drop (length s) done in
@@ -182,14 +183,10 @@ run_holds P (s ∷ t ∷ before) segment later bs done more e l h =
     run_holds P (t ∷ before) segment later (drop (length s) bs) (drop (length s) done) more cut (omega (arith, l, whole, dropped)) h.1
 
 -- taking at least the first part of a joined list takes it whole
-record TakesWhole (n : ℕ) (xs ys : List Batch) : Type 0 where
-  more : List Batch
-  is : take n (xs ++ ys) ≡ xs ++ more
-
-takes_whole : (n : ℕ) (xs ys : List Batch) → length xs ≤ n → TakesWhole n xs ys
-takes_whole n [] ys l = record { more = take n ys; is = refl }
-takes_whole zero (x ∷ xs) ys l = absurd (omega (arith, l))
-takes_whole (suc n) (x ∷ xs) ys l = let h = takes_whole n xs ys (omega (arith, l)) in record { more = h.more; is = ap (λ v. x ∷ v) h.is }
+takes_whole : (n : ℕ) (xs ys : List Batch) → length xs ≤ n → take n (xs ++ ys) ≡ xs ++ take (n - length xs) ys
+takes_whole n xs ys l =
+    let e : n ≡ length xs + (n - length xs) = omega (arith, l) in
+    ap (λ (k : ℕ). take k (xs ++ ys)) e ∙ take-append-add xs ys (n - length xs)
 
 run_listed : (barrier : List ℕ) (all : List (List ℕ)) (segment : List Entry) (later : List (List Entry)) (taken more : List Batch)
     → (length taken ≤ length segment) ⊎ (later ≡ []) → RunsListed barrier all (run_at segment later (taken ++ more))
@@ -197,8 +194,8 @@ run_listed : (barrier : List ℕ) (all : List (List ℕ)) (segment : List Entry)
 run_listed barrier all segment [] taken more fits w = listed_front barrier all taken more w
 run_listed barrier all segment (next ∷ later) taken more fits w = elim fits [
   | inl within ↦
-      let t = takes_whole (length segment) taken more within in
-      listed_front barrier all taken t.more (subst (RunsListed barrier all) t.is w)
+      listed_front barrier all taken (take (length segment - length taken) more)
+      (subst (RunsListed barrier all) (takes_whole (length segment) taken more within) w)
   | inr none ↦ absurd (true_not_false (sym (ap is_empty none)))
 ]
 
@@ -209,6 +206,22 @@ module _ (y : History) where
       let nothing : length y.current ≡ 0 = ap length none in
       omega (arith, whole, parts, nothing)
 
+  -- how many batches there are, by the closed segments before one, that one and those behind it
+  pub clean_size : IsClean y → (before : List (List Entry)) (segment : List Entry) (later : List (List Entry))
+      → y.closed ≡ before ++ segment ∷ later → length y.batches ≡ length (joined before) + (length segment + length (joined later))
+      + length y.current
+  clean_size h before segment later split =
+      let sizes = ap length (ap joined split ∙ joined-append before (segment ∷ later)) in
+      omega (
+        arith,
+        ap length h.batches,
+        length-append (batches_in (joined y.closed)) y.current,
+        length-batches_in (joined y.closed) h.clean,
+        sizes,
+        length-append (joined before) (segment ++ joined later),
+        length-append segment (joined later),
+      )
+
 -- a path into a closed segment ends before the open one
 ends_before_current : (i : Instance) (y : History) (named rest : List Batch) (a e : List ℕ) → IsSound y → y.batches ≡ named ++ rest
     → (p : InClosed i y named a e) → length named ≤ length y.batches - length y.current
@@ -216,16 +229,14 @@ ends_before_current i y named rest a e sound first p = elim sound.history [
   | inr h ↦ none_longer y named rest first (shut_current y sound h.shut)
   | inl h ↦ elim p.within [
     | inr last ↦ none_longer y named rest first last.1
-    | inl within ↦
-        let whole : joined y.closed ≡ joined p.before ++ (p.segment ++ joined p.later) =
-        ap joined p.split ∙ joined-append p.before (p.segment ∷ p.later) in
-        let sizes = ap length whole in
-        let parts = length-append (joined p.before) (p.segment ++ joined p.later) in
-        let inner = length-append p.segment (joined p.later) in
-        let count = length-batches_in (joined y.closed) h.clean in let all = ap length h.batches in
-        let cut = length-append (batches_in (joined y.closed)) y.current in let names = ap length p.named_is in
-        let split = length-append p.done p.taken in
-        omega (arith, sizes, parts, inner, count, all, cut, names, split, within, p.counted)
+    | inl within ↦ omega (
+      arith,
+      clean_size y h p.before p.segment p.later p.split,
+      p.counted,
+      within,
+      ap length p.named_is,
+      length-append p.done p.taken,
+    )
   ]
 ]
 
@@ -246,11 +257,12 @@ path_in_closed i y named rest a e all sound first runs p =
     first ∙ ap (λ (v : List Batch). v ++ rest) p.named_is ∙ append_assoc p.done p.taken rest in
     let d = done_is y p.before p.done (p.taken ++ rest) h first' p.counted in
     let k = length y.batches - length y.current in
-    let t = takes_whole k named rest (ends_before_current i y named rest a e sound first p) in
-    let bs : take k y.batches ≡ p.done ++ (p.taken ++ t.more) =
-    ap (take k) first ∙ t.is ∙ ap (λ (v : List Batch). v ++ t.more) p.named_is ∙ append_assoc p.done p.taken t.more in
+    let more = take (k - length named) rest in
+    let bs : take k y.batches ≡ p.done ++ (p.taken ++ more) =
+    ap (take k) first ∙ takes_whole k named rest (ends_before_current i y named rest a e sound first p)
+    ∙ ap (λ (v : List Batch). v ++ more) p.named_is ∙ append_assoc p.done p.taken more in
     let closed = each_left (RunsListed i.barrier all) (closed_runs y.closed (take k y.batches)) (y.current ∷ []) runs in
-    let run = run_holds (RunsListed i.barrier all) p.before p.segment p.later (take k y.batches) p.done (p.taken ++ t.more) bs p.counted
+    let run = run_holds (RunsListed i.barrier all) p.before p.segment p.later (take k y.batches) p.done (p.taken ++ more) bs p.counted
     (subst (λ (v : List (List Entry)). AllByRecursion (RunsListed i.barrier all) (closed_runs v (take k y.batches))) p.split closed) in
     let fits : (length p.taken ≤ length p.segment) ⊎ (p.later ≡ []) = elim p.within [ inl within ↦ inl within | inr last ↦ inr last.0 ] in
     record {
@@ -262,7 +274,7 @@ path_in_closed i y named rest a e all sound first runs p =
       extension_is = p.extension_is;
       flat = flat_is i.barrier y p.before p.done p.taken named h d p.named_is;
       reaches = reaches_closed i y named a e sound p;
-      listed = run_listed i.barrier all p.segment p.later p.taken t.more fits run;
+      listed = run_listed i.barrier all p.segment p.later p.taken more fits run;
     }
 
 -- each place of a sound history is a path

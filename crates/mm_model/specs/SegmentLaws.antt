@@ -33,10 +33,6 @@ pub not_empty : {A : Type 0} (xs : List A) → is_empty xs ≡ false → 1 ≤ l
 not_empty [] e = absurd (cc)
 not_empty (x ∷ xs) e = omega arith
 
-pub nothing_left : {A : Type 0} (xs : List A) → length xs ≡ 0 → xs ≡ []
-nothing_left [] e = refl
-nothing_left (x ∷ xs) e = absurd (omega (arith, e))
-
 -- segments that are not empty hold nothing only where there is none
 pub no_segments : {A : Type 0} (xs : List (List A)) → AllByRecursion (λ x. is_empty x ≡ false) xs → length (joined xs) ≡ 0 → xs ≡ []
 no_segments [] filled e = refl
