@@ -11,7 +11,7 @@ use Rattle.mm_model.specs.Chains.{register_of, anchor_of}
 use Rattle.mm_model.specs.MessagesWords.{move_messages}
 use Rattle.mm_model.proofs.Paths.{RunsListed, current_clean, shut_current}
 use Rattle.mm_model.proofs.HistoryParts.{HistoryListed, history_listed}
-use Rattle.mm_model.proofs.Moves.{moving, moving_is, open_current}
+use Rattle.mm_model.proofs.Moves.{flagged, open_current}
 
 flat_each : {A B : Type 0} (P : B → Type 0) (f : A → List B) (xs : List A) → AllByRecursion (λ x. AllByRecursion P (f x)) xs
     → AllByRecursion P (flat_map f xs)
@@ -162,32 +162,35 @@ close_listed i y all clean h c =
       };
     }
 
-listed_at : (i : Instance) (y : History) (flag : Bool) (m : Move) (all : List (List ℕ)) → IsSound y → y.is_open ≡ flag
-    → IsAllowed Opt flag i y m → HistoryListed i y all → Within (moving_messages Opt flag i y m) all → Within (batch_messages i y m) all
-    → HistoryListed i (moving flag i y m) all
-listed_at i y true (Commit b) all sound f may h w m =
-    commit_listed i y (y.current ++ b ∷ []) y.is_open (y.items ++ Own b ∷ []) b all refl h
-    (items_grow i.barrier all y.items (Own b) h.listed.last w.0) m
-listed_at i y false (Commit b) all sound f may h w m =
-    commit_listed i y (b ∷ []) true (renamed y.items b) b all (ap (λ (v : List Batch). v ++ b ∷ []) (sym (shut_current y sound f))) h
-    (subst (λ (v : List (List ℕ)). Within (register_trail v) all) (sym (ap (λ (v : List Entry). values_of i.barrier (renamed v b)) may.items
-    ∙ values_renamed i.barrier may.front b ∙ ap (values_of i.barrier) (sym may.items))) h.listed.last) m
-listed_at i y true (Placed b) all sound f may h w m = absurd may
-listed_at i y false (Placed b) all sound f may h w m =
-    items_listed i y (y.items ++ Value (guard i.barrier b) ∷ []) all h
-    (items_grow i.barrier all y.items (Value (guard i.barrier b)) h.listed.last w.0)
-listed_at i y flag Reset all sound f may h w m = items_listed i y [] all h tt
-listed_at i y true Close all sound f may h w m = close_listed i y all (current_clean y sound (open_current y sound f)) h w.0
-listed_at i y false Close all sound f may h w m = absurd may
-listed_at i y flag Power all sound f may h w m = items_listed i y [] all h tt
-listed_at i y _ (Foreign d) all sound f may h w m =
-    items_listed i y (y.items ++ Value d ∷ []) all h (items_grow i.barrier all y.items (Value d) h.listed.last w.0)
+module _ (meaning : Meaning) (key barrier : List ℕ) where
+  abbrev I : Instance
+  I = opt meaning key barrier
 
-pub opt_messages : (meaning : Meaning) (key barrier : List ℕ) (y : History) (m : Move) (all : List (List ℕ)) → IsSound y
-    → MayMove (opt meaning key barrier) y m → Within (messages_of Opt (opt meaning key barrier) y) all
-    → Within (move_messages (opt meaning key barrier) y m) all → Within (batch_messages (opt meaning key barrier) y m) all
-    → Within (messages_of Opt (opt meaning key barrier) (moved (opt meaning key barrier) y m)) all
-opt_messages meaning key barrier y m all sound may h w b =
-    let i = opt meaning key barrier in
-    subst (λ (z : History). Within (messages_of Opt i z) all) (moving_is meaning key barrier y m) (listed_history i (moving y.is_open i y m)
-    all (listed_at i y y.is_open m all sound refl may (history_listed i y all h) w b))
+  -- by whether a segment is open
+  listed_at : (y : History) (flag : Bool) (m : Move) (all : List (List ℕ)) → IsSound (flagged y flag) → MayMove I (flagged y flag) m
+      → HistoryListed I (flagged y flag) all → Within (move_messages I (flagged y flag) m) all → Within (batch_messages I y m) all
+      → HistoryListed I (moved I (flagged y flag) m) all
+  listed_at y true (Commit b) all sound may h w m =
+      commit_listed I (flagged y true) (y.current ++ b ∷ []) true (y.items ++ Own b ∷ []) b all refl h
+      (items_grow barrier all y.items (Own b) h.listed.last w.0) m
+  listed_at y false (Commit b) all sound may h w m =
+      let z = flagged y false in let same : values_of barrier (renamed y.items b) ≡ values_of barrier y.items =
+      rw may.items (values_renamed barrier may.front b) in
+      commit_listed I z (b ∷ []) true (renamed y.items b) b all
+      (ap (λ (v : List Batch). v ++ b ∷ []) (sym (shut_current z sound refl))) h
+      (subst (λ (v : List (List ℕ)). Within (register_trail v) all) (sym same) h.listed.last) m
+  listed_at y true (Placed b) all sound may h w m = absurd may
+  listed_at y false (Placed b) all sound may h w m =
+      let v = Value (guard barrier b) in
+      items_listed I (flagged y false) (y.items ++ v ∷ []) all h (items_grow barrier all y.items v h.listed.last w.0)
+  listed_at y true Close all sound may h w m =
+      let z = flagged y true in close_listed I z all (current_clean z sound (open_current z sound refl)) h w.0
+  listed_at y false Close all sound may h w m = absurd may
+  listed_at y flag (Foreign d) all sound may h w m =
+      items_listed I (flagged y flag) (y.items ++ Value d ∷ []) all h (items_grow barrier all y.items (Value d) h.listed.last w.0)
+  listed_at y flag _ all sound may h w m = items_listed I (flagged y flag) [] all h tt
+
+  pub opt_messages : (y : History) (m : Move) (all : List (List ℕ)) → IsSound y → MayMove I y m → Within (messages_of Opt I y) all
+      → Within (move_messages I y m) all → Within (batch_messages I y m) all → Within (messages_of Opt I (moved I y m)) all
+  opt_messages y m all sound may h w b =
+      listed_history I (moved I y m) all (listed_at y y.is_open m all sound may (history_listed I y all h) w b)

@@ -136,15 +136,6 @@ sound_close y sound f some =
       register = λ e. absurd (true_not_false (sym e));
     }
 
--- `moved` with the variant and the flag as arguments
-abbrev pub moving : Bool → Instance → History → Move → History
-moving flag i y (Commit b) = committed Opt flag y b
-moving flag i y (Foreign d) = moved i y (Foreign d)
-moving flag i y (Placed b) = moved i y (Placed b)
-moving flag i y Reset = moved i y Reset
-moving flag i y Close = moved i y Close
-moving flag i y Power = moved i y Power
-
 module _ (i : Instance) where
   sound_opening : (y : History) (b : Batch) → IsSound y → y.is_open ≡ false → IsOpening i y b
       → IsSound (record y { batches = y.batches ++ b ∷ []; current = b ∷ []; is_open = true; items = renamed y.items b })
@@ -156,31 +147,29 @@ module _ (i : Instance) where
     register = λ _. renamed_items y.items b (opening_bare i y b o);
   }
 
-  sound_at : (y : History) (flag : Bool) (m : Move) → IsSound y → y.is_open ≡ flag → IsAllowed Opt flag i y m → IsSound (moving flag i y m)
-  sound_at y true (Commit b) sound f may = sound_commit y b sound f may
-  sound_at y false (Commit b) sound f may = sound_opening y b sound f may
-  sound_at y flag (Foreign d) sound f may = sound_items y (y.items ++ Value d ∷ []) sound (λ _. inr (inr (has_value-push y.items d)))
-  sound_at y flag (Placed b) sound f may =
-      sound_items y (y.items ++ Value (guard i.barrier b) ∷ []) sound (λ _. inr (inr (has_value-push y.items (guard i.barrier b))))
-  sound_at y true Close sound f may = sound_close y sound f may
-  sound_at y false Close sound f may = absurd may
-  sound_at y flag _ sound f may = sound_items y [] sound (λ _. inr (inl refl))
+-- the history, where a segment is open or not
+abbrev pub flagged : History → Bool → History
+flagged y flag = record y { is_open = flag }
 
-pub moving_is : (meaning : Meaning) (key barrier : List ℕ) (y : History) (m : Move)
-    → moving y.is_open (opt meaning key barrier) y m ≡ moved (opt meaning key barrier) y m
-moving_is meaning key barrier y (Commit b) = refl
-moving_is meaning key barrier y _ = refl
+module _ (meaning : Meaning) (key barrier : List ℕ) where
+  abbrev I : Instance
+  I = opt meaning key barrier
 
-pub sound_moved : (meaning : Meaning) (key barrier : List ℕ) (y : History) (m : Move) → IsSound y → MayMove (opt meaning key barrier) y m
-    → IsSound (moved (opt meaning key barrier) y m)
-sound_moved meaning key barrier y m sound may =
-    subst IsSound (moving_is meaning key barrier y m) (sound_at (opt meaning key barrier) y y.is_open m sound refl may)
+  sound_at : (y : History) (flag : Bool) (m : Move) → IsSound (flagged y flag) → MayMove I (flagged y flag) m
+      → IsSound (moved I (flagged y flag) m)
+  sound_at y true (Commit b) sound may = sound_commit (flagged y true) b sound refl may
+  sound_at y false (Commit b) sound may = sound_opening I (flagged y false) b sound refl may
+  sound_at y flag (Foreign d) sound may =
+      sound_items (flagged y flag) (y.items ++ Value d ∷ []) sound (λ _. inr (inr (has_value-push y.items d)))
+  sound_at y flag (Placed b) sound may =
+      let v = guard barrier b in
+      sound_items (flagged y flag) (y.items ++ Value v ∷ []) sound (λ _. inr (inr (has_value-push y.items v)))
+  sound_at y true Close sound may = sound_close (flagged y true) sound refl may
+  sound_at y false Close sound may = absurd may
+  sound_at y flag _ sound may = sound_items (flagged y flag) [] sound (λ _. inr (inl refl))
 
-register_renamed : (barrier : List ℕ) (items front : List Entry) (b : Batch) → items ≡ front ++ Value (guard barrier b) ∷ []
-    → register_of (values_of barrier (renamed items b)) ≡ register_of (values_of barrier items)
-register_renamed barrier items front b e =
-    ap (λ (v : List Entry). register_of (values_of barrier (renamed v b))) e
-    ∙ ap register_of (values_renamed barrier front b) ∙ ap (λ (v : List Entry). register_of (values_of barrier v)) (sym e)
+  pub sound_moved : (y : History) (m : Move) → IsSound y → MayMove I y m → IsSound (moved I y m)
+  sound_moved y m = sound_at y y.is_open m
 
 pub basic_digests : (meaning : Meaning) (key : List ℕ) (y : History) (m : Move) → MayMove (basic meaning key) y m
     → digests_of (basic meaning key) (moved (basic meaning key) y m) ≡ made (basic meaning key) (digests_of (basic meaning key) y) m
@@ -195,15 +184,14 @@ module _ (meaning : Meaning) (key barrier : List ℕ) (y : History) where
   abbrev before : Digests
   before = digests_of (opt meaning key barrier) y
 
-  -- a commit in Opt, by whether a segment is open
+  -- a commit, by whether a segment is open
   commit_digests : (b : Batch) (flag : Bool) → IsAllowed Opt flag (opt meaning key barrier) y (Commit b)
       → digests_of (opt meaning key barrier) (committed Opt flag y b) ≡ committing Opt flag (opt meaning key barrier) before b
   commit_digests b true may = λ j. record before { register = register_more barrier y.items (Own b) j; count = total-push y.batches b j }
-  commit_digests b false may = λ j. record before {
-    flag = true;
-    register = register_renamed barrier y.items may.front b may.items j;
-    count = total-push y.batches b j;
-  }
+  commit_digests b false may =
+      let items : register_of (values_of barrier (renamed y.items b)) ≡ register_of (values_of barrier y.items) =
+      rw may.items (ap register_of (values_renamed barrier may.front b)) in
+      λ j. record before { flag = true; register = items j; count = total-push y.batches b j }
 
   close_digest : anchor_of meaning.id (map (values_of barrier) (y.closed ++ y.items ∷ []))
       ≡ anchored_of (anchor_of meaning.id (map (values_of barrier) y.closed)) (register_of (values_of barrier y.items))
@@ -246,32 +234,27 @@ outside_less others true closed items h =
     (subst (λ (v : List (List ℕ)). AllByRecursion (Contains others) v) (values_in-append (joined closed) items) h))
 outside_less others false closed items h = h
 
-outside_at : (i : Instance) (others : List (List ℕ)) (y : History) (flag : Bool) (m : Move) → y.is_open ≡ flag
-    → OutsideAt others flag y.closed y.items → IsAllowed Opt flag i y m → Brings Opt flag others y m → IsOutside others (moving flag i y m)
-outside_at i others y flag (Foreign d) f h may b =
-    subst (λ (x : Bool). OutsideAt others x y.closed (y.items ++ Value d ∷ [])) (sym f)
-    (outside_more others flag y.closed y.items (Value d) h (λ _. (b, tt)))
-outside_at i others y true (Commit b) f h may k =
-    subst (λ (x : Bool). OutsideAt others x y.closed (y.items ++ Own b ∷ [])) (sym f)
-    (outside_more others true y.closed y.items (Own b) h (λ _. tt))
-outside_at i others y false (Commit b) f h may k =
-    subst (λ (v : List (List ℕ)). AllByRecursion (Contains others) v) (sym (values_in-append (joined y.closed) (renamed y.items b)))
-    (each_append (Contains others) (values_in (joined y.closed)) (values_in (renamed y.items b))
-    (subst (λ (v : List Entry). AllByRecursion (Contains others) (values_in v)) (append-nil (joined y.closed)) h) k)
-outside_at i others y false (Placed b) f h may k =
-    subst (λ (x : Bool). OutsideAt others x y.closed (y.items ++ Value (guard i.barrier b) ∷ [])) (sym f) h
-outside_at i others y false Reset f h may k = subst (λ (x : Bool). OutsideAt others x y.closed []) (sym f) h
-outside_at i others y true Close f h may k =
-    subst (λ (v : List Entry). AllByRecursion (Contains others) (values_in v))
-    (sym (joined-push y.closed y.items) ∙ sym (append-nil (joined (y.closed ++ y.items ∷ [])))) h
-outside_at i others y flag Power f h may k =
-    subst (λ (x : Bool). OutsideAt others x y.closed []) (sym f) (outside_less others flag y.closed y.items h)
-outside_at i others y _ _ f h may k = absurd may
+module _ (meaning : Meaning) (key barrier : List ℕ) (others : List (List ℕ)) where
+  outside_at : (y : History) (flag : Bool) (m : Move) → IsOutside others (flagged y flag)
+      → MayMove (opt meaning key barrier) (flagged y flag) m → Brings Opt flag others y m
+      → IsOutside others (moved (opt meaning key barrier) (flagged y flag) m)
+  outside_at y flag (Foreign d) h may b = outside_more others flag y.closed y.items (Value d) h (λ _. (b, tt))
+  outside_at y true (Commit b) h may k = outside_more others true y.closed y.items (Own b) h (λ _. tt)
+  outside_at y false (Commit b) h may k =
+      subst (λ (v : List (List ℕ)). AllByRecursion (Contains others) v) (sym (values_in-append (joined y.closed) (renamed y.items b)))
+      (each_append (Contains others) (values_in (joined y.closed)) (values_in (renamed y.items b))
+      (subst (λ (v : List Entry). AllByRecursion (Contains others) (values_in v)) (append-nil (joined y.closed)) h) k)
+  outside_at y true Close h may k =
+      subst (λ (v : List Entry). AllByRecursion (Contains others) (values_in v))
+      (sym (joined-push y.closed y.items) ∙ sym (append-nil (joined (y.closed ++ y.items ∷ [])))) h
+  outside_at y flag Power h may k = outside_less others flag y.closed y.items h
+  outside_at y false (Placed b) h may k = h
+  outside_at y false Reset h may k = h
+  outside_at y _ _ h may k = absurd may
 
-pub outside_moved : (meaning : Meaning) (key barrier : List ℕ) (others : List (List ℕ)) (y : History) (m : Move) → IsOutside others y
-    → MayMove (opt meaning key barrier) y m → Brings Opt y.is_open others y m → IsOutside others (moved (opt meaning key barrier) y m)
-outside_moved meaning key barrier others y m h may b =
-    subst (IsOutside others) (moving_is meaning key barrier y m) (outside_at (opt meaning key barrier) others y y.is_open m refl h may b)
+  pub outside_moved : (y : History) (m : Move) → IsOutside others y → MayMove (opt meaning key barrier) y m
+      → Brings Opt y.is_open others y m → IsOutside others (moved (opt meaning key barrier) y m)
+  outside_moved y m = outside_at y y.is_open m
 
 pub basic_whole : (meaning : Meaning) (key : List ℕ) (y : History) (b : Batch)
     → with_batch Basic y b ≡ moved_by (basic meaning key) y (commit_moves Basic y.is_open b)

@@ -7,7 +7,7 @@ use Rattle.mm_model.proofs.Below.{InClosed, InCurrent, IsPoint, at_anchor, in_cl
 use Rattle.mm_model.proofs.Below.{MayMove, joined-append, length-batches_in}
 use Rattle.mm_model.proofs.Below.{anchor_after}
 use Rattle.mm_model.proofs.Paths.{clean_size, current_clean, live_clean, shut_current}
-use Rattle.mm_model.proofs.Moves.{moving, moving_is, open_current, opening_clean}
+use Rattle.mm_model.proofs.Moves.{flagged, open_current, opening_clean}
 
 -- a place in a history with these closed segments and perhaps more, where a place in the open one is a place there
 module _ (i : Instance) (key : List ℕ) (y z : History) (more : List (List Entry)) (longer : z.closed ≡ y.closed ++ more)
@@ -123,31 +123,10 @@ point_close i y named rest a e clean first =
       extension_is = p.extension_is;
     }))
 
-point_at : (i : Instance) (y : History) (flag : Bool) (m : Move) (named rest : List Batch) (a e : List ℕ) → IsSound y → y.is_open ≡ flag
-    → IsAllowed Opt flag i y m → y.batches ≡ named ++ rest → IsPoint i y named a e → IsPoint i (moving flag i y m) named a e
-point_at i y true (Commit b) named rest a e sound f may first p =
-    point_commit i y (y.current ++ b ∷ []) y.is_open (y.items ++ Own b ∷ []) b named rest a e
-    (current_clean y sound (open_current y sound f)) first refl p
-point_at i y false (Commit b) named rest a e sound f may first p =
-    point_commit i y (b ∷ []) true (renamed y.items b) b named rest a e (live_clean y sound may.clean) first
-    (ap (λ (v : List Batch). v ++ b ∷ []) (sym (shut_current y sound f))) p
-point_at i y flag (Foreign d) named rest a e sound f may first p = point_items i y (y.items ++ Value d ∷ []) named a e p
-point_at i y flag (Placed b) named rest a e sound f may first p = point_items i y (y.items ++ Value (guard i.barrier b) ∷ []) named a e p
-point_at i y true Close named rest a e sound f may first p =
-    point_close i y named rest a e (current_clean y sound (open_current y sound f)) first p
-point_at i y false Close named rest a e sound f may first p = absurd may
-point_at i y flag _ named rest a e sound f may first p = point_items i y [] named a e p
-
 -- which batches a move adds
 added : Move → List Batch
 added (Commit b) = b ∷ []
 added _ = []
-
-batches_at : (i : Instance) (y : History) (flag : Bool) (m : Move) → (moving flag i y m).batches ≡ y.batches ++ added m
-unfolding added
-batches_at i y true (Commit b) = refl
-batches_at i y false (Commit b) = refl
-batches_at i y flag _ = sym (append-nil y.batches)
 
 issued_point : (i : Instance) (y : History) (flag : Bool) → IsSound y → has_value (joined y.closed) ≡ false → y.is_open ≡ flag
     → IsPlaceOf Opt i y y.batches (issued_place Opt flag i y)
@@ -176,27 +155,63 @@ issued_point i y false sound clean f =
       extension_is = refl;
     })
 
+module _ (meaning : Meaning) (key barrier : List ℕ) where
+  abbrev I : Instance
+  I = opt meaning key barrier
+
+  -- by whether a segment is open
+  point_at : (y : History) (flag : Bool) (m : Move) (named rest : List Batch) (a e : List ℕ) → IsSound (flagged y flag)
+      → MayMove I (flagged y flag) m → y.batches ≡ named ++ rest → IsPoint I (flagged y flag) named a e
+      → IsPoint I (moved I (flagged y flag) m) named a e
+  point_at y true (Commit b) named rest a e sound may first p =
+      let z = flagged y true in
+      point_commit I z (y.current ++ b ∷ []) true (y.items ++ Own b ∷ []) b named rest a e
+      (current_clean z sound (open_current z sound refl)) first refl p
+  point_at y false (Commit b) named rest a e sound may first p =
+      let z = flagged y false in
+      point_commit I z (b ∷ []) true (renamed y.items b) b named rest a e (live_clean z sound may.clean) first
+      (ap (λ (v : List Batch). v ++ b ∷ []) (sym (shut_current z sound refl))) p
+  point_at y flag (Foreign d) named rest a e sound may first p = point_items I (flagged y flag) (y.items ++ Value d ∷ []) named a e p
+  point_at y flag (Placed b) named rest a e sound may first p =
+      point_items I (flagged y flag) (y.items ++ Value (guard barrier b) ∷ []) named a e p
+  point_at y true Close named rest a e sound may first p =
+      let z = flagged y true in point_close I z named rest a e (current_clean z sound (open_current z sound refl)) first p
+  point_at y false Close named rest a e sound may first p = absurd may
+  point_at y flag _ named rest a e sound may first p = point_items I (flagged y flag) [] named a e p
+
+  place_at : (y : History) (m : Move) (named rest : List Batch) (place : Place) → IsSound y → MayMove I y m → y.batches ≡ named ++ rest
+      → IsPlaceOf Opt I y named place → IsPlaceOf Opt I (moved I y m) named place
+  place_at y m named rest (InBasic s) sound may first p = absurd p
+  place_at y m named rest (InOpt a e) sound may first p = point_at y y.is_open m named rest a.bytes e.bytes sound may first p
+
+  opt_batches : (y : History) (flag : Bool) (m : Move) → (moved I (flagged y flag) m).batches ≡ y.batches ++ added m
+  unfolding added
+  opt_batches y true (Commit b) = refl
+  opt_batches y false (Commit b) = refl
+  opt_batches y flag _ = sym (append-nil y.batches)
+
+  pub opt_names : (y : History) (m : Move) (offered : Content) → IsSound y → MayMove I y m → Names I y offered
+      → Names I (moved I y m) offered
+  opt_names y m offered sound may n = record {
+    named = n.named;
+    rest = n.rest ++ added m;
+    first = opt_batches y y.is_open m ∙ ap (λ (v : List Batch). v ++ added m) n.first ∙ append_assoc n.named n.rest (added m);
+    position = n.position;
+    state = n.state;
+    place = place_at y m n.named n.rest offered.place sound may n.first n.place;
+  }
+
+  pub opt_issued : (y : History) → IsSound y → has_value (joined y.closed) ≡ false → Names I y (issued I y)
+  opt_issued y sound clean = record {
+    named = y.batches;
+    rest = [];
+    first = sym (append-nil y.batches);
+    position = refl;
+    state = refl;
+    place = issued_point I y y.is_open sound clean refl;
+  }
+
 module _ (meaning : Meaning) (key : List ℕ) where
-  place_at : (barrier : List ℕ) (y : History) (m : Move) (named rest : List Batch) (place : Place) → IsSound y
-      → MayMove (opt meaning key barrier) y m → y.batches ≡ named ++ rest → IsPlaceOf Opt (opt meaning key barrier) y named place
-      → IsPlaceOf Opt (opt meaning key barrier) (moving y.is_open (opt meaning key barrier) y m) named place
-  place_at barrier y m named rest (InBasic s) sound may first p = absurd p
-  place_at barrier y m named rest (InOpt a e) sound may first p =
-      point_at (opt meaning key barrier) y y.is_open m named rest a.bytes e.bytes sound refl may first p
-
-  pub opt_names : (barrier : List ℕ) (y : History) (m : Move) (offered : Content) → IsSound y → MayMove (opt meaning key barrier) y m
-      → Names (opt meaning key barrier) y offered → Names (opt meaning key barrier) (moved (opt meaning key barrier) y m) offered
-  opt_names barrier y m offered sound may n =
-      let i = opt meaning key barrier in
-      subst (λ (z : History). Names i z offered) (moving_is meaning key barrier y m) (record {
-        named = n.named;
-        rest = n.rest ++ added m;
-        first = batches_at i y y.is_open m ∙ ap (λ (v : List Batch). v ++ added m) n.first ∙ append_assoc n.named n.rest (added m);
-        position = n.position;
-        state = n.state;
-        place = place_at barrier y m n.named n.rest offered.place sound may n.first n.place;
-      })
-
   basic_place : (y z : History) (named : List Batch) (place : Place) → IsPlaceOf Basic (basic meaning key) y named place
       → IsPlaceOf Basic (basic meaning key) z named place
   basic_place y z named (InBasic s) p = p
@@ -220,14 +235,3 @@ module _ (meaning : Meaning) (key : List ℕ) where
 
   pub basic_issued : (y : History) → Names (basic meaning key) y (issued (basic meaning key) y)
   basic_issued y = record { named = y.batches; rest = []; first = sym (append-nil y.batches); position = refl; state = refl; place = refl }
-
-  pub opt_issued : (barrier : List ℕ) (y : History) → IsSound y → has_value (joined y.closed) ≡ false
-      → Names (opt meaning key barrier) y (issued (opt meaning key barrier) y)
-  opt_issued barrier y sound clean = record {
-    named = y.batches;
-    rest = [];
-    first = sym (append-nil y.batches);
-    position = refl;
-    state = refl;
-    place = issued_point (opt meaning key barrier) y y.is_open sound clean refl;
-  }

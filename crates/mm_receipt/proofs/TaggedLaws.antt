@@ -6,7 +6,7 @@ use Rattle.mm_receipt.proofs.Below.{digits_of, receipt_of, parts_by, verified_by
 use Rattle.mm_receipt.proofs.Below.{first_kept, spelling_of, receipt_state_in, receipted, IsKept, kept_of-spelling_of, outcome_of-IsKept}
 use Rattle.std.specs.List.{AllByRecursion}
 use Rattle.std.proofs.lemmas.Bool.Decides.{nat_tests}
-use Rattle.std.proofs.lemmas.List.{take-append-drop}
+use Rattle.std.proofs.lemmas.List.{drop-drop, take-append-drop}
 use Rattle.std.proofs.lemmas.Slice.Eq.{bytes_eq-Decides}
 use Rattle.mm_base.specs.Fields.{eight_bytes, four_bytes}
 use Rattle.mm_base.specs.FieldLaws.{length-eight_bytes, length-four_bytes, eight_bytes-injective, four_bytes-injective, append-injective}
@@ -63,17 +63,12 @@ parts-receipt key position request digits (space ∷ said) accepted =
     let f = formed-receipt key position request digits said space accepted in
     ap (λ (l : List ℕ). l ++ space ∷ said) f.0 ∙ ap (λ n. digits_of key position request said ++ n ∷ said) f.1
 
-drop-suc : (n : ℕ) (xs : List ℕ) → drop (suc n) xs ≡ drop 1 (drop n xs)
-drop-suc zero xs = refl
-drop-suc (suc n) [] = refl
-drop-suc (suc n) (x ∷ xs) = drop-suc n xs
-
 -- an output that is accepted is the receipt of what stands behind its digits
 accepted-receipt : (key : List ℕ) (position : ℕ) (request output : List ℕ) → verified key position request output ≡ Ok tt
     → output ≡ receipt_of key position request (drop 65 output)
 accepted-receipt key position request output accepted =
     sym (take-append-drop 64 output) ∙ parts-receipt key position request (take 64 output) (drop 64 output) accepted
-    ∙ ap (λ (l : List ℕ). receipt_of key position request l) (sym (drop-suc 64 output))
+    ∙ ap (λ (l : List ℕ). receipt_of key position request l) (drop-drop 1 64 output)
 
 -- the outputs from what is kept
 abbrev outputs_by : Meaning → ReceiptState → List (List ℕ) → List (List ℕ)

@@ -9,16 +9,16 @@ pub returns-in_err-variant : goal.returns-in_err-variant
 returns-in_err-variant c =
     let none : IsNoCell c.args.bytes.now =
     λ cell is e. c.in_err-variant.ensures cell.variant
-    (fields-cell_spelling _ _ _ _ _ _ _ _ _ cell is e (joined 8 _ _ _ c.split_at.ensures.front c.split_at.ensures.back) c.split_at.ensures.front_len
-    c.in_ok-summary.ensures c.in_ok-key.ensures c.in_ok-barrier.ensures).variant
+    (fields-cell_spelling _ _ _ _ _ _ _ _ _ cell is e (joined 8 _ _ _ c.split_at.ensures.front c.split_at.ensures.back)
+    c.split_at.ensures.front_len c.in_ok-summary.ensures c.in_ok-key.ensures c.in_ok-barrier.ensures).variant
     in
     rw c.from_residual-in_err-variant.ensures none
 
 pub returns-else-fits_variant : goal.returns-else-fits_variant
 returns-else-fits_variant c cell is e =
     let same =
-    cell_of_fields-only _ _ _ _ _ _ _ _ _ cell is e (joined 8 _ _ _ c.split_at.ensures.front c.split_at.ensures.back) c.split_at.ensures.front_len
-    c.in_ok-summary.ensures c.in_ok-key.ensures c.in_ok-barrier.ensures c.in_ok-variant.variant c.in_ok-variant.ensures
+    cell_of_fields-only _ _ _ _ _ _ _ _ _ cell is e (joined 8 _ _ _ c.split_at.ensures.front c.split_at.ensures.back)
+    c.split_at.ensures.front_len c.in_ok-summary.ensures c.in_ok-key.ensures c.in_ok-barrier.ensures c.in_ok-variant.variant c.in_ok-variant.ensures
     in
     let fits = subst (λ (x : Cell). FitsVariant x.variant x.flag x.barrier) (sym same) is.variant in
     let spelled = e ∙ sym (ap cell_spelling same) in
