@@ -9,7 +9,7 @@ use Rattle.mm_model.proofs.Below.{moving_messages, IsAllowed, MayMove, batch_mes
 use Rattle.mm_model.proofs.Below.{nil_from_length, listed_value, own_values-append, values_of-append, length-batches_in, values_renamed}
 use Rattle.mm_model.specs.Chains.{register_of, anchor_of}
 use Rattle.mm_model.specs.MessagesWords.{move_messages}
-use Rattle.mm_model.proofs.Paths.{RunsListed, current_clean, shut_current}
+use Rattle.mm_model.proofs.Paths.{RunsListed, current_clean, shut_current, runs_parts}
 use Rattle.mm_model.proofs.HistoryParts.{HistoryListed, history_listed}
 use Rattle.mm_model.proofs.Moves.{flagged, open_current}
 
@@ -92,14 +92,10 @@ module _ (barrier : List ℕ) (all : List (List ℕ)) where
         items = items;
       }))
   runs_commit y current is_open items b grown runs c =
-      let k = length y.batches - length y.current in
-      let closed = each_left (RunsListed barrier all) (closed_runs y.closed (take k y.batches)) (y.current ∷ []) runs in
-      let open_run = (each_right (RunsListed barrier all) (closed_runs y.closed (take k y.batches)) (y.current ∷ []) runs).0 in
-      subst (λ (v : List Batch). AllByRecursion (RunsListed barrier all) (closed_runs y.closed (take (length (y.batches ++ b ∷ []) - length
-      v) (y.batches ++ b ∷ [])) ++ v ∷ [])) (sym grown) (each_append (RunsListed barrier all)
-      (closed_runs y.closed (take (length (y.batches ++ b ∷ []) - length (y.current ++ b ∷ [])) (y.batches ++ b ∷ [])))
-      ((y.current ++ b ∷ []) ∷ []) (subst (λ (v : List Batch). AllByRecursion (RunsListed barrier all) (closed_runs y.closed v))
-      (sym (front_stays y.batches y.current b)) closed) (run_grows barrier all y.current b open_run c, tt))
+      let parts = runs_parts (RunsListed barrier all) y runs in
+      rw (grown, front_stays y.batches y.current b) (each_append (RunsListed barrier all)
+      (closed_runs y.closed (take (length y.batches - length y.current) y.batches)) ((y.current ++ b ∷ []) ∷ []) parts.0
+      (run_grows barrier all y.current b parts.1 c, tt))
 
 commit_listed : (i : Instance) (y : History) (current : List Batch) (is_open : Bool) (items : List Entry) (b : Batch) (all : List (List ℕ))
     → current ≡ y.current ++ b ∷ [] → HistoryListed i y all → Within (register_trail (values_of i.barrier items)) all
@@ -141,9 +137,8 @@ close_listed i y all clean h c =
     let k = length y.batches - length y.current in let count = ap length clean.batches in
     let cut = length-append bs y.current in let size : length bs ≡ k = omega (arith, count, cut) in
     let front : take k y.batches ≡ bs = ap (take k) clean.batches ∙ take_at bs y.current k size in
-    let closed = subst (λ (v : List Batch). AllByRecursion R (closed_runs y.closed v)) front
-    (each_left R (closed_runs y.closed (take k y.batches)) (y.current ∷ []) h.runs) in
-    let open_run = (each_right R (closed_runs y.closed (take k y.batches)) (y.current ∷ []) h.runs).0 in
+    let parts = runs_parts R y h.runs in
+    let closed = subst (λ (v : List Batch). AllByRecursion R (closed_runs y.closed v)) front parts.0 in
     let whole : take (length y.batches - 0) y.batches ≡ bs ++ y.current =
     take_all (length y.batches - 0) y.batches (omega arith) ∙ clean.batches in
     let is : map V (y.closed ++ y.items ∷ []) ≡ map V y.closed ++ V y.items ∷ [] = map-append V y.closed (y.items ∷ []) in
@@ -152,7 +147,7 @@ close_listed i y all clean h c =
       guards = h.guards;
       runs = each_append R (closed_runs (y.closed ++ y.items ∷ []) (take (length y.batches - 0) y.batches)) ([] ∷ [])
           (subst (λ (v : List Batch). AllByRecursion R (closed_runs (y.closed ++ y.items ∷ []) v)) (sym whole) (runs_push R y.closed y.items
-          bs y.current (length-batches_in (joined y.closed) clean.clean) closed open_run)) (tt, tt);
+          bs y.current (length-batches_in (joined y.closed) clean.clean) closed parts.1)) (tt, tt);
       listed = record {
         inner = subst (λ (v : List (List (List ℕ))). AllByRecursion (λ vs. Within (register_trail vs) all) v) (sym is)
             (each_append (λ vs. Within (register_trail vs) all) (map V y.closed) (V y.items ∷ []) h.listed.inner (h.listed.last, tt));

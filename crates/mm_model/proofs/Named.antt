@@ -72,56 +72,55 @@ pub point_items : (i : Instance) (y : History) (items : List Entry) (named : Lis
     → IsPoint i (record y { items = items }) named a e
 point_items i y items named a e p = point_kept i i.key y items named a e p
 
--- in a clean history a place in a closed segment ends within it
-ends_within : (i : Instance) (y : History) (named rest : List Batch) (a e : List ℕ) → IsClean y → y.batches ≡ named ++ rest
-    → (p : InClosed i y named a e) → length p.taken ≤ length p.segment
-ends_within i y named rest a e clean first p = elim p.within [
-  | inl within ↦ within
-  | inr last ↦
-      let none : length (joined p.later) ≡ 0 = ap (λ (v : List (List Entry)). length (joined v)) last.0 in
-      let nothing : length y.current ≡ 0 = ap length last.1 in
-      omega (
-        arith,
-        clean_size y clean p.before p.segment p.later p.split,
-        p.counted,
-        none,
-        nothing,
-        ap length p.named_is,
-        length-append p.done p.taken,
-        ap length first,
-        length-append named rest,
-      )
-]
+module _ (i : Instance) (y : History) (named rest : List Batch) (a e : List ℕ) (clean : IsClean y) (first : y.batches ≡ named ++ rest) where
+  -- in a clean history a place in a closed segment ends within it
+  ends_within : (p : InClosed i y named a e) → length p.taken ≤ length p.segment
+  ends_within p = elim p.within [
+    | inl within ↦ within
+    | inr last ↦
+        let none : length (joined p.later) ≡ 0 = ap (λ (v : List (List Entry)). length (joined v)) last.0 in
+        let nothing : length y.current ≡ 0 = ap length last.1 in
+        omega (
+          arith,
+          clean_size y clean p.before p.segment p.later p.split,
+          p.counted,
+          none,
+          nothing,
+          ap length p.named_is,
+          length-append p.done p.taken,
+          ap length first,
+          length-append named rest,
+        )
+  ]
 
--- a batch more in the open segment, or a new one
-point_commit : (i : Instance) (y : History) (current : List Batch) (is_open : Bool) (items : List Entry) (b : Batch)
-    (named rest : List Batch) (a e : List ℕ) → IsClean y → y.batches ≡ named ++ rest → current ≡ y.current ++ b ∷ [] → IsPoint i y named a e
-    → IsPoint i (record y { batches = y.batches ++ b ∷ []; current = current; is_open = is_open; items = items }) named a e
-point_commit i y current is_open items b named rest a e clean first grown p =
-    let z : History = record y { batches = y.batches ++ b ∷ []; current = current; is_open = is_open; items = items } in
-    point_more i i.key y z (b ∷ []) refl grown refl named a e (λ q. inl (ends_within i y named rest a e clean first q)) p
+  -- a batch more in the open segment, or a new one
+  point_commit : (current : List Batch) (is_open : Bool) (items : List Entry) (b : Batch) → current ≡ y.current ++ b ∷ []
+      → IsPoint i y named a e
+      → IsPoint i (record y { batches = y.batches ++ b ∷ []; current = current; is_open = is_open; items = items }) named a e
+  point_commit current is_open items b grown =
+      point_more i i.key y (record y { batches = y.batches ++ b ∷ []; current = current; is_open = is_open; items = items }) (b ∷ [])
+      refl grown refl named a e (λ p. inl (ends_within p))
 
--- the open segment becomes the last closed one
-point_close : (i : Instance) (y : History) (named rest : List Batch) (a e : List ℕ) → IsClean y → y.batches ≡ named ++ rest
-    → IsPoint i y named a e → IsPoint i (record y { closed = y.closed ++ y.items ∷ []; current = []; is_open = false }) named a e
-point_close i y named rest a e clean first =
-    point_grown i i.key y (record y { closed = y.closed ++ y.items ∷ []; current = []; is_open = false }) (y.items ∷ []) refl named a e
-    (λ p. inl (ends_within i y named rest a e clean first p))
-    (λ p. in_closed (record {
-      before = y.closed;
-      segment = y.items;
-      later = [];
-      done = p.done;
-      taken = p.taken;
-      split = refl;
-      named_is = p.named_is;
-      counted = ap length (append_cancel_right p.done (batches_in (joined y.closed)) y.current (sym p.start ∙ clean.batches))
-          ∙ length-batches_in (joined y.closed) clean.clean;
-      begun = p.begun;
-      within = inr (refl, refl);
-      anchor_is = p.anchor_is;
-      extension_is = p.extension_is;
-    }))
+  -- the open segment becomes the last closed one
+  point_close : IsPoint i y named a e
+      → IsPoint i (record y { closed = y.closed ++ y.items ∷ []; current = []; is_open = false }) named a e
+  point_close =
+      point_grown i i.key y (record y { closed = y.closed ++ y.items ∷ []; current = []; is_open = false }) (y.items ∷ []) refl named a e
+      (λ p. inl (ends_within p)) (λ p. in_closed (record {
+        before = y.closed;
+        segment = y.items;
+        later = [];
+        done = p.done;
+        taken = p.taken;
+        split = refl;
+        named_is = p.named_is;
+        counted = ap length (append_cancel_right p.done (batches_in (joined y.closed)) y.current (sym p.start ∙ clean.batches))
+            ∙ length-batches_in (joined y.closed) clean.clean;
+        begun = p.begun;
+        within = inr (refl, refl);
+        anchor_is = p.anchor_is;
+        extension_is = p.extension_is;
+      }))
 
 -- which batches a move adds
 added : Move → List Batch
@@ -165,11 +164,11 @@ module _ (meaning : Meaning) (key barrier : List ℕ) where
       → IsPoint I (moved I (flagged y flag) m) named a e
   point_at y true (Commit b) named rest a e sound may first p =
       let z = flagged y true in
-      point_commit I z (y.current ++ b ∷ []) true (y.items ++ Own b ∷ []) b named rest a e
-      (current_clean z sound (open_current z sound refl)) first refl p
+      point_commit I z named rest a e (current_clean z sound (open_current z sound refl)) first (y.current ++ b ∷ []) true
+      (y.items ++ Own b ∷ []) b refl p
   point_at y false (Commit b) named rest a e sound may first p =
       let z = flagged y false in
-      point_commit I z (b ∷ []) true (renamed y.items b) b named rest a e (live_clean z sound may.clean) first
+      point_commit I z named rest a e (live_clean z sound may.clean) first (b ∷ []) true (renamed y.items b) b
       (ap (λ (v : List Batch). v ++ b ∷ []) (sym (shut_current z sound refl))) p
   point_at y flag (Foreign d) named rest a e sound may first p = point_items I (flagged y flag) (y.items ++ Value d ∷ []) named a e p
   point_at y flag (Placed b) named rest a e sound may first p =

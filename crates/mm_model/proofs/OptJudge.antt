@@ -88,7 +88,7 @@ pub record Stood (i : Instance) (y : History) (named rest : List Batch) (a e : L
 pub stood_of : (i : Instance) (y : History) (named rest : List Batch) (a e : List ℕ) (all : List (List ℕ)) → IsSound y → IsClear all
     → Within (messages_of Opt i y) all → y.batches ≡ named ++ rest → IsPoint i y named a e → Stood i y named rest a e all
 stood_of i y named rest a e all sound clear history first place =
-    let h = history_listed i y all history in let p = path_of i y named rest a e all sound first h.runs place in
+    let h = history_listed i y all history in let p = path_of i y named rest a e sound first all h.runs place in
     let V = values_of i.barrier in let before = map V p.before in let taken = own_values i.barrier p.taken in
     let id = i.meaning.id in
     let split : map V y.closed ≡ before ++ map V p.later = ap (map V) p.split ∙ map-append V p.before p.later in

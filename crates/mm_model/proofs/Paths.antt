@@ -109,23 +109,6 @@ reaches_none : (flag : Bool) (later : List (List (List ℕ))) → Reaches flag l
 reaches_none flag [] = tt
 reaches_none flag (s ∷ ss) = inl (omega arith)
 
-path_at_anchor : (i : Instance) (y : History) (named rest : List Batch) (a e : List ℕ) (all : List (List ℕ)) → IsSound y
-    → y.batches ≡ named ++ rest → AtAnchor i y named a e → Path i y named a e all
-path_at_anchor i y named rest a e all sound first p =
-    let h = begins y p.before p.later sound p.split (inl p.clean) in
-    let d = done_is y p.before named rest h first p.counted in
-    record {
-      before = p.before;
-      later = p.later;
-      taken = [];
-      split = p.split;
-      anchor_is = p.anchor_is;
-      extension_is = p.extension_is ∙ sym reads_zero;
-      flat = flat_is i.barrier y p.before named [] named h d (sym (append-nil named));
-      reaches = reaches_none y.is_open (map (values_of i.barrier) p.later);
-      listed = tt;
-    }
-
 -- what a current segment tells: the history is clean
 pub current_clean : (y : History) → IsSound y → is_empty y.current ≡ false → IsClean y
 current_clean y sound some = elim sound.history [ inl h ↦ h | inr h ↦ absurd (true_not_false (sym (sound.open_is some) ∙ h.shut)) ]
@@ -134,32 +117,17 @@ pub begun_longer : (taken more : List Batch) → is_empty taken ≡ false → is
 begun_longer [] more b = absurd (true_not_false b)
 begun_longer (x ∷ xs) more b = refl
 
-path_in_current : (i : Instance) (y : History) (named rest : List Batch) (a e : List ℕ) (all : List (List ℕ)) → IsSound y
-    → AllByRecursion (RunsListed i.barrier all) (runs_of y) → InCurrent i y named a e → Path i y named a e all
-path_in_current i y named rest a e all sound runs p =
-    let some : is_empty y.current ≡ false = ap is_empty p.split ∙ begun_longer p.taken p.more p.begun in
-    let clean = current_clean y sound some in
-    let h = begins_clean y y.closed [] clean (sym (append-nil y.closed)) in
-    let d : p.done ≡ batches_in (joined y.closed) =
-    append_cancel_right p.done (batches_in (joined y.closed)) y.current (sym p.start ∙ clean.batches) in
-    let run = (each_right (RunsListed i.barrier all) (closed_runs y.closed (take (length y.batches - length y.current) y.batches))
-    (y.current ∷ []) runs).0 in
-    record {
-      before = y.closed;
-      later = [];
-      taken = p.taken;
-      split = sym (append-nil y.closed);
-      anchor_is = p.anchor_is;
-      extension_is = p.extension_is;
-      flat = flat_is i.barrier y y.closed p.done p.taken named h d p.named_is;
-      reaches = tt;
-      listed = listed_front i.barrier all p.taken p.more (subst (RunsListed i.barrier all) p.split run);
-    }
-
 -- the batches of a closed segment, by the segments after it and the batches from its start on
 abbrev run_at : List Entry → List (List Entry) → List Batch → List Batch
 run_at segment [] more = more
 run_at segment (next ∷ later) more = take (length segment) more
+
+-- the batches of each segment, closed or open
+pub runs_parts : (P : List Batch → Type 0) (y : History) → AllByRecursion P (runs_of y)
+    → AllByRecursion P (closed_runs y.closed (take (length y.batches - length y.current) y.batches)) × P y.current
+runs_parts P y runs =
+    let closed = closed_runs y.closed (take (length y.batches - length y.current) y.batches) in
+    (each_left P closed (y.current ∷ []) runs, (each_right P closed (y.current ∷ []) runs).0)
 
 run_first : (P : List Batch → Type 0) (segment : List Entry) (later : List (List Entry)) (bs more : List Batch) → bs ≡ more
     → AllByRecursion P (closed_runs (segment ∷ later) bs) → P (run_at segment later more)
@@ -222,64 +190,87 @@ module _ (y : History) where
         length-append segment (joined later),
       )
 
--- a path into a closed segment ends before the open one
-ends_before_current : (i : Instance) (y : History) (named rest : List Batch) (a e : List ℕ) → IsSound y → y.batches ≡ named ++ rest
-    → (p : InClosed i y named a e) → length named ≤ length y.batches - length y.current
-ends_before_current i y named rest a e sound first p = elim sound.history [
-  | inr h ↦ none_longer y named rest first (shut_current y sound h.shut)
-  | inl h ↦ elim p.within [
-    | inr last ↦ none_longer y named rest first last.1
-    | inl within ↦ omega (
-      arith,
-      clean_size y h p.before p.segment p.later p.split,
-      p.counted,
-      within,
-      ap length p.named_is,
-      length-append p.done p.taken,
-    )
+module _ (i : Instance) (y : History) (named rest : List Batch) (a e : List ℕ) (sound : IsSound y) (first : y.batches ≡ named ++ rest) where
+  -- a path into a closed segment ends before the open one
+  ends_before_current : (p : InClosed i y named a e) → length named ≤ length y.batches - length y.current
+  ends_before_current p = elim sound.history [
+    | inr h ↦ none_longer y named rest first (shut_current y sound h.shut)
+    | inl h ↦ elim p.within [
+      | inr last ↦ none_longer y named rest first last.1
+      | inl within ↦ omega (
+        arith,
+        clean_size y h p.before p.segment p.later p.split,
+        p.counted,
+        within,
+        ap length p.named_is,
+        length-append p.done p.taken,
+      )
+    ]
   ]
-]
 
-reaches_closed : (i : Instance) (y : History) (named : List Batch) (a e : List ℕ) → IsSound y → (p : InClosed i y named a e)
-    → Reaches y.is_open (map (values_of i.barrier) (p.segment ∷ p.later)) (length (own_values i.barrier p.taken))
-reaches_closed i y named a e sound p = elim p.within [
-  | inl within ↦
-      let taken = length-map p.taken (guard i.barrier) in let segment = length-map p.segment (value_of i.barrier) in
-      inl (omega (arith, within, taken, segment))
-  | inr last ↦ inr (ap (map (values_of i.barrier)) last.0, sound.shut_is (ap is_empty last.1))
-]
+  reaches_closed : (p : InClosed i y named a e)
+      → Reaches y.is_open (map (values_of i.barrier) (p.segment ∷ p.later)) (length (own_values i.barrier p.taken))
+  reaches_closed p = elim p.within [
+    | inl within ↦
+        let taken = length-map p.taken (guard i.barrier) in let segment = length-map p.segment (value_of i.barrier) in
+        inl (omega (arith, within, taken, segment))
+    | inr last ↦ inr (ap (map (values_of i.barrier)) last.0, sound.shut_is (ap is_empty last.1))
+  ]
 
-path_in_closed : (i : Instance) (y : History) (named rest : List Batch) (a e : List ℕ) (all : List (List ℕ)) → IsSound y
-    → y.batches ≡ named ++ rest → AllByRecursion (RunsListed i.barrier all) (runs_of y) → InClosed i y named a e → Path i y named a e all
-path_in_closed i y named rest a e all sound first runs p =
-    let h = begins y p.before (p.segment ∷ p.later) sound p.split (inr refl) in
-    let first' : y.batches ≡ p.done ++ (p.taken ++ rest) =
-    first ∙ ap (λ (v : List Batch). v ++ rest) p.named_is ∙ append_assoc p.done p.taken rest in
-    let d = done_is y p.before p.done (p.taken ++ rest) h first' p.counted in
-    let k = length y.batches - length y.current in
-    let more = take (k - length named) rest in
-    let bs : take k y.batches ≡ p.done ++ (p.taken ++ more) =
-    ap (take k) first ∙ takes_whole k named rest (ends_before_current i y named rest a e sound first p)
-    ∙ ap (λ (v : List Batch). v ++ more) p.named_is ∙ append_assoc p.done p.taken more in
-    let closed = each_left (RunsListed i.barrier all) (closed_runs y.closed (take k y.batches)) (y.current ∷ []) runs in
-    let run = run_holds (RunsListed i.barrier all) p.before p.segment p.later (take k y.batches) p.done (p.taken ++ more) bs p.counted
-    (subst (λ (v : List (List Entry)). AllByRecursion (RunsListed i.barrier all) (closed_runs v (take k y.batches))) p.split closed) in
-    let fits : (length p.taken ≤ length p.segment) ⊎ (p.later ≡ []) = elim p.within [ inl within ↦ inl within | inr last ↦ inr last.0 ] in
-    record {
-      before = p.before;
-      later = p.segment ∷ p.later;
-      taken = p.taken;
-      split = p.split;
-      anchor_is = p.anchor_is;
-      extension_is = p.extension_is;
-      flat = flat_is i.barrier y p.before p.done p.taken named h d p.named_is;
-      reaches = reaches_closed i y named a e sound p;
-      listed = run_listed i.barrier all p.segment p.later p.taken more fits run;
-    }
-
--- each place of a sound history is a path
-pub path_of : (i : Instance) (y : History) (named rest : List Batch) (a e : List ℕ) (all : List (List ℕ)) → IsSound y
-    → y.batches ≡ named ++ rest → AllByRecursion (RunsListed i.barrier all) (runs_of y) → IsPoint i y named a e → Path i y named a e all
-path_of i y named rest a e all sound first runs (at_anchor p) = path_at_anchor i y named rest a e all sound first p
-path_of i y named rest a e all sound first runs (in_closed p) = path_in_closed i y named rest a e all sound first runs p
-path_of i y named rest a e all sound first runs (in_current p) = path_in_current i y named rest a e all sound runs p
+  -- each place of a sound history is a path
+  pub path_of : (all : List (List ℕ)) → AllByRecursion (RunsListed i.barrier all) (runs_of y) → IsPoint i y named a e
+      → Path i y named a e all
+  path_of all runs (at_anchor p) =
+      let h = begins y p.before p.later sound p.split (inl p.clean) in
+      record {
+        before = p.before;
+        later = p.later;
+        taken = [];
+        split = p.split;
+        anchor_is = p.anchor_is;
+        extension_is = p.extension_is ∙ sym reads_zero;
+        flat = flat_is i.barrier y p.before named [] named h (done_is y p.before named rest h first p.counted) (sym (append-nil named));
+        reaches = reaches_none y.is_open (map (values_of i.barrier) p.later);
+        listed = tt;
+      }
+  path_of all runs (in_current p) =
+      let clean = current_clean y sound (ap is_empty p.split ∙ begun_longer p.taken p.more p.begun) in
+      let h = begins_clean y y.closed [] clean (sym (append-nil y.closed)) in
+      let d = append_cancel_right p.done (batches_in (joined y.closed)) y.current (sym p.start ∙ clean.batches) in
+      record {
+        before = y.closed;
+        later = [];
+        taken = p.taken;
+        split = sym (append-nil y.closed);
+        anchor_is = p.anchor_is;
+        extension_is = p.extension_is;
+        flat = flat_is i.barrier y y.closed p.done p.taken named h d p.named_is;
+        reaches = tt;
+        listed = listed_front i.barrier all p.taken p.more
+            (subst (RunsListed i.barrier all) p.split (runs_parts (RunsListed i.barrier all) y runs).1);
+      }
+  path_of all runs (in_closed p) =
+      let R = RunsListed i.barrier all in
+      let h = begins y p.before (p.segment ∷ p.later) sound p.split (inr refl) in
+      let first' : y.batches ≡ p.done ++ (p.taken ++ rest) =
+      first ∙ ap (λ (v : List Batch). v ++ rest) p.named_is ∙ append_assoc p.done p.taken rest in
+      let d = done_is y p.before p.done (p.taken ++ rest) h first' p.counted in
+      let k = length y.batches - length y.current in
+      let more = take (k - length named) rest in
+      let bs : take k y.batches ≡ p.done ++ (p.taken ++ more) =
+      ap (take k) first ∙ takes_whole k named rest (ends_before_current p)
+      ∙ ap (λ (v : List Batch). v ++ more) p.named_is ∙ append_assoc p.done p.taken more in
+      let run = run_holds R p.before p.segment p.later (take k y.batches) p.done (p.taken ++ more) bs p.counted
+      (subst (λ (v : List (List Entry)). AllByRecursion R (closed_runs v (take k y.batches))) p.split (runs_parts R y runs).0) in
+      let fits : (length p.taken ≤ length p.segment) ⊎ (p.later ≡ []) = elim p.within [ inl within ↦ inl within | inr last ↦ inr last.0 ] in
+      record {
+        before = p.before;
+        later = p.segment ∷ p.later;
+        taken = p.taken;
+        split = p.split;
+        anchor_is = p.anchor_is;
+        extension_is = p.extension_is;
+        flat = flat_is i.barrier y p.before p.done p.taken named h d p.named_is;
+        reaches = reaches_closed p;
+        listed = run_listed i.barrier all p.segment p.later p.taken more fits run;
+      }
