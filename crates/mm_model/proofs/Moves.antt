@@ -48,7 +48,7 @@ renamed_items _ b none = inl (and_from (same_batch b b) true ((same_batch-Decide
 
 opening_bare : (i : Instance) (y : History) (b : Batch) → IsOpening i y b → batches_in y.items ≡ []
 opening_bare i y b o =
-    ap batches_in o.items ∙ batches_in-append o.front (Value (guard i.barrier b) ∷ []) ∙ append-nil (batches_in o.front) ∙ o.others
+    rw (o.items, batches_in-append o.front (Value (guard i.barrier b) ∷ []), append-nil (batches_in o.front)) o.others
 
 module _ (y : History) where
   pub open_current : IsSound y → y.is_open ≡ true → is_empty y.current ≡ false
@@ -98,8 +98,7 @@ module _ (y : History) where
 
   pub opening_clean : IsSound y → has_value (joined y.closed) ≡ false → y.is_open ≡ false → y.batches ≡ batches_in (joined y.closed)
   opening_clean sound clean shut = elim sound.history [
-    | inl c ↦ c.batches ∙ ap (λ (v : List Batch). batches_in (joined y.closed) ++ v) (shut_current y sound shut)
-        ∙ append-nil (batches_in (joined y.closed))
+    | inl c ↦ rw (shut_current y sound shut, append-nil (batches_in (joined y.closed))) at c.batches
     | inr m ↦ absurd (true_not_false (sym (marred_has y m) ∙ clean))
   ]
 
@@ -113,25 +112,22 @@ sound_close y sound f some =
       filled = each_append (λ s. is_empty s ≡ false) y.closed (y.items ∷ []) sound.filled (some, tt);
       history = elim (sound.register f) [
         | inl own ↦ inl (record {
-          clean = ap has_value (joined-push y.closed y.items) ∙ has_value-append (joined y.closed) y.items
-              ∙ ap (λ (x : Bool). x || has_value y.items) clean.clean ∙ own_clean y.items y.current own;
-          batches = clean.batches ∙ ap (λ (v : List Batch). batches_in (joined y.closed) ++ v) (sym (own_batches y.items y.current own))
-              ∙ sym (batches_in-append (joined y.closed) y.items) ∙ ap batches_in (sym (joined-push y.closed y.items))
-              ∙ sym (append-nil (batches_in (joined (y.closed ++ y.items ∷ []))));
+          clean = rw (joined-push y.closed y.items, has_value-append (joined y.closed) y.items, clean.clean)
+              (own_clean y.items y.current own);
+          batches = rw (append-nil (batches_in (joined (y.closed ++ y.items ∷ []))), joined-push y.closed y.items,
+              batches_in-append (joined y.closed) y.items, own_batches y.items y.current own) clean.batches;
         })
-        | inr others ↦ elim others [
-          | inl none ↦ absurd (true_not_false (ap is_empty (sym none) ∙ some))
-          | inr has ↦ inr (record {
-            before = y.closed;
-            last = y.items;
-            rest = y.current;
-            split = refl;
-            clean = clean.clean;
-            marred = has;
-            shut = refl;
-            batches = clean.batches;
-          })
-        ]
+        | inr (inl none) ↦ absurd (true_not_false (ap is_empty (sym none) ∙ some))
+        | inr (inr has) ↦ inr (record {
+          before = y.closed;
+          last = y.items;
+          rest = y.current;
+          split = refl;
+          clean = clean.clean;
+          marred = has;
+          shut = refl;
+          batches = clean.batches;
+        })
       ];
       register = λ e. absurd (true_not_false (sym e));
     }

@@ -21,25 +21,20 @@ use Rattle.mm_model.proofs.HistoryParts.{each_unmap, history_listed, LiveParts, 
 counted_values : (barrier : List ℕ) (flag : Bool) (closed : List (List Entry)) (items : List Entry)
     → joined (map (values_of barrier) closed) ++ taken_in flag (values_of barrier items) ≡ values_of barrier
     (joined closed ++ (if flag then items else []))
-counted_values barrier true closed items =
-    ap (λ (v : List (List ℕ)). v ++ values_of barrier items) (joined-values barrier closed)
-    ∙ sym (values_of-append barrier (joined closed) items)
+counted_values barrier true closed items = rw (joined-values barrier closed, values_of-append barrier (joined closed) items) refl
 counted_values barrier false closed items =
-    append-nil (joined (map (values_of barrier) closed)) ∙ joined-values barrier closed
-    ∙ ap (values_of barrier) (sym (append-nil (joined closed)))
+    rw (append-nil (joined (map (values_of barrier) closed)), append-nil (joined closed)) (joined-values barrier closed)
 
 pub live_values_at : (barrier : List ℕ) (y : History) (flag : Bool) → IsSound y → y.is_open ≡ flag → IsClean y
     → LiveParts flag (is_empty y.items) (are_own y.items y.current) (has_value (joined y.closed))
     → values_of barrier (joined y.closed ++ (if flag then y.items else [])) ≡ own_values barrier y.batches
 live_values_at barrier y true sound f h live =
-    values_of-append barrier (joined y.closed) y.items ∙ ap (λ (v : List (List ℕ)). v ++ values_of barrier y.items) (values_of-clean barrier
-    (joined y.closed) h.clean) ∙ ap (λ (v : List (List ℕ)). own_values barrier (batches_in (joined y.closed)) ++ v) (values_of-own barrier
-    y.items y.current (live.own refl)) ∙ sym (own_values-append barrier (batches_in (joined y.closed)) y.current) ∙ ap (own_values barrier)
-    (sym h.batches)
+    rw (values_of-append barrier (joined y.closed) y.items, values_of-clean barrier (joined y.closed) h.clean,
+    values_of-own barrier y.items y.current (live.own refl), h.batches)
+    (sym (own_values-append barrier (batches_in (joined y.closed)) y.current))
 live_values_at barrier y false sound f h live =
-    ap (values_of barrier) (append-nil (joined y.closed)) ∙ values_of-clean barrier (joined y.closed) h.clean
-    ∙ ap (own_values barrier) (sym (append-nil (batches_in (joined y.closed)))
-    ∙ ap (λ (v : List Batch). batches_in (joined y.closed) ++ v) (sym (shut_current y sound f)) ∙ sym h.batches)
+    rw (append-nil (joined y.closed), h.batches, shut_current y sound f, append-nil (batches_in (joined y.closed)))
+    (values_of-clean barrier (joined y.closed) h.clean)
 
 pub held_at : (flag : Bool) (items : List Entry) (barrier : List ℕ) → (flag ≡ true → is_empty items ≡ false)
     → IsHeld flag (values_of barrier items)

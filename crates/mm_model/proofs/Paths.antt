@@ -34,9 +34,8 @@ module _ (y : History) where
       record {
         clean = tests.0;
         tail = batches_in (joined between) ++ rest;
-        is = batches ∙ ap (λ (v : List Entry). batches_in v ++ rest) all
-            ∙ ap (λ (v : List Batch). v ++ rest) (batches_in-append (joined before) (joined between))
-            ∙ append_assoc (batches_in (joined before)) (batches_in (joined between)) rest;
+        is = rw (batches, all, batches_in-append (joined before) (joined between))
+            (append_assoc (batches_in (joined before)) (batches_in (joined between)) rest);
       }
 
   pub begins_clean : (before later : List (List Entry)) → IsClean y → y.closed ≡ before ++ later → Begins y before
@@ -50,8 +49,7 @@ module _ (y : History) where
   -- a marred history's closed segments hold a value that stands for no batch
   pub marred_has : IsMarred y → has_value (joined y.closed) ≡ true
   marred_has h =
-      ap (λ (v : List (List Entry)). has_value (joined v)) h.split ∙ ap has_value (joined-push h.before h.last)
-      ∙ has_value-append (joined h.before) h.last ∙ ap (λ (b : Bool). b || has_value h.last) h.clean ∙ h.marred
+      rw (h.split, joined-push h.before h.last, has_value-append (joined h.before) h.last, h.clean) h.marred
 
   pub live_clean : IsSound y → has_value (joined y.closed) ≡ false → IsClean y
   live_clean sound clean = elim sound.history [ inl h ↦ h | inr h ↦ absurd (true_not_false (sym (marred_has h) ∙ clean)) ]
@@ -81,8 +79,7 @@ flat_is : (barrier : List ℕ) (y : History) (before : List (List Entry)) (done 
     → done ≡ batches_in (joined before) → named ≡ done ++ taken → values_of barrier (joined before)
     ++ own_values barrier taken ≡ own_values barrier named
 flat_is barrier y before done taken named h d n =
-    ap (λ (v : List (List ℕ)). v ++ own_values barrier taken) (values_of-clean barrier (joined before) h.clean ∙ ap (own_values barrier)
-    (sym d)) ∙ sym (own_values-append barrier done taken) ∙ ap (own_values barrier) (sym n)
+    rw (values_of-clean barrier (joined before) h.clean, n, own_values-append barrier done taken, d) refl
 
 pub record Path (i : Instance) (y : History) (named : List Batch) (a e : List ℕ) (all : List (List ℕ)) : Type 0 where
   pub before : List (List Entry)

@@ -26,10 +26,9 @@ basic_on : (meaning : Meaning) (key register : List ℕ) (y : History) (named re
     register place b) ≡ is_new (judge Basic y (total_of named) b)
 basic_on meaning key register y named rest (InOpt a e) b all clear history first is = absurd is
 basic_on meaning key register y named rest (InBasic s) b all clear history first is =
-    new_by (bytes_eq s.bytes (summary_of meaning.id y.batches)) (bytes_eq (link s.bytes b) (summary_of meaning.id y.batches))
-    ∙ ap (λ (v : List ℕ). bytes_eq v (summary_of meaning.id y.batches)) is ∙ basic_here meaning.id y.batches named rest all clear history.0
-    history.1 first ∙ sym (new_judged (nat_eq (total_of named) (total_of y.batches)) (nat_eq (total_of named + size_of b)
-    (total_of y.batches) && is_last y.batches b))
+    rw is (new_by (bytes_eq (summary_of meaning.id named) (summary_of meaning.id y.batches)) _
+    ∙ basic_here meaning.id y.batches named rest all clear history.0 history.1 first ∙ sym (new_judged (nat_eq (total_of named)
+    (total_of y.batches)) (nat_eq (total_of named + size_of b) (total_of y.batches) && is_last y.batches b)))
 
 pub basic_stands_here : (meaning : Meaning) (key register : List ℕ) (y : History) (offered : Content) (b : Batch) (all : List (List ℕ))
     → IsClear all → Within (history_messages (basic meaning key) y) all → Names (basic meaning key) y offered
