@@ -114,8 +114,8 @@ sound_close y sound f some =
         | inl own ↦ inl (record {
           clean = rw (joined-push y.closed y.items, has_value-append (joined y.closed) y.items, clean.clean)
               (own_clean y.items y.current own);
-          batches = rw (append-nil (batches_in (joined (y.closed ++ y.items ∷ []))), joined-push y.closed y.items,
-              batches_in-append (joined y.closed) y.items, own_batches y.items y.current own) clean.batches;
+          batches = rw (append-nil (batches_in (joined (y.closed ++ y.items ∷ []))), joined-push y.closed y.items)
+              (rw (batches_in-append (joined y.closed) y.items, own_batches y.items y.current own) clean.batches);
         })
         | inr (inl none) ↦ absurd (true_not_false (ap is_empty (sym none) ∙ some))
         | inr (inr has) ↦ inr (record {

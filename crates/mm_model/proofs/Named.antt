@@ -80,17 +80,9 @@ module _ (i : Instance) (y : History) (named rest : List Batch) (a e : List ℕ)
     | inr last ↦
         let none : length (joined p.later) ≡ 0 = ap (λ (v : List (List Entry)). length (joined v)) last.0 in
         let nothing : length y.current ≡ 0 = ap length last.1 in
-        omega (
-          arith,
-          clean_size y clean p.before p.segment p.later p.split,
-          p.counted,
-          none,
-          nothing,
-          ap length p.named_is,
-          length-append p.done p.taken,
-          ap length first,
-          length-append named rest,
-        )
+        let size = clean_size y clean p.before p.segment p.later p.split in let all = ap length first in
+        let names = ap length p.named_is in let taken = length-append p.done p.taken in
+        omega (arith, size, all, names, taken, p.counted, none, nothing, length-append named rest)
   ]
 
   -- a batch more in the open segment, or a new one

@@ -29,9 +29,9 @@ pub live_values_at : (barrier : List ℕ) (y : History) (flag : Bool) → IsSoun
     → LiveParts flag (is_empty y.items) (are_own y.items y.current) (has_value (joined y.closed))
     → values_of barrier (joined y.closed ++ (if flag then y.items else [])) ≡ own_values barrier y.batches
 live_values_at barrier y true sound f h live =
-    rw (values_of-append barrier (joined y.closed) y.items, values_of-clean barrier (joined y.closed) h.clean,
-    values_of-own barrier y.items y.current (live.own refl), h.batches)
-    (sym (own_values-append barrier (batches_in (joined y.closed)) y.current))
+    rw (values_of-append barrier (joined y.closed) y.items, values_of-clean barrier (joined y.closed) h.clean)
+    (rw (values_of-own barrier y.items y.current (live.own refl), h.batches)
+    (sym (own_values-append barrier (batches_in (joined y.closed)) y.current)))
 live_values_at barrier y false sound f h live =
     rw (append-nil (joined y.closed), h.batches, shut_current y sound f, append-nil (batches_in (joined y.closed)))
     (values_of-clean barrier (joined y.closed) h.clean)

@@ -131,21 +131,24 @@ run_first : (P : List Batch → Type 0) (segment : List Entry) (later : List (Li
 run_first P segment [] bs more e h = subst P e h.0
 run_first P segment (next ∷ later) bs more e h = subst (λ (v : List Batch). P (take (length segment) v)) e h.0
 
+-- the segments behind a first one
+runs_behind : (P : List Batch → Type 0) (s : List Entry) (before : List (List Entry)) (segment : List Entry)
+    (later : List (List Entry)) (bs : List Batch) → AllByRecursion P (closed_runs (s ∷ (before ++ segment ∷ later)) bs)
+    → AllByRecursion P (closed_runs (before ++ segment ∷ later) (drop (length s) bs))
+runs_behind P s [] segment later bs h = h.1
+runs_behind P s (t ∷ before) segment later bs h = h.1
+
 run_holds : (P : List Batch → Type 0) (before : List (List Entry)) (segment : List Entry) (later : List (List Entry))
     (bs done more : List Batch) → bs ≡ done ++ more → length done ≡ length (joined before)
     → AllByRecursion P (closed_runs (before ++ segment ∷ later) bs) → P (run_at segment later more)
 run_holds P [] segment later bs done more e l h =
     run_first P segment later bs more (e ∙ ap (λ (v : List Batch). v ++ more) (nil_from_length done l)) h
-run_holds P (s ∷ []) segment later bs done more e l h =
-    let whole = length-append s [] in let fits : length s ≤ length done = omega (arith, l, whole) in
+run_holds P (s ∷ before) segment later bs done more e l h =
+    let whole = length-append s (joined before) in let fits : length s ≤ length done = omega (arith, l, whole) in
     let dropped = length-drop (length s) done in
     let cut : drop (length s) bs ≡ drop (length s) done ++ more = ap (drop (length s)) e ∙ drop-append-le (length s) done more fits in
-    run_holds P [] segment later (drop (length s) bs) (drop (length s) done) more cut (omega (arith, l, whole, dropped)) h.1
-run_holds P (s ∷ t ∷ before) segment later bs done more e l h =
-    let whole = length-append s (joined (t ∷ before)) in let fits : length s ≤ length done = omega (arith, l, whole) in
-    let dropped = length-drop (length s) done in
-    let cut : drop (length s) bs ≡ drop (length s) done ++ more = ap (drop (length s)) e ∙ drop-append-le (length s) done more fits in
-    run_holds P (t ∷ before) segment later (drop (length s) bs) (drop (length s) done) more cut (omega (arith, l, whole, dropped)) h.1
+    run_holds P before segment later (drop (length s) bs) (drop (length s) done) more cut (omega (arith, l, whole, dropped))
+    (runs_behind P s before segment later bs h)
 
 -- taking at least the first part of a joined list takes it whole
 takes_whole : (n : ℕ) (xs ys : List Batch) → length xs ≤ n → take n (xs ++ ys) ≡ xs ++ take (n - length xs) ys
@@ -176,16 +179,10 @@ module _ (y : History) where
       → y.closed ≡ before ++ segment ∷ later → length y.batches ≡ length (joined before) + (length segment + length (joined later))
       + length y.current
   clean_size h before segment later split =
+      let all = ap length h.batches in let cut = length-append (batches_in (joined y.closed)) y.current in
+      let count = length-batches_in (joined y.closed) h.clean in let inner = length-append segment (joined later) in
       let sizes = ap length (ap joined split ∙ joined-append before (segment ∷ later)) in
-      omega (
-        arith,
-        ap length h.batches,
-        length-append (batches_in (joined y.closed)) y.current,
-        length-batches_in (joined y.closed) h.clean,
-        sizes,
-        length-append (joined before) (segment ++ joined later),
-        length-append segment (joined later),
-      )
+      omega (arith, all, cut, count, inner, sizes, length-append (joined before) (segment ++ joined later))
 
 module _ (i : Instance) (y : History) (named rest : List Batch) (a e : List ℕ) (sound : IsSound y) (first : y.batches ≡ named ++ rest) where
   -- a path into a closed segment ends before the open one
@@ -194,14 +191,9 @@ module _ (i : Instance) (y : History) (named rest : List Batch) (a e : List ℕ)
     | inr h ↦ none_longer y named rest first (shut_current y sound h.shut)
     | inl h ↦ elim p.within [
       | inr last ↦ none_longer y named rest first last.1
-      | inl within ↦ omega (
-        arith,
-        clean_size y h p.before p.segment p.later p.split,
-        p.counted,
-        within,
-        ap length p.named_is,
-        length-append p.done p.taken,
-      )
+      | inl within ↦
+          let size = clean_size y h p.before p.segment p.later p.split in let named_is = ap length p.named_is in
+          omega (arith, size, p.counted, within, named_is, length-append p.done p.taken)
     ]
   ]
 
