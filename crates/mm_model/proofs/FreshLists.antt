@@ -32,9 +32,9 @@ module _ (i : Instance) (y : History) (named rest : List Batch) (a e : List ℕ)
     extends b call same f =
         let v = guard i.barrier b in let listed = path_messages i y named rest a e all q v call in
         elim f [
-          | inl here ↦ subst (λ (w : List ℕ). Contains all (extended_message w v)) (ap register_of (here.1 ∙ same)) listed.0
+          | inl here ↦ rw (here.1, same) at listed.0
           | inr there ↦
-              subst (λ (w : List ℕ). Contains all (extended_message w v)) (sym reads_zero ∙ ap register_of (there.1.1 ∙ same))
+              rw (← reads_zero, there.1.1, same) at
               (second_listed i.meaning.id all q.clears.clear q.before q.taken v q.path listed there.0).1.0
         ]
 

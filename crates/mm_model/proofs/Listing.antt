@@ -26,13 +26,13 @@ pub items_grow : (barrier : List ℕ) (all : List (List ℕ)) (items : List Entr
     → Within (register_trail (values_of barrier items)) all → Contains all (extended_message (register_of (values_of barrier items))
     (value_of barrier e)) → Within (register_trail (values_of barrier (items ++ e ∷ []))) all
 items_grow barrier all items e w c =
-    subst (λ (v : List (List ℕ)). Within (register_trail v) all) (sym (values_of-append barrier items (e ∷ [])))
+    rw (values_of-append barrier items (e ∷ []))
     (listed_value all (values_of barrier items) (value_of barrier e) w c)
 
 pub run_grows : (barrier : List ℕ) (all : List (List ℕ)) (run : List Batch) (b : Batch) → RunsListed barrier all run
     → Contains all (extended_message (register_of (own_values barrier run)) (guard barrier b)) → RunsListed barrier all (run ++ b ∷ [])
 run_grows barrier all run b w c =
-    subst (λ (v : List (List ℕ)). Within (register_trail v) all) (sym (own_values-append barrier run (b ∷ [])))
+    rw (own_values-append barrier run (b ∷ []))
     (listed_value all (own_values barrier run) (guard barrier b) w c)
 
 module _ (i : Instance) where
@@ -80,7 +80,7 @@ module _ (barrier : List ℕ) (all : List (List ℕ)) where
   pub guards_grow : (batches : List Batch) (b : Batch) → Within (map (guard_message barrier) batches) all
       → Contains all (guard_message barrier b) → Within (map (guard_message barrier) (batches ++ b ∷ [])) all
   guards_grow batches b w c =
-      subst (λ (v : List (List ℕ)). Within v all) (sym (map-append (guard_message barrier) batches (b ∷ [])))
+      rw (map-append (guard_message barrier) batches (b ∷ []))
       (each_append (Contains all) (map (guard_message barrier) batches) (guard_message barrier b ∷ []) w (c, tt))
 
   runs_commit : (y : History) (current : List Batch) (is_open : Bool) (items : List Entry) (b : Batch) → current ≡ y.current ++ b ∷ []
@@ -116,16 +116,12 @@ runs_push P [] segment bs more l h p =
     subst (λ (v : List Batch). AllByRecursion P (closed_runs (segment ∷ []) (v ++ more))) (sym (nil_from_length bs l)) (p, tt)
 runs_push P (c ∷ []) segment bs more l h p =
     let size : length bs ≡ length c = l ∙ ap length (append-nil c) in
-    (subst P (sym (take_at bs more (length c) size)) h.0, (subst P (sym (drop_at bs more (length c) size)) p, tt))
+    (rw (take_at bs more (length c) size) h.0, (rw (drop_at bs more (length c) size) p, tt))
 runs_push P (c ∷ d ∷ closed) segment bs more l h p =
     let whole = length-append c (joined (d ∷ closed)) in let fits : length c ≤ length bs = omega (arith, l, whole) in
-    let dropped = length-drop (length c) bs in (
-      subst P (sym (take-append-le (length c) bs more fits)) h.0,
-      subst
-          (λ (v : List Batch). AllByRecursion P (closed_runs (d ∷ (closed ++ segment ∷ [])) v))
-          (sym (drop-append-le (length c) bs more fits))
-          (runs_push P (d ∷ closed) segment (drop (length c) bs) more (omega (arith, l, whole, dropped)) h.1 p),
-    )
+    let dropped = length-drop (length c) bs in
+    let later = runs_push P (d ∷ closed) segment (drop (length c) bs) more (omega (arith, l, whole, dropped)) h.1 p in
+    (rw (take-append-le (length c) bs more fits) h.0, rw (drop-append-le (length c) bs more fits) later)
 
 close_listed : (i : Instance) (y : History) (all : List (List ℕ)) → IsClean y → HistoryListed i y all
     → Contains all (anchored_message (anchor_of i.meaning.id (map (values_of i.barrier) y.closed))
@@ -138,7 +134,7 @@ close_listed i y all clean h c =
     let cut = length-append bs y.current in let size : length bs ≡ k = omega (arith, count, cut) in
     let front : take k y.batches ≡ bs = ap (take k) clean.batches ∙ take_at bs y.current k size in
     let parts = runs_parts R y h.runs in
-    let closed = subst (λ (v : List Batch). AllByRecursion R (closed_runs y.closed v)) front parts.0 in
+    let closed = rw front at parts.0 in
     let whole : take (length y.batches - 0) y.batches ≡ bs ++ y.current =
     take_all (length y.batches - 0) y.batches (omega arith) ∙ clean.batches in
     let is : map V (y.closed ++ y.items ∷ []) ≡ map V y.closed ++ V y.items ∷ [] = map-append V y.closed (y.items ∷ []) in
@@ -146,13 +142,11 @@ close_listed i y all clean h c =
       starts = h.starts;
       guards = h.guards;
       runs = each_append R (closed_runs (y.closed ++ y.items ∷ []) (take (length y.batches - 0) y.batches)) ([] ∷ [])
-          (subst (λ (v : List Batch). AllByRecursion R (closed_runs (y.closed ++ y.items ∷ []) v)) (sym whole) (runs_push R y.closed y.items
-          bs y.current (length-batches_in (joined y.closed) clean.clean) closed parts.1)) (tt, tt);
+          (rw whole (runs_push R y.closed y.items bs y.current (length-batches_in (joined y.closed) clean.clean) closed parts.1)) (tt, tt);
       listed = record {
-        inner = subst (λ (v : List (List (List ℕ))). AllByRecursion (λ vs. Within (register_trail vs) all) v) (sym is)
-            (each_append (λ vs. Within (register_trail vs) all) (map V y.closed) (V y.items ∷ []) h.listed.inner (h.listed.last, tt));
-        outer = subst (λ (v : List (List (List ℕ))). Within (trail closing_message (start_of Opt i.meaning.id) v) all) (sym is)
-            (trail_push closing_message (start_of Opt i.meaning.id) (map V y.closed) (V y.items) all h.listed.outer c);
+        inner = rw is (each_append (λ vs. Within (register_trail vs) all) (map V y.closed) (V y.items ∷ []) h.listed.inner
+            (h.listed.last, tt));
+        outer = rw is (trail_push closing_message (start_of Opt i.meaning.id) (map V y.closed) (V y.items) all h.listed.outer c);
         last = h.listed.last;
       };
     }
@@ -173,7 +167,7 @@ module _ (meaning : Meaning) (key barrier : List ℕ) where
       rw may.items (values_renamed barrier may.front b) in
       commit_listed I z (b ∷ []) true (renamed y.items b) b all
       (ap (λ (v : List Batch). v ++ b ∷ []) (sym (shut_current z sound refl))) h
-      (subst (λ (v : List (List ℕ)). Within (register_trail v) all) (sym same) h.listed.last) m
+      (rw same h.listed.last) m
   listed_at y true (Placed b) all sound may h w m = absurd may
   listed_at y false (Placed b) all sound may h w m =
       let v = Value (guard barrier b) in

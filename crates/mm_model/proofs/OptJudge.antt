@@ -98,15 +98,13 @@ stood_of i y named rest a e all sound clear history first place =
       flat = ap (λ (v : List (List ℕ)). v ++ taken) (joined-values i.barrier p.before) ∙ p.flat;
       reaches = p.reaches;
       filled = each_unmap (λ vs. is_empty vs ≡ false) (λ segment. is_empty segment ≡ false) V
-          (λ segment some. zero_items i.barrier segment ∙ some) p.later (each_right (λ segment. is_empty segment ≡ false) p.before p.later
-          (subst (λ (v : List (List Entry)). AllByRecursion (λ segment. is_empty segment ≡ false) v) p.split sound.filled));
+          (λ segment some. zero_items i.barrier segment ∙ some) p.later
+          (each_right (λ segment. is_empty segment ≡ false) p.before p.later (rw p.split at sound.filled));
       clears = record { clear = clear; starts = h.starts };
       history = h.listed;
       path = record {
-        inner = each_left (λ vs. Within (register_trail vs) all) before (map V p.later)
-            (subst (λ (v : List (List (List ℕ))). AllByRecursion (λ vs. Within (register_trail vs) all) v) split h.listed.inner);
-        outer = trail_front closing_message (start_of Opt id) before (map V p.later) all
-            (subst (λ (v : List (List (List ℕ))). Within (trail closing_message (start_of Opt id) v) all) split h.listed.outer);
+        inner = each_left (λ vs. Within (register_trail vs) all) before (map V p.later) (rw split at h.listed.inner);
+        outer = trail_front closing_message (start_of Opt id) before (map V p.later) all (rw split at h.listed.outer);
         last = p.listed;
       };
       guards = h.guards;
@@ -167,15 +165,12 @@ module _ (i : Instance) (y : History) (named rest : List Batch) (a e : List ℕ)
   -- the messages of a call at the path
   pub path_messages : (v : List ℕ) → Within (point_messages a e v) all
       → Within (point_messages (anchor_of i.meaning.id q.before) (register_of q.taken) v) all
-  path_messages v call =
-      subst (λ (w : List ℕ). Within (point_messages (anchor_of i.meaning.id q.before) w v) all) q.extension_is
-      (subst (λ (w : List ℕ). Within (point_messages w e v) all) q.anchor_is call)
+  path_messages v call = rw (q.anchor_is, q.extension_is) at call
 
   guards_of_named : Within (map (guard_message i.barrier) named) all
   guards_of_named =
       each_left (Contains all) (map (guard_message i.barrier) named) (map (guard_message i.barrier) rest)
-      (subst (λ (v : List (List ℕ)). Within v all)
-      (ap (map (guard_message i.barrier)) q.first ∙ map-append (guard_message i.barrier) named rest) q.guards)
+      (rw (q.first, map-append (guard_message i.barrier) named rest) at q.guards)
 
   -- A test that holds exactly where the values of these batches are all that count: by the life of the history.
   test_told : IsSound y → (batches : List Batch) (Fits : Type 0) (test here : Bool) → Decides test Fits → Decides here (batches ≡ y.batches)
@@ -224,8 +219,8 @@ module _ (i : Instance) (y : History) (named rest : List Batch) (a e : List ℕ)
       (λ f. more ∙ again_joins y.is_open closed_here items_here v q.before q.taken f ∙ flat_here)
       (λ held is. again_from y.is_open closed_here q.before q.later items_here v q.taken q.split q.filled held q.reaches
       (sym more ∙ is ∙ sym flat_here))
-      (subst (λ (w : List (List ℕ)). Within w all) (sym (map-append (guard_message i.barrier) named (b ∷ [])))
-      (each_append (Contains all) (map (guard_message i.barrier) named) (guard_message i.barrier b ∷ []) guards_of_named (called, tt)))
+      (rw (map-append (guard_message i.barrier) named (b ∷ [])) (each_append (Contains all) (map (guard_message i.barrier) named)
+      (guard_message i.barrier b ∷ []) guards_of_named (called, tt)))
       (λ d c among asked. foreign d c among (among_asked y.batches named rest b q.first c asked)) (life_of Opt y) refl)
 
   -- the verdict, by the path that the place is

@@ -100,7 +100,7 @@ pub listed_front : (barrier : List ℕ) (all : List (List ℕ)) (taken more : Li
     → RunsListed barrier all taken
 listed_front barrier all taken more w =
     trail_front extended_message zero_bytes (own_values barrier taken) (own_values barrier more) all
-    (subst (λ (v : List (List ℕ)). Within (register_trail v) all) (own_values-append barrier taken more) w)
+    (rw (own_values-append barrier taken more) at w)
 
 reaches_none : (flag : Bool) (later : List (List (List ℕ))) → Reaches flag later 0
 reaches_none flag [] = tt
@@ -236,7 +236,7 @@ module _ (i : Instance) (y : History) (named rest : List Batch) (a e : List ℕ)
         flat = flat_is i.barrier y y.closed p.done p.taken named h d p.named_is;
         reaches = tt;
         listed = listed_front i.barrier all p.taken p.more
-            (subst (RunsListed i.barrier all) p.split (runs_parts (RunsListed i.barrier all) y runs).1);
+            (rw p.split at (runs_parts (RunsListed i.barrier all) y runs).1);
       }
   path_of all runs (in_closed p) =
       let R = RunsListed i.barrier all in
@@ -250,7 +250,7 @@ module _ (i : Instance) (y : History) (named rest : List Batch) (a e : List ℕ)
       ap (take k) first ∙ takes_whole k named rest (ends_before_current p)
       ∙ ap (λ (v : List Batch). v ++ more) p.named_is ∙ append_assoc p.done p.taken more in
       let run = run_holds R p.before p.segment p.later (take k y.batches) p.done (p.taken ++ more) bs p.counted
-      (subst (λ (v : List (List Entry)). AllByRecursion R (closed_runs v (take k y.batches))) p.split (runs_parts R y runs).0) in
+      (rw p.split at (runs_parts R y runs).0) in
       let fits : (length p.taken ≤ length p.segment) ⊎ (p.later ≡ []) = elim p.within [ inl within ↦ inl within | inr last ↦ inr last.0 ] in
       record {
         before = p.before;

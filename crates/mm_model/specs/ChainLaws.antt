@@ -49,18 +49,16 @@ module _ {A : Type 0} (f : List ℕ → A → List ℕ) (s : List ℕ) where
 
   -- the messages of a chain that grew by one item: those before, and the last
   pub trail_front : (xs ys : List A) (all : List (List ℕ)) → Within (trail f s (xs ++ ys)) all → Within (trail f s xs) all
-  trail_front xs ys all w = each_left (Contains all) (trail f s xs) (trail f (after f s xs) ys)
-      (subst (λ (v : List (List ℕ)). Within v all) (trail-append f s xs ys) w)
+  trail_front xs ys all w = each_left (Contains all) (trail f s xs) (trail f (after f s xs) ys) (rw (trail-append f s xs ys) at w)
 
   pub trail_last : (xs : List A) (x : A) (all : List (List ℕ)) → Within (trail f s (xs ++ x ∷ [])) all → Contains all (f (after f s xs) x)
-  trail_last xs x all w = (each_right (Contains all) (trail f s xs) (trail f (after f s xs) (x ∷ []))
-      (subst (λ (v : List (List ℕ)). Within v all) (trail-append f s xs (x ∷ [])) w)).0
+  trail_last xs x all w =
+      (each_right (Contains all) (trail f s xs) (trail f (after f s xs) (x ∷ [])) (rw (trail-append f s xs (x ∷ [])) at w)).0
 
   pub trail_push : (xs : List A) (x : A) (all : List (List ℕ)) → Within (trail f s xs) all → Contains all (f (after f s xs) x)
       → Within (trail f s (xs ++ x ∷ [])) all
   trail_push xs x all w c =
-      subst (λ (v : List (List ℕ)). Within v all) (sym (trail-append f s xs (x ∷ [])))
-      (each_append (Contains all) (trail f s xs) (trail f (after f s xs) (x ∷ [])) w (c, tt))
+      rw (trail-append f s xs (x ∷ [])) (each_append (Contains all) (trail f s xs) (trail f (after f s xs) (x ∷ [])) w (c, tt))
 
 module _ {A : Type 0} (f : List ℕ → A → List ℕ) (start : List ℕ) (Fine : A → Type 0) (all : List (List ℕ)) where
   abbrev pub SameFrom : List A → Type 0

@@ -82,14 +82,13 @@ module _ (id : ℕ) (all : List (List ℕ)) where
   again_tells clears true closed items v before rest k l m =
       let longer = listed_value all rest v l.last m.0 in
       Decides-and (bytes_eq (anchor_of id before) (anchor_of id closed)) (bytes_eq (extended_of (register_of rest) v) (register_of items))
-      (same_anchor id all clears before closed rest items l k) (subst (λ (d : List ℕ). Decides (bytes_eq d (register_of items))
-      (rest ++ v ∷ [] ≡ items)) (register-push rest v) (same_register all clears.clear (rest ++ v ∷ []) items longer k.last))
+      (same_anchor id all clears before closed rest items l k)
+      (rw (register-push rest v) at (same_register all clears.clear (rest ++ v ∷ []) items longer k.last))
   again_tells clears false closed items v before rest k l m =
       let longer = listed_value all rest v l.last m.0 in
       let called : Contains all (anchored_message (anchor_of id before) (register_of (rest ++ v ∷ []))) =
-      subst (λ (d : List ℕ). Contains all (anchored_message (anchor_of id before) d)) (sym (register-push rest v)) m.1.0 in
+      rw (register-push rest v) m.1.0 in
       let closes = listed_segment before (rest ++ v ∷ []) l.inner l.outer longer called in
       let is : anchor_of id (before ++ (rest ++ v ∷ []) ∷ []) ≡ anchored_of (anchor_of id before) (extended_of (register_of rest) v) =
       anchor-push id before (rest ++ v ∷ []) ∙ ap (anchored_of (anchor_of id before)) (register-push rest v) in
-      subst (λ (d : List ℕ). Decides (bytes_eq d (anchor_of id closed)) (before ++ (rest ++ v ∷ []) ∷ [] ≡ closed)) is
-      (same_anchor id all clears (before ++ (rest ++ v ∷ []) ∷ []) closed [] items closes k)
+      rw is at (same_anchor id all clears (before ++ (rest ++ v ∷ []) ∷ []) closed [] items closes k)

@@ -116,14 +116,7 @@ fresh_after false before items rest (segment ∷ later) filled held reach e =
     let whole : rest ≡ segment ++ joined later = e ∙ append-nil (segment ++ joined later) in
     let none = only_one segment later (length rest) filled.1 reach (ap length whole ∙ length-append segment (joined later)) in
     let same : rest ≡ segment = whole ∙ ap (λ v. segment ++ joined v) none ∙ append-nil segment in
-    inr (
-      ap is_empty same ∙ filled.0,
-      (
-        ap (λ (v : List _). before ++ v ∷ []) same ∙ ap (λ (v : List (List _)). before ++ segment ∷ v)
-            (sym none),
-        refl,
-      ),
-    )
+    inr (ap is_empty same ∙ filled.0, (rw (same, none) refl, refl))
 
 -- a path that is fresh with one more value
 again_by : {A : Type 0} (flag : Bool) (closed : List (List A)) (items : List A) (v : A) (before : List (List A)) (rest : List A)
@@ -162,12 +155,7 @@ again_after {A} flag before items v rest (segment ∷ later) filled held (inl wi
           (e ∙ append_assoc segment (joined later) (taken_in flag items)) in
           let reach = reaches_one flag later filled.1 in
           let then_on = again_within flag (before ++ segment ∷ []) items v [] later filled.1 held reach parts.1 in
-          inr (
-            ap is_empty parts.0 ∙ filled.0,
-            subst (λ (s : List A). Again flag (before ++ segment ∷ later) items v (before ++ s ∷ []) [])
-                (sym parts.0) (subst (λ (c : List (List A)). Again flag c items v (before ++ segment ∷ []) [])
-                (append_assoc before (segment ∷ []) later) then_on),
-          )
+          inr (ap is_empty parts.0 ∙ filled.0, rw parts.0 (rw (append_assoc before (segment ∷ []) later) at then_on))
     ]
 
 -- what counts behind the segments before the path
@@ -181,13 +169,13 @@ module _ {A : Type 0} (flag : Bool) (closed before later : List (List A)) (items
       → Reaches flag later (length rest) → joined before ++ rest ≡ joined closed ++ taken_in flag items
       → FreshSomehow flag closed items before rest
   fresh_from rest split filled held reach e =
-      subst (λ (c : List (List A)). FreshSomehow flag c items before rest) (sym split)
+      rw split
       (fresh_after flag before items rest later filled held reach (behind before later closed rest (taken_in flag items) split e))
 
   pub again_from : (v : A) (rest : List A) → closed ≡ before ++ later → AllByRecursion (λ x. is_empty x ≡ false) later → IsHeld flag items
       → Reaches flag later (length rest) → (joined before ++ rest) ++ v ∷ [] ≡ joined closed ++ taken_in flag items
       → AgainSomehow flag closed items v before rest
   again_from v rest split filled held reach e =
-      subst (λ (c : List (List A)). AgainSomehow flag c items v before rest) (sym split)
+      rw split
       (again_after flag before items v rest later filled held reach
       (behind before later closed (rest ++ v ∷ []) (taken_in flag items) split (sym (append_assoc (joined before) rest (v ∷ [])) ∙ e)))
