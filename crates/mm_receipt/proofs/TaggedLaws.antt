@@ -79,11 +79,8 @@ outputs-same : (inner : Meaning) (kept : ReceiptState) (requests : List (List �
     → outputs_from (receipted inner) (spelling_of kept) requests ≡ outputs_by inner kept requests
 outputs-same inner kept [] good = refl
 outputs-same inner kept (request ∷ requests) good =
-    let e : outcome_of inner (receipt_state_in (spelling_of kept)) request ≡ outcome_of inner kept request = ap
-    (λ (k : ReceiptState). outcome_of inner k request) (kept_of-spelling_of kept good) in
-    ap (λ (o : ReceiptState × List ℕ). o.1 ∷ outputs_from (receipted inner) (spelling_of o.0) requests) e
-    ∙ ap (λ (l : List (List ℕ)). (outcome_of inner kept request).1 ∷ l)
-    (outputs-same inner (outcome_of inner kept request).0 requests (outcome_of-IsKept inner kept request good))
+    rw (kept_of-spelling_of kept good) (ap (λ (l : List (List ℕ)). (outcome_of inner kept request).1 ∷ l)
+    (outputs-same inner (outcome_of inner kept request).0 requests (outcome_of-IsKept inner kept request good)))
 
 -- a tagged request is told its receipt
 tagged-said : (inner : Meaning) (key : List ℕ) (kept : ReceiptState) (request : List ℕ)
@@ -114,17 +111,12 @@ here-tagged : (inner : Meaning) (key : List ℕ) (kept : ReceiptState) (first : 
 here-tagged inner key kept first requests good counted position request said near short t =
     let same = receipt_message-injective position request said (kept.count + 1) first (inner.says kept.inner first) (omega (arith, near))
     (omega (arith, good.few)) (omega (arith, short)) counted t.is in
-    let told = tagged-said inner key kept first t.room t.keyed in
-    let receipt : receipt_of key (kept.count + 1) first (inner.says kept.inner first) ≡ receipt_of key position request said =
-    ap (λ n. receipt_of key n first (inner.says kept.inner first)) (sym same.positions)
-    ∙ ap (λ (l : List ℕ). receipt_of key position l (inner.says kept.inner first)) (sym same.requests)
-    ∙ ap (λ (l : List ℕ). receipt_of key position request l) (sym same.outputs) in
     record {
       before = 0;
       place = omega (arith, same.positions);
       asked = ap (λ (l : List ℕ). Some l) (sym same.requests);
-      told = ap
-          (λ (l : List ℕ). Some l) (told ∙ receipt);
+      told = rw (same.positions, same.requests, same.outputs)
+          (ap (λ (l : List ℕ). Some l) (tagged-said inner key kept first t.room t.keyed));
     }
 
 later-tagged : (inner : Meaning) (key : List ℕ) (kept : ReceiptState) (first : List ℕ) (requests : List (List ℕ)) (position : ℕ)
@@ -157,9 +149,8 @@ receipts-true inner requests counted key position request output u =
       place = omega (arith, w.place);
       asked = w.asked;
       said =
-          ap (λ (l : List (List ℕ)). slice_get l w.before)
-          (outputs-same inner (first_kept inner) requests (record { few = omega arith; keyed = tt }))
-          ∙ w.told ∙ ap (λ (l : List ℕ). Some l) (sym (accepted-receipt key position request output u.accepted));
+          rw (outputs-same inner (first_kept inner) requests (record { few = omega arith; keyed = tt }))
+          (w.told ∙ ap (λ (l : List ℕ). Some l) (sym (accepted-receipt key position request output u.accepted)));
     }
 
 pub no-clash : ReceiptsDoNotClash

@@ -15,9 +15,8 @@ use Rattle.mm_base.specs.Limits.{cell_length}
 
 pub variant_byte-injective : (v w : Variant) → variant_byte v ≡ variant_byte w → v ≡ w
 variant_byte-injective Basic Basic e = refl
-variant_byte-injective Basic Opt e = absurd (omega arith)
-variant_byte-injective Opt Basic e = absurd (omega arith)
 variant_byte-injective Opt Opt e = refl
+variant_byte-injective _ _ e = absurd (omega arith)
 
 flag_of_byte : (f : Bool) → (flag_byte f == 1) ≡ f
 flag_of_byte true = refl
