@@ -3,7 +3,7 @@ use Rattle.std.specs.Prelude.{ℕ, ◌+◌, ◌/◌, ◌%◌, ◌==◌, codes}
 use Rattle.std.proofs.Common.{refl, arith}
 use Rattle.mm_module.specs.LineLaws.{IsText}
 use Rattle.mm_listing.specs.Listing.{Listing, IsListing}
-use Rattle.mm_listing.specs.RequestLaws.{counted, in_both}
+use Rattle.mm_listing.specs.RequestLaws.{counted, in_both, listed}
 use Rattle.mm_dispenser.specs.DispenserLaws.{dispenser_is_lawful}
 use Rattle.mm_dispenser.specs.Promise.{KeepsPlacesApart}
 use Rattle.mm_dispenser.specs.PromiseLaws.{keeps-apart}
@@ -24,10 +24,6 @@ asks choice =
     (counted (codes "draw ") (choice / 4 % 16 + 1) refl (omega arith) (omega arith))
 
 pub dispenser_is_listed : IsListing dispenser dispenser_listing
-dispenser_is_listed = record {
-  means = refl;
-  lawful = dispenser_is_lawful;
-  named = record { begins = refl; letters = refl; other = refl };
-  asks = asks;
-  keeps = λ requests tellings said. keeps-apart requests tellings said;
-}
+dispenser_is_listed =
+    listed dispenser_listing (record { begins = refl; letters = refl; other = refl })
+    dispenser_is_lawful asks keeps-apart

@@ -60,26 +60,22 @@ word_text-digits seed place = refl
 words-drawn : (count place : ℕ) (seed front : List ℕ) → is_whole front ≡ true
     → words_of (front ++ words_text seed place count) ≡ front ∷ word_list seed place count
 words-drawn zero place seed front whole =
-    ap (λ (l : List ℕ). words_of l) (append-nil front)
-    ∙ slice_split_none is_space front (no_space front whole)
+    rw (append-nil front) (slice_split_none is_space front (no_space front whole))
 words-drawn (suc count) place seed front whole =
     let rest = digits_at seed place ++ words_text seed (place + 1) count in
-    let e : word_text (word_of seed place) ++ words_text seed (place + 1) count ≡ 32 ∷ rest =
-    ap (λ (l : List ℕ). l ++ words_text seed (place + 1) count) (word_text-digits seed place) in
-    ap (λ (l : List ℕ). words_of (front ++ l)) e
-    ∙ slice_split_at is_space front 32 rest (no_space front whole) refl
+    rw (word_text-digits seed place) (slice_split_at is_space front 32 rest (no_space front whole) refl
     ∙ ap (λ (l : List (List ℕ)). front ∷ l)
-    (words-drawn count (place + 1) seed (digits_at seed place) (digits_at-whole seed place))
+    (words-drawn count (place + 1) seed (digits_at seed place) (digits_at-whole seed place)))
 
 -- a draw tells its places
 drawn-tells : (seed : List ℕ) (place count : ℕ) → place < 2 ^ 64
     → places_told (drawn_text seed place count) ≡ Some (record { from = place; size = count })
 drawn-tells seed place count small =
-    ap places_in (words-drawn count place seed (decimal place) (decimal-whole place small))
-    ∙ ap (λ (o : Option ℕ). option_map
-    (λ (n : ℕ). record { from = n; size = length (word_list seed place count) }) o)
-    (read_by_spelling (decimal place) place small refl)
-    ∙ ap (λ n. Some (record { from = place; size = n })) (length-word_list seed place count)
+    rw (
+      words-drawn count place seed (decimal place) (decimal-whole place small),
+      read_by_spelling (decimal place) place small refl,
+      length-word_list seed place count,
+    ) refl
 
 -- the places that are told
 abbrev told_of : Says → Option PlacesFrom

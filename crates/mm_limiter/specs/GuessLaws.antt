@@ -3,6 +3,7 @@
 use Rattle.std.proofs.Common.{◌≡◌, ℕ, suc, zero, ◌+◌, ◌≤◌, ◌||◌, Bool, false, cond, List, [], ◌∷◌, take, Option, sym, subst, arith}
 use Rattle.std.specs.Prelude.{count_by}
 use Rattle.std.specs.List.{list_any}
+use Rattle.std.proofs.lemmas.Bool.{or_parts}
 use Rattle.std.proofs.lemmas.Bool.Decides.{nat_tests}
 use Rattle.std.proofs.lemmas.List.Sums.{sum_by-cons}
 use Rattle.mm_module.specs.TableLaws.{outputs_by, table_outputs}
@@ -30,12 +31,6 @@ costs : (state : State) (request : Option Request)
     + left_in (outcome_of state request).0 ≤ left_in state
 costs state request none = grind (arith, nat_tests)
 
-none_first : (a b : Bool) → (a || b) ≡ false → a ≡ false
-none_first a b is = grind arith
-
-none_later : (a b : Bool) → (a || b) ≡ false → b ≡ false
-none_later a b is = grind arith
-
 -- no more are wrong than are left
 few_wrong : (size : ℕ) (state : State) (requests : List (List ℕ))
     → list_any is_renewal (take size (outputs_at state requests)) ≡ false
@@ -45,11 +40,12 @@ few_wrong (suc size) state [] none = omega arith
 few_wrong (suc size) state (request ∷ requests) none =
     let o = after state request in
     let more = take size (outputs_at o.0 requests) in
+    let parts = or_parts (is_renewal o.1) (list_any is_renewal more) none in
     omega (
       arith,
       sum_by-cons (λ (x : List ℕ). cond (is_wrong x) 1 0) o.1 more,
-      costs state (request_of (words_of request)) (none_first _ (list_any is_renewal more) none),
-      few_wrong size o.0 requests (none_later (is_renewal o.1) _ none),
+      costs state (request_of (words_of request)) parts.0,
+      few_wrong size o.0 requests parts.1,
     )
 
 -- the guesses that are allowed in all, from a state

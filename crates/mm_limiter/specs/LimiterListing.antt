@@ -3,7 +3,7 @@ use Rattle.std.specs.Prelude.{ℕ, ◌/◌, ◌%◌, ◌==◌, codes}
 use Rattle.std.proofs.Common.{refl, arith}
 use Rattle.mm_module.specs.LineLaws.{IsText}
 use Rattle.mm_listing.specs.Listing.{Listing, IsListing}
-use Rattle.mm_listing.specs.RequestLaws.{counted, in_both, word}
+use Rattle.mm_listing.specs.RequestLaws.{counted, in_both, listed, word}
 use Rattle.mm_limiter.specs.LimiterLaws.{limiter_is_lawful}
 use Rattle.mm_limiter.specs.Promise.{KeepsGuessesFew}
 use Rattle.mm_limiter.specs.PromiseLaws.{keeps-few}
@@ -26,10 +26,6 @@ asks choice =
     (counted (codes "guess ") (choice / 8 % 100) refl (omega arith) (omega arith))))
 
 pub limiter_is_listed : IsListing limiter limiter_listing
-limiter_is_listed = record {
-  means = refl;
-  lawful = limiter_is_lawful;
-  named = record { begins = refl; letters = refl; other = refl };
-  asks = asks;
-  keeps = λ requests tellings said. keeps-few requests tellings said;
-}
+limiter_is_listed =
+    listed limiter_listing (record { begins = refl; letters = refl; other = refl })
+    limiter_is_lawful asks keeps-few

@@ -6,7 +6,7 @@ use Rattle.mm_module.specs.CounterLaws.{counter_is_lawful}
 use Rattle.mm_module.specs.CounterTable.{counter}
 use Rattle.mm_module.specs.LineLaws.{IsText}
 use Rattle.mm_listing.specs.Listing.{Listing, IsListing, promises_nothing}
-use Rattle.mm_listing.specs.RequestLaws.{counted, in_both, word}
+use Rattle.mm_listing.specs.RequestLaws.{counted, in_both, listed, word}
 
 abbrev pub counter_request : ℕ → List ℕ
 counter_request choice =
@@ -27,10 +27,6 @@ asks choice =
     (counted (codes "add ") (choice / 4 % 1000) refl (omega arith) (omega arith))
 
 pub counter_is_listed : IsListing counter counter_listing
-counter_is_listed = record {
-  means = refl;
-  lawful = counter_is_lawful;
-  named = record { begins = refl; letters = refl; other = refl };
-  asks = asks;
-  keeps = λ requests tellings said. tt;
-}
+counter_is_listed =
+    listed counter_listing (record { begins = refl; letters = refl; other = refl })
+    counter_is_lawful asks (λ requests tellings said. tt)

@@ -1,9 +1,12 @@
--- Laws of texts that are put together of words and numbers, for the laws of listings.
+-- Laws of listings, and of texts that are put together of words and numbers, for them.
 use Rattle.std.specs.Prelude.{◌≡◌, ℕ, ◌+◌, ◌^◌, ◌<◌, ◌≤◌, Bool, true, false, List, ◌++◌, length, if◌then◌else◌}
-use Rattle.std.proofs.Common.{◌∙◌, arith, length-append}
+use Rattle.std.proofs.Common.{refl, ◌∙◌, arith, length-append}
 use Rattle.std.specs.Fmt.{decimal}
 use Rattle.std.proofs.lemmas.List.Folds.{list_all-append}
 use Rattle.mm_module.specs.LineLaws.{IsText, and-both, is_unbroken, is_unbroken-decimal, length-decimal}
+use Rattle.mm_module.specs.Meaning.{IsLawful}
+use Rattle.mm_listing.specs.Listing.{Listing, IsListing, IsName}
+use Rattle.mm_listing.specs.Tellings.{AreSaid, Telling}
 
 -- what holds in both cases
 pub in_both : {A : Type 0} (P : A → Type 0) (b : Bool) (x y : A) → P x → P y
@@ -44,3 +47,10 @@ pub counted : (front : List ℕ) (n : ℕ) → is_unbroken front ≡ true → le
     → IsText 256 (front ++ decimal n)
 counted front n is few small =
     request 40 (front ++ decimal n) (omega arith) (numbered front n is few small)
+
+-- a listing of its own module
+pub listed : (listing : Listing) → IsName listing.name → IsLawful listing.meaning
+    → ((choice : ℕ) → IsText 256 (listing.request choice))
+    → ((requests : List (List ℕ)) (tellings : List Telling) → AreSaid listing.meaning requests tellings → listing.promise requests tellings)
+    → IsListing listing.meaning listing
+listed listing named lawful asks keeps = record { means = refl; lawful = lawful; named = named; asks = asks; keeps = keeps }

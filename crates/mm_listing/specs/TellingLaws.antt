@@ -1,7 +1,8 @@
 -- Laws of lines that tell what was said, for the promises of modules.
 use Rattle.std.specs.Prelude.{◌≡◌, ℕ, zero, suc, ◌+◌, List, [], ◌∷◌, drop, Option, Some, None, slice_get}
 use Rattle.std.specs.List.{AllByRecursion}
-use Rattle.std.proofs.Common.{refl, sym, ap, ◌∙◌, subst, add-one}
+use Rattle.std.proofs.Common.{refl, sym, ap, ◌∙◌, subst}
+use Rattle.std.proofs.lemmas.List.{drop-drop}
 use Rattle.mm_listing.specs.Tellings.{Telling, WasSaid}
 
 -- the first item behind a front of a list
@@ -10,14 +11,9 @@ slice_get-drop xs zero = refl
 slice_get-drop [] (suc k) = refl
 slice_get-drop (x ∷ xs) (suc k) = slice_get-drop xs k
 
-drop-suc : (xs : List (List ℕ)) (k : ℕ) → drop (suc k) xs ≡ drop 1 (drop k xs)
-drop-suc xs zero = refl
-drop-suc [] (suc k) = refl
-drop-suc (x ∷ xs) (suc k) = drop-suc xs k
-
 -- the rest behind it
 pub drop-next : (xs : List (List ℕ)) (k : ℕ) → drop (k + 1) xs ≡ drop 1 (drop k xs)
-drop-next xs k = ap (λ j. drop j xs) (add-one k) ∙ drop-suc xs k
+drop-next xs k = sym (drop-drop 1 k xs)
 
 pub some-same : (x output : List ℕ) → (let o : Option (List ℕ) = Some x in o ≡ Some output)
     → x ≡ output
@@ -29,14 +25,8 @@ none-some output h = cc
 -- what holds of all lines, at a place of their list
 pub at-place : (P : Telling → Type 0) (tellings : List Telling) (i : ℕ) (telling : Telling)
     → AllByRecursion P tellings → slice_get tellings i ≡ Some telling → P telling
-at-place P [] i telling all is = absurd (no_telling telling is)
-  where
-    no_telling : (t : Telling) → (let o : Option Telling = None in o ≡ Some t) → ⊥
-    no_telling t h = cc
-at-place P (first ∷ tellings) zero telling all is = subst P (same_telling first telling is) all.0
-  where
-    same_telling : (a b : Telling) → (let o : Option Telling = Some a in o ≡ Some b) → a ≡ b
-    same_telling a b h = cc
+at-place P [] i telling all is = cc
+at-place P (first ∷ tellings) zero telling all is = let same : first ≡ telling = cc in subst P same all.0
 at-place P (first ∷ tellings) (suc i) telling all is = at-place P tellings i telling all.1 is
 
 -- lines that name one request are the same

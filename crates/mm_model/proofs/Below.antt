@@ -7,7 +7,7 @@ pub use Rattle.std.proofs.Common.{◌&&◌, ◌++◌, ◌+◌, ◌-◌, ◌<◌,
 pub use Rattle.std.proofs.Common.{false, get_or, inl, inr, length, length-append, List, map, refl, subst, suc, sym, take, true, zero, ℕ}
 pub use Rattle.std.proofs.lemmas.Bool.{and_from, and_parts, or_parts}
 pub use Rattle.std.proofs.lemmas.List.{append-nil, append_cancel_right, drop-append-le, drop_all, drop_at, drop_more, length-drop}
-pub use Rattle.std.proofs.lemmas.List.{length-map, map-append, take-append-le, take_all, take_at, take_more}
+pub use Rattle.std.proofs.lemmas.List.{length-map, map-append, nil_from_length, take-append-le, take_all, take_at, take_more}
 pub use Rattle.mm_digest.specs.Messages.{anchored_message, anchored_of, extended_message, extended_of, start_message, start_of, zero_bytes}
 pub use Rattle.mm_digest.specs.declared.variant.Variant.TheVariants.{Basic, Opt}
 pub use Rattle.mm_seal.specs.Snapshot.{Content}
@@ -44,6 +44,6 @@ pub use Rattle.mm_model.specs.Moves.{batch_messages, Brings, committing, Digests
 pub use Rattle.mm_model.specs.Moves.{MayMove}
 pub use Rattle.mm_model.specs.Places.{anchor_after, at_anchor, AtAnchor, in_closed, in_current, InClosed, InCurrent, IsPlaceOf, IsPoint}
 pub use Rattle.mm_model.specs.Places.{issued, issued_place, Names}
-pub use Rattle.mm_model.specs.SegmentLaws.{Again, again_from, again_joins, Fresh, fresh_from, fresh_joins, IsHeld, joined-append}
-pub use Rattle.mm_model.specs.SegmentLaws.{joined-push, nothing_left, Reaches, same_halves, taken_in, true_not_false}
+pub use Rattle.mm_model.specs.SegmentLaws.{Again, again_from, again_joins, AgainSomehow, Fresh, fresh_from, fresh_joins, FreshSomehow, IsHeld}
+pub use Rattle.mm_model.specs.SegmentLaws.{joined-append, joined-push, Reaches, same_halves, taken_in, true_not_false}
 pub use Rattle.mm_model.specs.Sound.{AreItems, batches_in, IsClean, IsMarred, IsSound}

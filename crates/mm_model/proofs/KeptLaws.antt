@@ -3,33 +3,21 @@ use Rattle.mm_model.proofs.Below.{ℕ, zero, suc, ◌≡◌, ◌+◌, ◌<◌, B
 use Rattle.mm_model.proofs.Below.{get_or, refl, sym, ap, ◌∙◌, arith, Vec, drop_more, length-map, Batch}
 use Rattle.mm_model.proofs.Below.{kept_batch, kept_batches, kept_entry, kept_entries, kept_segments, Entry, joined, and_parts}
 use Rattle.mm_model.proofs.Below.{same_batch, has_value, are_own, is_last, true_not_false, has_value-append}
+use Rattle.std.proofs.lemmas.Bool.{false_from_ne_true}
 use Rattle.mm_model.specs.declared.kept.KeptBatch.{KeptBatch}
 use Rattle.mm_model.specs.declared.kept.KeptEntry.{KeptEntry}
 use Rattle.mm_model.specs.History as own
 
-segment_cut : {A : Type 0} (segments : List (Vec KeptEntry A)) (i : ℕ) (segment : Vec KeptEntry A) → i < length segments
-    → segment ≡ get_or segments i segment → has_value (joined (kept_segments (drop i segments))) ≡ (has_value (kept_entries segment.items)
-    || has_value (joined (kept_segments (drop (i + 1) segments))))
-segment_cut {A} segments i segment l is =
-    ap (λ (v : List (Vec KeptEntry A)). has_value (joined (kept_segments v))) (drop_more segments i segment l)
-    ∙ ap (λ (s : Vec KeptEntry A). has_value (kept_entries s.items ++ joined (kept_segments (drop (i + 1) segments)))) (sym is)
-    ∙ has_value-append (kept_entries segment.items) (joined (kept_segments (drop (i + 1) segments)))
-
-pub segment_here : {A : Type 0} (segments : List (Vec KeptEntry A)) (i : ℕ) (segment : Vec KeptEntry A) → i < length segments
-    → segment ≡ get_or segments i segment → has_value (kept_entries segment.items) ≡ true
+-- whether a value stands in the segment or behind it, where the segments before have none
+pub segment_tells : {A : Type 0} (segments : List (Vec KeptEntry A)) (i : ℕ) (segment : Vec KeptEntry A) (has : Bool) → i < length segments
+    → segment ≡ get_or segments i segment → has_value (kept_entries segment.items) ≡ has
     → has_value (joined (kept_segments (drop i segments))) ≡ has_value (joined (kept_segments segments))
-    → true ≡ has_value (joined (kept_segments segments))
-segment_here segments i segment l is v so_far =
-    sym (sym so_far ∙ segment_cut segments i segment l is
-    ∙ ap (λ (b : Bool). b || has_value (joined (kept_segments (drop (i + 1) segments)))) v)
-
-pub no_segment_here : {A : Type 0} (segments : List (Vec KeptEntry A)) (i : ℕ) (segment : Vec KeptEntry A) → i < length segments
-    → segment ≡ get_or segments i segment → has_value (kept_entries segment.items) ≡ false
-    → has_value (joined (kept_segments (drop i segments))) ≡ has_value (joined (kept_segments segments))
-    → has_value (joined (kept_segments (drop (i + 1) segments))) ≡ has_value (joined (kept_segments segments))
-no_segment_here segments i segment l is v so_far =
-    sym (segment_cut segments i segment l is ∙ ap (λ (b : Bool). b || has_value (joined (kept_segments (drop (i + 1) segments)))) v)
-    ∙ so_far
+    → (has || has_value (joined (kept_segments (drop (i + 1) segments)))) ≡ has_value (joined (kept_segments segments))
+segment_tells {A} segments i segment has l is v so_far =
+    let rest = joined (kept_segments (drop (i + 1) segments)) in
+    sym (ap (λ (s : List (Vec KeptEntry A)). has_value (joined (kept_segments s))) (drop_more segments i segment l)
+    ∙ ap (λ (s : Vec KeptEntry A). has_value (kept_entries s.items ++ rest)) (sym is)
+    ∙ has_value-append (kept_entries segment.items) rest ∙ ap (λ (b : Bool). b || has_value rest) v) ∙ so_far
 
 -- entries and batches of different numbers are not the same
 own_lengths : (entries : List Entry) (batches : List Batch) → are_own entries batches ≡ true → length entries ≡ length batches
@@ -38,15 +26,11 @@ own_lengths (own.Own b ∷ entries) (c ∷ batches) o =
     let h = own_lengths entries batches ((and_parts (same_batch b c) (are_own entries batches) o).1) in omega (arith, h)
 own_lengths _ _ o = absurd (true_not_false (sym o))
 
-false_unless : (b : Bool) → (b ≡ true → ⊥) → false ≡ b
-false_unless true h = absurd (h refl)
-false_unless false h = refl
-
 pub other_lengths : (entries : List KeptEntry) (batches : List KeptBatch) → (length entries ≡ length batches → ⊥)
     → false ≡ are_own (kept_entries entries) (kept_batches batches)
 other_lengths entries batches n =
-    false_unless (are_own (kept_entries entries) (kept_batches batches)) (λ o.
-    n (sym (length-map entries kept_entry) ∙ own_lengths (kept_entries entries) (kept_batches batches) o ∙ length-map batches kept_batch))
+    sym (false_from_ne_true (are_own (kept_entries entries) (kept_batches batches)) (λ o.
+    n (sym (length-map entries kept_entry) ∙ own_lengths (kept_entries entries) (kept_batches batches) o ∙ length-map batches kept_batch)))
 
 -- the last batch, by its index
 pub last_at : (batches : List KeptBatch) (n : ℕ) (last : KeptBatch) (b : Batch) → length batches ≡ n + 1 → last ≡ get_or batches n last

@@ -6,12 +6,12 @@ use Rattle.mm_model.proofs.Below.{anchored_message, Batch, Meaning, trail, guard
 use Rattle.mm_model.proofs.Below.{Entry, Own, Value, History, Move, Commit, Foreign, Placed, Reset, Close, Power, joined, value_of, renamed}
 use Rattle.mm_model.proofs.Below.{moved, values_of, IsSound, IsClean, batches_in, Within, register_trail, closed_runs, runs_of, messages_of}
 use Rattle.mm_model.proofs.Below.{moving_messages, IsAllowed, MayMove, batch_messages, each_append, each_left, each_right, trail_push}
-use Rattle.mm_model.proofs.Below.{nothing_left, listed_value, own_values-append, values_of-append, length-batches_in, values_renamed}
+use Rattle.mm_model.proofs.Below.{nil_from_length, listed_value, own_values-append, values_of-append, length-batches_in, values_renamed}
 use Rattle.mm_model.specs.Chains.{register_of, anchor_of}
 use Rattle.mm_model.specs.MessagesWords.{move_messages}
-use Rattle.mm_model.proofs.Paths.{RunsListed, current_clean, shut_current}
+use Rattle.mm_model.proofs.Paths.{RunsListed, current_clean, shut_current, runs_parts}
 use Rattle.mm_model.proofs.HistoryParts.{HistoryListed, history_listed}
-use Rattle.mm_model.proofs.Moves.{moving, moving_is, open_current}
+use Rattle.mm_model.proofs.Moves.{flagged, open_current}
 
 flat_each : {A B : Type 0} (P : B → Type 0) (f : A → List B) (xs : List A) → AllByRecursion (λ x. AllByRecursion P (f x)) xs
     → AllByRecursion P (flat_map f xs)
@@ -26,13 +26,13 @@ pub items_grow : (barrier : List ℕ) (all : List (List ℕ)) (items : List Entr
     → Within (register_trail (values_of barrier items)) all → Contains all (extended_message (register_of (values_of barrier items))
     (value_of barrier e)) → Within (register_trail (values_of barrier (items ++ e ∷ []))) all
 items_grow barrier all items e w c =
-    subst (λ (v : List (List ℕ)). Within (register_trail v) all) (sym (values_of-append barrier items (e ∷ [])))
+    rw (values_of-append barrier items (e ∷ []))
     (listed_value all (values_of barrier items) (value_of barrier e) w c)
 
 pub run_grows : (barrier : List ℕ) (all : List (List ℕ)) (run : List Batch) (b : Batch) → RunsListed barrier all run
     → Contains all (extended_message (register_of (own_values barrier run)) (guard barrier b)) → RunsListed barrier all (run ++ b ∷ [])
 run_grows barrier all run b w c =
-    subst (λ (v : List (List ℕ)). Within (register_trail v) all) (sym (own_values-append barrier run (b ∷ [])))
+    rw (own_values-append barrier run (b ∷ []))
     (listed_value all (own_values barrier run) (guard barrier b) w c)
 
 module _ (i : Instance) where
@@ -80,7 +80,7 @@ module _ (barrier : List ℕ) (all : List (List ℕ)) where
   pub guards_grow : (batches : List Batch) (b : Batch) → Within (map (guard_message barrier) batches) all
       → Contains all (guard_message barrier b) → Within (map (guard_message barrier) (batches ++ b ∷ [])) all
   guards_grow batches b w c =
-      subst (λ (v : List (List ℕ)). Within v all) (sym (map-append (guard_message barrier) batches (b ∷ [])))
+      rw (map-append (guard_message barrier) batches (b ∷ []))
       (each_append (Contains all) (map (guard_message barrier) batches) (guard_message barrier b ∷ []) w (c, tt))
 
   runs_commit : (y : History) (current : List Batch) (is_open : Bool) (items : List Entry) (b : Batch) → current ≡ y.current ++ b ∷ []
@@ -92,14 +92,10 @@ module _ (barrier : List ℕ) (all : List (List ℕ)) where
         items = items;
       }))
   runs_commit y current is_open items b grown runs c =
-      let k = length y.batches - length y.current in
-      let closed = each_left (RunsListed barrier all) (closed_runs y.closed (take k y.batches)) (y.current ∷ []) runs in
-      let open_run = (each_right (RunsListed barrier all) (closed_runs y.closed (take k y.batches)) (y.current ∷ []) runs).0 in
-      subst (λ (v : List Batch). AllByRecursion (RunsListed barrier all) (closed_runs y.closed (take (length (y.batches ++ b ∷ []) - length
-      v) (y.batches ++ b ∷ [])) ++ v ∷ [])) (sym grown) (each_append (RunsListed barrier all)
-      (closed_runs y.closed (take (length (y.batches ++ b ∷ []) - length (y.current ++ b ∷ [])) (y.batches ++ b ∷ [])))
-      ((y.current ++ b ∷ []) ∷ []) (subst (λ (v : List Batch). AllByRecursion (RunsListed barrier all) (closed_runs y.closed v))
-      (sym (front_stays y.batches y.current b)) closed) (run_grows barrier all y.current b open_run c, tt))
+      let parts = runs_parts (RunsListed barrier all) y runs in
+      rw (grown, front_stays y.batches y.current b) (each_append (RunsListed barrier all)
+      (closed_runs y.closed (take (length y.batches - length y.current) y.batches)) ((y.current ++ b ∷ []) ∷ []) parts.0
+      (run_grows barrier all y.current b parts.1 c, tt))
 
 commit_listed : (i : Instance) (y : History) (current : List Batch) (is_open : Bool) (items : List Entry) (b : Batch) (all : List (List ℕ))
     → current ≡ y.current ++ b ∷ [] → HistoryListed i y all → Within (register_trail (values_of i.barrier items)) all
@@ -117,19 +113,15 @@ runs_push : (P : List Batch → Type 0) (closed : List (List Entry)) (segment : 
     → length bs ≡ length (joined closed) → AllByRecursion P (closed_runs closed bs) → P more
     → AllByRecursion P (closed_runs (closed ++ segment ∷ []) (bs ++ more))
 runs_push P [] segment bs more l h p =
-    subst (λ (v : List Batch). AllByRecursion P (closed_runs (segment ∷ []) (v ++ more))) (sym (nothing_left bs l)) (p, tt)
+    subst (λ (v : List Batch). AllByRecursion P (closed_runs (segment ∷ []) (v ++ more))) (sym (nil_from_length bs l)) (p, tt)
 runs_push P (c ∷ []) segment bs more l h p =
     let size : length bs ≡ length c = l ∙ ap length (append-nil c) in
-    (subst P (sym (take_at bs more (length c) size)) h.0, (subst P (sym (drop_at bs more (length c) size)) p, tt))
+    (rw (take_at bs more (length c) size) h.0, (rw (drop_at bs more (length c) size) p, tt))
 runs_push P (c ∷ d ∷ closed) segment bs more l h p =
     let whole = length-append c (joined (d ∷ closed)) in let fits : length c ≤ length bs = omega (arith, l, whole) in
-    let dropped = length-drop (length c) bs in (
-      subst P (sym (take-append-le (length c) bs more fits)) h.0,
-      subst
-          (λ (v : List Batch). AllByRecursion P (closed_runs (d ∷ (closed ++ segment ∷ [])) v))
-          (sym (drop-append-le (length c) bs more fits))
-          (runs_push P (d ∷ closed) segment (drop (length c) bs) more (omega (arith, l, whole, dropped)) h.1 p),
-    )
+    let dropped = length-drop (length c) bs in
+    let later = runs_push P (d ∷ closed) segment (drop (length c) bs) more (omega (arith, l, whole, dropped)) h.1 p in
+    (rw (take-append-le (length c) bs more fits) h.0, rw (drop-append-le (length c) bs more fits) later)
 
 close_listed : (i : Instance) (y : History) (all : List (List ℕ)) → IsClean y → HistoryListed i y all
     → Contains all (anchored_message (anchor_of i.meaning.id (map (values_of i.barrier) y.closed))
@@ -141,9 +133,8 @@ close_listed i y all clean h c =
     let k = length y.batches - length y.current in let count = ap length clean.batches in
     let cut = length-append bs y.current in let size : length bs ≡ k = omega (arith, count, cut) in
     let front : take k y.batches ≡ bs = ap (take k) clean.batches ∙ take_at bs y.current k size in
-    let closed = subst (λ (v : List Batch). AllByRecursion R (closed_runs y.closed v)) front
-    (each_left R (closed_runs y.closed (take k y.batches)) (y.current ∷ []) h.runs) in
-    let open_run = (each_right R (closed_runs y.closed (take k y.batches)) (y.current ∷ []) h.runs).0 in
+    let parts = runs_parts R y h.runs in
+    let closed = rw front at parts.0 in
     let whole : take (length y.batches - 0) y.batches ≡ bs ++ y.current =
     take_all (length y.batches - 0) y.batches (omega arith) ∙ clean.batches in
     let is : map V (y.closed ++ y.items ∷ []) ≡ map V y.closed ++ V y.items ∷ [] = map-append V y.closed (y.items ∷ []) in
@@ -151,43 +142,44 @@ close_listed i y all clean h c =
       starts = h.starts;
       guards = h.guards;
       runs = each_append R (closed_runs (y.closed ++ y.items ∷ []) (take (length y.batches - 0) y.batches)) ([] ∷ [])
-          (subst (λ (v : List Batch). AllByRecursion R (closed_runs (y.closed ++ y.items ∷ []) v)) (sym whole) (runs_push R y.closed y.items
-          bs y.current (length-batches_in (joined y.closed) clean.clean) closed open_run)) (tt, tt);
+          (rw whole (runs_push R y.closed y.items bs y.current (length-batches_in (joined y.closed) clean.clean) closed parts.1)) (tt, tt);
       listed = record {
-        inner = subst (λ (v : List (List (List ℕ))). AllByRecursion (λ vs. Within (register_trail vs) all) v) (sym is)
-            (each_append (λ vs. Within (register_trail vs) all) (map V y.closed) (V y.items ∷ []) h.listed.inner (h.listed.last, tt));
-        outer = subst (λ (v : List (List (List ℕ))). Within (trail closing_message (start_of Opt i.meaning.id) v) all) (sym is)
-            (trail_push closing_message (start_of Opt i.meaning.id) (map V y.closed) (V y.items) all h.listed.outer c);
+        inner = rw is (each_append (λ vs. Within (register_trail vs) all) (map V y.closed) (V y.items ∷ []) h.listed.inner
+            (h.listed.last, tt));
+        outer = rw is (trail_push closing_message (start_of Opt i.meaning.id) (map V y.closed) (V y.items) all h.listed.outer c);
         last = h.listed.last;
       };
     }
 
-listed_at : (i : Instance) (y : History) (flag : Bool) (m : Move) (all : List (List ℕ)) → IsSound y → y.is_open ≡ flag
-    → IsAllowed Opt flag i y m → HistoryListed i y all → Within (moving_messages Opt flag i y m) all → Within (batch_messages i y m) all
-    → HistoryListed i (moving flag i y m) all
-listed_at i y true (Commit b) all sound f may h w m =
-    commit_listed i y (y.current ++ b ∷ []) y.is_open (y.items ++ Own b ∷ []) b all refl h
-    (items_grow i.barrier all y.items (Own b) h.listed.last w.0) m
-listed_at i y false (Commit b) all sound f may h w m =
-    commit_listed i y (b ∷ []) true (renamed y.items b) b all (ap (λ (v : List Batch). v ++ b ∷ []) (sym (shut_current y sound f))) h
-    (subst (λ (v : List (List ℕ)). Within (register_trail v) all) (sym (ap (λ (v : List Entry). values_of i.barrier (renamed v b)) may.items
-    ∙ values_renamed i.barrier may.front b ∙ ap (values_of i.barrier) (sym may.items))) h.listed.last) m
-listed_at i y true (Placed b) all sound f may h w m = absurd may
-listed_at i y false (Placed b) all sound f may h w m =
-    items_listed i y (y.items ++ Value (guard i.barrier b) ∷ []) all h
-    (items_grow i.barrier all y.items (Value (guard i.barrier b)) h.listed.last w.0)
-listed_at i y flag Reset all sound f may h w m = items_listed i y [] all h tt
-listed_at i y true Close all sound f may h w m = close_listed i y all (current_clean y sound (open_current y sound f)) h w.0
-listed_at i y false Close all sound f may h w m = absurd may
-listed_at i y flag Power all sound f may h w m = items_listed i y [] all h tt
-listed_at i y _ (Foreign d) all sound f may h w m =
-    items_listed i y (y.items ++ Value d ∷ []) all h (items_grow i.barrier all y.items (Value d) h.listed.last w.0)
+module _ (meaning : Meaning) (key barrier : List ℕ) where
+  abbrev I : Instance
+  I = opt meaning key barrier
 
-pub opt_messages : (meaning : Meaning) (key barrier : List ℕ) (y : History) (m : Move) (all : List (List ℕ)) → IsSound y
-    → MayMove (opt meaning key barrier) y m → Within (messages_of Opt (opt meaning key barrier) y) all
-    → Within (move_messages (opt meaning key barrier) y m) all → Within (batch_messages (opt meaning key barrier) y m) all
-    → Within (messages_of Opt (opt meaning key barrier) (moved (opt meaning key barrier) y m)) all
-opt_messages meaning key barrier y m all sound may h w b =
-    let i = opt meaning key barrier in
-    subst (λ (z : History). Within (messages_of Opt i z) all) (moving_is meaning key barrier y m) (listed_history i (moving y.is_open i y m)
-    all (listed_at i y y.is_open m all sound refl may (history_listed i y all h) w b))
+  -- by whether a segment is open
+  listed_at : (y : History) (flag : Bool) (m : Move) (all : List (List ℕ)) → IsSound (flagged y flag) → MayMove I (flagged y flag) m
+      → HistoryListed I (flagged y flag) all → Within (move_messages I (flagged y flag) m) all → Within (batch_messages I y m) all
+      → HistoryListed I (moved I (flagged y flag) m) all
+  listed_at y true (Commit b) all sound may h w m =
+      commit_listed I (flagged y true) (y.current ++ b ∷ []) true (y.items ++ Own b ∷ []) b all refl h
+      (items_grow barrier all y.items (Own b) h.listed.last w.0) m
+  listed_at y false (Commit b) all sound may h w m =
+      let z = flagged y false in let same : values_of barrier (renamed y.items b) ≡ values_of barrier y.items =
+      rw may.items (values_renamed barrier may.front b) in
+      commit_listed I z (b ∷ []) true (renamed y.items b) b all
+      (ap (λ (v : List Batch). v ++ b ∷ []) (sym (shut_current z sound refl))) h
+      (rw same h.listed.last) m
+  listed_at y true (Placed b) all sound may h w m = absurd may
+  listed_at y false (Placed b) all sound may h w m =
+      let v = Value (guard barrier b) in
+      items_listed I (flagged y false) (y.items ++ v ∷ []) all h (items_grow barrier all y.items v h.listed.last w.0)
+  listed_at y true Close all sound may h w m =
+      let z = flagged y true in close_listed I z all (current_clean z sound (open_current z sound refl)) h w.0
+  listed_at y false Close all sound may h w m = absurd may
+  listed_at y flag (Foreign d) all sound may h w m =
+      items_listed I (flagged y flag) (y.items ++ Value d ∷ []) all h (items_grow barrier all y.items (Value d) h.listed.last w.0)
+  listed_at y flag _ all sound may h w m = items_listed I (flagged y flag) [] all h tt
+
+  pub opt_messages : (y : History) (m : Move) (all : List (List ℕ)) → IsSound y → MayMove I y m → Within (messages_of Opt I y) all
+      → Within (move_messages I y m) all → Within (batch_messages I y m) all → Within (messages_of Opt I (moved I y m)) all
+  opt_messages y m all sound may h w b =
+      listed_history I (moved I y m) all (listed_at y y.is_open m all sound may (history_listed I y all h) w b)

@@ -8,17 +8,15 @@ use Rattle.mm_model.proofs.Below.{IsOutside, Brings, each_append, each_left, sam
 use Rattle.mm_model.proofs.Below.{has_value-append, batches_in-append, register_more, values_renamed, renamed-push, if◌then◌else◌}
 use Rattle.mm_model.proofs.Below.{AllByRecursion, Contains, zero_bytes, anchored_of, values_of, values_in}
 use Rattle.mm_model.proofs.Below.{summary-push, anchor-push, reads_zero}
+use Rattle.std.proofs.lemmas.Bool.{or_left, or_right}
 use Rattle.mm_model.proofs.Paths.{current_clean, empty_cases, marred_has, shut_current}
 use Rattle.mm_model.specs.Symbolic.{commit_moves, moved_by, with_batch}
 
 has_value-push : (es : List Entry) (d : List ℕ) → has_value (es ++ Value d ∷ []) ≡ true
-has_value-push (Own b ∷ es) d = has_value-push es d
-has_value-push _ d = refl
+has_value-push es d = has_value-append es (Value d ∷ []) ∙ or_right (has_value es) true refl
 
 has_value-own : (es : List Entry) (b : Batch) → has_value es ≡ true → has_value (es ++ Own b ∷ []) ≡ true
-has_value-own [] b h = absurd (true_not_false (sym h))
-has_value-own (Own c ∷ es) b h = has_value-own es b h
-has_value-own (Value c ∷ es) b h = refl
+has_value-own es b h = has_value-append es (Own b ∷ []) ∙ or_left (has_value es) false h
 
 are_own-push : (es : List Entry) (bs : List Batch) (b : Batch) → are_own es bs ≡ true → are_own (es ++ Own b ∷ []) (bs ++ b ∷ []) ≡ true
 are_own-push [] [] b h = and_from (same_batch b b) true ((same_batch-Decides b b).1 refl) refl
@@ -50,7 +48,7 @@ renamed_items _ b none = inl (and_from (same_batch b b) true ((same_batch-Decide
 
 opening_bare : (i : Instance) (y : History) (b : Batch) → IsOpening i y b → batches_in y.items ≡ []
 opening_bare i y b o =
-    ap batches_in o.items ∙ batches_in-append o.front (Value (guard i.barrier b) ∷ []) ∙ append-nil (batches_in o.front) ∙ o.others
+    rw (o.items, batches_in-append o.front (Value (guard i.barrier b) ∷ []), append-nil (batches_in o.front)) o.others
 
 module _ (y : History) where
   pub open_current : IsSound y → y.is_open ≡ true → is_empty y.current ≡ false
@@ -93,17 +91,14 @@ module _ (y : History) where
         });
         register = λ _. elim (sound.register f) [
           | inl own ↦ inl (are_own-push y.items y.current b own)
-          | inr others ↦ elim others [
-            | inl none ↦ absurd (true_not_false (ap is_empty (sym none) ∙ some))
-            | inr has ↦ inr (inr (has_value-own y.items b has))
-          ]
+          | inr (inl none) ↦ absurd (true_not_false (ap is_empty (sym none) ∙ some))
+          | inr (inr has) ↦ inr (inr (has_value-own y.items b has))
         ];
       }
 
   pub opening_clean : IsSound y → has_value (joined y.closed) ≡ false → y.is_open ≡ false → y.batches ≡ batches_in (joined y.closed)
   opening_clean sound clean shut = elim sound.history [
-    | inl c ↦ c.batches ∙ ap (λ (v : List Batch). batches_in (joined y.closed) ++ v) (shut_current y sound shut)
-        ∙ append-nil (batches_in (joined y.closed))
+    | inl c ↦ rw (shut_current y sound shut, append-nil (batches_in (joined y.closed))) at c.batches
     | inr m ↦ absurd (true_not_false (sym (marred_has y m) ∙ clean))
   ]
 
@@ -117,37 +112,25 @@ sound_close y sound f some =
       filled = each_append (λ s. is_empty s ≡ false) y.closed (y.items ∷ []) sound.filled (some, tt);
       history = elim (sound.register f) [
         | inl own ↦ inl (record {
-          clean = ap has_value (joined-push y.closed y.items) ∙ has_value-append (joined y.closed) y.items
-              ∙ ap (λ (x : Bool). x || has_value y.items) clean.clean ∙ own_clean y.items y.current own;
-          batches = clean.batches ∙ ap (λ (v : List Batch). batches_in (joined y.closed) ++ v) (sym (own_batches y.items y.current own))
-              ∙ sym (batches_in-append (joined y.closed) y.items) ∙ ap batches_in (sym (joined-push y.closed y.items))
-              ∙ sym (append-nil (batches_in (joined (y.closed ++ y.items ∷ []))));
+          clean = rw (joined-push y.closed y.items, has_value-append (joined y.closed) y.items, clean.clean)
+              (own_clean y.items y.current own);
+          batches = rw (append-nil (batches_in (joined (y.closed ++ y.items ∷ []))), joined-push y.closed y.items)
+              (rw (batches_in-append (joined y.closed) y.items, own_batches y.items y.current own) clean.batches);
         })
-        | inr others ↦ elim others [
-          | inl none ↦ absurd (true_not_false (ap is_empty (sym none) ∙ some))
-          | inr has ↦ inr (record {
-            before = y.closed;
-            last = y.items;
-            rest = y.current;
-            split = refl;
-            clean = clean.clean;
-            marred = has;
-            shut = refl;
-            batches = clean.batches;
-          })
-        ]
+        | inr (inl none) ↦ absurd (true_not_false (ap is_empty (sym none) ∙ some))
+        | inr (inr has) ↦ inr (record {
+          before = y.closed;
+          last = y.items;
+          rest = y.current;
+          split = refl;
+          clean = clean.clean;
+          marred = has;
+          shut = refl;
+          batches = clean.batches;
+        })
       ];
       register = λ e. absurd (true_not_false (sym e));
     }
-
--- `moved` with the variant and the flag as arguments
-abbrev pub moving : Bool → Instance → History → Move → History
-moving flag i y (Commit b) = committed Opt flag y b
-moving flag i y (Foreign d) = moved i y (Foreign d)
-moving flag i y (Placed b) = moved i y (Placed b)
-moving flag i y Reset = moved i y Reset
-moving flag i y Close = moved i y Close
-moving flag i y Power = moved i y Power
 
 module _ (i : Instance) where
   sound_opening : (y : History) (b : Batch) → IsSound y → y.is_open ≡ false → IsOpening i y b
@@ -160,31 +143,29 @@ module _ (i : Instance) where
     register = λ _. renamed_items y.items b (opening_bare i y b o);
   }
 
-  sound_at : (y : History) (flag : Bool) (m : Move) → IsSound y → y.is_open ≡ flag → IsAllowed Opt flag i y m → IsSound (moving flag i y m)
-  sound_at y true (Commit b) sound f may = sound_commit y b sound f may
-  sound_at y false (Commit b) sound f may = sound_opening y b sound f may
-  sound_at y flag (Foreign d) sound f may = sound_items y (y.items ++ Value d ∷ []) sound (λ _. inr (inr (has_value-push y.items d)))
-  sound_at y flag (Placed b) sound f may =
-      sound_items y (y.items ++ Value (guard i.barrier b) ∷ []) sound (λ _. inr (inr (has_value-push y.items (guard i.barrier b))))
-  sound_at y true Close sound f may = sound_close y sound f may
-  sound_at y false Close sound f may = absurd may
-  sound_at y flag _ sound f may = sound_items y [] sound (λ _. inr (inl refl))
+-- the history, where a segment is open or not
+abbrev pub flagged : History → Bool → History
+flagged y flag = record y { is_open = flag }
 
-pub moving_is : (meaning : Meaning) (key barrier : List ℕ) (y : History) (m : Move)
-    → moving y.is_open (opt meaning key barrier) y m ≡ moved (opt meaning key barrier) y m
-moving_is meaning key barrier y (Commit b) = refl
-moving_is meaning key barrier y _ = refl
+module _ (meaning : Meaning) (key barrier : List ℕ) where
+  abbrev I : Instance
+  I = opt meaning key barrier
 
-pub sound_moved : (meaning : Meaning) (key barrier : List ℕ) (y : History) (m : Move) → IsSound y → MayMove (opt meaning key barrier) y m
-    → IsSound (moved (opt meaning key barrier) y m)
-sound_moved meaning key barrier y m sound may =
-    subst IsSound (moving_is meaning key barrier y m) (sound_at (opt meaning key barrier) y y.is_open m sound refl may)
+  sound_at : (y : History) (flag : Bool) (m : Move) → IsSound (flagged y flag) → MayMove I (flagged y flag) m
+      → IsSound (moved I (flagged y flag) m)
+  sound_at y true (Commit b) sound may = sound_commit (flagged y true) b sound refl may
+  sound_at y false (Commit b) sound may = sound_opening I (flagged y false) b sound refl may
+  sound_at y flag (Foreign d) sound may =
+      sound_items (flagged y flag) (y.items ++ Value d ∷ []) sound (λ _. inr (inr (has_value-push y.items d)))
+  sound_at y flag (Placed b) sound may =
+      let v = guard barrier b in
+      sound_items (flagged y flag) (y.items ++ Value v ∷ []) sound (λ _. inr (inr (has_value-push y.items v)))
+  sound_at y true Close sound may = sound_close (flagged y true) sound refl may
+  sound_at y false Close sound may = absurd may
+  sound_at y flag _ sound may = sound_items (flagged y flag) [] sound (λ _. inr (inl refl))
 
-register_renamed : (barrier : List ℕ) (items front : List Entry) (b : Batch) → items ≡ front ++ Value (guard barrier b) ∷ []
-    → register_of (values_of barrier (renamed items b)) ≡ register_of (values_of barrier items)
-register_renamed barrier items front b e =
-    ap (λ (v : List Entry). register_of (values_of barrier (renamed v b))) e
-    ∙ ap register_of (values_renamed barrier front b) ∙ ap (λ (v : List Entry). register_of (values_of barrier v)) (sym e)
+  pub sound_moved : (y : History) (m : Move) → IsSound y → MayMove I y m → IsSound (moved I y m)
+  sound_moved y m = sound_at y y.is_open m
 
 pub basic_digests : (meaning : Meaning) (key : List ℕ) (y : History) (m : Move) → MayMove (basic meaning key) y m
     → digests_of (basic meaning key) (moved (basic meaning key) y m) ≡ made (basic meaning key) (digests_of (basic meaning key) y) m
@@ -199,15 +180,14 @@ module _ (meaning : Meaning) (key barrier : List ℕ) (y : History) where
   abbrev before : Digests
   before = digests_of (opt meaning key barrier) y
 
-  -- a commit in Opt, by whether a segment is open
+  -- a commit, by whether a segment is open
   commit_digests : (b : Batch) (flag : Bool) → IsAllowed Opt flag (opt meaning key barrier) y (Commit b)
       → digests_of (opt meaning key barrier) (committed Opt flag y b) ≡ committing Opt flag (opt meaning key barrier) before b
   commit_digests b true may = λ j. record before { register = register_more barrier y.items (Own b) j; count = total-push y.batches b j }
-  commit_digests b false may = λ j. record before {
-    flag = true;
-    register = register_renamed barrier y.items may.front b may.items j;
-    count = total-push y.batches b j;
-  }
+  commit_digests b false may =
+      let items : register_of (values_of barrier (renamed y.items b)) ≡ register_of (values_of barrier y.items) =
+      rw may.items (ap register_of (values_renamed barrier may.front b)) in
+      λ j. record before { flag = true; register = items j; count = total-push y.batches b j }
 
   close_digest : anchor_of meaning.id (map (values_of barrier) (y.closed ++ y.items ∷ []))
       ≡ anchored_of (anchor_of meaning.id (map (values_of barrier) y.closed)) (register_of (values_of barrier y.items))
@@ -250,32 +230,27 @@ outside_less others true closed items h =
     (subst (λ (v : List (List ℕ)). AllByRecursion (Contains others) v) (values_in-append (joined closed) items) h))
 outside_less others false closed items h = h
 
-outside_at : (i : Instance) (others : List (List ℕ)) (y : History) (flag : Bool) (m : Move) → y.is_open ≡ flag
-    → OutsideAt others flag y.closed y.items → IsAllowed Opt flag i y m → Brings Opt flag others y m → IsOutside others (moving flag i y m)
-outside_at i others y flag (Foreign d) f h may b =
-    subst (λ (x : Bool). OutsideAt others x y.closed (y.items ++ Value d ∷ [])) (sym f)
-    (outside_more others flag y.closed y.items (Value d) h (λ _. (b, tt)))
-outside_at i others y true (Commit b) f h may k =
-    subst (λ (x : Bool). OutsideAt others x y.closed (y.items ++ Own b ∷ [])) (sym f)
-    (outside_more others true y.closed y.items (Own b) h (λ _. tt))
-outside_at i others y false (Commit b) f h may k =
-    subst (λ (v : List (List ℕ)). AllByRecursion (Contains others) v) (sym (values_in-append (joined y.closed) (renamed y.items b)))
-    (each_append (Contains others) (values_in (joined y.closed)) (values_in (renamed y.items b))
-    (subst (λ (v : List Entry). AllByRecursion (Contains others) (values_in v)) (append-nil (joined y.closed)) h) k)
-outside_at i others y false (Placed b) f h may k =
-    subst (λ (x : Bool). OutsideAt others x y.closed (y.items ++ Value (guard i.barrier b) ∷ [])) (sym f) h
-outside_at i others y false Reset f h may k = subst (λ (x : Bool). OutsideAt others x y.closed []) (sym f) h
-outside_at i others y true Close f h may k =
-    subst (λ (v : List Entry). AllByRecursion (Contains others) (values_in v))
-    (sym (joined-push y.closed y.items) ∙ sym (append-nil (joined (y.closed ++ y.items ∷ [])))) h
-outside_at i others y flag Power f h may k =
-    subst (λ (x : Bool). OutsideAt others x y.closed []) (sym f) (outside_less others flag y.closed y.items h)
-outside_at i others y _ _ f h may k = absurd may
+module _ (meaning : Meaning) (key barrier : List ℕ) (others : List (List ℕ)) where
+  outside_at : (y : History) (flag : Bool) (m : Move) → IsOutside others (flagged y flag)
+      → MayMove (opt meaning key barrier) (flagged y flag) m → Brings Opt flag others y m
+      → IsOutside others (moved (opt meaning key barrier) (flagged y flag) m)
+  outside_at y flag (Foreign d) h may b = outside_more others flag y.closed y.items (Value d) h (λ _. (b, tt))
+  outside_at y true (Commit b) h may k = outside_more others true y.closed y.items (Own b) h (λ _. tt)
+  outside_at y false (Commit b) h may k =
+      subst (λ (v : List (List ℕ)). AllByRecursion (Contains others) v) (sym (values_in-append (joined y.closed) (renamed y.items b)))
+      (each_append (Contains others) (values_in (joined y.closed)) (values_in (renamed y.items b))
+      (subst (λ (v : List Entry). AllByRecursion (Contains others) (values_in v)) (append-nil (joined y.closed)) h) k)
+  outside_at y true Close h may k =
+      subst (λ (v : List Entry). AllByRecursion (Contains others) (values_in v))
+      (sym (joined-push y.closed y.items) ∙ sym (append-nil (joined (y.closed ++ y.items ∷ [])))) h
+  outside_at y flag Power h may k = outside_less others flag y.closed y.items h
+  outside_at y false (Placed b) h may k = h
+  outside_at y false Reset h may k = h
+  outside_at y _ _ h may k = absurd may
 
-pub outside_moved : (meaning : Meaning) (key barrier : List ℕ) (others : List (List ℕ)) (y : History) (m : Move) → IsOutside others y
-    → MayMove (opt meaning key barrier) y m → Brings Opt y.is_open others y m → IsOutside others (moved (opt meaning key barrier) y m)
-outside_moved meaning key barrier others y m h may b =
-    subst (IsOutside others) (moving_is meaning key barrier y m) (outside_at (opt meaning key barrier) others y y.is_open m refl h may b)
+  pub outside_moved : (y : History) (m : Move) → IsOutside others y → MayMove (opt meaning key barrier) y m
+      → Brings Opt y.is_open others y m → IsOutside others (moved (opt meaning key barrier) y m)
+  outside_moved y m = outside_at y y.is_open m
 
 pub basic_whole : (meaning : Meaning) (key : List ℕ) (y : History) (b : Batch)
     → with_batch Basic y b ≡ moved_by (basic meaning key) y (commit_moves Basic y.is_open b)

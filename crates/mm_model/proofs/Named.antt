@@ -3,17 +3,19 @@ use Rattle.mm_model.proofs.Below.{ℕ, ◌≡◌, ◌≤◌, Bool, true, false, 
 use Rattle.mm_model.proofs.Below.{arith, append_assoc, length-append, append-nil, append_cancel_right, Basic, Opt, Batch, Meaning, Place}
 use Rattle.mm_model.proofs.Below.{InBasic, InOpt, Content, guard, Instance, basic, opt, Entry, Own, Value, History, Move, Commit, Foreign}
 use Rattle.mm_model.proofs.Below.{Placed, Close, joined, moved, renamed, has_value, IsSound, IsClean, batches_in, AtAnchor}
-use Rattle.mm_model.proofs.Below.{InClosed, IsPoint, at_anchor, in_closed, in_current, IsPlaceOf, Names, issued, issued_place, IsAllowed}
+use Rattle.mm_model.proofs.Below.{InClosed, InCurrent, IsPoint, at_anchor, in_closed, in_current, IsPlaceOf, Names, issued, issued_place, IsAllowed}
 use Rattle.mm_model.proofs.Below.{MayMove, joined-append, length-batches_in}
 use Rattle.mm_model.proofs.Below.{anchor_after}
-use Rattle.mm_model.proofs.Paths.{current_clean, live_clean, shut_current}
-use Rattle.mm_model.proofs.Moves.{moving, moving_is, open_current, opening_clean}
+use Rattle.mm_model.proofs.Paths.{clean_size, current_clean, live_clean, shut_current}
+use Rattle.mm_model.proofs.Moves.{flagged, open_current, opening_clean}
 
--- a place at an anchor or in a closed segment, in a history with these closed segments and perhaps more
+-- a place in a history with these closed segments and perhaps more, where a place in the open one is a place there
 module _ (i : Instance) (key : List ℕ) (y z : History) (more : List (List Entry)) (longer : z.closed ≡ y.closed ++ more)
     (named : List Batch) (a e : List ℕ) where
-  anchor_kept : AtAnchor i y named a e → IsPoint (record i { key = key }) z named a e
-  anchor_kept p = at_anchor (record {
+  point_grown : ((p : InClosed i y named a e) → (length p.taken ≤ length p.segment) ⊎ ((p.later ++ more ≡ []) × (z.current ≡ [])))
+      → (InCurrent i y named a e → IsPoint (record i { key = key }) z named a e) → IsPoint i y named a e
+      → IsPoint (record i { key = key }) z named a e
+  point_grown within inner (at_anchor p) = at_anchor (record {
     before = p.before;
     later = p.later ++ more;
     split = longer ∙ ap (λ (v : List (List Entry)). v ++ more) p.split ∙ append_assoc p.before p.later more;
@@ -22,10 +24,7 @@ module _ (i : Instance) (key : List ℕ) (y z : History) (more : List (List Entr
     anchor_is = p.anchor_is;
     extension_is = p.extension_is;
   })
-
-  closed_kept : (p : InClosed i y named a e) → (length p.taken ≤ length p.segment) ⊎ ((p.later ++ more ≡ []) × (z.current ≡ []))
-      → IsPoint (record i { key = key }) z named a e
-  closed_kept p within = in_closed (record {
+  point_grown within inner (in_closed p) = in_closed (record {
     before = p.before;
     segment = p.segment;
     later = p.later ++ more;
@@ -35,33 +34,32 @@ module _ (i : Instance) (key : List ℕ) (y z : History) (more : List (List Entr
     named_is = p.named_is;
     counted = p.counted;
     begun = p.begun;
-    within = within;
+    within = within p;
     anchor_is = p.anchor_is;
     extension_is = p.extension_is;
   })
+  point_grown within inner (in_current p) = inner p
 
 -- a place in a history with the same closed segments, whose open one has perhaps more batches
 point_more : (i : Instance) (key : List ℕ) (y z : History) (more : List Batch) → z.closed ≡ y.closed → z.current ≡ y.current ++ more
     → z.batches ≡ y.batches ++ more → (named : List Batch) (a e : List ℕ)
     → ((p : InClosed i y named a e) → (length p.taken ≤ length p.segment) ⊎ ((p.later ≡ []) × (z.current ≡ []))) → IsPoint i y named a e
     → IsPoint (record i { key = key }) z named a e
-point_more i key y z more closed current batches named a e within (at_anchor p) =
-    anchor_kept i key y z [] (closed ∙ sym (append-nil y.closed)) named a e p
-point_more i key y z more closed current batches named a e within (in_closed p) =
-    closed_kept i key y z [] (closed ∙ sym (append-nil y.closed)) named a e p
-    (elim (within p) [ inl inside ↦ inl inside | inr last ↦ inr (append-nil p.later ∙ last.0, last.1) ])
-point_more i key y z more closed current batches named a e within (in_current p) = in_current (record {
-  done = p.done;
-  taken = p.taken;
-  more = p.more ++ more;
-  split = current ∙ ap (λ (v : List Batch). v ++ more) p.split ∙ append_assoc p.taken p.more more;
-  start = batches ∙ ap (λ (v : List Batch). v ++ more) p.start ∙ append_assoc p.done y.current more
-      ∙ ap (λ (v : List Batch). p.done ++ v) (sym current);
-  named_is = p.named_is;
-  begun = p.begun;
-  anchor_is = p.anchor_is ∙ ap (anchor_after i) (sym closed);
-  extension_is = p.extension_is;
-})
+point_more i key y z more closed current batches named a e within =
+    point_grown i key y z [] (closed ∙ sym (append-nil y.closed)) named a e
+    (λ p. elim (within p) [ inl inside ↦ inl inside | inr last ↦ inr (append-nil p.later ∙ last.0, last.1) ])
+    (λ p. in_current (record {
+      done = p.done;
+      taken = p.taken;
+      more = p.more ++ more;
+      split = current ∙ ap (λ (v : List Batch). v ++ more) p.split ∙ append_assoc p.taken p.more more;
+      start = batches ∙ ap (λ (v : List Batch). v ++ more) p.start ∙ append_assoc p.done y.current more
+          ∙ ap (λ (v : List Batch). p.done ++ v) (sym current);
+      named_is = p.named_is;
+      begun = p.begun;
+      anchor_is = p.anchor_is ∙ ap (anchor_after i) (sym closed);
+      extension_is = p.extension_is;
+    }))
 
 -- neither the key nor the register's items are part of a place
 pub point_kept : (i : Instance) (key : List ℕ) (y : History) (items : List Entry) (named : List Batch) (a e : List ℕ)
@@ -74,84 +72,52 @@ pub point_items : (i : Instance) (y : History) (items : List Entry) (named : Lis
     → IsPoint i (record y { items = items }) named a e
 point_items i y items named a e p = point_kept i i.key y items named a e p
 
--- in a clean history a place in a closed segment ends within it
-ends_within : (i : Instance) (y : History) (named rest : List Batch) (a e : List ℕ) → IsClean y → y.batches ≡ named ++ rest
-    → (p : InClosed i y named a e) → length p.taken ≤ length p.segment
-ends_within i y named rest a e clean first p = elim p.within [
-  | inl within ↦ within
-  | inr last ↦
-      let whole : joined y.closed ≡ joined p.before ++ (p.segment ++ joined p.later) =
-      ap joined p.split ∙ joined-append p.before (p.segment ∷ p.later) in
-      let none : length (joined p.later) ≡ 0 = ap (λ (v : List (List Entry)). length (joined v)) last.0 in
-      let sizes = ap length whole in
-      let parts = length-append (joined p.before) (p.segment ++ joined p.later) in
-      let inner = length-append p.segment (joined p.later) in
-      let count = length-batches_in (joined y.closed) clean.clean in let all = ap length clean.batches in
-      let cut = length-append (batches_in (joined y.closed)) y.current in
-      let nothing : length y.current ≡ 0 = ap length last.1 in let names = ap length p.named_is in
-      let split = length-append p.done p.taken in let rests = ap length first in
-      let ends = length-append named rest in
-      omega (arith, sizes, parts, inner, count, all, cut, nothing, names, split, rests, ends, none, p.counted)
-]
+module _ (i : Instance) (y : History) (named rest : List Batch) (a e : List ℕ) (clean : IsClean y) (first : y.batches ≡ named ++ rest) where
+  -- in a clean history a place in a closed segment ends within it
+  ends_within : (p : InClosed i y named a e) → length p.taken ≤ length p.segment
+  ends_within p = elim p.within [
+    | inl within ↦ within
+    | inr last ↦
+        let none : length (joined p.later) ≡ 0 = ap (λ (v : List (List Entry)). length (joined v)) last.0 in
+        let nothing : length y.current ≡ 0 = ap length last.1 in
+        let size = clean_size y clean p.before p.segment p.later p.split in let all = ap length first in
+        let names = ap length p.named_is in let taken = length-append p.done p.taken in
+        omega (arith, size, all, names, taken, p.counted, none, nothing, length-append named rest)
+  ]
 
--- a batch more in the open segment, or a new one
-point_commit : (i : Instance) (y : History) (current : List Batch) (is_open : Bool) (items : List Entry) (b : Batch)
-    (named rest : List Batch) (a e : List ℕ) → IsClean y → y.batches ≡ named ++ rest → current ≡ y.current ++ b ∷ [] → IsPoint i y named a e
-    → IsPoint i (record y { batches = y.batches ++ b ∷ []; current = current; is_open = is_open; items = items }) named a e
-point_commit i y current is_open items b named rest a e clean first grown p =
-    let z : History = record y { batches = y.batches ++ b ∷ []; current = current; is_open = is_open; items = items } in
-    point_more i i.key y z (b ∷ []) refl grown refl named a e (λ q. inl (ends_within i y named rest a e clean first q)) p
+  -- a batch more in the open segment, or a new one
+  point_commit : (current : List Batch) (is_open : Bool) (items : List Entry) (b : Batch) → current ≡ y.current ++ b ∷ []
+      → IsPoint i y named a e
+      → IsPoint i (record y { batches = y.batches ++ b ∷ []; current = current; is_open = is_open; items = items }) named a e
+  point_commit current is_open items b grown =
+      point_more i i.key y (record y { batches = y.batches ++ b ∷ []; current = current; is_open = is_open; items = items }) (b ∷ [])
+      refl grown refl named a e (λ p. inl (ends_within p))
 
--- the open segment becomes the last closed one
-point_close : (i : Instance) (y : History) (named rest : List Batch) (a e : List ℕ) → IsClean y → y.batches ≡ named ++ rest
-    → IsPoint i y named a e → IsPoint i (record y { closed = y.closed ++ y.items ∷ []; current = []; is_open = false }) named a e
-point_close i y named rest a e clean first (at_anchor p) =
-    let z : History = record y { closed = y.closed ++ y.items ∷ []; current = []; is_open = false } in
-    anchor_kept i i.key y z (y.items ∷ []) refl named a e p
-point_close i y named rest a e clean first (in_closed p) =
-    let z : History = record y { closed = y.closed ++ y.items ∷ []; current = []; is_open = false } in
-    closed_kept i i.key y z (y.items ∷ []) refl named a e p (inl (ends_within i y named rest a e clean first p))
-point_close i y named rest a e clean first (in_current p) = in_closed (record {
-  before = y.closed;
-  segment = y.items;
-  later = [];
-  done = p.done;
-  taken = p.taken;
-  split = refl;
-  named_is = p.named_is;
-  counted = ap length (append_cancel_right p.done (batches_in (joined y.closed)) y.current (sym p.start ∙ clean.batches))
-      ∙ length-batches_in (joined y.closed) clean.clean;
-  begun = p.begun;
-  within = inr (refl, refl);
-  anchor_is = p.anchor_is;
-  extension_is = p.extension_is;
-})
-
-point_at : (i : Instance) (y : History) (flag : Bool) (m : Move) (named rest : List Batch) (a e : List ℕ) → IsSound y → y.is_open ≡ flag
-    → IsAllowed Opt flag i y m → y.batches ≡ named ++ rest → IsPoint i y named a e → IsPoint i (moving flag i y m) named a e
-point_at i y true (Commit b) named rest a e sound f may first p =
-    point_commit i y (y.current ++ b ∷ []) y.is_open (y.items ++ Own b ∷ []) b named rest a e
-    (current_clean y sound (open_current y sound f)) first refl p
-point_at i y false (Commit b) named rest a e sound f may first p =
-    point_commit i y (b ∷ []) true (renamed y.items b) b named rest a e (live_clean y sound may.clean) first
-    (ap (λ (v : List Batch). v ++ b ∷ []) (sym (shut_current y sound f))) p
-point_at i y flag (Foreign d) named rest a e sound f may first p = point_items i y (y.items ++ Value d ∷ []) named a e p
-point_at i y flag (Placed b) named rest a e sound f may first p = point_items i y (y.items ++ Value (guard i.barrier b) ∷ []) named a e p
-point_at i y true Close named rest a e sound f may first p =
-    point_close i y named rest a e (current_clean y sound (open_current y sound f)) first p
-point_at i y false Close named rest a e sound f may first p = absurd may
-point_at i y flag _ named rest a e sound f may first p = point_items i y [] named a e p
+  -- the open segment becomes the last closed one
+  point_close : IsPoint i y named a e
+      → IsPoint i (record y { closed = y.closed ++ y.items ∷ []; current = []; is_open = false }) named a e
+  point_close =
+      point_grown i i.key y (record y { closed = y.closed ++ y.items ∷ []; current = []; is_open = false }) (y.items ∷ []) refl named a e
+      (λ p. inl (ends_within p)) (λ p. in_closed (record {
+        before = y.closed;
+        segment = y.items;
+        later = [];
+        done = p.done;
+        taken = p.taken;
+        split = refl;
+        named_is = p.named_is;
+        counted = ap length (append_cancel_right p.done (batches_in (joined y.closed)) y.current (sym p.start ∙ clean.batches))
+            ∙ length-batches_in (joined y.closed) clean.clean;
+        begun = p.begun;
+        within = inr (refl, refl);
+        anchor_is = p.anchor_is;
+        extension_is = p.extension_is;
+      }))
 
 -- which batches a move adds
 added : Move → List Batch
 added (Commit b) = b ∷ []
 added _ = []
-
-batches_at : (i : Instance) (y : History) (flag : Bool) (m : Move) → (moving flag i y m).batches ≡ y.batches ++ added m
-unfolding added
-batches_at i y true (Commit b) = refl
-batches_at i y false (Commit b) = refl
-batches_at i y flag _ = sym (append-nil y.batches)
 
 issued_point : (i : Instance) (y : History) (flag : Bool) → IsSound y → has_value (joined y.closed) ≡ false → y.is_open ≡ flag
     → IsPlaceOf Opt i y y.batches (issued_place Opt flag i y)
@@ -180,27 +146,63 @@ issued_point i y false sound clean f =
       extension_is = refl;
     })
 
+module _ (meaning : Meaning) (key barrier : List ℕ) where
+  abbrev I : Instance
+  I = opt meaning key barrier
+
+  -- by whether a segment is open
+  point_at : (y : History) (flag : Bool) (m : Move) (named rest : List Batch) (a e : List ℕ) → IsSound (flagged y flag)
+      → MayMove I (flagged y flag) m → y.batches ≡ named ++ rest → IsPoint I (flagged y flag) named a e
+      → IsPoint I (moved I (flagged y flag) m) named a e
+  point_at y true (Commit b) named rest a e sound may first p =
+      let z = flagged y true in
+      point_commit I z named rest a e (current_clean z sound (open_current z sound refl)) first (y.current ++ b ∷ []) true
+      (y.items ++ Own b ∷ []) b refl p
+  point_at y false (Commit b) named rest a e sound may first p =
+      let z = flagged y false in
+      point_commit I z named rest a e (live_clean z sound may.clean) first (b ∷ []) true (renamed y.items b) b
+      (ap (λ (v : List Batch). v ++ b ∷ []) (sym (shut_current z sound refl))) p
+  point_at y flag (Foreign d) named rest a e sound may first p = point_items I (flagged y flag) (y.items ++ Value d ∷ []) named a e p
+  point_at y flag (Placed b) named rest a e sound may first p =
+      point_items I (flagged y flag) (y.items ++ Value (guard barrier b) ∷ []) named a e p
+  point_at y true Close named rest a e sound may first p =
+      let z = flagged y true in point_close I z named rest a e (current_clean z sound (open_current z sound refl)) first p
+  point_at y false Close named rest a e sound may first p = absurd may
+  point_at y flag _ named rest a e sound may first p = point_items I (flagged y flag) [] named a e p
+
+  place_at : (y : History) (m : Move) (named rest : List Batch) (place : Place) → IsSound y → MayMove I y m → y.batches ≡ named ++ rest
+      → IsPlaceOf Opt I y named place → IsPlaceOf Opt I (moved I y m) named place
+  place_at y m named rest (InBasic s) sound may first p = absurd p
+  place_at y m named rest (InOpt a e) sound may first p = point_at y y.is_open m named rest a.bytes e.bytes sound may first p
+
+  opt_batches : (y : History) (flag : Bool) (m : Move) → (moved I (flagged y flag) m).batches ≡ y.batches ++ added m
+  unfolding added
+  opt_batches y true (Commit b) = refl
+  opt_batches y false (Commit b) = refl
+  opt_batches y flag _ = sym (append-nil y.batches)
+
+  pub opt_names : (y : History) (m : Move) (offered : Content) → IsSound y → MayMove I y m → Names I y offered
+      → Names I (moved I y m) offered
+  opt_names y m offered sound may n = record {
+    named = n.named;
+    rest = n.rest ++ added m;
+    first = opt_batches y y.is_open m ∙ ap (λ (v : List Batch). v ++ added m) n.first ∙ append_assoc n.named n.rest (added m);
+    position = n.position;
+    state = n.state;
+    place = place_at y m n.named n.rest offered.place sound may n.first n.place;
+  }
+
+  pub opt_issued : (y : History) → IsSound y → has_value (joined y.closed) ≡ false → Names I y (issued I y)
+  opt_issued y sound clean = record {
+    named = y.batches;
+    rest = [];
+    first = sym (append-nil y.batches);
+    position = refl;
+    state = refl;
+    place = issued_point I y y.is_open sound clean refl;
+  }
+
 module _ (meaning : Meaning) (key : List ℕ) where
-  place_at : (barrier : List ℕ) (y : History) (m : Move) (named rest : List Batch) (place : Place) → IsSound y
-      → MayMove (opt meaning key barrier) y m → y.batches ≡ named ++ rest → IsPlaceOf Opt (opt meaning key barrier) y named place
-      → IsPlaceOf Opt (opt meaning key barrier) (moving y.is_open (opt meaning key barrier) y m) named place
-  place_at barrier y m named rest (InBasic s) sound may first p = absurd p
-  place_at barrier y m named rest (InOpt a e) sound may first p =
-      point_at (opt meaning key barrier) y y.is_open m named rest a.bytes e.bytes sound refl may first p
-
-  pub opt_names : (barrier : List ℕ) (y : History) (m : Move) (offered : Content) → IsSound y → MayMove (opt meaning key barrier) y m
-      → Names (opt meaning key barrier) y offered → Names (opt meaning key barrier) (moved (opt meaning key barrier) y m) offered
-  opt_names barrier y m offered sound may n =
-      let i = opt meaning key barrier in
-      subst (λ (z : History). Names i z offered) (moving_is meaning key barrier y m) (record {
-        named = n.named;
-        rest = n.rest ++ added m;
-        first = batches_at i y y.is_open m ∙ ap (λ (v : List Batch). v ++ added m) n.first ∙ append_assoc n.named n.rest (added m);
-        position = n.position;
-        state = n.state;
-        place = place_at barrier y m n.named n.rest offered.place sound may n.first n.place;
-      })
-
   basic_place : (y z : History) (named : List Batch) (place : Place) → IsPlaceOf Basic (basic meaning key) y named place
       → IsPlaceOf Basic (basic meaning key) z named place
   basic_place y z named (InBasic s) p = p
@@ -224,14 +226,3 @@ module _ (meaning : Meaning) (key : List ℕ) where
 
   pub basic_issued : (y : History) → Names (basic meaning key) y (issued (basic meaning key) y)
   basic_issued y = record { named = y.batches; rest = []; first = sym (append-nil y.batches); position = refl; state = refl; place = refl }
-
-  pub opt_issued : (barrier : List ℕ) (y : History) → IsSound y → has_value (joined y.closed) ≡ false
-      → Names (opt meaning key barrier) y (issued (opt meaning key barrier) y)
-  opt_issued barrier y sound clean = record {
-    named = y.batches;
-    rest = [];
-    first = sym (append-nil y.batches);
-    position = refl;
-    state = refl;
-    place = issued_point (opt meaning key barrier) y y.is_open sound clean refl;
-  }

@@ -1,12 +1,13 @@
 -- Opt: a place of a sound history as a path, some first closed segments and some batches after them.
-use Rattle.mm_model.proofs.Below.{ℕ, zero, suc, ◌≡◌, ◌-◌, ◌≤◌, Bool, true, false, ◌||◌, List, [], ◌∷◌, ◌++◌, length, map, take, drop, refl}
+use Rattle.mm_model.proofs.Below.{ℕ, ◌≡◌, ◌+◌, ◌-◌, ◌≤◌, Bool, true, false, ◌||◌, List, [], ◌∷◌, ◌++◌, length, map, take, drop, refl}
 use Rattle.mm_model.proofs.Below.{sym, ap, ◌∙◌, subst, ◌⊎◌, inl, inr, arith, append_assoc, length-append, append-nil, append_cancel_right}
 use Rattle.mm_model.proofs.Below.{length-map, length-drop, drop-append-le, or_parts, AllByRecursion, zero_bytes, extended_message, Batch}
 use Rattle.mm_model.proofs.Below.{guard, register_of, own_values, Instance, Entry, History, joined, value_of, values_of, is_empty}
 use Rattle.mm_model.proofs.Below.{has_value, AtAnchor, InClosed, InCurrent, IsPoint, at_anchor, in_closed, in_current, anchor_after, Within}
 use Rattle.mm_model.proofs.Below.{register_trail, closed_runs, runs_of, IsSound, IsClean, IsMarred, batches_in, each_left, each_right}
-use Rattle.mm_model.proofs.Below.{trail_front, same_halves, joined-append, joined-push, true_not_false, nothing_left, Reaches, reads_zero}
+use Rattle.mm_model.proofs.Below.{trail_front, same_halves, joined-append, joined-push, true_not_false, nil_from_length, Reaches, reads_zero}
 use Rattle.mm_model.proofs.Below.{own_values-append, has_value-append, batches_in-append, length-batches_in, values_of-clean, sooner}
+use Rattle.std.proofs.Math.Seq.{take-append-add}
 
 -- the batches begin with those of these segments, which hold no value that stands for none
 pub record Begins (y : History) (before : List (List Entry)) : Type 0 where
@@ -33,9 +34,8 @@ module _ (y : History) where
       record {
         clean = tests.0;
         tail = batches_in (joined between) ++ rest;
-        is = batches ∙ ap (λ (v : List Entry). batches_in v ++ rest) all
-            ∙ ap (λ (v : List Batch). v ++ rest) (batches_in-append (joined before) (joined between))
-            ∙ append_assoc (batches_in (joined before)) (batches_in (joined between)) rest;
+        is = rw (batches, all, batches_in-append (joined before) (joined between))
+            (append_assoc (batches_in (joined before)) (batches_in (joined between)) rest);
       }
 
   pub begins_clean : (before later : List (List Entry)) → IsClean y → y.closed ≡ before ++ later → Begins y before
@@ -49,8 +49,7 @@ module _ (y : History) where
   -- a marred history's closed segments hold a value that stands for no batch
   pub marred_has : IsMarred y → has_value (joined y.closed) ≡ true
   marred_has h =
-      ap (λ (v : List (List Entry)). has_value (joined v)) h.split ∙ ap has_value (joined-push h.before h.last)
-      ∙ has_value-append (joined h.before) h.last ∙ ap (λ (b : Bool). b || has_value h.last) h.clean ∙ h.marred
+      rw (h.split, joined-push h.before h.last, has_value-append (joined h.before) h.last, h.clean) h.marred
 
   pub live_clean : IsSound y → has_value (joined y.closed) ≡ false → IsClean y
   live_clean sound clean = elim sound.history [ inl h ↦ h | inr h ↦ absurd (true_not_false (sym (marred_has h) ∙ clean)) ]
@@ -80,8 +79,7 @@ flat_is : (barrier : List ℕ) (y : History) (before : List (List Entry)) (done 
     → done ≡ batches_in (joined before) → named ≡ done ++ taken → values_of barrier (joined before)
     ++ own_values barrier taken ≡ own_values barrier named
 flat_is barrier y before done taken named h d n =
-    ap (λ (v : List (List ℕ)). v ++ own_values barrier taken) (values_of-clean barrier (joined before) h.clean ∙ ap (own_values barrier)
-    (sym d)) ∙ sym (own_values-append barrier done taken) ∙ ap (own_values barrier) (sym n)
+    rw (values_of-clean barrier (joined before) h.clean, n, own_values-append barrier done taken, d) refl
 
 pub record Path (i : Instance) (y : History) (named : List Batch) (a e : List ℕ) (all : List (List ℕ)) : Type 0 where
   pub before : List (List Entry)
@@ -102,28 +100,11 @@ pub listed_front : (barrier : List ℕ) (all : List (List ℕ)) (taken more : Li
     → RunsListed barrier all taken
 listed_front barrier all taken more w =
     trail_front extended_message zero_bytes (own_values barrier taken) (own_values barrier more) all
-    (subst (λ (v : List (List ℕ)). Within (register_trail v) all) (own_values-append barrier taken more) w)
+    (rw (own_values-append barrier taken more) at w)
 
 reaches_none : (flag : Bool) (later : List (List (List ℕ))) → Reaches flag later 0
 reaches_none flag [] = tt
 reaches_none flag (s ∷ ss) = inl (omega arith)
-
-path_at_anchor : (i : Instance) (y : History) (named rest : List Batch) (a e : List ℕ) (all : List (List ℕ)) → IsSound y
-    → y.batches ≡ named ++ rest → AtAnchor i y named a e → Path i y named a e all
-path_at_anchor i y named rest a e all sound first p =
-    let h = begins y p.before p.later sound p.split (inl p.clean) in
-    let d = done_is y p.before named rest h first p.counted in
-    record {
-      before = p.before;
-      later = p.later;
-      taken = [];
-      split = p.split;
-      anchor_is = p.anchor_is;
-      extension_is = p.extension_is ∙ sym reads_zero;
-      flat = flat_is i.barrier y p.before named [] named h d (sym (append-nil named));
-      reaches = reaches_none y.is_open (map (values_of i.barrier) p.later);
-      listed = tt;
-    }
 
 -- what a current segment tells: the history is clean
 pub current_clean : (y : History) → IsSound y → is_empty y.current ≡ false → IsClean y
@@ -133,63 +114,47 @@ pub begun_longer : (taken more : List Batch) → is_empty taken ≡ false → is
 begun_longer [] more b = absurd (true_not_false b)
 begun_longer (x ∷ xs) more b = refl
 
-path_in_current : (i : Instance) (y : History) (named rest : List Batch) (a e : List ℕ) (all : List (List ℕ)) → IsSound y
-    → AllByRecursion (RunsListed i.barrier all) (runs_of y) → InCurrent i y named a e → Path i y named a e all
-path_in_current i y named rest a e all sound runs p =
-    let some : is_empty y.current ≡ false = ap is_empty p.split ∙ begun_longer p.taken p.more p.begun in
-    let clean = current_clean y sound some in
-    let h = begins_clean y y.closed [] clean (sym (append-nil y.closed)) in
-    let d : p.done ≡ batches_in (joined y.closed) =
-    append_cancel_right p.done (batches_in (joined y.closed)) y.current (sym p.start ∙ clean.batches) in
-    let run = (each_right (RunsListed i.barrier all) (closed_runs y.closed (take (length y.batches - length y.current) y.batches))
-    (y.current ∷ []) runs).0 in
-    record {
-      before = y.closed;
-      later = [];
-      taken = p.taken;
-      split = sym (append-nil y.closed);
-      anchor_is = p.anchor_is;
-      extension_is = p.extension_is;
-      flat = flat_is i.barrier y y.closed p.done p.taken named h d p.named_is;
-      reaches = tt;
-      listed = listed_front i.barrier all p.taken p.more (subst (RunsListed i.barrier all) p.split run);
-    }
-
 -- the batches of a closed segment, by the segments after it and the batches from its start on
 abbrev run_at : List Entry → List (List Entry) → List Batch → List Batch
 run_at segment [] more = more
 run_at segment (next ∷ later) more = take (length segment) more
+
+-- the batches of each segment, closed or open
+pub runs_parts : (P : List Batch → Type 0) (y : History) → AllByRecursion P (runs_of y)
+    → AllByRecursion P (closed_runs y.closed (take (length y.batches - length y.current) y.batches)) × P y.current
+runs_parts P y runs =
+    let closed = closed_runs y.closed (take (length y.batches - length y.current) y.batches) in
+    (each_left P closed (y.current ∷ []) runs, (each_right P closed (y.current ∷ []) runs).0)
 
 run_first : (P : List Batch → Type 0) (segment : List Entry) (later : List (List Entry)) (bs more : List Batch) → bs ≡ more
     → AllByRecursion P (closed_runs (segment ∷ later) bs) → P (run_at segment later more)
 run_first P segment [] bs more e h = subst P e h.0
 run_first P segment (next ∷ later) bs more e h = subst (λ (v : List Batch). P (take (length segment) v)) e h.0
 
+-- the segments behind a first one
+runs_behind : (P : List Batch → Type 0) (s : List Entry) (before : List (List Entry)) (segment : List Entry)
+    (later : List (List Entry)) (bs : List Batch) → AllByRecursion P (closed_runs (s ∷ (before ++ segment ∷ later)) bs)
+    → AllByRecursion P (closed_runs (before ++ segment ∷ later) (drop (length s) bs))
+runs_behind P s [] segment later bs h = h.1
+runs_behind P s (t ∷ before) segment later bs h = h.1
+
 run_holds : (P : List Batch → Type 0) (before : List (List Entry)) (segment : List Entry) (later : List (List Entry))
     (bs done more : List Batch) → bs ≡ done ++ more → length done ≡ length (joined before)
     → AllByRecursion P (closed_runs (before ++ segment ∷ later) bs) → P (run_at segment later more)
 run_holds P [] segment later bs done more e l h =
-    run_first P segment later bs more (e ∙ ap (λ (v : List Batch). v ++ more) (nothing_left done l)) h
-run_holds P (s ∷ []) segment later bs done more e l h =
-    let whole = length-append s [] in let fits : length s ≤ length done = omega (arith, l, whole) in
+    run_first P segment later bs more (e ∙ ap (λ (v : List Batch). v ++ more) (nil_from_length done l)) h
+run_holds P (s ∷ before) segment later bs done more e l h =
+    let whole = length-append s (joined before) in let fits : length s ≤ length done = omega (arith, l, whole) in
     let dropped = length-drop (length s) done in
     let cut : drop (length s) bs ≡ drop (length s) done ++ more = ap (drop (length s)) e ∙ drop-append-le (length s) done more fits in
-    run_holds P [] segment later (drop (length s) bs) (drop (length s) done) more cut (omega (arith, l, whole, dropped)) h.1
-run_holds P (s ∷ t ∷ before) segment later bs done more e l h =
-    let whole = length-append s (joined (t ∷ before)) in let fits : length s ≤ length done = omega (arith, l, whole) in
-    let dropped = length-drop (length s) done in
-    let cut : drop (length s) bs ≡ drop (length s) done ++ more = ap (drop (length s)) e ∙ drop-append-le (length s) done more fits in
-    run_holds P (t ∷ before) segment later (drop (length s) bs) (drop (length s) done) more cut (omega (arith, l, whole, dropped)) h.1
+    run_holds P before segment later (drop (length s) bs) (drop (length s) done) more cut (omega (arith, l, whole, dropped))
+    (runs_behind P s before segment later bs h)
 
 -- taking at least the first part of a joined list takes it whole
-record TakesWhole (n : ℕ) (xs ys : List Batch) : Type 0 where
-  more : List Batch
-  is : take n (xs ++ ys) ≡ xs ++ more
-
-takes_whole : (n : ℕ) (xs ys : List Batch) → length xs ≤ n → TakesWhole n xs ys
-takes_whole n [] ys l = record { more = take n ys; is = refl }
-takes_whole zero (x ∷ xs) ys l = absurd (omega (arith, l))
-takes_whole (suc n) (x ∷ xs) ys l = let h = takes_whole n xs ys (omega (arith, l)) in record { more = h.more; is = ap (λ v. x ∷ v) h.is }
+takes_whole : (n : ℕ) (xs ys : List Batch) → length xs ≤ n → take n (xs ++ ys) ≡ xs ++ take (n - length xs) ys
+takes_whole n xs ys l =
+    let e : n ≡ length xs + (n - length xs) = omega (arith, l) in
+    ap (λ (k : ℕ). take k (xs ++ ys)) e ∙ take-append-add xs ys (n - length xs)
 
 run_listed : (barrier : List ℕ) (all : List (List ℕ)) (segment : List Entry) (later : List (List Entry)) (taken more : List Batch)
     → (length taken ≤ length segment) ⊎ (later ≡ []) → RunsListed barrier all (run_at segment later (taken ++ more))
@@ -197,8 +162,8 @@ run_listed : (barrier : List ℕ) (all : List (List ℕ)) (segment : List Entry)
 run_listed barrier all segment [] taken more fits w = listed_front barrier all taken more w
 run_listed barrier all segment (next ∷ later) taken more fits w = elim fits [
   | inl within ↦
-      let t = takes_whole (length segment) taken more within in
-      listed_front barrier all taken t.more (subst (RunsListed barrier all) t.is w)
+      listed_front barrier all taken (take (length segment - length taken) more)
+      (subst (RunsListed barrier all) (takes_whole (length segment) taken more within) w)
   | inr none ↦ absurd (true_not_false (sym (ap is_empty none)))
 ]
 
@@ -209,65 +174,92 @@ module _ (y : History) where
       let nothing : length y.current ≡ 0 = ap length none in
       omega (arith, whole, parts, nothing)
 
--- a path into a closed segment ends before the open one
-ends_before_current : (i : Instance) (y : History) (named rest : List Batch) (a e : List ℕ) → IsSound y → y.batches ≡ named ++ rest
-    → (p : InClosed i y named a e) → length named ≤ length y.batches - length y.current
-ends_before_current i y named rest a e sound first p = elim sound.history [
-  | inr h ↦ none_longer y named rest first (shut_current y sound h.shut)
-  | inl h ↦ elim p.within [
-    | inr last ↦ none_longer y named rest first last.1
-    | inl within ↦
-        let whole : joined y.closed ≡ joined p.before ++ (p.segment ++ joined p.later) =
-        ap joined p.split ∙ joined-append p.before (p.segment ∷ p.later) in
-        let sizes = ap length whole in
-        let parts = length-append (joined p.before) (p.segment ++ joined p.later) in
-        let inner = length-append p.segment (joined p.later) in
-        let count = length-batches_in (joined y.closed) h.clean in let all = ap length h.batches in
-        let cut = length-append (batches_in (joined y.closed)) y.current in let names = ap length p.named_is in
-        let split = length-append p.done p.taken in
-        omega (arith, sizes, parts, inner, count, all, cut, names, split, within, p.counted)
+  -- how many batches there are, by the closed segments before one, that one and those behind it
+  pub clean_size : IsClean y → (before : List (List Entry)) (segment : List Entry) (later : List (List Entry))
+      → y.closed ≡ before ++ segment ∷ later → length y.batches ≡ length (joined before) + (length segment + length (joined later))
+      + length y.current
+  clean_size h before segment later split =
+      let all = ap length h.batches in let cut = length-append (batches_in (joined y.closed)) y.current in
+      let count = length-batches_in (joined y.closed) h.clean in let inner = length-append segment (joined later) in
+      let sizes = ap length (ap joined split ∙ joined-append before (segment ∷ later)) in
+      omega (arith, all, cut, count, inner, sizes, length-append (joined before) (segment ++ joined later))
+
+module _ (i : Instance) (y : History) (named rest : List Batch) (a e : List ℕ) (sound : IsSound y) (first : y.batches ≡ named ++ rest) where
+  -- a path into a closed segment ends before the open one
+  ends_before_current : (p : InClosed i y named a e) → length named ≤ length y.batches - length y.current
+  ends_before_current p = elim sound.history [
+    | inr h ↦ none_longer y named rest first (shut_current y sound h.shut)
+    | inl h ↦ elim p.within [
+      | inr last ↦ none_longer y named rest first last.1
+      | inl within ↦
+          let size = clean_size y h p.before p.segment p.later p.split in let named_is = ap length p.named_is in
+          omega (arith, size, p.counted, within, named_is, length-append p.done p.taken)
+    ]
   ]
-]
 
-reaches_closed : (i : Instance) (y : History) (named : List Batch) (a e : List ℕ) → IsSound y → (p : InClosed i y named a e)
-    → Reaches y.is_open (map (values_of i.barrier) (p.segment ∷ p.later)) (length (own_values i.barrier p.taken))
-reaches_closed i y named a e sound p = elim p.within [
-  | inl within ↦
-      let taken = length-map p.taken (guard i.barrier) in let segment = length-map p.segment (value_of i.barrier) in
-      inl (omega (arith, within, taken, segment))
-  | inr last ↦ inr (ap (map (values_of i.barrier)) last.0, sound.shut_is (ap is_empty last.1))
-]
+  reaches_closed : (p : InClosed i y named a e)
+      → Reaches y.is_open (map (values_of i.barrier) (p.segment ∷ p.later)) (length (own_values i.barrier p.taken))
+  reaches_closed p = elim p.within [
+    | inl within ↦
+        let taken = length-map p.taken (guard i.barrier) in let segment = length-map p.segment (value_of i.barrier) in
+        inl (omega (arith, within, taken, segment))
+    | inr last ↦ inr (ap (map (values_of i.barrier)) last.0, sound.shut_is (ap is_empty last.1))
+  ]
 
-path_in_closed : (i : Instance) (y : History) (named rest : List Batch) (a e : List ℕ) (all : List (List ℕ)) → IsSound y
-    → y.batches ≡ named ++ rest → AllByRecursion (RunsListed i.barrier all) (runs_of y) → InClosed i y named a e → Path i y named a e all
-path_in_closed i y named rest a e all sound first runs p =
-    let h = begins y p.before (p.segment ∷ p.later) sound p.split (inr refl) in
-    let first' : y.batches ≡ p.done ++ (p.taken ++ rest) =
-    first ∙ ap (λ (v : List Batch). v ++ rest) p.named_is ∙ append_assoc p.done p.taken rest in
-    let d = done_is y p.before p.done (p.taken ++ rest) h first' p.counted in
-    let k = length y.batches - length y.current in
-    let t = takes_whole k named rest (ends_before_current i y named rest a e sound first p) in
-    let bs : take k y.batches ≡ p.done ++ (p.taken ++ t.more) =
-    ap (take k) first ∙ t.is ∙ ap (λ (v : List Batch). v ++ t.more) p.named_is ∙ append_assoc p.done p.taken t.more in
-    let closed = each_left (RunsListed i.barrier all) (closed_runs y.closed (take k y.batches)) (y.current ∷ []) runs in
-    let run = run_holds (RunsListed i.barrier all) p.before p.segment p.later (take k y.batches) p.done (p.taken ++ t.more) bs p.counted
-    (subst (λ (v : List (List Entry)). AllByRecursion (RunsListed i.barrier all) (closed_runs v (take k y.batches))) p.split closed) in
-    let fits : (length p.taken ≤ length p.segment) ⊎ (p.later ≡ []) = elim p.within [ inl within ↦ inl within | inr last ↦ inr last.0 ] in
-    record {
-      before = p.before;
-      later = p.segment ∷ p.later;
-      taken = p.taken;
-      split = p.split;
-      anchor_is = p.anchor_is;
-      extension_is = p.extension_is;
-      flat = flat_is i.barrier y p.before p.done p.taken named h d p.named_is;
-      reaches = reaches_closed i y named a e sound p;
-      listed = run_listed i.barrier all p.segment p.later p.taken t.more fits run;
-    }
-
--- each place of a sound history is a path
-pub path_of : (i : Instance) (y : History) (named rest : List Batch) (a e : List ℕ) (all : List (List ℕ)) → IsSound y
-    → y.batches ≡ named ++ rest → AllByRecursion (RunsListed i.barrier all) (runs_of y) → IsPoint i y named a e → Path i y named a e all
-path_of i y named rest a e all sound first runs (at_anchor p) = path_at_anchor i y named rest a e all sound first p
-path_of i y named rest a e all sound first runs (in_closed p) = path_in_closed i y named rest a e all sound first runs p
-path_of i y named rest a e all sound first runs (in_current p) = path_in_current i y named rest a e all sound runs p
+  -- each place of a sound history is a path
+  pub path_of : (all : List (List ℕ)) → AllByRecursion (RunsListed i.barrier all) (runs_of y) → IsPoint i y named a e
+      → Path i y named a e all
+  path_of all runs (at_anchor p) =
+      let h = begins y p.before p.later sound p.split (inl p.clean) in
+      record {
+        before = p.before;
+        later = p.later;
+        taken = [];
+        split = p.split;
+        anchor_is = p.anchor_is;
+        extension_is = p.extension_is ∙ sym reads_zero;
+        flat = flat_is i.barrier y p.before named [] named h (done_is y p.before named rest h first p.counted) (sym (append-nil named));
+        reaches = reaches_none y.is_open (map (values_of i.barrier) p.later);
+        listed = tt;
+      }
+  path_of all runs (in_current p) =
+      let clean = current_clean y sound (ap is_empty p.split ∙ begun_longer p.taken p.more p.begun) in
+      let h = begins_clean y y.closed [] clean (sym (append-nil y.closed)) in
+      let d = append_cancel_right p.done (batches_in (joined y.closed)) y.current (sym p.start ∙ clean.batches) in
+      record {
+        before = y.closed;
+        later = [];
+        taken = p.taken;
+        split = sym (append-nil y.closed);
+        anchor_is = p.anchor_is;
+        extension_is = p.extension_is;
+        flat = flat_is i.barrier y y.closed p.done p.taken named h d p.named_is;
+        reaches = tt;
+        listed = listed_front i.barrier all p.taken p.more
+            (rw p.split at (runs_parts (RunsListed i.barrier all) y runs).1);
+      }
+  path_of all runs (in_closed p) =
+      let R = RunsListed i.barrier all in
+      let h = begins y p.before (p.segment ∷ p.later) sound p.split (inr refl) in
+      let first' : y.batches ≡ p.done ++ (p.taken ++ rest) =
+      first ∙ ap (λ (v : List Batch). v ++ rest) p.named_is ∙ append_assoc p.done p.taken rest in
+      let d = done_is y p.before p.done (p.taken ++ rest) h first' p.counted in
+      let k = length y.batches - length y.current in
+      let more = take (k - length named) rest in
+      let bs : take k y.batches ≡ p.done ++ (p.taken ++ more) =
+      ap (take k) first ∙ takes_whole k named rest (ends_before_current p)
+      ∙ ap (λ (v : List Batch). v ++ more) p.named_is ∙ append_assoc p.done p.taken more in
+      let run = run_holds R p.before p.segment p.later (take k y.batches) p.done (p.taken ++ more) bs p.counted
+      (rw p.split at (runs_parts R y runs).0) in
+      let fits : (length p.taken ≤ length p.segment) ⊎ (p.later ≡ []) = elim p.within [ inl within ↦ inl within | inr last ↦ inr last.0 ] in
+      record {
+        before = p.before;
+        later = p.segment ∷ p.later;
+        taken = p.taken;
+        split = p.split;
+        anchor_is = p.anchor_is;
+        extension_is = p.extension_is;
+        flat = flat_is i.barrier y p.before p.done p.taken named h d p.named_is;
+        reaches = reaches_closed p;
+        listed = run_listed i.barrier all p.segment p.later p.taken more fits run;
+      }

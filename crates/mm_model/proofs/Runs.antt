@@ -13,13 +13,7 @@ pub IsRun-push : (meaning : Meaning) (requests items : List (List ℕ)) (request
     → IsRun meaning requests state output → seen ≡ state → next ≡ meaning.next seen request → said ≡ meaning.says seen request
     → asked ≡ request → items ≡ requests ++ asked ∷ [] → IsRun meaning items next said
 IsRun-push meaning requests items request asked state seen output next said run s n o a i =
-    let at : seen ≡ state_after meaning requests = s ∙ run.state_is in
-    let grown : items ≡ requests ++ request ∷ [] = i ∙ ap (λ (r : List ℕ). requests ++ r ∷ []) a in
     record {
-      state_is =
-          n ∙ ap (λ (v : List ℕ). meaning.next v request) at ∙ sym (state_after-push meaning requests request)
-          ∙ ap (state_after meaning) (sym grown);
-      output_is =
-          o ∙ ap (λ (v : List ℕ). meaning.says v request) at ∙ sym (said_after-push meaning requests request)
-          ∙ ap (said_after meaning) (sym grown);
+      state_is = rw (n, s, run.state_is, i, a) (sym (state_after-push meaning requests request));
+      output_is = rw (o, s, run.state_is, i, a) (sym (said_after-push meaning requests request));
     }

@@ -1,7 +1,7 @@
 -- Basic: the verdict by digests is the verdict on the history.
 use Rattle.std.specs.Prelude.{nat_eq}
 use Rattle.std.proofs.Common.{◌≡◌, ◌+◌, ◌&&◌, ◌++◌, refl, sym, ap, ◌∙◌, subst, ℕ, Bool, true, false, List, [], ◌∷◌}
-use Rattle.std.proofs.lemmas.Slice.Eq.{bytes_eq-Decides}
+use Rattle.std.proofs.lemmas.Bool.Decides.{same_from_decides}
 use Rattle.std.specs.List.{Contains}
 use Rattle.std.specs.Str.{bytes_eq}
 use Rattle.mm_model.specs.Below.{zero_bytes, start_message, start_of, Basic, Content, Place, InBasic, InOpt, Batch, size_of, Meaning}
@@ -14,8 +14,8 @@ use Rattle.mm_model.specs.Judge.{is_last, judged, judge, verdict_by, basic_verdi
 use Rattle.mm_model.specs.Places.{IsPlaceOf, Names}
 use Rattle.mm_model.specs.Messages.{Within, IsClear, IsClearFor}
 use Rattle.mm_model.specs.ChainLaws.{trail_front, trail_push}
-use Rattle.mm_model.specs.DigestLaws.{same_summaries, summary-push}
-use Rattle.mm_model.specs.BatchLaws.{same_tests, at_the_end, before_the_last}
+use Rattle.mm_model.specs.DigestLaws.{bytes_decide, same_summaries, summary-push}
+use Rattle.mm_model.specs.BatchLaws.{at_the_end, before_the_last}
 
 pub verdicts : (x y : Bool) → verdict_by false x y ≡ judged Live x y
 verdicts false true = refl
@@ -28,10 +28,9 @@ module _ (id : ℕ) where
       → bytes_eq (summary_of id named) (summary_of id batches) ≡ nat_eq (total_of named) (total_of batches)
   basic_here batches named rest all clear starts listed e =
       let wn : Within (trail link_message (start_of Basic id) named) all = trail_front link_message (start_of Basic id) named rest all
-      (subst (λ (v : List Batch). Within (trail link_message (start_of Basic id) v) all) e listed) in
-      same_tests _ _ (λ h. (at_the_end batches named rest e).1 (same_summaries id all clear starts named batches wn listed
-      ((bytes_eq-Decides (summary_of id named) (summary_of id batches)).0 h))) (λ h. (bytes_eq-Decides (summary_of id named)
-      (summary_of id batches)).1 (ap (summary_of id) ((at_the_end batches named rest e).0 h)))
+      (rw e at listed) in
+      same_from_decides _ _ (bytes_decide _ _ (same_summaries id all clear starts named batches wn listed) (ap (summary_of id)))
+      (at_the_end batches named rest e)
 
   -- the verdict by digests on the summary of the first batches
   basic_at : (batches named rest : List Batch) (b : Batch) (all : List (List ℕ)) → IsClear all → Contains all (start_message Basic id)
@@ -42,28 +41,23 @@ module _ (id : ℕ) where
   basic_at batches named rest b all clear starts listed called e =
       let t = trail link_message (start_of Basic id) in
       let wn : Within (trail link_message (start_of Basic id) named) all = trail_front link_message (start_of Basic id) named rest all
-      (subst (λ (v : List Batch). Within (trail link_message (start_of Basic id) v) all) e listed) in
+      (rw e at listed) in
       let wb : Within (trail link_message (start_of Basic id) (named ++ b ∷ [])) all =
       trail_push link_message (start_of Basic id) named b all wn called in
       let here = basic_here batches named rest all clear starts listed e in
       let again : bytes_eq (link (summary_of id named) b) (summary_of id batches) ≡ (nat_eq (total_of named + size_of b) (total_of batches)
-      && is_last batches b) = same_tests _ _ (λ h. (before_the_last batches named rest b e).1 (same_summaries id all clear starts
-      (named ++ b ∷ []) batches wb listed (summary-push id named b ∙ (bytes_eq-Decides (link (summary_of id named) b)
-      (summary_of id batches)).0 h))) (λ h. (bytes_eq-Decides (link (summary_of id named) b) (summary_of id batches)).1
-      (sym (summary-push id named b) ∙ ap (summary_of id) ((before_the_last batches named rest b e).0 h))) in
-      ap (λ (x : Bool). verdict_by false x (bytes_eq (link (summary_of id named) b) (summary_of id batches))) here
-      ∙ ap (λ (x : Bool). verdict_by false (nat_eq (total_of named) (total_of batches)) x) again
-      ∙ verdicts (nat_eq (total_of named) (total_of batches)) (nat_eq (total_of named + size_of b) (total_of batches) && is_last batches b)
+      && is_last batches b) = same_from_decides _ _ (bytes_decide _ _ (λ h. same_summaries id all clear starts (named ++ b ∷ []) batches wb
+      listed (summary-push id named b ∙ h)) (λ h. sym (summary-push id named b) ∙ ap (summary_of id) h))
+      (before_the_last batches named rest b e) in
+      rw (here, again) (verdicts (nat_eq (total_of named) (total_of batches)) (nat_eq (total_of named + size_of b) (total_of batches)
+      && is_last batches b))
 
 basic_on : (meaning : Meaning) (key register : List ℕ) (y : History) (named rest : List Batch) (place : Place) (b : Batch)
     (all : List (List ℕ)) → IsClearFor all (basic meaning key) y place b → y.batches ≡ named ++ rest
     → IsPlaceOf Basic (basic meaning key) y named place
     → verdict_by_digests zero_bytes false (summary_of meaning.id y.batches) register place b ≡ judge Basic y (total_of named) b
 basic_on meaning key register y named rest (InBasic s) b all clear e is =
-    let call : Contains all (link_message s.bytes b) = clear.call.0 in
-    let call' = subst (λ (v : List ℕ). Contains all (link_message v b)) is call in
-    ap (λ (v : List ℕ). basic_verdict (summary_of meaning.id y.batches) v b) is
-    ∙ basic_at meaning.id y.batches named rest b all clear.clear clear.history.0 clear.history.1 call' e
+    rw is (basic_at meaning.id y.batches named rest b all clear.clear clear.history.0 clear.history.1 (rw is at clear.call.0) e)
 basic_on meaning key register y named rest (InOpt a x) b all clear e is = absurd is
 
 pub basic_is_judged : (meaning : Meaning) (key register : List ℕ) (y : History) (offered : Content) (b : Batch) (all : List (List ℕ))

@@ -7,18 +7,18 @@ use Rattle.mm_model.specs.Chains.{after, trail, link, link_message, closing_mess
 use Rattle.mm_model.specs.Messages.{Within, IsClear}
 use Rattle.mm_model.specs.ListLaws.{ends, by_last, each_left, each_right, each_append}
 
-pub after-append : {A : Type 0} (f : List ℕ → A → List ℕ) (s : List ℕ) (xs ys : List A) → after f s (xs ++ ys) ≡ after f (after f s xs) ys
-after-append f s [] ys = refl
-after-append f s (x ∷ xs) ys = after-append f (sha256 (f s x)) xs ys
+module _ {A : Type 0} (f : List ℕ → A → List ℕ) where
+  pub after-append : (s : List ℕ) (xs ys : List A) → after f s (xs ++ ys) ≡ after f (after f s xs) ys
+  after-append s [] ys = refl
+  after-append s (x ∷ xs) ys = after-append (sha256 (f s x)) xs ys
 
-pub trail-append : {A : Type 0} (f : List ℕ → A → List ℕ) (s : List ℕ) (xs ys : List A)
-    → trail f s (xs ++ ys) ≡ trail f s xs ++ trail f (after f s xs) ys
-trail-append f s [] ys = refl
-trail-append f s (x ∷ xs) ys = ap (λ v. f s x ∷ v) (trail-append f (sha256 (f s x)) xs ys)
+  pub trail-append : (s : List ℕ) (xs ys : List A) → trail f s (xs ++ ys) ≡ trail f s xs ++ trail f (after f s xs) ys
+  trail-append s [] ys = refl
+  trail-append s (x ∷ xs) ys = ap (λ v. f s x ∷ v) (trail-append (sha256 (f s x)) xs ys)
 
-pub length-after : {A : Type 0} (f : List ℕ → A → List ℕ) (s : List ℕ) (xs : List A) → length s ≡ 32 → length (after f s xs) ≡ 32
-length-after f s [] h = h
-length-after f s (x ∷ xs) h = length-after f (sha256 (f s x)) xs (length-sha256 (f s x))
+  pub length-after : (s : List ℕ) (xs : List A) → length s ≡ 32 → length (after f s xs) ≡ 32
+  length-after s [] h = h
+  length-after s (x ∷ xs) h = length-after (sha256 (f s x)) xs (length-sha256 (f s x))
 
 pub length-link : (s : List ℕ) (b : Batch) → length (link s b) ≡ 32
 unfolding link
@@ -43,72 +43,63 @@ pub record Telling {A : Type 0} (f : List ℕ → A → List ℕ) (start : List 
   pub leaves : (s : List ℕ) (x : A) → Contains all (f s x) → sha256 (f s x) ≢ start
   pub tells : (s t : List ℕ) (x y : A) → length s ≡ 32 → length t ≡ 32 → Fine x → Fine y → f s x ≡ f t y → (s ≡ t) × (x ≡ y)
 
-pub after-push : {A : Type 0} (f : List ℕ → A → List ℕ) (s : List ℕ) (xs : List A) (x : A)
-    → after f s (xs ++ x ∷ []) ≡ sha256 (f (after f s xs) x)
-after-push f s xs x = after-append f s xs (x ∷ [])
+module _ {A : Type 0} (f : List ℕ → A → List ℕ) (s : List ℕ) where
+  pub after-push : (xs : List A) (x : A) → after f s (xs ++ x ∷ []) ≡ sha256 (f (after f s xs) x)
+  after-push xs x = after-append f s xs (x ∷ [])
 
--- the messages of a chain that grew by one item: those before, and the last
-pub trail_front : {A : Type 0} (f : List ℕ → A → List ℕ) (s : List ℕ) (xs ys : List A) (all : List (List ℕ))
-    → Within (trail f s (xs ++ ys)) all → Within (trail f s xs) all
-trail_front f s xs ys all w =
-    each_left (Contains all) (trail f s xs) (trail f (after f s xs) ys)
-    (subst (λ (v : List (List ℕ)). Within v all) (trail-append f s xs ys) w)
+  -- the messages of a chain that grew by one item: those before, and the last
+  pub trail_front : (xs ys : List A) (all : List (List ℕ)) → Within (trail f s (xs ++ ys)) all → Within (trail f s xs) all
+  trail_front xs ys all w = each_left (Contains all) (trail f s xs) (trail f (after f s xs) ys) (rw (trail-append f s xs ys) at w)
 
-pub trail_last : {A : Type 0} (f : List ℕ → A → List ℕ) (s : List ℕ) (xs : List A) (x : A) (all : List (List ℕ))
-    → Within (trail f s (xs ++ x ∷ [])) all → Contains all (f (after f s xs) x)
-trail_last f s xs x all w =
-    (each_right (Contains all) (trail f s xs) (trail f (after f s xs) (x ∷ []))
-    (subst (λ (v : List (List ℕ)). Within v all) (trail-append f s xs (x ∷ [])) w)).0
+  pub trail_last : (xs : List A) (x : A) (all : List (List ℕ)) → Within (trail f s (xs ++ x ∷ [])) all → Contains all (f (after f s xs) x)
+  trail_last xs x all w =
+      (each_right (Contains all) (trail f s xs) (trail f (after f s xs) (x ∷ [])) (rw (trail-append f s xs (x ∷ [])) at w)).0
 
-pub trail_push : {A : Type 0} (f : List ℕ → A → List ℕ) (s : List ℕ) (xs : List A) (x : A) (all : List (List ℕ)) → Within (trail f s xs) all
-    → Contains all (f (after f s xs) x) → Within (trail f s (xs ++ x ∷ [])) all
-trail_push f s xs x all w c =
-    subst (λ (v : List (List ℕ)). Within v all) (sym (trail-append f s xs (x ∷ [])))
-    (each_append (Contains all) (trail f s xs) (trail f (after f s xs) (x ∷ [])) w (c, tt))
+  pub trail_push : (xs : List A) (x : A) (all : List (List ℕ)) → Within (trail f s xs) all → Contains all (f (after f s xs) x)
+      → Within (trail f s (xs ++ x ∷ [])) all
+  trail_push xs x all w c =
+      rw (trail-append f s xs (x ∷ [])) (each_append (Contains all) (trail f s xs) (trail f (after f s xs) (x ∷ [])) w (c, tt))
 
-abbrev pub SameFrom : {A : Type 0} (f : List ℕ → A → List ℕ) (start : List ℕ) (Fine : A → Type 0) (all : List (List ℕ)) → List A → Type 0
-SameFrom {A} f start Fine all xs =
-    (ys : List A) → AllByRecursion Fine xs → AllByRecursion Fine ys → Within (trail f start xs) all → Within (trail f start ys) all
-    → after f start xs ≡ after f start ys → xs ≡ ys
+module _ {A : Type 0} (f : List ℕ → A → List ℕ) (start : List ℕ) (Fine : A → Type 0) (all : List (List ℕ)) where
+  abbrev pub SameFrom : List A → Type 0
+  SameFrom xs =
+      (ys : List A) → AllByRecursion Fine xs → AllByRecursion Fine ys → Within (trail f start xs) all → Within (trail f start ys) all
+      → after f start xs ≡ after f start ys → xs ≡ ys
 
--- a chain that took a step doesn't end at its start
-pub never_back : {A : Type 0} (f : List ℕ → A → List ℕ) (start : List ℕ) (Fine : A → Type 0) (all : List (List ℕ))
-    → Telling f start Fine all → (xs : List A) (x : A) → Within (trail f start (xs ++ x ∷ [])) all → after f start (xs ++ x ∷ []) ≢ start
-never_back f start Fine all telling xs x w e =
-    telling.leaves (after f start xs) x (trail_last f start xs x all w) (sym (after-push f start xs x) ∙ e)
+  -- a chain that took a step doesn't end at its start
+  pub never_back : Telling f start Fine all → (xs : List A) (x : A) → Within (trail f start (xs ++ x ∷ [])) all
+      → after f start (xs ++ x ∷ []) ≢ start
+  never_back telling xs x w e =
+      telling.leaves (after f start xs) x (trail_last f start xs x all w) (sym (after-push f start xs x) ∙ e)
 
-same_none : {A : Type 0} (f : List ℕ → A → List ℕ) (start : List ℕ) (Fine : A → Type 0) (all : List (List ℕ)) → Telling f start Fine all
-    → SameFrom f start Fine all []
-same_none f start Fine all telling ys fx fy wx wy e = elim (ends ys) [
-  | inl none ↦ sym none
-  | inr h ↦
-      absurd (never_back f start Fine all telling h.front h.last (subst (λ (v : List _). Within (trail f start v) all) h.is wy)
-      (sym (e ∙ ap (after f start) h.is)))
-]
+  same_none : Telling f start Fine all → SameFrom []
+  same_none telling ys fx fy wx wy e = elim (ends ys) [
+    | inl none ↦ sym none
+    | inr h ↦
+        absurd (never_back telling h.front h.last (subst (λ (v : List _). Within (trail f start v) all) h.is wy)
+        (sym (e ∙ ap (after f start) h.is)))
+  ]
 
-same_more : {A : Type 0} (f : List ℕ → A → List ℕ) (start : List ℕ) (Fine : A → Type 0) (all : List (List ℕ)) → Telling f start Fine all
-    → IsClear all → (xs : List A) (x : A) → SameFrom f start Fine all xs → SameFrom f start Fine all (xs ++ x ∷ [])
-same_more {A} f start Fine all telling clear xs x same ys fx fy wx wy e = elim (ends ys) [
-  | inl none ↦ absurd (never_back f start Fine all telling xs x wx (e ∙ ap (after f start) none))
-  | inr h ↦
-      let wy' = subst (λ (v : List A). Within (trail f start v) all) h.is wy in
-      let fy' = subst (λ (v : List A). AllByRecursion Fine v) h.is fy in
-      let digests : sha256 (f (after f start xs) x) ≡ sha256 (f (after f start h.front) h.last) =
-      sym (after-push f start xs x) ∙ e ∙ ap (after f start) h.is ∙ after-push f start h.front h.last in
-      let messages = clear.apart (f (after f start xs) x) (f (after f start h.front) h.last)
-      (trail_last f start xs x all wx) (trail_last f start h.front h.last all wy') digests in
-      let parts = telling.tells (after f start xs) (after f start h.front) x h.last
-      (length-after f start xs telling.sized) (length-after f start h.front telling.sized)
-      ((each_right Fine xs (x ∷ []) fx).0) ((each_right Fine h.front (h.last ∷ []) fy').0) messages in
-      let fronts : xs ≡ h.front = same h.front (each_left Fine xs (x ∷ []) fx) (each_left Fine h.front (h.last ∷ []) fy')
-      (trail_front f start xs (x ∷ []) all wx) (trail_front f start h.front (h.last ∷ []) all wy') parts.0 in
-      let lasts : x ≡ h.last = parts.1 in
-      let is : ys ≡ h.front ++ h.last ∷ [] = h.is in
-      cc
-]
+  same_more : Telling f start Fine all → IsClear all → (xs : List A) (x : A) → SameFrom xs → SameFrom (xs ++ x ∷ [])
+  same_more telling clear xs x same ys fx fy wx wy e = elim (ends ys) [
+    | inl none ↦ absurd (never_back telling xs x wx (e ∙ ap (after f start) none))
+    | inr h ↦
+        let wy' = subst (λ (v : List A). Within (trail f start v) all) h.is wy in
+        let fy' = subst (λ (v : List A). AllByRecursion Fine v) h.is fy in
+        let digests : sha256 (f (after f start xs) x) ≡ sha256 (f (after f start h.front) h.last) =
+        sym (after-push f start xs x) ∙ e ∙ ap (after f start) h.is ∙ after-push f start h.front h.last in
+        let messages = clear.apart (f (after f start xs) x) (f (after f start h.front) h.last)
+        (trail_last f start xs x all wx) (trail_last f start h.front h.last all wy') digests in
+        let parts = telling.tells (after f start xs) (after f start h.front) x h.last
+        (length-after f start xs telling.sized) (length-after f start h.front telling.sized)
+        ((each_right Fine xs (x ∷ []) fx).0) ((each_right Fine h.front (h.last ∷ []) fy').0) messages in
+        let fronts : xs ≡ h.front = same h.front (each_left Fine xs (x ∷ []) fx) (each_left Fine h.front (h.last ∷ []) fy')
+        (trail_front f start xs (x ∷ []) all wx) (trail_front f start h.front (h.last ∷ []) all wy') parts.0 in
+        let lasts : x ≡ h.last = parts.1 in
+        let is : ys ≡ h.front ++ h.last ∷ [] = h.is in
+        cc
+  ]
 
--- equal ends, equal lists
-pub same_chains : {A : Type 0} (f : List ℕ → A → List ℕ) (start : List ℕ) (Fine : A → Type 0) (all : List (List ℕ))
-    → Telling f start Fine all → IsClear all → (xs : List A) → SameFrom f start Fine all xs
-same_chains f start Fine all telling clear xs =
-    by_last (SameFrom f start Fine all) (same_none f start Fine all telling) (same_more f start Fine all telling clear) xs
+  -- equal ends, equal lists
+  pub same_chains : Telling f start Fine all → IsClear all → (xs : List A) → SameFrom xs
+  same_chains telling clear xs = by_last SameFrom (same_none telling) (same_more telling clear) xs

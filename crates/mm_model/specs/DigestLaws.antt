@@ -1,7 +1,10 @@
 -- What equal digests tell of lists, where no two listed messages share a digest and none is zero.
 use Rattle.std.proofs.Common.{◌≡◌, ◌≢◌, ◌++◌, length, refl, sym, ap, ◌∙◌, arith, ℕ, List, [], ◌∷◌, map}
 use Rattle.std.proofs.lemmas.List.{append_cancel_left}
+use Rattle.std.proofs.lemmas.Slice.Eq.{bytes_eq-Decides}
+use Rattle.std.specs.Bool.{Decides}
 use Rattle.std.specs.List.{AllByRecursion, Contains, fold}
+use Rattle.std.specs.Str.{bytes_eq}
 use Rattle.mm_model.specs.Below.{sha256, append-injective, length-zero_bytes, length-start_of, zero_bytes, start_message, extended_message}
 use Rattle.mm_model.specs.Below.{Basic, Opt, Batch, One, Many}
 use Rattle.mm_digest.specs.Messages.{start_of, extended_of, anchored_of}
@@ -10,6 +13,10 @@ use Rattle.mm_model.specs.Chains.{after, trail, link_message, guard_message, clo
 use Rattle.mm_model.specs.ChainsWords.{own_values}
 use Rattle.mm_model.specs.Messages.{Within, IsClear, register_trail}
 use Rattle.mm_model.specs.ChainLaws.{Telling, same_chains, after-push}
+
+-- a test of equal bytes, of what tells them and they tell
+pub bytes_decide : {P : Type 0} (a b : List ℕ) → (a ≡ b → P) → (P → a ≡ b) → Decides (bytes_eq a b) P
+bytes_decide a b f g = (λ t. f ((bytes_eq-Decides a b).0 t), λ p. (bytes_eq-Decides a b).1 (g p))
 
 pub heads_of : (a b : ℕ) (xs ys : List ℕ) → a ∷ xs ≡ b ∷ ys → a ≡ b
 heads_of a b xs ys e = cc

@@ -1,7 +1,6 @@
 -- Opt: what the tests of the verdict by digests say of lists of values.
 use Rattle.std.proofs.Common.{◌≡◌, ◌++◌, refl, sym, ap, ◌∙◌, subst, ℕ, Bool, true, false, List, [], ◌∷◌}
 use Rattle.std.proofs.lemmas.Bool.Decides.{Decides-and}
-use Rattle.std.proofs.lemmas.Slice.Eq.{bytes_eq-Decides}
 use Rattle.std.specs.Bool.{Decides}
 use Rattle.std.specs.List.{AllByRecursion, Contains}
 use Rattle.std.specs.Str.{bytes_eq}
@@ -11,7 +10,7 @@ use Rattle.mm_model.specs.Judge.{Point, fits_fresh, fits_again}
 use Rattle.mm_model.specs.Messages.{Within, IsClear, register_trail, form_messages}
 use Rattle.mm_model.specs.ListLaws.{each_append}
 use Rattle.mm_model.specs.ChainLaws.{trail_push}
-use Rattle.mm_model.specs.DigestLaws.{same_registers, same_anchors, register_nonzero, register-push, anchor-push}
+use Rattle.mm_model.specs.DigestLaws.{bytes_decide, same_registers, same_anchors, register_nonzero, register-push, anchor-push}
 use Rattle.mm_model.specs.SegmentLaws.{Fresh, Again}
 
 -- all messages of these segments and of these values after them are listed
@@ -30,12 +29,8 @@ point_of id segments values = record { anchor = anchor_of id segments; extension
 
 pub same_anchor : (id : ℕ) (all : List (List ℕ)) → Clears id all → (ls ks : List (List (List ℕ))) (vs ws : List (List ℕ))
     → Listed id all ls vs → Listed id all ks ws → Decides (bytes_eq (anchor_of id ls) (anchor_of id ks)) (ls ≡ ks)
-same_anchor id all clears ls ks vs ws l k = (
-  λ t. same_anchors id all clears.clear clears.starts ls ks l.inner k.inner l.outer k.outer
-      ((bytes_eq-Decides (anchor_of id ls) (anchor_of id ks)).0 t),
-  λ e. (bytes_eq-Decides (anchor_of id ls) (anchor_of id ks)).1
-      (ap (anchor_of id) e),
-)
+same_anchor id all clears ls ks vs ws l k =
+    bytes_decide _ _ (same_anchors id all clears.clear clears.starts ls ks l.inner k.inner l.outer k.outer) (ap (anchor_of id))
 
 -- what a register reads before every value is zero
 pub reads_zero : register_of [] ≡ zero_bytes
@@ -45,19 +40,11 @@ reads_zero = refl
 module _ (all : List (List ℕ)) where
   pub same_register : IsClear all → (vs ws : List (List ℕ)) → Within (register_trail vs) all → Within (register_trail ws) all
       → Decides (bytes_eq (register_of vs) (register_of ws)) (vs ≡ ws)
-  same_register clear vs ws l k = (
-    λ t. same_registers all clear vs ws l k ((bytes_eq-Decides (register_of vs) (register_of ws)).0 t),
-    λ e.
-        (bytes_eq-Decides (register_of vs) (register_of ws)).1 (ap register_of e),
-  )
+  same_register clear vs ws l k = bytes_decide _ _ (same_registers all clear vs ws l k) (ap register_of)
 
   pub zero_register : IsClear all → (vs : List (List ℕ)) → Within (register_trail vs) all → Decides (bytes_eq (register_of vs) zero_bytes)
       (vs ≡ [])
-  zero_register clear vs l = (
-    λ t. register_nonzero all clear vs l ((bytes_eq-Decides (register_of vs) zero_bytes).0 t),
-    λ e.
-        (bytes_eq-Decides (register_of vs) zero_bytes).1 (ap register_of e ∙ reads_zero),
-  )
+  zero_register clear vs l = bytes_decide _ _ (register_nonzero all clear vs l) (λ e. ap register_of e ∙ reads_zero)
 
 -- the register's messages with one more value
 pub listed_value : (all : List (List ℕ)) (rest : List (List ℕ)) (v : List ℕ) → Within (register_trail rest) all
@@ -95,14 +82,13 @@ module _ (id : ℕ) (all : List (List ℕ)) where
   again_tells clears true closed items v before rest k l m =
       let longer = listed_value all rest v l.last m.0 in
       Decides-and (bytes_eq (anchor_of id before) (anchor_of id closed)) (bytes_eq (extended_of (register_of rest) v) (register_of items))
-      (same_anchor id all clears before closed rest items l k) (subst (λ (d : List ℕ). Decides (bytes_eq d (register_of items))
-      (rest ++ v ∷ [] ≡ items)) (register-push rest v) (same_register all clears.clear (rest ++ v ∷ []) items longer k.last))
+      (same_anchor id all clears before closed rest items l k)
+      (rw (register-push rest v) at (same_register all clears.clear (rest ++ v ∷ []) items longer k.last))
   again_tells clears false closed items v before rest k l m =
       let longer = listed_value all rest v l.last m.0 in
       let called : Contains all (anchored_message (anchor_of id before) (register_of (rest ++ v ∷ []))) =
-      subst (λ (d : List ℕ). Contains all (anchored_message (anchor_of id before) d)) (sym (register-push rest v)) m.1.0 in
+      rw (register-push rest v) m.1.0 in
       let closes = listed_segment before (rest ++ v ∷ []) l.inner l.outer longer called in
       let is : anchor_of id (before ++ (rest ++ v ∷ []) ∷ []) ≡ anchored_of (anchor_of id before) (extended_of (register_of rest) v) =
       anchor-push id before (rest ++ v ∷ []) ∙ ap (anchored_of (anchor_of id before)) (register-push rest v) in
-      subst (λ (d : List ℕ). Decides (bytes_eq d (anchor_of id closed)) (before ++ (rest ++ v ∷ []) ∷ [] ≡ closed)) is
-      (same_anchor id all clears (before ++ (rest ++ v ∷ []) ∷ []) closed [] items closes k)
+      rw is at (same_anchor id all clears (before ++ (rest ++ v ∷ []) ∷ []) closed [] items closes k)

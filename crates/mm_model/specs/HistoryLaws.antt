@@ -44,7 +44,7 @@ module _ (barrier : List ℕ) where
   -- the values of segments, one after another
   pub joined-values : (segments : List (List Entry)) → joined (map (values_of barrier) segments) ≡ values_of barrier (joined segments)
   joined-values [] = refl
-  joined-values (s ∷ ss) = ap (λ v. values_of barrier s ++ v) (joined-values ss) ∙ sym (values_of-append s (joined ss))
+  joined-values (s ∷ ss) = rw (joined-values ss) (sym (values_of-append s (joined ss)))
 
   pub values_of-clean : (es : List Entry) → has_value es ≡ false → values_of barrier es ≡ own_values barrier (batches_in es)
   values_of-clean [] c = refl
@@ -57,8 +57,7 @@ module _ (barrier : List ℕ) where
   values_of-own (Own b ∷ es) [] o = absurd (true_not_false (sym o))
   values_of-own (Own b ∷ es) (c ∷ bs) o =
       let both = and_parts (same_batch b c) (are_own es bs) o in
-      ap (λ x. guard barrier x ∷ values_of barrier es) ((same_batch-Decides b c).0 both.0)
-      ∙ ap (λ v. guard barrier c ∷ v) (values_of-own es bs both.1)
+      rw ((same_batch-Decides b c).0 both.0, values_of-own es bs both.1) refl
   values_of-own (Value d ∷ es) bs o = absurd (true_not_false (sym o))
 
   -- a value that stands for no batch, and a batch with that guard

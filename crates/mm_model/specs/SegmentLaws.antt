@@ -33,10 +33,6 @@ pub not_empty : {A : Type 0} (xs : List A) → is_empty xs ≡ false → 1 ≤ l
 not_empty [] e = absurd (cc)
 not_empty (x ∷ xs) e = omega arith
 
-pub nothing_left : {A : Type 0} (xs : List A) → length xs ≡ 0 → xs ≡ []
-nothing_left [] e = refl
-nothing_left (x ∷ xs) e = absurd (omega (arith, e))
-
 -- segments that are not empty hold nothing only where there is none
 pub no_segments : {A : Type 0} (xs : List (List A)) → AllByRecursion (λ x. is_empty x ≡ false) xs → length (joined xs) ≡ 0 → xs ≡ []
 no_segments [] filled e = refl
@@ -56,16 +52,37 @@ abbrev pub Again : {A : Type 0} → Bool → List (List A) → List A → A → 
 Again true closed items v before rest = (before ≡ closed) × (rest ++ v ∷ [] ≡ items)
 Again false closed items v before rest = before ++ (rest ++ v ∷ []) ∷ [] ≡ closed
 
-pub fresh_joins : {A : Type 0} (flag : Bool) (closed : List (List A)) (items : List A) (before : List (List A)) (rest : List A)
-    → Fresh flag closed items before rest → joined before ++ rest ≡ joined closed ++ taken_in flag items
-fresh_joins flag closed items before rest f = ap (λ v. joined v ++ rest) f.0 ∙ ap (λ v. joined closed ++ v) f.1
+-- the path, or the path once its segment is closed
+abbrev pub FreshSomehow : {A : Type 0} → Bool → List (List A) → List A → List (List A) → List A → Type 0
+FreshSomehow flag closed items before rest =
+    Fresh flag closed items before rest ⊎ (is_empty rest ≡ false) × Fresh flag closed items (before ++ rest ∷ []) []
 
-pub again_joins : {A : Type 0} (flag : Bool) (closed : List (List A)) (items : List A) (v : A) (before : List (List A)) (rest : List A)
+abbrev pub AgainSomehow : {A : Type 0} → Bool → List (List A) → List A → A → List (List A) → List A → Type 0
+AgainSomehow flag closed items v before rest =
+    Again flag closed items v before rest ⊎ (is_empty rest ≡ false) × Again flag closed items v (before ++ rest ∷ []) []
+
+closed_joins : {A : Type 0} (before : List (List A)) (rest : List A) → joined before ++ rest ≡ joined (before ++ rest ∷ []) ++ []
+closed_joins before rest = sym (append-nil (joined (before ++ rest ∷ [])) ∙ joined-push before rest)
+
+again_here : {A : Type 0} (flag : Bool) (closed : List (List A)) (items : List A) (v : A) (before : List (List A)) (rest : List A)
     → Again flag closed items v before rest → (joined before ++ rest) ++ v ∷ [] ≡ joined closed ++ taken_in flag items
-again_joins true closed items v before rest f =
+again_here true closed items v before rest f =
     append_assoc (joined before) rest (v ∷ []) ∙ ap (λ w. joined w ++ (rest ++ v ∷ [])) f.0 ∙ ap (λ w. joined closed ++ w) f.1
-again_joins false closed items v before rest f =
-    append_assoc (joined before) rest (v ∷ []) ∙ sym (joined-push before (rest ++ v ∷ [])) ∙ ap joined f ∙ sym (append-nil (joined closed))
+again_here false closed items v before rest f =
+    append_assoc (joined before) rest (v ∷ []) ∙ closed_joins before (rest ++ v ∷ []) ∙ ap (λ w. joined w ++ []) f
+
+-- all that such a path leads through is all that counts
+module _ {A : Type 0} (flag : Bool) (closed : List (List A)) (items : List A) where
+  pub fresh_joins : (before : List (List A)) (rest : List A) → FreshSomehow flag closed items before rest
+      → joined before ++ rest ≡ joined closed ++ taken_in flag items
+  fresh_joins before rest (inl f) = ap (λ v. joined v ++ rest) f.0 ∙ ap (λ v. joined closed ++ v) f.1
+  fresh_joins before rest (inr g) = closed_joins before rest ∙ ap (λ v. joined v ++ []) g.1.0 ∙ ap (λ v. joined closed ++ v) g.1.1
+
+  pub again_joins : (v : A) (before : List (List A)) (rest : List A) → AgainSomehow flag closed items v before rest
+      → (joined before ++ rest) ++ v ∷ [] ≡ joined closed ++ taken_in flag items
+  again_joins v before rest (inl f) = again_here flag closed items v before rest f
+  again_joins v before rest (inr g) =
+      ap (λ w. w ++ v ∷ []) (closed_joins before rest) ∙ again_here flag closed items v (before ++ rest ∷ []) [] g.1
 
 -- how far a path goes into the segments after it: within the next one, or to its end where it is the last and
 -- nothing is open
@@ -87,8 +104,7 @@ only_one segment later n filled reach e =
 -- By the segments after the path.
 fresh_after : {A : Type 0} (flag : Bool) (before : List (List A)) (items rest : List A) (later : List (List A))
     → AllByRecursion (λ x. is_empty x ≡ false) later → IsHeld flag items → Reaches flag later (length rest)
-    → rest ≡ joined later ++ taken_in flag items → Fresh flag (before ++ later) items before rest ⊎ (is_empty rest ≡ false)
-    × Fresh flag (before ++ later) items (before ++ rest ∷ []) []
+    → rest ≡ joined later ++ taken_in flag items → FreshSomehow flag (before ++ later) items before rest
 fresh_after flag before items rest [] filled held reach e = inl (sym (append-nil before), e)
 fresh_after true before items rest (segment ∷ later) filled held reach e = absurd (
     let l = ap length e in
@@ -100,19 +116,11 @@ fresh_after false before items rest (segment ∷ later) filled held reach e =
     let whole : rest ≡ segment ++ joined later = e ∙ append-nil (segment ++ joined later) in
     let none = only_one segment later (length rest) filled.1 reach (ap length whole ∙ length-append segment (joined later)) in
     let same : rest ≡ segment = whole ∙ ap (λ v. segment ++ joined v) none ∙ append-nil segment in
-    inr (
-      ap is_empty same ∙ filled.0,
-      (
-        ap (λ (v : List _). before ++ v ∷ []) same ∙ ap (λ (v : List (List _)). before ++ segment ∷ v)
-            (sym none),
-        refl,
-      ),
-    )
+    inr (ap is_empty same ∙ filled.0, (rw (same, none) refl, refl))
 
 -- a path that is fresh with one more value
 again_by : {A : Type 0} (flag : Bool) (closed : List (List A)) (items : List A) (v : A) (before : List (List A)) (rest : List A)
-    → IsHeld flag items → Fresh flag closed items before (rest ++ v ∷ []) ⊎ (is_empty (rest ++ v ∷ []) ≡ false)
-    × Fresh flag closed items (before ++ (rest ++ v ∷ []) ∷ []) [] → Again flag closed items v before rest
+    → IsHeld flag items → FreshSomehow flag closed items before (rest ++ v ∷ []) → Again flag closed items v before rest
 again_by true closed items v before rest held (inl f) = f
 again_by true closed items v before rest held (inr g) = absurd (true_not_false (ap is_empty g.1.1 ∙ held))
 again_by false closed items v before rest held (inl f) =
@@ -133,8 +141,7 @@ again_within flag before items v rest later filled held reach e =
 -- from the path once its segment is closed.
 again_after : {A : Type 0} (flag : Bool) (before : List (List A)) (items : List A) (v : A) (rest : List A) (later : List (List A))
     → AllByRecursion (λ x. is_empty x ≡ false) later → IsHeld flag items → Reaches flag later (length rest)
-    → rest ++ v ∷ [] ≡ joined later ++ taken_in flag items → Again flag (before ++ later) items v before rest ⊎ (is_empty rest ≡ false)
-    × Again flag (before ++ later) items v (before ++ rest ∷ []) []
+    → rest ++ v ∷ [] ≡ joined later ++ taken_in flag items → AgainSomehow flag (before ++ later) items v before rest
 again_after flag before items v rest [] filled held reach e = inl (again_within flag before items v rest [] filled held tt e)
 again_after flag before items v rest (segment ∷ later) filled held (inr last) e =
     inl (again_within flag before items v rest (segment ∷ later) filled held (inr last) e)
@@ -148,33 +155,27 @@ again_after {A} flag before items v rest (segment ∷ later) filled held (inl wi
           (e ∙ append_assoc segment (joined later) (taken_in flag items)) in
           let reach = reaches_one flag later filled.1 in
           let then_on = again_within flag (before ++ segment ∷ []) items v [] later filled.1 held reach parts.1 in
-          inr (
-            ap is_empty parts.0 ∙ filled.0,
-            subst (λ (s : List A). Again flag (before ++ segment ∷ later) items v (before ++ s ∷ []) [])
-                (sym parts.0) (subst (λ (c : List (List A)). Again flag c items v (before ++ segment ∷ []) [])
-                (append_assoc before (segment ∷ []) later) then_on),
-          )
+          inr (ap is_empty parts.0 ∙ filled.0, rw parts.0 (rw (append_assoc before (segment ∷ []) later) at then_on))
     ]
 
-pub fresh_from : {A : Type 0} (flag : Bool) (closed before later : List (List A)) (items rest : List A) → closed ≡ before ++ later
-    → AllByRecursion (λ x. is_empty x ≡ false) later → IsHeld flag items → Reaches flag later (length rest)
-    → joined before ++ rest ≡ joined closed ++ taken_in flag items → Fresh flag closed items before rest ⊎ (is_empty rest ≡ false)
-    × Fresh flag closed items (before ++ rest ∷ []) []
-fresh_from {A} flag closed before later items rest split filled held reach e =
-    let tails : rest ≡ joined later ++ taken_in flag items = append_cancel_left (joined before) rest (joined later ++ taken_in flag items)
-    (e ∙ ap (λ (v : List (List A)). joined v ++ taken_in flag items) split ∙ ap (λ (v : List A). v ++ taken_in flag items)
-    (joined-append before later) ∙ append_assoc (joined before) (joined later) (taken_in flag items)) in
-    subst (λ (c : List (List A)). Fresh flag c items before rest ⊎ (is_empty rest ≡ false) × Fresh flag c items (before ++ rest ∷ []) [])
-    (sym split) (fresh_after flag before items rest later filled held reach tails)
+-- what counts behind the segments before the path
+behind : {A : Type 0} (before later closed : List (List A)) (rest more : List A) → closed ≡ before ++ later
+    → joined before ++ rest ≡ joined closed ++ more → rest ≡ joined later ++ more
+behind before later closed rest more split e = append_cancel_left (joined before) rest (joined later ++ more)
+    (e ∙ ap (λ v. v ++ more) (ap joined split ∙ joined-append before later) ∙ append_assoc (joined before) (joined later) more)
 
-pub again_from : {A : Type 0} (flag : Bool) (closed before later : List (List A)) (items : List A) (v : A) (rest : List A)
-    → closed ≡ before ++ later → AllByRecursion (λ x. is_empty x ≡ false) later → IsHeld flag items → Reaches flag later (length rest)
-    → (joined before ++ rest) ++ v ∷ [] ≡ joined closed ++ taken_in flag items
-    → Again flag closed items v before rest ⊎ (is_empty rest ≡ false) × Again flag closed items v (before ++ rest ∷ []) []
-again_from {A} flag closed before later items v rest split filled held reach e =
-    let tails : rest ++ v ∷ [] ≡ joined later ++ taken_in flag items = append_cancel_left (joined before) (rest ++ v ∷ [])
-    (joined later ++ taken_in flag items) (sym (append_assoc (joined before) rest (v ∷ [])) ∙ e
-    ∙ ap (λ (w : List (List A)). joined w ++ taken_in flag items) split ∙ ap (λ (w : List A). w ++ taken_in flag items)
-    (joined-append before later) ∙ append_assoc (joined before) (joined later) (taken_in flag items)) in
-    subst (λ (c : List (List A)). Again flag c items v before rest ⊎ (is_empty rest ≡ false) × Again flag c items v (before ++ rest ∷ [])
-    []) (sym split) (again_after flag before items v rest later filled held reach tails)
+module _ {A : Type 0} (flag : Bool) (closed before later : List (List A)) (items : List A) where
+  pub fresh_from : (rest : List A) → closed ≡ before ++ later → AllByRecursion (λ x. is_empty x ≡ false) later → IsHeld flag items
+      → Reaches flag later (length rest) → joined before ++ rest ≡ joined closed ++ taken_in flag items
+      → FreshSomehow flag closed items before rest
+  fresh_from rest split filled held reach e =
+      rw split
+      (fresh_after flag before items rest later filled held reach (behind before later closed rest (taken_in flag items) split e))
+
+  pub again_from : (v : A) (rest : List A) → closed ≡ before ++ later → AllByRecursion (λ x. is_empty x ≡ false) later → IsHeld flag items
+      → Reaches flag later (length rest) → (joined before ++ rest) ++ v ∷ [] ≡ joined closed ++ taken_in flag items
+      → AgainSomehow flag closed items v before rest
+  again_from v rest split filled held reach e =
+      rw split
+      (again_after flag before items v rest later filled held reach
+      (behind before later closed (rest ++ v ∷ []) (taken_in flag items) split (sym (append_assoc (joined before) rest (v ∷ [])) ∙ e)))

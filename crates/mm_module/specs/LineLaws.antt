@@ -1,4 +1,7 @@
--- Laws of bytes and lines, for the laws of modules.
+-- Laws of bytes and lines, for the laws of modules. Both tests hold where their conjunction does, and
+-- the other way round, and a test that each element passes holds at each place.
+pub use Rattle.std.proofs.lemmas.Bool.{and_parts as and-true, and_from as and-both}
+pub use Rattle.std.proofs.lemmas.List.Sums.{AllPass-from_list_all as list_all-get_or}
 use Rattle.std.specs.Prelude.{◌≡◌, ◌≢◌, ◌==◌, ◌&&◌, ℕ, suc, ◌%◌, ◌^◌, ◌<◌, ◌≤◌, List, [], ◌∷◌, length, Bool, true, false, not, All}
 use Rattle.std.proofs.Common.{refl, arith, lit<, get_or, Fits, w8}
 use Rattle.std.specs.Fmt.{decimal}
@@ -7,7 +10,8 @@ use Rattle.std.specs.List.{list_all}
 use Rattle.std.specs.Str.{all_ascii_digits}
 use Rattle.std.proofs.lemmas.Bool.Decides.{nat_tests}
 use Rattle.std.proofs.lemmas.Fmt.{digits_decimal, length-decimal-le}
-use Rattle.std.proofs.lemmas.List.Folds.{list_all_at}
+use Rattle.std.proofs.lemmas.Grind.{get_or_default_zero}
+use Rattle.std.proofs.lemmas.List.Sums.{list_all-from_AllPass}
 use Rattle.std.proofs.lemmas.Str.Parse.{numerals_by_value, tells_all_ascii_digits}
 use Rattle.mm_base.specs.Limits.{longest_request}
 use Rattle.mm_module.specs.Bytes.{is_byte, are_bytes}
@@ -16,25 +20,6 @@ use Rattle.mm_module.specs.Meaning.{IsLine}
 -- no LF, as a test
 abbrev pub is_unbroken : List ℕ → Bool
 is_unbroken text = list_all (λ byte. not (byte == 10)) text
-
--- both tests hold where their conjunction does, and the other way round
-pub and-true : (a b : Bool) → (a && b) ≡ true → (a ≡ true) × (b ≡ true)
-and-true true b is = (refl, is)
-and-true false b is = cc
-
-pub and-both : (a b : Bool) → a ≡ true → b ≡ true → (a && b) ≡ true
-and-both a b is is' = rw (is, is') refl
-
-passes : (b : Bool) → (b ≡ false → ⊥) → b ≡ true
-passes true refuted = refl
-passes false refuted = absurd (refuted refl)
-
--- a test that each element passes holds at each place
-pub list_all-get_or : (p : ℕ → Bool) (xs : List ℕ) → list_all p xs ≡ true → (k d : ℕ)
-    → k < length xs → p (get_or xs k d) ≡ true
-list_all-get_or p xs all k d inside =
-    passes (p (get_or xs k d))
-    (λ fails. let some_fails : list_all p xs ≡ false = list_all_at p xs k d inside fails in cc)
 
 pub All-are_bytes : (bytes : List ℕ) → are_bytes bytes ≡ true → All (λ byte. byte < 256) bytes
 All-are_bytes bytes is =
@@ -52,10 +37,8 @@ byte-Fits x fits = let small : x < 256 = omega (arith, fits) in grind (arith, na
 -- the bytes of a slice are bytes
 pub are_bytes-Fits : (bytes : List ℕ) → ((i : ℕ) → Fits w8 (get_or bytes i 0))
     → are_bytes bytes ≡ true
-are_bytes-Fits [] fits = refl
-are_bytes-Fits (x ∷ xs) fits =
-    and-both (is_byte x) (are_bytes xs) (byte-Fits x (fits 0))
-    (are_bytes-Fits xs (λ i. fits (suc i)))
+are_bytes-Fits bytes fits =
+    list_all-from_AllPass is_byte bytes (λ k d inside. rw (get_or_default_zero bytes k d inside) (byte-Fits _ (fits k)))
 
 -- a remainder of 256 is a byte
 pub is_byte-rem : (x : ℕ) → is_byte (x % 256) ≡ true
@@ -97,8 +80,5 @@ IsLine-text most text few is =
 
 -- a text with no LF, from each byte
 pub is_unbroken-All : (text : List ℕ) → All (λ byte. byte ≢ 10) text → is_unbroken text ≡ true
-is_unbroken-All [] all = refl
-is_unbroken-All (x ∷ xs) all =
-    let other : x ≢ 10 = all 0 0 (omega arith) in
-    let is : not (x == 10) ≡ true = grind (arith, nat_tests) in
-    and-both _ _ is (is_unbroken-All xs (λ k d inside. all (suc k) d (omega (arith, inside))))
+is_unbroken-All text all =
+    list_all-from_AllPass (λ byte. not (byte == 10)) text (λ k d inside. let other = all k d inside in grind (arith, nat_tests))

@@ -1,14 +1,16 @@
 -- Laws of the parts of byte lists, for the laws of modules.
 use Rattle.std.specs.Prelude.{◌≡◌, ℕ, zero, suc, ◌^◌, ◌<◌, true, nat_le, List, [], ◌∷◌, ◌++◌, length, take, drop, All}
-use Rattle.std.proofs.Common.{refl, ◌∙◌, arith, get_or}
+use Rattle.std.proofs.Common.{refl, sym, ◌∙◌, ap, arith, get_or}
 use Rattle.std.specs.List.{list_all}
 use Rattle.std.proofs.Math.Seq.{take-append_seam, drop-append_seam}
 use Rattle.std.proofs.lemmas.Bool.Decides.{nat_tests}
+use Rattle.std.proofs.lemmas.List.{take-append-drop}
 use Rattle.std.proofs.lemmas.List.Folds.{list_all-append}
+use Rattle.std.proofs.lemmas.List.Sums.{list_all-from_AllPass}
 use Rattle.std.proofs.lemmas.Nat.{be_bytes_8, from_be_bytes-to_be_bytes_8}
 use Rattle.mm_base.specs.Fields.{eight_bytes}
 use Rattle.mm_module.specs.Bytes.{is_byte, are_bytes}
-use Rattle.mm_module.specs.LineLaws.{and-true, and-both, is_byte-rem}
+use Rattle.mm_module.specs.LineLaws.{and-true, and-both, is_byte-rem, list_all-get_or}
 use Rattle.mm_module.specs.Numbers.{of_eight_bytes}
 use Rattle.mm_module.specs.Visible.{is_visible}
 
@@ -20,18 +22,16 @@ pub drop-front : (n : ℕ) (front back : List ℕ) → length front ≡ n → dr
 drop-front n front back is = rw (← is) (drop-append_seam front back)
 
 -- the bytes of each part are bytes
-pub are_bytes-take : (n : ℕ) (bytes : List ℕ) → are_bytes bytes ≡ true
-    → are_bytes (take n bytes) ≡ true
-are_bytes-take zero bytes is = refl
-are_bytes-take (suc n) [] is = refl
-are_bytes-take (suc n) (x ∷ xs) is = let w = and-true (is_byte x) (are_bytes xs) is in
-    and-both (is_byte x) (are_bytes (take n xs)) w.0 (are_bytes-take n xs w.1)
+are_bytes-parts : (n : ℕ) (bytes : List ℕ) → are_bytes bytes ≡ true
+    → (are_bytes (take n bytes) ≡ true) × (are_bytes (drop n bytes) ≡ true)
+are_bytes-parts n bytes is =
+    and-true _ _ (sym (list_all-append is_byte (take n bytes) (drop n bytes)) ∙ ap are_bytes (take-append-drop n bytes) ∙ is)
 
-pub are_bytes-drop : (n : ℕ) (bytes : List ℕ) → are_bytes bytes ≡ true
-    → are_bytes (drop n bytes) ≡ true
-are_bytes-drop zero bytes is = is
-are_bytes-drop (suc n) [] is = refl
-are_bytes-drop (suc n) (x ∷ xs) is = are_bytes-drop n xs (and-true (is_byte x) (are_bytes xs) is).1
+pub are_bytes-take : (n : ℕ) (bytes : List ℕ) → are_bytes bytes ≡ true → are_bytes (take n bytes) ≡ true
+are_bytes-take n bytes is = (are_bytes-parts n bytes is).0
+
+pub are_bytes-drop : (n : ℕ) (bytes : List ℕ) → are_bytes bytes ≡ true → are_bytes (drop n bytes) ≡ true
+are_bytes-drop n bytes is = (are_bytes-parts n bytes is).1
 
 -- and those of parts that are put together
 pub are_bytes-append : (xs ys : List ℕ) → are_bytes xs ≡ true → are_bytes ys ≡ true
@@ -40,12 +40,8 @@ are_bytes-append xs ys is_xs is_ys = list_all-append is_byte xs ys ∙ and-both 
 
 -- numbers below 256 are bytes, and a byte list has them at each place
 pub are_bytes-All : (bytes : List ℕ) → All (λ byte. byte < 256) bytes → are_bytes bytes ≡ true
-are_bytes-All [] all = refl
-are_bytes-All (x ∷ xs) all =
-    let small : x < 256 = all 0 0 (omega arith) in
-    let is : is_byte x ≡ true = grind (arith, nat_tests) in
-    and-both (is_byte x) (are_bytes xs) is
-    (are_bytes-All xs (λ k d inside. all (suc k) d (omega (arith, inside))))
+are_bytes-All bytes all =
+    list_all-from_AllPass is_byte bytes (λ k d inside. let small = all k d inside in grind (arith, nat_tests))
 
 pub get_or-small : (bytes : List ℕ) → are_bytes bytes ≡ true → (i : ℕ) → get_or bytes i 0 < 256
 get_or-small [] is i = omega arith
@@ -55,11 +51,9 @@ get_or-small (x ∷ xs) is (suc i) = get_or-small xs (and-true (is_byte x) (are_
 
 -- visible bytes are bytes
 pub are_bytes-visible : (bytes : List ℕ) → list_all is_visible bytes ≡ true → are_bytes bytes ≡ true
-are_bytes-visible [] is = refl
-are_bytes-visible (x ∷ xs) is =
-    let w = and-true (is_visible x) (list_all is_visible xs) is in
-    let v = and-true (nat_le 33 x) (nat_le x 126) w.0 in
-    and-both (is_byte x) (are_bytes xs) (grind (arith, nat_tests)) (are_bytes-visible xs w.1)
+are_bytes-visible bytes is =
+    list_all-from_AllPass is_byte bytes (λ k d inside.
+    let seen = list_all-get_or is_visible bytes is k d inside in grind (arith, nat_tests))
 
 -- eight bytes and their number
 pub length-eight : (n : ℕ) → length (eight_bytes n) ≡ 8

@@ -1,9 +1,11 @@
 -- Laws of values of 32 bytes and of hexadecimal digits, for the laws of modules.
 use Rattle.std.specs.Prelude.{◌≡◌, ℕ, zero, suc, ◌<◌, Bool, true, not, ◌==◌, List, [], ◌∷◌, length, Option, Some, None, Result, Ok, Err, slice_index}
-use Rattle.std.proofs.Common.{refl, sym, ◌∙◌, arith}
+use Rattle.std.proofs.Common.{refl, sym, ◌∙◌, arith, get_or}
 use Rattle.std.specs.List.{list_all}
 use Rattle.std.specs.Result.{result_ok}
 use Rattle.std.proofs.lemmas.Bool.Decides.{nat_tests}
+use Rattle.std.proofs.lemmas.Grind.{get_or_default_zero}
+use Rattle.std.proofs.lemmas.List.Sums.{list_all-from_AllPass}
 use Rattle.hex.specs.Hex.{decode_sized, decode_of, encode_with, encode_lower, lower_digits, IsBytes}
 use Rattle.hex.specs.declared.error.FromHexError.{FromHexError}
 use Rattle.hex.proofs.HexLemmas.{decode_sized-ok, decode_sized-twice, decode_of-ok}
@@ -22,11 +24,9 @@ MayBeValue None = Unit {0}
 MayBeValue (Some value) = IsValue value
 
 are_bytes-IsBytes : (bytes : List ℕ) → IsBytes bytes → are_bytes bytes ≡ true
-are_bytes-IsBytes [] below = refl
-are_bytes-IsBytes (x ∷ xs) below =
-    let small : x < 256 = below 0 in
-    let is : is_byte x ≡ true = grind (arith, nat_tests) in
-    and-both (is_byte x) (are_bytes xs) is (are_bytes-IsBytes xs (λ i. below (suc i)))
+are_bytes-IsBytes bytes below =
+    list_all-from_AllPass is_byte bytes (λ k d inside. rw (get_or_default_zero bytes k d inside)
+    (let small : get_or bytes k 0 < 256 = below k in grind (arith, nat_tests)))
 
 decoded-value : (word : List ℕ) (decoded : Result (List ℕ) FromHexError)
     → decode_sized word 32 ≡ decoded → MayBeValue (result_ok decoded)

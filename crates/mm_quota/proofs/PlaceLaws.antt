@@ -13,7 +13,10 @@ use Rattle.std.specs.Ordering.{is_lt, match_ordering}
 use Rattle.std.proofs.Math.Seq.{take-append_seam}
 use Rattle.mm_module.specs.Bytes.{are_bytes}
 use Rattle.mm_module.specs.PartLaws.{are_bytes-drop}
+use Rattle.mm_quota.specs.Places.{IsAccountPlace}
 use Rattle.mm_quota.specs.Table.{accounts_of, is_ledger, is_state}
+use Rattle.mm_quota.specs.Views.{as_account}
+use Rattle.mm_quota.specs.declared.place.Place.{Place}
 
 -- the rest, where an account stands in front of it
 pub follow-front : (previous : List ℕ) (account : Account) (accounts : Option (List Account))
@@ -114,6 +117,13 @@ pub record NextPlace (bytes name body rest : List ℕ) (count number : ℕ) (acc
 abbrev pub NextOf : List ℕ → List ℕ → List ℕ → List ℕ → ℕ → ℕ → Option (Account × List ℕ) → Type 0
 NextOf bytes name body rest count number None = ⊥
 NextOf bytes name body rest count number (Some front) = NextPlace bytes name body rest count number front.0 front.1
+
+-- where the account of the name is put
+pub place-is : (bytes name body rest : List ℕ) (place : Place) → (account_named name (ledger_of bytes) ≡ option_map as_account place.found)
+    × Stands bytes name body rest place.back.now → place.front.now ≡ take (length body - length rest) body
+    → IsAccountPlace name (ledger_of bytes) place
+place-is bytes name body rest place is front_is =
+    record { account = sym is.0; puts = λ new named. rw front_is (is.1 new named) }
 
 -- the bytes in front are the first ones
 in-front : (body front rest : List ℕ) → body ≡ front ++ rest → take (length body - length rest) body ≡ front

@@ -4,7 +4,7 @@ use Rattle.std.proofs.Common.{refl, arith}
 use Rattle.std.specs.Fmt.{decimal}
 use Rattle.mm_module.specs.LineLaws.{IsText, is_unbroken}
 use Rattle.mm_listing.specs.Listing.{Listing, IsListing, promises_nothing}
-use Rattle.mm_listing.specs.RequestLaws.{both, counted, in_both, literal, numbered, request, word}
+use Rattle.mm_listing.specs.RequestLaws.{both, counted, in_both, listed, literal, numbered, request, word}
 use Rattle.mm_quota.specs.Ids.{small_ledger, small_ledger_is_lawful, wide_ledger, wide_ledger_is_lawful}
 use Rattle.mm_quota.specs.Requests.{account_request}
 
@@ -54,19 +54,11 @@ asks choice =
     (word (codes "sum") refl (omega arith)))))
 
 pub quota_is_listed : IsListing small_ledger quota_listing
-quota_is_listed = record {
-  means = refl;
-  lawful = small_ledger_is_lawful;
-  named = record { begins = refl; letters = refl; other = refl };
-  asks = asks;
-  keeps = λ requests tellings said. tt;
-}
+quota_is_listed =
+    listed quota_listing (record { begins = refl; letters = refl; other = refl })
+    small_ledger_is_lawful asks (λ requests tellings said. tt)
 
 pub ledger_is_listed : IsListing wide_ledger ledger_listing
-ledger_is_listed = record {
-  means = refl;
-  lawful = wide_ledger_is_lawful;
-  named = record { begins = refl; letters = refl; other = refl };
-  asks = asks;
-  keeps = λ requests tellings said. tt;
-}
+ledger_is_listed =
+    listed ledger_listing (record { begins = refl; letters = refl; other = refl })
+    wide_ledger_is_lawful asks (λ requests tellings said. tt)

@@ -3,18 +3,15 @@ use Rattle.mm_receipt.proofs.Below.{◌≡◌, ◌≢◌, ℕ, zero, suc, ◌<�
 use Rattle.mm_receipt.proofs.Below.{ap, subst, arith, rules, IsTrue, last_position, Meaning, parts_by, receipt_parts, ReceiptState}
 use Rattle.mm_receipt.proofs.Below.{is_front, receipt_state_in, SpellsKept, SpellsKept-from, kept_of-IsKept, is-true}
 use Rattle.std.specs.Prelude.{None}
+use Rattle.std.proofs.Math.ListN.{drop_of_length-le}
 use Rattle.mm_module.specs.Bytes.{are_bytes}
 use Rattle.mm_receipt.specs.Table.{is_state}
 
-drop-past : (n : ℕ) (xs : List ℕ) → length xs ≤ n → drop n xs ≡ []
-drop-past zero [] short = refl
-drop-past zero (x ∷ xs) short = absurd (omega (arith, short))
-drop-past (suc n) [] short = refl
-drop-past (suc n) (x ∷ xs) short = drop-past n xs (omega (arith, short))
-
 -- too few bytes have no digits and a space
 pub parts_of-short : (output : List ℕ) → length output < 64 → receipt_parts output ≡ None
-parts_of-short output short = ap (λ (l : List ℕ). parts_by (take 64 output) l) (drop-past 64 output (omega (arith, short)))
+parts_of-short output short =
+    let none : drop 64 output ≡ [] = drop_of_length-le output {i = 64} (omega (arith, short)) in
+    ap (λ (l : List ℕ). parts_by (take 64 output) l) none
 
 pub spelled-then : (inner : Meaning) (bytes : List ℕ) (answer : Bool) (kept : ReceiptState) → are_bytes bytes ≡ true → is_front bytes ≡ true
     → answer ≡ inner.is_spelled kept.inner → kept ≡ receipt_state_in bytes → answer ≡ is_state inner bytes

@@ -6,7 +6,7 @@ use Rattle.mm_receipt.proofs.Below.{digits_of, receipt_of, parts_by, verified_by
 use Rattle.mm_receipt.proofs.Below.{first_kept, spelling_of, receipt_state_in, receipted, IsKept, kept_of-spelling_of, outcome_of-IsKept}
 use Rattle.std.specs.List.{AllByRecursion}
 use Rattle.std.proofs.lemmas.Bool.Decides.{nat_tests}
-use Rattle.std.proofs.lemmas.List.{take-append-drop}
+use Rattle.std.proofs.lemmas.List.{drop-drop, take-append-drop}
 use Rattle.std.proofs.lemmas.Slice.Eq.{bytes_eq-Decides}
 use Rattle.mm_base.specs.Fields.{eight_bytes, four_bytes}
 use Rattle.mm_base.specs.FieldLaws.{length-eight_bytes, length-four_bytes, eight_bytes-injective, four_bytes-injective, append-injective}
@@ -63,17 +63,12 @@ parts-receipt key position request digits (space ∷ said) accepted =
     let f = formed-receipt key position request digits said space accepted in
     ap (λ (l : List ℕ). l ++ space ∷ said) f.0 ∙ ap (λ n. digits_of key position request said ++ n ∷ said) f.1
 
-drop-suc : (n : ℕ) (xs : List ℕ) → drop (suc n) xs ≡ drop 1 (drop n xs)
-drop-suc zero xs = refl
-drop-suc (suc n) [] = refl
-drop-suc (suc n) (x ∷ xs) = drop-suc n xs
-
 -- an output that is accepted is the receipt of what stands behind its digits
 accepted-receipt : (key : List ℕ) (position : ℕ) (request output : List ℕ) → verified key position request output ≡ Ok tt
     → output ≡ receipt_of key position request (drop 65 output)
 accepted-receipt key position request output accepted =
     sym (take-append-drop 64 output) ∙ parts-receipt key position request (take 64 output) (drop 64 output) accepted
-    ∙ ap (λ (l : List ℕ). receipt_of key position request l) (sym (drop-suc 64 output))
+    ∙ ap (λ (l : List ℕ). receipt_of key position request l) (drop-drop 1 64 output)
 
 -- the outputs from what is kept
 abbrev outputs_by : Meaning → ReceiptState → List (List ℕ) → List (List ℕ)
@@ -84,11 +79,8 @@ outputs-same : (inner : Meaning) (kept : ReceiptState) (requests : List (List �
     → outputs_from (receipted inner) (spelling_of kept) requests ≡ outputs_by inner kept requests
 outputs-same inner kept [] good = refl
 outputs-same inner kept (request ∷ requests) good =
-    let e : outcome_of inner (receipt_state_in (spelling_of kept)) request ≡ outcome_of inner kept request = ap
-    (λ (k : ReceiptState). outcome_of inner k request) (kept_of-spelling_of kept good) in
-    ap (λ (o : ReceiptState × List ℕ). o.1 ∷ outputs_from (receipted inner) (spelling_of o.0) requests) e
-    ∙ ap (λ (l : List (List ℕ)). (outcome_of inner kept request).1 ∷ l)
-    (outputs-same inner (outcome_of inner kept request).0 requests (outcome_of-IsKept inner kept request good))
+    rw (kept_of-spelling_of kept good) (ap (λ (l : List (List ℕ)). (outcome_of inner kept request).1 ∷ l)
+    (outputs-same inner (outcome_of inner kept request).0 requests (outcome_of-IsKept inner kept request good)))
 
 -- a tagged request is told its receipt
 tagged-said : (inner : Meaning) (key : List ℕ) (kept : ReceiptState) (request : List ℕ)
@@ -119,17 +111,12 @@ here-tagged : (inner : Meaning) (key : List ℕ) (kept : ReceiptState) (first : 
 here-tagged inner key kept first requests good counted position request said near short t =
     let same = receipt_message-injective position request said (kept.count + 1) first (inner.says kept.inner first) (omega (arith, near))
     (omega (arith, good.few)) (omega (arith, short)) counted t.is in
-    let told = tagged-said inner key kept first t.room t.keyed in
-    let receipt : receipt_of key (kept.count + 1) first (inner.says kept.inner first) ≡ receipt_of key position request said =
-    ap (λ n. receipt_of key n first (inner.says kept.inner first)) (sym same.positions)
-    ∙ ap (λ (l : List ℕ). receipt_of key position l (inner.says kept.inner first)) (sym same.requests)
-    ∙ ap (λ (l : List ℕ). receipt_of key position request l) (sym same.outputs) in
     record {
       before = 0;
       place = omega (arith, same.positions);
       asked = ap (λ (l : List ℕ). Some l) (sym same.requests);
-      told = ap
-          (λ (l : List ℕ). Some l) (told ∙ receipt);
+      told = rw (same.positions, same.requests, same.outputs)
+          (ap (λ (l : List ℕ). Some l) (tagged-said inner key kept first t.room t.keyed));
     }
 
 later-tagged : (inner : Meaning) (key : List ℕ) (kept : ReceiptState) (first : List ℕ) (requests : List (List ℕ)) (position : ℕ)
@@ -162,9 +149,8 @@ receipts-true inner requests counted key position request output u =
       place = omega (arith, w.place);
       asked = w.asked;
       said =
-          ap (λ (l : List (List ℕ)). slice_get l w.before)
-          (outputs-same inner (first_kept inner) requests (record { few = omega arith; keyed = tt }))
-          ∙ w.told ∙ ap (λ (l : List ℕ). Some l) (sym (accepted-receipt key position request output u.accepted));
+          rw (outputs-same inner (first_kept inner) requests (record { few = omega arith; keyed = tt }))
+          (w.told ∙ ap (λ (l : List ℕ). Some l) (sym (accepted-receipt key position request output u.accepted)));
     }
 
 pub no-clash : ReceiptsDoNotClash

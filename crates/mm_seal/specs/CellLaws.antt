@@ -15,28 +15,12 @@ use Rattle.mm_base.specs.Limits.{cell_length}
 
 pub variant_byte-injective : (v w : Variant) → variant_byte v ≡ variant_byte w → v ≡ w
 variant_byte-injective Basic Basic e = refl
-variant_byte-injective Basic Opt e = absurd (omega arith)
-variant_byte-injective Opt Basic e = absurd (omega arith)
 variant_byte-injective Opt Opt e = refl
+variant_byte-injective _ _ e = absurd (omega arith)
 
 flag_of_byte : (f : Bool) → (flag_byte f == 1) ≡ f
 flag_of_byte true = refl
 flag_of_byte false = refl
-
--- bytes that are taken apart at the offsets of a cell's fields
-pub record IsSplit (bytes head summary key barrier : List ℕ) : Type 0 where
-  pub after_head : List ℕ
-  pub after_summary : List ℕ
-  pub after_key : List ℕ
-  pub rest : List ℕ
-  pub whole : bytes ≡ head ++ after_head
-  pub at_summary : after_head ≡ summary ++ after_summary
-  pub at_key : after_summary ≡ key ++ after_key
-  pub at_barrier : after_key ≡ barrier ++ rest
-  pub head_size : length head ≡ 8
-  pub summary_size : length summary ≡ 32
-  pub key_size : length key ≡ 32
-  pub barrier_size : length barrier ≡ 32
 
 -- the fields of a cell at their offsets
 pub record FieldsOf (cell : Cell) (head summary key barrier : List ℕ) : Type 0 where
@@ -47,30 +31,10 @@ pub record FieldsOf (cell : Cell) (head summary key barrier : List ℕ) : Type 0
   pub at_key : key ≡ cell.key
   pub at_barrier : barrier ≡ cell.barrier
 
-pub fields-cell_spelling : (cell : Cell) (bytes head summary key barrier : List ℕ) → IsCell cell →
-    bytes ≡ cell_spelling cell → IsSplit bytes head summary key barrier →
-    FieldsOf cell head summary key barrier
-unfolding cell_spelling
-fields-cell_spelling cell bytes head summary key barrier is e p =
-    let first : List ℕ = 0x4d ∷ 0x4d ∷ 0x4e ∷ version_of cell.module ∷ variant_byte cell.variant ∷ cell.module
-    ∷ flag_byte cell.flag ∷ 0 ∷ [] in
-    let s : List ℕ = cell.summary.bytes in
-    let at_head = append-injective head first p.after_head (s ++ (cell.key ++ cell.barrier)) p.head_size
-    (sym p.whole ∙ e) in
-    let at_sum = append-injective summary s p.after_summary (cell.key ++ cell.barrier)
-    (p.summary_size ∙ sym is.summary) (sym p.at_summary ∙ at_head.1) in
-    let at_k = append-injective key cell.key p.after_key cell.barrier (p.key_size ∙ sym is.key)
-    (sym p.at_key ∙ at_sum.1) in
-    let at_b = append-injective barrier cell.barrier p.rest [] (p.barrier_size ∙ sym is.barrier)
-    (sym p.at_barrier ∙ at_k.1 ∙ sym (append-nil cell.barrier)) in
-    record {
-      variant = sym (ap (λ (x : List ℕ). get_or x 4 0) at_head.0);
-      id = ap (λ (x : List ℕ). get_or x 5 0) at_head.0;
-      flag = ap (λ (x : List ℕ). get_or x 6 0 == 1) at_head.0 ∙ flag_of_byte cell.flag;
-      at_summary = at_sum.0;
-      at_key = at_k.0;
-      at_barrier = at_b.0;
-    }
+head_of_cell : Cell → List ℕ
+head_of_cell cell =
+    0x4d ∷ 0x4d ∷ 0x4e ∷ version_of cell.module ∷ variant_byte cell.variant ∷ cell.module
+    ∷ flag_byte cell.flag ∷ 0 ∷ []
 
 -- the cell of these fields
 abbrev pub cell_of_fields : Variant → (head summary key barrier : List ℕ) → Cell
@@ -83,57 +47,48 @@ cell_of_fields v head summary key barrier = record {
   barrier = barrier;
 }
 
--- only the cell of the fields is spelled so
-pub cell_of_fields-only : (cell : Cell) (v : Variant) (bytes head summary key barrier : List ℕ) →
-    IsCell cell → bytes ≡ cell_spelling cell → IsSplit bytes head summary key barrier →
-    variant_byte v ≡ get_or head 4 0 → cell_of_fields v head summary key barrier ≡ cell
-cell_of_fields-only cell v bytes head summary key barrier is e p t =
-    let f = fields-cell_spelling cell bytes head summary key barrier is e p in
-    let same = variant_byte-injective v cell.variant (t ∙ sym f.variant) in
-    λ i. record {
-      variant = same i;
-      «module» = f.id i;
-      flag = f.flag i;
-      summary = record { bytes = f.at_summary i };
-      key = f.at_key i;
-      barrier = f.at_barrier i;
-    }
+-- a cell's bytes, taken apart at the offsets of its fields
+module _ (bytes head summary key barrier a s k r : List ℕ) (cell : Cell) (is : IsCell cell) (e : bytes ≡ cell_spelling cell)
+    (at_head : bytes ≡ head ++ a) (eight : length head ≡ 8) (at_summary : (a ≡ summary ++ s) × (length summary ≡ 32))
+    (at_key : (s ≡ key ++ k) × (length key ≡ 32)) (at_barrier : (k ≡ barrier ++ r) × (length barrier ≡ 32)) where
+  pub fields-cell_spelling : FieldsOf cell head summary key barrier
+  unfolding cell_spelling head_of_cell
+  fields-cell_spelling =
+      let first = append-injective head (head_of_cell cell) a (cell.summary.bytes ++ (cell.key ++ cell.barrier)) eight (sym at_head ∙ e) in
+      let second = append-injective summary cell.summary.bytes s (cell.key ++ cell.barrier) (at_summary.1 ∙ sym is.summary)
+      (sym at_summary.0 ∙ first.1) in
+      let third = append-injective key cell.key k cell.barrier (at_key.1 ∙ sym is.key) (sym at_key.0 ∙ second.1) in
+      let last = append-injective barrier cell.barrier r [] (at_barrier.1 ∙ sym is.barrier)
+      (sym at_barrier.0 ∙ third.1 ∙ sym (append-nil cell.barrier)) in
+      record {
+        variant = sym (ap (λ (x : List ℕ). get_or x 4 0) first.0);
+        id = ap (λ (x : List ℕ). get_or x 5 0) first.0;
+        flag = ap (λ (x : List ℕ). get_or x 6 0 == 1) first.0 ∙ flag_of_byte cell.flag;
+        at_summary = second.0;
+        at_key = third.0;
+        at_barrier = last.0;
+      }
 
-head_of_cell : Cell → List ℕ
-head_of_cell cell =
-    0x4d ∷ 0x4d ∷ 0x4e ∷ version_of cell.module ∷ variant_byte cell.variant ∷ cell.module
-    ∷ flag_byte cell.flag ∷ 0 ∷ []
-
--- a cell's own bytes, taken apart
-split_of_cell : (cell : Cell) → IsCell cell →
-    IsSplit (cell_spelling cell) (head_of_cell cell) cell.summary.bytes cell.key cell.barrier
-unfolding cell_spelling head_of_cell
-split_of_cell cell is = record {
-  after_head = cell.summary.bytes ++ (cell.key ++ cell.barrier);
-  after_summary = cell.key ++ cell.barrier;
-  after_key = cell.barrier;
-  rest = [];
-  whole = refl;
-  at_summary = refl;
-  at_key = refl;
-  at_barrier = sym (append-nil cell.barrier);
-  head_size = refl;
-  summary_size = is.summary;
-  key_size = is.key;
-  barrier_size = is.barrier;
-}
-
-head_variant : (cell : Cell) → variant_byte cell.variant ≡ get_or (head_of_cell cell) 4 0
-unfolding head_of_cell
-head_variant cell = refl
+  -- only the cell of the fields is spelled so
+  pub cell_of_fields-only : (v : Variant) → variant_byte v ≡ get_or head 4 0 → cell_of_fields v head summary key barrier ≡ cell
+  cell_of_fields-only v t =
+      let f = fields-cell_spelling in let same = variant_byte-injective v cell.variant (t ∙ sym f.variant) in
+      λ i. record {
+        variant = same i;
+        «module» = f.id i;
+        flag = f.flag i;
+        summary = record { bytes = f.at_summary i };
+        key = f.at_key i;
+        barrier = f.at_barrier i;
+      }
 
 -- each list of bytes is one cell's at most
 pub cell_spelling-injective : (a b : Cell) → IsCell a → IsCell b → cell_spelling a ≡ cell_spelling b → a ≡ b
+unfolding cell_spelling head_of_cell
 cell_spelling-injective a b ia ib e =
-    sym (cell_of_fields-only a a.variant (cell_spelling a) (head_of_cell a) a.summary.bytes a.key a.barrier ia refl
-    (split_of_cell a ia) (head_variant a))
-    ∙ cell_of_fields-only b a.variant (cell_spelling a) (head_of_cell a) a.summary.bytes a.key a.barrier ib e
-    (split_of_cell a ia) (head_variant a)
+    (λ i. record a { flag = sym (flag_of_byte a.flag) i })
+    ∙ cell_of_fields-only _ (head_of_cell a) a.summary.bytes a.key a.barrier _ _ _ _ b ib e refl refl
+    (refl, ia.summary) (refl, ia.key) (sym (append-nil a.barrier), ia.barrier) a.variant refl
 
 zero_unlike_letter : (a b : ℕ) → a ≡ b → a ≡ 0 → b ≡ 0x4d → ⊥
 zero_unlike_letter a b e f g = omega arith

@@ -24,7 +24,7 @@ pub put_in_parts : (old b₁ b₂ b₃ b₄ b₅ p₁ p₂ p₃ p₄ p₅ q₁ q
     b₃ ≡ b₂ ++ p₃ → b₄ ≡ b₃ ++ p₄ → b₅ ≡ b₄ ++ p₅ → p₁ ≡ q₁ → p₃ ≡ q₃ → p₄ ≡ q₄ →
     b₅ ≡ old ++ (q₁ ++ (p₂ ++ (q₃ ++ (q₄ ++ p₅))))
 put_in_parts old b₁ b₂ b₃ b₄ b₅ p₁ p₂ p₃ p₄ p₅ q₁ q₃ q₄ e₁ e₂ e₃ e₄ e₅ f₁ f₃ f₄ =
-    rw e₅ (rw e₄ (rw e₃ (rw e₂ (rw e₁ (rw f₁ (rw f₃ (rw f₄ (simp append_assoc))))))))
+    rw (e₅, e₄, e₃, e₂, e₁, f₁, f₃, f₄) (simp append_assoc)
 
 pub length-place_spelling : (place : Place) → IsPlace place → length (place_spelling place) ≡ place_length (variant_of place)
 length-place_spelling (Basic summary) is = is
@@ -77,14 +77,18 @@ no_end_in_fields v place position front head r₁ r₂ r₃ room e₁ h e₂ t i
 place_spelling-injective : (p q : Place) → IsPlace p → IsPlace q → variant_of p ≡ variant_of q →
     place_spelling p ≡ place_spelling q → p ≡ q
 place_spelling-injective (Basic a) (Basic b) ip iq v e = λ i. Basic (record { bytes = e i })
-place_spelling-injective (Basic a) (Opt b d) ip iq v e = absurd (omega (arith, ap place_length v))
-place_spelling-injective (Opt a c) (Basic b) ip iq v e = absurd (omega (arith, ap place_length v))
 place_spelling-injective (Opt a c) (Opt b d) ip iq v e =
     let both = append-injective a.bytes b.bytes c.bytes d.bytes (ip.0 ∙ sym iq.0) e in
     λ i. Opt (record { bytes = both.0 i }) (record { bytes = both.1 i })
+place_spelling-injective _ _ ip iq v e = absurd (omega (arith, ap place_length v))
 
 limit_of-below : (id : ℕ) → limit_of id < 2 ^ 32
 limit_of-below id = grind (arith, nat_tests)
+
+regrouped-front : (x : Content) (a : List ℕ) → snapshot_front x ++ a ≡
+    front_head x ++ (place_spelling x.place ++ (eight_bytes x.position ++ (four_bytes (length x.state) ++ (x.state ++ a))))
+unfolding snapshot_front
+regrouped-front x a = simp append_assoc
 
 -- the fields of bytes that are a content's, and what follows them
 pub record SameFields (x y : Content) (head : List ℕ) (n : ℕ) (a b : List ℕ) : Type 0 where
@@ -100,12 +104,8 @@ pub same_fields : (x y : Content) (head : List ℕ) (n : ℕ) (a b : List ℕ) �
     variant_byte (variant_of y.place) ≡ get_or head 4 0 → y.id ≡ get_or head 5 0 →
     head ++ (place_spelling y.place ++ (eight_bytes y.position ++ (four_bytes n ++ a))) ≡ snapshot_front x ++ b →
     SameFields x y head n a b
-unfolding snapshot_front
 same_fields x y head n a b is iy p q h t u e =
-    let s : List ℕ = four_bytes (length x.state) ++ (x.state ++ b) in
-    let regrouped : snapshot_front x ++ b ≡ front_head x ++ (place_spelling x.place ++ (eight_bytes x.position ++ s)) =
-    simp append_assoc in
-    let first = append-injective head (front_head x) _ _ h (e ∙ regrouped) in
+    let first = append-injective head (front_head x) _ _ h (e ∙ regrouped-front x b) in
     let kind : variant_of y.place ≡ variant_of x.place =
     variant_byte-injective _ _ (t ∙ ap (λ (z : List ℕ). get_or z 4 0) first.0) in
     let sizes = length-place_spelling y.place iy ∙ ap place_length kind ∙ sym (length-place_spelling x.place is.place) in
@@ -148,19 +148,8 @@ pub front_of_fields : (y : Content) (front head r₁ r₂ r₃ : List ℕ) (n : 
     r₂ ≡ eight_bytes y.position ++ r₃ → r₃ ≡ four_bytes n ++ y.state → HasHead y head n →
     IsContent y × (front ≡ snapshot_front y)
 unfolding snapshot_front
-front_of_fields y front head r₁ r₂ r₃ n e₁ iy e₂ e₃ e₄ h = (
-  record { place = iy; position = h.1; state = h.3 },
-  e₁ ∙ ap (λ (z : List ℕ). z ++ r₁) h.0
-      ∙ ap (λ (z : List ℕ). front_head y ++ z)
-      (e₂ ∙ ap (λ (z : List ℕ). place_spelling y.place ++ z)
-      (e₃ ∙ ap (λ (z : List ℕ). eight_bytes y.position ++ z)
-      (e₄ ∙ ap (λ (m : ℕ). four_bytes m ++ y.state) (sym h.2)))),
-)
-
-regrouped-front : (x : Content) (a : List ℕ) → snapshot_front x ++ a ≡
-    front_head x ++ (place_spelling x.place ++ (eight_bytes x.position ++ (four_bytes (length x.state) ++ (x.state ++ a))))
-unfolding snapshot_front
-regrouped-front x a = simp append_assoc
+front_of_fields y front head r₁ r₂ r₃ n e₁ iy e₂ e₃ e₄ h =
+    (record { place = iy; position = h.1; state = h.3 }, rw (e₁, h.0, e₂, e₃, e₄, h.2) refl)
 
 -- two contents at the front of one list are one content
 pub same_front : (x y : Content) (a b : List ℕ) → IsContent x → IsContent y →

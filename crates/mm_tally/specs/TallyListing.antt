@@ -3,7 +3,7 @@ use Rattle.std.specs.Prelude.{ℕ, ◌%◌, ◌==◌, List, codes, if◌then◌e
 use Rattle.std.proofs.Common.{refl, arith}
 use Rattle.mm_module.specs.LineLaws.{IsText}
 use Rattle.mm_listing.specs.Listing.{Listing, IsListing}
-use Rattle.mm_listing.specs.RequestLaws.{in_both, word}
+use Rattle.mm_listing.specs.RequestLaws.{in_both, listed, word}
 use Rattle.mm_tally.specs.Promise.{TellsMarks}
 use Rattle.mm_tally.specs.PromiseLaws.{tells-marks}
 use Rattle.mm_tally.specs.Table.{tally}
@@ -26,10 +26,6 @@ asks choice =
     (word (codes "mark") refl (omega arith))
 
 pub tally_is_listed : IsListing tally tally_listing
-tally_is_listed = record {
-  means = refl;
-  lawful = tally_is_lawful;
-  named = record { begins = refl; letters = refl; other = refl };
-  asks = asks;
-  keeps = λ requests tellings said. tells-marks requests tellings said;
-}
+tally_is_listed =
+    listed tally_listing (record { begins = refl; letters = refl; other = refl })
+    tally_is_lawful asks tells-marks

@@ -1,58 +1,24 @@
-use Rattle.mm_seal.proofs.Below.{◌≡◌, sym, ◌∙◌, ap, subst, true, false, List, ℕ, joined}
+use Rattle.mm_seal.proofs.Below.{◌≡◌, sym, ◌∙◌, ap, subst, true, false, joined}
 use Rattle.mm_seal.specs.declared.cell.Cell.{Cell}
 use Rattle.mm_seal.specs.Cell.{FitsVariant, cell_spelling, IsNoCell}
-use Rattle.mm_seal.specs.CellLaws.{fields-cell_spelling, cell_of_fields-only, IsSplit}
+use Rattle.mm_seal.specs.CellLaws.{fields-cell_spelling, cell_of_fields-only}
 use Rattle.mm_seal.proofs.cell.cell_of.Goals as goal
 use Rattle.mm_seal.proofs.cell.cell_of.Goals.{else-fits_variant-via-then-fits_variant+else-is_spelled, else-fits_variant-via-else-fits_variant}
 
 pub returns-in_err-variant : goal.returns-in_err-variant
 returns-in_err-variant c =
-    let head : List ℕ = c.split_at.result.0.now in
-    let taken : IsSplit c.args.bytes.now head c.in_ok-summary.summary.bytes c.in_ok-key.key c.in_ok-barrier.barrier =
-    record {
-      after_head = c.split_at.result.1.now;
-      after_summary = c.in_ok-summary.rest.now;
-      after_key = c.in_ok-key.rest.now;
-      rest = c.in_ok-barrier.field-0-1.now;
-      whole = joined 8 _ _ _ c.split_at.ensures.front c.split_at.ensures.back;
-      at_summary = c.in_ok-summary.ensures.0;
-      at_key = c.in_ok-key.ensures.0;
-      at_barrier = c.in_ok-barrier.ensures.0;
-      head_size = c.split_at.ensures.front_len;
-      summary_size = c.in_ok-summary.ensures.1;
-      key_size = c.in_ok-key.ensures.1;
-      barrier_size = c.in_ok-barrier.ensures.1;
-    }
-    in
     let none : IsNoCell c.args.bytes.now =
     λ cell is e. c.in_err-variant.ensures cell.variant
-    (fields-cell_spelling cell c.args.bytes.now head c.in_ok-summary.summary.bytes c.in_ok-key.key
-    c.in_ok-barrier.barrier is e taken).variant
+    (fields-cell_spelling _ _ _ _ _ _ _ _ _ cell is e (joined 8 _ _ _ c.split_at.ensures.front c.split_at.ensures.back)
+    c.split_at.ensures.front_len c.in_ok-summary.ensures c.in_ok-key.ensures c.in_ok-barrier.ensures).variant
     in
     rw c.from_residual-in_err-variant.ensures none
 
 pub returns-else-fits_variant : goal.returns-else-fits_variant
 returns-else-fits_variant c cell is e =
-    let head : List ℕ = c.split_at.result.0.now in
-    let taken : IsSplit c.args.bytes.now head c.in_ok-summary.summary.bytes c.in_ok-key.key c.in_ok-barrier.barrier =
-    record {
-      after_head = c.split_at.result.1.now;
-      after_summary = c.in_ok-summary.rest.now;
-      after_key = c.in_ok-key.rest.now;
-      rest = c.in_ok-barrier.field-0-1.now;
-      whole = joined 8 _ _ _ c.split_at.ensures.front c.split_at.ensures.back;
-      at_summary = c.in_ok-summary.ensures.0;
-      at_key = c.in_ok-key.ensures.0;
-      at_barrier = c.in_ok-barrier.ensures.0;
-      head_size = c.split_at.ensures.front_len;
-      summary_size = c.in_ok-summary.ensures.1;
-      key_size = c.in_ok-key.ensures.1;
-      barrier_size = c.in_ok-barrier.ensures.1;
-    }
-    in
     let same =
-    cell_of_fields-only cell c.in_ok-variant.variant c.args.bytes.now head c.in_ok-summary.summary.bytes
-    c.in_ok-key.key c.in_ok-barrier.barrier is e taken c.in_ok-variant.ensures
+    cell_of_fields-only _ _ _ _ _ _ _ _ _ cell is e (joined 8 _ _ _ c.split_at.ensures.front c.split_at.ensures.back)
+    c.split_at.ensures.front_len c.in_ok-summary.ensures c.in_ok-key.ensures c.in_ok-barrier.ensures c.in_ok-variant.variant c.in_ok-variant.ensures
     in
     let fits = subst (λ (x : Cell). FitsVariant x.variant x.flag x.barrier) (sym same) is.variant in
     let spelled = e ∙ sym (ap cell_spelling same) in

@@ -1,6 +1,5 @@
-use Rattle.mm_quota.proofs.Below.{ap, sym, ◌∙◌, ℕ, None, Some, account_bytes, as_front}
-use Rattle.std.proofs.Common.{List, ◌++◌}
-use Rattle.mm_quota.proofs.PlaceLaws.{Finding-given, Finding-begins}
+use Rattle.mm_quota.proofs.Below.{sym, ◌∙◌, None, Some, as_front}
+use Rattle.mm_quota.proofs.PlaceLaws.{Finding-given, Finding-begins, place-is}
 use Rattle.mm_quota.proofs.place.Place.of.Goals as goal
 
 pub accounts-init : goal.accounts-init
@@ -13,23 +12,13 @@ pub returns-in-Equal : goal.returns-in-Equal
 returns-in-Equal c =
     let next = Finding-given _ _ _ _ _ _ (Some (as_front (c.in-Some.account, c.in-Some.others))) c.accounts.invariant c.accounts-test.true
     c.in-Some.ensures in
-    let place = next.equal (sym c.in-Equal.ensures) in
-    record {
-      account = sym place.0;
-      puts = λ new named. place.1 new named
-          ∙ ap (λ (front : List ℕ). front ++ (account_bytes new ++ c.in-Some.others.now)) (sym c.front_of.ensures);
-    }
+    place-is _ _ _ _ _ (next.equal (sym c.in-Equal.ensures)) c.front_of.ensures
 
 pub returns-in-Less : goal.returns-in-Less
 returns-in-Less c =
     let next = Finding-given _ _ _ _ _ _ (Some (as_front (c.in-Some.account, c.in-Some.others))) c.accounts.invariant c.accounts-test.true
     c.in-Some.ensures in
-    let place = next.less (sym c.in-Less.ensures) in
-    record {
-      account = sym place.0;
-      puts = λ new named. place.1 new named
-          ∙ ap (λ (front : List ℕ). front ++ (account_bytes new ++ c.accounts.rest.now)) (sym c.front_of-in-Less.ensures);
-    }
+    place-is _ _ _ _ _ (next.less (sym c.in-Less.ensures)) c.front_of-in-Less.ensures
 
 pub accounts-preserved : goal.accounts-preserved
 accounts-preserved c =
