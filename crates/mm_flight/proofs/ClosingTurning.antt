@@ -11,13 +11,14 @@ use Rattle.mm_opt.specs.declared.stage.CheckpointStage.TheVariants as stage
 use Rattle.mm_opt.specs.declared.closing.CheckpointTurn.{CheckpointTurn}
 use Rattle.mm_opt.specs.declared.closing.CheckpointTurn.TheVariants.{Going, Done, Refused}
 use Rattle.mm_opt.specs.Checkpoints.{closing_act_of, closing_number_of, closing_fault_in, Looks, Weighs, Closes, FinishesClosing}
-use Rattle.mm_opt.specs.CheckpointTurns.{looked_turn, weighed_turn, closed_turn, TurnsClosingBy, ClosingTurns, closing_fault_turned}
+use Rattle.mm_opt.specs.CheckpointTurns.{looked_turn, weighed_turn, closed_turn, ClosingTurns, closing_fault_turned}
+use Rattle.mm_opt.specs.Turns.{TurnsBy}
 use Rattle.mm_flight.proofs.Replanning.{Replans, replanned, Moves, GoesTo, goes_to, moves_by, quiet_step}
 
 -- under another plan that says the same of the step
 
 with_step : {A : Type 0} {steps other : A → Type 0} {given : A → CheckpointTurn} {turn : CheckpointTurn}
-    (t : TurnsClosingBy steps given turn) → other t.outcome → TurnsClosingBy other given turn
+    (t : TurnsBy steps given turn) → other t.outcome → TurnsBy other given turn
 with_step t step = record { outcome = t.outcome; step = step; gives = t.gives }
 
 pub closing_replanned : (call : CheckpointStage) (old new : Standing) (turn : CheckpointTurn) (p q : Plan) (made : ℕ) → Replans p q made old
