@@ -3,7 +3,7 @@
 ghost use Rattle.std.specs.Prelude.{◌≡◌, ◌∷◌, [], None, option_to_list};
 ghost use Rattle.mm_call.specs.Called.{Answers};
 ghost use Rattle.mm_schedule.specs.declared.reply.Way.TheVariants.{Fault};
-ghost use Rattle.mm_run.specs.Folds.{way_of, cause_of, reply_of, snapshots_of, closing_reply};
+ghost use Rattle.mm_run.specs.Folds.{reply_of, snapshots_of, closing_reply};
 ghost use Rattle.mm_expect.specs.Calls.{ending_of};
 ghost use Rattle.mm_expect.specs.Closings.{closing_as};
 
@@ -11,37 +11,8 @@ use crate::calls::Closing;
 use mm_base::Bytes;
 use mm_call::Ended;
 use mm_model::{BatchAnswer, Refusal};
-use mm_platform::Stop;
+use mm_run::cause;
 use mm_schedule::{Cause, Reply, Way};
-
-/// How a call is broken off.
-pub(crate) fn way(stop: Stop) -> Way
-    ensures { result ≡ way_of stop }
-{
-    match stop {
-        Stop::Cut(_) => Way::Cut,
-        Stop::Drop(_) => Way::Drop,
-        Stop::Quiet | Stop::Fail { .. } => Way::Fault,
-    }
-}
-
-// The cause that a reply names.
-fn cause(refusal: Refusal) -> Cause
-    ensures { result ≡ cause_of refusal }
-{
-    match refusal {
-        Refusal::Lost => Cause::Lost,
-        Refusal::Form => Cause::Form,
-        Refusal::Kind => Cause::Kind,
-        Refusal::State => Cause::State,
-        Refusal::Tag => Cause::Tag,
-        Refusal::Stale => Cause::Stale,
-        Refusal::Full => Cause::Full,
-        Refusal::Blank => Cause::Blank,
-        Refusal::Cell => Cause::Cell,
-        Refusal::Memory | Refusal::Long | Refusal::Device(_) => Cause::Long,
-    }
-}
 
 /// A reply, and the snapshot that is handed out with it.
 #[derive(Drop)]

@@ -2,13 +2,15 @@
 //! run of the module. By lists, which know no digest, they are what the list of all requests says; by digests, which
 //! know no list, what the code computes. Both agree under what is asked of a run. Nothing here runs a schedule: the
 //! definitions stand apart from the code that is proved against them. Whoever runs one takes the bytes that an event
-//! offers from here.
+//! offers, and how a reply names an end, from here.
 #![tactic(auto)]
 
+mod ending;
 mod keys;
 mod laws;
 mod offer;
 
+pub use ending::{cause, way};
 pub use keys::{rising, world_barrier, world_key};
 pub use laws::{
     basic_is_expected, events_agree, events_keep_names, events_step, expected_runs,

@@ -5,7 +5,6 @@ ghost use Rattle.mm_modules.specs.Modules.{meaning_of};
 ghost use Rattle.mm_move.specs.Cells.{moved_of};
 ghost use Rattle.mm_move.specs.Orders.{waiting_for, invites_in, retires_in, accepts_in};
 ghost use Rattle.mm_move.specs.Refusals.{move_fault_in};
-ghost use Rattle.mm_run.specs.Folds.{cause_of};
 ghost use Rattle.mm_transfer.specs.Between.{RefusedAs, has_moved};
 ghost use Rattle.mm_transfer.specs.Planned.{MovesPlanned, moves_at};
 
@@ -15,8 +14,9 @@ use mm_digest::Variant;
 use mm_model::Refusal;
 use mm_move::{Accepted, Invited, Link, MoveRefusal};
 use mm_platform::{Meddle, MemPlatform, Stop};
-use mm_schedule::{Cause, Header};
-use mm_world::{settle, way};
+use mm_run::{cause, way};
+use mm_schedule::Header;
+use mm_world::settle;
 use std::alloc::Global;
 
 const NO_MEMORY: MoveRefusal = MoveRefusal::Core(Refusal::Memory);
@@ -46,24 +46,6 @@ pub fn has_moved(stop: Stop, why: MoveRefusal) -> bool
     match why {
         MoveRefusal::Core(Refusal::Device(_)) => moves_at(stop),
         _ => false,
-    }
-}
-
-// The cause that a reply names. A move is refused for no other reason of a call.
-fn cause(refusal: Refusal) -> Cause
-    ensures { result ≡ cause_of refusal }
-{
-    match refusal {
-        Refusal::Lost => Cause::Lost,
-        Refusal::Form => Cause::Form,
-        Refusal::Kind => Cause::Kind,
-        Refusal::State => Cause::State,
-        Refusal::Tag => Cause::Tag,
-        Refusal::Stale => Cause::Stale,
-        Refusal::Full => Cause::Full,
-        Refusal::Blank => Cause::Blank,
-        Refusal::Cell => Cause::Cell,
-        Refusal::Memory | Refusal::Long | Refusal::Device(_) => Cause::Long,
     }
 }
 

@@ -1,21 +1,17 @@
 //! One side of a transfer: a platform in memory, and the snapshots that were issued on it.
 
-ghost use Rattle.std.specs.Prelude.{◌≡◌, IfOk};
-ghost use Rattle.mm_seal.specs.Cell.{cell_spelling, blank_cell};
-ghost use Rattle.mm_model.specs.History.{first_history};
-ghost use Rattle.mm_model.specs.Standing.{cell_of, issued_bytes};
-ghost use Rattle.mm_sides.specs.Both.{First, instance_on};
-ghost use Rattle.mm_transfer.specs.Pairs.{pair_of};
+ghost use Rattle.std.specs.Prelude.{◌≡◌};
+ghost use Rattle.mm_seal.specs.Cell.{blank_cell};
 ghost use Rattle.mm_transfer.specs.Lengths.{length_if};
 
 use mm_base::{Bytes, CELL_LENGTH, Memory};
 use mm_call::{KeptKey, Provisioned};
-use mm_digest::{Digest, Variant, start};
+use mm_digest::{Digest, start};
 use mm_module::{Batch, Module};
 use mm_platform::{Meddle, MemPlatform, Stop};
 use mm_run::{world_barrier, world_key};
 use mm_schedule::{Event, Header, Offer, Reply};
-use mm_world::{Called, call_by_offer, listed, planned_checkpoint};
+use mm_world::{Called, call_by_offer, listed, planned_checkpoint, provisioned};
 use std::alloc::Global;
 
 /// One side of a transfer. Its cell tells whether the module is there, is awaited there, has left, or never was.
@@ -50,24 +46,6 @@ fn blank_bytes() -> [u8; CELL_LENGTH]
     [0; CELL_LENGTH]
 }
 
-// The first cell and snapshot of the module, where it is at first.
-fn provisioned(alloc: Global, header: &Header) -> Result<Provisioned, Memory>
-    ensures cell { IfOk result (λ made. made.cell
-        ≡ cell_spelling (cell_of (instance_on (pair_of header.now) First) first_history)) }
-    ensures snapshot { IfOk result
-        (λ made. made.snapshot ≡ issued_bytes (instance_on (pair_of header.now) First) first_history) }
-{
-    match header.variant {
-        Variant::Basic => mm_basic::provision(
-            alloc,
-            &header.module,
-            &world_key(),
-            &world_barrier(),
-        ),
-        Variant::Opt => mm_opt::provision(alloc, &header.module, &world_key(), &world_barrier()),
-    }
-}
-
 impl Side {
     ghost use Rattle.std.specs.Prelude.{◌≡◌, ◌+◌, ◌<◌, ◌^◌, IfOk, IsSome, Ok, vec_len, vec_capacity};
     ghost use Rattle.mm_seal.specs.Cell.{cell_spelling};
@@ -86,7 +64,13 @@ impl Side {
         ensures { IfOk result (IsNew (pair_of header.now) First
             (first_both (pair_of header.now)).first) }
     {
-        match provisioned(alloc, header) {
+        match provisioned(
+            alloc,
+            header.variant,
+            &header.module,
+            &world_key(),
+            &world_barrier(),
+        ) {
             Err(memory) => Err(memory),
             Ok(made) => Side::over(alloc, header, made),
         }

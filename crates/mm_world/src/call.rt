@@ -5,7 +5,6 @@ ghost use Rattle.mm_module.specs.Batches.{batch_of};
 ghost use Rattle.mm_module.specs.Meaning.{Meaning};
 ghost use Rattle.mm_digest.specs.declared.variant.Variant.{Variant};
 ghost use Rattle.mm_call.specs.Ended.{is_broken};
-ghost use Rattle.mm_run.specs.Folds.{way_of, cause_of};
 ghost use Rattle.mm_run.specs.Offered.{offered_bytes};
 ghost use Rattle.mm_world.specs.InVain.{AsksPlanned, ChecksPlanned};
 ghost use Rattle.mm_world.specs.Calls.{refused_call, answered_call, broken_as, takes_effect, CalledAs, Restores, SettlesPlan, closes_at, told_closing, stops_in};
@@ -18,8 +17,8 @@ use mm_model::{BatchAnswer, Refusal};
 use mm_module::{Batch, Module};
 use mm_opt::{CheckpointRefusal, Checkpointed};
 use mm_platform::{Meddle, MemPlatform, Stop};
-use mm_run::offered;
-use mm_schedule::{Cause, Offer, Reply, Way};
+use mm_run::{cause, offered, way};
+use mm_schedule::{Cause, Offer, Reply};
 use std::alloc::Global;
 
 /// What a call came to.
@@ -87,17 +86,6 @@ impl Called {
     }
 }
 
-/// How a call is broken off.
-pub fn way(stop: Stop) -> Way
-    ensures { result ≡ way_of stop }
-{
-    match stop {
-        Stop::Cut(_) => Way::Cut,
-        Stop::Drop(_) => Way::Drop,
-        Stop::Quiet | Stop::Fail { .. } => Way::Fault,
-    }
-}
-
 /// Whether the step at which a call is stopped has its effect.
 pub fn takes_effect(stop: Stop) -> bool
     ensures { result ≡ takes_effect stop }
@@ -105,24 +93,6 @@ pub fn takes_effect(stop: Stop) -> bool
     match stop {
         Stop::Quiet | Stop::Cut(_) | Stop::Drop(_) => true,
         Stop::Fail { done, .. } => done,
-    }
-}
-
-// The cause that a reply names. A world's calls are refused for no other reason.
-fn cause(refusal: Refusal) -> Cause
-    ensures { result ≡ cause_of refusal }
-{
-    match refusal {
-        Refusal::Lost => Cause::Lost,
-        Refusal::Form => Cause::Form,
-        Refusal::Kind => Cause::Kind,
-        Refusal::State => Cause::State,
-        Refusal::Tag => Cause::Tag,
-        Refusal::Stale => Cause::Stale,
-        Refusal::Full => Cause::Full,
-        Refusal::Blank => Cause::Blank,
-        Refusal::Cell => Cause::Cell,
-        Refusal::Memory | Refusal::Long | Refusal::Device(_) => Cause::Long,
     }
 }
 

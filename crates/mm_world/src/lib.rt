@@ -7,7 +7,7 @@ mod world;
 
 pub use call::{
     Called, call_by_offer, came_to, closing, is_broken, is_stopped, planned_checkpoint, settle,
-    takes_effect, way,
+    takes_effect,
 };
-pub use parts::{keep, listed};
+pub use parts::{keep, listed, provisioned};
 pub use world::World;

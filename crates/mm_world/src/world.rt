@@ -1,16 +1,10 @@
 //! A world: a platform in memory with a module on it, and the snapshots that were handed out.
 
-ghost use Rattle.std.specs.Prelude.{◌≡◌, IfOk};
-ghost use Rattle.mm_seal.specs.Cell.{cell_spelling};
-ghost use Rattle.mm_model.specs.History.{first_history};
-ghost use Rattle.mm_model.specs.Standing.{cell_of, issued_bytes};
-ghost use Rattle.mm_run.specs.Held.{world_of};
-
 use crate::call::{Called, call_by_offer, planned_checkpoint};
-use crate::parts::{first, keep, listed};
+use crate::parts::{first, keep, listed, provisioned};
 use mm_base::{Bytes, Memory};
 use mm_call::{KeptKey, Provisioned};
-use mm_digest::{Digest, Variant};
+use mm_digest::Digest;
 use mm_module::Batch;
 use mm_platform::{Meddle, MemPlatform, Stop};
 use mm_run::{world_barrier, world_key};
@@ -40,24 +34,6 @@ impl Model for World {
     ghost invariant = { λ w. KeepsWorld w.header w.platform w.issued.items w.committed };
 }
 
-// The first cell and snapshot of a world.
-fn provisioned(alloc: Global, header: &Header) -> Result<Provisioned, Memory>
-    ensures cell { IfOk result (λ made. made.cell
-        ≡ cell_spelling (cell_of (world_of header.now) first_history)) }
-    ensures snapshot { IfOk result
-        (λ made. made.snapshot ≡ issued_bytes (world_of header.now) first_history) }
-{
-    match header.variant {
-        Variant::Basic => mm_basic::provision(
-            alloc,
-            &header.module,
-            &world_key(),
-            &world_barrier(),
-        ),
-        Variant::Opt => mm_opt::provision(alloc, &header.module, &world_key(), &world_barrier()),
-    }
-}
-
 impl World {
     ghost use Rattle.std.specs.Prelude.{◌≡◌, ◌<◌, ◌≤◌, ◌+◌, ◌-◌, ◌^◌, IfOk, OnErr, length, slice_get, option_copied};
     ghost use Rattle.mm_base.specs.Limits.{most_members};
@@ -75,7 +51,13 @@ impl World {
     pub fn new(alloc: Global, header: &Header) -> Result<World, Memory>
         ensures { IfOk result (λ world. world ≡ first_held header.now) }
     {
-        match provisioned(alloc, header) {
+        match provisioned(
+            alloc,
+            header.variant,
+            &header.module,
+            &world_key(),
+            &world_barrier(),
+        ) {
             Err(memory) => Err(memory),
             Ok(made) => World::over(alloc, *header, made),
         }
