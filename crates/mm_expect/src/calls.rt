@@ -3,12 +3,13 @@
 ghost use Rattle.std.specs.Prelude.{◌≡◌};
 
 use crate::chronicle::Chronicle;
-use crate::course::{Course, Move, Step, is_made_at};
+use crate::course::{Move, Step, is_made_at};
 use mm_base::Memory;
 use mm_call::Ended;
 use mm_digest::Variant;
 use mm_module::Batch;
 use mm_platform::StepFault;
+use mm_run::Course;
 use mm_seal::SealingKey;
 
 impl Chronicle {

@@ -6,14 +6,8 @@ ghost use Rattle.mm_platform.specs.Steps.{fault_at, is_made_at};
 use crate::chronicle::Chronicle;
 use mm_base::Memory;
 use mm_module::Batch;
-use mm_platform::{Meddle, StepFault, Stop};
-
-/// Where a call is stopped, and what others put into the register before its steps.
-#[derive(Clone, Copy)]
-pub(crate) struct Course<'a> {
-    pub(crate) stop: Stop,
-    pub(crate) meddles: &'a [Meddle],
-}
+use mm_platform::{StepFault, Stop};
+use mm_run::Course;
 
 /// What a step of the core does to a history.
 #[derive(Clone, Copy)]

@@ -14,7 +14,6 @@ ghost use Rattle.mm_expect.specs.Recorded.{Went, recorded_instance};
 
 use crate::calls::Closing;
 use crate::chronicle::Chronicle;
-use crate::course::Course;
 use crate::offers::{is_genuine, right_body};
 use crate::replies::{Said, closing_said, quiet, said_of};
 use mm_base::{Bytes, Memory};
@@ -24,7 +23,7 @@ use mm_history::list_place;
 use mm_model::{is_long, normal};
 use mm_module::Batch;
 use mm_platform::{Meddle, Stop};
-use mm_run::{offered, way, world_key};
+use mm_run::{Course, offered, way, world_key};
 use mm_schedule::{Cause, Event, Header, Meddles, Offer, Reply};
 use mm_seal::SealingKey;
 use std::alloc::Global;

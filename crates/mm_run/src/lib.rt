@@ -5,11 +5,13 @@
 //! offers, and how a reply names an end, from here.
 #![tactic(auto)]
 
+mod course;
 mod ending;
 mod keys;
 mod laws;
 mod offer;
 
+pub use course::Course;
 pub use ending::{cause, way};
 pub use keys::{rising, world_barrier, world_key};
 pub use laws::{

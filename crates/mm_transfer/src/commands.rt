@@ -19,7 +19,7 @@ ghost use Rattle.mm_transfer.specs.Pairs.{pair_of};
 
 use crate::between::{Between, either};
 use crate::event::{Command, Which};
-use crate::moving::{Course, has_moved, planned_accept, planned_invite, planned_retire, refused};
+use crate::moving::{has_moved, planned_accept, planned_invite, planned_retire, refused};
 use crate::reply::MoveReply;
 use crate::side::Side;
 use mm_base::{Bytes, CELL_LENGTH, Memory};
@@ -27,7 +27,7 @@ use mm_digest::Digest;
 use mm_module::Module;
 use mm_move::{Accepted, Invited, Link, MoveRefusal, MovedCell, read_moved};
 use mm_platform::{MemPlatform, Stop};
-use mm_run::{offered, rising, world_barrier, world_key};
+use mm_run::{Course, offered, rising, world_barrier, world_key};
 use mm_schedule::{Header, Offer};
 use std::alloc::Global;
 

@@ -13,8 +13,8 @@ use mm_base::{Bytes, Memory};
 use mm_digest::Variant;
 use mm_model::Refusal;
 use mm_move::{Accepted, Invited, Link, MoveRefusal};
-use mm_platform::{Meddle, MemPlatform, Stop};
-use mm_run::{cause, way};
+use mm_platform::{MemPlatform, Stop};
+use mm_run::{Course, cause, way};
 use mm_schedule::Header;
 use mm_world::settle;
 use std::alloc::Global;
@@ -66,13 +66,6 @@ pub fn refused(stop: Stop, why: MoveRefusal) -> Result<MoveReply, Memory>
         MoveRefusal::Nonce => Ok(MoveReply::Denied(MoveCause::Nonce)),
         MoveRefusal::Barrier => Ok(MoveReply::Denied(MoveCause::Barrier)),
     }
-}
-
-/// Where a move is stopped, and what others put into the register before its steps.
-#[derive(Clone, Copy)]
-pub struct Course<'a> {
-    pub stop: Stop,
-    pub meddles: &'a [Meddle],
 }
 
 /// Invites the platform under this plan.

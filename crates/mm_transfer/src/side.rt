@@ -9,9 +9,9 @@ use mm_call::{KeptKey, Provisioned};
 use mm_digest::{Digest, start};
 use mm_module::{Batch, Module};
 use mm_platform::{Meddle, MemPlatform, Stop};
-use mm_run::{world_barrier, world_key};
+use mm_run::{Course, world_barrier, world_key};
 use mm_schedule::{Event, Header, Offer, Reply};
-use mm_world::{Called, call_by_offer, listed, planned_checkpoint, provisioned};
+use mm_world::{Called, Caller, call_by_offer, listed, planned_checkpoint, provisioned};
 use std::alloc::Global;
 
 /// One side of a transfer. Its cell tells whether the module is there, is awaited there, has left, or never was.
@@ -157,16 +157,18 @@ impl Side {
             self.old self.new result }
     {
         self.issued.reserve(1)?;
-        match call_by_offer(
+        let caller = Caller {
             alloc,
-            header.variant,
-            &header.module,
+            variant: header.variant,
+            module: &header.module,
+        };
+        match call_by_offer(
+            &caller,
             &mut self.platform,
             self.issued.as_slice(),
             offer,
             batch,
-            meddles,
-            stop,
+            &Course { stop, meddles },
             &mut self.keys,
         ) {
             Err(memory) => Err(memory),

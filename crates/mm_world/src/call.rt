@@ -17,7 +17,7 @@ use mm_model::{BatchAnswer, Refusal};
 use mm_module::{Batch, Module};
 use mm_opt::{CheckpointRefusal, Checkpointed};
 use mm_platform::{Meddle, MemPlatform, Stop};
-use mm_run::{cause, offered, way};
+use mm_run::{Course, cause, offered, way};
 use mm_schedule::{Cause, Offer, Reply};
 use std::alloc::Global;
 
@@ -140,37 +140,36 @@ fn restore(platform: &mut MemPlatform, stop: Stop)
     }
 }
 
-// A module in a variant, and the allocator of its calls.
+/// A module in a variant, and the allocator of its calls.
 #[derive(Drop)]
-struct Caller<'a, M> {
-    alloc: Global,
-    variant: Variant,
-    module: &'a M,
+pub struct Caller<'a, M> {
+    pub alloc: Global,
+    pub variant: Variant,
+    pub module: &'a M,
 }
 
-// Makes the call that offers these bytes and asks for a batch, under the plan of these meddles and
-// this stop, over a platform that is on and has no plan.
+// Makes the call that offers these bytes and asks for a batch, on this course, over a platform that is on and has no plan.
 fn planned_call<M: Module>(
     caller: &Caller<M>,
     platform: &mut MemPlatform,
     offer: &[u8],
     batch: Batch<'_>,
-    meddles: &[Meddle],
-    stop: Stop,
+    course: &Course<'_>,
     keys: &mut KeptKey,
 ) -> Result<Called, Memory>
     ensures { (issued : List (List ℕ))
         → AsksPlanned caller.now.variant (M.meaning caller.now.«module».now) platform.old
-        platform.new issued meddles.now stop (Some offer.now) (batch_of batch.entry) result }
+        platform.new issued course.now.meddles.now course.now.stop (Some offer.now)
+        (batch_of batch.entry) result }
 {
     match AskCall::begin(caller.variant, batch) {
         Err(_) => Ok(Called::refused(Cause::Long)),
-        Ok(call) => match platform.plan(stop, meddles) {
+        Ok(call) => match platform.plan(course.stop, course.meddles) {
             Err(memory) => Err(memory),
             Ok(()) => {
                 let ended = call.finish(caller.alloc, caller.module, platform, offer, batch, keys);
-                settle(platform, stop, is_broken(&ended));
-                came_to(stop, ended, batch.len() as u64)
+                settle(platform, course.stop, is_broken(&ended));
+                came_to(course.stop, ended, batch.len() as u64)
             }
         },
     }
@@ -179,39 +178,22 @@ fn planned_call<M: Module>(
 /// Makes the call that asks for a batch, with the bytes that the offer names, over a platform that is on and has no plan.
 /// A cell that is blank, or none of this variant and module, is read in vain: the call makes no further step.
 pub fn call_by_offer<M: Module>(
-    alloc: Global,
-    variant: Variant,
-    module: &M,
+    caller: &Caller<M>,
     platform: &mut MemPlatform,
     issued: &[Bytes],
     offer: &Offer,
     batch: Batch<'_>,
-    meddles: &[Meddle],
-    stop: Stop,
+    course: &Course<'_>,
     keys: &mut KeptKey,
 ) -> Result<Called, Memory>
-    ensures { AsksPlanned variant (M.meaning «module».now) platform.old platform.new issued.now
-        meddles.now stop (offered_bytes issued.now offer.now) (batch_of batch.entry) result }
+    ensures { AsksPlanned caller.now.variant (M.meaning caller.now.«module».now) platform.old
+        platform.new issued.now course.now.meddles.now course.now.stop
+        (offered_bytes issued.now offer.now) (batch_of batch.entry) result }
 {
-    let caller = Caller {
-        alloc,
-        variant,
-        module,
-    };
-    match offered(alloc, issued, offer) {
+    match offered(caller.alloc, issued, offer) {
         Err(memory) => Err(memory),
         Ok(None) => Ok(Called::refused(Cause::Snapshot)),
-        Ok(Some(offered)) => {
-            planned_call(
-                &caller,
-                platform,
-                offered.bytes(),
-                batch,
-                meddles,
-                stop,
-                keys,
-            )
-        }
+        Ok(Some(offered)) => planned_call(caller, platform, offered.bytes(), batch, course, keys),
     }
 }
 

@@ -6,8 +6,8 @@ mod parts;
 mod world;
 
 pub use call::{
-    Called, call_by_offer, came_to, closing, is_broken, is_stopped, planned_checkpoint, settle,
-    takes_effect,
+    Called, Caller, call_by_offer, came_to, closing, is_broken, is_stopped, planned_checkpoint,
+    settle, takes_effect,
 };
 pub use parts::{keep, listed, provisioned};
 pub use world::World;

@@ -1,13 +1,13 @@
 //! A world: a platform in memory with a module on it, and the snapshots that were handed out.
 
-use crate::call::{Called, call_by_offer, planned_checkpoint};
+use crate::call::{Called, Caller, call_by_offer, planned_checkpoint};
 use crate::parts::{first, keep, listed, provisioned};
 use mm_base::{Bytes, Memory};
 use mm_call::{KeptKey, Provisioned};
 use mm_digest::Digest;
 use mm_module::Batch;
 use mm_platform::{Meddle, MemPlatform, Stop};
-use mm_run::{world_barrier, world_key};
+use mm_run::{Course, world_barrier, world_key};
 use mm_schedule::{Event, EventText, Header, Meddles, Offer, OfferText, Reply, owned_offer};
 use std::alloc::Global;
 use std::marker::Model;
@@ -246,17 +246,18 @@ impl World {
             (Wants (Ask meddles.now stop offer.now (batch_of batch.entry)) self.old self.new) }
     {
         self.issued.reserve(1)?;
-        let alloc = *self.issued.allocator();
+        let caller = Caller {
+            alloc: *self.issued.allocator(),
+            variant: self.header.variant,
+            module: &self.header.module,
+        };
         match call_by_offer(
-            alloc,
-            self.header.variant,
-            &self.header.module,
+            &caller,
             &mut self.platform,
             self.issued.as_slice(),
             offer,
             batch,
-            meddles,
-            stop,
+            &Course { stop, meddles },
             &mut self.keys,
         ) {
             Err(memory) => Err(memory),
