@@ -52,12 +52,12 @@ pub use Rattle.mm_run.proofs.Above.{goes_on, in_any_way, short_size}
 pub use Rattle.mm_expect.specs.Numbered.{messages_if, messages_where, numbered_event}
 pub use Rattle.mm_play.proofs.Above.{for_whole, not_ok, ok_same, outcome_of, plays_err, plays_ok}
 pub use Rattle.mm_replay.specs.Schedule.{after_event, is_too_much, replaying, Running, running_outcome}
-pub use Rattle.mm_check.specs.Checking.{after_compared, AtHeader, check_answer, check_closing, CheckStage, Compared, differs_then}
+pub use Rattle.mm_check.specs.Checking.{after_compared, AtHeader, check_answer, check_closing, CheckStage, Compared}
 pub use Rattle.mm_check.specs.Checking.{first_compared, first_read, headed, InEvents, InReplies, is_line, Read, read_line, section_line}
 pub use Rattle.mm_check.specs.Checking.{with_event}
-pub use Rattle.mm_check.specs.Deciding.{forged_then, IsFirstForged, premise_by, StandsBehind}
+pub use Rattle.mm_check.specs.Deciding.{IsFirstForged, premise_by, StandsBehind}
 pub use Rattle.mm_check.specs.Guards.{digest_items, events_of, HasAll, secured_by}
-pub use Rattle.mm_check.specs.Listing.{both_more, first_where, is_zero, listed, lower, message_digests, shared_in, shared_with, zero_in}
+pub use Rattle.mm_check.specs.Listing.{both_more, first_then, first_where, is_zero, listed, lower, message_digests, shared_in, shared_with, zero_in}
 pub use Rattle.mm_check.specs.Listing.{zero_then}
 pub use Rattle.mm_check.specs.Lists.{CountsDigests, has_message, Lists, pair_of}
 pub use Rattle.mm_check.specs.Numbering.{Decides, expected_lines, is_secured, IsForgedAt, lines_of_all, numbered, numbered_from, secured_in}

@@ -1,5 +1,5 @@
 -- Messages with their numbers: each once, in the order of its first coming.
-use Rattle.std.specs.Prelude.{ℕ, ◌+◌, nat_lt, Bool, List, [], ◌∷◌, ◌++◌, map, Option, None, Some, if◌then◌else◌}
+use Rattle.std.specs.Prelude.{ℕ, ◌+◌, nat_lt, Bool, true, false, List, [], ◌∷◌, ◌++◌, map, Option, None, Some, if◌then◌else◌}
 use Rattle.std.specs.List.{list_any}
 use Rattle.std.specs.Option.{option_map}
 use Rattle.std.specs.Str.{bytes_eq}
@@ -9,6 +9,12 @@ use Rattle.mm_check.specs.Below.{sha256, zero_bytes}
 abbrev pub first_where : {A : Type 0} → (A → Bool) → List A → Option ℕ
 first_where p [] = None
 first_where p (x ∷ xs) = if p x then Some 1 else option_map (λ n. n + 1) (first_where p xs)
+
+-- the first number that was found wanting, once this one was found right or not
+abbrev pub first_then : Option ℕ → Bool → ℕ → Option ℕ
+first_then (Some first) is_right number = Some first
+first_then None true number = None
+first_then None false number = Some number
 
 -- one more message, if it hasn't come before
 abbrev pub listed : List (List ℕ) → List ℕ → List (List ℕ)
