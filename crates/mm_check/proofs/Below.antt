@@ -58,7 +58,6 @@ pub use Rattle.mm_check.specs.Checking.{with_event}
 pub use Rattle.mm_check.specs.Deciding.{IsFirstForged, premise_by, StandsBehind}
 pub use Rattle.mm_check.specs.Guards.{digest_items, events_of, HasAll, secured_by}
 pub use Rattle.mm_check.specs.Listing.{both_more, first_then, first_where, is_zero, listed, lower, message_digests, shared_in, shared_with, zero_in}
-pub use Rattle.mm_check.specs.Listing.{zero_then}
 pub use Rattle.mm_check.specs.Lists.{CountsDigests, has_message, Lists, pair_of}
 pub use Rattle.mm_check.specs.Numbering.{Decides, expected_lines, is_secured, IsForgedAt, lines_of_all, numbered, numbered_from, secured_in}
 pub use Rattle.mm_check.specs.Verdicts.{agreement_of, AreVerdicts, AreVerdictsOn, Concludes, difference_from, end_difference}

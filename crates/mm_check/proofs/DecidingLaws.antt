@@ -9,6 +9,7 @@ use Rattle.mm_check.proofs.Below.{listed, message_digests, shared_in, zero_in, L
 use Rattle.mm_check.proofs.Below.{lines_of_all, expected_lines, IsForgedAt, Decides, secured_by, IsFirstForged, StandsBehind, first_then}
 use Rattle.mm_check.proofs.Below.{premise_by}
 use Rattle.mm_check.proofs.Below.{◌<◌, take, sha256, length-map, length-take, most_events, CodeEvent, event_of, events_of}
+use Rattle.mm_check.proofs.Below.{not}
 use Rattle.std.proofs.lemmas.List.Sums.{fold-append}
 use Rattle.mm_call.specs.Standing.{instance_by}
 use Rattle.mm_run.specs.Laws.{continued}
@@ -88,7 +89,7 @@ still_forged i es e n h = record {
 
 forged-push : (i : Instance) (es : List Event) (e : Event) (first : Option ℕ) (is_genuine : Bool) → IsFirstForged i es first
     → IsDecided is_genuine (IsGenuineEvent i (expected i es).state (expected i es).issued e)
-    → IsFirstForged i (es ++ e ∷ []) (first_then first is_genuine (length es + 1))
+    → IsFirstForged i (es ++ e ∷ []) (first_then first (not is_genuine) (length es + 1))
 forged-push i es e (Some n) is_genuine h t = still_forged i es e n h
 forged-push i es e None true h t = genuine_push i es e first_history (first_issued i) h t
 forged-push i es e None false h t = record { before = es; event = e; after = []; split = refl; place = refl; genuine = h; forged = t }
@@ -97,7 +98,7 @@ pub stands_next : (header : Header) (es : List Event) (e : Event) (old new : Dec
     → IsHeard (world_of header) (expected (world_of header) es) e heard → IsAfter header (es ++ e ∷ []) new.expecting
     → length new.expecting.issued ≤ length old.expecting.issued + 1
     → Lists (fold listed (numbered (world_of header) es) heard.messages.items) new.numbers
-    → new.lines.items ≡ old.lines.items ++ lines_of_reply heard.reply → new.forged ≡ first_then old.forged heard.is_genuine (length es + 1)
+    → new.lines.items ≡ old.lines.items ++ lines_of_reply heard.reply → new.forged ≡ first_then old.forged (not heard.is_genuine) (length es + 1)
     → StandsBehind header (es ++ e ∷ []) new
 stands_next header es e old new heard h hears after few lists lines forged =
     let i = world_of header in

@@ -1,6 +1,6 @@
 -- A recorded run line by line: the header, the events, and at will the line `replies` and the
 -- recorded lines.
-use Rattle.std.specs.Prelude.{ℕ, ◌+◌, ◌-◌, Bool, false, nat_le, List, [], ◌∷◌, ◌++◌, codes, length, Option, None, Some, Result, Ok}
+use Rattle.std.specs.Prelude.{ℕ, ◌+◌, ◌-◌, Bool, false, nat_le, not, List, [], ◌∷◌, ◌++◌, codes, length, Option, None, Some, Result, Ok}
 use Rattle.std.specs.Prelude.{Err, if◌then◌else◌}
 use Rattle.std.specs.List.{slice_get, sum_by}
 use Rattle.std.specs.Str.{bytes_eq}
@@ -59,7 +59,7 @@ after_compared c line = record {
   count = c.count + 1;
   differs =
       first_then c.differs
-      (is_line line (slice_get (expected_lines (world_of c.header) c.events) c.count))
+      (not (is_line line (slice_get (expected_lines (world_of c.header) c.events) c.count)))
       (c.count + 1);
 }
 

@@ -99,7 +99,7 @@ impl Comparing {
             Ok(same) => same,
             Err(_) => return Err(ReplyFault::Memory),
         };
-        self.differs = first_then(self.differs, same, self.count + 1);
+        self.differs = first_then(self.differs, !same, self.count + 1);
         self.count += 1;
         Ok(self)
     }
@@ -108,10 +108,10 @@ impl Comparing {
     pub fn verdicts(&self) -> Verdicts
         ensures { AreVerdictsOn self.now result }
     {
-        let is_whole = self.expected.len() <= self.count as usize;
+        let is_missing = (self.count as usize) < self.expected.len();
         Verdicts {
             premise: self.premise,
-            agreement: agreement_of(first_then(self.differs, is_whole, self.count + 1)),
+            agreement: agreement_of(first_then(self.differs, is_missing, self.count + 1)),
         }
     }
 }

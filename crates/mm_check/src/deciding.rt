@@ -70,7 +70,7 @@ impl Deciding {
         let heard = self.expecting.event(&events[index])?;
         self.numbers.list_all(alloc, heard.messages.as_slice())?;
         put_reply(alloc, &mut self.lines, &heard.reply)?;
-        self.forged = first_then(self.forged, heard.is_genuine, index as u32 + 1);
+        self.forged = first_then(self.forged, !heard.is_genuine, index as u32 + 1);
         Ok(())
     }
 

@@ -7,13 +7,13 @@ ghost use Rattle.mm_check.specs.Verdicts.{agreement_of, first_difference, is_fou
 use crate::verdicts::Agreement;
 use mm_base::Bytes;
 
-/// The first number that was found wanting, once this one was found right or not.
-pub(crate) fn first_then(first: Option<u32>, is_right: bool, number: u32) -> Option<u32>
-    ensures { result ≡ first_then first is_right number }
+/// The first number that is found, once this one is found or not.
+pub(crate) fn first_then(first: Option<u32>, is_found: bool, number: u32) -> Option<u32>
+    ensures { result ≡ first_then first is_found number }
 {
     match first {
         Some(first) => Some(first),
-        None => if is_right { None } else { Some(number) },
+        None => if is_found { Some(number) } else { None },
     }
 }
 
