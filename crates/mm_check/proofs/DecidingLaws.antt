@@ -1,23 +1,23 @@
 -- One event more, and what is told at the end.
 use Rattle.mm_check.proofs.Below.{◌≡◌, ◌∙◌, ℕ, ◌+◌, ◌≤◌, true, false, Bool, List, [], ◌∷◌, ◌++◌, length, Option, None, Some, refl, sym, ap}
-use Rattle.mm_check.proofs.Below.{subst, arith, append_assoc, append-nil, length-append, flat_map-append, fold, Variant, Basic, Opt}
+use Rattle.mm_check.proofs.Below.{subst, arith, append_assoc, append-nil, length-append, fold, Variant, Basic, Opt}
 use Rattle.mm_check.proofs.Below.{start_message}
 use Rattle.mm_check.proofs.Below.{variant_byte, Meaning, meaning_of, Instance, History, first_history, total_of, Header, Event}
 use Rattle.mm_check.proofs.Below.{lines_of_reply, end_line, by_lists, Followed, followed, event_outcome, first_issued, expected, world_of}
-use Rattle.mm_check.proofs.Below.{world_key, world_barrier, IsGenuineEvent, AreGenuine, IsClearRun, goes_on, numbered_event}
+use Rattle.mm_check.proofs.Below.{world_key, world_barrier, IsGenuineEvent, AreGenuine, IsClearRun, numbered_event}
 use Rattle.mm_check.proofs.Below.{listed, message_digests, shared_in, zero_in, Lists, pair_of, numbered_from, numbered, secured_in}
-use Rattle.mm_check.proofs.Below.{lines_of_all, expected_lines, IsForgedAt, Decides, secured_by, IsFirstForged, StandsBehind, first_then}
+use Rattle.mm_check.proofs.Below.{expected_lines, IsForgedAt, Decides, secured_by, IsFirstForged, StandsBehind, first_then}
 use Rattle.mm_check.proofs.Below.{premise_by}
 use Rattle.mm_check.proofs.Below.{◌<◌, take, sha256, length-map, length-take, most_events, CodeEvent, event_of, events_of}
 use Rattle.mm_check.proofs.Below.{not}
 use Rattle.std.proofs.lemmas.List.Sums.{fold-append}
 use Rattle.mm_call.specs.Standing.{instance_by}
-use Rattle.mm_run.specs.Laws.{continued}
 use Rattle.mm_expect.specs.Hears.{Hears}
 use Rattle.mm_history.specs.Naming.{IsDecided}
 use Rattle.mm_expect.specs.Traced.{Traced, IsAfter}
 use Rattle.mm_expect.specs.declared.expecting.Heard.{Heard}
 use Rattle.mm_check.proofs.FewLaws.{heard_few, numbered_few}
+use Rattle.mm_check.proofs.RunLaws.{lines-push}
 use Rattle.mm_check.proofs.ClearLaws.{clear_run, none_apart}
 use Rattle.mm_check.specs.declared.deciding.Deciding.{Deciding}
 
@@ -38,11 +38,6 @@ heard_after header es it e heard after hears genuine =
       subst (λ (t : Traced). IsDecided heard.is_genuine (IsGenuineEvent (world_of header) t.history t.issued e)) stands genuine,
     )
 
--- what stands behind one event more
-after_one : (i : Instance) (es : List Event) (e : Event) → (let f : Followed History = expected i es in
-    expected i (es ++ e ∷ []) ≡ continued f (followed i (by_lists i) f.state f.issued (e ∷ [])))
-after_one i es e = goes_on i (by_lists i) es (e ∷ []) first_history (first_issued i)
-
 from_push : (i : Instance) (es : List Event) (e : Event) (y : History) (issued : List (List ℕ))
     → (let f : Followed History = followed i (by_lists i) y issued es in
     numbered_from i y issued (es ++ e ∷ []) ≡ numbered_from i y issued es ++ numbered_event i f.state f.issued e)
@@ -59,15 +54,6 @@ numbered-push i es e =
     ap (λ (l : List (List ℕ)). fold listed start l) (from_push i es e first_history (first_issued i))
     ∙ fold-append listed start (numbered_from i first_history (first_issued i) es)
     (numbered_event i (expected i es).state (expected i es).issued e)
-
-lines-push : (i : Instance) (es : List Event) (e : Event) → (let f : Followed History = expected i es in
-    lines_of_all (expected i (es ++ e ∷ [])).replies ≡ lines_of_all f.replies
-    ++ lines_of_reply (event_outcome i (by_lists i) f.state f.issued e).reply)
-lines-push i es e =
-    let f = expected i es in
-    let said = (event_outcome i (by_lists i) f.state f.issued e).reply in
-    ap (λ (g : Followed History). lines_of_all g.replies) (after_one i es e) ∙ flat_map-append lines_of_reply f.replies (said ∷ [])
-    ∙ ap (λ (l : List (List ℕ)). lines_of_all f.replies ++ l) (append-nil (lines_of_reply said))
 
 genuine_push : (i : Instance) (es : List Event) (e : Event) (y : History) (issued : List (List ℕ))
     → (let f : Followed History = followed i (by_lists i) y issued es in
@@ -107,7 +93,7 @@ stands_next header es e old new heard h hears after few lists lines forged =
       few = omega (arith, few, h.few, length-append es (e ∷ []));
       lists = subst (λ (l : List (List ℕ)). Lists l new.numbers)
           (ap (λ (l : List (List ℕ)). fold listed (numbered i es) l) hears.0.messages ∙ sym (numbered-push i es e)) lists;
-      lines = lines ∙ (λ j. h.lines j ++ lines_of_reply (hears.0.reply j)) ∙ sym (lines-push i es e);
+      lines = lines ∙ (λ j. h.lines j ++ lines_of_reply (hears.0.reply j)) ∙ sym (lines-push i (by_lists i) first_history (first_issued i) es e);
       forged = subst (λ (o : Option ℕ). IsFirstForged i (es ++ e ∷ []) o) (sym forged)
           (forged-push i es e old.forged heard.is_genuine h.forged hears.1);
     }
