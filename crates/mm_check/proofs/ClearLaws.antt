@@ -175,11 +175,15 @@ move_same : (i : Instance) (y : History) (v : Move) (ext clo later : List (List 
     → Same (messages_if false i y v ++ ext ++ (messages_if true i y v ++ clo)) (move_messages i y v ++ later)
 move_same i y Close ext clo later same m =
     let here = move_messages i y Close in
-    list_any-append (bytes_eq m) ext (here ++ clo)
-    ∙ ap (λ (b : Bool). list_any (bytes_eq m) ext || b) (list_any-append (bytes_eq m) here clo)
-    ∙ or_swap (list_any (bytes_eq m) ext) (list_any (bytes_eq m) here) (list_any (bytes_eq m) clo)
-    ∙ ap (λ (b : Bool). list_any (bytes_eq m) here || b) (sym (list_any-append (bytes_eq m) ext clo) ∙ same m)
-    ∙ sym (list_any-append (bytes_eq m) here later)
+    let s : list_any (bytes_eq m) (ext ++ clo) ≡ list_any (bytes_eq m) later = same m in
+    rw (
+      list_any-append (bytes_eq m) ext (here ++ clo),
+      list_any-append (bytes_eq m) here clo,
+      list_any-append (bytes_eq m) here later,
+      ← s,
+      list_any-append (bytes_eq m) ext clo,
+    )
+    (or_swap (list_any (bytes_eq m) ext) (list_any (bytes_eq m) here) (list_any (bytes_eq m) clo))
 move_same i y v ext clo later same m = ap (list_any (bytes_eq m)) (append_assoc (move_messages i y v) ext clo)
     ∙ same_append (move_messages i y v) (move_messages i y v) (ext ++ clo) later (λ n. refl) same m
 

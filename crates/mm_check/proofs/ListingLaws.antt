@@ -51,31 +51,18 @@ shared_in-from_one : (ds : List (List ℕ)) → FromOne (shared_in ds)
 shared_in-from_one [] = tt
 shared_in-from_one (d ∷ ds) = shared_with-from_one (first_where (bytes_eq d) ds) (shared_in ds)
 
--- the first digest comes again already
-again_step : (n m next : ℕ) (here : Bool) (x : Option ℕ)
-    → Some (1, n + 1) ≡ lower_if (Some (1, n + 1)) (cond here (Some 1) (option_map (λ k. k + 1) x)) next
-again_step n m next true x = refl
-again_step n m next false None = refl
-again_step n m next false (Some k) = grind (arith, nat_tests)
-
--- it comes again now
-now_step : (s : Option (ℕ × ℕ)) (last next : ℕ) → FromOne s → last + 1 ≡ next → Some (1, last + 1) ≡ lower (option_map both_more s) 1 next
-now_step None last next h e = ap (λ (n : ℕ). Some (1, n)) e
-now_step (Some a) last next h e = grind (arith, nat_tests)
-
--- it doesn't come again
-later_step : (s : Option (ℕ × ℕ)) (x : Option ℕ) (last next : ℕ) → last + 1 ≡ next
-    → option_map both_more (lower_if s x last) ≡ lower_if (option_map both_more s) (option_map (λ k. k + 1) x) next
-later_step s None last next e = refl
-later_step None (Some m) last next e = ap (λ (n : ℕ). Some (m + 1, n)) e
-later_step (Some a) (Some m) last next e = grind (arith, nat_tests)
-
+-- the first digest comes again already, or now, or it doesn't
 shared_step : (found : Option ℕ) (s : Option (ℕ × ℕ)) (x : Option ℕ) (here : Bool) (last next : ℕ) → FromOne s → last + 1 ≡ next
     → shared_with (first_then found here last) (lower_if s x last) ≡ lower_if (shared_with found s)
     (cond here (Some 1) (option_map (λ k. k + 1) x)) next
-shared_step (Some n) s x here last next h e = again_step n 0 next here x
-shared_step None s x true last next h e = now_step s last next h e
-shared_step None s x false last next h e = later_step s x last next e
+shared_step (Some n) s x true last next h e = refl
+shared_step (Some n) s None false last next h e = refl
+shared_step (Some n) s (Some k) false last next h e = grind (arith, nat_tests)
+shared_step None None x true last next h e = ap (λ (n : ℕ). Some (1, n)) e
+shared_step None (Some a) x true last next h e = grind (arith, nat_tests)
+shared_step None s None false last next h e = refl
+shared_step None None (Some m) false last next h e = ap (λ (n : ℕ). Some (m + 1, n)) e
+shared_step None (Some a) (Some m) false last next h e = grind (arith, nat_tests)
 
 shared_in-push : (ds : List (List ℕ)) (x : List ℕ)
     → shared_in (ds ++ x ∷ []) ≡ lower_if (shared_in ds) (first_where (bytes_eq x) ds) (length ds + 1)
