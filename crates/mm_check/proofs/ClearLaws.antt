@@ -8,9 +8,8 @@ use Rattle.mm_check.proofs.Below.{start_message, guard, own_values, Instance, Hi
 use Rattle.mm_check.proofs.Below.{AreNoGuards, move_messages, moves_messages, by_lists, Event, event_outcome, first_issued, event_messages}
 use Rattle.mm_check.proofs.Below.{moves_of, messages_from, foreign_of, foreign_values, asked_batches, run_messages, messages_if}
 use Rattle.mm_check.proofs.Below.{messages_where, numbered_event, first_where, listed, message_digests, shared_with, shared_in, is_zero}
-use Rattle.mm_check.proofs.Below.{zero_in, numbered_from, numbered, is_secured}
+use Rattle.mm_check.proofs.Below.{zero_in, numbered_from, numbered, is_secured, Variant, Basic, Opt, AreApart, secured_by}
 use Rattle.std.specs.Option.{is_some}
-use Rattle.mm_check.proofs.Below.{Variant, Basic, Opt, AreApart, secured_by}
 use Rattle.std.specs.List.{All, IsDistinct}
 use Rattle.std.proofs.lemmas.Bool.{both_ways, false_from_ne_true}
 use Rattle.std.proofs.lemmas.List.Elements.{All-contains, All-from_recursion}

@@ -1,10 +1,9 @@
 -- Lines compared one by one tell the first difference of the whole lists.
-use Rattle.mm_check.proofs.Below.{◌≡◌, ◌∙◌, ℕ, zero, suc, ◌+◌, ◌<◌, ◌≤◌, Bool, true, false, cond, List, [], ◌∷◌, ◌++◌, length, map}
-use Rattle.mm_check.proofs.Below.{drop, Option, None, Some, refl, sym, ap, subst, arith, fold, slice_get, bytes_eq, nat_tests, drop_all}
-use Rattle.mm_check.proofs.Below.{Header, Event, world_of, Decides, expected_lines, Compared, is_line, first_then, after_compared}
-use Rattle.mm_check.proofs.Below.{difference_from, first_difference, is_found, end_difference, agreement_of, AreVerdicts, AreVerdictsOn}
-use Rattle.mm_check.proofs.Below.{Verdicts}
-use Rattle.mm_check.proofs.Below.{nat_lt, not}
+use Rattle.mm_check.proofs.Below.{◌≡◌, ◌∙◌, ℕ, zero, suc, ◌+◌, ◌<◌, ◌≤◌, Bool, true, false, cond, List, [], ◌∷◌, ◌++◌, length, map, drop}
+use Rattle.mm_check.proofs.Below.{Option, None, Some, refl, sym, ap, subst, arith, fold, slice_get, bytes_eq, nat_tests, drop_all, Header}
+use Rattle.mm_check.proofs.Below.{Event, world_of, Decides, expected_lines, Compared, is_line, first_then, after_compared, difference_from}
+use Rattle.mm_check.proofs.Below.{first_difference, is_found, end_difference, agreement_of, AreVerdicts, AreVerdictsOn, Verdicts, nat_lt}
+use Rattle.mm_check.proofs.Below.{not}
 use Rattle.std.proofs.lemmas.Bool.{le-ltb, lt-ltb}
 use Rattle.mm_check.specs.declared.verdicts.Agreement.TheVariants.{Differ}
 

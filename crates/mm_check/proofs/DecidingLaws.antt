@@ -1,15 +1,12 @@
 -- One event more, and what is told at the end.
 use Rattle.mm_check.proofs.Below.{◌≡◌, ◌∙◌, ℕ, ◌+◌, ◌≤◌, true, false, Bool, List, [], ◌∷◌, ◌++◌, length, Option, None, Some, refl, sym, ap}
-use Rattle.mm_check.proofs.Below.{subst, arith, append_assoc, append-nil, length-append, fold, Variant, Basic, Opt}
-use Rattle.mm_check.proofs.Below.{start_message}
+use Rattle.mm_check.proofs.Below.{subst, arith, append_assoc, append-nil, length-append, fold, Variant, Basic, Opt, start_message}
 use Rattle.mm_check.proofs.Below.{variant_byte, Meaning, meaning_of, Instance, History, first_history, total_of, Header, Event}
 use Rattle.mm_check.proofs.Below.{lines_of_reply, end_line, by_lists, Followed, followed, event_outcome, first_issued, expected, world_of}
-use Rattle.mm_check.proofs.Below.{world_key, world_barrier, IsGenuineEvent, AreGenuine, IsClearRun, numbered_event}
-use Rattle.mm_check.proofs.Below.{listed, message_digests, shared_in, zero_in, Lists, pair_of, numbered_from, numbered, secured_in}
-use Rattle.mm_check.proofs.Below.{expected_lines, IsForgedAt, Decides, secured_by, IsFirstForged, StandsBehind, first_then}
-use Rattle.mm_check.proofs.Below.{premise_by}
-use Rattle.mm_check.proofs.Below.{◌<◌, take, sha256, length-map, length-take, most_events, CodeEvent, event_of, events_of}
-use Rattle.mm_check.proofs.Below.{not}
+use Rattle.mm_check.proofs.Below.{world_key, world_barrier, IsGenuineEvent, AreGenuine, IsClearRun, numbered_event, listed, message_digests}
+use Rattle.mm_check.proofs.Below.{shared_in, zero_in, Lists, pair_of, numbered_from, numbered, secured_in, expected_lines, IsForgedAt}
+use Rattle.mm_check.proofs.Below.{Decides, secured_by, IsFirstForged, StandsBehind, first_then, premise_by, ◌<◌, take, sha256, length-map}
+use Rattle.mm_check.proofs.Below.{length-take, most_events, CodeEvent, event_of, events_of, not}
 use Rattle.std.proofs.lemmas.List.Sums.{fold-append}
 use Rattle.mm_call.specs.Standing.{instance_by}
 use Rattle.mm_expect.specs.Hears.{Hears}

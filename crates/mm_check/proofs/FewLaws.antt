@@ -16,7 +16,6 @@ use Rattle.mm_platform.specs.StandingWords.{due}
 use Rattle.mm_seal.specs.declared.snapshot.Place.{Place}
 use Rattle.mm_seal.specs.declared.snapshot.Place.TheVariants.{Basic as InBasic, Opt as InOpt}
 use Rattle.mm_seal.specs.Snapshot.{Content}
-use Rattle.mm_call.specs.CoursesWords.{made_move}
 use Rattle.mm_schedule.specs.declared.event.Event.TheVariants as code
 use Rattle.mm_schedule.specs.declared.event.Meddles.{Meddles}
 use Rattle.mm_module.specs.RunLaws.{length-outputs_from}
@@ -49,16 +48,12 @@ due_few n meddles few =
 
 -- the moves of a walk
 
-made_few : (made : Bool) (m : Move) → length (made_move made m) ≤ 1
-made_few true m = omega arith
-made_few false m = omega arith
-
 step_few : (step : Step) (made : Bool) (values : List (List ℕ)) → length values ≤ 8 → length (step_moves step made values) ≤ 9
 step_few Reads made values h = omega (arith, h, length-map values Foreign)
-step_few (Changes m) made values h =
-    omega (arith, h, length-map values Foreign, made_few made m, length-append (map Foreign values) (made_move made m))
-step_few (Writes m) made values h =
-    omega (arith, h, length-map values Foreign, made_few made m, length-append (made_move made m) (map Foreign values))
+step_few (Changes m) true values h = omega (arith, h, length-map values Foreign, length-append (map Foreign values) (m ∷ []))
+step_few (Changes m) false values h = omega (arith, h, length-map values Foreign, length-append (map Foreign values) [])
+step_few (Writes m) true values h = omega (arith, h, length-map values Foreign)
+step_few (Writes m) false values h = omega (arith, h, length-map values Foreign)
 
 ends_few : (step : Step) (values : List (List ℕ)) (ends : End) (rest : Walked) (steps : List Step) → length values ≤ 8
     → length rest.moves ≤ 9 * length steps → length (after_step step values ends rest).moves ≤ 9 * length (step ∷ steps)

@@ -1,10 +1,8 @@
 -- One premise alone is told of a run.
-use Rattle.mm_check.proofs.Below.{◌≡◌, ◌∙◌, ℕ, List, [], ◌∷◌, ◌++◌, length, Option, None, Some, refl, sym, ap, subst, arith}
-use Rattle.mm_check.proofs.Below.{Variant, first_history, by_lists, Event, Followed, followed}
-use Rattle.mm_check.proofs.Below.{event_outcome, first_issued, IsGenuineEvent, AreGenuine, IsGenuineRun, Instance, History}
-use Rattle.mm_check.proofs.Below.{message_digests, shared_in, zero_in, numbered, IsForgedAt, Decides, Premise, secured_by, IsFirstForged}
-use Rattle.mm_check.proofs.Below.{premise_by}
-use Rattle.mm_check.proofs.Below.{IsClearRun}
+use Rattle.mm_check.proofs.Below.{◌≡◌, ◌∙◌, ℕ, List, [], ◌∷◌, ◌++◌, length, Option, None, Some, refl, sym, ap, subst, arith, Variant}
+use Rattle.mm_check.proofs.Below.{first_history, by_lists, Event, Followed, followed, event_outcome, first_issued, IsGenuineEvent}
+use Rattle.mm_check.proofs.Below.{AreGenuine, IsGenuineRun, Instance, History, message_digests, shared_in, zero_in, numbered, IsForgedAt}
+use Rattle.mm_check.proofs.Below.{Decides, Premise, secured_by, IsFirstForged, premise_by, IsClearRun}
 use Rattle.mm_check.specs.declared.verdicts.Premise.TheVariants.{Held, Shared, Zero, Secured, Forged}
 use Rattle.mm_check.proofs.ClearLaws.{unshared, no_zero, apart_none}
 

@@ -1,11 +1,9 @@
 -- The run of the events that are read.
 use Rattle.mm_check.proofs.Below.{◌≡◌, ◌∙◌, ℕ, false, List, [], ◌∷◌, ◌++◌, sym, ap, subst, arith, append-nil, length-append}
-use Rattle.mm_check.proofs.Below.{flat_map-append, map-append}
-use Rattle.mm_check.proofs.Below.{Header, CodeEvent, Event, event_of, lines_of_reply, Reply, by_digests, Outcome, Followed, event_outcome}
-use Rattle.mm_check.proofs.Below.{first_issued, first_digests, replies_by_digests, world_of, goes_on, Running, is_too_much, replaying}
-use Rattle.mm_check.proofs.Below.{running_outcome, after_event, events_of, lines_of_all, RunsBehind}
-use Rattle.mm_check.proofs.Below.{◌<◌, length, expected_lines}
-use Rattle.mm_check.proofs.Below.{followed, Instance}
+use Rattle.mm_check.proofs.Below.{flat_map-append, map-append, Header, CodeEvent, Event, event_of, lines_of_reply, Reply, by_digests}
+use Rattle.mm_check.proofs.Below.{Outcome, Followed, event_outcome, first_issued, first_digests, replies_by_digests, world_of, goes_on}
+use Rattle.mm_check.proofs.Below.{Running, is_too_much, replaying, running_outcome, after_event, events_of, lines_of_all, RunsBehind, ◌<◌}
+use Rattle.mm_check.proofs.Below.{length, expected_lines, followed, Instance}
 use Rattle.mm_model.specs.Moves.{Digests}
 use Rattle.mm_call.specs.Levels.{Level}
 use Rattle.mm_play.specs.Counting.{few_events}
