@@ -7,8 +7,8 @@ pub use Rattle.std.specs.Ordering.{is_eq, match_ordering, nat_cmp}
 pub use Rattle.std.specs.Prelude.{◌||◌, not, Vec, ◌==◌}
 pub use Rattle.std.specs.Str.{bytes_eq}
 pub use Rattle.std.proofs.Common.{◌++◌, ◌+◌, ◌<◌, ◌∙◌, ◌∷◌, ◌≡◌, ◌≤◌, ◌⊎◌, [], ap, append-nil, append_assoc, arith, Bool, cond, drop, Err}
-pub use Rattle.std.proofs.Common.{false, get_or, if◌then◌else◌, inl, inr, length, length-append, List, map, nat_le, nat_lt, None, Ok}
-pub use Rattle.std.proofs.Common.{Option, refl, Result, Some, subst, suc, sym, take, true, zero, ℕ, ◌*◌, ◌-◌}
+pub use Rattle.std.proofs.Common.{false, get_or, if◌then◌else◌, inl, inr, length, length-append, List, map, nat_lt, None, Ok, Option, refl}
+pub use Rattle.std.proofs.Common.{Result, Some, subst, suc, sym, take, true, zero, ℕ, ◌*◌, ◌-◌}
 pub use Rattle.std.proofs.lemmas.Bool.Decides.{nat_tests}
 pub use Rattle.std.proofs.lemmas.Cmp.{nat_list_eq_equiv}
 pub use Rattle.std.proofs.lemmas.Grind.{flat_map-append}
@@ -36,13 +36,13 @@ pub use Rattle.mm_model.specs.Messages.{AreNoGuards, IsClear, form_messages, mov
 pub use Rattle.mm_model.specs.MessagesWords.{move_messages}
 pub use Rattle.mm_call.specs.Asked.{moves_messages, right_messages}
 pub use Rattle.mm_call.specs.Levels.{by_digests, by_lists, all_made}
-pub use Rattle.mm_schedule.specs.Events.{Event, event_of, Ask, Checkpoint, Extend, meddles_of, Power}
+pub use Rattle.mm_schedule.specs.Events.{Event, event_of, Ask, Checkpoint, meddles_of}
 pub use Rattle.mm_schedule.specs.Replies.{end_line, lines_of_reply, told_lines}
 pub use Rattle.mm_schedule.specs.declared.event.Event.{Event as CodeEvent}
 pub use Rattle.mm_schedule.specs.declared.header.Header.{Header}
 pub use Rattle.mm_schedule.specs.declared.reply.Reply.{Reply}
 pub use Rattle.mm_run.specs.Folds.{event_outcome, expected, first_digests, first_issued, Followed, followed, Outcome, replies_by_digests}
-pub use Rattle.mm_run.specs.Folds.{asked, closing_reply, course_of, outcome_by, reply_of, uncalled, way_of}
+pub use Rattle.mm_run.specs.Folds.{closing_reply, course_of, reply_of, way_of}
 pub use Rattle.mm_run.specs.Held.{world_of}
 pub use Rattle.mm_run.specs.HeldWords.{world_barrier, world_key}
 pub use Rattle.mm_run.specs.Premises.{AreGenuine, batches_of, event_messages, foreign_of, IsClearRun, IsGenuineEvent, IsGenuineRun}
@@ -52,13 +52,12 @@ pub use Rattle.mm_run.proofs.Above.{goes_on, in_any_way, short_size}
 pub use Rattle.mm_expect.specs.Numbered.{messages_if, messages_where, numbered_event}
 pub use Rattle.mm_play.proofs.Above.{for_whole, not_ok, ok_same, outcome_of, plays_err, plays_ok}
 pub use Rattle.mm_replay.specs.Schedule.{after_event, is_too_much, replaying, Running, running_outcome}
-pub use Rattle.mm_check.specs.Checking.{after_compared, AtHeader, check_answer, check_closing, CheckStage, Compared, differs_then}
-pub use Rattle.mm_check.specs.Checking.{first_compared, first_read, headed, InEvents, InReplies, is_line, Read, read_line, section_line}
-pub use Rattle.mm_check.specs.Checking.{with_event}
-pub use Rattle.mm_check.specs.Deciding.{forged_then, IsFirstForged, premise_by, StandsBehind}
+pub use Rattle.mm_check.specs.Checking.{after_compared, AtHeader, check_answer, check_closing, CheckStage, Compared, first_compared}
+pub use Rattle.mm_check.specs.Checking.{first_read, headed, InEvents, InReplies, is_line, Read, read_line, with_event}
+pub use Rattle.mm_check.specs.Deciding.{IsFirstForged, premise_by, StandsBehind}
 pub use Rattle.mm_check.specs.Guards.{digest_items, events_of, HasAll, secured_by}
-pub use Rattle.mm_check.specs.Listing.{both_more, first_where, is_zero, listed, lower, message_digests, shared_in, shared_with, zero_in}
-pub use Rattle.mm_check.specs.Listing.{zero_then}
+pub use Rattle.mm_check.specs.Listing.{both_more, first_then, first_where, is_zero, listed, lower, message_digests, shared_in, shared_with}
+pub use Rattle.mm_check.specs.Listing.{zero_in}
 pub use Rattle.mm_check.specs.Lists.{CountsDigests, has_message, Lists, pair_of}
 pub use Rattle.mm_check.specs.Numbering.{Decides, expected_lines, is_secured, IsForgedAt, lines_of_all, numbered, numbered_from, secured_in}
 pub use Rattle.mm_check.specs.Verdicts.{agreement_of, AreVerdicts, AreVerdictsOn, Concludes, difference_from, end_difference}

@@ -1,9 +1,9 @@
 -- From a run over lines to what the whole recorded run is told.
 use Rattle.mm_check.proofs.Below.{◌≡◌, ◌∙◌, ℕ, ◌+◌, Bool, true, false, cond, List, [], ◌∷◌, ◌++◌, length, map, nat_lt, Option, None, Some}
-use Rattle.mm_check.proofs.Below.{Result, Ok, Err, refl, sym, ap, subst, append_assoc, append-nil, arith, inl, inr, ◌⊎◌, fold, longest_line}
+use Rattle.mm_check.proofs.Below.{Result, Ok, Err, refl, sym, ap, subst, append_assoc, append-nil, arith, inl, inr, fold, longest_line}
 use Rattle.mm_check.proofs.Below.{Header, Event, world_of, plays_ok, plays_err, not_ok, ok_same, outcome_of, Read, first_read, with_event}
 use Rattle.mm_check.proofs.Below.{Compared, first_compared, after_compared, CheckStage, AtHeader, InEvents, InReplies, headed, read_line}
-use Rattle.mm_check.proofs.Below.{check_answer, check_closing, section_line, for_whole, AreVerdicts, Concludes, run_lines, Verdicts}
+use Rattle.mm_check.proofs.Below.{check_answer, check_closing, for_whole, AreVerdicts, Concludes, run_lines, Verdicts}
 use Rattle.mm_base.specs.Input.{lines_of, tail_of}
 use Rattle.mm_base.specs.declared.replay_fault.ReplayFault.{ReplayFault}
 use Rattle.mm_base.specs.declared.replay_fault.ReplayFault.TheVariants.{Memory, ReadFault, WriteFault, BadLine, LineLong, TooMuch}
@@ -29,8 +29,8 @@ line_ran on n false (Err why) p h = absurd (not_ok (refusal_at n why) p h)
 line_ran on n false (Ok answer) p h = (answer, refl, h)
 
 module _ (on : CheckStage → Told CheckStage) (p : CheckStage) where
-  abbrev GoesOn : List ℕ × CheckStage → Type 0
-  GoesOn answer = (on answer.1).outcome ≡ Ok p
+  abbrev Answers : List ℕ × CheckStage → Type 0
+  Answers answer = (on answer.1).outcome ≡ Ok p
 
 -- among the recorded lines
 replies_ran : (heading : List ℕ → Option Header) (lines : List (List ℕ)) (n : ℕ) (c : Compared) (p : CheckStage)
@@ -40,81 +40,69 @@ replies_ran heading (line ∷ lines) n c p h =
     let on : CheckStage → Told CheckStage = λ next. run (check_answer heading) (n + 1) next lines in
     let a = line_ran on n (nat_lt longest_line (length line)) (compare_line c line) p h in
     let b = compared c line a.0 a.1 in
-    replies_ran heading lines (n + 1) (after_compared c line) p (subst (GoesOn on p) (sym b.1) a.2)
+    replies_ran heading lines (n + 1) (after_compared c line) p (subst (Answers on p) (sym b.1) a.2)
 
 -- among the events
 
--- where the run ends, behind these last events and by this section
-abbrev EndsIn : Read → List (List ℕ) → CheckStage → Type 0
-EndsIn last section p =
-    ((section ≡ []) × (p ≡ InEvents last)) ⊎ ((recorded : List (List ℕ)) × (section ≡ section_line ∷ recorded)
-    × (p ≡ InReplies (fold after_compared (first_compared last) recorded)))
-
-record Behind (r : Read) (lines : List (List ℕ)) (p : CheckStage) : Type 0 where
+-- The lines from some read ones on are events and perhaps recorded lines; and these are the verdicts at their end.
+record GoesOn (r : Read) (lines : List (List ℕ)) (it : Verdicts) : Type 0 where
   others : List (List ℕ)
   section : List (List ℕ)
-  last : Read
   events : List Event
+  all : List Event
+  tested : List (List ℕ)
   split : lines ≡ others ++ section
   read : map event_at others ≡ map Some events
-  same : last.header ≡ r.header
-  grown : last.events ≡ r.events ++ events
-  ends : EndsIn last section p
+  grown : all ≡ r.events ++ events
+  tests : AreTested r.header all section tested
+  verdicts : AreVerdicts r.header all tested it
 
-ends_here : (r : Read) (section : List (List ℕ)) (p : CheckStage) → EndsIn r section p → Behind r section p
-ends_here r section p ends = record {
+ends_here : (r : Read) (section tested : List (List ℕ)) (it : Verdicts) → AreTested r.header r.events section tested
+    → AreVerdicts r.header r.events tested it → GoesOn r section it
+ends_here r section tested it tests verdicts = record {
   others = [];
   section = section;
-  last = r;
   events = [];
+  all = r.events;
+  tested = tested;
   split = refl;
   read = refl;
-  same = refl;
   grown = sym (append-nil r.events);
-  ends = ends;
+  tests = tests;
+  verdicts = verdicts;
 }
 
-event_first : (r : Read) (line : List ℕ) (lines : List (List ℕ)) (event : Event) (p : CheckStage) → event_at line ≡ Some event
-    → Behind (with_event r line event) lines p → Behind r (line ∷ lines) p
-event_first r line lines event p is b = record {
+event_first : (r : Read) (line : List ℕ) (lines : List (List ℕ)) (event : Event) (it : Verdicts) → event_at line ≡ Some event
+    → GoesOn (with_event r line event) lines it → GoesOn r (line ∷ lines) it
+event_first r line lines event it is b = record {
   others = line ∷ b.others;
   section = b.section;
-  last = b.last;
   events = event ∷ b.events;
+  all = b.all;
+  tested = b.tested;
   split = ap (λ (l : List (List ℕ)). line ∷ l) b.split;
   read = λ j. is j ∷ b.read j;
-  same = b.same;
   grown = b.grown ∙ append_assoc r.events (event ∷ []) b.events;
-  ends = b.ends;
+  tests = b.tests;
+  verdicts = b.verdicts;
 }
 
-events_ran : (heading : List ℕ → Option Header) (lines : List (List ℕ)) (n : ℕ) (p : CheckStage) (r : Read)
-    → (run (check_answer heading) n (InEvents r) lines).outcome ≡ Ok p → Behind r lines p
-events_ran heading [] n p r h = ends_here r [] p (inl (refl, sym (ok_same (InEvents r) p h)))
-events_ran heading (line ∷ lines) n p r h =
+events_ran : (heading : List ℕ → Option Header) (lines : List (List ℕ)) (n : ℕ) (p : CheckStage) (r : Read) (it : Verdicts)
+    → (run (check_answer heading) n (InEvents r) lines).outcome ≡ Ok p → Concludes p it → GoesOn r lines it
+events_ran heading [] n p r it h c =
+    ends_here r [] (run_lines (world_of r.header) r.events) it (inl (refl, refl))
+    (subst (λ (s : CheckStage). Concludes s it) (sym (ok_same (InEvents r) p h)) c)
+events_ran heading (line ∷ lines) n p r it h c =
     let on : CheckStage → Told CheckStage = λ next. run (check_answer heading) (n + 1) next lines in
     let a = line_ran on n (nat_lt longest_line (length line)) (read_line r line) p h in
     elim (reads r line a.0 a.1) [
-      | inl s ↦ ends_here r (line ∷ lines) p (inr (
-        lines,
-        ap (λ (l : List ℕ). l ∷ lines) s.0,
-        replies_ran heading lines (n + 1) (first_compared r) p (subst (GoesOn on p) (sym s.1) a.2),
-      ))
-      | inr t ↦ event_first r line lines t.event p t.read
-          (events_ran heading lines (n + 1) p (with_event r line t.event) (subst (GoesOn on p) t.said a.2))
+      | inl s ↦
+          let ends = replies_ran heading lines (n + 1) (first_compared r) p (subst (Answers on p) (sym s.1) a.2) in
+          ends_here r (line ∷ lines) (map with_end lines) it (inr (lines, ap (λ (l : List ℕ). l ∷ lines) s.0, refl))
+          (verdicts_on r.header r.events lines it (subst (λ (s : CheckStage). Concludes s it) ends c))
+      | inr t ↦ event_first r line lines t.event it t.read
+          (events_ran heading lines (n + 1) p (with_event r line t.event) it (subst (Answers on p) t.said a.2) c)
     ]
-
--- the verdicts, by where the run ends
-verdicts_by : (last : Read) (section : List (List ℕ)) (p : CheckStage) (it : Verdicts) → EndsIn last section p → Concludes p it
-    → (tested : List (List ℕ)) × AreTested last.header last.events section tested × AreVerdicts last.header last.events tested it
-verdicts_by last section p it ends c = elim ends [
-  | inl e ↦ (run_lines (world_of last.header) last.events, inl (e.0, refl), subst (λ (s : CheckStage). Concludes s it) e.1 c)
-  | inr e ↦ (
-    map with_end e.0,
-    inr (e.0, e.1, refl),
-    verdicts_on last.header last.events e.0 it (subst (λ (s : CheckStage). Concludes s it) e.2 c),
-  )
-]
 
 -- whole lines that were all answered, and the verdicts at their end
 
@@ -130,20 +118,19 @@ lines_checked (first ∷ lines) p it h c =
     let on : CheckStage → Told CheckStage = λ next. run (check_answer header_at) (1 + 1) next lines in
     let a = line_ran on 1 (nat_lt longest_line (length first)) (headed (header_at first)) p h in
     let d = headed_by (header_at first) a.0 a.1 in
-    let b = events_ran header_at lines (1 + 1) p (first_read d.0) (subst (GoesOn on p) (sym d.2) a.2) in
-    let v = verdicts_by b.last b.section p it b.ends c in
+    let b = events_ran header_at lines (1 + 1) p (first_read d.0) it (subst (Answers on p) (sym d.2) a.2) c in
     record {
       first = first;
       others = b.others;
       section = b.section;
-      header = b.last.header;
-      events = b.last.events;
-      tested = v.0;
+      header = d.0;
+      events = b.all;
+      tested = b.tested;
       split = ap (λ (l : List (List ℕ)). first ∷ l) b.split;
-      headed = d.1 ∙ ap Some (sym b.same);
+      headed = d.1;
       read = b.read ∙ ap (map Some) (sym b.grown);
-      tests = v.1;
-      verdicts = v.2;
+      tests = b.tests;
+      verdicts = b.verdicts;
     }
 
 -- an input that was answered to its end

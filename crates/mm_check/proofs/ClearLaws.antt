@@ -8,9 +8,8 @@ use Rattle.mm_check.proofs.Below.{start_message, guard, own_values, Instance, Hi
 use Rattle.mm_check.proofs.Below.{AreNoGuards, move_messages, moves_messages, by_lists, Event, event_outcome, first_issued, event_messages}
 use Rattle.mm_check.proofs.Below.{moves_of, messages_from, foreign_of, foreign_values, asked_batches, run_messages, messages_if}
 use Rattle.mm_check.proofs.Below.{messages_where, numbered_event, first_where, listed, message_digests, shared_with, shared_in, is_zero}
-use Rattle.mm_check.proofs.Below.{zero_in, numbered_from, numbered, is_secured}
+use Rattle.mm_check.proofs.Below.{zero_in, numbered_from, numbered, is_secured, Variant, Basic, Opt, AreApart, secured_by}
 use Rattle.std.specs.Option.{is_some}
-use Rattle.mm_check.proofs.Below.{Variant, Basic, Opt, AreApart, secured_by}
 use Rattle.std.specs.List.{All, IsDistinct}
 use Rattle.std.proofs.lemmas.Bool.{both_ways, false_from_ne_true}
 use Rattle.std.proofs.lemmas.List.Elements.{All-contains, All-from_recursion}
@@ -175,11 +174,15 @@ move_same : (i : Instance) (y : History) (v : Move) (ext clo later : List (List 
     → Same (messages_if false i y v ++ ext ++ (messages_if true i y v ++ clo)) (move_messages i y v ++ later)
 move_same i y Close ext clo later same m =
     let here = move_messages i y Close in
-    list_any-append (bytes_eq m) ext (here ++ clo)
-    ∙ ap (λ (b : Bool). list_any (bytes_eq m) ext || b) (list_any-append (bytes_eq m) here clo)
-    ∙ or_swap (list_any (bytes_eq m) ext) (list_any (bytes_eq m) here) (list_any (bytes_eq m) clo)
-    ∙ ap (λ (b : Bool). list_any (bytes_eq m) here || b) (sym (list_any-append (bytes_eq m) ext clo) ∙ same m)
-    ∙ sym (list_any-append (bytes_eq m) here later)
+    let s : list_any (bytes_eq m) (ext ++ clo) ≡ list_any (bytes_eq m) later = same m in
+    rw (
+      list_any-append (bytes_eq m) ext (here ++ clo),
+      list_any-append (bytes_eq m) here clo,
+      list_any-append (bytes_eq m) here later,
+      ← s,
+      list_any-append (bytes_eq m) ext clo,
+    )
+    (or_swap (list_any (bytes_eq m) ext) (list_any (bytes_eq m) here) (list_any (bytes_eq m) clo))
 move_same i y v ext clo later same m = ap (list_any (bytes_eq m)) (append_assoc (move_messages i y v) ext clo)
     ∙ same_append (move_messages i y v) (move_messages i y v) (ext ++ clo) later (λ n. refl) same m
 

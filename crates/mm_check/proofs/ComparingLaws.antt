@@ -1,9 +1,10 @@
 -- Lines compared one by one tell the first difference of the whole lists.
-use Rattle.mm_check.proofs.Below.{◌≡◌, ◌∙◌, ℕ, zero, suc, ◌+◌, ◌<◌, ◌≤◌, Bool, true, false, cond, nat_le, List, [], ◌∷◌, ◌++◌, length, map}
-use Rattle.mm_check.proofs.Below.{drop, Option, None, Some, refl, sym, ap, subst, arith, fold, slice_get, bytes_eq, nat_tests, drop_all}
-use Rattle.mm_check.proofs.Below.{Header, Event, world_of, Decides, expected_lines, Compared, is_line, differs_then, after_compared}
-use Rattle.mm_check.proofs.Below.{difference_from, first_difference, is_found, end_difference, agreement_of, AreVerdicts, AreVerdictsOn}
-use Rattle.mm_check.proofs.Below.{Verdicts}
+use Rattle.mm_check.proofs.Below.{◌≡◌, ◌∙◌, ℕ, zero, suc, ◌+◌, ◌<◌, ◌≤◌, Bool, true, false, cond, List, [], ◌∷◌, ◌++◌, length, map, drop}
+use Rattle.mm_check.proofs.Below.{Option, None, Some, refl, sym, ap, subst, arith, fold, slice_get, bytes_eq, nat_tests, drop_all, Header}
+use Rattle.mm_check.proofs.Below.{Event, world_of, Decides, expected_lines, Compared, is_line, first_then, after_compared, difference_from}
+use Rattle.mm_check.proofs.Below.{first_difference, is_found, end_difference, agreement_of, AreVerdicts, AreVerdictsOn, Verdicts, nat_lt}
+use Rattle.mm_check.proofs.Below.{not}
+use Rattle.std.proofs.lemmas.Bool.{le-ltb, lt-ltb}
 use Rattle.mm_check.specs.declared.verdicts.Agreement.TheVariants.{Differ}
 
 abbrev pub with_end : List ℕ → List ℕ
@@ -60,28 +61,22 @@ abbrev settled : Option ℕ → Option ℕ → Option ℕ
 settled (Some first) later = Some first
 settled None later = later
 
-le_suc : (m n : ℕ) → nat_le (suc m) (suc n) ≡ nat_le m n
-le_suc m n = grind (arith, nat_tests)
-
-le_zero : (m : ℕ) → nat_le (suc m) 0 ≡ false
-le_zero m = grind (arith, nat_tests)
-
-zero_le : (n : ℕ) → nat_le 0 n ≡ true
-zero_le n = grind (arith, nat_tests)
+lt_suc : (m n : ℕ) → nat_lt (suc m) (suc n) ≡ nat_lt m n
+lt_suc m n = grind (arith, nat_tests)
 
 end_at : (expected : List (List ℕ)) (count n : ℕ)
-    → differs_then None (nat_le (length expected) count) n ≡ difference_from n [] (drop count expected)
+    → first_then None (nat_lt count (length expected)) n ≡ difference_from n [] (drop count expected)
 end_at [] count n =
-    ap (λ (b : Bool). differs_then None b n) (zero_le count) ∙ sym (ap (difference_from n []) (drop_all count [] (omega arith)))
-end_at (e ∷ expected) zero n = ap (λ (b : Bool). differs_then None b n) (le_zero (length expected))
-end_at (e ∷ expected) (suc count) n = ap (λ (b : Bool). differs_then None b n) (le_suc (length expected) count) ∙ end_at expected count n
+    rw (le-ltb count 0 (omega arith)) (sym (ap (difference_from n []) (drop_all count [] (omega arith))))
+end_at (e ∷ expected) zero n = ap (λ (b : Bool). first_then None b n) (lt-ltb 0 (length (e ∷ expected)) (omega arith))
+end_at (e ∷ expected) (suc count) n = ap (λ (b : Bool). first_then None b n) (lt_suc count (length expected)) ∙ end_at expected count n
 
-same_step : (same : Bool) (n : ℕ) (later : Option ℕ) → settled (differs_then None same n) later ≡ cond same later (Some n)
+same_step : (same : Bool) (n : ℕ) (later : Option ℕ) → settled (first_then None (not same) n) later ≡ cond same later (Some n)
 same_step true n later = refl
 same_step false n later = refl
 
 line_by : (found : Option (List ℕ)) (line : List ℕ) (rest e : List (List ℕ)) (n : ℕ)
-    → settled (differs_then None (is_line line found) n) (difference_from (n + 1) rest e)
+    → settled (first_then None (not (is_line line found)) n) (difference_from (n + 1) rest e)
     ≡ difference_from n (with_end line ∷ rest) (with_line found e)
 line_by None line rest e n = refl
 line_by (Some x) line rest e n = same_step (bytes_eq (with_end line) x) n (difference_from (n + 1) rest e)
@@ -97,7 +92,7 @@ compare_ends header events [] count None = end_at (expected_lines (world_of head
 compare_ends header events (line ∷ lines) count (Some first) = compare_ends header events lines (count + 1) (Some first)
 compare_ends header events (line ∷ lines) count None =
     let expected = expected_lines (world_of header) events in
-    compare_ends header events lines (count + 1) (differs_then None (is_line line (slice_get expected count)) (count + 1))
+    compare_ends header events lines (count + 1) (first_then None (not (is_line line (slice_get expected count))) (count + 1))
     ∙ line_by (slice_get expected count) line (map with_end lines) (drop (count + 1) expected) (count + 1)
     ∙ ap (difference_from (count + 1) (with_end line ∷ map with_end lines)) (sym (drop_at expected count))
 

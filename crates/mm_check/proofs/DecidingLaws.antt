@@ -1,50 +1,39 @@
 -- One event more, and what is told at the end.
 use Rattle.mm_check.proofs.Below.{◌≡◌, ◌∙◌, ℕ, ◌+◌, ◌≤◌, true, false, Bool, List, [], ◌∷◌, ◌++◌, length, Option, None, Some, refl, sym, ap}
-use Rattle.mm_check.proofs.Below.{subst, arith, append_assoc, append-nil, length-append, flat_map-append, fold, Variant, Basic, Opt}
-use Rattle.mm_check.proofs.Below.{start_message}
+use Rattle.mm_check.proofs.Below.{subst, arith, append_assoc, append-nil, length-append, fold, Variant, Basic, Opt, start_message}
 use Rattle.mm_check.proofs.Below.{variant_byte, Meaning, meaning_of, Instance, History, first_history, total_of, Header, Event}
 use Rattle.mm_check.proofs.Below.{lines_of_reply, end_line, by_lists, Followed, followed, event_outcome, first_issued, expected, world_of}
-use Rattle.mm_check.proofs.Below.{world_key, world_barrier, IsGenuineEvent, AreGenuine, IsClearRun, goes_on, numbered_event}
-use Rattle.mm_check.proofs.Below.{listed, message_digests, shared_in, zero_in, Lists, pair_of, numbered_from, numbered, secured_in}
-use Rattle.mm_check.proofs.Below.{lines_of_all, expected_lines, IsForgedAt, Decides, secured_by, IsFirstForged, StandsBehind, forged_then}
-use Rattle.mm_check.proofs.Below.{premise_by}
-use Rattle.mm_check.proofs.Below.{◌<◌, take, sha256, length-map, length-take, most_events, CodeEvent, event_of, events_of}
+use Rattle.mm_check.proofs.Below.{world_key, world_barrier, IsGenuineEvent, AreGenuine, IsClearRun, numbered_event, listed, message_digests}
+use Rattle.mm_check.proofs.Below.{shared_in, zero_in, Lists, pair_of, numbered_from, numbered, secured_in, expected_lines, IsForgedAt}
+use Rattle.mm_check.proofs.Below.{Decides, secured_by, IsFirstForged, StandsBehind, first_then, premise_by, ◌<◌, take, sha256, length-map}
+use Rattle.mm_check.proofs.Below.{length-take, most_events, CodeEvent, event_of, events_of, not}
 use Rattle.std.proofs.lemmas.List.Sums.{fold-append}
 use Rattle.mm_call.specs.Standing.{instance_by}
-use Rattle.mm_run.specs.Laws.{continued}
 use Rattle.mm_expect.specs.Hears.{Hears}
 use Rattle.mm_history.specs.Naming.{IsDecided}
 use Rattle.mm_expect.specs.Traced.{Traced, IsAfter}
 use Rattle.mm_expect.specs.declared.expecting.Heard.{Heard}
 use Rattle.mm_check.proofs.FewLaws.{heard_few, numbered_few}
+use Rattle.mm_check.proofs.RunLaws.{lines-push}
 use Rattle.mm_check.proofs.ClearLaws.{clear_run, none_apart}
 use Rattle.mm_check.specs.declared.deciding.Deciding.{Deciding}
 
 -- what is heard of an event behind those that were followed so far
-pub record IsHeard (i : Instance) (before : Followed History) (event : Event) (heard : Heard) : Type 0 where
-  pub reply : heard.reply ≡ (event_outcome i (by_lists i) before.state before.issued event).reply
-  pub messages : heard.messages.items ≡ numbered_event i before.state before.issued event
-  pub genuine : IsDecided heard.is_genuine (IsGenuineEvent i before.state before.issued event)
+abbrev pub IsHeard : Instance → Followed History → Event → Heard → Type 0
+IsHeard i before event heard =
+    Hears i before.state before.issued event heard × IsDecided heard.is_genuine (IsGenuineEvent i before.state before.issued event)
 
 pub heard_after : (header : Header) (es : List Event) (it : Traced) (e : Event) (heard : Heard) → IsAfter header es it
     → Hears (world_of it.header) it.history it.issued e heard
     → IsDecided heard.is_genuine (IsGenuineEvent (world_of header) it.history it.issued e)
     → IsHeard (world_of header) (expected (world_of header) es) e heard
 heard_after header es it e heard after hears genuine =
-    let i = world_of header in
-    let f = expected i es in
-    let g = subst (λ (y : History). IsDecided heard.is_genuine (IsGenuineEvent i y it.issued e)) after.history_is genuine in
-    record {
-      reply = hears.reply ∙ (λ j. (event_outcome (world_of (after.header_is j)) (by_lists (world_of (after.header_is j)))
-          (after.history_is j) (after.issued_is j) e).reply);
-      messages = hears.messages ∙ (λ j. numbered_event (world_of (after.header_is j)) (after.history_is j) (after.issued_is j) e);
-      genuine = subst (λ (s : List (List ℕ)). IsDecided heard.is_genuine (IsGenuineEvent i f.state s e)) after.issued_is g;
-    }
-
--- what stands behind one event more
-after_one : (i : Instance) (es : List Event) (e : Event) → (let f : Followed History = expected i es in
-    expected i (es ++ e ∷ []) ≡ continued f (followed i (by_lists i) f.state f.issued (e ∷ [])))
-after_one i es e = goes_on i (by_lists i) es (e ∷ []) first_history (first_issued i)
+    let f = expected (world_of header) es in
+    let stands : it ≡ record { header = header; history = f.state; issued = f.issued } =
+    (λ j. record { header = after.header_is j; history = after.history_is j; issued = after.issued_is j }) in (
+      subst (λ (t : Traced). Hears (world_of t.header) t.history t.issued e heard) stands hears,
+      subst (λ (t : Traced). IsDecided heard.is_genuine (IsGenuineEvent (world_of header) t.history t.issued e)) stands genuine,
+    )
 
 from_push : (i : Instance) (es : List Event) (e : Event) (y : History) (issued : List (List ℕ))
     → (let f : Followed History = followed i (by_lists i) y issued es in
@@ -62,15 +51,6 @@ numbered-push i es e =
     ap (λ (l : List (List ℕ)). fold listed start l) (from_push i es e first_history (first_issued i))
     ∙ fold-append listed start (numbered_from i first_history (first_issued i) es)
     (numbered_event i (expected i es).state (expected i es).issued e)
-
-lines-push : (i : Instance) (es : List Event) (e : Event) → (let f : Followed History = expected i es in
-    lines_of_all (expected i (es ++ e ∷ [])).replies ≡ lines_of_all f.replies
-    ++ lines_of_reply (event_outcome i (by_lists i) f.state f.issued e).reply)
-lines-push i es e =
-    let f = expected i es in
-    let said = (event_outcome i (by_lists i) f.state f.issued e).reply in
-    ap (λ (g : Followed History). lines_of_all g.replies) (after_one i es e) ∙ flat_map-append lines_of_reply f.replies (said ∷ [])
-    ∙ ap (λ (l : List (List ℕ)). lines_of_all f.replies ++ l) (append-nil (lines_of_reply said))
 
 genuine_push : (i : Instance) (es : List Event) (e : Event) (y : History) (issued : List (List ℕ))
     → (let f : Followed History = followed i (by_lists i) y issued es in
@@ -92,7 +72,7 @@ still_forged i es e n h = record {
 
 forged-push : (i : Instance) (es : List Event) (e : Event) (first : Option ℕ) (is_genuine : Bool) → IsFirstForged i es first
     → IsDecided is_genuine (IsGenuineEvent i (expected i es).state (expected i es).issued e)
-    → IsFirstForged i (es ++ e ∷ []) (forged_then first is_genuine (length es + 1))
+    → IsFirstForged i (es ++ e ∷ []) (first_then first (not is_genuine) (length es + 1))
 forged-push i es e (Some n) is_genuine h t = still_forged i es e n h
 forged-push i es e None true h t = genuine_push i es e first_history (first_issued i) h t
 forged-push i es e None false h t = record { before = es; event = e; after = []; split = refl; place = refl; genuine = h; forged = t }
@@ -101,7 +81,7 @@ pub stands_next : (header : Header) (es : List Event) (e : Event) (old new : Dec
     → IsHeard (world_of header) (expected (world_of header) es) e heard → IsAfter header (es ++ e ∷ []) new.expecting
     → length new.expecting.issued ≤ length old.expecting.issued + 1
     → Lists (fold listed (numbered (world_of header) es) heard.messages.items) new.numbers
-    → new.lines.items ≡ old.lines.items ++ lines_of_reply heard.reply → new.forged ≡ forged_then old.forged heard.is_genuine (length es + 1)
+    → new.lines.items ≡ old.lines.items ++ lines_of_reply heard.reply → new.forged ≡ first_then old.forged (not heard.is_genuine) (length es + 1)
     → StandsBehind header (es ++ e ∷ []) new
 stands_next header es e old new heard h hears after few lists lines forged =
     let i = world_of header in
@@ -109,10 +89,10 @@ stands_next header es e old new heard h hears after few lists lines forged =
       after = after;
       few = omega (arith, few, h.few, length-append es (e ∷ []));
       lists = subst (λ (l : List (List ℕ)). Lists l new.numbers)
-          (ap (λ (l : List (List ℕ)). fold listed (numbered i es) l) hears.messages ∙ sym (numbered-push i es e)) lists;
-      lines = lines ∙ (λ j. h.lines j ++ lines_of_reply (hears.reply j)) ∙ sym (lines-push i es e);
+          (ap (λ (l : List (List ℕ)). fold listed (numbered i es) l) hears.0.messages ∙ sym (numbered-push i es e)) lists;
+      lines = lines ∙ (λ j. h.lines j ++ lines_of_reply (hears.0.reply j)) ∙ sym (lines-push i (by_lists i) first_history (first_issued i) es e);
       forged = subst (λ (o : Option ℕ). IsFirstForged i (es ++ e ∷ []) o) (sym forged)
-          (forged-push i es e old.forged heard.is_genuine h.forged hears.genuine);
+          (forged-push i es e old.forged heard.is_genuine h.forged hears.1);
     }
 
 -- what is told at the end
@@ -179,9 +159,6 @@ lines_end header es it committed issued lines h n k is =
     is ∙ (λ j. h.lines j ++ end_line ((n ∙ ap (λ (y : History). total_of y.batches) h.after.history_is) j)
     ((k ∙ ap length h.after.issued_is) j) ∷ [])
 
-pub start_is : (byte id variant code : ℕ) → byte ≡ variant → id ≡ code → 0 ∷ byte ∷ id ∷ [] ≡ 0 ∷ variant ∷ code ∷ []
-start_is byte id variant code b i = λ j. 0 ∷ b j ∷ i j ∷ []
-
 -- there is room for an event's messages
 pub room_for : (header : Header) (es : List CodeEvent) (index : ℕ) (event : CodeEvent) (it : Deciding) (heard : Heard)
     → length es ≤ most_events → StandsBehind header (events_of (take index es)) it
@@ -197,6 +174,6 @@ room_for header es index event it heard few h hears =
       h.lists.counts.count,
       length-map (numbered i (events_of (take index es))) sha256,
       numbered_few i (take index es),
-      ap length hears.messages,
+      ap length hears.0.messages,
       heard_few i f.state f.issued event,
     )

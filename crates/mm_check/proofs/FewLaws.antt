@@ -1,22 +1,33 @@
--- An event has few messages.
+-- An event has few messages, and is answered by few lines.
 use Rattle.mm_check.proofs.Below.{ℕ, ◌+◌, ◌*◌, ◌≤◌, Bool, true, false, cond, List, [], ◌∷◌, ◌++◌, length, map, Option, None, Some, arith}
 use Rattle.mm_check.proofs.Below.{length-append, ◌==◌, fold, filter, list_any, bytes_eq, length-map, length-take, Variant, Basic, Opt}
 use Rattle.mm_check.proofs.Below.{zero_bytes, anchored_message, anchored_of, start_message, Batch, normal, Meddle, Stop, guard, Instance}
 use Rattle.mm_check.proofs.Below.{History, Move, Commit, Foreign, Close, moved, first_history, is_long, moving_messages, form_messages}
 use Rattle.mm_check.proofs.Below.{offer_messages, Step, Reads, Changes, Writes, ask_steps, checkpoint_steps, right_messages, End, Done}
 use Rattle.mm_check.proofs.Below.{Fails, Fate, Walked, step_moves, after_step, walk, right_content, by_lists, CodeEvent, Event, Ask}
-use Rattle.mm_check.proofs.Below.{Checkpoint, event_of, meddles_of, offered_bytes, course_of, event_outcome, first_issued}
-use Rattle.mm_check.proofs.Below.{moves_of, event_messages, ask_moves, asking_messages, messages_if, messages_where, numbered_event, listed}
-use Rattle.mm_check.proofs.Below.{numbered_from, numbered, events_of}
-use Rattle.mm_check.proofs.Below.{Many, One}
+use Rattle.mm_check.proofs.Below.{Checkpoint, event_of, meddles_of, offered_bytes, course_of, event_outcome, first_issued, moves_of}
+use Rattle.mm_check.proofs.Below.{event_messages, ask_moves, asking_messages, messages_if, messages_where, numbered_event, listed}
+use Rattle.mm_check.proofs.Below.{numbered_from, numbered, events_of, Many, One, ◌≡◌, ◌-◌, Result, Ok, Err, refl, length-drop, most_members}
+use Rattle.mm_check.proofs.Below.{size_of, outputs_from, requests_of, total_of, Course, commits, Found, found_at, all_made, told_lines}
+use Rattle.mm_check.proofs.Below.{lines_of_reply, end_line, way_of, reply_of, closing_reply, followed, expected, in_any_way, short_size}
+use Rattle.mm_check.proofs.Below.{lines_of_all, expected_lines}
 use Rattle.std.proofs.lemmas.List.Sums.{count_by-le-length, length-filter}
 use Rattle.mm_platform.specs.StandingWords.{due}
 use Rattle.mm_seal.specs.declared.snapshot.Place.{Place}
 use Rattle.mm_seal.specs.declared.snapshot.Place.TheVariants.{Basic as InBasic, Opt as InOpt}
 use Rattle.mm_seal.specs.Snapshot.{Content}
-use Rattle.mm_call.specs.CoursesWords.{made_move}
 use Rattle.mm_schedule.specs.declared.event.Event.TheVariants as code
 use Rattle.mm_schedule.specs.declared.event.Meddles.{Meddles}
+use Rattle.mm_module.specs.RunLaws.{length-outputs_from}
+use Rattle.mm_platform.specs.declared.fault.StepFault.{StepFault}
+use Rattle.mm_model.specs.declared.refusal.Refusal.{Refusal}
+use Rattle.mm_call.specs.AnswersWords.{last_outputs}
+use Rattle.mm_call.specs.FoundWords.{found_unless_wanting, is_fresh}
+use Rattle.mm_call.specs.Called.{ended_by, position_of, seen_at, called}
+use Rattle.mm_call.specs.CalledWords.{kept_at}
+use Rattle.mm_call.specs.Checkpoints.{Closing, Stops, checkpointed}
+use Rattle.mm_schedule.specs.declared.reply.Way.{Way}
+use Rattle.mm_run.specs.FoldsWords.{broken_reply}
 
 -- none, or few
 unless_few : {A : Type 0} (long : Bool) (xs : List A) (n : ℕ) → length xs ≤ n → length (cond long [] xs) ≤ n
@@ -37,16 +48,12 @@ due_few n meddles few =
 
 -- the moves of a walk
 
-made_few : (made : Bool) (m : Move) → length (made_move made m) ≤ 1
-made_few true m = omega arith
-made_few false m = omega arith
-
 step_few : (step : Step) (made : Bool) (values : List (List ℕ)) → length values ≤ 8 → length (step_moves step made values) ≤ 9
 step_few Reads made values h = omega (arith, h, length-map values Foreign)
-step_few (Changes m) made values h =
-    omega (arith, h, length-map values Foreign, made_few made m, length-append (map Foreign values) (made_move made m))
-step_few (Writes m) made values h =
-    omega (arith, h, length-map values Foreign, made_few made m, length-append (made_move made m) (map Foreign values))
+step_few (Changes m) true values h = omega (arith, h, length-map values Foreign, length-append (map Foreign values) (m ∷ []))
+step_few (Changes m) false values h = omega (arith, h, length-map values Foreign, length-append (map Foreign values) [])
+step_few (Writes m) true values h = omega (arith, h, length-map values Foreign)
+step_few (Writes m) false values h = omega (arith, h, length-map values Foreign)
 
 ends_few : (step : Step) (values : List (List ℕ)) (ends : End) (rest : Walked) (steps : List Step) → length values ≤ 8
     → length rest.moves ≤ 9 * length steps → length (after_step step values ends rest).moves ≤ 9 * length (step ∷ steps)
@@ -183,4 +190,77 @@ numbered_few i events =
       arith,
       listed_few (numbered_from i first_history (first_issued i) (events_of events)) (start_message i.variant i.meaning.id ∷ []),
       from_few i first_history (first_issued i) events,
+    )
+
+-- the lines of its reply
+
+told_length : (again : Bool) (position : ℕ) (outputs : List (List ℕ)) → length (told_lines again position outputs) ≡ length outputs
+told_length again position [] = refl
+told_length again position (o ∷ outputs) = omega (arith, told_length again position outputs)
+
+last_few : (i : Instance) (y : History) (n : ℕ) → length (last_outputs i.meaning y n) ≤ n
+last_few i y n =
+    let outs = outputs_from i.meaning i.meaning.first (requests_of y.batches) in
+    omega (arith, length-drop (total_of y.batches - n) outs, length-outputs_from i.meaning i.meaning.first (requests_of y.batches))
+
+broken_few : (how : Way) (kept : Option ℕ) → length (lines_of_reply (broken_reply how kept)) ≤ most_members
+broken_few how None = omega arith
+broken_few how (Some position) = omega arith
+
+ended_few : (i : Instance) (seen y : History) (how : Way) (b : Batch) (found : Result Found Refusal) (moves : List Move)
+    (broken : Option StepFault) → size_of b ≤ most_members
+    → length (lines_of_reply (reply_of how (ended_by (by_lists i) seen y b found moves broken))) ≤ most_members
+ended_few i seen y how b found moves (Some fault) h =
+    broken_few how (kept_at (commits moves) (position_of (by_lists i) seen y b found))
+ended_few i seen y how b (Err why) moves None h = omega arith
+ended_few i seen y how b (Ok it) moves None h =
+    omega (
+      arith,
+      h,
+      last_few i y (size_of b),
+      told_length it.again (total_of y.batches) (last_outputs i.meaning y (size_of b)),
+    )
+
+called_few : (i : Instance) (y : History) (how : Way) (c : Course) (bytes : List ℕ) (b : Batch) → size_of b ≤ most_members
+    → length (lines_of_reply (reply_of how (called i (by_lists i) y c bytes b).ending)) ≤ most_members
+called_few i y how c bytes b h =
+    let seen : History = seen_at i (by_lists i) y c in
+    let found : Result Found Refusal = found_unless_wanting (found_at i (by_lists i) seen b bytes) c.lacks in
+    let w : Walked = walk c.fates 1 (ask_steps i.variant y.is_open (is_fresh found) b) in
+    ended_few i seen (all_made (by_lists i) y w.moves) how b found w.moves w.broken h
+
+closing_few : (how : Way) (closing : Closing) → length (lines_of_reply (closing_reply how closing)) ≤ most_members
+closing_few how (Stops fault true) = omega arith
+closing_few how _ = omega arith
+
+event_lines_few : (i : Instance) (y : History) (issued : List (List ℕ)) (event : Event)
+    → length (lines_of_reply (event_outcome i (by_lists i) y issued event).reply) ≤ most_members
+event_lines_few i y issued event = in_any_way i (by_lists i) y issued (λ o. length (lines_of_reply o.reply) ≤ most_members) (record {
+  refused = λ why. omega arith;
+  call = λ stop meddles bytes b short.
+      called_few i y (way_of stop) (course_of stop meddles) bytes (normal b) (short_size b short);
+  check = λ stop meddles. closing_few (way_of stop) (checkpointed i (by_lists i) y (course_of stop meddles)).ending;
+  power = omega arith;
+  extend = λ value. omega arith;
+}) event
+
+replies_few : (i : Instance) (events : List Event) (y : History) (issued : List (List ℕ))
+    → length (lines_of_all (followed i (by_lists i) y issued events).replies) ≤ most_members * length events
+replies_few i [] y issued = omega arith
+replies_few i (event ∷ events) y issued =
+    let o = event_outcome i (by_lists i) y issued event in
+    omega (
+      arith,
+      event_lines_few i y issued event,
+      replies_few i events o.state o.issued,
+      length-append (lines_of_reply o.reply) (lines_of_all (followed i (by_lists i) o.state o.issued events).replies),
+    )
+
+pub expected_few : (i : Instance) (events : List Event) → length (expected_lines i events) ≤ most_members * length events + 1
+expected_few i events =
+    omega (
+      arith,
+      replies_few i events first_history (first_issued i),
+      length-append (lines_of_all (expected i events).replies)
+          (end_line (total_of (expected i events).state.batches) (length (expected i events).issued) ∷ []),
     )

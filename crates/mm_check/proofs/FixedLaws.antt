@@ -1,9 +1,8 @@
 -- One premise alone is told of a run.
-use Rattle.mm_check.proofs.Below.{◌≡◌, ◌∙◌, ℕ, List, [], ◌∷◌, ◌++◌, length, Option, None, Some, refl, sym, ap, subst, arith}
-use Rattle.mm_check.proofs.Below.{Variant, first_history, by_lists, Event, Followed, followed}
-use Rattle.mm_check.proofs.Below.{event_outcome, first_issued, IsGenuineEvent, AreGenuine, IsGenuineRun, Instance, History}
-use Rattle.mm_check.proofs.Below.{message_digests, shared_in, zero_in, numbered, IsForgedAt, Decides, Premise, secured_by, IsFirstForged}
-use Rattle.mm_check.proofs.Below.{premise_by}
+use Rattle.mm_check.proofs.Below.{◌≡◌, ◌∙◌, ℕ, List, [], ◌∷◌, ◌++◌, length, Option, None, Some, refl, sym, ap, subst, arith, Variant}
+use Rattle.mm_check.proofs.Below.{first_history, by_lists, Event, Followed, followed, event_outcome, first_issued, IsGenuineEvent}
+use Rattle.mm_check.proofs.Below.{AreGenuine, IsGenuineRun, Instance, History, message_digests, shared_in, zero_in, numbered, IsForgedAt}
+use Rattle.mm_check.proofs.Below.{Decides, Premise, secured_by, IsFirstForged, premise_by, IsClearRun}
 use Rattle.mm_check.specs.declared.verdicts.Premise.TheVariants.{Held, Shared, Zero, Secured, Forged}
 use Rattle.mm_check.proofs.ClearLaws.{unshared, no_zero, apart_none}
 
@@ -78,6 +77,13 @@ module _ (i : Instance) (es : List Event) where
     is : premise_by pair nought secured forged ≡ p
     first : pair ≡ None → nought ≡ None → secured ≡ None → IsFirstForged i es forged
 
+  clear_facts : (forged : Option ℕ) → IsClearRun i es → IsFirstForged i es forged → Facts (premise_by None None None forged)
+  clear_facts forged h first = record {
+    forged = forged;
+    is = λ j. premise_by (unshared i es h.clear j) (no_zero i es h.clear j) (apart_none i.variant i es h.apart j) forged;
+    first = λ s z g. first;
+  }
+
   facts_of : (p : Premise) → Decides i es p → Facts p
   facts_of (Shared first second) h = record {
     forged = None;
@@ -96,16 +102,8 @@ module _ (i : Instance) (es : List Event) where
         is = λ j. premise_by (unshared i es h.0 j) (no_zero i es h.0 j) (sec j) None;
         first = λ s z g. absurd (some_none secured event sec g);
       }
-  facts_of (Forged event) h = record {
-    forged = Some event;
-    is = λ j. premise_by (unshared i es h.0.clear j) (no_zero i es h.0.clear j) (apart_none i.variant i es h.0.apart j) (Some event);
-    first = λ s z g. h.1;
-  }
-  facts_of Held h = record {
-    forged = None;
-    is = λ j. premise_by (unshared i es h.0.clear j) (no_zero i es h.0.clear j) (apart_none i.variant i es h.0.apart j) None;
-    first = λ s z g. h.1;
-  }
+  facts_of (Forged event) h = clear_facts (Some event) h.0 h.1
+  facts_of Held h = clear_facts None h.0 h.1
 
   pub premise_fixed : (p q : Premise) → Decides i es p → Decides i es q → p ≡ q
   premise_fixed p q hp hq =

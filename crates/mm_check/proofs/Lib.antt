@@ -5,7 +5,6 @@ mod GuardLaws
 mod ClearLaws
 mod FewLaws
 mod DecidingLaws
-mod FewLines
 mod ComparingLaws
 mod CheckingLaws
 mod RunLaws

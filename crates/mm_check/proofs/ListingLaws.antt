@@ -2,36 +2,30 @@
 use Rattle.mm_check.proofs.Below.{◌≡◌, ◌∙◌, ℕ, ◌+◌, ◌≤◌, Bool, true, false, cond, List, [], ◌∷◌, ◌++◌, length, Option, None, Some}
 use Rattle.mm_check.proofs.Below.{refl, sym, ap, arith, length-append, option_map, bytes_eq, nat_tests, nat_list_eq_equiv, bytes_eq-Decides}
 use Rattle.mm_check.proofs.Below.{slice_cmp, nat_cmp, is_eq, is_eq-slice_cmp, first_where, both_more, shared_with, shared_in, is_zero}
-use Rattle.mm_check.proofs.Below.{zero_in, lower, zero_then, pair_of, CountsDigests}
+use Rattle.mm_check.proofs.Below.{zero_in, lower, first_then, pair_of, CountsDigests}
 use Rattle.std.specs.BTreeMap as tree
 use Rattle.mm_check.specs.declared.digests.Digests.{Digests}
 
--- the number that was found, or this one where the test passes
-abbrev or_here : Option ℕ → Bool → ℕ → Option ℕ
-or_here (Some n) here last = Some n
-or_here None true last = Some last
-or_here None false last = None
-
 more_here : (found : Option ℕ) (here : Bool) (last next : ℕ) → last + 1 ≡ next
-    → option_map (λ n. n + 1) (or_here found here last) ≡ or_here (option_map (λ n. n + 1) found) here next
+    → option_map (λ n. n + 1) (first_then found here last) ≡ first_then (option_map (λ n. n + 1) found) here next
 more_here (Some n) here last next e = refl
 more_here None true last next e = ap Some e
 more_here None false last next e = refl
 
-first_one : (here : Bool) → (let o : Option ℕ = cond here (Some 1) (option_map (λ n. n + 1) None) in o ≡ or_here None here (0 + 1))
+first_one : (here : Bool) → (let o : Option ℕ = cond here (Some 1) (option_map (λ n. n + 1) None) in o ≡ first_then None here (0 + 1))
 first_one true = refl
 first_one false = refl
 
 first_pass : {A : Type 0} (p : A → Bool) (y : A) (pass : Bool) (xs : List A) (x : A)
-    → first_where p (xs ++ x ∷ []) ≡ or_here (first_where p xs) (p x) (length xs + 1)
+    → first_where p (xs ++ x ∷ []) ≡ first_then (first_where p xs) (p x) (length xs + 1)
     → (let o : Option ℕ = cond pass (Some 1) (option_map (λ n. n + 1) (first_where p (xs ++ x ∷ []))) in
-    let w : Option ℕ = cond pass (Some 1) (option_map (λ n. n + 1) (first_where p xs)) in o ≡ or_here w (p x) (length (y ∷ xs) + 1))
+    let w : Option ℕ = cond pass (Some 1) (option_map (λ n. n + 1) (first_where p xs)) in o ≡ first_then w (p x) (length (y ∷ xs) + 1))
 first_pass p y true xs x e = refl
 first_pass p y false xs x e =
     ap (option_map (λ n. n + 1)) e ∙ more_here (first_where p xs) (p x) (length xs + 1) (length (y ∷ xs) + 1) (omega arith)
 
 pub first_where-push : {A : Type 0} (p : A → Bool) (xs : List A) (x : A)
-    → first_where p (xs ++ x ∷ []) ≡ or_here (first_where p xs) (p x) (length xs + 1)
+    → first_where p (xs ++ x ∷ []) ≡ first_then (first_where p xs) (p x) (length xs + 1)
 first_where-push p [] x = first_one (p x)
 first_where-push p (y ∷ xs) x = first_pass p y (p y) xs x (first_where-push p xs x)
 
@@ -57,40 +51,27 @@ shared_in-from_one : (ds : List (List ℕ)) → FromOne (shared_in ds)
 shared_in-from_one [] = tt
 shared_in-from_one (d ∷ ds) = shared_with-from_one (first_where (bytes_eq d) ds) (shared_in ds)
 
--- the first digest comes again already
-again_step : (n m next : ℕ) (here : Bool) (x : Option ℕ)
-    → Some (1, n + 1) ≡ lower_if (Some (1, n + 1)) (cond here (Some 1) (option_map (λ k. k + 1) x)) next
-again_step n m next true x = refl
-again_step n m next false None = refl
-again_step n m next false (Some k) = grind (arith, nat_tests)
-
--- it comes again now
-now_step : (s : Option (ℕ × ℕ)) (last next : ℕ) → FromOne s → last + 1 ≡ next → Some (1, last + 1) ≡ lower (option_map both_more s) 1 next
-now_step None last next h e = ap (λ (n : ℕ). Some (1, n)) e
-now_step (Some a) last next h e = grind (arith, nat_tests)
-
--- it doesn't come again
-later_step : (s : Option (ℕ × ℕ)) (x : Option ℕ) (last next : ℕ) → last + 1 ≡ next
-    → option_map both_more (lower_if s x last) ≡ lower_if (option_map both_more s) (option_map (λ k. k + 1) x) next
-later_step s None last next e = refl
-later_step None (Some m) last next e = ap (λ (n : ℕ). Some (m + 1, n)) e
-later_step (Some a) (Some m) last next e = grind (arith, nat_tests)
-
+-- the first digest comes again already, or now, or it doesn't
 shared_step : (found : Option ℕ) (s : Option (ℕ × ℕ)) (x : Option ℕ) (here : Bool) (last next : ℕ) → FromOne s → last + 1 ≡ next
-    → shared_with (or_here found here last) (lower_if s x last) ≡ lower_if (shared_with found s)
+    → shared_with (first_then found here last) (lower_if s x last) ≡ lower_if (shared_with found s)
     (cond here (Some 1) (option_map (λ k. k + 1) x)) next
-shared_step (Some n) s x here last next h e = again_step n 0 next here x
-shared_step None s x true last next h e = now_step s last next h e
-shared_step None s x false last next h e = later_step s x last next e
+shared_step (Some n) s x true last next h e = refl
+shared_step (Some n) s None false last next h e = refl
+shared_step (Some n) s (Some k) false last next h e = grind (arith, nat_tests)
+shared_step None None x true last next h e = ap (λ (n : ℕ). Some (1, n)) e
+shared_step None (Some a) x true last next h e = grind (arith, nat_tests)
+shared_step None s None false last next h e = refl
+shared_step None None (Some m) false last next h e = ap (λ (n : ℕ). Some (m + 1, n)) e
+shared_step None (Some a) (Some m) false last next h e = grind (arith, nat_tests)
 
 shared_in-push : (ds : List (List ℕ)) (x : List ℕ)
     → shared_in (ds ++ x ∷ []) ≡ lower_if (shared_in ds) (first_where (bytes_eq x) ds) (length ds + 1)
 shared_in-push [] x = refl
 shared_in-push (d ∷ ds) x =
     let found = first_where-push (bytes_eq d) ds x
-    ∙ ap (λ (b : Bool). or_here (first_where (bytes_eq d) ds) b (length ds + 1)) (nat_list_eq_equiv.symm d x) in
+    ∙ ap (λ (b : Bool). first_then (first_where (bytes_eq d) ds) b (length ds + 1)) (nat_list_eq_equiv.symm d x) in
     ap (λ (o : Option ℕ). shared_with o (shared_in (ds ++ x ∷ []))) found
-    ∙ ap (shared_with (or_here (first_where (bytes_eq d) ds) (bytes_eq x d) (length ds + 1))) (shared_in-push ds x)
+    ∙ ap (shared_with (first_then (first_where (bytes_eq d) ds) (bytes_eq x d) (length ds + 1))) (shared_in-push ds x)
     ∙ shared_step (first_where (bytes_eq d) ds) (shared_in ds) (first_where (bytes_eq x) ds) (bytes_eq x d) (length ds + 1)
     (length (d ∷ ds) + 1) (shared_in-from_one ds) (omega arith)
 
@@ -99,53 +80,32 @@ shared_in-push (d ∷ ds) x =
 abbrev Finds : (List ℕ → Option ℕ) → List (List ℕ) → Type 0
 Finds f ds = (d : List ℕ) → f d ≡ first_where (bytes_eq d) ds
 
-here_known : (found : Option ℕ) (n : ℕ) (here : Bool) (last : ℕ) → found ≡ Some n → found ≡ or_here found here last
-here_known (Some k) n here last e = refl
-here_known None n here last e = absurd (cc)
-
-here_not : (found : Option ℕ) (last : ℕ) → found ≡ or_here found false last
-here_not (Some k) last = refl
-here_not None last = refl
-
-known_at : (f : List ℕ → Option ℕ) (ds : List (List ℕ)) (x d : List ℕ) (n : ℕ) (same : Bool) → Finds f ds → f x ≡ Some n
-    → bytes_eq d x ≡ same → first_where (bytes_eq d) ds ≡ or_here (first_where (bytes_eq d) ds) same (length ds + 1)
-known_at f ds x d n false h is e = here_not (first_where (bytes_eq d) ds) (length ds + 1)
-known_at f ds x d n true h is e =
-    here_known (first_where (bytes_eq d) ds) n true (length ds + 1) (sym (h d) ∙ ap f ((bytes_eq-Decides d x).0 e) ∙ is)
+known_by : (found : Option ℕ) (same : Bool) (last n : ℕ) → (same ≡ true → found ≡ Some n) → found ≡ first_then found same last
+known_by None true last n h = let clash : None ≡ Some n = h refl in absurd (cc)
+known_by None false last n h = refl
+known_by (Some k) same last n h = refl
 
 finds-known : (f : List ℕ → Option ℕ) (ds : List (List ℕ)) (x : List ℕ) (n : ℕ) → Finds f ds → f x ≡ Some n → Finds f (ds ++ x ∷ [])
-finds-known f ds x n h is d = h d ∙ known_at f ds x d n (bytes_eq d x) h is refl ∙ sym (first_where-push (bytes_eq d) ds x)
+finds-known f ds x n h is d = h d ∙ known_by (first_where (bytes_eq d) ds) (bytes_eq d x) (length ds + 1) n
+    (λ t. sym (h d) ∙ ap f ((bytes_eq-Decides d x).0 t) ∙ is) ∙ sym (first_where-push (bytes_eq d) ds x)
 
-new_at : (f : List ℕ → Option ℕ) (ds : List (List ℕ)) (x d : List ℕ) (same : Bool) → Finds f ds → f x ≡ None → bytes_eq d x ≡ same
-    → cond same (Some (length ds + 1)) (f d) ≡ or_here (first_where (bytes_eq d) ds) same (length ds + 1)
-new_at f ds x d false h is e = h d ∙ here_not (first_where (bytes_eq d) ds) (length ds + 1)
-new_at f ds x d true h is e =
-    ap (λ (o : Option ℕ). or_here o true (length ds + 1)) (sym (sym (h d) ∙ ap f ((bytes_eq-Decides d x).0 e) ∙ is))
+new_by : (found : Option ℕ) (same : Bool) (last : ℕ) → (same ≡ true → found ≡ None) → cond same (Some last) found ≡ first_then found same last
+new_by (Some k) true last h = let clash : Some k ≡ None = h refl in absurd (cc)
+new_by (Some k) false last h = refl
+new_by None true last h = refl
+new_by None false last h = refl
 
 finds-new : (f g : List ℕ → Option ℕ) (ds : List (List ℕ)) (x : List ℕ) → Finds f ds → f x ≡ None
     → ((d : List ℕ) → g d ≡ cond (bytes_eq d x) (Some (length ds + 1)) (f d)) → Finds g (ds ++ x ∷ [])
-finds-new f g ds x h is goes d = goes d ∙ new_at f ds x d (bytes_eq d x) h is refl ∙ sym (first_where-push (bytes_eq d) ds x)
+finds-new f g ds x h is goes d = goes d ∙ ap (cond (bytes_eq d x) (Some (length ds + 1))) (h d)
+    ∙ new_by (first_where (bytes_eq d) ds) (bytes_eq d x) (length ds + 1) (λ t. sym (h d) ∙ ap f ((bytes_eq-Decides d x).0 t) ∙ is)
+    ∙ sym (first_where-push (bytes_eq d) ds x)
 
--- the pair, likewise
-shared-known : (f : List ℕ → Option ℕ) (ds : List (List ℕ)) (x : List ℕ) (n : ℕ) → Finds f ds → f x ≡ Some n
-    → shared_in (ds ++ x ∷ []) ≡ lower (shared_in ds) n (length ds + 1)
-shared-known f ds x n h is = shared_in-push ds x ∙ ap (λ (o : Option ℕ). lower_if (shared_in ds) o (length ds + 1)) (sym (h x) ∙ is)
-
-shared-new : (f : List ℕ → Option ℕ) (ds : List (List ℕ)) (x : List ℕ) → Finds f ds → f x ≡ None
-    → shared_in (ds ++ x ∷ []) ≡ shared_in ds
-shared-new f ds x h is = shared_in-push ds x ∙ ap (λ (o : Option ℕ). lower_if (shared_in ds) o (length ds + 1)) (sym (h x) ∙ is)
-
--- the first zero
-zero_here : (found : Option ℕ) (here : Bool) (last : ℕ) → (let o : Option ℕ = cond here (Some last) None in or_here None here last ≡ o)
-zero_here found true last = refl
-zero_here found false last = refl
-
-zero_by : (found : Option ℕ) (digest : List ℕ) (last : ℕ) → or_here found (is_zero digest) last ≡ zero_then found digest last
-zero_by (Some n) digest last = refl
-zero_by None digest last = zero_here None (is_zero digest) last
-
-zero_in-push : (ds : List (List ℕ)) (x : List ℕ) → zero_in (ds ++ x ∷ []) ≡ zero_then (zero_in ds) x (length ds + 1)
-zero_in-push ds x = first_where-push is_zero ds x ∙ zero_by (zero_in ds) x (length ds + 1)
+-- the pair, by what is found of the new one
+shared_by : (f : List ℕ → Option ℕ) (ds : List (List ℕ)) (x : List ℕ) (found : Option ℕ) → Finds f ds → f x ≡ found
+    → shared_in (ds ++ x ∷ []) ≡ lower_if (shared_in ds) found (length ds + 1)
+shared_by f ds x found h is =
+    shared_in-push ds x ∙ ap (λ (o : Option ℕ). lower_if (shared_in ds) o (length ds + 1)) (sym (h x) ∙ is)
 
 -- the numbers in code after one more digest
 
@@ -155,7 +115,7 @@ number_at it d = tree.get (slice_cmp nat_cmp) it.firsts d
 -- what comes with every digest
 pub record Adds (old new : Digests) (x : List ℕ) : Type 0 where
   pub count : new.count ≡ old.count + 1
-  pub zero : new.zero ≡ zero_then old.zero x (old.count + 1)
+  pub zero : new.zero ≡ first_then old.zero (is_zero x) (old.count + 1)
 
 one_longer : (ds : List (List ℕ)) (x : List ℕ) (n : ℕ) → n ≡ length ds → n + 1 ≡ length (ds ++ x ∷ [])
 one_longer ds x n e = omega (arith, length-append ds (x ∷ []))
@@ -163,7 +123,7 @@ one_longer ds x n e = omega (arith, length-append ds (x ∷ []))
 zero_goes : (ds : List (List ℕ)) (old new : Digests) (x : List ℕ) → CountsDigests ds old → Adds old new x
     → new.zero ≡ zero_in (ds ++ x ∷ [])
 zero_goes ds old new x h a =
-    a.zero ∙ (λ j. zero_then (h.zero j) x (h.count j + 1)) ∙ sym (zero_in-push ds x)
+    a.zero ∙ (λ j. first_then (h.zero j) (is_zero x) (h.count j + 1)) ∙ sym (first_where-push is_zero ds x)
 
 pub counts-known : (ds : List (List ℕ)) (old new : Digests) (x : List ℕ) (n : ℕ) → CountsDigests ds old → Adds old new x
     → number_at old x ≡ Some n → new.firsts ≡ old.firsts → pair_of new.shared ≡ lower (pair_of old.shared) n (old.count + 1)
@@ -172,7 +132,7 @@ counts-known ds old new x n h a found same shared = record {
   firsts = λ (d : List ℕ). ap (λ m. tree.get (slice_cmp nat_cmp) m d) same ∙ finds-known (number_at old) ds x n h.firsts found d;
   count = a.count ∙ one_longer ds x old.count h.count;
   shared = shared ∙ (λ j. lower (h.shared j) n (h.count j + 1))
-      ∙ sym (shared-known (number_at old) ds x n h.firsts found);
+      ∙ sym (shared_by (number_at old) ds x (Some n) h.firsts found);
   zero = zero_goes ds old new x h a;
 }
 
@@ -184,6 +144,6 @@ counts-new ds old new x h a none goes same = record {
       goes d ∙ ap (λ b. cond b (Some (old.count + 1)) (number_at old d)) (is_eq-slice_cmp x d ∙ nat_list_eq_equiv.symm x d)
       ∙ ap (λ (n : ℕ). cond (bytes_eq d x) (Some (n + 1)) (number_at old d)) h.count);
   count = a.count ∙ one_longer ds x old.count h.count;
-  shared = ap pair_of same ∙ h.shared ∙ sym (shared-new (number_at old) ds x h.firsts none);
+  shared = ap pair_of same ∙ h.shared ∙ sym (shared_by (number_at old) ds x None h.firsts none);
   zero = zero_goes ds old new x h a;
 }

@@ -1,18 +1,29 @@
 -- The run of the events that are read.
 use Rattle.mm_check.proofs.Below.{◌≡◌, ◌∙◌, ℕ, false, List, [], ◌∷◌, ◌++◌, sym, ap, subst, arith, append-nil, length-append}
-use Rattle.mm_check.proofs.Below.{flat_map-append, map-append}
-use Rattle.mm_check.proofs.Below.{Header, CodeEvent, Event, event_of, lines_of_reply, Reply, by_digests, Outcome, Followed, event_outcome}
-use Rattle.mm_check.proofs.Below.{first_issued, first_digests, replies_by_digests, world_of, goes_on, Running, is_too_much, replaying}
-use Rattle.mm_check.proofs.Below.{running_outcome, after_event, events_of, lines_of_all, RunsBehind}
-use Rattle.mm_check.proofs.Below.{◌<◌, length, expected_lines}
+use Rattle.mm_check.proofs.Below.{flat_map-append, map-append, Header, CodeEvent, Event, event_of, lines_of_reply, Reply, by_digests}
+use Rattle.mm_check.proofs.Below.{Outcome, Followed, event_outcome, first_issued, first_digests, replies_by_digests, world_of, goes_on}
+use Rattle.mm_check.proofs.Below.{Running, is_too_much, replaying, running_outcome, after_event, events_of, lines_of_all, RunsBehind, ◌<◌}
+use Rattle.mm_check.proofs.Below.{length, expected_lines, followed, Instance}
 use Rattle.mm_model.specs.Moves.{Digests}
+use Rattle.mm_call.specs.Levels.{Level}
 use Rattle.mm_play.specs.Counting.{few_events}
-use Rattle.mm_check.proofs.FewLines.{expected_few}
+use Rattle.mm_check.proofs.FewLaws.{expected_few}
 
 outcome_same : (header : Header) (r : Running) (f : Followed Digests) (event : Event) → r.header ≡ header → r.digests ≡ f.state
     → r.issued ≡ f.issued → running_outcome r event ≡ event_outcome (world_of header) (by_digests (world_of header)) f.state f.issued event
 outcome_same header r f event h d s =
     λ j. event_outcome (world_of (h j)) (by_digests (world_of (h j))) (d j) (s j) event
+
+-- the lines of one event more
+pub lines-push : {S : Type 0} (i : Instance) (level : Level S) (s : S) (issued : List (List ℕ)) (es : List Event) (e : Event)
+    → (let f : Followed S = followed i level s issued es in lines_of_all (followed i level s issued (es ++ e ∷ [])).replies
+    ≡ lines_of_all f.replies ++ lines_of_reply (event_outcome i level f.state f.issued e).reply)
+lines-push {S} i level s issued es e =
+    let f = followed i level s issued es in
+    let said = (event_outcome i level f.state f.issued e).reply in
+    ap (λ (g : Followed S). lines_of_all g.replies) (goes_on i level es (e ∷ []) s issued)
+    ∙ flat_map-append lines_of_reply f.replies (said ∷ [])
+    ∙ ap (λ (l : List (List ℕ)). lines_of_all f.replies ++ l) (append-nil (lines_of_reply said))
 
 -- one event more
 pub is_run_next : (header : Header) {r next : Running} (events : List CodeEvent) {longer : List CodeEvent} {told more : List (List ℕ)}
@@ -32,8 +43,7 @@ is_run_next header {r} events {longer} {told} {more} line event h room said is g
       digests = ap (λ (x : Outcome Digests). x.state) same ∙ sym (ap (λ (g : Followed Digests). g.state) on);
       issued = ap (λ (x : Outcome Digests). x.issued) same ∙ sym (ap (λ (g : Followed Digests). g.issued) on);
       lines = lines ∙ (λ j. h.lines j ++ lines_of_reply ((said ∙ ap (λ (x : Outcome Digests). x.reply) same) j))
-          ∙ sym (ap (λ (g : Followed Digests). lines_of_all g.replies) on ∙ flat_map-append lines_of_reply f.replies (o.reply ∷ [])
-          ∙ ap (λ (l : List (List ℕ)). lines_of_all f.replies ++ l) (append-nil (lines_of_reply o.reply)));
+          ∙ sym (lines-push i (by_digests i) (first_digests i) (first_issued i) (events_of events) e);
       count = omega (arith, h.count, length-append (events_of events) (e ∷ []));
       few = omega (arith, few_events replaying r line room);
     } in

@@ -1,11 +1,12 @@
 -- A recorded run line by line: the header, the events, and at will the line `replies` and the
 -- recorded lines.
-use Rattle.std.specs.Prelude.{ℕ, ◌+◌, ◌-◌, Bool, true, false, nat_le, List, [], ◌∷◌, ◌++◌, codes, length, Option, None, Some, Result, Ok}
+use Rattle.std.specs.Prelude.{ℕ, ◌+◌, ◌-◌, Bool, false, nat_le, not, List, [], ◌∷◌, ◌++◌, codes, length, Option, None, Some, Result, Ok}
 use Rattle.std.specs.Prelude.{Err, if◌then◌else◌}
 use Rattle.std.specs.List.{slice_get, sum_by}
 use Rattle.std.specs.Str.{bytes_eq}
 use Rattle.mm_check.specs.Below.{most_events, Event, event_at, lines_of_reply, Header, world_of, Running, begun, most_kept, running_outcome}
 use Rattle.mm_check.specs.Below.{after_event, EventPlayer, event_answer, header_answer, Refused, Much}
+use Rattle.mm_check.specs.Listing.{first_then}
 use Rattle.mm_check.specs.Numbering.{expected_lines}
 
 -- the line between the events and the recorded lines
@@ -51,20 +52,14 @@ abbrev pub is_line : List ℕ → Option (List ℕ) → Bool
 is_line line None = false
 is_line line (Some expected) = bytes_eq (line ++ 10 ∷ []) expected
 
--- the first difference, once the line of this number was found the same or not
-abbrev pub differs_then : Option ℕ → Bool → ℕ → Option ℕ
-differs_then (Some first) is_same number = Some first
-differs_then None true number = None
-differs_then None false number = Some number
-
 abbrev pub after_compared : Compared → List ℕ → Compared
 after_compared c line = record {
   header = c.header;
   events = c.events;
   count = c.count + 1;
   differs =
-      differs_then c.differs
-      (is_line line (slice_get (expected_lines (world_of c.header) c.events) c.count))
+      first_then c.differs
+      (not (is_line line (slice_get (expected_lines (world_of c.header) c.events) c.count)))
       (c.count + 1);
 }
 

@@ -1,5 +1,5 @@
 -- What the code that decides holds behind some first events.
-use Rattle.std.specs.Prelude.{◌≡◌, ℕ, ◌+◌, ◌≤◌, Bool, true, false, List, length, Option, None, Some}
+use Rattle.std.specs.Prelude.{◌≡◌, ℕ, ◌+◌, ◌≤◌, List, length, Option, None, Some}
 use Rattle.mm_check.specs.Below.{Instance, Event, Header, expected, world_of, IsGenuineRun, IsAfter}
 use Rattle.mm_check.specs.Lists.{Lists}
 use Rattle.mm_check.specs.Numbering.{numbered, lines_of_all, IsForgedAt, Decides, expected_lines}
@@ -20,12 +20,6 @@ pub record StandsBehind (header : Header) (events : List Event) (it : Deciding) 
   pub lists : Lists (numbered (world_of header) events) it.numbers
   pub lines : it.lines.items ≡ lines_of_all (expected (world_of header) events).replies
   pub forged : IsFirstForged (world_of header) events it.forged
-
--- the first forged event, once an event of this number was found genuine or not
-abbrev pub forged_then : Option ℕ → Bool → ℕ → Option ℕ
-forged_then (Some first) is_genuine number = Some first
-forged_then None true number = None
-forged_then None false number = Some number
 
 -- what is told of the premises: the first that applies
 abbrev pub premise_by : Option (ℕ × ℕ) → Option ℕ → Option ℕ → Option ℕ → Premise

@@ -1,5 +1,5 @@
 -- Messages with their numbers: each once, in the order of its first coming.
-use Rattle.std.specs.Prelude.{ℕ, ◌+◌, nat_lt, Bool, List, [], ◌∷◌, ◌++◌, map, Option, None, Some, if◌then◌else◌}
+use Rattle.std.specs.Prelude.{ℕ, ◌+◌, nat_lt, Bool, true, false, List, [], ◌∷◌, ◌++◌, map, Option, None, Some, if◌then◌else◌}
 use Rattle.std.specs.List.{list_any}
 use Rattle.std.specs.Option.{option_map}
 use Rattle.std.specs.Str.{bytes_eq}
@@ -9,6 +9,12 @@ use Rattle.mm_check.specs.Below.{sha256, zero_bytes}
 abbrev pub first_where : {A : Type 0} → (A → Bool) → List A → Option ℕ
 first_where p [] = None
 first_where p (x ∷ xs) = if p x then Some 1 else option_map (λ n. n + 1) (first_where p xs)
+
+-- the first number that is found, once this one is found or not
+abbrev pub first_then : Option ℕ → Bool → ℕ → Option ℕ
+first_then (Some first) is_found number = Some first
+first_then None true number = Some number
+first_then None false number = None
 
 -- one more message, if it hasn't come before
 abbrev pub listed : List (List ℕ) → List ℕ → List (List ℕ)
@@ -43,8 +49,3 @@ zero_in digests = first_where is_zero digests
 abbrev pub lower : Option (ℕ × ℕ) → ℕ → ℕ → Option (ℕ × ℕ)
 lower None first second = Some (first, second)
 lower (Some pair) first second = if nat_lt first pair.0 then Some (first, second) else Some pair
-
--- the number of the first digest of zeros, once this one has come with this number
-abbrev pub zero_then : Option ℕ → List ℕ → ℕ → Option ℕ
-zero_then (Some number) digest last = Some number
-zero_then None digest last = if is_zero digest then Some last else None

@@ -1,10 +1,11 @@
 -- What a check comes to.
-use Rattle.std.specs.Prelude.{◌≡◌, ℕ, ◌+◌, ◌≤◌, Bool, false, nat_le, List, [], ◌∷◌, ◌++◌, length, codes, Option, None, Some, if◌then◌else◌}
+use Rattle.std.specs.Prelude.{◌≡◌, ℕ, ◌+◌, ◌≤◌, Bool, false, nat_lt, List, [], ◌∷◌, ◌++◌, length, codes, Option, None, Some, if◌then◌else◌}
 use Rattle.std.specs.Fmt.{decimal}
 use Rattle.std.specs.Str.{bytes_eq}
 use Rattle.mm_check.specs.Below.{most_events, Instance, Event, Header, replies_by_digests, world_of, Running}
+use Rattle.mm_check.specs.Listing.{first_then}
 use Rattle.mm_check.specs.Numbering.{Decides, lines_of_all, lines_with, expected_lines}
-use Rattle.mm_check.specs.Checking.{Compared, differs_then, CheckStage, AtHeader, InEvents, InReplies}
+use Rattle.mm_check.specs.Checking.{Compared, CheckStage, AtHeader, InEvents, InReplies}
 use Rattle.mm_check.specs.declared.verdicts.Premise.{Premise}
 use Rattle.mm_check.specs.declared.verdicts.Premise.TheVariants.{Held, Shared, Zero, Secured, Forged}
 use Rattle.mm_check.specs.declared.verdicts.Agreement.{Agreement}
@@ -50,7 +51,7 @@ pub record RunsBehind (header : Header) (running : Running) (events : List Event
 -- the first difference at the end of the recorded lines: one may be missing
 abbrev pub end_difference : Compared → Option ℕ
 end_difference c =
-    differs_then c.differs (nat_le (length (expected_lines (world_of c.header) c.events)) c.count)
+    first_then c.differs (nat_lt c.count (length (expected_lines (world_of c.header) c.events)))
     (c.count + 1)
 
 -- the verdicts on a run whose lines are tested

@@ -1,10 +1,11 @@
 //! Recorded lines, compared with those that are expected.
 
 ghost use Rattle.std.specs.Prelude.{◌≡◌, option_copied, IfOk};
-ghost use Rattle.mm_check.specs.Checking.{Compared, InReplies, compare_line, differs_then, first_compared, is_line};
+ghost use Rattle.mm_check.specs.Checking.{Compared, InReplies, compare_line, first_compared, is_line};
 ghost use Rattle.mm_check.specs.Verdicts.{AreVerdictsOn, agreement_of};
 ghost use Rattle.mm_check.specs.Steps.{LineComesTo};
 
+use crate::difference::first_then;
 use crate::reading::Reading;
 use crate::verdicts::{Agreement, Premise, Verdicts};
 use mm_base::{Bytes, Memory};
@@ -61,16 +62,6 @@ fn is_same(alloc: Global, line: &[u8], expected: Option<&Bytes>) -> Result<bool,
     Ok(whole.as_slice() == expected.as_slice())
 }
 
-/// The number of the first difference, once the line of this number was found the same or not.
-fn differs_then(differs: Option<u32>, is_same: bool, number: u32) -> Option<u32>
-    ensures { result ≡ differs_then differs is_same number }
-{
-    match differs {
-        Some(first) => Some(first),
-        None => if is_same { None } else { Some(number) },
-    }
-}
-
 /// The agreement by the number of the first difference.
 fn agreement_of(differs: Option<u32>) -> Agreement
     ensures { result ≡ agreement_of differs }
@@ -108,7 +99,7 @@ impl Comparing {
             Ok(same) => same,
             Err(_) => return Err(ReplyFault::Memory),
         };
-        self.differs = differs_then(self.differs, same, self.count + 1);
+        self.differs = first_then(self.differs, !same, self.count + 1);
         self.count += 1;
         Ok(self)
     }
@@ -117,10 +108,10 @@ impl Comparing {
     pub fn verdicts(&self) -> Verdicts
         ensures { AreVerdictsOn self.now result }
     {
-        let is_whole = self.expected.len() <= self.count as usize;
+        let is_missing = (self.count as usize) < self.expected.len();
         Verdicts {
             premise: self.premise,
-            agreement: agreement_of(differs_then(self.differs, is_whole, self.count + 1)),
+            agreement: agreement_of(first_then(self.differs, is_missing, self.count + 1)),
         }
     }
 }

@@ -4,8 +4,9 @@ ghost use Rattle.std.specs.Prelude.{◌≡◌, ◌+◌, ◌<◌, ◌≤◌, [], 
 ghost use Rattle.mm_base.specs.Limits.{most_events};
 ghost use Rattle.mm_check.specs.Guards.{events_of};
 ghost use Rattle.mm_check.specs.Lists.{pair_of};
-ghost use Rattle.mm_check.specs.Deciding.{StandsBehind, DecidesRun, premise_by, forged_then};
+ghost use Rattle.mm_check.specs.Deciding.{StandsBehind, DecidesRun, premise_by};
 
+use crate::difference::first_then;
 use crate::guards::first_secured;
 use crate::lines::{put_last, put_reply};
 use crate::messages::Numbers;
@@ -69,7 +70,7 @@ impl Deciding {
         let heard = self.expecting.event(&events[index])?;
         self.numbers.list_all(alloc, heard.messages.as_slice())?;
         put_reply(alloc, &mut self.lines, &heard.reply)?;
-        self.forged = forged_then(self.forged, heard.is_genuine, index as u32 + 1);
+        self.forged = first_then(self.forged, !heard.is_genuine, index as u32 + 1);
         Ok(())
     }
 
@@ -117,16 +118,6 @@ impl Deciding {
         )?;
         let Deciding { lines, .. } = self;
         Ok(Decided { premise, lines })
-    }
-}
-
-/// The first event that isn't genuine, once one of this number was found genuine or not.
-fn forged_then(forged: Option<u32>, is_genuine: bool, number: u32) -> Option<u32>
-    ensures { result ≡ forged_then forged is_genuine number }
-{
-    match forged {
-        Some(first) => Some(first),
-        None => if is_genuine { None } else { Some(number) },
     }
 }
 

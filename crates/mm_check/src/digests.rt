@@ -4,9 +4,10 @@ ghost use Rattle.std.specs.Prelude.{◌≡◌, ◌+◌, ◌-◌, ◌<◌, ◌≤
 ghost use Rattle.std.specs.BTreeMap.{get};
 ghost use Rattle.std.specs.Cmp.Lexicographic.{slice_cmp};
 ghost use Rattle.std.specs.Ordering.{nat_cmp, is_eq};
-ghost use Rattle.mm_check.specs.Listing.{lower, zero_then};
+ghost use Rattle.mm_check.specs.Listing.{is_zero, lower};
 ghost use Rattle.mm_check.specs.Lists.{pair_of, CountsDigests};
 
+use crate::difference::first_then;
 use mm_base::Memory;
 use mm_digest::{Digest, zero};
 use std::alloc::Global;
@@ -43,18 +44,10 @@ fn lower(shared: Option<Pair>, first: u32, second: u32) -> Option<Pair>
     }
 }
 
-/// The number of the first zero, once this digest has come with this number.
-fn zero_then(found: Option<u32>, digest: &Digest, number: u32) -> Option<u32>
-    ensures { result ≡ zero_then found digest.now.bytes number }
+fn is_zero(digest: &Digest) -> bool
+    ensures { result ≡ is_zero digest.now.bytes }
 {
-    match found {
-        Some(first) => Some(first),
-        None => if *digest == zero() {
-            Some(number)
-        } else {
-            None
-        },
-    }
+    *digest == zero()
 }
 
 /// Notes this number at a digest.
@@ -96,7 +89,7 @@ impl Digests {
                 put(&mut self.firsts, digest.bytes, number)?;
             }
         }
-        self.zero = zero_then(self.zero, &digest, number);
+        self.zero = first_then(self.zero, is_zero(&digest), number);
         self.count = number;
         Ok(())
     }

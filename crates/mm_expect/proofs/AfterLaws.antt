@@ -2,7 +2,7 @@
 use Rattle.mm_expect.proofs.Below.{◌≡◌, ℕ, List, [], ◌∷◌, ◌++◌, refl, sym, ap, ◌∙◌, option_to_list, Variant, Basic, Opt, AnyModule}
 use Rattle.mm_expect.proofs.Below.{meaning_of, Instance, History, first_history, by_lists, instance_by, Header, Event, Outcome}
 use Rattle.mm_expect.proofs.Below.{event_outcome, Followed, expected, first_issued, world_of, world_key, world_barrier, goes_on, Said}
-use Rattle.mm_expect.proofs.Below.{WentByEvent, Recorded, instance_with, Traced, outcome_traced, after_traced, first_traced, IsAfter}
+use Rattle.mm_expect.proofs.Below.{WentByEvent, Recorded, instance_with, Traced, after_traced, first_traced, IsAfter}
 
 world_is : (variant : Variant) («module» : AnyModule)
     → instance_with variant «module» ≡ instance_by variant (meaning_of «module») world_key world_barrier
@@ -28,14 +28,13 @@ goes_after header events event old new at is =
     let i = world_of header in
     let run : Followed History = expected i events in
     let whole = goes_on i (by_lists i) events (event ∷ []) first_history (first_issued i) in
-    let same : outcome_traced old event ≡ event_outcome i (by_lists i) run.state run.issued event =
-    (λ j. event_outcome (world_of (at.header_is j)) (by_lists (world_of (at.header_is j))) (at.history_is j) (at.issued_is j) event) in
+    let stands : old ≡ record { header = header; history = run.state; issued = run.issued } =
+    (λ j. record { header = at.header_is j; history = at.history_is j; issued = at.issued_is j }) in
+    let later = is ∙ ap (λ (t : Traced). after_traced t event) stands in
     record {
-      header_is = ap (λ (t : Traced). t.header) is ∙ at.header_is;
-      history_is = ap (λ (t : Traced). t.history) is ∙ ap (λ (o : Outcome History). o.state) same
-          ∙ sym (ap (λ (f : Followed History). f.state) whole);
-      issued_is = ap (λ (t : Traced). t.issued) is ∙ ap (λ (o : Outcome History). o.issued) same
-          ∙ sym (ap (λ (f : Followed History). f.issued) whole);
+      header_is = ap (λ (t : Traced). t.header) later;
+      history_is = ap (λ (t : Traced). t.history) later ∙ sym (ap (λ (f : Followed History). f.state) whole);
+      issued_is = ap (λ (t : Traced). t.issued) later ∙ sym (ap (λ (f : Followed History). f.issued) whole);
     }
 
 pub event_state : {old new : Recorded} {issued later : List (List ℕ)} {event : Event} {front back : List (List ℕ)} {said : Said}

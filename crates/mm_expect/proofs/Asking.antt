@@ -1,15 +1,14 @@
 -- A call by lists, step by step.
-use Rattle.mm_expect.proofs.Below.{◌≡◌, ℕ, ◌+◌, ◌≤◌, Bool, true, false, List, [], ◌∷◌, ◌++◌, map, Option, None, Some, Result, Ok, Err}
-use Rattle.mm_expect.proofs.Below.{refl, sym, ap, ◌∙◌, subst, arith, if◌then◌else◌, nat_eq, append-nil}
-use Rattle.mm_expect.proofs.Below.{last_position, Variant, Basic, Opt, StepFault, Meddle, Stop, Batch, size_of, Instance, History, Move}
-use Rattle.mm_expect.proofs.Below.{Commit, Foreign, total_of, is_last, Step, Reads, ask_steps, Refusal}
-use Rattle.mm_expect.proofs.Below.{is_last_of, total-push, answer_on, by_lists, all_made, Found, found_at, found_unless_wanting, is_fresh}
-use Rattle.mm_expect.proofs.Below.{End, Done, Fails, Fate, Walked, after_step, walk, seen_in, commits, planned, Answers, Breaks}
-use Rattle.mm_expect.proofs.Below.{Called, reading_steps, position_of, ended_by, called, seen_at, kept_at, called_with, Ended, Refused}
-use Rattle.mm_expect.proofs.Below.{Broken, committed_in, same_batches, more_batches, Commits, nothing, batch, finished, commits-none}
-use Rattle.mm_expect.proofs.Below.{writing_commits, commits_batch, seen_none, reading_none, course_of, plan_of, Recorded, Went}
-use Rattle.mm_expect.proofs.Below.{recorded_instance, instance_with, Walks, again_in, Admits, changing_steps, changing_from, changes_on}
-use Rattle.mm_expect.proofs.Below.{ChangesBy, ending_of, new_ending, GoesOnNew, CallsBy}
+use Rattle.mm_expect.proofs.Below.{◌≡◌, ℕ, ◌+◌, ◌≤◌, Bool, true, false, List, [], ◌∷◌, ◌++◌, map, Option, None, Some, Result, Ok, Err, refl}
+use Rattle.mm_expect.proofs.Below.{sym, ap, ◌∙◌, subst, arith, if◌then◌else◌, nat_eq, append-nil, last_position, Variant, Basic, Opt}
+use Rattle.mm_expect.proofs.Below.{StepFault, Meddle, Stop, Batch, size_of, Instance, History, Move, Commit, Foreign, total_of, is_last}
+use Rattle.mm_expect.proofs.Below.{Step, Reads, ask_steps, Refusal, is_last_of, total-push, answer_on, by_lists, all_made, Found, found_at}
+use Rattle.mm_expect.proofs.Below.{found_unless_wanting, is_fresh, End, Done, Fails, Fate, Walked, after_step, walk, seen_in, commits}
+use Rattle.mm_expect.proofs.Below.{planned, Answers, Breaks, Called, reading_steps, position_of, ended_by, called, seen_at, kept_at}
+use Rattle.mm_expect.proofs.Below.{called_with, Ended, Refused, Broken, committed_in, same_batches, more_batches, Commits, nothing, batch}
+use Rattle.mm_expect.proofs.Below.{finished, commits-none, writing_commits, commits_batch, seen_none, reading_none, course_of, plan_of}
+use Rattle.mm_expect.proofs.Below.{Recorded, Went, recorded_instance, instance_with, Walks, again_in, Admits, changing_steps, changing_from}
+use Rattle.mm_expect.proofs.Below.{changes_on, ChangesBy, ending_of, new_ending, GoesOnNew, CallsBy}
 use Rattle.mm_module.specs.BatchLaws.{size_of-pos}
 use Rattle.mm_call.specs.WalkLaws as walks
 use Rattle.mm_call.specs.WalkLaws.{foreign_made, taking}

@@ -1,13 +1,12 @@
 -- The words and laws that the proofs of this crate take from specs/ and from the crates below.
 pub use Rattle.std.specs.List.{AllByRecursion, list_any}
-pub use Rattle.std.specs.Prelude.{◌==◌, ◌||◌, All, IfOk, if◌then◌else◌, IsTrue, nat_eq, nat_le, OnOk, option_map, option_to_list, slice_get}
+pub use Rattle.std.specs.Prelude.{◌==◌, ◌||◌, IfOk, if◌then◌else◌, IsTrue, nat_eq, nat_le, option_map, option_to_list, slice_get}
 pub use Rattle.std.specs.Str.{bytes_eq}
-pub use Rattle.std.proofs.Common.{◌&&◌, ◌++◌, ◌+◌, ◌-◌, ◌<◌, ◌∙◌, ◌∷◌, ◌≡◌, ◌≤◌, [], ap, append_assoc, arith, Bool, cond, Err, false}
-pub use Rattle.std.proofs.Common.{filter, get_or, length, List, map, None, Ok, Option, refl, Result, Some, subst, suc, sym, take, true}
-pub use Rattle.std.proofs.Common.{zero, ℕ}
+pub use Rattle.std.proofs.Common.{◌&&◌, ◌++◌, ◌+◌, ◌<◌, ◌∙◌, ◌∷◌, ◌≡◌, ◌≤◌, [], ap, append_assoc, arith, Bool, cond, Err, false, filter}
+pub use Rattle.std.proofs.Common.{get_or, length, List, map, None, Ok, Option, refl, Result, Some, subst, suc, sym, take, true, zero, ℕ}
 pub use Rattle.std.proofs.lemmas.Bool.Decides.{Decides-eqb}
 pub use Rattle.std.proofs.lemmas.List.{append-nil, map-append, same_from_push}
-pub use Rattle.std.proofs.lemmas.List.Elements.{All-cons, All-nil, filter_more}
+pub use Rattle.std.proofs.lemmas.List.Elements.{filter_more}
 pub use Rattle.mm_base.specs.Limits.{last_position, limit_of, longest_request}
 pub use Rattle.mm_digest.specs.Messages.{start_of, zero_bytes}
 pub use Rattle.mm_digest.specs.declared.variant.Variant.{Variant}
@@ -22,25 +21,24 @@ pub use Rattle.mm_platform.specs.Steps.{fault_at, is_made_at}
 pub use Rattle.mm_platform.specs.declared.fault.StepFault.{StepFault}
 pub use Rattle.mm_platform.specs.declared.plan.Meddle.{Meddle}
 pub use Rattle.mm_platform.specs.declared.plan.Stop.{Stop}
-pub use Rattle.mm_platform.specs.declared.plan.Stop.TheVariants.{Cut, Drop, Fail, Quiet}
+pub use Rattle.mm_platform.specs.declared.plan.Stop.TheVariants.{Fail}
 pub use Rattle.mm_module.specs.Batch.{Batch, members_of, normal, size_of}
 pub use Rattle.mm_module.specs.Batches.{batch_of}
 pub use Rattle.mm_module.specs.Meaning.{IsLawful, Meaning, outputs_from, state_after}
-pub use Rattle.mm_module.specs.RunLaws.{length-outputs_from, state_after-append, state_after-is_spelled, state_from-is_spelled}
+pub use Rattle.mm_module.specs.RunLaws.{state_after-append, state_after-is_spelled, state_from-is_spelled}
 pub use Rattle.mm_modules.specs.Modules.{meaning_of}
 pub use Rattle.mm_modules.specs.ModulesLaws.{any_is_lawful}
 pub use Rattle.mm_modules.specs.declared.any.AnyModule.{AnyModule}
 pub use Rattle.mm_model.specs.BatchLaws.{is_last_of, is_last_tells, total-append, total-push}
 pub use Rattle.mm_model.specs.Chains.{guard, register_of}
-pub use Rattle.mm_model.specs.History.{Close, Commit, committed, first_history, Foreign, History, Move, moved, Placed, Power, requests_of}
-pub use Rattle.mm_model.specs.History.{Reset, total_of, Value}
+pub use Rattle.mm_model.specs.History.{Close, Commit, committed, first_history, Foreign, History, Move, moved, requests_of, total_of, Value}
 pub use Rattle.mm_model.specs.HistoryWords.{cell_digest_of, values_of}
 pub use Rattle.mm_model.specs.Instance.{Instance}
 pub use Rattle.mm_model.specs.InstanceWords.{basic, opt}
 pub use Rattle.mm_model.specs.Judge.{is_last, judge, judged}
 pub use Rattle.mm_model.specs.Life.{has_value, is_empty, is_lost, Life, life_by, life_of, Live}
 pub use Rattle.mm_model.specs.Long.{is_long}
-pub use Rattle.mm_model.specs.Places.{at_anchor, in_closed, in_current, IsPlaceOf, IsPoint, issued_place, Names}
+pub use Rattle.mm_model.specs.Places.{at_anchor, in_closed, in_current, IsPlaceOf, issued_place, Names}
 pub use Rattle.mm_model.specs.PlacesWords.{digest_of}
 pub use Rattle.mm_model.specs.Standing.{IsGenuine, IsRight, issued_bytes}
 pub use Rattle.mm_model.specs.Steps.{ask_steps, checkpoint_steps, Reads, Step, Writes}
@@ -48,7 +46,7 @@ pub use Rattle.mm_model.specs.declared.refusal.Refusal.{Refusal}
 pub use Rattle.mm_call.specs.AlongLaws.{checkpoint_none, closes-append, closes-foreign, ClosesNone, reading_none, shut_along, walk_along}
 pub use Rattle.mm_call.specs.Answers.{answer_on}
 pub use Rattle.mm_call.specs.AnswersWords.{last_outputs}
-pub use Rattle.mm_call.specs.Called.{Answers, Breaks, Called, called, ended_by, Ending, position_of, reading_steps, seen_at}
+pub use Rattle.mm_call.specs.Called.{Answers, Breaks, Called, called, ended_by, position_of, reading_steps, seen_at}
 pub use Rattle.mm_call.specs.CalledWords.{called_with, kept_at}
 pub use Rattle.mm_call.specs.Courses.{after_step, closes, commits, Course, Done, End, Fails, Fate, planned, seen_in, step_moves, walk}
 pub use Rattle.mm_call.specs.Courses.{Walked}
@@ -62,16 +60,16 @@ pub use Rattle.mm_call.specs.WalkLaws.{batch, call_commits, Commits, commits-non
 pub use Rattle.mm_call.specs.WalkLaws.{writing_commits}
 pub use Rattle.mm_call.specs.declared.ended.Ended.{Ended}
 pub use Rattle.mm_call.specs.declared.ended.Ended.TheVariants.{Answered, Broken, Refused}
-pub use Rattle.mm_call.proofs.Above.{admitted_tells, again_of, found_with_tells, fresh_found, requests-push, said_last, unlacked, unless_lost}
-pub use Rattle.mm_call.proofs.Above.{weighed_tells}
-pub use Rattle.mm_schedule.specs.Events.{Ask, Checkpoint, Event, event_of}
+pub use Rattle.mm_call.proofs.Above.{admitted_tells, again_of, found_with_tells, fresh_found, requests-push, said_last, unlacked}
+pub use Rattle.mm_call.proofs.Above.{unless_lost, weighed_tells}
+pub use Rattle.mm_schedule.specs.Events.{Event, event_of}
 pub use Rattle.mm_schedule.specs.Replies.{IsPrintable}
 pub use Rattle.mm_schedule.specs.declared.header.Header.{Header}
 pub use Rattle.mm_history.specs.Marks.{closed_marks, emptied, grown, linked_marks, marks_of, opened_marks, with_value}
 pub use Rattle.mm_history.specs.Naming.{IsDecided}
 pub use Rattle.mm_history.specs.declared.marks.Marks.{Marks}
-pub use Rattle.mm_run.specs.Folds.{after_stop, asked, closing_reply, closing_then, course_of, event_outcome, expected, first_issued}
-pub use Rattle.mm_run.specs.Folds.{Followed, followed, moves_then, Outcome, outcome_by, reply_of, snapshots_of, uncalled, way_of}
+pub use Rattle.mm_run.specs.Folds.{after_stop, closing_then, course_of, event_outcome, expected, first_issued, Followed, followed}
+pub use Rattle.mm_run.specs.Folds.{moves_then, Outcome, reply_of, snapshots_of, way_of}
 pub use Rattle.mm_run.specs.FoldsWords.{broken_reply, plan_of, told_reply}
 pub use Rattle.mm_run.specs.Held.{world_of}
 pub use Rattle.mm_run.specs.HeldWords.{world_barrier, world_key}
@@ -83,10 +81,10 @@ pub use Rattle.mm_run.proofs.Above.{short_outputs, then_all}
 pub use Rattle.mm_expect.specs.Calls.{Admits, again_in, CallsBy, changes_on, ChangesBy, changing_from, changing_steps, ending_of, GoesOnNew}
 pub use Rattle.mm_expect.specs.Calls.{new_ending, reached}
 pub use Rattle.mm_expect.specs.Coming.{called_on, moves_if, WentByCall, WentByEvent}
-pub use Rattle.mm_expect.specs.Genuine.{BasicIssuedAreGenuine, EachOfferIsDecided, IssuedAreGenuine, OptIssuedAreGenuine}
+pub use Rattle.mm_expect.specs.Genuine.{EachOfferIsDecided, IssuedAreGenuine}
 pub use Rattle.mm_expect.specs.Judged.{AreIssued, DecidesBytes, DecidesEvent, DecidesOffer, IsAmong, IsSaidAt}
 pub use Rattle.mm_expect.specs.Recorded.{barrier_of, instance_with, Recorded, recorded_instance, state_after_batch, Went}
-pub use Rattle.mm_expect.specs.Traced.{after_traced, first_traced, IsAfter, outcome_traced, Traced}
+pub use Rattle.mm_expect.specs.Traced.{after_traced, first_traced, IsAfter, Traced}
 pub use Rattle.mm_expect.specs.Walking.{move_of, step_as, steps_of, Walks}
 pub use Rattle.mm_expect.specs.declared.calls.Closing.TheVariants.{Closes, HasNone, NoSegment, Stops}
 pub use Rattle.mm_expect.specs.declared.replies.Said.{Said}

@@ -1,10 +1,9 @@
 -- A checkpoint by lists, step by step.
-use Rattle.mm_expect.proofs.Below.{◌≡◌, ℕ, Bool, true, false, List, [], ◌∷◌, ◌++◌, Option, None, Some, refl, sym, ap, ◌∙◌}
-use Rattle.mm_expect.proofs.Below.{subst, Variant, Opt, StepFault, Meddle, Stop, fault_at, is_made_at, Instance, History, Close}
-use Rattle.mm_expect.proofs.Below.{life_of, is_lost, Step, Reads, Writes, checkpoint_steps, by_lists, all_made, Fate, Walked, after_step}
-use Rattle.mm_expect.proofs.Below.{walk, seen_in, closes, planned, end_of, reading_steps, seen_at, finished, closes-append, closes-foreign}
-use Rattle.mm_expect.proofs.Below.{ClosesNone, shut_along, walk_along, course_of, plan_of, last_steps, Closes, Stops, Recorded, Went}
-use Rattle.mm_expect.proofs.Below.{recorded_instance, Walks}
+use Rattle.mm_expect.proofs.Below.{◌≡◌, ℕ, Bool, true, false, List, [], ◌∷◌, ◌++◌, Option, None, Some, refl, sym, ap, ◌∙◌, subst, Variant}
+use Rattle.mm_expect.proofs.Below.{Opt, StepFault, Meddle, Stop, fault_at, is_made_at, Instance, History, Close, life_of, is_lost, Step}
+use Rattle.mm_expect.proofs.Below.{Reads, Writes, checkpoint_steps, by_lists, all_made, Fate, Walked, after_step, walk, seen_in, closes}
+use Rattle.mm_expect.proofs.Below.{planned, end_of, reading_steps, seen_at, finished, closes-append, closes-foreign, ClosesNone, shut_along}
+use Rattle.mm_expect.proofs.Below.{walk_along, course_of, plan_of, last_steps, Closes, Stops, Recorded, Went, recorded_instance, Walks}
 use Rattle.mm_call.specs.Checkpoints as ghost_closing
 use Rattle.mm_call.specs.CheckpointsWords as ghost_closing_words
 use Rattle.mm_expect.specs.declared.calls.Closing.{Closing}

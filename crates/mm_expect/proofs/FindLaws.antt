@@ -12,10 +12,8 @@ use Rattle.mm_call.specs.Order.{admitted, examined}
 pub lost_when : (is_open is_bare is_own is_marred : Bool) → is_lost (life_by is_open is_bare is_own is_marred) ≡ (is_open && is_bare)
 lost_when true true own marred = refl
 lost_when true false true false = refl
-lost_when true false true true = refl
-lost_when true false false marred = refl
 lost_when false bare own false = refl
-lost_when false bare own true = refl
+lost_when _ _ _ _ = refl
 
 admitted_live : (life : Life) (here repeat fits again : Bool) → admitted (judged life here repeat) fits ≡ Ok again
     → (again ≡ false → here ≡ true) × (again ≡ true → repeat ≡ true)

@@ -1,5 +1,5 @@
 -- Whether an offer is genuine.
-use Rattle.mm_expect.proofs.Below.{◌≡◌, ℕ, ◌-◌, Bool, true, List, length, Option, None, Some, refl, sym, ap, ◌∙◌, subst, slice_get, IfOk}
+use Rattle.mm_expect.proofs.Below.{◌≡◌, ℕ, Bool, true, List, Option, None, Some, refl, sym, ap, ◌∙◌, subst, slice_get, IfOk}
 use Rattle.mm_expect.proofs.Below.{AllByRecursion, Variant, Basic, Opt, Meaning, AnyModule, meaning_of, any_is_lawful, parts_of, Content}
 use Rattle.mm_expect.proofs.Below.{Instance, opt, Names, IsGenuine, right_content, History, instance_by, Header, Event, offered_bytes}
 use Rattle.mm_expect.proofs.Below.{expected, world_of, world_key, world_barrier, IsIssued, IsGenuineEvent, basic_issued_named}
@@ -7,7 +7,6 @@ use Rattle.mm_expect.proofs.Below.{opt_issued_named, AreIssued, IsAmong, IsSaidA
 use Rattle.mm_expect.proofs.Below.{DecidesEvent, IsDecided, Recorded, barrier_of, instance_with, recorded_instance, Traced, IsAfter}
 use Rattle.std.specs.Prelude.{Result}
 use Rattle.mm_schedule.specs.declared.event.Offer.{Offer}
-use Rattle.mm_schedule.specs.declared.event.Offer.TheVariants.{Number, Last}
 use Rattle.mm_run.specs.PremisesWords.{IsGenuineOffer}
 use Rattle.mm_expect.proofs.AfterLaws.{header_of, traced, instance_is}
 use Rattle.mm_expect.proofs.EventLaws.{few_expected}
@@ -62,13 +61,10 @@ module _ (r : Recorded) (issued : List (List ℕ)) where
   issued_found number (Some bytes) e are =
       issued_genuine (recorded_instance r) r.history issued number bytes (any_is_lawful r.«module») are.few are.names e
 
-  pub decided_number : {offer : Offer} {number : ℕ} → offer ≡ Number number → DecidesOffer (recorded_instance r) r.history issued offer true
-  decided_number {number = number} is = subst (λ (o : Offer). DecidesOffer (recorded_instance r) r.history issued o true) (sym is)
-      (issued_found number (slice_get issued number) refl)
-
-  pub decided_last : {offer : Offer} → offer ≡ Last → DecidesOffer (recorded_instance r) r.history issued offer true
-  decided_last is = subst (λ (o : Offer). DecidesOffer (recorded_instance r) r.history issued o true) (sym is)
-      (issued_found (length issued - 1) (slice_get issued (length issued - 1)) refl)
+  pub decided_issued : (offer : Offer) (number : ℕ) → offered_bytes issued offer ≡ slice_get issued number
+      → DecidesOffer (recorded_instance r) r.history issued offer true
+  decided_issued offer number is are =
+      subst (IsGenuineOffer (recorded_instance r) r.history) (sym is) (issued_found number (slice_get issued number) refl are)
 
   pub decided_among : (bytes : List ℕ) → IsAmong bytes issued → DecidesBytes (recorded_instance r) r.history issued bytes true
   decided_among bytes among are = issued_found among.0 (Some bytes) among.1 are

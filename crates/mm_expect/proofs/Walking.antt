@@ -6,7 +6,7 @@ use Rattle.mm_expect.proofs.Below.{History, Move, Foreign, moved, Step, by_lists
 use Rattle.mm_expect.proofs.Below.{made_move, end_of, made-append, plan_of, Recorded, Went, recorded_instance, instance_with, move_of}
 use Rattle.mm_expect.proofs.Below.{step_as, steps_of, Walks, arith, End, Done, Fails, Walked, finished}
 use Rattle.std.proofs.lemmas.Bool.{false_from_ne_true}
-use Rattle.mm_platform.specs.declared.fault.StepFault.TheVariants.{Failed}
+use Rattle.std.proofs.lemmas.Bool.Decides.{nat_tests}
 use Rattle.mm_expect.specs.Numbered.{messages_if, messages_where}
 use Rattle.mm_expect.specs.declared.course.Move as code
 use Rattle.mm_expect.specs.declared.course.Step as code_step
@@ -130,13 +130,8 @@ bring_none a b step meddles i d l e first = subst (Went a b) (sym (due_taken ste
     ∙ append-nil _)) first
 
 -- a step that answers no fault has its effect
-made_at : (at step : ℕ) (flag done : Bool) → (at == step) ≡ flag → (if flag then Some Failed else None) ≡ None
-    → (if flag then done else true) ≡ true
-made_at at step true done e none = cc
-made_at at step false done e none = refl
-
 pub made_where_whole : (stop : Stop) (step : ℕ) → fault_at stop step ≡ None → is_made_at stop step ≡ true
-made_where_whole (Fail at done) step none = made_at at step (at == step) done refl none
+made_where_whole (Fail at done) step none = grind (arith, nat_tests, none)
 made_where_whole stop step none = refl
 
 pub changes_then : (a b c : Recorded) (action : code.Move) (made : Bool) (values : List (List ℕ)) (step : code_step.Step)

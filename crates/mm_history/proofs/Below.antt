@@ -9,7 +9,6 @@ pub use Rattle.std.proofs.Common.{false, get_or, inl, inr, le-leb, length, lengt
 pub use Rattle.std.proofs.Common.{subst, suc, sym, take, true, zero, ℕ}
 pub use Rattle.std.proofs.lemmas.Bool.{or_from, or_parts}
 pub use Rattle.std.proofs.lemmas.Bool.Decides.{Decides-and, Decides-eqb, Decides-like, Decides-ltb, Decides-or}
-pub use Rattle.std.proofs.lemmas.Grind.{flat_map-append}
 pub use Rattle.std.proofs.lemmas.List.{append-nil, drop-append-le, drop-map, drop_more, length-map, length-take, map-append}
 pub use Rattle.std.proofs.lemmas.List.{take-append-drop, take-append-le, take-map, take_all}
 pub use Rattle.mm_digest.specs.Messages.{anchored_of, start_of, zero_bytes}
@@ -23,7 +22,7 @@ pub use Rattle.mm_module.specs.Batch.{Batch, members_of, size_of}
 pub use Rattle.mm_module.specs.Meaning.{Meaning, state_after}
 pub use Rattle.mm_module.specs.RunLaws.{state_after-append, state_after-is_spelled}
 pub use Rattle.mm_modules.specs.Modules.{meaning_of}
-pub use Rattle.mm_model.specs.BatchLaws.{same_batch-Decides, same_fronts, total-cons}
+pub use Rattle.mm_model.specs.BatchLaws.{same_batch-Decides, total-cons}
 pub use Rattle.mm_model.specs.Chains.{guard, link, register_of, summary_of}
 pub use Rattle.mm_model.specs.ChainsWords.{own_values}
 pub use Rattle.mm_model.specs.FormLaws.{reads_zero}
@@ -40,6 +39,5 @@ pub use Rattle.mm_model.specs.declared.kept.KeptBatch.{KeptBatch}
 pub use Rattle.mm_model.specs.declared.kept.KeptEntry.{KeptEntry}
 pub use Rattle.mm_call.specs.Standing.{instance_by}
 pub use Rattle.mm_history.specs.MarkLaws.{and_true, own_more}
-pub use Rattle.mm_history.specs.Naming.{anchor_at, BasicNamesAreDecided, first_with, is_at, is_behind, is_here, is_inside_at, is_named}
-pub use Rattle.mm_history.specs.Naming.{is_named_at, is_place, is_place_in, is_within, IsDecided, OptNamesAreDecided, same_batches}
-pub use Rattle.mm_history.specs.Naming.{same_summary, some_place}
+pub use Rattle.mm_history.specs.Naming.{anchor_at, first_with, is_at, is_behind, is_here, is_inside_at, is_named, is_named_at, is_place}
+pub use Rattle.mm_history.specs.Naming.{is_place_in, is_within, IsDecided, same_batches, same_summary, some_place}

@@ -157,28 +157,21 @@ module _ (i : Instance) (y : History) (named : List Batch) (a e : List ℕ) wher
   places_here before [] p = inl p
   places_here before (s ∷ later) p = inl (inl p)
 
-  places_at : (x before later : List (List Entry)) → IsAt (before ++ x) → Places before (x ++ later)
-  places_at [] before later p = places_here before later (subst IsAt (append-nil before) p)
-  places_at (s ∷ x) before later p = inr (places_at x (before ++ s ∷ []) later (subst IsAt (sym (append_assoc before (s ∷ []) x)) p))
-
-  places_closed : (x before : List (List Entry)) (segment : List Entry) (later : List (List Entry))
-      → IsBehind (length (joined (before ++ x))) (before ++ x) → IsWithin (before ++ x) segment later → Places before (x ++ segment ∷ later)
-  places_closed [] before segment later p within =
-      let P : List (List Entry) → Type 0 = λ x. IsBehind (length (joined x)) x × IsWithin x segment later in
-      let here : P before = subst P (append-nil before) (p, within) in
-      inl (inr here)
-  places_closed (s ∷ x) before segment later p within =
-      let P : List (List Entry) → Type 0 = λ z. IsBehind (length (joined z)) z × IsWithin z segment later in
-      let there : P ((before ++ s ∷ []) ++ x) = subst P (sym (append_assoc before (s ∷ []) x)) (p, within) in
-      inr (places_closed x (before ++ s ∷ []) segment later there.0 there.1)
-
-  places_inside : (x before : List (List Entry)) → IsInside (length y.batches - length y.current) → Places before x
-  places_inside [] before p = inr p
-  places_inside (s ∷ x) before p = inr (places_inside x (before ++ s ∷ []) p)
+  -- behind some more segments
+  places_along : (x before later : List (List Entry)) → Places (before ++ x) later → Places before (x ++ later)
+  places_along [] before later p = subst (λ (b : List (List Entry)). Places b later) (append-nil before) p
+  places_along (s ∷ x) before later p =
+      inr (places_along x (before ++ s ∷ []) later
+      (subst (λ (b : List (List Entry)). Places b later) (sym (append_assoc before (s ∷ []) x)) p))
 
   place_found : IsPoint i y named a e → Places [] y.closed
   place_found (at_anchor p) = subst (Places []) (sym p.split)
-      (places_at p.before [] p.later (record { clean = p.clean; counted = p.counted; anchor = p.anchor_is; extension = p.extension_is }))
+      (places_along p.before [] p.later (places_here p.before p.later (record {
+        clean = p.clean;
+        counted = p.counted;
+        anchor = p.anchor_is;
+        extension = p.extension_is;
+      })))
   place_found (in_closed p) =
       let start : ℕ = length (joined p.before) in
       let counts : length named ≡ start + length p.taken = ap length p.named_is ∙ length-append p.done p.taken
@@ -186,14 +179,17 @@ module _ (i : Instance) (y : History) (named : List Batch) (a e : List ℕ) wher
       let taken : drop start named ≡ p.taken =
       ap (drop start) p.named_is ∙ ap (λ (n : ℕ). drop n (p.done ++ p.taken)) (sym p.counted) ∙ drop-append_seam p.done p.taken in
       let some = not_empty p.taken p.begun in
-      subst (Places []) (sym p.split) (places_closed p.before [] p.segment p.later (record {
-        starts = omega (arith, counts, some);
-        anchor = p.anchor_is;
-        extension = p.extension_is ∙ ap (λ (bs : List Batch). register_of (own_values i.barrier bs)) (sym taken);
-      }) (elim p.within [
-        | inl le ↦ inl (omega (arith, counts, le))
-        | inr ends ↦ inr ends
-      ]))
+      subst (Places []) (sym p.split) (places_along p.before [] (p.segment ∷ p.later) (inl (inr (
+        record {
+          starts = omega (arith, counts, some);
+          anchor = p.anchor_is;
+          extension = p.extension_is ∙ ap (λ (bs : List Batch). register_of (own_values i.barrier bs)) (sym taken);
+        },
+        elim p.within [
+          | inl le ↦ inl (omega (arith, counts, le))
+          | inr ends ↦ inr ends
+        ],
+      ))))
   place_found (in_current p) =
       let counts : length y.batches ≡ length p.done + length y.current = ap length p.start ∙ length-append p.done y.current in
       let start : length y.batches - length y.current ≡ length p.done = omega (arith, counts) in
@@ -201,14 +197,14 @@ module _ (i : Instance) (y : History) (named : List Batch) (a e : List ℕ) wher
       let taken : drop (length p.done) named ≡ p.taken = ap (drop (length p.done)) p.named_is ∙ drop-append_seam p.done p.taken in
       let sizes : length named ≡ length p.done + length p.taken = ap length p.named_is ∙ length-append p.done p.taken in
       let some = not_empty p.taken p.begun in
-      places_inside y.closed [] (subst IsInside (sym start) (record {
+      subst (Places []) (append-nil y.closed) (places_along y.closed [] [] (inr (subst IsInside (sym start) (record {
         last = last;
         behind = record {
           starts = omega (arith, sizes, some);
           anchor = p.anchor_is;
           extension = p.extension_is ∙ ap (λ (bs : List Batch). register_of (own_values i.barrier bs)) (sym taken);
         };
-      }))
+      }))))
 
   point-Decides : (rest : List Batch) → y.batches ≡ named ++ rest
       → Decides (some_place i.meaning.id i.barrier y named a e [] y.closed) (IsPoint i y named a e)

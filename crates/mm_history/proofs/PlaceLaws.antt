@@ -1,12 +1,11 @@
 -- The loops that look for a named position.
-use Rattle.mm_history.proofs.Below.{◌≡◌, ℕ, ◌+◌, ◌-◌, ◌<◌, ◌≤◌, Bool, true, false, List, [], ◌∷◌, ◌++◌, length, take, drop}
-use Rattle.mm_history.proofs.Below.{get_or, Option, None, Some, refl, sym, ap, ◌∙◌, subst, arith, length-append, length-drop, Vec, not}
-use Rattle.mm_history.proofs.Below.{◌==◌, bytes_eq, option_map, Decides-eqb, take-map, drop-map, take_all}
-use Rattle.mm_history.proofs.Below.{length-map, Batch, Meaning, state_after, Variant, Place, InBasic, Content, Instance, Names}
-use Rattle.mm_history.proofs.Below.{Basic, Opt, start_of, anchored_of, register_of, Entry, History, requests_of, joined}
-use Rattle.mm_history.proofs.Below.{values_of, is_empty, has_value, has_value-append, joined-push, KeptBatch, KeptEntry}
-use Rattle.mm_history.proofs.Below.{kept_batch, kept_batches, kept_entry, kept_entries, kept_segments, first_with, same_batches, anchor_at}
-use Rattle.mm_history.proofs.Below.{is_at, is_behind, is_here, is_inside_at, some_place, is_place_in, is_place, is_named_at}
+use Rattle.mm_history.proofs.Below.{◌≡◌, ℕ, ◌+◌, ◌-◌, ◌<◌, ◌≤◌, Bool, true, false, List, [], ◌∷◌, ◌++◌, length, take, drop, get_or, Option}
+use Rattle.mm_history.proofs.Below.{None, Some, refl, sym, ap, ◌∙◌, subst, arith, length-append, length-drop, Vec, not, ◌==◌, bytes_eq}
+use Rattle.mm_history.proofs.Below.{option_map, Decides-eqb, take-map, drop-map, take_all, length-map, Batch, Meaning, state_after, Variant}
+use Rattle.mm_history.proofs.Below.{Place, InBasic, Content, Instance, Names, Basic, Opt, start_of, anchored_of, register_of, Entry}
+use Rattle.mm_history.proofs.Below.{History, requests_of, joined, values_of, is_empty, has_value, has_value-append, joined-push, KeptBatch}
+use Rattle.mm_history.proofs.Below.{KeptEntry, kept_batch, kept_batches, kept_entry, kept_entries, kept_segments, first_with, same_batches}
+use Rattle.mm_history.proofs.Below.{anchor_at, is_at, is_behind, is_here, is_inside_at, some_place, is_place_in, is_place, is_named_at}
 use Rattle.mm_history.proofs.Below.{instance_by, IsDecided, and_true, zero_bytes, nat_lt}
 use Rattle.std.specs.Prelude.{◌&&◌}
 use Rattle.mm_history.proofs.NameLaws.{first_beside, named_by, stated_beside}

@@ -11,7 +11,7 @@ use Rattle.mm_module.specs.Batch.{Batch, size_of}
 use Rattle.mm_model.specs.Chains.{link, guard, register_of, anchor_of, summary_of}
 use Rattle.mm_model.specs.ChainsWords.{own_values}
 use Rattle.mm_model.specs.Instance.{Instance}
-use Rattle.mm_model.specs.History.{Entry, Own, Value, History, joined, total_of, renamed, committed, register_value_of}
+use Rattle.mm_model.specs.History.{Entry, Own, Value, History, joined, renamed, committed}
 use Rattle.mm_model.specs.HistoryWords.{values_of, cell_digest_of}
 use Rattle.mm_model.specs.Life.{is_empty, has_value, are_own, same_batch}
 use Rattle.mm_model.specs.PlacesWords.{digest_of}
@@ -99,46 +99,34 @@ cell_shut i Opt y = ap (anchor_of i.meaning.id) (map-append (values_of i.barrier
 
 pub marks_value : (i : Instance) (y : History) (v : List ℕ)
     → marks_of i (record y { items = y.items ++ Value v ∷ [] }) ≡ with_value (marks_of i y) v
-marks_value i y v = λ j. record {
-  total = total_of y.batches;
+marks_value i y v = λ j. record (marks_of i y) {
   cell = digest_of (cell_same i i.variant (record y { items = y.items ++ Value v ∷ [] }) y refl refl j);
-  own = digest_of (register_of (own_values i.barrier y.current));
   register = digest_of (register_more i.barrier y.items (Value v) j);
   is_own = not_own_with y.items v y.current j;
-  is_marred = has_value (joined y.closed);
 }
 
 pub marks_emptied : (i : Instance) (y : History) → marks_of i (record y { items = [] }) ≡ emptied (marks_of i y) (is_empty y.current)
-marks_emptied i y = λ j. record {
-  total = total_of y.batches;
+marks_emptied i y = λ j. record (marks_of i y) {
   cell = digest_of (cell_same i i.variant (record y { items = [] }) y refl refl j);
-  own = digest_of (register_of (own_values i.barrier y.current));
   register = digest_of (reads_zero j);
   is_own = own_none y.current j;
-  is_marred = has_value (joined y.closed);
 }
 
 pub marks_shut : (i : Instance) (y : History) → marks_of i (record y { closed = y.closed ++ y.items ∷ []; current = []; is_open = false })
     ≡ closed_marks i.variant (marks_of i y) (has_value y.items) (is_empty y.items)
-marks_shut i y = λ j. record {
-  total = total_of y.batches;
+marks_shut i y = λ j. record (marks_of i y) {
   cell = digest_of (cell_shut i i.variant y j);
   own = digest_of (reads_zero j);
-  register = digest_of (register_value_of i y);
   is_own = own_of_none y.items j;
   is_marred = (ap has_value (joined-push y.closed y.items) ∙ has_value-append (joined y.closed) y.items) j;
 }
 
 pub marks_linked : (i : Instance) (y : History) (b : Batch) → i.variant ≡ Basic
     → marks_of i (committed Basic y.is_open y b) ≡ linked_marks (marks_of i y) b
-marks_linked i y b e = λ j. record {
+marks_linked i y b e = λ j. record (marks_of i y) {
   total = total-push y.batches b j;
   cell = digest_of ((ap (λ v. cell_digest_of i v (committed Basic y.is_open y b)) e ∙ summary-push i.meaning.id y.batches b
       ∙ ap (λ v. link (cell_digest_of i v y) b) (sym e)) j);
-  own = digest_of (register_of (own_values i.barrier y.current));
-  register = digest_of (register_value_of i y);
-  is_own = are_own y.items y.current;
-  is_marred = has_value (joined y.closed);
 }
 
 opt_cell : (i : Instance) (y z : History) → i.variant ≡ Opt → y.closed ≡ z.closed
@@ -149,23 +137,21 @@ opt_cell i y z e c =
 
 pub marks_grown : (i : Instance) (y : History) (b : Batch) → i.variant ≡ Opt
     → marks_of i (committed Opt true y b) ≡ grown (marks_of i y) (size_of b) (guard i.barrier b)
-marks_grown i y b e = λ j. record {
+marks_grown i y b e = λ j. record (marks_of i y) {
   total = total-push y.batches b j;
   cell = digest_of (opt_cell i (committed Opt true y b) y e refl j);
   own = digest_of (own_more i.barrier y.current b j);
   register = digest_of (register_more i.barrier y.items (Own b) j);
   is_own = own_grown y.items y.current b j;
-  is_marred = has_value (joined y.closed);
 }
 
 pub marks_opened : (i : Instance) (y : History) (b : Batch) → i.variant ≡ Opt → marks_of i (committed Opt false y b)
     ≡ opened_marks (marks_of i y) (size_of b) (guard i.barrier b) (register_of (values_of i.barrier (renamed y.items b)))
     (nat_le (length y.items) 1)
-marks_opened i y b e = λ j. record {
+marks_opened i y b e = λ j. record (marks_of i y) {
   total = total-push y.batches b j;
   cell = digest_of (opt_cell i (committed Opt false y b) y e refl j);
   own = digest_of ((register-push [] (guard i.barrier b) ∙ ap (λ r. extended_of r (guard i.barrier b)) reads_zero) j);
   register = digest_of (register_of (values_of i.barrier (renamed y.items b)));
   is_own = own_opened y.items b j;
-  is_marred = has_value (joined y.closed);
 }

@@ -1,6 +1,6 @@
-use Rattle.mm_expect.proofs.Below.{sym, ap, ◌∙◌, option_map, recorded_instance}
+use Rattle.mm_expect.proofs.Below.{sym, ap, ◌∙◌, option_map, recorded_instance, offered_bytes}
 use Rattle.mm_run.specs.OfferedBytes.{bytes_in}
-use Rattle.mm_expect.proofs.JudgeLaws.{decided_number, decided_last, decided_none, decided_some}
+use Rattle.mm_expect.proofs.JudgeLaws.{decided_issued, decided_none, decided_some}
 use Rattle.mm_expect.proofs.offers.is_genuine_offer.Goals as goal
 
 pub returns-in-None : goal.returns-in-None
@@ -14,7 +14,9 @@ returns-in-Some c =
     c.are_issued_or_genuine.ensures
 
 pub returns-in-Number : goal.returns-in-Number
-returns-in-Number c = decided_number c.args.chronicle.now c.args.issued.now c.in-Number.is
+returns-in-Number c =
+    decided_issued c.args.chronicle.now c.args.issued.now _ _ (ap (offered_bytes c.args.issued.now) c.in-Number.is)
 
 pub returns-in-Last : goal.returns-in-Last
-returns-in-Last c = decided_last c.args.chronicle.now c.args.issued.now c.in-Last.is
+returns-in-Last c =
+    decided_issued c.args.chronicle.now c.args.issued.now _ _ (ap (offered_bytes c.args.issued.now) c.in-Last.is)

@@ -1,5 +1,5 @@
 use Rattle.mm_check.proofs.Below.{◌∙◌, ℕ, ◌≡◌, ◌+◌, List, length, take, ap, subst, arith, length-map, length-take, fold, world_of, Event}
-use Rattle.mm_check.proofs.Below.{event_of, events_of, forged_then, listed, Lists, numbered, StandsBehind}
+use Rattle.mm_check.proofs.Below.{not, event_of, events_of, first_then, listed, Lists, numbered, StandsBehind}
 use Rattle.mm_check.specs.declared.deciding.Deciding.{Deciding}
 use Rattle.mm_check.proofs.DecidingLaws.{heard_after, room_for, stands_next}
 use Rattle.mm_check.proofs.GuardLaws.{events_more}
@@ -31,7 +31,7 @@ returns c =
     let new : Deciding = record {
       expecting = c.event.new.self;
       numbers = c.list_all.new.self;
-      forged = c.forged_then-self.result;
+      forged = c.first_then-self.result;
       lines = c.put_reply.new.lines;
     } in
     subst (λ (l : List Event). StandsBehind header l new) (events_more all index event c.requires.within c.index-events-index.is)
@@ -39,4 +39,4 @@ returns c =
     (heard_after header before _ _ _ after told.hears (told.genuine header before after)) (told.after header before after) told.grows
     (subst (λ (l : List (List ℕ)). Lists (fold listed (numbered (world_of header) before) l) c.list_all.new.self) c.as_slice.ensures.value
     (c.in_ok-list_all.ensures (numbered (world_of header) before) c.requires.stands.lists)) c.in_ok-put_reply.ensures
-    (c.forged_then-self.ensures ∙ ap (λ (n : ℕ). forged_then c.args.self.now.forged c.in_ok-heard.heard.is_genuine (n + 1)) count))
+    (c.first_then-self.ensures ∙ ap (λ (n : ℕ). first_then c.args.self.now.forged (not c.in_ok-heard.heard.is_genuine) (n + 1)) count))

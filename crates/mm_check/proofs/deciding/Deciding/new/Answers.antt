@@ -1,5 +1,5 @@
-use Rattle.mm_check.proofs.Below.{[], ◌∷◌, None, refl, variant_byte, meaning_of}
-use Rattle.mm_check.proofs.DecidingLaws.{stands_first, start_is}
+use Rattle.mm_check.proofs.Below.{[], ◌∷◌, None, refl}
+use Rattle.mm_check.proofs.DecidingLaws.{stands_first}
 use Rattle.mm_check.proofs.deciding.Deciding.new.Goals as goal
 
 pub returns : goal.returns
@@ -9,5 +9,5 @@ returns c =
     stands_first header (record
     { expecting = c.in_ok-expecting.expecting; numbers = c.list.new.self; forged = None; lines = c.new-lines.result }) message
     c.in_ok-expecting.ensures.after (c.in_ok-list.ensures.lists [] c.new-numbers.ensures)
-    (start_is c.byte.result c.id.result (variant_byte header.variant) (meaning_of header.«module»).id c.byte.ensures c.id.ensures)
+    (λ j. 0 ∷ c.byte.ensures j ∷ c.id.ensures j ∷ [])
     c.new-lines.ensures.items refl
