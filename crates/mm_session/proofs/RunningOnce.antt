@@ -8,11 +8,11 @@ use Rattle.mm_session.proofs.Below.{offered_after, first_offer, IsCall, IsInHand
 use Rattle.mm_session.proofs.Below.{MayHaveCommitted, Served, Sessions, lines_served, grows, IsWaiting, Met, by_refusal, map}
 use Rattle.mm_session.proofs.Below.{AllByRecursion, Contains, fold, extended_message, Variant, Basic, Opt, Item, foreign_item, IsLawful}
 use Rattle.mm_session.proofs.Below.{after, trail, Entry, Value, Foreign, moved, register_value_of, are_own, has_value, is_empty, Within}
-use Rattle.mm_session.proofs.Below.{Digests, digests_of, opt_digests, counted_part, moves_messages, all_made, by_digests, by_lists}
-use Rattle.mm_session.proofs.Below.{AreShown, StandsAt, foreign_items, standing_items, stands_at, stands_for, agrees_is, foreign_may}
-use Rattle.mm_session.proofs.Below.{is_agrees, counted_open, foreign_agrees, holds_open, within_items, within_of, foreign_all, holds_made}
-use Rattle.mm_session.proofs.Below.{foreign_messages, taking, taking_is, names_alike, shown_back, shown_front, shown_shut, MayStart}
-use Rattle.mm_session.proofs.Below.{RunsOnceFrom, not_lost, was_powered, append-nil, SessionRunsOnce}
+use Rattle.mm_session.proofs.Below.{Digests, digests_of, opt_digests, moves_messages, all_made, by_digests, by_lists, AreShown, StandsAt}
+use Rattle.mm_session.proofs.Below.{foreign_items, standing_items, stands_at, stands_for, agrees_is, foreign_may, is_agrees, counted_open}
+use Rattle.mm_session.proofs.Below.{foreign_agrees, holds_open, within_items, within_of, foreign_all, holds_made, foreign_messages, taking}
+use Rattle.mm_session.proofs.Below.{taking_is, names_alike, shown_back, shown_front, shown_shut, MayStart, RunsOnceFrom, not_lost}
+use Rattle.mm_session.proofs.Below.{was_powered, append-nil, SessionRunsOnce, counted_part}
 use Rattle.mm_model.specs.declared.refusal.Refusal.TheVariants as refusal
 use Rattle.mm_store.specs.declared.fault.StoreFault.TheVariants as fault
 use Rattle.mm_host.specs.declared.fault.HostFault.TheVariants as host
@@ -207,8 +207,7 @@ module _ (meaning : Meaning) (key barrier : List ℕ) where
       let s : List ℕ = register_value_of i y in
       ap (λ (ms : List (List ℕ)). ms ++ moves_messages i (moved i y (Foreign v)) (map Foreign values))
       (foreign_messages meaning key barrier y y.is_open v)
-      ∙ ap (λ (ms : List (List ℕ)). extended_message s v ∷ ms) (messages_looked values (moved i y (Foreign v))
-      ∙ ap (λ (r : List ℕ). trail extended_message r values) (register_pushed y v))
+      ∙ ap (λ (ms : List (List ℕ)). extended_message s v ∷ ms) (rw (← register_pushed y v) (messages_looked values (moved i y (Foreign v))))
 
   shut_of : (y : History) (offer : List ℕ) (requests : List (List ℕ)) → AsksNothingNew i y offer requests → y.is_open ≡ false
   shut_of y offer [] k = k
@@ -274,9 +273,7 @@ module _ (meaning : Meaning) (lawful : IsLawful meaning) (entry before after : S
       let d : Digests = digests_of j y in
       let front = shown_front all others j y brought k a in
       let listed : Within (moves_messages j y (map Foreign brought_by)) all =
-      subst (λ (ms : List (List ℕ)). Within ms all) (sym (messages_looked meaning key barrier brought_by y))
-      (subst (λ (x : History). Within (trail extended_message (register_value_of j x) brought_by) all) (counted_open y e)
-      (rw (foreign_values brought_by) at front.messages)) in
+      rw (messages_looked meaning key barrier brought_by y, ← counted_open y e) (rw (foreign_values brought_by) at front.messages) in
       let outside : AllByRecursion (Contains others) brought_by = rw (foreign_of brought_by) at front.values in
       rw (taking_is j brought_by y) at (within_of meaning key barrier all others asked (all_made (by_lists j) y (map Foreign brought_by))
       (all_made (by_digests j) d (map Foreign brought_by)) (holds_made meaning key barrier all others asked (map Foreign brought_by) y d
