@@ -47,7 +47,7 @@ module _ {P : Type 0} {answer : P → List ℕ → Result (List ℕ × P) Refuse
     {result : Result Bool ReplayFault} (s : Stands answer first player number left left' received received' held pending)
     (t : PlaysNext answer closing number player next left' left'' held held' received' received'' pending pending' result) where
   went_by : (came : Result Bool ReplayFault) → result ≡ came
-      → PlayedOn answer (run_from answer closing number player) number player next left'' (held ++ t.taken) held' pending
+      → PlayedOn answer (run_from answer closing number player) player next left'' (held ++ t.taken) held' pending
       (t.sent ++ pending') came
   went_by came is = rw is at t.went
 
@@ -95,7 +95,7 @@ module _ {P : Type 0} {answer : P → List ℕ → Result (List ℕ × P) Refuse
 
   -- What was told where the turn ends the run.
   settled_by : (said : List ℕ) (fault : ReplayFault)
-      → PlayedOn answer (run_from answer closing number player) number player next left'' (held ++ t.taken) held' pending said (Err fault)
+      → PlayedOn answer (run_from answer closing number player) player next left'' (held ++ t.taken) held' pending said (Err fault)
       → Settles {T = Unit {0}} (run answer 1 first) (run_of answer closing first) next left'' (s.taken ++ t.taken) (s.sent ++ said)
       (Err fault)
   settled_by said ReadFault w =

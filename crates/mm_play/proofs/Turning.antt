@@ -29,7 +29,7 @@ module _ {P : Type 0} (answer : P → List ℕ → Result (List ℕ × P) Refuse
 
   went_by_line : (bytes line : List ℕ) (result : Result Bool ReplayFault) → bytes ≡ line ++ 10 ∷ held' → MayGrow longest_line line
       → Answers number (answer player line) next pending pending' result
-      → PlayedOn answer (run_from answer closing number player) number player next left' bytes held' pending pending' result
+      → PlayedOn answer (run_from answer closing number player) player next left' bytes held' pending pending' result
   went_by_line bytes line (Ok true) cut within a =
       record { line = line; reply = a.1; unbroken = within.unbroken; short = within.short; cut = cut; answered = a.2; said_behind = a.3 }
   went_by_line bytes line (Ok false) cut within a = let clash : false ≡ true = a.0 in cc
@@ -106,10 +106,10 @@ front_of_front a b c first second = subst (λ (x : List ℕ). IsFrontOf a x) sec
 
 -- ---- bytes that were pending first
 
-module _ {P : Type 0} (answer : P → List ℕ → Result (List ℕ × P) Refused) (rest : List ℕ → Told P) (number : ℕ) (player next : P)
+module _ {P : Type 0} (answer : P → List ℕ → Result (List ℕ × P) Refused) (rest : List ℕ → Told P) (player next : P)
     (left : Option (List ℕ)) (bytes held pending said front : List ℕ) where
-  went_behind : (result : Result Bool ReplayFault) → PlayedOn answer rest number player next left bytes held pending said result
-      → PlayedOn answer rest number player next left bytes held (front ++ pending) (front ++ said) result
+  went_behind : (result : Result Bool ReplayFault) → PlayedOn answer rest player next left bytes held pending said result
+      → PlayedOn answer rest player next left bytes held (front ++ pending) (front ++ said) result
   went_behind (Ok true) w =
       record {
         line = w.line;
@@ -141,7 +141,7 @@ module _ {P : Type 0} (answer : P → List ℕ → Result (List ℕ × P) Refuse
       inl (λ more. front_of_more sent pending (run_from answer closing number player (bytes ++ more)).written (rw same at front))
 
   went_cut : (result : Result Bool ReplayFault)
-      → PlayedOn answer (run_from answer closing number player) number player next left bytes held pending said result
+      → PlayedOn answer (run_from answer closing number player) player next left bytes held pending said result
       → IsFrontOf sent said → ForWhole left bytes (IsCut sent)
   went_cut (Ok true) w front =
       inl (λ more. let after : Told P = run_from answer closing (number + 1) next (held ++ more) in
@@ -195,7 +195,7 @@ module _ {P : Type 0} {answer : P → List ℕ → Result (List ℕ × P) Refuse
 
   abbrev WentBy : List ℕ → List ℕ → Result Bool ReplayFault → Type 0
   WentBy pending said came =
-      PlayedOn answer (run_from answer closing number player) number player next left' (held ++ a.taken) held' pending said came
+      PlayedOn answer (run_from answer closing number player) player next left' (held ++ a.taken) held' pending said came
 
   -- by what came, and with what was sent first
   came_now : (came : Result Bool ReplayFault) → found ≡ came → WentBy waiting more came
@@ -204,7 +204,7 @@ module _ {P : Type 0} {answer : P → List ℕ → Result (List ℕ × P) Refuse
   came_behind : (came : Result Bool ReplayFault) → found ≡ came → WentBy pending (first ++ more) came
   came_behind came found_is =
       subst (λ (p : List ℕ). WentBy p (first ++ more) came) (sym parted)
-      (went_behind answer (run_from answer closing number player) number player next left' (held ++ a.taken) held' waiting more first came
+      (went_behind answer (run_from answer closing number player) player next left' (held ++ a.taken) held' waiting more first came
       (came_now came found_is))
 
   -- the source failed: nothing is pending
