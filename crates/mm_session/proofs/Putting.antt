@@ -1,6 +1,6 @@
 -- What waits, and what fits, once the record of a next request was written, whole or torn.
 use Rattle.mm_session.proofs.Below.{◌≡◌, ◌∙◌, ◌+◌, ◌-◌, ◌%◌, ◌<◌, ◌≤◌, ℕ, List, take, Option, None, Some, refl, sym, ap, inl, inr, arith}
-use Rattle.mm_session.proofs.Below.{◌⊎◌, if◌then◌else◌, nat_tests, MayGrow, last_position, longest_request, Instance, History, total_of}
+use Rattle.mm_session.proofs.Below.{◌⊎◌, nat_tests, MayGrow, last_position, longest_request, Instance, History, total_of}
 use Rattle.mm_session.proofs.Below.{Pending, ReadsPending, pending_spelling, Slots, longest_slot, slot_read, with_slot, one_reading}
 use Rattle.mm_session.proofs.Below.{IsNotBeyond, waiting_position, FitsHistory, FitsBy, Holds, IsWaiting, later}
 use Rattle.std.proofs.lemmas.Bool.{cases_lt}

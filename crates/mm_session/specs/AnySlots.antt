@@ -1,11 +1,11 @@
 -- What a session comes to whatever the slots hold: old ones that were put back, swapped or altered
 -- ones, ones that can't be read, records of requests that nobody made. What was told is one run of
 -- the module from the history that the platform stands for; a refusal is by the verdict.
-use Rattle.std.specs.Prelude.{◌≡◌, ◌≢◌, ℕ, Bool, false, List, [], ◌∷◌, ◌++◌, Option, None, Some, Result, Err, IsSome, nat_eq, if◌then◌else◌}
+use Rattle.std.specs.Prelude.{◌≡◌, ℕ, Bool, false, List, [], ◌∷◌, ◌++◌, Option, None, Some, Result, Err, IsSome, nat_eq, if◌then◌else◌}
 use Rattle.std.specs.Prelude.{◌⊎◌}
 use Rattle.std.specs.List.{Contains}
 use Rattle.mm_session.specs.Below.{lines_of, Variant, Basic, Opt, Content, Item, Standing, Batch, One, Meaning, History, Commit, moved}
-use Rattle.mm_session.specs.Below.{requests_of, total_of, Instance, basic, opt, Spoiled, LostLife, life_of, Within, IsClear, AreNoGuards}
+use Rattle.mm_session.specs.Below.{requests_of, total_of, Instance, basic, opt, Within, IsClear, AreNoGuards}
 use Rattle.mm_session.specs.Below.{StandsFor, IsGenuine, issued_bytes, Refusal, IsWithin, right_messages, found_at, right_content, by_lists}
 use Rattle.mm_session.specs.Below.{AreShown, IsIdle, fault_of, standing_items, StoreStanding, Pending, Slots, slot_read, first_offer}
 use Rattle.mm_session.specs.Below.{IsWaiting, Refused}
