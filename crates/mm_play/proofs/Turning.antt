@@ -31,7 +31,7 @@ module _ {P : Type 0} (answer : P → List ℕ → Result (List ℕ × P) Refuse
       → Answers number (answer player line) next pending pending' result
       → PlayedOn answer (run_from answer closing number player) player next left' bytes held' pending pending' result
   went_by_line bytes line (Ok true) cut within a =
-      record { line = line; reply = a.1; unbroken = within.unbroken; short = within.short; cut = cut; answered = a.2; said_behind = a.3 }
+      (a.1, a.3, record { line = line; unbroken = within.unbroken; short = within.short; cut = cut; answered = a.2 })
   went_by_line bytes line (Ok false) cut within a = let clash : false ≡ true = a.0 in cc
   went_by_line bytes line (Err Memory) cut within a = a
   went_by_line bytes line (Err (BadLine n)) cut within a = (a.0, refused_by bytes line a.1 (BadLine n) cut within a.2 a.3)
@@ -110,16 +110,7 @@ module _ {P : Type 0} (answer : P → List ℕ → Result (List ℕ × P) Refuse
     (left : Option (List ℕ)) (bytes held pending said front : List ℕ) where
   went_behind : (result : Result Bool ReplayFault) → PlayedOn answer rest player next left bytes held pending said result
       → PlayedOn answer rest player next left bytes held (front ++ pending) (front ++ said) result
-  went_behind (Ok true) w =
-      record {
-        line = w.line;
-        reply = w.reply;
-        unbroken = w.unbroken;
-        short = w.short;
-        cut = w.cut;
-        answered = w.answered;
-        said_behind = rw (w.said_behind, append_assoc) refl;
-      }
+  went_behind (Ok true) w = (w.0, rw (w.1, append_assoc) refl, w.2)
   went_behind (Ok false) w = (w.0, w.1, w.2, rw (w.3, append_assoc) refl)
   went_behind (Err WriteFault) w =
       for_whole left bytes (λ input. IsFrontOf said (pending ++ (rest input).written))
@@ -145,10 +136,10 @@ module _ {P : Type 0} (answer : P → List ℕ → Result (List ℕ × P) Refuse
       → IsFrontOf sent said → ForWhole left bytes (IsCut sent)
   went_cut (Ok true) w front =
       inl (λ more. let after : Told P = run_from answer closing (number + 1) next (held ++ more) in
-      let is : run_from answer closing number player (bytes ++ more) ≡ after_writing w.reply after =
-      rw (w.cut, append_assoc) (run_from-answered answer closing number player w.line (held ++ more) w.reply next w.unbroken w.short
-      w.answered) in
-      rw (is, ← append_assoc) (front_of_more sent (pending ++ w.reply) after.written (rw w.said_behind at front)))
+      let is : run_from answer closing number player (bytes ++ more) ≡ after_writing w.0 after =
+      rw (w.2.cut, append_assoc) (run_from-answered answer closing number player w.2.line (held ++ more) w.0 next w.2.unbroken w.2.short
+      w.2.answered) in
+      rw (is, ← append_assoc) (front_of_more sent (pending ++ w.0) after.written (rw w.1 at front)))
   went_cut (Ok false) w front = inr (w.0, rw w.2 (rw w.3 at front))
   went_cut (Err WriteFault) w front = for_whole left bytes (IsCut said) (IsCut sent) (λ input h. front_of_front sent said _ front h) w
   went_cut (Err Memory) w front = unanswered w front

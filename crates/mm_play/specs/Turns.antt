@@ -62,15 +62,13 @@ IsSent pending (Ok false) = pending ≡ []
 IsSent pending (Err fault) = pending ≡ []
 
 module _ {P : Type 0} (answer : P → List ℕ → Result (List ℕ × P) Refused) where
-  -- A line was read and answered, and its reply stands behind what was pending.
-  pub record AnswersLine (player next : P) (bytes held pending said : List ℕ) : Type 0 where
+  -- A line was read, and answered with this reply.
+  pub record AnswersLine (player next : P) (bytes held reply : List ℕ) : Type 0 where
     pub line : List ℕ
-    pub reply : List ℕ
     pub unbroken : IsUnbroken line
     pub short : length line ≤ longest_line
     pub cut : bytes ≡ line ++ 10 ∷ held
     pub answered : answer player line ≡ Ok (reply, next)
-    pub said_behind : said ≡ pending ++ reply
 
   -- By the answer: `bytes` are those held before and those taken, `held` those held after, and
   -- `rest` is the run over the input that begins with `bytes`; `pending` is what was pending, and
@@ -78,7 +76,8 @@ module _ {P : Type 0} (answer : P → List ℕ → Result (List ℕ × P) Refuse
   module _ (rest : List ℕ → Told P) (player next : P) (left : Option (List ℕ))
       (bytes held pending said : List ℕ) where
     abbrev pub PlayedOn : Result Bool ReplayFault → Type 0
-    PlayedOn (Ok true) = AnswersLine player next bytes held pending said
+    PlayedOn (Ok true) =
+        (reply : List ℕ) × (said ≡ pending ++ reply) × AnswersLine player next bytes held reply
     PlayedOn (Ok false) = IsAtEnd left × (last : List ℕ) × (rest bytes ≡ told last (Ok next))
         × (said ≡ pending ++ last)
     PlayedOn (Err ReadFault) = (said ≡ pending) × MayGrow longest_line bytes
