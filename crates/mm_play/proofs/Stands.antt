@@ -47,7 +47,7 @@ module _ {P : Type 0} {answer : P → List ℕ → Result (List ℕ × P) Refuse
     {result : Result Bool ReplayFault} (s : Stands answer first player number left left' received received' held pending)
     (t : PlaysNext answer closing number player next left' left'' held held' received' received'' pending pending' result) where
   went_by : (came : Result Bool ReplayFault) → result ≡ came
-      → PlayedOn answer (run_from answer closing number player) number player next left'' (held ++ t.taken) held' pending
+      → PlayedOn answer (run_from answer closing number player) player next left'' (held ++ t.taken) held' pending
       (t.sent ++ pending') came
   went_by came is = rw is at t.went
 
@@ -59,7 +59,7 @@ module _ {P : Type 0} {answer : P → List ℕ → Result (List ℕ × P) Refuse
 
   -- The turn answered a line.
   pub answered_line : result ≡ Ok true → (line : List ℕ) × (reply : List ℕ) × (answer player line ≡ Ok (reply, next))
-  answered_line went = let a = went_by (Ok true) went in (a.line, a.reply, a.answered)
+  answered_line went = let a = went_by (Ok true) went in (a.2.line, a.0, a.2.answered)
 
   pub stands_on : result ≡ Ok true → Stands answer first next (number + 1) left left'' received received'' held' pending'
   stands_on went =
@@ -67,14 +67,14 @@ module _ {P : Type 0} {answer : P → List ℕ → Result (List ℕ × P) Refuse
       record {
         taken = s.taken ++ t.taken;
         sent = s.sent ++ t.sent;
-        lines = s.lines ++ a.line ∷ [];
+        lines = s.lines ++ a.2.line ∷ [];
         consumed = Consumes-trans left left' left'' s.taken t.taken s.consumed t.consumed;
         appended = Appends-trans received received' received'' s.sent t.sent s.appended t.appended;
-        cut = rw (taken_now, a.cut, joined-append) (simp append_assoc);
-        unbroken = AllByRecursion-snoc s.lines a.line s.unbroken a.unbroken;
-        counted = omega (arith, s.counted, length-append s.lines (a.line ∷ []));
-        ran = run-more answer first s.lines a.line (s.sent ++ pending) a.reply player next s.ran a.short a.answered
-            ∙ ap (λ b. told b (Ok next)) (rw append_assoc (ap (λ b. s.sent ++ b) (sym a.said_behind) ∙ sym (append_assoc s.sent t.sent pending')));
+        cut = rw (taken_now, a.2.cut, joined-append) (simp append_assoc);
+        unbroken = AllByRecursion-snoc s.lines a.2.line s.unbroken a.2.unbroken;
+        counted = omega (arith, s.counted, length-append s.lines (a.2.line ∷ []));
+        ran = run-more answer first s.lines a.2.line (s.sent ++ pending) a.0 player next s.ran a.2.short a.2.answered
+            ∙ ap (λ b. told b (Ok next)) (rw append_assoc (ap (λ b. s.sent ++ b) (sym a.1) ∙ sym (append_assoc s.sent t.sent pending')));
       }
 
   -- The rest of the input goes after what was taken so far.
@@ -95,7 +95,7 @@ module _ {P : Type 0} {answer : P → List ℕ → Result (List ℕ × P) Refuse
 
   -- What was told where the turn ends the run.
   settled_by : (said : List ℕ) (fault : ReplayFault)
-      → PlayedOn answer (run_from answer closing number player) number player next left'' (held ++ t.taken) held' pending said (Err fault)
+      → PlayedOn answer (run_from answer closing number player) player next left'' (held ++ t.taken) held' pending said (Err fault)
       → Settles {T = Unit {0}} (run answer 1 first) (run_of answer closing first) next left'' (s.taken ++ t.taken) (s.sent ++ said)
       (Err fault)
   settled_by said ReadFault w =

@@ -1,13 +1,95 @@
--- A turn: what was pending before it may be sent first, and nothing is pending where it ends the run.
-use Rattle.mm_play.proofs.Below.{◌≡◌, ◌∙◌, ◌≢◌, ◌+◌, ℕ, Bool, true, false, List, [], ◌++◌, length, Result, Ok, Err, Option, refl, sym, ap}
-use Rattle.mm_play.proofs.Below.{subst, append_assoc, append-nil, inl, inr, Appends-trans, Consumes-nil, IsUnbroken, ReplayFault, Memory}
-use Rattle.mm_play.proofs.Below.{ReadFault, WriteFault, Refused, Told, after_writing, run_from, IsFrontOf, ForWhole, PlayedOn, Advances}
-use Rattle.mm_play.proofs.Below.{SendsDue, SendsThen, IsSent, PlaysNext}
+-- A turn: a line is answered, or the input ends, by what the reader read and what the player did. What was pending before it may be sent
+-- first, and nothing is pending where it ends the run.
+use Rattle.mm_play.proofs.Below.{◌≡◌, ◌∙◌, ◌+◌, ℕ, Bool, true, false, List, [], ◌∷◌, ◌++◌, take, drop, Result, Ok, Err, Option, refl, sym}
+use Rattle.mm_play.proofs.Below.{ap, append_assoc, arith, inl, inr, length-take, take-append-drop, ReplayFault, Memory, BadLine, LineLong}
+use Rattle.mm_play.proofs.Below.{TooMuch, longest_line, Refused, refusal_at, stopped, run_from, ForWhole, Answers, PlayedOn, Advances, ◌≢◌}
+use Rattle.mm_play.proofs.Below.{length, subst, append-nil, Appends-trans, Consumes-nil, IsUnbroken, ReadFault, WriteFault, Told}
+use Rattle.mm_play.proofs.Below.{after_writing, IsFrontOf, SendsDue, SendsThen, IsSent, PlaysNext}
+use Rattle.mm_base.specs.Lines.{MayGrow}
+use Rattle.mm_base.specs.Next.{NextLine}
+use Rattle.mm_base.specs.declared.lines.LineFault.{LineFault}
+use Rattle.mm_base.specs.declared.lines.LineFault.TheVariants as fault
+use Rattle.mm_base.specs.declared.lines.Read.{Read}
+use Rattle.mm_base.specs.declared.lines.Read.TheVariants.{Line, Tail}
+use Rattle.mm_play.proofs.Runs.{run_from-refused, run_from-long, run_from-tail, run_from-answered}
 use Rattle.std.proofs.Math.Seq.{take-append_seam}
 use Rattle.std.proofs.lemmas.List.Elements.{All-take}
 use Rattle.mm_base.specs.declared.fault.WriteFault as write
-use Rattle.mm_play.proofs.Runs.{run_from-answered}
 use Rattle.mm_play.proofs.Telling.{for_whole}
+
+module _ {P : Type 0} (answer : P → List ℕ → Result (List ℕ × P) Refused) (closing : P → Option (List ℕ)) (number : ℕ) (player next : P)
+    (left left' : Option (List ℕ)) (held held' pending pending' : List ℕ) where
+  -- the line is refused, whatever follows it
+  refused_by : (bytes line : List ℕ) (why : Refused) (fault : ReplayFault) → bytes ≡ line ++ 10 ∷ held' → MayGrow longest_line line
+      → answer player line ≡ Err why → refusal_at number why ≡ fault
+      → ForWhole left' bytes (λ input. run_from answer closing number player input ≡ stopped fault)
+  refused_by bytes line why fault cut within refused is =
+      inl (λ rest. rw (cut, append_assoc line (10 ∷ held') rest, ← is)
+      (run_from-refused answer closing number player line (held' ++ rest) why within.unbroken within.short refused))
+
+  went_by_line : (bytes line : List ℕ) (result : Result Bool ReplayFault) → bytes ≡ line ++ 10 ∷ held' → MayGrow longest_line line
+      → Answers number (answer player line) next pending pending' result
+      → PlayedOn answer (run_from answer closing number player) player next left' bytes held' pending pending' result
+  went_by_line bytes line (Ok true) cut within a =
+      (a.1, a.3, record { line = line; unbroken = within.unbroken; short = within.short; cut = cut; answered = a.2 })
+  went_by_line bytes line (Ok false) cut within a = let clash : false ≡ true = a.0 in cc
+  went_by_line bytes line (Err Memory) cut within a = a
+  went_by_line bytes line (Err (BadLine n)) cut within a = (a.0, refused_by bytes line a.1 (BadLine n) cut within a.2 a.3)
+  went_by_line bytes line (Err TooMuch) cut within a = (a.0, refused_by bytes line a.1 TooMuch cut within a.2 a.3)
+  went_by_line bytes line _ cut within a = absurd a
+
+  -- A line was read, and the player answered it or didn't.
+  pub advanced_by_line : (result : Result Bool ReplayFault) (read : Result Read LineFault) (what : Read) (line : _)
+      → NextLine longest_line left left' held read held' → read ≡ Ok what → what ≡ Line line
+      → Answers number (answer player line.now) next pending pending' result
+      → Advances answer closing number player next left left' held held' pending pending' result
+  advanced_by_line result read what line n is what_is a =
+      let m = rw (is, what_is) at n in
+      record {
+        taken = m.takes.taken;
+        consumed = m.takes.consumed;
+        went = went_by_line (held ++ m.takes.taken) line.now result (m.takes.goes ∙ append_assoc line.now (10 ∷ []) held') m.reads a;
+      }
+
+module _ {P : Type 0} (answer : P → List ℕ → Result (List ℕ × P) Refused) (closing : P → Option (List ℕ)) (number : ℕ) (player : P)
+    (left left' : Option (List ℕ)) (held held' pending : List ℕ) (read : Result Read LineFault)
+    (n : NextLine longest_line left left' held read held') where
+  -- The input ended within a line.
+  pub advanced_by_tail : (what : Read) → read ≡ Ok what → what ≡ Tail
+      → Advances answer closing number player player left left' held held' pending pending (Err (BadLine number))
+  advanced_by_tail what is what_is =
+      let m = rw (is, what_is) at n in
+      record {
+        taken = m.takes.taken;
+        consumed = m.takes.consumed;
+        went = (
+          refl,
+          inr (
+            m.reads.2,
+            rw m.takes.goes (run_from-tail answer closing number player held' m.reads.0.unbroken m.reads.1 m.reads.0.short),
+          ),
+        );
+      }
+
+  -- Too many bytes came with no LF.
+  pub advanced_by_long : (why : LineFault) → read ≡ Err why → why ≡ fault.LineLong
+      → Advances answer closing number player player left left' held held' pending pending (Err (LineLong number))
+  advanced_by_long why is why_is =
+      let m = rw (is, why_is) at n in
+      let front : List ℕ = take (longest_line + 1) held' in
+      let back : List ℕ = drop (longest_line + 1) held' in
+      record {
+        taken = m.takes.taken;
+        consumed = m.takes.consumed;
+        went = (
+          refl,
+          inl (λ rest. ap (λ b. run_from answer closing number player (b ++ rest))
+              (m.takes.goes ∙ sym (take-append-drop (longest_line + 1) held'))
+              ∙ ap (run_from answer closing number player) (append_assoc front back rest)
+              ∙ run_from-long answer closing number player front (back ++ rest) m.reads.unbroken
+              (omega (arith, m.reads.long, length-take (longest_line + 1) held'))),
+        );
+      }
 
 -- ---- fronts
 
@@ -24,20 +106,11 @@ front_of_front a b c first second = subst (λ (x : List ℕ). IsFrontOf a x) sec
 
 -- ---- bytes that were pending first
 
-module _ {P : Type 0} (answer : P → List ℕ → Result (List ℕ × P) Refused) (rest : List ℕ → Told P) (number : ℕ) (player next : P)
+module _ {P : Type 0} (answer : P → List ℕ → Result (List ℕ × P) Refused) (rest : List ℕ → Told P) (player next : P)
     (left : Option (List ℕ)) (bytes held pending said front : List ℕ) where
-  went_behind : (result : Result Bool ReplayFault) → PlayedOn answer rest number player next left bytes held pending said result
-      → PlayedOn answer rest number player next left bytes held (front ++ pending) (front ++ said) result
-  went_behind (Ok true) w =
-      record {
-        line = w.line;
-        reply = w.reply;
-        unbroken = w.unbroken;
-        short = w.short;
-        cut = w.cut;
-        answered = w.answered;
-        said_behind = rw (w.said_behind, append_assoc) refl;
-      }
+  went_behind : (result : Result Bool ReplayFault) → PlayedOn answer rest player next left bytes held pending said result
+      → PlayedOn answer rest player next left bytes held (front ++ pending) (front ++ said) result
+  went_behind (Ok true) w = (w.0, rw (w.1, append_assoc) refl, w.2)
   went_behind (Ok false) w = (w.0, w.1, w.2, rw (w.3, append_assoc) refl)
   went_behind (Err WriteFault) w =
       for_whole left bytes (λ input. IsFrontOf said (pending ++ (rest input).written))
@@ -59,14 +132,14 @@ module _ {P : Type 0} (answer : P → List ℕ → Result (List ℕ × P) Refuse
       inl (λ more. front_of_more sent pending (run_from answer closing number player (bytes ++ more)).written (rw same at front))
 
   went_cut : (result : Result Bool ReplayFault)
-      → PlayedOn answer (run_from answer closing number player) number player next left bytes held pending said result
+      → PlayedOn answer (run_from answer closing number player) player next left bytes held pending said result
       → IsFrontOf sent said → ForWhole left bytes (IsCut sent)
   went_cut (Ok true) w front =
       inl (λ more. let after : Told P = run_from answer closing (number + 1) next (held ++ more) in
-      let is : run_from answer closing number player (bytes ++ more) ≡ after_writing w.reply after =
-      rw (w.cut, append_assoc) (run_from-answered answer closing number player w.line (held ++ more) w.reply next w.unbroken w.short
-      w.answered) in
-      rw (is, ← append_assoc) (front_of_more sent (pending ++ w.reply) after.written (rw w.said_behind at front)))
+      let is : run_from answer closing number player (bytes ++ more) ≡ after_writing w.0 after =
+      rw (w.2.cut, append_assoc) (run_from-answered answer closing number player w.2.line (held ++ more) w.0 next w.2.unbroken w.2.short
+      w.2.answered) in
+      rw (is, ← append_assoc) (front_of_more sent (pending ++ w.0) after.written (rw w.1 at front)))
   went_cut (Ok false) w front = inr (w.0, rw w.2 (rw w.3 at front))
   went_cut (Err WriteFault) w front = for_whole left bytes (IsCut said) (IsCut sent) (λ input h. front_of_front sent said _ front h) w
   went_cut (Err Memory) w front = unanswered w front
@@ -113,7 +186,7 @@ module _ {P : Type 0} {answer : P → List ℕ → Result (List ℕ × P) Refuse
 
   abbrev WentBy : List ℕ → List ℕ → Result Bool ReplayFault → Type 0
   WentBy pending said came =
-      PlayedOn answer (run_from answer closing number player) number player next left' (held ++ a.taken) held' pending said came
+      PlayedOn answer (run_from answer closing number player) player next left' (held ++ a.taken) held' pending said came
 
   -- by what came, and with what was sent first
   came_now : (came : Result Bool ReplayFault) → found ≡ came → WentBy waiting more came
@@ -122,7 +195,7 @@ module _ {P : Type 0} {answer : P → List ℕ → Result (List ℕ × P) Refuse
   came_behind : (came : Result Bool ReplayFault) → found ≡ came → WentBy pending (first ++ more) came
   came_behind came found_is =
       subst (λ (p : List ℕ). WentBy p (first ++ more) came) (sym parted)
-      (went_behind answer (run_from answer closing number player) number player next left' (held ++ a.taken) held' waiting more first came
+      (went_behind answer (run_from answer closing number player) player next left' (held ++ a.taken) held' waiting more first came
       (came_now came found_is))
 
   -- the source failed: nothing is pending

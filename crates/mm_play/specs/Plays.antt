@@ -22,24 +22,22 @@ IsTailShort taken = length (tail_of taken) ≤ longest_line
 
 -- How the answer fits what was taken of the input and written. `lines` is the run over whole lines,
 -- `whole` that over a whole input.
-abbrev pub Settles : {P T : Type 0} → (List (List ℕ) → Told P) → (List ℕ → Told P) → P
-    → Option (List ℕ) → List ℕ → List ℕ → Result T ReplayFault → Type 0
--- Ok: the input was taken to its end, and the run over it was written whole.
-Settles lines whole next left taken sent (Ok _) = IsAtEnd left × (whole taken ≡ told sent (Ok next))
--- The source failed: each whole line that was taken is answered, and nothing else; and the bytes
--- behind them may be a line's.
-Settles {P} lines whole next left taken sent (Err ReadFault) =
-    IsTailShort taken × ((after : P) × (lines (lines_of taken) ≡ told sent (Ok after)))
--- The sink failed: what went out is a front of what the run writes.
-Settles lines whole next left taken sent (Err WriteFault) =
-    ForWhole left taken (λ input. IsFrontOf sent (whole input).written)
--- Want of memory: some first lines are answered.
-Settles {P} lines whole next left taken sent (Err Memory) =
-    (front : List ℕ) × IsFrontOf front taken × (after : P)
-    × (lines (lines_of front) ≡ told sent (Ok after))
--- Else the run stops so.
-Settles lines whole next left taken sent (Err fault) =
-    ForWhole left taken (λ input. whole input ≡ told sent (Err fault))
+module _ {P T : Type 0} (lines : List (List ℕ) → Told P) (whole : List ℕ → Told P) (next : P)
+    (left : Option (List ℕ)) (taken sent : List ℕ) where
+  abbrev pub Settles : Result T ReplayFault → Type 0
+  -- Ok: the input was taken to its end, and the run over it was written whole.
+  Settles (Ok _) = IsAtEnd left × (whole taken ≡ told sent (Ok next))
+  -- The source failed: each whole line that was taken is answered, and nothing else; and the bytes
+  -- behind them may be a line's.
+  Settles (Err ReadFault) =
+      IsTailShort taken × ((after : P) × (lines (lines_of taken) ≡ told sent (Ok after)))
+  -- The sink failed: what went out is a front of what the run writes.
+  Settles (Err WriteFault) = ForWhole left taken (λ input. IsFrontOf sent (whole input).written)
+  -- Want of memory: some first lines are answered.
+  Settles (Err Memory) = (front : List ℕ) × IsFrontOf front taken × (after : P)
+      × (lines (lines_of front) ≡ told sent (Ok after))
+  -- Else the run stops so.
+  Settles (Err fault) = ForWhole left taken (λ input. whole input ≡ told sent (Err fault))
 
 -- A count of faults rose exactly where it is to blame for the answer, and then by exactly one: no
 -- call follows one that failed.

@@ -52,33 +52,30 @@ TellsBy some all much left taken sent (Err (LineLong line)) =
 TellsBy some all much left taken sent (Err TooMuch) =
     ForWhole left taken (λ input. AnswersFirst some much (lines_of input) sent)
 
--- By a player: these lines are answered so.
-abbrev pub Answered : {P : Type 0} → (P → List ℕ → Result (List ℕ × P) Refused) → P → List (List ℕ)
-    → List ℕ → Type 0
-Answered {P} answer player lines written =
-    (next : P) × (run answer 1 player lines ≡ told written (Ok next))
+module _ {P : Type 0} (answer : P → List ℕ → Result (List ℕ × P) Refused) where
+  -- By a player: these lines are answered so.
+  abbrev pub Answered : P → List (List ℕ) → List ℕ → Type 0
+  Answered player lines written = (next : P) × (run answer 1 player lines ≡ told written (Ok next))
 
--- They are answered, and the last lines are written behind.
-pub record Finished {P : Type 0} (answer : P → List ℕ → Result (List ℕ × P) Refused)
-    (closing : P → Option (List ℕ)) (player : P)
-    (lines : List (List ℕ)) (written : List ℕ) : Type 0 where
-  pub next : P
-  pub said : List ℕ
-  pub last : List ℕ
-  pub ran : run answer 1 player lines ≡ told said (Ok next)
-  pub closed : closing next ≡ Some last
-  pub whole : written ≡ said ++ last
+  -- They are answered, and the last lines are written behind.
+  pub record Finished (closing : P → Option (List ℕ)) (player : P) (lines : List (List ℕ))
+      (written : List ℕ) : Type 0 where
+    pub next : P
+    pub said : List ℕ
+    pub last : List ℕ
+    pub ran : run answer 1 player lines ≡ told said (Ok next)
+    pub closed : closing next ≡ Some last
+    pub whole : written ≡ said ++ last
 
--- The lines are answered, and the next is refused as one too many.
-pub record RefusesMuch {P : Type 0} (answer : P → List ℕ → Result (List ℕ × P) Refused) (player : P)
-    (done rest : List (List ℕ)) : Type 0 where
-  pub next : P
-  pub said : List ℕ
-  pub line : List ℕ
-  pub more : List (List ℕ)
-  pub ran : run answer 1 player done ≡ told said (Ok next)
-  pub follows : rest ≡ line ∷ more
-  pub refused : answer next line ≡ Err Much
+  -- The lines are answered, and the next is refused as one too many.
+  pub record RefusesMuch (player : P) (done rest : List (List ℕ)) : Type 0 where
+    pub next : P
+    pub said : List ℕ
+    pub line : List ℕ
+    pub more : List (List ℕ)
+    pub ran : run answer 1 player done ≡ told said (Ok next)
+    pub follows : rest ≡ line ∷ more
+    pub refused : answer next line ≡ Err Much
 
 -- what stands behind the last line is reported, where all lines were answered
 abbrev pub IsReported : {P R F : Type 0} → (P → R → Type 0) → P → Result R F → Type 0

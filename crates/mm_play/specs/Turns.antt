@@ -34,46 +34,6 @@ EndsInput number closing old new (Err (BadLine line)) =
 EndsInput number closing old new (Err Memory) = new ≡ old
 EndsInput number closing old new (Err fault) = ⊥
 
--- A line of this number was read and answered, and its reply stands behind what was pending.
-pub record AnswersLine {P : Type 0} (answer : P → List ℕ → Result (List ℕ × P) Refused) (number : ℕ)
-    (player next : P)
-    (bytes held pending said : List ℕ) : Type 0 where
-  pub line : List ℕ
-  pub reply : List ℕ
-  pub unbroken : IsUnbroken line
-  pub short : length line ≤ longest_line
-  pub cut : bytes ≡ line ++ 10 ∷ held
-  pub answered : answer player line ≡ Ok (reply, next)
-  pub said_behind : said ≡ pending ++ reply
-
--- By the answer: `bytes` are those held before and those taken, `held` those held after, and `rest`
--- is the run over the input that begins with `bytes`; `pending` is what was pending, and `said`
--- what was sent of it and of the turn's replies, and what is pending still.
-abbrev pub PlayedOn : {P : Type 0} → (P → List ℕ → Result (List ℕ × P) Refused) → (List ℕ → Told P)
-    → ℕ → P → P → Option (List ℕ) → List ℕ
-    → List ℕ → List ℕ → List ℕ → Result Bool ReplayFault → Type 0
-PlayedOn answer rest number player next left bytes held pending said (Ok true) =
-    AnswersLine answer number player next bytes held pending said
-PlayedOn answer rest number player next left bytes held pending said (Ok false) =
-    IsAtEnd left × (last : List ℕ) × (rest bytes ≡ told last (Ok next)) × (said ≡ pending ++ last)
-PlayedOn answer rest number player next left bytes held pending said (Err ReadFault) =
-    (said ≡ pending) × MayGrow longest_line bytes
-PlayedOn answer rest number player next left bytes held pending said (Err WriteFault) =
-    ForWhole left bytes (λ input. IsFrontOf said (pending ++ (rest input).written))
-PlayedOn answer rest number player next left bytes held pending said (Err Memory) = said ≡ pending
-PlayedOn answer rest number player next left bytes held pending said (Err fault) =
-    (said ≡ pending) × ForWhole left bytes (λ input. rest input ≡ stopped fault)
-
--- A line was read and answered, or not, and nothing was sent.
-pub record Advances {P : Type 0} (answer : P → List ℕ → Result (List ℕ × P) Refused)
-    (closing : P → Option (List ℕ)) (number : ℕ) (player next : P)
-    (left left' : Option (List ℕ)) (held held' pending pending' : List ℕ)
-    (result : Result Bool ReplayFault) : Type 0 where
-  pub taken : List ℕ
-  pub consumed : Consumes left left' taken
-  pub went : PlayedOn answer (run_from answer closing number player) number player next left'
-      (held ++ taken) held' pending pending' result
-
 -- What was pending was sent, or is pending still; where the sink failed, a front of it was sent.
 pub record SendsDue (received received' : Option (List ℕ)) (pending pending' : List ℕ)
     (result : Result Unit write.WriteFault) : Type 0 where
@@ -101,15 +61,48 @@ IsSent pending (Ok true) = Unit {0}
 IsSent pending (Ok false) = pending ≡ []
 IsSent pending (Err fault) = pending ≡ []
 
-pub record PlaysNext {P : Type 0} (answer : P → List ℕ → Result (List ℕ × P) Refused)
-    (closing : P → Option (List ℕ)) (number : ℕ) (player next : P)
-    (left left' : Option (List ℕ)) (held held' : List ℕ) (received received' : Option (List ℕ))
-    (pending pending' : List ℕ)
-    (result : Result Bool ReplayFault) : Type 0 where
-  pub taken : List ℕ
-  pub sent : List ℕ
-  pub consumed : Consumes left left' taken
-  pub appended : Appends received received' sent
-  pub went : PlayedOn answer (run_from answer closing number player) number player next left'
-      (held ++ taken) held' pending (sent ++ pending') result
-  pub is_sent : IsSent pending' result
+module _ {P : Type 0} (answer : P → List ℕ → Result (List ℕ × P) Refused) where
+  -- A line was read, and answered with this reply.
+  pub record AnswersLine (player next : P) (bytes held reply : List ℕ) : Type 0 where
+    pub line : List ℕ
+    pub unbroken : IsUnbroken line
+    pub short : length line ≤ longest_line
+    pub cut : bytes ≡ line ++ 10 ∷ held
+    pub answered : answer player line ≡ Ok (reply, next)
+
+  -- By the answer: `bytes` are those held before and those taken, `held` those held after, and
+  -- `rest` is the run over the input that begins with `bytes`; `pending` is what was pending, and
+  -- `said` what was sent of it and of the turn's replies, and what is pending still.
+  module _ (rest : List ℕ → Told P) (player next : P) (left : Option (List ℕ))
+      (bytes held pending said : List ℕ) where
+    abbrev pub PlayedOn : Result Bool ReplayFault → Type 0
+    PlayedOn (Ok true) =
+        (reply : List ℕ) × (said ≡ pending ++ reply) × AnswersLine player next bytes held reply
+    PlayedOn (Ok false) = IsAtEnd left × (last : List ℕ) × (rest bytes ≡ told last (Ok next))
+        × (said ≡ pending ++ last)
+    PlayedOn (Err ReadFault) = (said ≡ pending) × MayGrow longest_line bytes
+    PlayedOn (Err WriteFault) =
+        ForWhole left bytes (λ input. IsFrontOf said (pending ++ (rest input).written))
+    PlayedOn (Err Memory) = said ≡ pending
+    PlayedOn (Err fault) =
+        (said ≡ pending) × ForWhole left bytes (λ input. rest input ≡ stopped fault)
+
+  module _ (closing : P → Option (List ℕ)) (number : ℕ) (player next : P)
+      (left left' : Option (List ℕ)) (held held' : List ℕ) where
+    -- A line was read and answered, or not, and nothing was sent.
+    pub record Advances (pending pending' : List ℕ) (result : Result Bool ReplayFault) : Type 0
+      where
+        pub taken : List ℕ
+        pub consumed : Consumes left left' taken
+        pub went : PlayedOn (run_from answer closing number player) player next left'
+            (held ++ taken) held' pending pending' result
+
+    pub record PlaysNext (received received' : Option (List ℕ)) (pending pending' : List ℕ)
+        (result : Result Bool ReplayFault) : Type 0 where
+      pub taken : List ℕ
+      pub sent : List ℕ
+      pub consumed : Consumes left left' taken
+      pub appended : Appends received received' sent
+      pub went : PlayedOn (run_from answer closing number player) player next left'
+          (held ++ taken) held' pending (sent ++ pending') result
+      pub is_sent : IsSent pending' result

@@ -25,16 +25,14 @@ record Counts (variant : Variant) (requests : ℕ) (from to : Place) : Type 0 wh
 
 served_counts : (variant : Variant) (meaning : Meaning) (from to : Place) (calls : List Served) → Serves variant meaning from calls to
     → Counts variant (new_lines calls) from to
-served_counts variant meaning from to [] s =
-    let same : to.platform ≡ from.platform = ap (λ (p : Place). p.platform) s in
-    record {
-      platform = ap (λ (x : Standing). x.faults) same;
-      store = ap (λ (p : Place). p.store.faults) s;
-      wrote = record {
-        writes = rests variant from.platform to.platform same;
-        leads = leads_rest variant from.platform to.platform same;
-      };
-    }
+served_counts variant meaning from to [] s = rw s (record {
+  platform = refl;
+  store = refl;
+  wrote = record {
+    writes = rests variant from.platform from.platform refl;
+    leads = leads_rest variant from.platform from.platform refl;
+  };
+})
 served_counts variant meaning from to (c ∷ calls) s =
     let t = next_told variant meaning from.platform s.platform from.store s.store from.last c.line (Ok (Answered c.answer)) s.asks in
     let w = next_came variant meaning from.platform s.platform from.store s.store from.last c.line (Ok (Answered c.answer)) s.asks in

@@ -4,8 +4,8 @@ use Rattle.mm_session.proofs.Below.{inr, arith, ◌⊎◌, if◌then◌else◌, 
 use Rattle.mm_session.proofs.Below.{offered_of, sealed_of, tag_of, parts_of, sealed_parts, Instance, History, Commit, moved, requests_of}
 use Rattle.mm_session.proofs.Below.{total_of, LostLife, life_of, StandsFor, IsGenuine, IsRight, issued_bytes, Answer, BatchAnswer, Refusal}
 use Rattle.mm_session.proofs.Below.{answer_on, IsWithin, right_content, whole, whole_in, IsIdle, right_is, one_content, StepsOn, Pending}
-use Rattle.mm_session.proofs.Below.{AreAskedInTurn, answered_to, offered_after, says_last, IsCall, RunsOver, answer_reply, Holds, Served}
-use Rattle.mm_session.proofs.Below.{lines_served, one_more, IsGrownBy, IsSame, Met, holds_issued, SessionFault, CallsOn}
+use Rattle.mm_session.proofs.Below.{AreAskedInTurn, answered_to, offered_after, IsCall, RunsOver, answer_reply, Holds, Served, lines_served}
+use Rattle.mm_session.proofs.Below.{one_more, IsGrownBy, IsSame, Met, holds_issued, SessionFault, CallsOn}
 use Rattle.std.proofs.lemmas.Slice.Eq.{bytes_eq-Decides}
 use Rattle.mm_model.specs.Fit.{IsFit}
 use Rattle.mm_call.specs.Coming.{Comes, kept, grown}
@@ -60,8 +60,7 @@ module _ {all others : List (List ℕ)} {asked : List Batch} {i : Instance} {fin
     -- the history after an answer, by what the offer says
     answered_flag : (content : Content) (flag : Bool) → IsRight i offer content → nat_eq content.position (total_of z.batches) ≡ flag
         → answered_to i z offer line ≡ (if flag then moved i z (Commit (One line)) else z)
-    answered_flag content flag right e =
-        ap (λ (b : Bool). if b then moved i z (Commit (One line)) else z) (ap (says_last z) (said_of i offer content right) ∙ e)
+    answered_flag content flag right e = rw (said_of i offer content right, e) refl
 
     grown_same : m.after.batches ≡ y.batches → IsGrownBy i y (Some (pending_for line)) m.after → IsSame i.variant m.after z
     grown_same same (inl e) = same_then i.variant m.after y z e s.same

@@ -3,7 +3,7 @@ use Rattle.mm_session.proofs.Below.{◌≡◌, ℕ, ◌≤◌, true, false, List
 use Rattle.mm_session.proofs.Below.{last_position, Variant, Basic, Opt, Item, Standing, IsLawful, Batch, One, Content, IsClear, IsContent}
 use Rattle.mm_session.proofs.Below.{Instance, History, Commit, first_history, moved, total_of, has_value, Digests, Names, issued, StandsFor}
 use Rattle.mm_session.proofs.Below.{BatchAnswer, Refusal, IsLedTo, CallsOn, AreAsked, AreShown, IsIdle, StandsAt, standing_items, bare}
-use Rattle.mm_session.proofs.Below.{Pending, Met, IsGrownBy, IsSame, AreNoGuards, ◌+◌, ◌-◌, Bool, ◌∷◌, arith, Meaning, requests_of, Answer}
+use Rattle.mm_session.proofs.Below.{Pending, Met, IsGrownBy, IsSame, AreNoGuards, ◌+◌, Bool, ◌∷◌, arith, Meaning, requests_of, Answer}
 use Rattle.mm_session.proofs.Below.{answer_on, whole, requests-push, said_last, StepsOn, RunsOver, answer_reply, Served, refl, inl, inr}
 use Rattle.mm_session.proofs.Below.{◌⊎◌, if◌then◌else◌, nat_eq, nat_tests, committed, Answered, history_then, told_first, IsAwaited}
 use Rattle.mm_session.proofs.Below.{one_more, ◌≢◌, ◌||◌, AllByRecursion, Contains, Entry, Own, Value, Spoiled, is_empty, are_own, life_by}
@@ -217,14 +217,10 @@ module _ {all others : List (List ℕ)} {asked : List Batch} {i : Instance} {fin
 
 -- Where no value of others counts, a history isn't spoiled.
 
-none_in : (others values : List (List ℕ)) → others ≡ [] → AllByRecursion (Contains others) values → values ≡ []
-none_in others [] e h = refl
-none_in others (v ∷ values) e h = let c : Contains [] v = rw e at h.0 in absurd (omega (arith, c.1))
-
-no_values : (entries : List Entry) → values_in entries ≡ [] → has_value entries ≡ false
-no_values [] e = refl
-no_values (Own b ∷ entries) e = no_values entries e
-no_values (Value v ∷ entries) e = absurd (cc)
+no_values : (entries : List Entry) → AllByRecursion (Contains []) (values_in entries) → has_value entries ≡ false
+no_values [] h = refl
+no_values (Own b ∷ entries) h = no_values entries h
+no_values (Value v ∷ entries) h = absurd (omega (arith, h.0.1))
 
 neither : (a b : Bool) → (a || b) ≡ false → (a ≡ false) × (b ≡ false)
 neither a b e = (grind (arith, e), grind (arith, e))
@@ -247,9 +243,8 @@ pub unspoiled : (variant : Variant) (others : List (List ℕ)) (y : History) →
     → life_of variant y ≢ Spoiled
 unspoiled Basic others y led outside e = λ same. cc
 unspoiled Opt others y sound outside e =
-    let none : has_value (counting y) ≡ false = no_values (counting y) (none_in others (values_in (counting y)) e outside) in
-    let both = neither (has_value (joined y.closed)) (has_value (if y.is_open then y.items else []))
-    (sym (has_value-append (joined y.closed) (if y.is_open then y.items else [])) ∙ none) in
+    let none : has_value (counting y) ≡ false = no_values (counting y) (rw e at outside) in
+    let both = neither _ _ (sym (has_value-append (joined y.closed) (if y.is_open then y.items else [])) ∙ none) in
     not_spoiled y.is_open (is_empty y.items) (are_own y.items y.current) (has_value (joined y.closed)) both.0
     (λ is. own_or_bare y (sound.register is) (ap (λ (f : Bool). has_value (if f then y.items else [])) (sym is) ∙ both.1))
 

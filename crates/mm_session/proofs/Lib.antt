@@ -11,4 +11,3 @@ mod InTurn
 mod LineStep
 mod SessionRuns
 mod RunningOnce
-mod Looking

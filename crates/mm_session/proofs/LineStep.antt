@@ -12,6 +12,7 @@ use Rattle.mm_session.proofs.Below.{refusal_told, RunsOver, told_first, [], IsGr
 use Rattle.mm_session.proofs.Below.{Commit, sealed_once, last_position, total-nil, one_content, IsSame, ◌≤◌}
 use Rattle.mm_store.specs.declared.fault.StoreFault.TheVariants as fault
 use Rattle.mm_host.specs.declared.fault.HostFault.TheVariants as host
+use Rattle.mm_session.proofs.Lines.{never_stored}
 use Rattle.mm_session.proofs.Leading.{answered_first, grown_more, grown_then, IsLike, Laws, Makes, met_on, Reaches, same_pending, Shows}
 use Rattle.mm_session.proofs.Putting.{IsNext, IsPut, fits_next, put_next, torn_fits, waits_next}
 
@@ -264,39 +265,39 @@ module _ {all others : List (List ℕ)} {asked : List Batch} {i : Instance} {fin
         can.told g.goes
 
     -- the record isn't written whole
-    unwritten : (new : StoreStanding) (slots : Slots) (why : HostFault) → ((w : Refusal) → why ≡ host.Refused w → ⊥) → final ≡ at.platform
-        → new.is_honest ≡ true → new.slots ≡ Some slots → (IsNotBeyond slots (total_of y.batches + 1) → FitsHistory i slots y)
-        → (why ≢ host.Store → FitsHistory i slots y) → CameTo all others asked i y (Some next) final new (Err why)
-    unwritten new slots why none same honest told fits whole = record {
+    unwritten : (why : StoreFault) (middle new : StoreStanding) (came : Result Resumed HostFault) (slots : Slots)
+        → middle.is_honest ≡ at.store.is_honest → (final ≡ at.platform) × (new ≡ middle) × (came ≡ Err (store_fault_as why))
+        → middle.slots ≡ Some slots → (IsNotBeyond slots (total_of y.batches + 1) → FitsHistory i slots y)
+        → (store_fault_as why ≢ host.Store → FitsHistory i slots y) → CameTo all others asked i y (Some next) final new came
+    unwritten why middle new came slots honest g told fits whole = rw (g.2, g.1) (record {
       after = y;
-      stands = rw same settled.stands;
+      stands = rw g.0 settled.stands;
       within = settled.within;
       slots_after = slots;
-      honest = honest;
+      honest = honest ∙ settled.honest;
       told = told;
       fits = fits;
-      whole = λ n. whole (λ (e : why ≡ host.Store). n (ap (λ (f : HostFault). Err f) e));
+      whole = λ n. whole (λ e. n (ap (λ (f : HostFault). Err f) e));
       grown = inl refl;
       only = inl refl;
-      refuses = λ w e. absurd (none w (cc));
+      refuses = λ w e. absurd (never_stored why w (cc));
       powered = λ h. h;
-    }
+    })
 
     -- the last line
     pub line_last : (recorded : Result Unit StoreFault) (middle new : StoreStanding) (came : Result Resumed HostFault)
         → WritesSlot slot (pending_spelling next) at.store middle recorded
         → AfterRecord i.variant i.meaning at.platform final recorded middle new at.last line came
         → CameTo all others asked i y (Some next) final new came
-    line_last (Err fault.Memory) middle new came w g = rw g.2 (unwritten new settled.slots_after host.Memory (λ x e. cc) g.0
-        (ap (λ (k : StoreStanding). k.is_honest) g.1 ∙ w.honest ∙ settled.honest)
-        (ap (λ (k : StoreStanding). k.slots) g.1 ∙ w.leaves settled.honest ∙ settled.told) (λ n. settled.fits) (λ n. settled.fits))
+    line_last (Err fault.Memory) middle new came w g =
+        unwritten fault.Memory middle new came settled.slots_after w.honest g (w.leaves settled.honest ∙ settled.told) (λ n. settled.fits)
+        (λ n. settled.fits)
     line_last (Err fault.Failed) middle new came w g =
         let left = w.leaves settled.honest in
-        rw g.2 (unwritten new (put left.0) host.Store (λ x e. cc) g.0
-        (ap (λ (k : StoreStanding). k.is_honest) g.1 ∙ w.honest ∙ settled.honest)
-        (ap (λ (k : StoreStanding). k.slots) g.1 ∙ left.1 ∙ ap (λ (x : Option Slots). putting slot left.0 x) settled.told)
-        (torn_fits i y settled.slots_after (put left.0) position left.0 settled.fits recorded settled.at_end holds_newest
-        (is_put left.0)) (λ n. absurd (n refl)))
+        unwritten fault.Failed middle new came (put left.0) w.honest g
+        (left.1 ∙ ap (λ (x : Option Slots). putting slot left.0 x) settled.told)
+        (torn_fits i y settled.slots_after (put left.0) position left.0 settled.fits recorded settled.at_end holds_newest (is_put left.0))
+        (λ n. absurd (n refl))
     line_last (Ok it) middle new came w g =
         came_by (Some next) came (recovered NoMore final middle new came it
         (λ offer call told m. (laws.met_last y at.platform offer next (whole_in call) m (shows_on s.may), tt)) w g).0

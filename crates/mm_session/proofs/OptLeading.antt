@@ -1,9 +1,9 @@
 -- What the calls of a session lead to in Opt.
 use Rattle.mm_session.proofs.Below.{◌≡◌, ℕ, Bool, true, false, List, [], ◌∷◌, ◌++◌, length, refl, sym, ap, ◌∙◌, inl, inr, append-nil}
-use Rattle.mm_session.proofs.Below.{zero_bytes, Opt, Meaning, Batch, InBasic, InOpt, Instance, opt, Entry, Own, Value, History}
-use Rattle.mm_session.proofs.Below.{first_history, has_value, is_empty, IsPoint, at_anchor, in_closed, in_current, IsPlaceOf, anchor_after}
-use Rattle.mm_session.proofs.Below.{issued, digest_of, IsSound, batches_in, has_value-append, bare, ◌+◌, Some, Result, Ok, append_assoc}
-use Rattle.mm_session.proofs.Below.{arith, append_cancel_right, Item, Standing, IsLawful, One, Commit, moved, register_value_of, total_of}
+use Rattle.mm_session.proofs.Below.{zero_bytes, Opt, Meaning, Batch, InBasic, InOpt, Instance, opt, Entry, History, first_history}
+use Rattle.mm_session.proofs.Below.{has_value, is_empty, IsPoint, at_anchor, in_closed, in_current, IsPlaceOf, anchor_after, issued}
+use Rattle.mm_session.proofs.Below.{digest_of, IsSound, batches_in, has_value-append, bare, ◌+◌, Some, Result, Ok, append_assoc, arith}
+use Rattle.mm_session.proofs.Below.{append_cancel_right, Item, Standing, IsLawful, One, Commit, moved, register_value_of, total_of}
 use Rattle.mm_session.proofs.Below.{BatchAnswer, Refusal, counted_part, CallsOn, found_at, by_digests, all_made, shown, standing_items}
 use Rattle.mm_session.proofs.Below.{counted_open, asks, Alike, still, grown_by, alike_commit, clean_open, issued_alike, names_after, opened}
 use Rattle.mm_session.proofs.Below.{same_closed, issued_content, answered_at, Hands, hands, IsClear, AreNoGuards, flag_kept, pushed_open}
@@ -12,6 +12,7 @@ use Rattle.mm_session.proofs.Below.{not_lost}
 use Rattle.mm_seal.specs.declared.snapshot.Place.{Place}
 use Rattle.mm_model.specs.History.{joined}
 use Rattle.mm_model.specs.ListLaws.{each_left}
+use Rattle.mm_model.specs.HistoryLaws.{length-batches_in}
 use Rattle.mm_model.specs.SegmentLaws.{no_segments}
 use Rattle.std.specs.Option.{option_map}
 use Rattle.mm_model.specs.Steps.{Step}
@@ -20,11 +21,6 @@ use Rattle.mm_call.specs.Courses.{walk, closes}
 use Rattle.mm_call.specs.FoundWords.{found_unless_wanting, is_fresh}
 use Rattle.mm_call.specs.AlongLaws.{opt_closes}
 use Rattle.mm_session.proofs.Leading.{Laws, Makes, names_none, push_batches, Reaches, ShowsAt}
-
-no_entries : (entries : List Entry) → has_value entries ≡ false → batches_in entries ≡ [] → length entries ≡ 0
-no_entries [] clean e = refl
-no_entries (Own b ∷ entries) clean e = absurd (cc)
-no_entries (Value v ∷ entries) clean e = absurd (cc)
 
 none_of : {A : Type 0} (xs ys : List A) → xs ++ ys ≡ [] → (xs ≡ []) × (ys ≡ [])
 none_of [] ys e = (refl, e)
@@ -47,7 +43,8 @@ clean_batches y sound clean =
 pub opt_begins : (y : History) → IsSound y → y.batches ≡ [] → has_value (joined y.closed) ≡ false → bare y ≡ bare first_history
 opt_begins y sound none clean =
     let both = none_of (batches_in (joined y.closed)) y.current (sym (clean_batches y sound clean) ∙ none) in
-    let closed : y.closed ≡ [] = no_segments y.closed sound.filled (no_entries (joined y.closed) clean both.0) in
+    let closed : y.closed ≡ [] = no_segments y.closed sound.filled
+    (sym (length-batches_in (joined y.closed) clean) ∙ ap (λ (bs : List Batch). length bs) both.0) in
     let shut : y.is_open ≡ false = sound.shut_is (ap is_empty both.1) in
     λ j. record { batches = none j; closed = closed j; current = both.1 j; is_open = shut j; items = [] }
 

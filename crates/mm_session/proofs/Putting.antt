@@ -1,8 +1,8 @@
 -- What waits, and what fits, once the record of a next request was written, whole or torn.
-use Rattle.mm_session.proofs.Below.{◌≡◌, ◌∙◌, ◌+◌, ◌-◌, ◌%◌, ◌<◌, ◌≤◌, ℕ, Bool, true, false, List, take, Option, None, Some, refl, sym, ap}
-use Rattle.mm_session.proofs.Below.{inl, inr, arith, ◌⊎◌, nat_le, if◌then◌else◌, nat_tests, MayGrow, last_position, longest_request}
-use Rattle.mm_session.proofs.Below.{Instance, History, total_of, Pending, ReadsPending, pending_spelling, Slots, longest_slot, slot_read}
-use Rattle.mm_session.proofs.Below.{with_slot, one_reading, IsNotBeyond, waiting_position, FitsHistory, FitsBy, Holds, IsWaiting, later}
+use Rattle.mm_session.proofs.Below.{◌≡◌, ◌∙◌, ◌+◌, ◌-◌, ◌%◌, ◌<◌, ◌≤◌, ℕ, List, take, Option, None, Some, refl, sym, ap, inl, inr, arith}
+use Rattle.mm_session.proofs.Below.{◌⊎◌, nat_tests, MayGrow, last_position, longest_request, Instance, History, total_of}
+use Rattle.mm_session.proofs.Below.{Pending, ReadsPending, pending_spelling, Slots, longest_slot, slot_read, with_slot, one_reading}
+use Rattle.mm_session.proofs.Below.{IsNotBeyond, waiting_position, FitsHistory, FitsBy, Holds, IsWaiting, later}
 use Rattle.std.proofs.lemmas.Bool.{cases_lt}
 use Rattle.mm_store.proofs.Above.{slot_in-with_slot}
 
@@ -37,14 +37,6 @@ record IsLater (a b w : Option Pending) : Type 0 where
   over_first : waiting_position a ≤ waiting_position w
   over_second : waiting_position b ≤ waiting_position w
 
-later_by : (t : Bool) (p q : Pending) → nat_le q.position p.position ≡ t → IsLater (Some p) (Some q) (if t then Some p else Some q)
-later_by true p q e =
-    let h : q.position ≤ p.position = grind (arith, nat_tests, e) in
-    record { is = inl refl; over_first = omega arith; over_second = h }
-later_by false p q e =
-    let h : p.position < q.position = grind (arith, nat_tests, e) in
-    record { is = inr refl; over_first = omega (arith, h); over_second = omega arith }
-
 later_swap : (a b w : Option Pending) → IsLater a b w → IsLater b a w
 later_swap a b w l =
     record { is = elim l.is [ inl e ↦ inr e | inr e ↦ inl e ]; over_first = l.over_second; over_second = l.over_first }
@@ -52,7 +44,7 @@ later_swap a b w l =
 later_is : (a b : Option Pending) → IsLater a b (later a b)
 later_is None b = record { is = inr refl; over_first = omega arith; over_second = omega arith }
 later_is (Some p) None = record { is = inl refl; over_first = omega arith; over_second = omega arith }
-later_is (Some p) (Some q) = later_by (nat_le q.position p.position) p q refl
+later_is (Some p) (Some q) = grind (arith, nat_tests)
 
 later_only : (a b w : Option Pending) → IsLater a b w → waiting_position a < waiting_position b → b ≡ w
 later_only a b w l h = elim l.is [ inl e ↦ absurd (omega (arith, h, l.over_second, ap waiting_position e)) | inr e ↦ sym e ]

@@ -3,7 +3,7 @@ use Rattle.mm_session.proofs.Below.{◌≡◌, ◌≢◌, ◌∙◌, ℕ, List, 
 use Rattle.mm_session.proofs.Below.{Standing, Batch, One, Instance, History, requests_of, Life, LostLife, life_of, requests-push}
 use Rattle.mm_session.proofs.Below.{StoreStanding, Pending, Refusal, HostFault, SessionFault, Host, Resumed, ContinuesTo, HasUntold}
 use Rattle.mm_session.proofs.Below.{MayBeUntold, RefusesAs, RunsOver, IsGrown, IsRefusedAs, MayHaveCommitted, SendsReply, comes_as}
-use Rattle.mm_session.proofs.Below.{reply_text, Place, Served, IsAtRest, ◌+◌, Ok, Commit, moved, Slots, Answered, history_then, FitsBy}
+use Rattle.mm_session.proofs.Below.{reply_text, Place, Served, IsAtRest, Ok, Commit, moved, Slots, Answered, history_then, FitsBy}
 use Rattle.mm_session.proofs.Below.{RecoversTo, record_for, Serves, lines_served, lines_of, Basic, Opt, Meaning, IsLawful, Variant, opt}
 use Rattle.mm_session.proofs.Below.{whole_in, unless_idle, slot_read, Answer, CanServe, SessionContinues, IsInHand, told_first, told_in}
 use Rattle.mm_session.proofs.Below.{offer_slot, AsksIdly, Resumes, Sessions, AfterResume, StopsAtOnce, NoMore, asked_at, left_by}
@@ -12,7 +12,7 @@ use Rattle.mm_session.specs.Sessions.{GoesOn}
 use Rattle.mm_host.specs.declared.fault.HostFault.TheVariants as host
 use Rattle.mm_session.proofs.CallsMade.{served_calls, InHand, lines_chain}
 use Rattle.mm_session.proofs.InTurn.{calls_reach, chain_reaches, ends_reach}
-use Rattle.mm_session.proofs.Leading.{basic_laws, Laws, Makes, met_end, Reaches, RunsOver-append, same_pending, same_self, Shows, unspoiled}
+use Rattle.mm_session.proofs.Leading.{basic_laws, Laws, Makes, Reaches, RunsOver-append, same_pending, same_self, Shows, unspoiled}
 use Rattle.mm_session.proofs.LineStep.{between_called, came_by, CameTo, IsBetween, IsReady, IsSettledAt, line_goes, line_last, MayServe}
 use Rattle.mm_session.proofs.LineStep.{ready_first, settled_by, went_first}
 use Rattle.mm_session.proofs.Lines.{by_told, IsByInput, by_end, IsRead, lines_in, next_line, read_of}

@@ -28,16 +28,7 @@ module _ {variant : Variant} {meaning : Meaning} {before platform : Standing} {o
     platform = platform;
     store = store;
     resumes = r;
-    goes = inl (
-      refl,
-      refl,
-      record {
-        fault = fault;
-        says = rw e at t.says;
-        stops = refl;
-        nothing = refl;
-      },
-    );
+    goes = inl (refl, refl, record { fault = fault; says = rw e at t.says; stops = refl; nothing = refl });
   }
 
   told_on : (came : Result Resumed HostFault) (first : Resumed) → SendsReply came t.sent (Ok first)

@@ -1,11 +1,11 @@
 -- What a session comes to whatever the slots hold: old ones that were put back, swapped or altered
 -- ones, ones that can't be read, records of requests that nobody made. What was told is one run of
 -- the module from the history that the platform stands for; a refusal is by the verdict.
-use Rattle.std.specs.Prelude.{◌≡◌, ◌≢◌, ℕ, Bool, false, List, [], ◌∷◌, ◌++◌, Option, None, Some, Result, Err, IsSome, nat_eq, if◌then◌else◌}
+use Rattle.std.specs.Prelude.{◌≡◌, ℕ, Bool, false, List, [], ◌∷◌, ◌++◌, Option, None, Some, Result, Err, IsSome, nat_eq, if◌then◌else◌}
 use Rattle.std.specs.Prelude.{◌⊎◌}
 use Rattle.std.specs.List.{Contains}
 use Rattle.mm_session.specs.Below.{lines_of, Variant, Basic, Opt, Content, Item, Standing, Batch, One, Meaning, History, Commit, moved}
-use Rattle.mm_session.specs.Below.{requests_of, total_of, Instance, basic, opt, Spoiled, LostLife, life_of, Within, IsClear, AreNoGuards}
+use Rattle.mm_session.specs.Below.{requests_of, total_of, Instance, basic, opt, Within, IsClear, AreNoGuards}
 use Rattle.mm_session.specs.Below.{StandsFor, IsGenuine, issued_bytes, Refusal, IsWithin, right_messages, found_at, right_content, by_lists}
 use Rattle.mm_session.specs.Below.{AreShown, IsIdle, fault_of, standing_items, StoreStanding, Pending, Slots, slot_read, first_offer}
 use Rattle.mm_session.specs.Below.{IsWaiting, Refused}
@@ -48,22 +48,6 @@ AsksNothingNew i y offer [] = y.is_open ≡ false
 AsksNothingNew i y offer (request ∷ []) = IsIdle i y offer (One request)
 AsksNothingNew i y offer (request ∷ next ∷ requests) = ⊥
 
--- What is asked where a session starts: the store tells its slots, and this waits in them; the
--- platform stands for the history; no two messages share a digest, and no value of others is the
--- guard of a request. And nobody else made a tag: if what is offered first is right, it names a
--- position of the history. Nothing else is asked of the slots or of the store.
-pub record MayStart (all others : List (List ℕ)) (asked : List Batch) (i : Instance) (y : History)
-    (slots : Slots) (standing : Standing)
-    (kept : StoreStanding) : Type 0 where
-  pub told : kept.slots ≡ Some slots
-  pub waiting : Option Pending
-  pub is_waiting : IsWaiting (slot_read slots 2) (slot_read slots 3) waiting
-  pub stands : StandsFor i standing y
-  pub clear : IsClear all
-  pub apart : AreNoGuards i.barrier others asked
-  pub within : IsWithin all others asked i y
-  pub genuine : IsGenuine i y (first_offer slots waiting)
-
 -- what waits, and then the lines
 abbrev pub requests_with : Option Pending → List (List ℕ) → List (List ℕ)
 requests_with None lines = lines
@@ -90,29 +74,42 @@ pub record IsRefusedFor (i : Instance) (after : History) (offer : List ℕ)
   pub judged : IsSome (fault_of why)
       ⊎ (found_at i (by_lists i) after (One request) offer ≡ Err why)
 
--- From a history: what was told is one run of the module, and a refusal is by the offer.
-pub record EndsRun (all others : List (List ℕ)) (asked : List Batch) (i : Instance) (y : History)
-    (offer : List ℕ) (standing : Standing) (told : List Served) (hand : List ℕ → Type 0)
-    (result : Result Unit SessionFault) : Type 0 where
-  pub runs : RunsTo all others asked i y standing told hand result
-  pub open runs use *
-  pub refuses : (why : Refusal) → result ≡ Err (Host (Refused why)) →
-      IsRefusedFor i runs.after (offered_after offer told) hand why
+module _ (all others : List (List ℕ)) (asked : List Batch) (i : Instance) (y : History) where
+  -- What is asked where a session starts: the store tells its slots, and this waits in them; the
+  -- platform stands for the history; no two messages share a digest, and no value of others is the
+  -- guard of a request. And nobody else made a tag: if what is offered first is right, it names a
+  -- position of the history. Nothing else is asked of the slots or of the store.
+  pub record MayStart (slots : Slots) (standing : Standing) (kept : StoreStanding) : Type 0 where
+    pub told : kept.slots ≡ Some slots
+    pub waiting : Option Pending
+    pub is_waiting : IsWaiting (slot_read slots 2) (slot_read slots 3) waiting
+    pub stands : StandsFor i standing y
+    pub clear : IsClear all
+    pub apart : AreNoGuards i.barrier others asked
+    pub within : IsWithin all others asked i y
+    pub genuine : IsGenuine i y (first_offer slots waiting)
 
--- Where these requests are what is asked of: each first part of what was told that is among them is
--- one run; and where all that were made are among them, so the session ends. All that were made are
--- among what waited and the lines of the input, where that tells its bytes.
-pub record RunsOnce (all others : List (List ℕ)) (asked : List Batch) (i : Instance) (y : History)
-    (slots : Slots) (waiting : Option Pending) (left : Option (List ℕ)) (standing : Standing)
-    (told : List Served) (hand : List ℕ → Type 0)
-    (requests : List (List ℕ)) (result : Result Unit SessionFault) : Type 0 where
-  pub fronts : (front behind : List Served) → told ≡ front ++ behind →
-      AreFirstOf (lines_served front) requests →
-      (after : List (List ℕ)) × RunsOver i.meaning (requests_of y.batches) front after
-  pub ends : AreAmong told hand requests →
-      EndsRun all others asked i y (first_offer slots waiting) standing told hand result
-  pub made : (input : List ℕ) → left ≡ Some input →
-      AreAmong told hand (requests_with waiting (lines_of input))
+  -- From a history: what was told is one run of the module, and a refusal is by the offer.
+  pub record EndsRun (offer : List ℕ) (standing : Standing) (told : List Served)
+      (hand : List ℕ → Type 0) (result : Result Unit SessionFault) : Type 0 where
+    pub runs : RunsTo all others asked i y standing told hand result
+    pub open runs use *
+    pub refuses : (why : Refusal) → result ≡ Err (Host (Refused why)) →
+        IsRefusedFor i runs.after (offered_after offer told) hand why
+
+  -- Where these requests are what is asked of: each first part of what was told that is among them
+  -- is one run; and where all that were made are among them, so the session ends. All that were made
+  -- are among what waited and the lines of the input, where that tells its bytes.
+  pub record RunsOnce (slots : Slots) (waiting : Option Pending) (left : Option (List ℕ))
+      (standing : Standing) (told : List Served) (hand : List ℕ → Type 0)
+      (requests : List (List ℕ)) (result : Result Unit SessionFault) : Type 0 where
+    pub fronts : (front behind : List Served) → told ≡ front ++ behind →
+        AreFirstOf (lines_served front) requests →
+        (after : List (List ℕ)) × RunsOver i.meaning (requests_of y.batches) front after
+    pub ends : AreAmong told hand requests →
+        EndsRun (first_offer slots waiting) standing told hand result
+    pub made : (input : List ℕ) → left ≡ Some input →
+        AreAmong told hand (requests_with waiting (lines_of input))
 
 -- By whatever steps the session went, from every history that the platform stood for at entry, over
 -- any store that tells its slots where the session starts, honest or not. The premises are asked of

@@ -1,6 +1,6 @@
 -- What a session comes to by lists alone, in either variant: its replies are those of one run of
 -- the module, and the slots that it leaves fit the history that the platform stands for.
-use Rattle.std.specs.Prelude.{◌≡◌, ◌≢◌, ◌+◌, ◌-◌, ◌<◌, ◌≤◌, ℕ, List, [], ◌∷◌, ◌++◌, Option, None, Some, Result, Ok, Err, true, nat_eq}
+use Rattle.std.specs.Prelude.{◌≡◌, ◌≢◌, ◌+◌, ◌<◌, ◌≤◌, ℕ, List, [], ◌∷◌, ◌++◌, Option, None, Some, Result, Ok, Err, true, nat_eq}
 use Rattle.std.specs.Prelude.{if◌then◌else◌, ◌⊎◌}
 use Rattle.std.proofs.Common.{inl, inr}
 use Rattle.std.specs.List.{Contains}
@@ -29,14 +29,6 @@ abbrev pub history_then : Instance → History → Option Pending → History
 history_then i y None = first_history
 history_then i y (Some p) =
     if nat_eq p.position (total_of y.batches) then y else moved i y (Commit (One p.request))
-
--- What is asked of a session on these lines: what is asked of a recovery, and that the lines are to
--- follow it.
-pub record CanServe (all others : List (List ℕ)) (asked : List Batch) (i : Instance) (y : History)
-    (slots : Slots) (standing : Standing)
-    (kept : StoreStanding) (lines : List (List ℕ)) : Type 0 where
-  pub can : CanRecover all others asked i y slots standing kept
-  pub follow : AreToFollow all asked i (history_then i y can.fits.waiting) lines
 
 -- the position of what waits, and 0 where nothing does
 abbrev pub waiting_position : Option Pending → ℕ
@@ -101,37 +93,42 @@ pub record HasUntold (hand : List ℕ → Type 0) (result : Result Unit SessionF
   pub untold : MayBeUntold result
   pub grown : after ≡ requests ++ request ∷ []
 
--- From a history: what was told is one run of the module behind the history's requests. The
--- platform stands for a history of that run's requests, or of those and the one in hand. It isn't
--- spoiled where no value of others counts, nor lost where it wasn't before.
-pub record RunsTo (all others : List (List ℕ)) (asked : List Batch) (i : Instance) (y : History)
-    (standing : Standing) (told : List Served) (hand : List ℕ → Type 0)
-    (result : Result Unit SessionFault) : Type 0 where
-  pub after : History
-  pub stands : StandsFor i standing after
-  pub within : IsWithin all others asked i after
-  pub requests : List (List ℕ)
-  pub run : RunsOver i.meaning (requests_of y.batches) told requests
-  pub committed : (requests_of after.batches ≡ requests)
-      ⊎ HasUntold hand result requests (requests_of after.batches)
-  pub unspoiled : others ≡ [] → life_of i.variant after ≢ Spoiled
-  pub powered : life_of i.variant y ≢ LostLife → life_of i.variant after ≢ LostLife
+module _ (all others : List (List ℕ)) (asked : List Batch) (i : Instance) (y : History) where
+  -- What is asked of a session on these lines: what is asked of a recovery, and that the lines are to
+  -- follow it.
+  pub record CanServe (slots : Slots) (standing : Standing) (kept : StoreStanding)
+      (lines : List (List ℕ)) : Type 0 where
+    pub can : CanRecover all others asked i y slots standing kept
+    pub follow : AreToFollow all asked i (history_then i y can.fits.waiting) lines
 
--- The slots fit that history too, so that the session may be gone on with. A refusal is a device's
--- fault, or tells how that history has ended.
-pub record ContinuesTo (all others : List (List ℕ)) (asked : List Batch) (i : Instance)
-    (y : History) (standing : Standing)
-    (kept : StoreStanding)
-    (told : List Served) (hand : List ℕ → Type 0) (result : Result Unit SessionFault) : Type 0 where
-  pub runs : RunsTo all others asked i y standing told hand result
-  pub open runs use *
-  pub slots_after : Slots
-  pub honest : kept.is_honest ≡ true
-  pub slots_told : kept.slots ≡ Some slots_after
-  pub fits : IsNotBeyond slots_after (total_of runs.after.batches + 1) →
-      FitsHistory i slots_after runs.after
-  pub whole : result ≢ Err (Host Store) → FitsHistory i slots_after runs.after
-  pub refuses : RefusesAs result (life_of i.variant runs.after)
+  -- From a history: what was told is one run of the module behind the history's requests. The
+  -- platform stands for a history of that run's requests, or of those and the one in hand. It isn't
+  -- spoiled where no value of others counts, nor lost where it wasn't before.
+  pub record RunsTo (standing : Standing) (told : List Served) (hand : List ℕ → Type 0)
+      (result : Result Unit SessionFault) : Type 0 where
+    pub after : History
+    pub stands : StandsFor i standing after
+    pub within : IsWithin all others asked i after
+    pub requests : List (List ℕ)
+    pub run : RunsOver i.meaning (requests_of y.batches) told requests
+    pub committed : (requests_of after.batches ≡ requests)
+        ⊎ HasUntold hand result requests (requests_of after.batches)
+    pub unspoiled : others ≡ [] → life_of i.variant after ≢ Spoiled
+    pub powered : life_of i.variant y ≢ LostLife → life_of i.variant after ≢ LostLife
+
+  -- The slots fit that history too, so that the session may be gone on with. A refusal is a device's
+  -- fault, or tells how that history has ended.
+  pub record ContinuesTo (standing : Standing) (kept : StoreStanding) (told : List Served)
+      (hand : List ℕ → Type 0) (result : Result Unit SessionFault) : Type 0 where
+    pub runs : RunsTo standing told hand result
+    pub open runs use *
+    pub slots_after : Slots
+    pub honest : kept.is_honest ≡ true
+    pub slots_told : kept.slots ≡ Some slots_after
+    pub fits : IsNotBeyond slots_after (total_of runs.after.batches + 1) →
+        FitsHistory i slots_after runs.after
+    pub whole : result ≢ Err (Host Store) → FitsHistory i slots_after runs.after
+    pub refuses : RefusesAs result (life_of i.variant runs.after)
 
 -- Over an honest store and an input that tell what they hold: by whatever steps the session went,
 -- from every history. Over a platform of Basic under every key; over one of Opt under every key and

@@ -64,23 +64,6 @@ pub record Served : Type 0 where
   pub line : List ℕ
   pub answer : Answer
 
--- The line is asked and answered, and the session goes on.
-pub record ServesFirst (variant : Variant) (meaning : Meaning) (from : Place) (c : Served)
-    (goes : Place → Type 0) : Type 0 where
-  pub within : MayGrow longest_request c.line
-  pub platform : Standing
-  pub store : StoreStanding
-  pub asks : AsksNext variant meaning from.platform platform from.store store from.last c.line
-      (Ok (Answered c.answer))
-  pub rest : goes (record { platform = platform; store = store; last = Answered c.answer })
-
--- These lines are asked one after another, each with the snapshot of the answer before, and
--- answered so.
-abbrev pub Serves : Variant → Meaning → Place → List Served → Place → Type 0
-Serves variant meaning from [] to = to ≡ from
-Serves variant meaning from (c ∷ calls) to =
-    ServesFirst variant meaning from c (λ next. Serves variant meaning next calls to)
-
 -- the lines that were served, and what was written for them
 abbrev pub lines_served : List Served → List (List ℕ)
 lines_served [] = []
@@ -90,9 +73,6 @@ abbrev pub replies_to : List Served → List ℕ
 replies_to [] = []
 replies_to (c ∷ calls) =
     told_line c.answer.again c.answer.position c.answer.output ++ replies_to calls
-
--- A session: it goes on after a stop, and then answers each line of its input before it reads the
--- next.
 
 -- the most lines
 abbrev pub most_lines : ℕ
@@ -110,88 +90,10 @@ pub record BeginsWith (bytes line held : List ℕ) : Type 0 where
   pub cut : bytes ≡ line ++ 10 ∷ held
   pub within : MayGrow longest_request line
 
--- The line in hand is asked, and comes to a fault; or its reply isn't written whole.
-pub record StopsInLine (variant : Variant) (meaning : Meaning) (number : ℕ) (at : Place)
-    (after : Standing) (new : StoreStanding)
-    (more sent : List ℕ) (fault : SessionFault) : Type 0 where
-  pub line : List ℕ
-  pub held : List ℕ
-  pub begins : BeginsWith more line held
-  pub few : number ≤ most_lines
-  pub came : Result Resumed HostFault
-  pub asks : AsksNext variant meaning at.platform after at.store new at.last line came
-  pub says : SendsReply came sent (Err fault)
-
--- How a session stops, where the line of this number would be next, and `more` was taken of the
--- input behind the lines before it.
-abbrev pub Stops : Variant → Meaning → ℕ → Place → Standing → StoreStanding → Option (List ℕ)
-    → List ℕ → List ℕ → SessionFault → Type 0
--- the source failed before the line's LF
-Stops variant meaning number at after new left more sent (Lines ReadFault) =
-    IsAtRest at after new sent × MayGrow longest_request more
--- the input ended within the line
-Stops variant meaning number at after new left more sent (Lines (BadLine line)) =
-    IsAtRest at after new sent × (line ≡ number) × MayGrow longest_request more × (0 < length more)
-    × IsAtEnd left
--- more bytes came than a line may have
-Stops variant meaning number at after new left more sent (Lines (LineLong line)) =
-    IsAtRest at after new sent × (line ≡ number) × IsLong longest_request more
--- the line is one too many
-Stops variant meaning number at after new left more sent (Lines TooMuch) =
-    IsAtRest at after new sent × (number ≡ most_lines + 1) × (line : List ℕ) × (held : List ℕ)
-    × BeginsWith more line held
--- the host alone wants memory
-Stops variant meaning number at after new left more sent (Lines Memory) = ⊥
--- the line was asked
-Stops variant meaning number at after new left more sent fault =
-    StopsInLine variant meaning number at after new more sent fault
-
--- The line was answered, and the answer told.
-pub record ServesLine (variant : Variant) (meaning : Meaning) (number : ℕ) (at : Place)
-    (after : Standing) (new : StoreStanding)
-    (bytes held sent : List ℕ) (next : Resumed) : Type 0 where
-  pub line : List ℕ
-  pub begins : BeginsWith bytes line held
-  pub few : number ≤ most_lines
-  pub answer : Answer
-  pub answered : next ≡ Answered answer
-  pub asks : AsksNext variant meaning at.platform after at.store new at.last line
-      (Ok (Answered answer))
-  pub told : sent ≡ reply_text (Ok (Answered answer))
-
--- How a turn went, by its answer: `bytes` are those held before and those taken, and `held` those
--- held after. None: the input ended behind a whole line.
-abbrev pub ServedOn : Variant → Meaning → ℕ → Place → Standing → StoreStanding → Option (List ℕ)
-    → List ℕ → List ℕ → List ℕ
-    → Result (Option Resumed) SessionFault → Type 0
-ServedOn variant meaning number at after new left bytes held sent (Ok (Some next)) =
-    ServesLine variant meaning number at after new bytes held sent next
-ServedOn variant meaning number at after new left bytes held sent (Ok None) =
-    IsAtRest at after new sent × (bytes ≡ []) × IsAtEnd left
-ServedOn variant meaning number at after new left bytes held sent (Err fault) =
-    Stops variant meaning number at after new left bytes sent fault
-
 -- a session's end, as a turn answers it
 abbrev pub ended_as : Result Unit SessionFault → Result (Option Resumed) SessionFault
 ended_as (Ok _) = Ok None
 ended_as (Err fault) = Err fault
-
--- Some lines are served from where the session stands, of which the first would have this number,
--- and there it ends; `bytes` were held before or taken.
-pub record ServesLines (variant : Variant) (meaning : Meaning) (number : ℕ) (from : Place)
-    (after : Standing) (new : StoreStanding)
-    (left : Option (List ℕ))
-    (bytes sent : List ℕ) (result : Result Unit SessionFault) : Type 0 where
-  pub calls : List Served
-  pub few : length calls + number ≤ most_lines + 1
-  pub at : Place
-  pub serves : Serves variant meaning from calls at
-  pub more : List ℕ
-  pub last : List ℕ
-  pub took : bytes ≡ lines_joined (lines_served calls) ++ more
-  pub wrote : sent ≡ replies_to calls ++ last
-  pub ends : ServedOn variant meaning (length calls + number) at after new left more [] last
-      (ended_as result)
 
 -- What waited came to a fault, or its reply isn't written whole; no line is read.
 pub record StopsAtOnce (begun : Result Resumed HostFault) (taken sent : List ℕ)
@@ -201,34 +103,148 @@ pub record StopsAtOnce (begun : Result Resumed HostFault) (taken sent : List ℕ
   pub stops : result ≡ Err fault
   pub nothing : taken ≡ []
 
--- What waited is told, and the lines are served.
-pub record GoesOn (variant : Variant) (meaning : Meaning) (begun : Result Resumed HostFault)
-    (platform after : Standing)
-    (store new : StoreStanding)
-    (left : Option (List ℕ)) (taken sent : List ℕ) (result : Result Unit SessionFault) : Type 0
-  where
+module _ (variant : Variant) (meaning : Meaning) where
+  -- The line is asked and answered, and the session goes on.
+  pub record ServesFirst (from : Place) (c : Served) (goes : Place → Type 0) : Type 0 where
+    pub within : MayGrow longest_request c.line
+    pub platform : Standing
+    pub store : StoreStanding
+    pub asks : AsksNext variant meaning from.platform platform from.store store from.last c.line
+        (Ok (Answered c.answer))
+    pub rest : goes (record { platform = platform; store = store; last = Answered c.answer })
+
+  -- These lines are asked one after another, each with the snapshot of the answer before, and
+  -- answered so.
+  abbrev pub Serves : Place → List Served → Place → Type 0
+  Serves from [] to = to ≡ from
+  Serves from (c ∷ calls) to = ServesFirst from c (λ next. Serves next calls to)
+
+  -- The line of this number is asked, and what comes is told.
+  pub record AsksAndTells (at : Place) (after : Standing) (new : StoreStanding)
+      (received received' : Option (List ℕ)) (line : List ℕ)
+      (result : Result Resumed SessionFault) : Type 0 where
+    pub came : Result Resumed HostFault
+    pub asks : AsksNext variant meaning at.platform after at.store new at.last line came
+    pub tells : TellsReply came received received' result
+
+  -- One turn, where the line of this number would be next: it is read and served, or the session
+  -- ends.
+  module _ (number : ℕ) (at : Place) (after : Standing) (new : StoreStanding) where
+    -- The line in hand is asked, and comes to a fault; or its reply isn't written whole.
+    pub record StopsInLine (more sent : List ℕ) (fault : SessionFault) : Type 0 where
+      pub line : List ℕ
+      pub held : List ℕ
+      pub begins : BeginsWith more line held
+      pub few : number ≤ most_lines
+      pub came : Result Resumed HostFault
+      pub asks : AsksNext variant meaning at.platform after at.store new at.last line came
+      pub says : SendsReply came sent (Err fault)
+
+    -- How the session stops; `more` was taken of the input behind the lines before this one.
+    abbrev pub Stops : Option (List ℕ) → List ℕ → List ℕ → SessionFault → Type 0
+    -- the source failed before the line's LF
+    Stops left more sent (Lines ReadFault) =
+        IsAtRest at after new sent × MayGrow longest_request more
+    -- the input ended within the line
+    Stops left more sent (Lines (BadLine line)) =
+        IsAtRest at after new sent × (line ≡ number) × MayGrow longest_request more
+        × (0 < length more) × IsAtEnd left
+    -- more bytes came than a line may have
+    Stops left more sent (Lines (LineLong line)) =
+        IsAtRest at after new sent × (line ≡ number) × IsLong longest_request more
+    -- the line is one too many
+    Stops left more sent (Lines TooMuch) =
+        IsAtRest at after new sent × (number ≡ most_lines + 1) × (line : List ℕ) × (held : List ℕ)
+        × BeginsWith more line held
+    -- the host alone wants memory
+    Stops left more sent (Lines Memory) = ⊥
+    -- the line was asked
+    Stops left more sent fault = StopsInLine more sent fault
+
+    -- The line was answered, and the answer told.
+    pub record ServesLine (bytes held sent : List ℕ) (next : Resumed) : Type 0 where
+      pub line : List ℕ
+      pub begins : BeginsWith bytes line held
+      pub few : number ≤ most_lines
+      pub answer : Answer
+      pub answered : next ≡ Answered answer
+      pub asks : AsksNext variant meaning at.platform after at.store new at.last line
+          (Ok (Answered answer))
+      pub told : sent ≡ reply_text (Ok (Answered answer))
+
+    -- How the turn went, by its answer: `bytes` are those held before and those taken, and `held`
+    -- those held after. None: the input ended behind a whole line.
+    abbrev pub ServedOn : Option (List ℕ) → List ℕ → List ℕ → List ℕ
+        → Result (Option Resumed) SessionFault → Type 0
+    ServedOn left bytes held sent (Ok (Some next)) = ServesLine bytes held sent next
+    ServedOn left bytes held sent (Ok None) =
+        IsAtRest at after new sent × (bytes ≡ []) × IsAtEnd left
+    ServedOn left bytes held sent (Err fault) = Stops left bytes sent fault
+
+    -- What was sent in a turn, and how it went.
+    pub record Turns (left : Option (List ℕ)) (bytes held : List ℕ)
+        (received received' : Option (List ℕ))
+        (result : Result (Option Resumed) SessionFault) : Type 0 where
+      pub sent : List ℕ
+      pub appended : Appends received received' sent
+      pub went : ServedOn left bytes held sent result
+
+    pub record ServesNext (left left' : Option (List ℕ)) (held held' : List ℕ)
+        (received received' : Option (List ℕ))
+        (result : Result (Option Resumed) SessionFault) : Type 0 where
+      pub taken : List ℕ
+      pub consumed : Consumes left left' taken
+      pub turns : Turns left' (held ++ taken) held' received received' result
+
+  -- Some lines are served from where the session stands, of which the first would have this number,
+  -- and there it ends; `bytes` were held before or taken.
+  pub record ServesLines (number : ℕ) (from : Place) (after : Standing) (new : StoreStanding)
+      (left : Option (List ℕ)) (bytes sent : List ℕ)
+      (result : Result Unit SessionFault) : Type 0 where
+    pub calls : List Served
+    pub few : length calls + number ≤ most_lines + 1
+    pub at : Place
+    pub serves : Serves from calls at
+    pub more : List ℕ
+    pub last : List ℕ
+    pub took : bytes ≡ lines_joined (lines_served calls) ++ more
+    pub wrote : sent ≡ replies_to calls ++ last
+    pub ends : ServedOn (length calls + number) at after new left more [] last (ended_as result)
+
+  -- The lines of an input are served, where some bytes are held; with what was taken and written
+  -- for them.
+  pub record ServesInput (number : ℕ) (from : Place) (after : Standing) (new : StoreStanding)
+      (left left' : Option (List ℕ)) (held : List ℕ) (received received' : Option (List ℕ))
+      (result : Result Unit SessionFault) : Type 0 where
+    pub taken : List ℕ
+    pub sent : List ℕ
+    pub consumed : Consumes left left' taken
+    pub appended : Appends received received' sent
+    pub lines : ServesLines number from after new left' (held ++ taken) sent result
+
+  -- What waited is told, and the lines are served.
+  pub record GoesOn (begun : Result Resumed HostFault) (platform after : Standing)
+      (store new : StoreStanding) (left : Option (List ℕ)) (taken sent : List ℕ)
+      (result : Result Unit SessionFault) : Type 0 where
     pub first : Resumed
     pub begins : begun ≡ Ok first
     pub replies : List ℕ
     pub wrote : sent ≡ reply_text begun ++ replies
-    pub lines : ServesLines variant meaning 1
-        (record { platform = platform; store = store; last = first }) after new left taken replies
-        result
+    pub lines : ServesLines 1 (record { platform = platform; store = store; last = first }) after
+        new left taken replies result
 
--- It stops at once, or it goes on, as what waited came to.
-abbrev pub AfterResume : Variant → Meaning → Result Resumed HostFault → Standing → Standing
-    → StoreStanding → StoreStanding
-    → Option (List ℕ) → List ℕ
-    → List ℕ → Result Unit SessionFault → Type 0
-AfterResume variant meaning begun platform after store new left taken sent result =
-    ((after ≡ platform) × (new ≡ store) × StopsAtOnce begun taken sent result)
-    ⊎ GoesOn variant meaning begun platform after store new left taken sent result
+  -- It stops at once, or it goes on, as what waited came to.
+  abbrev pub AfterResume : Result Resumed HostFault → Standing → Standing → StoreStanding
+      → StoreStanding → Option (List ℕ) → List ℕ → List ℕ → Result Unit SessionFault → Type 0
+  AfterResume begun platform after store new left taken sent result =
+      ((after ≡ platform) × (new ≡ store) × StopsAtOnce begun taken sent result)
+      ⊎ GoesOn begun platform after store new left taken sent result
 
--- The call: these bytes were taken of the input, and those written.
-pub record Sessions (variant : Variant) (meaning : Meaning) (before after : Standing)
-    (old new : StoreStanding)
-    (left left' received received' : Option (List ℕ)) (result : Result Unit SessionFault) : Type 0
-  where
+  -- A session: it goes on after a stop, and then answers each line of its input before it reads the
+  -- next. These bytes were taken of the input, and those written.
+  pub record Sessions (before after : Standing) (old new : StoreStanding)
+      (left left' received received' : Option (List ℕ))
+      (result : Result Unit SessionFault) : Type 0 where
     pub taken : List ℕ
     pub sent : List ℕ
     pub consumed : Consumes left left' taken
@@ -237,45 +253,4 @@ pub record Sessions (variant : Variant) (meaning : Meaning) (before after : Stan
     pub platform : Standing
     pub store : StoreStanding
     pub resumes : Resumes variant meaning before platform old store begun
-    pub goes : AfterResume variant meaning begun platform after store new left' taken sent result
-
--- One turn of a session: a line is read and served, or it ends.
-
--- The line of this number is asked, and what comes is told.
-pub record AsksAndTells (variant : Variant) (meaning : Meaning) (at : Place) (after : Standing)
-    (new : StoreStanding)
-    (received received' : Option (List ℕ)) (line : List ℕ)
-    (result : Result Resumed SessionFault) : Type 0 where
-  pub came : Result Resumed HostFault
-  pub asks : AsksNext variant meaning at.platform after at.store new at.last line came
-  pub tells : TellsReply came received received' result
-
--- What was sent in a turn, and how it went.
-pub record Turns (variant : Variant) (meaning : Meaning) (number : ℕ) (at : Place)
-    (after : Standing) (new : StoreStanding)
-    (left : Option (List ℕ)) (bytes held : List ℕ) (received received' : Option (List ℕ))
-    (result : Result (Option Resumed) SessionFault) : Type 0 where
-  pub sent : List ℕ
-  pub appended : Appends received received' sent
-  pub went : ServedOn variant meaning number at after new left bytes held sent result
-
-pub record ServesNext (variant : Variant) (meaning : Meaning) (number : ℕ) (at : Place)
-    (after : Standing) (new : StoreStanding)
-    (left left' : Option (List ℕ)) (held held' : List ℕ) (received received' : Option (List ℕ))
-    (result : Result (Option Resumed) SessionFault) : Type 0 where
-  pub taken : List ℕ
-  pub consumed : Consumes left left' taken
-  pub turns : Turns variant meaning number at after new left' (held ++ taken) held' received
-      received' result
-
--- The lines of an input are served, of which the first would have this number, and some bytes are
--- held; with what was taken and written for them.
-pub record ServesInput (variant : Variant) (meaning : Meaning) (number : ℕ) (from : Place)
-    (after : Standing) (new : StoreStanding)
-    (left left' : Option (List ℕ)) (held : List ℕ) (received received' : Option (List ℕ))
-    (result : Result Unit SessionFault) : Type 0 where
-  pub taken : List ℕ
-  pub sent : List ℕ
-  pub consumed : Consumes left left' taken
-  pub appended : Appends received received' sent
-  pub lines : ServesLines variant meaning number from after new left' (held ++ taken) sent result
+    pub goes : AfterResume begun platform after store new left' taken sent result

@@ -1,4 +1,4 @@
-use Rattle.mm_play.proofs.TurnLemmas.{advanced_by_line, advanced_by_tail, advanced_by_long}
+use Rattle.mm_play.proofs.Turning.{advanced_by_line, advanced_by_tail, advanced_by_long}
 use Rattle.mm_play.proofs.lines.read_and_reply.Goals as goal
 
 pub returns-in-Ok-Line-clause-advances : goal.returns-in-Ok-Line-clause-advances

@@ -1,5 +1,5 @@
 use Rattle.mm_session.proofs.Counting.{session_counted, session_writes}
-use Rattle.mm_session.proofs.Looking.{session_runs_once}
+use Rattle.mm_session.proofs.RunningOnce.{session_runs_once}
 use Rattle.mm_session.proofs.SessionRuns.{continues}
 use Rattle.mm_session.proofs.Lines.{spares_lines}
 use Rattle.mm_session.proofs.serving.session.Goals as goal
