@@ -112,14 +112,15 @@ breaks_at stop now meddles made next on planned few at is =
       fails = fails_at stop (counted made) (next_number (stopped_step stop) next made (counted made) at is counts) (omega arith);
     }
 
--- the plan that stops behind the steps that were made, and what it leaves
+-- the plan that stops behind the next step, and what it leaves
 abbrev pub behind : List Meddle → ℕ → Plan
-behind meddles made = plan_by (stop_behind (made + 1)) meddles
+behind meddles next = plan_by (stop_behind next) meddles
 
-pub replans_behind : (now : Standing) (meddles : List Meddle) (made : ℕ) → now.is_on ≡ true
-    → now.plan ≡ Some (record (plan_by Quiet meddles) { at = made }) → made < 255
-    → Replans (behind meddles made) (plan_by Quiet meddles) made now
-replans_behind now meddles made on planned few = replans (behind meddles made) now meddles made on planned few (same_next meddles made)
+pub replans_behind : (now : Standing) (meddles : List Meddle) (made next : ℕ) → now.is_on ≡ true
+    → now.plan ≡ Some (record (plan_by Quiet meddles) { at = made }) → made < 255 → next ≡ made + 1
+    → Replans (behind meddles next) (plan_by Quiet meddles) made now
+replans_behind now meddles made next on planned few is =
+    rw is (replans (behind meddles (made + 1)) now meddles made on planned few (same_next meddles made))
 
 pub settled_under : (stop : Stop) (broken : Bool) (plan : Plan) (at : ℕ) (mid new : Standing) → SettlesPlan stop broken mid new
     → SettlesPlan stop broken (under plan at mid) new
