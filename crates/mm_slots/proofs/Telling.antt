@@ -256,22 +256,13 @@ answers_lines law lines written a = by_opened (opened lines written a.0 a.1)
     by_opened (inr (inr o)) = inr (answers_slots law lines written written a.0 unended o (sym (append-nil written)))
 
 -- the last lines need all header lines
-closes_none : (p : SlotsStage) (last : List ℕ) → p ≡ AtFirst → slots_closing p ≡ Some last → ⊥
-closes_none (AtHeads count headers) last is h = cc
-closes_none _ last is h = cc
-
-closes_heads : (p : SlotsStage) (last : List ℕ) (count : ℕ) (headers : List Header) → p ≡ AtHeads count headers
-    → slots_closing p ≡ Some last → ⊥
-closes_heads (AtHeads n hs) last count headers is h = cc
-closes_heads _ last count headers is h = cc
-
 answers_all : SlotsRun → (lines : List (List ℕ)) (written : List ℕ) → Finished slots_answer slots_closing AtFirst lines written
     → AnswersAll lines written
 answers_all law lines written f = by_opened (opened lines f.said f.next f.ran)
   where
     by_opened : Opened lines f.said f.next → AnswersAll lines written
-    by_opened (inl none) = absurd (closes_none f.next f.last none.2 f.closed)
-    by_opened (inr (inl h)) = absurd (closes_heads f.next f.last h.heading.count h.heading.headers h.stands f.closed)
+    by_opened (inl none) = let e : None ≡ Some f.last = ap slots_closing (sym none.2) ∙ f.closed in absurd (cc)
+    by_opened (inr (inl h)) = let e : None ≡ Some f.last = ap slots_closing (sym h.stands) ∙ f.closed in absurd (cc)
     by_opened (inr (inr o)) =
         let stands = behind playing (begun o.headers) o.others o.answers.events in
         answers_slots law lines f.said written f.next (end_lines 0) o (f.whole ∙ ap (λ (l : List ℕ). f.said ++ l)
