@@ -1,6 +1,6 @@
 -- The next step of a checkpoint, and a step that breaks it off.
-use Rattle.mm_steps.proofs.Below.{◌≡◌, ℕ, ◌+◌, ◌<◌, ◌≤◌, Bool, true, false, ◌&&◌, List, Option, None, Some, Result, Ok, Err, refl, sym, ap}
-use Rattle.mm_steps.proofs.Below.{◌∙◌, subst, arith, ◌==◌, option_map, counted, Variant, Failed, Meddle, Stop, Quiet, Fail, Plan, Standing}
+use Rattle.mm_steps.proofs.Below.{◌≡◌, ℕ, ◌+◌, ◌<◌, ◌≤◌, Bool, true, false, ◌&&◌, List, None, Some, Result, Ok, Err, refl, sym, ap}
+use Rattle.mm_steps.proofs.Below.{◌∙◌, subst, arith, ◌==◌, option_map, counted, Variant, Failed, Meddle, Stop, Quiet, Fail, Standing}
 use Rattle.mm_steps.proofs.Below.{stopping, quiet_plan, step_made, Meaning, Digests, instance_by, CheckpointStage, plan_by, under}
 use Rattle.mm_steps.proofs.Below.{closing_replanned, closing_moves, closing_then, closing_done, closing_refused, closing_fails}
 use Rattle.mm_steps.proofs.Below.{closing_faultless, goes_on, stopped_step, closes_at, SettlesPlan, told_closing, stops_in, Came, quiet_as}
@@ -13,7 +13,7 @@ use Rattle.mm_opt.specs.declared.segment.CheckpointRefusal.TheVariants as refusa
 use Rattle.mm_opt.specs.declared.stage.CheckpointStage.TheVariants as stage
 use Rattle.mm_opt.specs.declared.closing.CheckpointTurn.{CheckpointTurn}
 use Rattle.mm_opt.specs.declared.closing.CheckpointTurn.TheVariants as turn
-use Rattle.mm_opt.specs.Checkpoints.{closing_act_of, closing_number_of, closing_fault_of, closing_fault_in, FinishesClosing}
+use Rattle.mm_opt.specs.Checkpoints.{closing_act_of, closing_number_of, closing_fault_in, FinishesClosing}
 use Rattle.mm_opt.specs.CheckpointTurns.{closing_fault_turned, ClosingTurns}
 use Rattle.mm_opt.specs.ChecksOn.{ChecksOn}
 use Rattle.mm_schedule.specs.declared.reply.Reply.{Reply}

@@ -1,10 +1,10 @@
 -- The next step of a call that asks for a batch, and a step that breaks it off.
-use Rattle.mm_steps.proofs.Below.{◌≡◌, ℕ, ◌+◌, ◌<◌, ◌≤◌, Bool, true, false, List, Option, None, Some, Result, Ok, Err, refl, sym, ap, ◌∙◌}
+use Rattle.mm_steps.proofs.Below.{◌≡◌, ℕ, ◌+◌, ◌<◌, Bool, true, false, List, Option, None, Some, Result, Ok, Err, refl, sym, ap, ◌∙◌}
 use Rattle.mm_steps.proofs.Below.{subst, arith, MatchResult, IsErr, option_map, counted, Variant, StepFault, Failed, Meddle, Stop, Quiet}
-use Rattle.mm_steps.proofs.Below.{Fail, Plan, Standing, stopping, quiet_plan, step_made, Meaning, Batch, size_of, Digests, instance_by}
+use Rattle.mm_steps.proofs.Below.{Fail, Standing, stopping, quiet_plan, step_made, Meaning, Batch, size_of, Digests, instance_by}
 use Rattle.mm_steps.proofs.Below.{AskCall, ask_number, AskTurns, TurnMayAsk, AskFinishes, AdvancedAsk, plan_by, under, AlwaysFails, ask_act}
 use Rattle.mm_steps.proofs.Below.{ask_replanned, ask_moves, ask_then, ask_answers, ask_refuses, ask_fails, ask_faultless, ask_breaks}
-use Rattle.mm_steps.proofs.Below.{few_steps, goes_on, refused_call, answered_call, broken_as, stopped_step, RefusedAs, CalledAs}
+use Rattle.mm_steps.proofs.Below.{few_steps, goes_on, broken_as, stopped_step, RefusedAs, CalledAs}
 use Rattle.mm_steps.proofs.Below.{SettlesPlan, Came, Lacks, asks_planned, BreaksNext, is_nothing, stop_behind, asks_whole, asks_rest}
 use Rattle.mm_steps.proofs.Below.{AsksInFlight, asked_so, SteppedTo, MayStepOn, over_in, EndsAs}
 use Rattle.mm_base.specs.declared.fault.Memory.{Memory}
@@ -19,8 +19,7 @@ use Rattle.mm_call.specs.Ended.{CallsTo, is_broken, ended_with, refused_as}
 use Rattle.mm_call.specs.Refusals.{fault_of}
 use Rattle.mm_call.specs.Levels.{by_digests}
 use Rattle.mm_schedule.specs.declared.event.Offer.{Offer}
-use Rattle.mm_schedule.specs.declared.reply.Cause.{Cause}
-use Rattle.mm_run.specs.Folds.{asked, cause_of}
+use Rattle.mm_run.specs.Folds.{asked}
 use Rattle.mm_run.specs.Offered.{offered_bytes}
 use Rattle.mm_flight.specs.Asks.{ask_fault}
 use Rattle.mm_flight.specs.declared.ask.AskTurn.{AskTurn}
