@@ -17,7 +17,7 @@ use Rattle.mm_flight.proofs.Above.{may_ask_planned}
 use Rattle.mm_schedule.specs.declared.header.Header.{Header}
 use Rattle.mm_steps.specs.Stopping.{IsInFlight}
 use Rattle.mm_slots.specs.Held.{left_of, Loses, MayGoOn}
-use Rattle.mm_slots.proofs.Fitting.{settled, idle, mine_are, flight_of, plan_is, call_of}
+use Rattle.mm_slots.proofs.Fitting.{rests, idle, flight_of, plan_is, call_of}
 
 -- what is said by whether a call is in flight
 
@@ -111,23 +111,13 @@ extends_now old new slot slot' value fits none e h n c f k issued r =
     let at = idle old slot none fits in
     let after = made i d (Foreign value.bytes) in
     let there : Stands i new after = subst (λ (x : Standing). Stands i x after) (sym e) (stands_extended i d value.bytes old at.0) in
-    let mine = subst (λ (j : Instance). Stands j new after) (λ j. slot_instance (sym h j) (sym n j)) there in
     let quiet : IsQuiet new = subst IsQuiet (sym e) (record { is_on = at.1.is_on; plan = at.1.plan }) in
-    let idle' = f ∙ none in
-    let kept = k ∙ fits.kept ∙ ap (λ (x : List (List ℕ)). within_64 (sum_by length x)) (sym issued) in
-    let digests : digests_in new slot' ≡ after = mine_are new slot' after mine r ∙ (λ j. record after { count = c j }) in
+    let rest = rests new slot slot' after h n c (f ∙ none) k issued r fits.kept refl there quiet in
     comes_by new slot slot' (plays i s (Extend value.bytes)) (acted i s (action.Extend value)) (Replied reply.Extended)
     (sym (acts_idle old slot (action.Extend value) none))
     (record {
-      goes =
-          record {
-            fits = settled new slot' after idle' mine quiet r kept;
-            header = h;
-            number = n;
-            few = omega (arith, c);
-            short = omega (arith, ap length issued);
-          };
-      stands = λ j. record { digests = digests j; issued = issued j; flight = ap (flight_in (next_plan new)) idle' j };
+      goes = rest.0;
+      stands = λ j. record { digests = rest.1 j; issued = issued j; flight = ap (flight_in (next_plan new)) (f ∙ none) j };
       says = refl;
       sayable = tt;
     })
@@ -275,20 +265,11 @@ loses old new slot slot' fits e h n c none k issued r =
     ∙ emptied old.items slot'.register.bytes (sym (ap register_reads e) ∙ r) in
     let there : Stands i new after = stands_settled i d from new true at.1 (ap (λ (x : Standing). x.cell) e ∙ sym at.2)
     (items ∙ sym (items_told from d.register at.1.register)) in
-    let mine = subst (λ (j : Instance). Stands j new after) (λ j. slot_instance (sym h j) (sym n j)) there in
     let quiet : IsQuiet new = subst IsQuiet (sym e) (record { is_on = refl; plan = refl }) in
-    let kept = k ∙ fits.kept ∙ ap (λ (x : List (List ℕ)). within_64 (sum_by length x)) (sym issued) in
-    let digests : digests_in new slot' ≡ after = mine_are new slot' after mine r ∙ (λ j. record after { count = c j }) in
+    let rest = rests new slot slot' after h n c none k issued r fits.kept refl there quiet in
     record {
-      goes =
-          record {
-            fits = settled new slot' after none mine quiet r kept;
-            header = h;
-            number = n;
-            few = omega (arith, c);
-            short = omega (arith, ap length issued);
-          };
-      stands = λ j. record { digests = digests j; issued = issued j; flight = ap (flight_in (next_plan new)) none j };
+      goes = rest.0;
+      stands = λ j. record { digests = rest.1 j; issued = issued j; flight = ap (flight_in (next_plan new)) none j };
       same = c;
     }
 

@@ -25,7 +25,7 @@ use Rattle.mm_slots.specs.declared.event.Breaking.{Breaking}
 use Rattle.mm_slots.specs.declared.event.Breaking.TheVariants as breaking
 use Rattle.mm_slots.specs.declared.flight.Flight.TheVariants as code
 use Rattle.mm_call.specs.WalkLaws.{seen_none}
-use Rattle.mm_slots.proofs.Fitting.{mine_are, settled, over_comes, same_instance, flight_of, goes_planned, digests_kept, goes_comes, call_of}
+use Rattle.mm_slots.proofs.Fitting.{rests, over_comes, same_instance, flight_of, goes_planned, digests_kept, goes_comes, call_of}
 
 -- a call goes on
 flight_goes : (slot : CodeSlot) (before after : CodeFlight) (keys : Unit {0}) (old new : Standing) (step : ℕ)
@@ -214,20 +214,11 @@ ask_lacks slot slot' asking old new memory fits steps h n c none k issued r =
     steps slot.header.variant (rising_from slot.number) (rising_from (128 + slot.number)) d f.from slot.issued.items p.meddles (p.at + 1)
     asking.offer f.flies f.may.offered in
     let seen = has_read i d p.meddles (stop_behind (p.at + 1)) f.from new f.flies.stands l in
-    let stands = subst (λ (j : Instance). Stands j new seen.at) (sym (same_instance slot slot' h n)) seen.stands in
-    let digests : digests_in new slot' ≡ seen.at = mine_are new slot' seen.at stands r
-    ∙ (λ j. record (seen.at) { count = (c ∙ sym seen.counts) j }) in
+    let rest = rests new (flown slot (code.Asks asking)) slot' seen.at h n c none k issued r fits.kept seen.counts seen.stands l.quiet in
     record {
-      goes = record {
-        fits = settled new slot' seen.at none stands l.quiet r
-            (k ∙ fits.kept ∙ ap (λ (x : List (List ℕ)). within_64 (sum_by length x)) (sym issued));
-        header = h;
-        number = n;
-        few = omega (arith, c);
-        short = omega (arith, ap length issued);
-      };
+      goes = rest.0;
       cell = seen.cell ∙ sym f.flies.flies.cell;
-      stands = elim seen.which [ inl e ↦ inl (digests ∙ e) | inr e ↦ inr (digests ∙ e) ];
+      stands = elim seen.which [ inl e ↦ inl (rest.1 ∙ e) | inr e ↦ inr (rest.1 ∙ e) ];
       committed = c;
       issued = issued;
     }

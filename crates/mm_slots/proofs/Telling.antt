@@ -12,7 +12,7 @@ use Rattle.mm_play.specs.declared.player.Refused.TheVariants.{Much}
 use Rattle.mm_play.specs.Play.{told, run}
 use Rattle.mm_play.specs.Tells.{Answered, Finished, RefusesMuch}
 use Rattle.mm_slots.specs.Grammar.{first_at}
-use Rattle.mm_slots.specs.Counting.{length-push}
+use Rattle.std.proofs.Common.{length-append}
 use Rattle.mm_slots.specs.Stage.{begun}
 use Rattle.mm_slots.specs.Headline.{own_fold, AreOwn, AreContinuous, AreWithinLimits, AnswersSlots, unended, AnswersLines, AnswersAll, IsHeading, IsTooMuch}
 use Rattle.mm_slots.proofs.Fitting.{meaning_by}
@@ -98,7 +98,7 @@ headed_behind count before line lines number header written p true come room few
     heads_more count before line lines header written p is (on fewer h)
 headed_behind count before line lines number header written p false come room few is on h =
     let all = before ++ header ∷ [] in
-    let one : length all ≡ length before + 1 = length-push before header in
+    let one : length all ≡ length before + 1 = length-append before (header ∷ []) in
     let late : count ≤ length all = grind (arith, nat_tests) in
     let full : length all ≡ count = omega (arith, one, late, room) in
     heads_more count before line lines header written p is (inr (record {
