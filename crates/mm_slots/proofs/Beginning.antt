@@ -244,13 +244,10 @@ stood standing slot None none fits = let at = idle standing slot none fits in (s
 stood standing slot (Some flight) some fits =
     let f = call_of standing slot flight (some_flight standing slot flight some fits) in (f.from, f.flies.stands, sym f.flies.flies.cell)
 
-items_told : (from : Standing) (value : List ℕ) → register_reads from ≡ Some value → option_map none_left from.items ≡ Some []
-items_told from value e = by_items from.items e
-  where
-    by_items : (items : Option (List Item)) → option_map (λ xs. register_after (item_values xs)) items ≡ Some value
-        → option_map none_left items ≡ Some []
-    by_items None e = cc
-    by_items (Some xs) e = refl
+items_told : (items : Option (List Item)) (value : List ℕ) → option_map (λ xs. register_after (item_values xs)) items ≡ Some value
+    → option_map none_left items ≡ Some []
+items_told None value e = cc
+items_told (Some xs) value e = refl
 
 pub loses : (old new : Standing) (slot slot' : CodeSlot) → Fits old slot → new ≡ record (cycled old) { plan = Some quiet_plan }
     → slot'.header ≡ slot.header → slot'.number ≡ slot.number → slot'.committed ≡ slot.committed → slot'.flight ≡ None
@@ -264,7 +261,7 @@ loses old new slot slot' fits e h n c none k issued r =
     let items : new.items ≡ Some [] = ap (λ (x : Standing). x.items) e
     ∙ emptied old.items slot'.register.bytes (sym (ap register_reads e) ∙ r) in
     let there : Stands i new after = stands_settled i d from new true at.1 (ap (λ (x : Standing). x.cell) e ∙ sym at.2)
-    (items ∙ sym (items_told from d.register at.1.register)) in
+    (items ∙ sym (items_told from.items d.register at.1.register)) in
     let quiet : IsQuiet new = subst IsQuiet (sym e) (record { is_on = refl; plan = refl }) in
     let rest = rests new slot slot' after h n c none k issued r fits.kept refl there quiet in
     record {

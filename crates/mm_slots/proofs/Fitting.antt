@@ -34,8 +34,7 @@ settled standing slot d none s q r kept =
     let stands = subst (λ (x : Digests). Stands (instance_in slot) standing x) (sym (mine_are standing slot d s r))
     (counting (instance_in slot) d standing slot.committed s) in
     record {
-      flight = subst (λ (f : Option CodeFlight). FitsFlight slot.header slot.number (digests_in standing slot) slot.issued.items
-          (vec_capacity slot.issued) standing f) (sym none) (stands, q);
+      flight = rw none (stands, q);
       kept = kept;
     }
 
@@ -142,13 +141,11 @@ still_fits standing slot slot' none f k issued kept =
       count = k.committed j;
     }) in
     record {
-      flight = subst (λ (x : Option CodeFlight). FitsFlight slot'.header slot'.number (digests_in standing slot') slot'.issued.items
-          (vec_capacity slot'.issued) standing x)
-          (sym (k.flight ∙ none)) (
-            subst (λ (i : Instance). Stands i standing (digests_in standing slot')) (sym same)
-                (subst (λ (d : Digests). Stands (instance_in slot) standing d) (sym digests) at.0),
-            at.1,
-          );
+      flight = rw (k.flight ∙ none) (
+        subst (λ (i : Instance). Stands i standing (digests_in standing slot')) (sym same)
+            (subst (λ (d : Digests). Stands (instance_in slot) standing d) (sym digests) at.0),
+        at.1,
+      );
       kept = kept ∙ f.kept ∙ ap (λ (x : List (List ℕ)). within_64 (sum_by length x)) (sym issued);
     }
 
