@@ -1,13 +1,13 @@
 -- What begins a call in a slot, what is refused, a value of others, and a loss of power.
 use Rattle.mm_slots.proofs.Below.{◌≡◌, ◌∙◌, ◌+◌, ◌<◌, ℕ, true, false, List, [], length, Option, None, Some, IsSome, refl, sym, ap, subst}
-use Rattle.mm_slots.proofs.Below.{arith, vec_capacity, option_map, sum_by, One, meaning_of, Meddle, Quiet, Item, Plan, Standing, next_step}
-use Rattle.mm_slots.proofs.Below.{item_values, register_after, next_plan, quiet_plan, meddling, cycled, Instance, Foreign, PowerMove}
+use Rattle.mm_slots.proofs.Below.{arith, vec_capacity, option_map, One, meaning_of, Meddle, Quiet, Item, Plan, Standing, next_step}
+use Rattle.mm_slots.proofs.Below.{item_values, register_after, next_plan, quiet_plan, meddling, cycled, Foreign, PowerMove}
 use Rattle.mm_slots.proofs.Below.{is_long, Digests, made, register_reads, Extend, rising_from, offered_bytes, begun_call, plan_by, meddled}
 use Rattle.mm_slots.proofs.Below.{digest_in, flag_in, Stands, IsQuiet, extended_by, stands_extended, stands_settled, flight_takes_in}
 use Rattle.mm_slots.proofs.Below.{asks_begun, closes_begun, may_take_in, Action, Asking}
-use Rattle.mm_slots.proofs.Below.{Closing, CodeFlight, Said, Begun, Replied, CodeSlot, Turned, Asks, Closes, slot_instance, plays, merely}
+use Rattle.mm_slots.proofs.Below.{CodeFlight, Said, Begun, Replied, CodeSlot, Turned, Asks, plays, merely}
 use Rattle.mm_slots.proofs.Below.{flying, beginning, begun, acted, acted_by, joined, digests_in, slot_in, flight_in, call_in, instance_in}
-use Rattle.mm_slots.proofs.Below.{Fits, Comes, flown, HasRegister, within_64}
+use Rattle.mm_slots.proofs.Below.{Fits, Comes, flown, HasRegister}
 use Rattle.mm_digest.specs.declared.digest.Digest.{Digest}
 use Rattle.mm_schedule.specs.declared.reply.Reply.TheVariants as reply
 use Rattle.mm_opt.specs.declared.stage.CheckpointStage.TheVariants as stage

@@ -1,6 +1,6 @@
 -- One slot of many goes on, and the others stay.
 use Rattle.mm_slots.proofs.Below.{◌≡◌, ◌∙◌, ◌+◌, ◌≤◌, ◌<◌, ◌==◌, ℕ, zero, suc, Bool, true, false, cond, List, [], ◌∷◌, ◌++◌, length, get_or}
-use Rattle.mm_slots.proofs.Below.{slice_set, Option, Some, refl, sym, ap, subst, append-nil, arith, slice_get, Result, IfOk, OnErr, eq-eqb}
+use Rattle.mm_slots.proofs.Below.{slice_set, Option, Some, refl, sym, ap, append-nil, arith, slice_get, Result, IfOk, OnErr, eq-eqb}
 use Rattle.mm_slots.proofs.Below.{ne_eqb, eqb-true, nat_tests, if◌then◌else◌, Standing, CodeSlot, option_map_or, Action, Said, instance_in}
 use Rattle.mm_slots.proofs.Below.{slot_in, GoesOn, Comes, Lost, Slot, Turned, Met, Acts, Loses, acted, unpowered, Row, instance_of}
 use Rattle.mm_slots.proofs.Below.{row_after, by_place, row_in, rows_in, FitsWithin, AllFit, ActsAt, LosesAt, LosesUnless, LosesAll, Touches}

@@ -1,12 +1,12 @@
 -- The call in flight of a slot: its next step, a step that breaks it off, a value that comes, a loss of power.
-use Rattle.mm_slots.proofs.Below.{◌≡◌, ◌∙◌, ◌+◌, ◌^◌, ◌<◌, ℕ, Bool, true, false, cond, List, [], ◌∷◌, ◌++◌, map, length, None, Some, Ok, Err}
-use Rattle.mm_slots.proofs.Below.{refl, sym, ap, subst, arith, ◌⊎◌, inl, inr, sum_by, One, meaning_of, Meddle, Stop, Quiet, Plan, Standing}
+use Rattle.mm_slots.proofs.Below.{◌≡◌, ◌∙◌, ◌+◌, ◌^◌, ◌<◌, ℕ, Bool, true, false, cond, List, [], ◌∷◌, ◌++◌, map, None, Some, Ok, Err}
+use Rattle.mm_slots.proofs.Below.{refl, sym, ap, subst, ◌⊎◌, inl, inr, One, meaning_of, Meddle, Stop, Quiet, Plan, Standing}
 use Rattle.mm_slots.proofs.Below.{next_plan, cell_spelling, Instance, Move, Foreign, Digests, made, by_digests, all_made, cell_at}
 use Rattle.mm_slots.proofs.Below.{course_of, rising_from, ask_number, plan_by, Called, Lacks, quiet_as, Reply, Stands, is_nothing}
 use Rattle.mm_slots.proofs.Below.{stop_behind, StepsAs, BreaksAs, StepsClosingAs, BreaksClosingAs, Asking}
 use Rattle.mm_slots.proofs.Below.{Closing, CodeFlight, Said, Going, CodeSlot, Turned, outcome_in, plays, merely, flying, so_far, stepped}
-use Rattle.mm_slots.proofs.Below.{event_by, stop_at, digests_in, slot_in, call_in, instance_in, Fits, GoesOn, Wants, Comes, flown}
-use Rattle.mm_slots.proofs.Below.{HasRegister, within_64, EndsCall, count_none}
+use Rattle.mm_slots.proofs.Below.{event_by, stop_at, digests_in, slot_in, call_in, instance_in, Fits, Wants, Comes, flown}
+use Rattle.mm_slots.proofs.Below.{HasRegister, EndsCall, count_none}
 use Rattle.mm_base.specs.declared.fault.Memory.{Memory}
 use Rattle.mm_seal.specs.declared.cell.Cell.{Cell}
 use Rattle.mm_model.specs.Steps.{Step}
@@ -25,7 +25,7 @@ use Rattle.mm_slots.specs.declared.event.Breaking.{Breaking}
 use Rattle.mm_slots.specs.declared.event.Breaking.TheVariants as breaking
 use Rattle.mm_slots.specs.declared.flight.Flight.TheVariants as code
 use Rattle.mm_call.specs.WalkLaws.{seen_none}
-use Rattle.mm_slots.proofs.Fitting.{rests, over_comes, same_instance, flight_of, goes_planned, digests_kept, goes_comes, call_of}
+use Rattle.mm_slots.proofs.Fitting.{rests, over_comes, flight_of, goes_planned, digests_kept, goes_comes, call_of}
 
 -- a call goes on
 flight_goes : (slot : CodeSlot) (before after : CodeFlight) (keys : Unit {0}) (old new : Standing) (step : ℕ)

@@ -1,4 +1,4 @@
-use Rattle.mm_slots.proofs.Below.{ℕ, [], ◌+◌, ◌-◌, ◌^◌, get_or, slice_set, refl, sym, subst, arith, Standing, new_platform, Fits, Wants}
+use Rattle.mm_slots.proofs.Below.{ℕ, [], ◌+◌, ◌-◌, ◌^◌, get_or, slice_set, arith, new_platform, Wants}
 use Rattle.mm_slots.proofs.Below.{Comes, instance_in, slot_in, AllFit, ActsAt, acted}
 use Rattle.mm_slots.proofs.Rowing.{same_length, fit_at, acts_at, lacks_at, on_ok, on_err}
 use Rattle.mm_slots.proofs.rows.act_at.Goals as goal

@@ -1,5 +1,4 @@
-use Rattle.mm_slots.proofs.Below.{[], ◌^◌, get_or, refl, sym, subst, arith, Standing, new_platform, Fits}
-use Rattle.mm_slots.specs.Held.{Loses}
+use Rattle.mm_slots.proofs.Below.{[], ◌^◌, arith, new_platform}
 use Rattle.mm_slots.proofs.Rowing.{same_length, fit_at, loses_at}
 use Rattle.mm_slots.proofs.rows.lose_at.Goals as goal
 

@@ -1,4 +1,4 @@
-use Rattle.mm_slots.proofs.Below.{◌∙◌, ◌-◌, ◌^◌, ℕ, List, length, sym, ap, subst, arith, CodeSlot, AllFit, IsInside}
+use Rattle.mm_slots.proofs.Below.{◌∙◌, ◌-◌, ◌^◌, ℕ, List, length, sym, ap, subst, arith, CodeSlot, IsInside}
 use Rattle.mm_slots.proofs.Rowing.{all_more}
 use Rattle.mm_slots.proofs.Progressing.{sized}
 use Rattle.mm_slots.proofs.progress.Progress.play.Goals as goal

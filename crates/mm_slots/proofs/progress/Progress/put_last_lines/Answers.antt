@@ -1,4 +1,4 @@
-use Rattle.mm_slots.proofs.Below.{◌≡◌, ◌∙◌, ◌++◌, List, ℕ, sym, ap, subst, OnOk, most_events, CodeSlot, end_lines, Running, AreCounted}
+use Rattle.mm_slots.proofs.Below.{◌≡◌, ◌∙◌, ◌++◌, List, ℕ, ap, subst, OnOk, most_events, CodeSlot, end_lines, Running}
 use Rattle.mm_slots.proofs.Below.{ends_from}
 use Rattle.mm_slots.proofs.Rowing.{all_more}
 use Rattle.mm_slots.proofs.Totalling.{are_counted, ends_are}
