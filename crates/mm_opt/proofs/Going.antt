@@ -14,7 +14,8 @@ use Rattle.mm_call.proofs.Above as completing
 use Rattle.mm_opt.proofs.Acting.{room_only}
 use Rattle.mm_opt.proofs.Asking.{refused_first}
 use Rattle.mm_opt.proofs.Accepting.{AsFound, as_found}
-use Rattle.mm_opt.proofs.Stepping.{two_brought, seen_is, change_inside, change_emptied, change_placed, write_opened, reset_kept, placed_kept, seen_cell, read_is}
+use Rattle.mm_opt.proofs.Stepping.{two_brought, seen_is, change_inside, change_emptied, change_placed, write_opened, reset_kept}
+use Rattle.mm_opt.proofs.Stepping.{placed_kept, seen_cell, read_is}
 
 -- The steps that commit what was found
 

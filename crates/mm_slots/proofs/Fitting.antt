@@ -210,5 +210,6 @@ goes_comes slot before after keys old new step same planned fits number nothing 
 
 -- the slot fits its call in flight
 pub call_of : (standing : Standing) (slot : CodeSlot) (flight : CodeFlight) → Fits standing (flown slot flight)
-    → FitsCall slot.header slot.number (digests_in standing (flown slot flight)) slot.issued.items (vec_capacity slot.issued) standing flight
+    → FitsCall slot.header slot.number (digests_in standing (flown slot flight)) slot.issued.items (vec_capacity slot.issued)
+    standing flight
 call_of standing slot flight f = f.flight

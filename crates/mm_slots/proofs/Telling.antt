@@ -14,7 +14,8 @@ use Rattle.mm_play.specs.Tells.{Answered, Finished, RefusesMuch}
 use Rattle.mm_slots.specs.Grammar.{first_at}
 use Rattle.std.proofs.Common.{length-append}
 use Rattle.mm_slots.specs.Stage.{begun}
-use Rattle.mm_slots.specs.Headline.{own_fold, AreOwn, AreContinuous, AreWithinLimits, AnswersSlots, unended, AnswersLines, AnswersAll, IsHeading, IsTooMuch}
+use Rattle.mm_slots.specs.Headline.{own_fold, AreOwn, AreContinuous, AreWithinLimits, AnswersSlots, unended, AnswersLines, AnswersAll}
+use Rattle.mm_slots.specs.Headline.{IsHeading, IsTooMuch}
 use Rattle.mm_slots.proofs.Fitting.{meaning_by}
 use Rattle.mm_slots.proofs.Alone.{alone, by_place_get, bound, length-by_place, takes, follows}
 

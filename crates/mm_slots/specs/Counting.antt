@@ -7,7 +7,8 @@ use Rattle.mm_schedule.specs.declared.header.Header.{Header}
 use Rattle.mm_schedule.specs.Headers.{head_at}
 use Rattle.mm_play.specs.Counting.{begins_fewer, event_counts}
 use Rattle.mm_slots.specs.Grammar.{first_at}
-use Rattle.mm_slots.specs.Stage.{begun, playing, SlotsStage, AtFirst, AtHeads, InEvents, are_to_come, behind_heads, slots_answer, lines_left_at}
+use Rattle.mm_slots.specs.Stage.{begun, playing, SlotsStage, AtFirst, AtHeads, InEvents, are_to_come, behind_heads, slots_answer}
+use Rattle.mm_slots.specs.Stage.{lines_left_at}
 
 behind_counts : (count : ℕ) (headers : List Header) (before : ℕ) (more : Bool)
     → are_to_come count headers ≡ more → length headers ≡ before + 1

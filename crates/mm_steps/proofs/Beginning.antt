@@ -17,7 +17,8 @@ first_number variant.Basic = refl
 first_number variant.Opt = refl
 
 module _ (call : CallLeft) (i : Instance) (d : Digests) (from : Standing) where
-  flight_begun : Stands i from d → IsQuiet from → ((old new : Standing) (ended : call.Ends) → call.rest old new ended → call.whole old new ended)
+  flight_begun : Stands i from d → IsQuiet from
+      → ((old new : Standing) (ended : call.Ends) → call.rest old new ended → call.whole old new ended)
       → call.may from → call.number ≡ 1 → IsInFlight call i d from from [] 1
   flight_begun s q leads may first = record {
     stands = s;

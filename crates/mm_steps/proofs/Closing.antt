@@ -20,7 +20,8 @@ use Rattle.mm_schedule.specs.declared.reply.Reply.{Reply}
 use Rattle.mm_schedule.specs.declared.reply.Way.TheVariants as way
 use Rattle.mm_run.specs.FoldsWords.{stopped_reply}
 use Rattle.mm_steps.specs.declared.closings.SteppedClosing.TheVariants.{Going, Over}
-use Rattle.mm_steps.proofs.Stopping.{goes_as, fails_next, behind, replans_behind, settled_under, fewer, later_than, settled_behind, stopped_under}
+use Rattle.mm_steps.proofs.Stopping.{goes_as, fails_next, behind, replans_behind, settled_under, fewer, later_than, settled_behind}
+use Rattle.mm_steps.proofs.Stopping.{stopped_under}
 
 abbrev Said : Type 0
 Said = Result Checkpointed CheckpointRefusal
@@ -67,8 +68,8 @@ module _ (variant : Variant) (meaning : Meaning) (key barrier : List ℕ) (d : D
       → SteppedClosingTo variant meaning key barrier d from issued meddles next new (Over said)
   over_to new ended said none finishes e =
       let stop = stop_behind next in
-      let came = comes variant meaning key barrier d from call now meddles next f stop (under (behind meddles next) (counted f.made) mid) new
-      ended (omega (arith, f.is_next)) finishes
+      let came = comes variant meaning key barrier d from call now meddles next f stop
+      (under (behind meddles next) (counted f.made) mid) new ended (omega (arith, f.is_next)) finishes
       (settled_under stop (stops_in ended) (behind meddles next) (counted f.made) mid new e.settles) issued in
       (rw e.told came, ap (λ x. is_nothing x) (sym came.reply) ∙ something stop ended none)
 
@@ -107,8 +108,8 @@ module _ (variant : Variant) (meaning : Meaning) (key barrier : List ℕ) (d : D
       let last : Standing = step_made (closing_act_of call) at in let ended : Said = Err (refusal.Device Failed) in
       let finishes = closing_fails call at last Failed (fails_next (closing_act_of call) now meddles made f.flies.is_on f.flies.few) in
       let settled : Standing = record last { plan = Some quiet_plan } in
-      let came = comes variant meaning key barrier d from call now meddles next f stop last settled ended (omega arith) finishes (settled_behind made last)
-      issued in
+      let came = comes variant meaning key barrier d from call now meddles next f stop last settled ended (omega arith) finishes
+      (settled_behind made last) issued in
       let effect : closes_at stop ≡ false = no_effect (made + 1 == 3) in
       let nothing : is_nothing (told_closing stop ended) ≡ true = ap (λ (x : Bool). is_nothing (stopped_reply way.Fault x)) effect in
       let said : is_nothing (closed_so i d issued meddles stop).reply ≡ true = sym (ap (λ x. is_nothing x) came.reply) ∙ nothing in

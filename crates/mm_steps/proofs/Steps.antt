@@ -27,7 +27,8 @@ use Rattle.mm_flight.specs.declared.ask.AskTurn.TheVariants as turn
 use Rattle.mm_world.specs.declared.call.Called.{Called}
 use Rattle.mm_steps.specs.declared.asks.Stepped.{Stepped}
 use Rattle.mm_steps.specs.declared.asks.Stepped.TheVariants.{Going}
-use Rattle.mm_steps.proofs.Stopping.{goes_as, fails_next, always_fails, behind, replans_behind, settled_under, fewer, later_than, settled_behind, stopped_under}
+use Rattle.mm_steps.proofs.Stopping.{goes_as, fails_next, always_fails, behind, replans_behind, settled_under, fewer, later_than}
+use Rattle.mm_steps.proofs.Stopping.{settled_behind, stopped_under}
 
 -- what a call came to that was made whole by what ended it
 
@@ -170,8 +171,8 @@ module _ (variant : Variant) (meaning : Meaning) (key barrier : List ℕ) (d : D
       let came = comes variant meaning key barrier d from call now meddles next bytes b f short stop
       (under (behind meddles next) (counted f.made) mid) new ended size e.called (omega (arith, f.is_next)) finishes n
       (settled_under stop (is_broken ended) (behind meddles next) (counted f.made) mid new e.settles) e.told issued in
-      rw e.gives (over_gives variant meaning key barrier d from issued meddles next offer bytes b new size ended e.called e.called refl whole
-      e.told offered came)
+      rw e.gives (over_gives variant meaning key barrier d from issued meddles next offer bytes b new size ended e.called e.called refl
+      whole e.told offered came)
 
   pub ended_to : (new : Standing) (size number : ℕ) (it : Result BatchAnswer Refusal) (turned : AskTurn) (ended : Ended)
       (result : Result Stepped Memory) → size ≡ size_of b → number ≡ ask_number call → AdvancedAsk meaning call now mid bytes b turned
@@ -183,7 +184,8 @@ module _ (variant : Variant) (meaning : Meaning) (key barrier : List ℕ) (d : D
       let there = ask_replanned call meaning now mid bytes b (turn_of it) (behind meddles next) (plan_by Quiet meddles) f.made
       (replans_behind now meddles f.made next f.flies.is_on f.flies.planned f.flies.few f.is_next) here in
       over_to new size (ended_of it) result n (unbroken it none)
-      (ends_by it call meaning (under (behind meddles next) f.made now) (under (behind meddles next) (counted f.made) mid) bytes b none there)
+      (ends_by it call meaning (under (behind meddles next) f.made now) (under (behind meddles next) (counted f.made) mid) bytes b none
+      there)
       (subst (λ (k : ℕ). EndsAs (stop_behind k) size (ended_of it) mid new result) (at ∙ f.number ∙ sym f.is_next)
       (subst (λ (x : Ended). EndsAs (stop_behind number) size x mid new result) is ends))
 
