@@ -3,16 +3,16 @@ use Rattle.mm_opt.proofs.Below.{◌≡◌, ℕ, Bool, true, false, List, [], ◌
 use Rattle.mm_opt.proofs.Below.{subst}
 use Rattle.mm_opt.proofs.Below.{arith, ◌≤◌, ◌&&◌, is_some, IsSome, bytes_eq, fold, Variant, Basic, Opt, zero_bytes, extended_of}
 use Rattle.mm_opt.proofs.Below.{length-anchored_of, IsCell, cell_spelling, reads_cell-same, Cell, CellFault, Item, Standing, StepFault}
-use Rattle.mm_opt.proofs.Below.{Act, Goes, ReadCell, ReadRegister, WriteCell, Meaning, Batch, Long, Instance, opt, History, Close, Foreign}
-use Rattle.mm_opt.proofs.Below.{Digests, digests_of, StandsFor, Step, Writes, checkpoint_steps, Ended, Refused, Course, Fate, walk}
-use Rattle.mm_opt.proofs.Below.{closes, StaysOn, Closing, closing_of, closed_by, checkpointed, CheckpointsAgree, IsClosedWithin}
+use Rattle.mm_opt.proofs.Below.{Act, Goes, ReadCell, ReadRegister, WriteCell, Meaning, Long, Instance, opt, Close, Foreign}
+use Rattle.mm_opt.proofs.Below.{Digests, digests_of, Step, Writes, checkpoint_steps, Ended, Refused, Course, Fate, walk}
+use Rattle.mm_opt.proofs.Below.{closes, StaysOn, Closing, closing_of, closed_by, checkpointed, CheckpointsAgree}
 use Rattle.mm_opt.proofs.Below.{basic_checkpoints_agree, opt_checkpoints_agree, all_made, by_digests, by_lists, instance_by, cell_at}
 use Rattle.mm_opt.proofs.Below.{shown_by}
-use Rattle.mm_opt.proofs.Below.{StandsAt, stands_at, stands_for, agrees_is, is_agrees, reads_of, reads_beside, with_register, IsWrite}
+use Rattle.mm_opt.proofs.Below.{StandsAt, stands_at, stands_for, agrees_is, is_agrees, with_register, IsWrite}
 use Rattle.mm_opt.proofs.Below.{Trail}
 use Rattle.mm_opt.proofs.Below.{leads, stepped, trail_on, trail_fails, trail_last, told_by, begins_at, course_by, fate_of, Tale, tale_on}
 use Rattle.mm_opt.proofs.Below.{reading_tale, Checkpointed, CheckpointRefusal, Segment, Open, Shut, closing_fault_of, closing_fault_in}
-use Rattle.mm_opt.proofs.Below.{segment_by, segment_in, closed_cell, FindsSegment, Looks, Weighs, ClosesSegment, ChecksBy, ChecksFor}
+use Rattle.mm_opt.proofs.Below.{segment_by, segment_in, closed_cell, FindsSegment, Looks, Weighs, ClosesSegment, ChecksBy}
 use Rattle.mm_opt.proofs.Below.{ChecksOn, closing_told, opt_call}
 use Rattle.mm_model.specs.Steps.{Reads}
 use Rattle.mm_model.specs.declared.refusal.Refusal.TheVariants.{Device as Faulted}

@@ -4,7 +4,7 @@ use Rattle.mm_opt.proofs.Below.{subst, arith, fold, Opt, zero_bytes, extended_of
 use Rattle.mm_opt.proofs.Below.{Batch, normal, Cell, IsCell, guard, Instance, opt, Commit, Foreign, Placed, Reset, Digests, Step, Reading}
 use Rattle.mm_opt.proofs.Below.{Changes, Writes, ask_steps, is_long, BatchAnswer, Refusal, Ended, EndsTo, AsksTo, Calls, IsCallSoFar}
 use Rattle.mm_opt.proofs.Below.{CallsOn, Course, Fate, step_moves, refused_as, CallsTo, Accepted, accepted_at, accepted_in}
-use Rattle.mm_opt.proofs.Below.{is_fresh, all_made, by_digests, fault_of, fault_in, cell_at, StandsAt, reads_of, reads_beside}
+use Rattle.mm_opt.proofs.Below.{is_fresh, all_made, by_digests, fault_of, fault_in, cell_at, StandsAt}
 use Rattle.mm_opt.proofs.Below.{with_register, IsWrite, changing, asks, fate_of, ends_fates, tale_on, reading_tale, MakesAll, AsMade}
 use Rattle.mm_opt.proofs.Below.{Told, course_by, lacks_in, told_on, refused_reading, told_reading, sees, finds, opt_calls_agree}
 use Rattle.mm_opt.proofs.Below.{Found, Repeat, Inside, Opens, Opening, opened_cell, FindsCell, ReadsOwnCell, ReadsRegister}
