@@ -2,7 +2,8 @@
 use Rattle.mm_opt.proofs.Below.{◌≡◌, ℕ, List, Result, Ok, Err, refl, sym, subst, arith, result_err}
 use Rattle.mm_opt.proofs.Below.{StepFault, Standing, ResetRegister, ExtendRegister, Goes, blamed}
 use Rattle.mm_opt.proofs.Below.{Meaning, Batch, Cell, BatchAnswer, Refusal, Blames, Opening, Found, Inside, Opens}
-use Rattle.mm_opt.proofs.Below.{Checkpointed, CheckpointRefusal, Segment, Shut, Stage, MayGoOn, ReadsOwnCell, ReadsRegister, MakesRoom, closing_fault_in}
+use Rattle.mm_opt.proofs.Below.{Checkpointed, CheckpointRefusal, Segment, Shut, Stage, MayGoOn, ReadsOwnCell, ReadsRegister, MakesRoom}
+use Rattle.mm_opt.proofs.Below.{closing_fault_in}
 use Rattle.mm_opt.specs.declared.stage.Stage.TheVariants as stage
 use Rattle.mm_opt.specs.declared.stage.Change.TheVariants as change
 use Rattle.mm_opt.specs.declared.stage.CheckpointStage.{CheckpointStage}

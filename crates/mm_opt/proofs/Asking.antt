@@ -1,5 +1,6 @@
 -- The ends of a call: what holds of each holds of every call; so what a call leaves, and that each answer is fit.
-use Rattle.mm_opt.proofs.Below.{◌≡◌, ℕ, List, ◌++◌, None, Result, Ok, Err, sym, ap, ◌∙◌, subst, arith, Standing, ReadCell, ReadRegister, Goes}
+use Rattle.mm_opt.proofs.Below.{◌≡◌, ℕ, List, ◌++◌, None, Result, Ok, Err, sym, ap, ◌∙◌, subst, arith, Standing, ReadCell, ReadRegister}
+use Rattle.mm_opt.proofs.Below.{Goes}
 use Rattle.mm_opt.proofs.Below.{beside, Meaning, Batch, Cell, BatchAnswer, Refusal, Long, Ended, StepsTo, EndsTo, AsksTo, Calls, result_of}
 use Rattle.mm_opt.proofs.Below.{refused_as, each_call, ends_result, ends_untouched, IsUntouched, LeavesUntouched, read_untouched}
 use Rattle.mm_opt.proofs.Below.{same_untouched, Found, ReadsOwnCell, ReadsRegister, ReadsOn, acts_for, answer_in, opt_call}

@@ -21,7 +21,7 @@ pub use Rattle.mm_seal.specs.declared.cell.CellFault.TheVariants.{Blank, Cell as
 pub use Rattle.mm_seal.specs.declared.snapshot.PartsFault.{PartsFault}
 pub use Rattle.mm_seal.specs.declared.snapshot.PartsFault.TheVariants.{Form, Kind}
 pub use Rattle.mm_seal.specs.declared.snapshot.Place.TheVariants.{Basic as InBasic, Opt as InOpt}
-pub use Rattle.mm_platform.specs.Standing.{Item, item_values, own_item, Plan, register_after, Standing}
+pub use Rattle.mm_platform.specs.Standing.{Item, item_values, own_item, register_after, Standing}
 pub use Rattle.mm_platform.specs.Steps.{Act, beside, ExtendRegister, Goes, ReadCell, ReadRegister, ResetRegister, WriteCell}
 pub use Rattle.mm_platform.specs.Told.{next_plan}
 pub use Rattle.mm_platform.specs.declared.fault.StepFault.{StepFault}
@@ -42,7 +42,7 @@ pub use Rattle.mm_model.specs.declared.answer.BatchAnswer.{BatchAnswer}
 pub use Rattle.mm_model.specs.declared.refusal.Refusal.{Refusal}
 pub use Rattle.mm_model.specs.declared.refusal.Refusal.TheVariants.{Long}
 pub use Rattle.mm_model.specs.declared.verdict.Verdict.{Verdict}
-pub use Rattle.mm_model.specs.declared.verdict.Verdict.TheVariants.{Again, Fresh, Lost, Stale}
+pub use Rattle.mm_model.specs.declared.verdict.Verdict.TheVariants.{Again, Fresh}
 pub use Rattle.mm_call.specs.Called.{called, ended_by, given_for}
 pub use Rattle.mm_call.specs.Calls.{AsksTo, breaks_off, Calls, EndsTo, goes_on, IsCallSoFar, StepsTo}
 pub use Rattle.mm_call.specs.CallsOn.{CallsOn}
@@ -69,9 +69,9 @@ pub use Rattle.mm_call.specs.WalkLaws.{asks, changing, foreign_first, foreign_in
 pub use Rattle.mm_call.specs.declared.ended.Ended.{Ended}
 pub use Rattle.mm_call.specs.declared.ended.Ended.TheVariants.{Answered, Refused}
 pub use Rattle.mm_call.proofs.Above.{Accepts, agrees_is, answered_result, AsFound as AsMade, asked_for, basic_checkpoints_agree, before}
-pub use Rattle.mm_call.proofs.Above.{BlamesFor, calls_from, course_by, cut, each_call, ends_fates, ends_result, ends_untouched, fate_of}
-pub use Rattle.mm_call.proofs.Above.{finds, given_all, GoesTo, is_agrees, is_memory, lacks_in, life_bare, MakesAll, opt_calls_agree}
-pub use Rattle.mm_call.proofs.Above.{opt_checkpoints_agree, opt_tied, past, reading, reading_blamed}
+pub use Rattle.mm_call.proofs.Above.{BlamesFor, calls_from, course_by, each_call, ends_fates, ends_result, ends_untouched, fate_of}
+pub use Rattle.mm_call.proofs.Above.{finds, given_all, is_agrees, is_memory, lacks_in, life_bare, MakesAll, opt_calls_agree}
+pub use Rattle.mm_call.proofs.Above.{opt_checkpoints_agree, opt_tied, reading_blamed}
 pub use Rattle.mm_call.proofs.Above.{reading_tale, refused_reading, sees, sight_is, stands_at, stands_for, steps_blamed, steps_give, Tale}
 pub use Rattle.mm_call.proofs.Above.{tale_on, Told, told_on, told_reading, two_reads}
 pub use Rattle.mm_opt.specs.Answers.{answer_of, change_by, extension_after, extension_at, found_from, found_in, found_in_offer}
@@ -86,7 +86,7 @@ pub use Rattle.mm_opt.specs.Checkpoints.{LeavesStill, Looks, segment_by, segment
 pub use Rattle.mm_opt.specs.ChecksOn.{ChecksBy, ChecksFor, ChecksOn, closing_told}
 pub use Rattle.mm_opt.specs.Finishes.{acts_left, answer_left, Finishes}
 pub use Rattle.mm_opt.specs.Order.{batch_value, has_lost_power, verdict_at, verdict_of}
-pub use Rattle.mm_opt.specs.Seen.{cell_in, is_cell_of, is_opt, own_cell}
+pub use Rattle.mm_opt.specs.Seen.{cell_in, is_cell_of, own_cell}
 pub use Rattle.mm_opt.specs.Steps.{FindsCell, FindsIn, Makes, MakesRoom, MayGoOn, ReadsOwnCell, ReadsRegister}
 pub use Rattle.mm_opt.specs.declared.found.Found.{Found}
 pub use Rattle.mm_opt.specs.declared.found.Found.TheVariants.{Inside, Opens, Repeat}

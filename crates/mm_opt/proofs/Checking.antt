@@ -1,15 +1,18 @@
 -- A checkpoint over a platform goes by digests and by lists: the course that it took, and the trail of its steps.
-use Rattle.mm_opt.proofs.Below.{◌≡◌, ℕ, Bool, true, false, List, [], ◌∷◌, map, Option, None, Some, Result, Ok, Err, refl, sym, ap, ◌∙◌, subst}
+use Rattle.mm_opt.proofs.Below.{◌≡◌, ℕ, Bool, true, false, List, [], ◌∷◌, map, Option, None, Some, Result, Ok, Err, refl, sym, ap, ◌∙◌}
+use Rattle.mm_opt.proofs.Below.{subst}
 use Rattle.mm_opt.proofs.Below.{arith, ◌≤◌, ◌&&◌, is_some, IsSome, bytes_eq, fold, Variant, Basic, Opt, zero_bytes, extended_of}
 use Rattle.mm_opt.proofs.Below.{length-anchored_of, IsCell, cell_spelling, reads_cell-same, Cell, CellFault, Item, Standing, StepFault}
-use Rattle.mm_opt.proofs.Below.{Act, Goes, ReadCell, ReadRegister, WriteCell, Meaning, Batch, Long, Instance, opt, History, Close, Foreign}
-use Rattle.mm_opt.proofs.Below.{Digests, digests_of, StandsFor, Step, Writes, checkpoint_steps, Ended, Refused, Course, Fate, walk}
-use Rattle.mm_opt.proofs.Below.{closes, StaysOn, Closing, closing_of, closed_by, checkpointed, CheckpointsAgree, IsClosedWithin}
-use Rattle.mm_opt.proofs.Below.{basic_checkpoints_agree, opt_checkpoints_agree, all_made, by_digests, by_lists, instance_by, cell_at, shown_by}
-use Rattle.mm_opt.proofs.Below.{StandsAt, stands_at, stands_for, agrees_is, is_agrees, reads_of, reads_beside, with_register, IsWrite, Trail}
+use Rattle.mm_opt.proofs.Below.{Act, Goes, ReadCell, ReadRegister, WriteCell, Meaning, Long, Instance, opt, Close, Foreign}
+use Rattle.mm_opt.proofs.Below.{Digests, digests_of, Step, Writes, checkpoint_steps, Ended, Refused, Course, Fate, walk}
+use Rattle.mm_opt.proofs.Below.{closes, StaysOn, Closing, closing_of, closed_by, checkpointed, CheckpointsAgree}
+use Rattle.mm_opt.proofs.Below.{basic_checkpoints_agree, opt_checkpoints_agree, all_made, by_digests, by_lists, instance_by, cell_at}
+use Rattle.mm_opt.proofs.Below.{shown_by}
+use Rattle.mm_opt.proofs.Below.{StandsAt, stands_at, stands_for, agrees_is, is_agrees, with_register, IsWrite}
+use Rattle.mm_opt.proofs.Below.{Trail}
 use Rattle.mm_opt.proofs.Below.{leads, stepped, trail_on, trail_fails, trail_last, told_by, begins_at, course_by, fate_of, Tale, tale_on}
 use Rattle.mm_opt.proofs.Below.{reading_tale, Checkpointed, CheckpointRefusal, Segment, Open, Shut, closing_fault_of, closing_fault_in}
-use Rattle.mm_opt.proofs.Below.{segment_by, segment_in, closed_cell, FindsSegment, Looks, Weighs, ClosesSegment, ChecksBy, ChecksFor}
+use Rattle.mm_opt.proofs.Below.{segment_by, segment_in, closed_cell, FindsSegment, Looks, Weighs, ClosesSegment, ChecksBy}
 use Rattle.mm_opt.proofs.Below.{ChecksOn, closing_told, opt_call}
 use Rattle.mm_model.specs.Steps.{Reads}
 use Rattle.mm_model.specs.declared.refusal.Refusal.TheVariants.{Device as Faulted}
@@ -37,7 +40,8 @@ broken_if (Some fault) = refl
 
 last_tale : (fault : Option StepFault) (at : ℕ) → at ≤ 50 → (act : Act) (old new : Standing) (g : Goes act old new fault)
     → Tale (fate_of act old new fault g ∷ []) at old new (ended_as fault)
-last_tale None at few act old new g = reading_tale act old new new new at few refl opt_call (Err Long) (Refused Long) g few_acts (refl, refl)
+last_tale None at few act old new g =
+    reading_tale act old new new new at few refl opt_call (Err Long) (Refused Long) g few_acts (refl, refl)
 last_tale (Some fault) at few act old new g =
     reading_tale act old new new new at few refl opt_call (Err (Faulted fault)) (Broken fault None) g few_acts (refl, refl)
 
@@ -225,7 +229,8 @@ found_open : (old one new : Standing) (cell : Cell) (result : Result Checkpointe
     → cell ≡ cell_at (opt meaning key barrier) d
     → GoesBy (opt meaning key barrier) d (course_by fates old false) old new result) → GoesOn old new result fates
 found_open old one new cell result fates l goes Basic meaning key barrier d s =
-    let clash : Basic ≡ Opt = (seen_segment (instance_by Basic meaning key barrier) d old (Ok (Open cell)) (l.finds refl) s).0 in absurd (cc)
+    let clash : Basic ≡ Opt = (seen_segment (instance_by Basic meaning key barrier) d old (Ok (Open cell)) (l.finds refl) s).0 in
+    absurd (cc)
 found_open old one new cell result fates l goes Opt meaning key barrier d s =
     let e = seen_segment (opt meaning key barrier) d old (Ok (Open cell)) (l.finds refl) s in goes meaning key barrier d s e.1 e.2
 

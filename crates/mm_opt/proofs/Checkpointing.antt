@@ -1,8 +1,11 @@
 -- The ends of a checkpoint, and what it leaves and counts.
-use Rattle.mm_opt.proofs.Below.{◌≡◌, ℕ, Bool, true, false, List, Option, None, Some, Result, Ok, Err, refl, ap, ◌∙◌, sym, subst, counted, bytes_eq}
-use Rattle.mm_opt.proofs.Below.{Variant, Basic, Opt, zero_bytes, StepFault, Standing, ReadCell, WriteCell, ReadRegister, Goes, Cell, CellFault}
+use Rattle.mm_opt.proofs.Below.{◌≡◌, ℕ, Bool, true, false, List, Option, None, Some, Result, Ok, Err, refl, ap, ◌∙◌, sym, subst, counted}
+use Rattle.mm_opt.proofs.Below.{bytes_eq}
+use Rattle.mm_opt.proofs.Below.{Variant, Basic, Opt, zero_bytes, StepFault, Standing, ReadCell, WriteCell, ReadRegister, Goes, Cell}
+use Rattle.mm_opt.proofs.Below.{CellFault}
 use Rattle.mm_opt.proofs.Below.{Blames, blamed, blamed_later, read_untouched, Checkpointed, CheckpointRefusal, Segment, Open, Shut, OneStep}
-use Rattle.mm_opt.proofs.Below.{TwoSteps, closing_fault_of, closing_fault_in, segment_by, segment_in, closed_cell, closing_by, Looks, FindsSegment, Weighs}
+use Rattle.mm_opt.proofs.Below.{TwoSteps, closing_fault_of, closing_fault_in, segment_by, segment_in, closed_cell, closing_by, Looks}
+use Rattle.mm_opt.proofs.Below.{FindsSegment, Weighs}
 use Rattle.mm_opt.proofs.Below.{Closes, closing_handed_on, EndsClosing, EndsLooking, ClosesSegment, LeavesStill, ClosingStepsRefused}
 use Rattle.mm_opt.proofs.Below.{ClosingStepsBy}
 use Rattle.mm_seal.specs.declared.cell.CellFault.TheVariants as fault
@@ -37,8 +40,8 @@ module _ (old : Standing) (P : Standing → Result Checkpointed CheckpointRefusa
     closed (Ok it) cell next one two new l w c = rw c.gives (each.closes None cell next one two new l w c.goes)
     closed (Err fault) cell next one two new l w c = each.closes (Some fault) cell next one two new l w c.goes
 
-    weighed : (found : Result (List ℕ) CheckpointRefusal) (cell : Cell) (one two new : Standing) (result : Result Checkpointed CheckpointRefusal)
-        → Looks old one (Ok (Open cell)) → Weighs cell one two found → EndsClosing found two new result → P new result
+    weighed : (found : Result (List ℕ) CheckpointRefusal) (cell : Cell) (one two new : Standing)
+        (result : Result Checkpointed CheckpointRefusal) → Looks old one (Ok (Open cell)) → Weighs cell one two found → EndsClosing found two new result → P new result
     weighed (Err why) cell one two new result l w e = rw (e.0, e.1) (each.later_refuses why cell one two l w)
     weighed (Ok next) cell one two new result l w e = rw e.gives (closed e.written cell next one two new l w e.closes)
 
@@ -63,7 +66,8 @@ leaves_still old = each_closing old (λ (n : Standing) (r : Result Checkpointed 
   refuses = λ why one l quiet. read_untouched old one (subst (Goes ReadCell old one) quiet l.goes);
   shut = λ one l. read_untouched old one l.goes;
   later_refuses = λ why cell one two l w quiet.
-      then_untouched old one two (read_untouched old one l.goes) (register_untouched one two (subst (Goes ReadRegister one two) quiet w.goes));
+      then_untouched old one two (read_untouched old one l.goes)
+      (register_untouched one two (subst (Goes ReadRegister one two) quiet w.goes));
   closes = λ fault cell next one two new l w g. still_closed fault old new;
 })
 

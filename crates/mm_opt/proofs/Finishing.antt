@@ -1,5 +1,6 @@
 -- A call that was moved to its end.
-use Rattle.mm_opt.proofs.Below.{◌≡◌, ℕ, false, List, [], ◌∷◌, Some, Result, Ok, Err, refl, ap, ◌∙◌, subst, Opt, Standing, StepFault, Act, ReadCell}
+use Rattle.mm_opt.proofs.Below.{◌≡◌, ℕ, false, List, [], ◌∷◌, Some, Result, Ok, Err, refl, ap, ◌∙◌, subst, Opt, Standing, StepFault, Act}
+use Rattle.mm_opt.proofs.Below.{ReadCell}
 use Rattle.mm_opt.proofs.Below.{ReadRegister, Meaning, Batch, Cell, is_long, BatchAnswer, Refusal, Ended, Answered, Refused, goes_on}
 use Rattle.mm_opt.proofs.Below.{breaks_off, StepsTo, EndsTo, Calls, result_of, committed_as, CallsTo, Blames, blamed_later, fault_in}
 use Rattle.mm_opt.proofs.Below.{BlamesFor, steps_blamed, steps_give, reading_blamed, calls_from, Found, Stage, ReadsOwnCell, ReadsRegister}

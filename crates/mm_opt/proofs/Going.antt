@@ -4,7 +4,7 @@ use Rattle.mm_opt.proofs.Below.{subst, arith, fold, Opt, zero_bytes, extended_of
 use Rattle.mm_opt.proofs.Below.{Batch, normal, Cell, IsCell, guard, Instance, opt, Commit, Foreign, Placed, Reset, Digests, Step, Reading}
 use Rattle.mm_opt.proofs.Below.{Changes, Writes, ask_steps, is_long, BatchAnswer, Refusal, Ended, EndsTo, AsksTo, Calls, IsCallSoFar}
 use Rattle.mm_opt.proofs.Below.{CallsOn, Course, Fate, step_moves, refused_as, CallsTo, Accepted, accepted_at, accepted_in}
-use Rattle.mm_opt.proofs.Below.{is_fresh, all_made, by_digests, fault_of, fault_in, cell_at, StandsAt, reads_of, reads_beside}
+use Rattle.mm_opt.proofs.Below.{is_fresh, all_made, by_digests, fault_of, fault_in, cell_at, StandsAt}
 use Rattle.mm_opt.proofs.Below.{with_register, IsWrite, changing, asks, fate_of, ends_fates, tale_on, reading_tale, MakesAll, AsMade}
 use Rattle.mm_opt.proofs.Below.{Told, course_by, lacks_in, told_on, refused_reading, told_reading, sees, finds, opt_calls_agree}
 use Rattle.mm_opt.proofs.Below.{Found, Repeat, Inside, Opens, Opening, opened_cell, FindsCell, ReadsOwnCell, ReadsRegister}
@@ -14,7 +14,8 @@ use Rattle.mm_call.proofs.Above as completing
 use Rattle.mm_opt.proofs.Acting.{room_only}
 use Rattle.mm_opt.proofs.Asking.{refused_first}
 use Rattle.mm_opt.proofs.Accepting.{AsFound, as_found}
-use Rattle.mm_opt.proofs.Stepping.{two_brought, seen_is, change_inside, change_emptied, change_placed, write_opened, reset_kept, placed_kept, seen_cell, read_is}
+use Rattle.mm_opt.proofs.Stepping.{two_brought, seen_is, change_inside, change_emptied, change_placed, write_opened, reset_kept}
+use Rattle.mm_opt.proofs.Stepping.{placed_kept, seen_cell, read_is}
 
 -- The steps that commit what was found
 

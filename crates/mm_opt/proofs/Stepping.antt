@@ -5,7 +5,8 @@ use Rattle.mm_opt.proofs.Below.{Item, own_item, Standing, item_values, register_
 use Rattle.mm_opt.proofs.Below.{Meaning, Batch, Cell, IsCell, cell_spelling, reads_cell-same, guard, Instance, opt, Move, Commit}
 use Rattle.mm_opt.proofs.Below.{Foreign, Placed, Reset, Digests, made, Refusal}
 use Rattle.mm_opt.proofs.Below.{all_made, by_digests}
-use Rattle.mm_opt.proofs.Below.{cell_at, StandsAt, shown_by, IsChange, IsWrite, reads_of, reads_beside, StepFault, Goes, ReadCell, ReadRegister}
+use Rattle.mm_opt.proofs.Below.{cell_at, StandsAt, shown_by, IsChange, IsWrite, reads_of, reads_beside, StepFault, Goes, ReadCell}
+use Rattle.mm_opt.proofs.Below.{ReadRegister}
 use Rattle.mm_opt.proofs.Below.{with_register, foreign_made, all_made-append, FindsCell}
 use Rattle.std.proofs.lemmas.List.{append-nil}
 

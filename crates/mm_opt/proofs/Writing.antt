@@ -1,6 +1,7 @@
 -- What a call counts: its steps, and how often it writes the cell, by the flag that the platform tells.
 use Rattle.mm_opt.proofs.Below.{◌≡◌, ℕ, true, false, List, Some, Result, Ok, Err, refl, sym, ap, ◌∙◌, inl, inr, counted, Standing}
-use Rattle.mm_opt.proofs.Below.{Meaning, Batch, Cell, CellFault, IsCell, cell_spelling, reads_cell-same, is_long, BatchAnswer, Refusal, Long}
+use Rattle.mm_opt.proofs.Below.{Meaning, Batch, Cell, CellFault, IsCell, cell_spelling, reads_cell-same, is_long, BatchAnswer, Refusal}
+use Rattle.mm_opt.proofs.Below.{Long}
 use Rattle.mm_opt.proofs.Below.{Ended, goes_on, breaks_off, StepsTo, AsksTo, Calls, result_of, each_call, answered_result, Found, Repeat}
 use Rattle.mm_opt.proofs.Below.{Inside, Opens, is_cell_of, cell_in, ReadsOwnCell, ReadsRegister, acts_for, answer_in, opt_call, TwoSteps}
 use Rattle.mm_opt.proofs.Below.{three_steps, four_steps, five_steps, StepsRefused, StepsBy, WritesBy}
@@ -70,7 +71,14 @@ module _ (meaning : Meaning) (b : Batch) (old two new : Standing) (cell : Cell) 
   commits_counted (Opens opening) m (goes_on third g (goes_on fourth h (breaks_off fault k e))) =
       let five : FiveSteps old new =
       (k.steps ∙ ap counted (h.steps ∙ ap counted (g.steps ∙ ap counted t.0)), k.writes ∙ ap counted (h.writes ∙ g.writes ∙ t.1)) in
-      rw e (five_steps five, record { once = inr five.1; inside = λ c is at set. absurd (shut m.by_flag c is at set); answers = λ c is at. tt })
+      rw e (
+        five_steps five,
+        record {
+          once = inr five.1;
+          inside = λ c is at set. absurd (shut m.by_flag c is at set);
+          answers = λ c is at. tt;
+        },
+      )
   commits_counted (Opens opening) m (goes_on third g (goes_on fourth h (goes_on last k s))) =
       let five : FiveSteps old last =
       (k.steps ∙ ap counted (h.steps ∙ ap counted (g.steps ∙ ap counted t.0)), k.writes ∙ ap counted (h.writes ∙ g.writes ∙ t.1)) in

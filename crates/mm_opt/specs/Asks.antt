@@ -1,6 +1,7 @@
 -- What a whole call does to the platform, and what it answers.
 use Rattle.std.specs.Prelude.{◌≡◌, ℕ, Bool, true, false, List, [], ◌∷◌, Some, Result, Ok, Err, ◌⊎◌}
-use Rattle.mm_opt.specs.Below.{counted, counted_by, Opt, IsCell, cell_spelling, Cell, Standing, Act, WriteCell, ResetRegister, ExtendRegister, Batch}
+use Rattle.mm_opt.specs.Below.{counted, counted_by, Opt, IsCell, cell_spelling, Cell, Standing, Act, WriteCell, ResetRegister}
+use Rattle.mm_opt.specs.Below.{ExtendRegister, Batch}
 use Rattle.mm_opt.specs.Below.{Meaning, BatchAnswer, Refusal, Long, Device, Blank, OtherCell, CallOf}
 use Rattle.mm_opt.specs.declared.found.Found.{Found}
 use Rattle.mm_opt.specs.declared.found.Found.TheVariants.{Repeat, Inside, Opens}

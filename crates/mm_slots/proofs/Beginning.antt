@@ -1,13 +1,13 @@
 -- What begins a call in a slot, what is refused, a value of others, and a loss of power.
 use Rattle.mm_slots.proofs.Below.{◌≡◌, ◌∙◌, ◌+◌, ◌<◌, ℕ, true, false, List, [], length, Option, None, Some, IsSome, refl, sym, ap, subst}
-use Rattle.mm_slots.proofs.Below.{arith, vec_capacity, option_map, sum_by, One, meaning_of, Meddle, Quiet, Item, Plan, Standing, next_step}
-use Rattle.mm_slots.proofs.Below.{item_values, register_after, next_plan, quiet_plan, meddling, cycled, Instance, Foreign, PowerMove}
+use Rattle.mm_slots.proofs.Below.{arith, vec_capacity, option_map, One, meaning_of, Meddle, Quiet, Item, Plan, Standing, next_step}
+use Rattle.mm_slots.proofs.Below.{item_values, register_after, next_plan, quiet_plan, meddling, cycled, Foreign, PowerMove}
 use Rattle.mm_slots.proofs.Below.{is_long, Digests, made, register_reads, Extend, rising_from, offered_bytes, begun_call, plan_by, meddled}
 use Rattle.mm_slots.proofs.Below.{digest_in, flag_in, Stands, IsQuiet, extended_by, stands_extended, stands_settled, flight_takes_in}
 use Rattle.mm_slots.proofs.Below.{asks_begun, closes_begun, may_take_in, Action, Asking}
-use Rattle.mm_slots.proofs.Below.{Closing, CodeFlight, Said, Begun, Replied, CodeSlot, Turned, Asks, Closes, slot_instance, plays, merely}
+use Rattle.mm_slots.proofs.Below.{CodeFlight, Said, Begun, Replied, CodeSlot, Turned, Asks, plays, merely}
 use Rattle.mm_slots.proofs.Below.{flying, beginning, begun, acted, acted_by, joined, digests_in, slot_in, flight_in, call_in, instance_in}
-use Rattle.mm_slots.proofs.Below.{Fits, Comes, flown, HasRegister, within_64}
+use Rattle.mm_slots.proofs.Below.{Fits, Comes, flown, HasRegister}
 use Rattle.mm_digest.specs.declared.digest.Digest.{Digest}
 use Rattle.mm_schedule.specs.declared.reply.Reply.TheVariants as reply
 use Rattle.mm_opt.specs.declared.stage.CheckpointStage.TheVariants as stage
@@ -17,7 +17,7 @@ use Rattle.mm_flight.proofs.Above.{may_ask_planned}
 use Rattle.mm_schedule.specs.declared.header.Header.{Header}
 use Rattle.mm_steps.specs.Stopping.{IsInFlight}
 use Rattle.mm_slots.specs.Held.{left_of, Loses, MayGoOn}
-use Rattle.mm_slots.proofs.Fitting.{settled, idle, mine_are, flight_of, plan_is, call_of}
+use Rattle.mm_slots.proofs.Fitting.{rests, idle, flight_of, plan_is, call_of}
 
 -- what is said by whether a call is in flight
 
@@ -111,23 +111,13 @@ extends_now old new slot slot' value fits none e h n c f k issued r =
     let at = idle old slot none fits in
     let after = made i d (Foreign value.bytes) in
     let there : Stands i new after = subst (λ (x : Standing). Stands i x after) (sym e) (stands_extended i d value.bytes old at.0) in
-    let mine = subst (λ (j : Instance). Stands j new after) (λ j. slot_instance (sym h j) (sym n j)) there in
     let quiet : IsQuiet new = subst IsQuiet (sym e) (record { is_on = at.1.is_on; plan = at.1.plan }) in
-    let idle' = f ∙ none in
-    let kept = k ∙ fits.kept ∙ ap (λ (x : List (List ℕ)). within_64 (sum_by length x)) (sym issued) in
-    let digests : digests_in new slot' ≡ after = mine_are new slot' after mine r ∙ (λ j. record after { count = c j }) in
+    let rest = rests new slot slot' after h n c (f ∙ none) k issued r fits.kept refl there quiet in
     comes_by new slot slot' (plays i s (Extend value.bytes)) (acted i s (action.Extend value)) (Replied reply.Extended)
     (sym (acts_idle old slot (action.Extend value) none))
     (record {
-      goes =
-          record {
-            fits = settled new slot' after idle' mine quiet r kept;
-            header = h;
-            number = n;
-            few = omega (arith, c);
-            short = omega (arith, ap length issued);
-          };
-      stands = λ j. record { digests = digests j; issued = issued j; flight = ap (flight_in (next_plan new)) idle' j };
+      goes = rest.0;
+      stands = λ j. record { digests = rest.1 j; issued = issued j; flight = ap (flight_in (next_plan new)) (f ∙ none) j };
       says = refl;
       sayable = tt;
     })
@@ -254,13 +244,10 @@ stood standing slot None none fits = let at = idle standing slot none fits in (s
 stood standing slot (Some flight) some fits =
     let f = call_of standing slot flight (some_flight standing slot flight some fits) in (f.from, f.flies.stands, sym f.flies.flies.cell)
 
-items_told : (from : Standing) (value : List ℕ) → register_reads from ≡ Some value → option_map none_left from.items ≡ Some []
-items_told from value e = by_items from.items e
-  where
-    by_items : (items : Option (List Item)) → option_map (λ xs. register_after (item_values xs)) items ≡ Some value
-        → option_map none_left items ≡ Some []
-    by_items None e = cc
-    by_items (Some xs) e = refl
+items_told : (items : Option (List Item)) (value : List ℕ) → option_map (λ xs. register_after (item_values xs)) items ≡ Some value
+    → option_map none_left items ≡ Some []
+items_told None value e = cc
+items_told (Some xs) value e = refl
 
 pub loses : (old new : Standing) (slot slot' : CodeSlot) → Fits old slot → new ≡ record (cycled old) { plan = Some quiet_plan }
     → slot'.header ≡ slot.header → slot'.number ≡ slot.number → slot'.committed ≡ slot.committed → slot'.flight ≡ None
@@ -274,21 +261,12 @@ loses old new slot slot' fits e h n c none k issued r =
     let items : new.items ≡ Some [] = ap (λ (x : Standing). x.items) e
     ∙ emptied old.items slot'.register.bytes (sym (ap register_reads e) ∙ r) in
     let there : Stands i new after = stands_settled i d from new true at.1 (ap (λ (x : Standing). x.cell) e ∙ sym at.2)
-    (items ∙ sym (items_told from d.register at.1.register)) in
-    let mine = subst (λ (j : Instance). Stands j new after) (λ j. slot_instance (sym h j) (sym n j)) there in
+    (items ∙ sym (items_told from.items d.register at.1.register)) in
     let quiet : IsQuiet new = subst IsQuiet (sym e) (record { is_on = refl; plan = refl }) in
-    let kept = k ∙ fits.kept ∙ ap (λ (x : List (List ℕ)). within_64 (sum_by length x)) (sym issued) in
-    let digests : digests_in new slot' ≡ after = mine_are new slot' after mine r ∙ (λ j. record after { count = c j }) in
+    let rest = rests new slot slot' after h n c none k issued r fits.kept refl there quiet in
     record {
-      goes =
-          record {
-            fits = settled new slot' after none mine quiet r kept;
-            header = h;
-            number = n;
-            few = omega (arith, c);
-            short = omega (arith, ap length issued);
-          };
-      stands = λ j. record { digests = digests j; issued = issued j; flight = ap (flight_in (next_plan new)) none j };
+      goes = rest.0;
+      stands = λ j. record { digests = rest.1 j; issued = issued j; flight = ap (flight_in (next_plan new)) none j };
       same = c;
     }
 

@@ -62,7 +62,7 @@ pub use Rattle.mm_slots.specs.Grammar.{action_at, event_at}
 pub use Rattle.mm_slots.specs.Held.{call_in, Comes, digests_in, EndsCall, Fits, FitsCall, FitsFlight, flight_in, flown}
 pub use Rattle.mm_slots.specs.Held.{GoesOn, HasRegister, instance_in, IsNewSlot, KeepsSlot, Loses as Lost, slot_in, Wants, within_64}
 pub use Rattle.mm_slots.specs.Laws.{SlotRuns, SlotsAreAlone, SlotsRun}
-pub use Rattle.mm_slots.specs.Progress.{Reports}
+pub use Rattle.mm_slots.specs.Plays.{Reports}
 pub use Rattle.mm_slots.specs.Rows.{ActsAt, AllFit, FitsWithin, Follows, IsInside, KeepsAll, LosesAll, LosesAt, LosesIf, LosesUnless}
 pub use Rattle.mm_slots.specs.Rows.{only_at, others_lose, row_in, rows_in, Tells, touched, Touches}
 pub use Rattle.mm_slots.specs.Slot.{acted, acted_by, Acts, Asks, beginning, begun, Closes, event_by, first_slot, Flight, flying, folded}

@@ -8,8 +8,10 @@ use Rattle.mm_slots.proofs.Below.{plays, digests_in, slot_in, flight_in, instanc
 use Rattle.mm_slots.proofs.Below.{within_64, EndsCall, KeepsSlot, next_plan, Bool, true, cond, option_map_or, Meddle, Quiet, Plan}
 use Rattle.mm_slots.proofs.Below.{quiet_plan, made, plan_by, is_nothing, Going, Flight, Turned, merely, flying, so_far}
 use Rattle.mm_slots.proofs.Below.{stepped, call_in, FitsCall}
+use Rattle.std.proofs.Common.{length-append}
 use Rattle.mm_modules.specs.ModulesLaws.{any_is_lawful}
 use Rattle.mm_schedule.specs.Replies.{IsPrintable}
+use Rattle.mm_slots.specs.Held.{GoesOn}
 use Rattle.mm_slots.specs.Lengths.{length_if}
 
 -- where the platform of a slot stands, by the register's value that the slot has
@@ -32,8 +34,7 @@ settled standing slot d none s q r kept =
     let stands = subst (λ (x : Digests). Stands (instance_in slot) standing x) (sym (mine_are standing slot d s r))
     (counting (instance_in slot) d standing slot.committed s) in
     record {
-      flight = subst (λ (f : Option CodeFlight). FitsFlight slot.header slot.number (digests_in standing slot) slot.issued.items
-          (vec_capacity slot.issued) standing f) (sym none) (stands, q);
+      flight = rw none (stands, q);
       kept = kept;
     }
 
@@ -46,19 +47,34 @@ idle standing slot none f =
 pub same_instance : (slot slot' : CodeSlot) → slot'.header ≡ slot.header → slot'.number ≡ slot.number → instance_in slot' ≡ instance_in slot
 same_instance slot slot' h n = ap (λ (x : Header). slot_instance x slot'.number) h ∙ ap (λ (x : ℕ). slot_instance slot.header x) n
 
+-- a slot with no call in flight that kept all it had goes on, and stands where its platform does
+pub rests : (new : Standing) (slot slot' : CodeSlot) (d : Digests) → slot'.header ≡ slot.header → slot'.number ≡ slot.number
+    → slot'.committed ≡ slot.committed → slot'.flight ≡ None → slot'.kept ≡ slot.kept → slot'.issued.items ≡ slot.issued.items
+    → HasRegister new slot' → slot.kept ≡ within_64 (sum_by length slot.issued.items) → d.count ≡ slot.committed
+    → Stands (instance_in slot) new d → IsQuiet new → GoesOn new slot slot' × (digests_in new slot' ≡ d)
+rests new slot slot' d h n c none k issued r kept count s q =
+    let mine = subst (λ (j : Instance). Stands j new d) (sym (same_instance slot slot' h n)) s in (
+      record {
+        fits = settled new slot' d none mine q r (k ∙ kept ∙ ap (λ (x : List (List ℕ)). within_64 (sum_by length x)) (sym issued));
+        header = h;
+        number = n;
+        few = omega (arith, c);
+        short = omega (arith, ap length issued);
+      },
+      mine_are new slot' d mine r ∙ (λ j. record d { count = (c ∙ sym count) j }),
+    )
+
 -- the bytes that are kept, with one more snapshot
 sum_more : (issued : List (List ℕ)) (snapshot : Option (List ℕ))
     → sum_by length (issued ++ option_to_list snapshot) ≡ sum_by length issued + length_if snapshot
 sum_more issued None = sum_by-append length issued []
 sum_more issued (Some bytes) =
-    let one : sum_by length (bytes ∷ []) ≡ length bytes = omega arith in
-    sum_by-append length issued (bytes ∷ []) ∙ ap (λ (n : ℕ). sum_by length issued + n) one
+    let more = sum_by-append length issued (bytes ∷ []) in omega (arith, more)
 
 -- at most one snapshot more
 one_at_most : (issued : List (List ℕ)) (snapshot : Option (List ℕ)) → length (issued ++ option_to_list snapshot) ≤ length issued + 1
-one_at_most [] None = omega arith
-one_at_most [] (Some bytes) = omega arith
-one_at_most (first ∷ issued) snapshot = let more = one_at_most issued snapshot in omega (arith, more)
+one_at_most issued None = omega (arith, length-append issued [])
+one_at_most issued (Some bytes) = omega (arith, length-append issued (bytes ∷ []))
 
 kept_more : (kept kept' : ℕ) (issued : List (List ℕ)) (snapshot : Option (List ℕ)) → kept ≡ within_64 (sum_by length issued)
     → kept' ≡ within_64 (kept + length_if snapshot) → kept' ≡ within_64 (sum_by length (issued ++ option_to_list snapshot))
@@ -125,13 +141,11 @@ still_fits standing slot slot' none f k issued kept =
       count = k.committed j;
     }) in
     record {
-      flight = subst (λ (x : Option CodeFlight). FitsFlight slot'.header slot'.number (digests_in standing slot') slot'.issued.items
-          (vec_capacity slot'.issued) standing x)
-          (sym (k.flight ∙ none)) (
-            subst (λ (i : Instance). Stands i standing (digests_in standing slot')) (sym same)
-                (subst (λ (d : Digests). Stands (instance_in slot) standing d) (sym digests) at.0),
-            at.1,
-          );
+      flight = rw (k.flight ∙ none) (
+        subst (λ (i : Instance). Stands i standing (digests_in standing slot')) (sym same)
+            (subst (λ (d : Digests). Stands (instance_in slot) standing d) (sym digests) at.0),
+        at.1,
+      );
       kept = kept ∙ f.kept ∙ ap (λ (x : List (List ℕ)). within_64 (sum_by length x)) (sym issued);
     }
 
@@ -196,5 +210,6 @@ goes_comes slot before after keys old new step same planned fits number nothing 
 
 -- the slot fits its call in flight
 pub call_of : (standing : Standing) (slot : CodeSlot) (flight : CodeFlight) → Fits standing (flown slot flight)
-    → FitsCall slot.header slot.number (digests_in standing (flown slot flight)) slot.issued.items (vec_capacity slot.issued) standing flight
+    → FitsCall slot.header slot.number (digests_in standing (flown slot flight)) slot.issued.items (vec_capacity slot.issued)
+    standing flight
 call_of standing slot flight f = f.flight

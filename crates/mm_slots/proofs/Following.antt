@@ -1,8 +1,8 @@
 -- All slots lose their power, and what an event leaves of them.
 use Rattle.mm_slots.proofs.Below.{◌≡◌, ◌∙◌, ◌+◌, ◌≤◌, ◌<◌, ◌==◌, ℕ, Bool, true, false, cond, List, [], ◌∷◌, ◌++◌, length, get_or, Option}
 use Rattle.mm_slots.proofs.Below.{refl, sym, ap, arith, option_map_or, ne_eqb, Standing, new_platform, Action, Power, At, Said, CodeSlot}
-use Rattle.mm_slots.proofs.Below.{slot_in, Met, Acts, Loses, Row, is_cut, cuts_all, met_in, rows_in, AllFit, ActsAt, LosesIf, LosesAll}
-use Rattle.mm_slots.proofs.Below.{others_lose, touched, only_at, Follows, Tells}
+use Rattle.mm_slots.proofs.Below.{slot_in, Acts, Loses, Row, is_cut, cuts_all, met_in, rows_in, AllFit, ActsAt, LosesIf, LosesAll}
+use Rattle.mm_slots.proofs.Below.{others_lose, only_at, Follows, Tells}
 use Rattle.mm_slots.proofs.Rowing.{touches_as, touches_then, touches_none, rows_length, all_more, same_length, get_row}
 
 -- where no slot has the number, all lose their power

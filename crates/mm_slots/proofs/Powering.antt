@@ -9,23 +9,17 @@ use Rattle.mm_platform.specs.Steps.{Cycles}
 abbrev pub AreCycled : List Standing → List Standing → ℕ → Type 0
 AreCycled before now i = (take i now ≡ map cycled (take i before)) × (drop i now ≡ drop i before)
 
-heads : (x y : Standing) (xs ys : List Standing) → x ∷ xs ≡ y ∷ ys → x ≡ y
-heads x y xs ys h = cc
-
-tails : (x y : Standing) (xs ys : List Standing) → x ∷ xs ≡ y ∷ ys → xs ≡ ys
-tails x y xs ys h = cc
-
 pub one_more : (before now : List Standing) (i : ℕ) (n x : Standing) → i < length now → i < length before → n ≡ cycled (get_or now i x)
     → AreCycled before now i → AreCycled before (slice_set now i n) (i + 1)
 one_more before now i n x few few' is are =
     let both : get_or now i x ∷ drop (i + 1) now ≡ get_or before i x ∷ drop (i + 1) before =
     sym (drop_more now i x few) ∙ are.1 ∙ drop_more before i x few' in
-    let same : get_or now i x ≡ get_or before i x = heads (get_or now i x) (get_or before i x) (drop (i + 1) now) (drop (i + 1) before) both
-    in (
+    let same : get_or now i x ≡ get_or before i x = cc in
+    let rest : drop (i + 1) now ≡ drop (i + 1) before = cc in (
       take_more_set now i n few ∙ ap (λ (front : List Standing). front ++ n ∷ []) are.0
           ∙ ap (λ (y : Standing). map cycled (take i before) ++ y ∷ []) (is ∙ ap cycled same)
           ∙ sym (map-append cycled (take i before) (get_or before i x ∷ [])) ∙ ap (map cycled) (sym (take_more before i x few')),
-      drop-set-lt (i + 1) now i n (omega arith) ∙ tails (get_or now i x) (get_or before i x) (drop (i + 1) now) (drop (i + 1) before) both,
+      drop-set-lt (i + 1) now i n (omega arith) ∙ rest,
     )
 
 -- the selected slot, once all have lost it

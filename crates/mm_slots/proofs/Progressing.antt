@@ -42,22 +42,11 @@ runs_first headers cells slots standings at are =
     ∙ ap (λ (rows : List Row). stands rows 0 0) (rows_there 0 headers cells slots are)
 
 -- whether an event is one too many
-same_test : (a b c : ℕ) → (a < b → a < c) → (a < c → a < b) → nat_lt a b ≡ nat_lt a c
-same_test a b c to from = by_tests (nat_lt a b) (nat_lt a c) refl refl
-  where
-    by_tests : (x y : Bool) → nat_lt a b ≡ x → nat_lt a c ≡ y → x ≡ y
-    by_tests true true h g = refl
-    by_tests false false h g = refl
-    by_tests true false h g = let less : a < b = grind (arith, nat_tests) in let more = to less in absurd (grind (arith, nat_tests))
-    by_tests false true h g = let less : a < c = grind (arith, nat_tests) in let more = from less in absurd (grind (arith, nat_tests))
-
 pub over_by : (events read : ℕ) (line : List ℕ) (standings : List Standing) (slots : List CodeSlot) (bytes total : ℕ)
     → AllFit events standings slots → bytes ≡ within_64 (bytes_in slots) → total ≡ within_64 (read + length line + bytes)
     → nat_lt most_kept total ≡ nat_lt most_kept (read + length line + kept_in (rows_in standings slots))
 over_by events read line standings slots bytes total fit is sum =
-    let all = bytes_are events standings slots fit in
-    same_test most_kept total (read + length line + kept_in (rows_in standings slots)) (λ h. omega (arith, h, all, is, sum))
-    (λ h. omega (arith, h, all, is, sum))
+    let all = bytes_are events standings slots fit in grind (arith, nat_tests, all, is, sum)
 
 pub full_by : (r : Running) (events read : ℕ) (line : List ℕ) (standings : List Standing) (slots : List CodeSlot) (bytes total : ℕ)
     → stands (rows_in standings slots) events read ≡ r → events < most_events → AllFit events standings slots

@@ -1,6 +1,6 @@
 -- One slot of many goes on, and the others stay.
 use Rattle.mm_slots.proofs.Below.{◌≡◌, ◌∙◌, ◌+◌, ◌≤◌, ◌<◌, ◌==◌, ℕ, zero, suc, Bool, true, false, cond, List, [], ◌∷◌, ◌++◌, length, get_or}
-use Rattle.mm_slots.proofs.Below.{slice_set, Option, Some, refl, sym, ap, subst, append-nil, arith, slice_get, Result, IfOk, OnErr, eq-eqb}
+use Rattle.mm_slots.proofs.Below.{slice_set, Option, Some, refl, sym, ap, append-nil, arith, slice_get, Result, IfOk, OnErr, eq-eqb}
 use Rattle.mm_slots.proofs.Below.{ne_eqb, eqb-true, nat_tests, if◌then◌else◌, Standing, CodeSlot, option_map_or, Action, Said, instance_in}
 use Rattle.mm_slots.proofs.Below.{slot_in, GoesOn, Comes, Lost, Slot, Turned, Met, Acts, Loses, acted, unpowered, Row, instance_of}
 use Rattle.mm_slots.proofs.Below.{row_after, by_place, row_in, rows_in, FitsWithin, AllFit, ActsAt, LosesAt, LosesUnless, LosesAll, Touches}
@@ -194,13 +194,14 @@ module _ {f : ℕ → List Met} {e : ℕ} {standings standings' : List Standing}
       → Touches g e standings standings' slots slots'
   touches_as g same = record { rows = t.rows ∙ touched_same f g (rows_in standings slots) same; fit = t.fit }
 
-  pub touches_then : {g : ℕ → List Met} {more : ℕ} {last : List Standing} {lasts : List CodeSlot} → Touches g more standings' last slots' lasts
-      → Touches (λ k. f k ++ g k) more standings last slots lasts
+  pub touches_then : {g : ℕ → List Met} {more : ℕ} {last : List Standing} {lasts : List CodeSlot}
+      → Touches g more standings' last slots' lasts → Touches (λ k. f k ++ g k) more standings last slots lasts
   touches_then {g = g} u = record { rows = u.rows ∙ ap (touched g) t.rows ∙ touched_more f g (rows_in standings slots); fit = u.fit }
 
 pub touches_none : (events : ℕ) (standings : List Standing) (slots : List CodeSlot) → AllFit events standings slots
     → Touches (λ _. []) events standings standings slots slots
-touches_none events standings slots fit = record { rows = sym (untouched_from (λ _. []) 0 (rows_in standings slots) (λ k low. refl)); fit = fit }
+touches_none events standings slots fit =
+    record { rows = sym (untouched_from (λ _. []) 0 (rows_in standings slots) (λ k low. refl)); fit = fit }
 
 none_lost : (but number k : ℕ) (here : Bool) → (number == but) ≡ true → (k == number) ≡ here → cond here (others_lose but number) [] ≡ []
 none_lost but number k true same own = rw same refl

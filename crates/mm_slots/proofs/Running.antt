@@ -9,7 +9,7 @@ use Rattle.mm_slots.specs.declared.event.Action.TheVariants as action
 use Rattle.mm_platform.specs.declared.plan.Stop.TheVariants as stop
 use Rattle.mm_run.specs.Premises.{IsClearRun, IsGenuineRun}
 use Rattle.mm_run.specs.Laws.{AgreesThroughout, BasicIsExpected, OptIsExpected, ExpectedRuns, SchedulesGoOn, continued}
-use Rattle.mm_slots.specs.Tellings.{SlotsTellReplies, said_to_call, to_call}
+use Rattle.mm_slots.specs.Laws.{SlotsTellReplies, said_to_call, to_call}
 
 abbrev told_from : Instance → Slot → List Event → Followed Digests
 told_from i slot events = followed i (by_digests i) slot.digests slot.issued events

@@ -51,55 +51,45 @@ length-rising : (n : ℕ) → length (rising_from n) ≡ 32
 unfolding rising_from
 length-rising n = length-range_with_len n 32
 
-stands_there : (number : ℕ) (header : Header) (cell : List ℕ) (slot : CodeSlot) → IsFirst number header cell slot
-    → Stands (instance_in slot) (new_platform cell) (first_digests (slot_instance header number))
-stands_there number header cell slot f =
-    let i = slot_instance header number in
-    let stands = stands_new header.variant (meaning_of header.«module») (rising_from number) (rising_from (128 + number)) cell
-    (length-rising number) (length-rising (128 + number)) f.cell in
-    let same : i ≡ instance_in slot = (λ j. slot_instance (sym f.slot.headed j) (sym f.slot.numbered j)) in
-    subst (λ (x : Instance). Stands x (new_platform cell) (first_digests i)) same stands
+module _ (number : ℕ) (header : Header) (cell : List ℕ) (slot : CodeSlot) (f : IsFirst number header cell slot) where
+  stands_there : Stands (instance_in slot) (new_platform cell) (first_digests (slot_instance header number))
+  stands_there =
+      let i = slot_instance header number in
+      let stands = stands_new header.variant (meaning_of header.«module») (rising_from number) (rising_from (128 + number)) cell
+      (length-rising number) (length-rising (128 + number)) f.cell in
+      let same : i ≡ instance_in slot = (λ j. slot_instance (sym f.slot.headed j) (sym f.slot.numbered j)) in
+      subst (λ (x : Instance). Stands x (new_platform cell) (first_digests i)) same stands
 
-has_register : (number : ℕ) (header : Header) (cell : List ℕ) (slot : CodeSlot) → IsFirst number header cell slot
-    → HasRegister (new_platform cell) slot
-has_register number header cell slot f = ap Some (sym f.slot.register)
+  has_register : HasRegister (new_platform cell) slot
+  has_register = ap Some (sym f.slot.register)
 
-digests_there : (number : ℕ) (header : Header) (cell : List ℕ) (slot : CodeSlot) → IsFirst number header cell slot
-    → digests_in (new_platform cell) slot ≡ first_digests (slot_instance header number)
-digests_there number header cell slot f =
-    let d = first_digests (slot_instance header number) in
-    mine_are (new_platform cell) slot d (stands_there number header cell slot f) (has_register number header cell slot f)
-    ∙ (λ j. record d { count = f.slot.committed j })
+  row_there : row_in (new_platform cell) slot ≡ first_row number header
+  row_there =
+      let d = first_digests (slot_instance header number) in
+      let digests : digests_in (new_platform cell) slot ≡ d =
+      mine_are (new_platform cell) slot d stands_there has_register ∙ (λ j. record d { count = f.slot.committed j }) in
+      λ j. record {
+        header = f.slot.headed j;
+        number = f.slot.numbered j;
+        slot = record {
+          digests = digests j;
+          issued = f.slot.issued j;
+          flight = ap (flight_in (next_plan (new_platform cell))) f.slot.flight j;
+        };
+      }
 
-row_there : (number : ℕ) (header : Header) (cell : List ℕ) (slot : CodeSlot) → IsFirst number header cell slot
-    → row_in (new_platform cell) slot ≡ first_row number header
-row_there number header cell slot f =
-    let digests = digests_there number header cell slot f in
-    λ j. record {
-      header = f.slot.headed j;
-      number = f.slot.numbered j;
-      slot = record {
-        digests = digests j;
-        issued = f.slot.issued j;
-        flight = ap (flight_in (next_plan (new_platform cell))) f.slot.flight j;
-      };
-    }
-
-fits_there : (number : ℕ) (header : Header) (cell : List ℕ) (slot : CodeSlot) → IsFirst number header cell slot
-    → FitsWithin 0 (new_platform cell) slot
-fits_there number header cell slot f =
-    let d = first_digests (slot_instance header number) in
-    let snapshot = issued_bytes (slot_instance header number) first_history in
-    let one : sum_by length (snapshot ∷ []) ≡ length snapshot = omega arith in
-    let kept : slot.kept ≡ within_64 (sum_by length slot.issued.items) =
-    f.slot.kept ∙ ap within_64 (sym one) ∙ ap (λ (x : List (List ℕ)). within_64 (sum_by length x)) (sym f.slot.issued) in
-    record {
-      fits = settled (new_platform cell) slot d f.slot.flight (stands_there number header cell slot f)
-          (record { is_on = refl; plan = refl })
-          (has_register number header cell slot f) kept;
-      few = omega (arith, f.slot.committed);
-      short = omega (arith, ap (λ (x : List (List ℕ)). length x) f.slot.issued);
-    }
+  fits_there : FitsWithin 0 (new_platform cell) slot
+  fits_there =
+      let snapshot = issued_bytes (slot_instance header number) first_history in
+      let one : sum_by length (snapshot ∷ []) ≡ length snapshot = omega arith in
+      let kept : slot.kept ≡ within_64 (sum_by length slot.issued.items) =
+      f.slot.kept ∙ ap within_64 (sym one) ∙ ap (λ (x : List (List ℕ)). within_64 (sum_by length x)) (sym f.slot.issued) in
+      record {
+        fits = settled (new_platform cell) slot (first_digests (slot_instance header number)) f.slot.flight stands_there
+            (record { is_on = refl; plan = refl }) has_register kept;
+        few = omega (arith, f.slot.committed);
+        short = omega (arith, ap (λ (x : List (List ℕ)). length x) f.slot.issued);
+      }
 
 pub rows_there : (number : ℕ) (headers : List Header) (cells : List (List ℕ)) (slots : List CodeSlot) → AreFirst number headers cells slots
     → rows_in (map new_platform cells) slots ≡ by_place first_row number headers

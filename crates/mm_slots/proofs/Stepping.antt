@@ -1,12 +1,12 @@
 -- The call in flight of a slot: its next step, a step that breaks it off, a value that comes, a loss of power.
-use Rattle.mm_slots.proofs.Below.{◌≡◌, ◌∙◌, ◌+◌, ◌^◌, ◌<◌, ℕ, Bool, true, false, cond, List, [], ◌∷◌, ◌++◌, map, length, None, Some, Ok, Err}
-use Rattle.mm_slots.proofs.Below.{refl, sym, ap, subst, arith, ◌⊎◌, inl, inr, sum_by, One, meaning_of, Meddle, Stop, Quiet, Plan, Standing}
+use Rattle.mm_slots.proofs.Below.{◌≡◌, ◌∙◌, ◌+◌, ◌^◌, ◌<◌, ℕ, Bool, true, false, cond, List, [], ◌∷◌, ◌++◌, map, None, Some, Ok, Err}
+use Rattle.mm_slots.proofs.Below.{refl, sym, ap, subst, ◌⊎◌, inl, inr, One, meaning_of, Meddle, Stop, Quiet, Plan, Standing}
 use Rattle.mm_slots.proofs.Below.{next_plan, cell_spelling, Instance, Move, Foreign, Digests, made, by_digests, all_made, cell_at}
 use Rattle.mm_slots.proofs.Below.{course_of, rising_from, ask_number, plan_by, Called, Lacks, quiet_as, Reply, Stands, is_nothing}
 use Rattle.mm_slots.proofs.Below.{stop_behind, StepsAs, BreaksAs, StepsClosingAs, BreaksClosingAs, Asking}
 use Rattle.mm_slots.proofs.Below.{Closing, CodeFlight, Said, Going, CodeSlot, Turned, outcome_in, plays, merely, flying, so_far, stepped}
-use Rattle.mm_slots.proofs.Below.{event_by, stop_at, digests_in, slot_in, call_in, instance_in, Fits, GoesOn, Wants, Comes, flown}
-use Rattle.mm_slots.proofs.Below.{HasRegister, within_64, EndsCall, count_none}
+use Rattle.mm_slots.proofs.Below.{event_by, stop_at, digests_in, slot_in, call_in, instance_in, Fits, Wants, Comes, flown}
+use Rattle.mm_slots.proofs.Below.{HasRegister, EndsCall, count_none}
 use Rattle.mm_base.specs.declared.fault.Memory.{Memory}
 use Rattle.mm_seal.specs.declared.cell.Cell.{Cell}
 use Rattle.mm_model.specs.Steps.{Step}
@@ -25,7 +25,7 @@ use Rattle.mm_slots.specs.declared.event.Breaking.{Breaking}
 use Rattle.mm_slots.specs.declared.event.Breaking.TheVariants as breaking
 use Rattle.mm_slots.specs.declared.flight.Flight.TheVariants as code
 use Rattle.mm_call.specs.WalkLaws.{seen_none}
-use Rattle.mm_slots.proofs.Fitting.{mine_are, settled, over_comes, same_instance, flight_of, goes_planned, digests_kept, goes_comes, call_of}
+use Rattle.mm_slots.proofs.Fitting.{rests, over_comes, flight_of, goes_planned, digests_kept, goes_comes, call_of}
 
 -- a call goes on
 flight_goes : (slot : CodeSlot) (before after : CodeFlight) (keys : Unit {0}) (old new : Standing) (step : ℕ)
@@ -168,33 +168,34 @@ seen_cell : (i : Instance) (fates : ℕ → Fate) (steps : List Step) (n : ℕ) 
 seen_cell i fates [] n d = refl
 seen_cell i fates (step ∷ steps) n d = brought_cell i (fates n).brings (seen_in fates steps (n + 1)) d (seen_cell i fates steps (n + 1))
 
-lacks_cell : (i : Instance) (d : Digests) (meddles : List Meddle) (stop : Stop) (old new : Standing) → Stands i old d
-    → Lacks i d meddles stop old new → new.cell ≡ old.cell
-lacks_cell i d meddles stop old new s l = elim l.called [
-  | inl e ↦ ap (λ (x : Standing). x.cell) e
-  | inr e ↦
-      let c = course_of stop meddles in
-      e.0.at.cell ∙ ap (λ (x : Cell). Some (cell_spelling x)) (seen_cell i c.fates (reading_steps i.variant) 1 d) ∙ sym s.at.cell
-]
+-- where the platform stands then: as it stood, or behind the reading steps
+record HasRead (i : Instance) (d : Digests) (meddles : List Meddle) (stop : Stop) (old new : Standing) : Type 0 where
+  at : Digests
+  stands : Stands i new at
+  counts : at.count ≡ d.count
+  cell : new.cell ≡ old.cell
+  which : (at ≡ d) ⊎ (at ≡ seen_at i (by_digests i) d (course_of stop meddles))
 
--- where the slot stands then: as it stood, or behind the reading steps
-lacks_stands : (slot slot' : CodeSlot) (d : Digests) (meddles : List Meddle) (stop : Stop) (old new : Standing)
-    → Lacks (instance_in slot) d meddles stop old new → Stands (instance_in slot) old d
-    → slot'.header ≡ slot.header → slot'.number ≡ slot.number → slot'.committed ≡ d.count → HasRegister new slot'
-    → (digests_in new slot' ≡ d)
-    ⊎ (digests_in new slot' ≡ seen_at (instance_in slot) (by_digests (instance_in slot)) d (course_of stop meddles))
-lacks_stands slot slot' d meddles stop old new l s h n c r =
-    let i = instance_in slot in
+has_read : (i : Instance) (d : Digests) (meddles : List Meddle) (stop : Stop) (old new : Standing) → Stands i old d
+    → Lacks i d meddles stop old new → HasRead i d meddles stop old new
+has_read i d meddles stop old new s l =
     let fates = (course_of stop meddles).fates in
-    let moves = seen_in fates (reading_steps i.variant) 1 in
-    let seen = seen_at i (by_digests i) d (course_of stop meddles) in
-    let none : seen.count ≡ d.count = count_none i moves d (seen_none fates (reading_steps i.variant) 1) in
-    let at : (x : Digests) → Stands i new x → slot'.committed ≡ x.count → digests_in new slot' ≡ x = λ x s e.
-    mine_are new slot' x (subst (λ (j : Instance). Stands j new x) (sym (same_instance slot slot' h n)) s) r
-    ∙ (λ j. record x { count = e j }) in
+    let steps = reading_steps i.variant in
     elim l.called [
-      | inl e ↦ inl (at d (subst (λ (x : Standing). Stands i x d) (sym e) s) c)
-      | inr e ↦ inr (at seen e.0 (c ∙ sym none))
+      | inl e ↦ record {
+        at = d;
+        stands = subst (λ (x : Standing). Stands i x d) (sym e) s;
+        counts = refl;
+        cell = ap (λ (x : Standing). x.cell) e;
+        which = inl refl;
+      }
+      | inr e ↦ record {
+        at = seen_at i (by_digests i) d (course_of stop meddles);
+        stands = e.0;
+        counts = count_none i (seen_in fates steps 1) d (seen_none fates steps 1);
+        cell = e.0.at.cell ∙ ap (λ (x : Cell). Some (cell_spelling x)) (seen_cell i fates steps 1 d) ∙ sym s.at.cell;
+        which = inr refl;
+      }
     ]
 
 -- want of memory: the call is over, and nothing was done but that it has read
@@ -212,22 +213,12 @@ ask_lacks slot slot' asking old new memory fits steps h n c none k issued r =
     let l : Lacks i d p.meddles (stop_behind (p.at + 1)) f.from new =
     steps slot.header.variant (rising_from slot.number) (rising_from (128 + slot.number)) d f.from slot.issued.items p.meddles (p.at + 1)
     asking.offer f.flies f.may.offered in
-    let kept = k ∙ fits.kept ∙ ap (λ (x : List (List ℕ)). within_64 (sum_by length x)) (sym issued) in
-    let at : (x : Digests) → Stands i new x → GoesOn new (flown slot (code.Asks asking)) slot' = λ x s. record {
-      fits = settled new slot' x none (subst (λ (j : Instance). Stands j new x) (sym (same_instance slot slot' h n)) s) l.quiet r kept;
-      header = h;
-      number = n;
-      few = omega (arith, c);
-      short = omega (arith, ap length issued);
-    } in
-    let goes : GoesOn new (flown slot (code.Asks asking)) slot' = elim l.called [
-      | inl e ↦ at d (subst (λ (x : Standing). Stands i x d) (sym e) f.flies.stands)
-      | inr e ↦ at (seen_at i (by_digests i) d (course_of (stop_behind (p.at + 1)) p.meddles)) e.0
-    ] in
+    let seen = has_read i d p.meddles (stop_behind (p.at + 1)) f.from new f.flies.stands l in
+    let rest = rests new (flown slot (code.Asks asking)) slot' seen.at h n c none k issued r fits.kept seen.counts seen.stands l.quiet in
     record {
-      goes = goes;
-      cell = lacks_cell i d p.meddles (stop_behind (p.at + 1)) f.from new f.flies.stands l ∙ sym f.flies.flies.cell;
-      stands = lacks_stands slot slot' d p.meddles (stop_behind (p.at + 1)) f.from new l f.flies.stands h n c r;
+      goes = rest.0;
+      cell = seen.cell ∙ sym f.flies.flies.cell;
+      stands = elim seen.which [ inl e ↦ inl (rest.1 ∙ e) | inr e ↦ inr (rest.1 ∙ e) ];
       committed = c;
       issued = issued;
     }

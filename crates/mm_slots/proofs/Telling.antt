@@ -12,9 +12,10 @@ use Rattle.mm_play.specs.declared.player.Refused.TheVariants.{Much}
 use Rattle.mm_play.specs.Play.{told, run}
 use Rattle.mm_play.specs.Tells.{Answered, Finished, RefusesMuch}
 use Rattle.mm_slots.specs.Grammar.{first_at}
-use Rattle.mm_slots.specs.Counting.{length-push}
+use Rattle.std.proofs.Common.{length-append}
 use Rattle.mm_slots.specs.Stage.{begun}
-use Rattle.mm_slots.specs.Headline.{own_fold, AreOwn, AreContinuous, AreWithinLimits, AnswersSlots, unended, AnswersLines, AnswersAll, IsHeading, IsTooMuch}
+use Rattle.mm_slots.specs.Headline.{own_fold, AreOwn, AreContinuous, AreWithinLimits, AnswersSlots, unended, AnswersLines, AnswersAll}
+use Rattle.mm_slots.specs.Headline.{IsHeading, IsTooMuch}
 use Rattle.mm_slots.proofs.Fitting.{meaning_by}
 use Rattle.mm_slots.proofs.Alone.{alone, by_place_get, bound, length-by_place, takes, follows}
 
@@ -98,7 +99,7 @@ headed_behind count before line lines number header written p true come room few
     heads_more count before line lines header written p is (on fewer h)
 headed_behind count before line lines number header written p false come room few is on h =
     let all = before ++ header ∷ [] in
-    let one : length all ≡ length before + 1 = length-push before header in
+    let one : length all ≡ length before + 1 = length-append before (header ∷ []) in
     let late : count ≤ length all = grind (arith, nat_tests) in
     let full : length all ≡ count = omega (arith, one, late, room) in
     heads_more count before line lines header written p is (inr (record {
@@ -256,22 +257,13 @@ answers_lines law lines written a = by_opened (opened lines written a.0 a.1)
     by_opened (inr (inr o)) = inr (answers_slots law lines written written a.0 unended o (sym (append-nil written)))
 
 -- the last lines need all header lines
-closes_none : (p : SlotsStage) (last : List ℕ) → p ≡ AtFirst → slots_closing p ≡ Some last → ⊥
-closes_none (AtHeads count headers) last is h = cc
-closes_none _ last is h = cc
-
-closes_heads : (p : SlotsStage) (last : List ℕ) (count : ℕ) (headers : List Header) → p ≡ AtHeads count headers
-    → slots_closing p ≡ Some last → ⊥
-closes_heads (AtHeads n hs) last count headers is h = cc
-closes_heads _ last count headers is h = cc
-
 answers_all : SlotsRun → (lines : List (List ℕ)) (written : List ℕ) → Finished slots_answer slots_closing AtFirst lines written
     → AnswersAll lines written
 answers_all law lines written f = by_opened (opened lines f.said f.next f.ran)
   where
     by_opened : Opened lines f.said f.next → AnswersAll lines written
-    by_opened (inl none) = absurd (closes_none f.next f.last none.2 f.closed)
-    by_opened (inr (inl h)) = absurd (closes_heads f.next f.last h.heading.count h.heading.headers h.stands f.closed)
+    by_opened (inl none) = let e : None ≡ Some f.last = ap slots_closing (sym none.2) ∙ f.closed in absurd (cc)
+    by_opened (inr (inl h)) = let e : None ≡ Some f.last = ap slots_closing (sym h.stands) ∙ f.closed in absurd (cc)
     by_opened (inr (inr o)) =
         let stands = behind playing (begun o.headers) o.others o.answers.events in
         answers_slots law lines f.said written f.next (end_lines 0) o (f.whole ∙ ap (λ (l : List ℕ). f.said ++ l)

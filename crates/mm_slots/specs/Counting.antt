@@ -1,20 +1,14 @@
 -- A run of slots ends: each answered line leaves fewer.
 use Rattle.std.specs.Prelude.{◌≡◌, ℕ, ◌+◌, ◌-◌, ◌<◌, ◌^◌, Bool, true, false, min, List, [], ◌∷◌, ◌++◌, length, Ok, if◌then◌else◌}
-use Rattle.std.proofs.Common.{refl, arith}
+use Rattle.std.proofs.Common.{refl, arith, length-append}
 use Rattle.std.proofs.lemmas.Bool.Decides.{nat_tests}
 use Rattle.mm_base.specs.Limits.{most_events}
 use Rattle.mm_schedule.specs.declared.header.Header.{Header}
 use Rattle.mm_schedule.specs.Headers.{head_at}
 use Rattle.mm_play.specs.Counting.{begins_fewer, event_counts}
 use Rattle.mm_slots.specs.Grammar.{first_at}
-use Rattle.mm_slots.specs.Stage.{begun, playing, SlotsStage, AtFirst, AtHeads, InEvents, are_to_come, behind_heads, slots_answer, lines_left_at}
-
-pub length-push : (headers : List Header) (header : Header)
-    → length (headers ++ header ∷ []) ≡ length headers + 1
-length-push [] header = refl
-length-push (x ∷ headers) header =
-    let one : length (headers ++ header ∷ []) ≡ length headers + 1 = length-push headers header
-    in omega (arith, one)
+use Rattle.mm_slots.specs.Stage.{begun, playing, SlotsStage, AtFirst, AtHeads, InEvents, are_to_come, behind_heads, slots_answer}
+use Rattle.mm_slots.specs.Stage.{lines_left_at}
 
 behind_counts : (count : ℕ) (headers : List Header) (before : ℕ) (more : Bool)
     → are_to_come count headers ≡ more → length headers ≡ before + 1
@@ -35,7 +29,7 @@ slots_count_down (AtHeads count headers) next line reply h =
     (λ header. headers ++ header ∷ []) (behind_heads count)
     (λ header. let all = headers ++ header ∷ [] in
     behind_counts count all (length headers) (are_to_come count all) refl
-    (length-push headers header))
+    (length-append headers (header ∷ [])))
     (head_at line) reply next h
 slots_count_down (InEvents r) next line reply h =
     event_counts playing lines_left_at (λ r. refl) (λ r line event. refl) r line reply next h

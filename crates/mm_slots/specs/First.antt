@@ -16,12 +16,9 @@ pub record IsFirst (number : ℕ) (header : Header) (bytes : List ℕ) (code : C
 -- so it is of each slot, from this number on
 abbrev pub AreFirst : ℕ → List Header → List (List ℕ) → List CodeSlot → Type 0
 AreFirst number [] [] [] = Unit {0}
-AreFirst number [] [] (slot ∷ slots) = ⊥
-AreFirst number [] (cell ∷ cells) slots = ⊥
-AreFirst number (header ∷ headers) [] slots = ⊥
-AreFirst number (header ∷ headers) (cell ∷ cells) [] = ⊥
 AreFirst number (header ∷ headers) (cell ∷ cells) (slot ∷ slots) =
     IsFirst number header cell slot × AreFirst (number + 1) headers cells slots
+AreFirst number _ _ _ = ⊥
 
 -- One more slot stands behind these.
 pub record AddsSlot (number : ℕ) (header : Header) (old_cells new_cells : List (List ℕ))

@@ -1,5 +1,6 @@
 -- A slot in code, over the platform in it.
-use Rattle.std.specs.Prelude.{◌≡◌, ◌≤◌, ◌<◌, ◌+◌, ◌-◌, ◌^◌, ℕ, false, List, [], ◌∷◌, ◌++◌, length, min, Option, None, Some, option_to_list, vec_capacity, ◌⊎◌}
+use Rattle.std.specs.Prelude.{◌≡◌, ◌≤◌, ◌<◌, ◌+◌, ◌-◌, ◌^◌, ℕ, false, List, [], ◌∷◌, ◌++◌, length, min, Option, None, Some}
+use Rattle.std.specs.Prelude.{option_to_list, vec_capacity, ◌⊎◌}
 use Rattle.std.specs.List.{sum_by}
 use Rattle.mm_base.specs.Limits.{most_members}
 use Rattle.mm_digest.specs.Messages.{zero_bytes}

@@ -1,14 +1,19 @@
 -- The laws of slots.
-use Rattle.std.specs.Prelude.{◌≡◌, ℕ, List, [], length, Some, slice_get}
+use Rattle.std.specs.Prelude.{◌≡◌, ℕ, List, [], ◌∷◌, length, Some, slice_get}
+use Rattle.std.specs.List.{flat_map}
 use Rattle.mm_model.specs.Instance.{Instance}
 use Rattle.mm_schedule.specs.Machine.{Runs}
+use Rattle.mm_schedule.specs.declared.reply.Reply.{Reply}
+use Rattle.mm_schedule.specs.declared.reply.Reply.TheVariants as reply
 use Rattle.mm_call.specs.Standing.{instance_by}
 use Rattle.mm_digest.specs.declared.variant.Variant.{Variant}
 use Rattle.mm_module.specs.Meaning.{Meaning}
 use Rattle.mm_run.specs.Folds.{expected}
 use Rattle.mm_run.specs.Premises.{IsClearRun, IsGenuineRun}
 use Rattle.mm_slots.specs.declared.event.SlotEvent.{SlotEvent}
-use Rattle.mm_slots.specs.Slot.{Turned, Met, folded, first_slot}
+use Rattle.mm_slots.specs.declared.said.Said.{Said}
+use Rattle.mm_slots.specs.declared.said.Said.TheVariants.{Replied}
+use Rattle.mm_slots.specs.Slot.{Slot, Turned, Met, folded, first_slot}
 use Rattle.mm_slots.specs.Table.{Row, instance_of, row_after, after_events, answers, met_by, said_for}
 
 -- A slot of a table is where its own fold leaves it, and what is said for it is what its fold says:
@@ -43,3 +48,19 @@ SlotsRun = (variant : Variant) (meaning : Meaning) (key barrier : List ℕ) (met
     let i = instance_by variant meaning key barrier in
     let it = folded i (first_slot i) mets in
     IsClearRun i it.events → IsGenuineRun i it.events → SlotRuns i it
+
+-- a reply to a call: neither that of a loss of power, nor that of a value of others
+abbrev pub to_call : Reply → List Reply
+to_call reply.Power = []
+to_call reply.Extended = []
+to_call it = it ∷ []
+
+abbrev pub said_to_call : Said → List Reply
+said_to_call (Replied it) = to_call it
+said_to_call _ = []
+
+-- The replies to calls that are said for a slot are those that its fold gives, in their order.
+abbrev pub SlotsTellReplies : Type 0
+SlotsTellReplies = (i : Instance) (slot : Slot) (mets : List Met)
+    → flat_map said_to_call (folded i slot mets).said ≡ flat_map to_call
+    (folded i slot mets).replies

@@ -10,11 +10,9 @@ pub mod Held
 pub mod Rows
 pub mod First
 pub mod Totals
-pub mod Progress
 pub mod Stage
 pub mod Headline
 pub mod Plays
 pub mod Counting
 pub mod Lengths
 pub mod Playing
-pub mod Tellings

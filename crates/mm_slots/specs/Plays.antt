@@ -1,11 +1,25 @@
--- A run of slots, whole.
-use Rattle.std.specs.Prelude.{ℕ, List, Option, Result}
+-- A run of slots, whole, and what it reports.
+use Rattle.std.specs.Prelude.{◌≡◌, ℕ, List, length, Option, Result}
+use Rattle.std.specs.List.{sum_by}
 use Rattle.mm_base.specs.declared.replay_fault.ReplayFault.{ReplayFault}
 use Rattle.mm_play.specs.Tells.{PlaysWhole}
 use Rattle.mm_slots.specs.declared.report.SlotReport.{SlotReport}
 use Rattle.mm_slots.specs.Headline.{AnswersLines, AnswersAll, IsTooMuch}
-use Rattle.mm_slots.specs.Progress.{Reports}
-use Rattle.mm_slots.specs.Stage.{AtFirst, slots_answer, slots_closing}
+use Rattle.mm_slots.specs.Stage.{SlotsStage, AtFirst, AtHeads, InEvents, slots_answer, slots_closing}
+use Rattle.mm_slots.specs.Table.{Row}
+
+-- how many requests were committed and snapshots issued in these slots, all together
+abbrev pub committed_in : List Row → ℕ
+committed_in rows = sum_by (λ (row : Row). row.slot.digests.count) rows
+
+abbrev pub issued_in : List Row → ℕ
+issued_in rows = sum_by (λ (row : Row). length row.slot.issued) rows
+
+abbrev pub Reports : SlotsStage → SlotReport → Type 0
+Reports AtFirst report = (report.committed ≡ 0) × (report.issued ≡ 0)
+Reports (AtHeads count headers) report = (report.committed ≡ 0) × (report.issued ≡ 0)
+Reports (InEvents r) report =
+    (report.committed ≡ committed_in r.rows) × (report.issued ≡ issued_in r.rows)
 
 -- What was taken of the input and written fits the answer line by line; and as a whole it is the
 -- answers to the events, each slot's its own, with the headline.

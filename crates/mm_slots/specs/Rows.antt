@@ -31,10 +31,9 @@ pub record FitsWithin (events : ℕ) (standing : Standing) (slot : CodeSlot) : T
 -- each slot is over its platform
 abbrev pub AllFit : ℕ → List Standing → List CodeSlot → Type 0
 AllFit events [] [] = Unit {0}
-AllFit events [] (slot ∷ slots) = ⊥
-AllFit events (standing ∷ standings) [] = ⊥
 AllFit events (standing ∷ standings) (slot ∷ slots) =
     FitsWithin events standing slot × AllFit events standings slots
+AllFit events _ _ = ⊥
 
 -- each slot after what it meets, by its number
 abbrev pub touched : (ℕ → List Met) → List Row → List Row

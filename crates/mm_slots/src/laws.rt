@@ -1,7 +1,7 @@
 //! The laws of slots, each the contract of a function that does nothing.
 
 ghost use Rattle.mm_slots.specs.Laws.{SlotsAreAlone, SlotsRun};
-ghost use Rattle.mm_slots.specs.Tellings.{SlotsTellReplies};
+ghost use Rattle.mm_slots.specs.Laws.{SlotsTellReplies};
 
 use mm_run::{basic_is_expected, expected_runs, opt_is_expected, schedules_go_on};
 

@@ -51,7 +51,7 @@ impl Progress {
     ghost use Rattle.mm_play.specs.Takes.{GivesReply};
     ghost use Rattle.mm_slots.specs.Answers.{answers_text, end_lines};
     ghost use Rattle.mm_slots.specs.Grammar.{event_at};
-    ghost use Rattle.mm_slots.specs.Progress.{Reports};
+    ghost use Rattle.mm_slots.specs.Plays.{Reports};
     ghost use Rattle.mm_slots.specs.Rows.{IsInside};
     ghost use Rattle.mm_slots.specs.Stage.{InEvents, begun, is_too_much, after_line, event_answer};
     ghost use Rattle.mm_slots.specs.Table.{answers_to};

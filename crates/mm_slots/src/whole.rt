@@ -6,8 +6,7 @@ ghost use Rattle.mm_play.specs.Plays.{IsBlamed, IsUnrefused, is_read_fault, is_w
 ghost use Rattle.mm_slots.specs.Counting.{slots_count_down, slots_are_short};
 ghost use Rattle.mm_slots.specs.Stage.{SlotsStage, AtFirst, slots_answer, slots_closing, lines_left_at};
 ghost use Rattle.mm_slots.specs.Playing.{stage_in};
-ghost use Rattle.mm_slots.specs.Plays.{PlaysSlots};
-ghost use Rattle.mm_slots.specs.Progress.{Reports};
+ghost use Rattle.mm_slots.specs.Plays.{PlaysSlots, Reports};
 
 use crate::laws::slots_run;
 use crate::report::SlotReport;

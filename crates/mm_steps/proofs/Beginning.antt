@@ -1,8 +1,8 @@
 -- How a call in flight begins, and takes in a value of others.
 use Rattle.mm_steps.proofs.Below.{◌≡◌, ℕ, ◌<◌, List, [], Some, refl, sym, subst, option_map, Variant, Meddle, Plan, Standing, meddling}
-use Rattle.mm_steps.proofs.Below.{next_plan, Meaning, Batch, Digests, instance_by, CheckpointStage, checks_on, AskCall, begun, ask_number}
-use Rattle.mm_steps.proofs.Below.{MayAsk, ask_begun, begun_may_ask, may_ask_planned, begins, takes_in, meddled, asks_whole, asks_rest}
-use Rattle.mm_steps.proofs.Below.{AsksInFlight, checks_whole, checks_rest, ClosesInFlight}
+use Rattle.mm_steps.proofs.Below.{next_plan, Meaning, Batch, Digests, instance_by, checks_on, AskCall, begun, ask_number}
+use Rattle.mm_steps.proofs.Below.{ask_begun, begun_may_ask, begins, takes_in, meddled}
+use Rattle.mm_steps.proofs.Below.{AsksInFlight, ClosesInFlight}
 use Rattle.mm_digest.specs.declared.digest.Digest.{Digest}
 use Rattle.mm_digest.specs.declared.variant.Variant.TheVariants as variant
 use Rattle.mm_model.specs.Instance.{Instance}
@@ -17,7 +17,8 @@ first_number variant.Basic = refl
 first_number variant.Opt = refl
 
 module _ (call : CallLeft) (i : Instance) (d : Digests) (from : Standing) where
-  flight_begun : Stands i from d → IsQuiet from → ((old new : Standing) (ended : call.Ends) → call.rest old new ended → call.whole old new ended)
+  flight_begun : Stands i from d → IsQuiet from
+      → ((old new : Standing) (ended : call.Ends) → call.rest old new ended → call.whole old new ended)
       → call.may from → call.number ≡ 1 → IsInFlight call i d from from [] 1
   flight_begun s q leads may first = record {
     stands = s;

@@ -1,6 +1,6 @@
 -- The next step of a checkpoint, and a step that breaks it off.
-use Rattle.mm_steps.proofs.Below.{◌≡◌, ℕ, ◌+◌, ◌<◌, ◌≤◌, Bool, true, false, ◌&&◌, List, Option, None, Some, Result, Ok, Err, refl, sym, ap}
-use Rattle.mm_steps.proofs.Below.{◌∙◌, subst, arith, ◌==◌, option_map, counted, Variant, Failed, Meddle, Stop, Quiet, Fail, Plan, Standing}
+use Rattle.mm_steps.proofs.Below.{◌≡◌, ℕ, ◌+◌, ◌<◌, ◌≤◌, Bool, true, false, ◌&&◌, List, None, Some, Result, Ok, Err, refl, sym, ap}
+use Rattle.mm_steps.proofs.Below.{◌∙◌, subst, arith, ◌==◌, option_map, counted, Variant, Failed, Meddle, Stop, Quiet, Fail, Standing}
 use Rattle.mm_steps.proofs.Below.{stopping, quiet_plan, step_made, Meaning, Digests, instance_by, CheckpointStage, plan_by, under}
 use Rattle.mm_steps.proofs.Below.{closing_replanned, closing_moves, closing_then, closing_done, closing_refused, closing_fails}
 use Rattle.mm_steps.proofs.Below.{closing_faultless, goes_on, stopped_step, closes_at, SettlesPlan, told_closing, stops_in, Came, quiet_as}
@@ -13,14 +13,15 @@ use Rattle.mm_opt.specs.declared.segment.CheckpointRefusal.TheVariants as refusa
 use Rattle.mm_opt.specs.declared.stage.CheckpointStage.TheVariants as stage
 use Rattle.mm_opt.specs.declared.closing.CheckpointTurn.{CheckpointTurn}
 use Rattle.mm_opt.specs.declared.closing.CheckpointTurn.TheVariants as turn
-use Rattle.mm_opt.specs.Checkpoints.{closing_act_of, closing_number_of, closing_fault_of, closing_fault_in, FinishesClosing}
-use Rattle.mm_opt.specs.CheckpointTurns.{ClosingTurns}
+use Rattle.mm_opt.specs.Checkpoints.{closing_act_of, closing_number_of, closing_fault_in, FinishesClosing}
+use Rattle.mm_opt.specs.CheckpointTurns.{closing_fault_turned, ClosingTurns}
 use Rattle.mm_opt.specs.ChecksOn.{ChecksOn}
 use Rattle.mm_schedule.specs.declared.reply.Reply.{Reply}
 use Rattle.mm_schedule.specs.declared.reply.Way.TheVariants as way
 use Rattle.mm_run.specs.FoldsWords.{stopped_reply}
 use Rattle.mm_steps.specs.declared.closings.SteppedClosing.TheVariants.{Going, Over}
-use Rattle.mm_steps.proofs.Stopping.{goes_as, fails_next, behind, replans_behind, settled_under, fewer, later_than, settled_behind, stopped_under}
+use Rattle.mm_steps.proofs.Stopping.{goes_as, fails_next, behind, replans_behind, settled_under, fewer, later_than, settled_behind}
+use Rattle.mm_steps.proofs.Stopping.{stopped_under}
 
 abbrev Said : Type 0
 Said = Result Checkpointed CheckpointRefusal
@@ -43,56 +44,46 @@ something stop (Err (refusal.Device fault)) none = let clash : Some fault ≡ No
 something stop (Ok checkpointed.Done) none = refl
 something stop _ none = refl
 
-turned_under : (call : CheckpointStage) (now mid : Standing) (meddles : List Meddle) (made : ℕ) (turned : CheckpointTurn) → now.is_on ≡ true
-    → now.plan ≡ Some (record (plan_by Quiet meddles) { at = made }) → made < 255 → ClosingTurns call now mid turned
-    → ClosingTurns call (under (behind meddles made) made now) (under (behind meddles made) (counted made) mid) turned
-turned_under call now mid meddles made turned on planned few t =
-    closing_replanned call now mid turned (behind meddles made) (plan_by Quiet meddles) made
-    (replans_behind now meddles made on planned few) t
+-- a turn that is its last
+
+abbrev turn_of : Said → CheckpointTurn
+turn_of (Ok it) = turn.Done it
+turn_of (Err why) = turn.Refused why
+
+ends_by : (ended : Said) (call : CheckpointStage) (old new : Standing) → ClosingTurns call old new (turn_of ended)
+    → FinishesClosing call old new ended
+ends_by (Ok it) call old new t = closing_done call old new it t
+ends_by (Err why) call old new t = closing_refused call old new why t
+
+faultless : (ended : Said) → closing_fault_turned (turn_of ended) ≡ None → closing_fault_in ended ≡ None
+faultless (Ok it) e = refl
+faultless (Err why) e = e
 
 module _ (variant : Variant) (meaning : Meaning) (key barrier : List ℕ) (d : Digests) (from : Standing) (issued : List (List ℕ))
-    (call : CheckpointStage) (now mid : Standing) (meddles : List Meddle) where
-  -- a turn that is its last
-
-  over_to : (next : ℕ) (new : Standing) (ended : Said) (said : Reply) → (f : ClosesInFlight variant meaning key barrier d from call now
-      meddles next) → closing_fault_in ended ≡ None → FinishesClosing call (under (behind meddles f.made) f.made now)
-      (under (behind meddles f.made) (counted f.made) mid) ended → ClosesAs (stop_behind next) ended mid new said
+    (call : CheckpointStage) (now mid : Standing) (meddles : List Meddle) (next : ℕ)
+    (f : ClosesInFlight variant meaning key barrier d from call now meddles next) where
+  over_to : (new : Standing) (ended : Said) (said : Reply) → closing_fault_in ended ≡ None
+      → FinishesClosing call (under (behind meddles next) f.made now) (under (behind meddles next) (counted f.made) mid) ended
+      → ClosesAs (stop_behind next) ended mid new said
       → SteppedClosingTo variant meaning key barrier d from issued meddles next new (Over said)
-  over_to next new ended said f none finishes e =
-      let i = instance_by variant meaning key barrier in let made = f.made in let stop = stop_behind (made + 1) in
-      let settles = settled_under stop (stops_in ended) (behind meddles made) (counted made) mid new
-      (subst (λ (k : ℕ). SettlesPlan (stop_behind k) (stops_in ended) mid new) f.is_next e.settles) in
-      let came = comes variant meaning key barrier d from call now meddles next f stop (under (behind meddles made) (counted made) mid) new
-      ended (omega arith) finishes settles issued in
-      let back = subst (λ (k : ℕ). Came i (closed_so i d issued meddles (stop_behind k)) d.count issued from new
-      (quiet_as (told_closing (stop_behind k) ended))) (sym f.is_next) came in
-      let so : Came i (closed_so i d issued meddles (stop_behind next)) d.count issued from new (quiet_as said) = subst
-      (λ (x : Reply). Came i (closed_so i d issued meddles (stop_behind next)) d.count issued from new (quiet_as x)) (sym e.told) back in
-      (so, ap (λ x. is_nothing x) (sym back.reply) ∙ something (stop_behind next) ended none)
+  over_to new ended said none finishes e =
+      let stop = stop_behind next in
+      let came = comes variant meaning key barrier d from call now meddles next f stop
+      (under (behind meddles next) (counted f.made) mid) new ended (omega (arith, f.is_next)) finishes
+      (settled_under stop (stops_in ended) (behind meddles next) (counted f.made) mid new e.settles) issued in
+      (rw e.told came, ap (λ x. is_nothing x) (sym came.reply) ∙ something stop ended none)
 
-  pub done_to : (next : ℕ) (new : Standing) (number : ℕ) (it : Checkpointed) (turned : CheckpointTurn) (said : Reply)
-      → ClosesInFlight variant meaning key barrier d from call now meddles next → number ≡ closing_number_of call
-      → ClosingTurns call now mid turned → turned ≡ turn.Done it → ClosesAs (stop_behind number) (Ok it) mid new said
+  pub ended_to : (new : Standing) (number : ℕ) (ended : Said) (turned : CheckpointTurn) (said : Reply) → number ≡ closing_number_of call
+      → ClosingTurns call now mid turned → turned ≡ turn_of ended → ClosesAs (stop_behind number) ended mid new said
       → SteppedClosingTo variant meaning key barrier d from issued meddles next new (Over said)
-  done_to next new number it turned said f at t e ends =
-      let made = f.made in
-      let u = turned_under call now mid meddles made (turn.Done it) f.flies.is_on f.flies.planned f.flies.few
-      (subst (λ (x : CheckpointTurn). ClosingTurns call now mid x) e t) in
-      over_to next new (Ok it) said f refl (closing_done call (under (behind meddles made) made now) (under (behind meddles made)
-      (counted made) mid) it u) (subst (λ (k : ℕ). ClosesAs (stop_behind k) (Ok it) mid new said) (at ∙ f.number ∙ sym f.is_next) ends)
-
-  pub refused_to : (next : ℕ) (new : Standing) (number : ℕ) (why : CheckpointRefusal) (turned : CheckpointTurn) (said : Reply)
-      → ClosesInFlight variant meaning key barrier d from call now meddles next → number ≡ closing_number_of call
-      → ClosingTurns call now mid turned → turned ≡ turn.Refused why → ClosesAs (stop_behind number) (Err why) mid new said
-      → SteppedClosingTo variant meaning key barrier d from issued meddles next new (Over said)
-  refused_to next new number why turned said f at t e ends =
-      let made = f.made in
-      let refused = subst (λ (x : CheckpointTurn). ClosingTurns call now mid x) e t in
-      let none : closing_fault_of why ≡ None = closing_faultless call now mid (turn.Refused why) meddles made f.flies.is_on f.flies.planned
-      refused in
-      let u = turned_under call now mid meddles made (turn.Refused why) f.flies.is_on f.flies.planned f.flies.few refused in
-      over_to next new (Err why) said f none (closing_refused call (under (behind meddles made) made now) (under (behind meddles made)
-      (counted made) mid) why u) (subst (λ (k : ℕ). ClosesAs (stop_behind k) (Err why) mid new said) (at ∙ f.number ∙ sym f.is_next) ends)
+  ended_to new number ended turned said at t e ends =
+      let here = subst (λ (x : CheckpointTurn). ClosingTurns call now mid x) e t in
+      let none = closing_faultless call now mid (turn_of ended) meddles f.made f.flies.is_on f.flies.planned here in
+      let there = closing_replanned call now mid (turn_of ended) (behind meddles next) (plan_by Quiet meddles) f.made
+      (replans_behind now meddles f.made next f.flies.is_on f.flies.planned f.flies.few f.is_next) here in
+      over_to new ended said (faultless ended none)
+      (ends_by ended call (under (behind meddles next) f.made now) (under (behind meddles next) (counted f.made) mid) there)
+      (subst (λ (k : ℕ). ClosesAs (stop_behind k) ended mid new said) (at ∙ f.number ∙ sym f.is_next) ends)
 
 -- a turn that goes on
 
@@ -117,8 +108,8 @@ module _ (variant : Variant) (meaning : Meaning) (key barrier : List ℕ) (d : D
       let last : Standing = step_made (closing_act_of call) at in let ended : Said = Err (refusal.Device Failed) in
       let finishes = closing_fails call at last Failed (fails_next (closing_act_of call) now meddles made f.flies.is_on f.flies.few) in
       let settled : Standing = record last { plan = Some quiet_plan } in
-      let came = comes variant meaning key barrier d from call now meddles next f stop last settled ended (omega arith) finishes (settled_behind made last)
-      issued in
+      let came = comes variant meaning key barrier d from call now meddles next f stop last settled ended (omega arith) finishes
+      (settled_behind made last) issued in
       let effect : closes_at stop ≡ false = no_effect (made + 1 == 3) in
       let nothing : is_nothing (told_closing stop ended) ≡ true = ap (λ (x : Bool). is_nothing (stopped_reply way.Fault x)) effect in
       let said : is_nothing (closed_so i d issued meddles stop).reply ≡ true = sym (ap (λ x. is_nothing x) came.reply) ∙ nothing in

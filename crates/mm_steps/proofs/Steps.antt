@@ -1,10 +1,10 @@
 -- The next step of a call that asks for a batch, and a step that breaks it off.
-use Rattle.mm_steps.proofs.Below.{◌≡◌, ℕ, ◌+◌, ◌<◌, ◌≤◌, Bool, true, false, List, Option, None, Some, Result, Ok, Err, refl, sym, ap, ◌∙◌}
+use Rattle.mm_steps.proofs.Below.{◌≡◌, ℕ, ◌+◌, ◌<◌, Bool, true, false, List, Option, None, Some, Result, Ok, Err, refl, sym, ap, ◌∙◌}
 use Rattle.mm_steps.proofs.Below.{subst, arith, MatchResult, IsErr, option_map, counted, Variant, StepFault, Failed, Meddle, Stop, Quiet}
-use Rattle.mm_steps.proofs.Below.{Fail, Plan, Standing, stopping, quiet_plan, step_made, Meaning, Batch, size_of, Digests, instance_by}
+use Rattle.mm_steps.proofs.Below.{Fail, Standing, stopping, quiet_plan, step_made, Meaning, Batch, size_of, Digests, instance_by}
 use Rattle.mm_steps.proofs.Below.{AskCall, ask_number, AskTurns, TurnMayAsk, AskFinishes, AdvancedAsk, plan_by, under, AlwaysFails, ask_act}
 use Rattle.mm_steps.proofs.Below.{ask_replanned, ask_moves, ask_then, ask_answers, ask_refuses, ask_fails, ask_faultless, ask_breaks}
-use Rattle.mm_steps.proofs.Below.{few_steps, goes_on, refused_call, answered_call, broken_as, stopped_step, RefusedAs, CalledAs}
+use Rattle.mm_steps.proofs.Below.{few_steps, goes_on, broken_as, stopped_step, RefusedAs, CalledAs}
 use Rattle.mm_steps.proofs.Below.{SettlesPlan, Came, Lacks, asks_planned, BreaksNext, is_nothing, stop_behind, asks_whole, asks_rest}
 use Rattle.mm_steps.proofs.Below.{AsksInFlight, asked_so, SteppedTo, MayStepOn, over_in, EndsAs}
 use Rattle.mm_base.specs.declared.fault.Memory.{Memory}
@@ -19,15 +19,16 @@ use Rattle.mm_call.specs.Ended.{CallsTo, is_broken, ended_with, refused_as}
 use Rattle.mm_call.specs.Refusals.{fault_of}
 use Rattle.mm_call.specs.Levels.{by_digests}
 use Rattle.mm_schedule.specs.declared.event.Offer.{Offer}
-use Rattle.mm_schedule.specs.declared.reply.Cause.{Cause}
-use Rattle.mm_run.specs.Folds.{asked, cause_of}
+use Rattle.mm_run.specs.Folds.{asked}
 use Rattle.mm_run.specs.Offered.{offered_bytes}
+use Rattle.mm_flight.specs.Asks.{ask_fault}
 use Rattle.mm_flight.specs.declared.ask.AskTurn.{AskTurn}
 use Rattle.mm_flight.specs.declared.ask.AskTurn.TheVariants as turn
 use Rattle.mm_world.specs.declared.call.Called.{Called}
 use Rattle.mm_steps.specs.declared.asks.Stepped.{Stepped}
 use Rattle.mm_steps.specs.declared.asks.Stepped.TheVariants.{Going}
-use Rattle.mm_steps.proofs.Stopping.{goes_as, fails_next, always_fails, behind, replans_behind, settled_under, fewer, later_than, settled_behind, stopped_under}
+use Rattle.mm_steps.proofs.Stopping.{goes_as, fails_next, always_fails, behind, replans_behind, settled_under, fewer, later_than}
+use Rattle.mm_steps.proofs.Stopping.{settled_behind, stopped_under}
 
 -- what a call came to that was made whole by what ended it
 
@@ -60,44 +61,48 @@ comes_so i d issued meddles stop offer bytes b from new it offered c =
 
 -- a call that wasn't broken off comes to something
 
-record IsRefusedFor (it : Called) : Type 0 where
-  pub cause : Cause
-  pub is : it ≡ refused_call cause
-
-for_cause : (cause : Cause) (it : Called) (result : Result Called Memory) → result ≡ Ok it → result ≡ Ok (refused_call cause)
-    → IsRefusedFor it
-for_cause cause it result e is = record { cause = cause; is = cc }
+abbrev says_nothing : Result Called Memory → Bool
+says_nothing (Ok it) = is_nothing it.reply
+says_nothing (Err memory) = false
 
 ok_never : (it : Called) (result : Result Called Memory) → result ≡ Ok it → IsErr result → ⊥
 ok_never it (Ok other) e r = cc
 ok_never it (Err memory) e r = cc
 
-refused_for : (why : Refusal) (it : Called) (result : Result Called Memory) → result ≡ Ok it → RefusedAs why result → IsRefusedFor it
-refused_for refusal.Memory it result e r = absurd (ok_never it result e r)
-refused_for why it result e r = for_cause (cause_of why) it result e r
+refused_so : (why : Refusal) (it : Called) (result : Result Called Memory) → result ≡ Ok it → RefusedAs why result
+    → is_nothing it.reply ≡ false
+refused_so refusal.Memory it result e r = absurd (ok_never it result e r)
+refused_so _ it result e r = ap says_nothing (sym e ∙ r)
 
 something : (stop : Stop) (size : ℕ) (ended : Ended) (it : Called) (result : Result Called Memory) → is_broken ended ≡ false
     → result ≡ Ok it → CalledAs stop size ended result → is_nothing it.reply ≡ false
-something stop size (Answered answer) it result whole e told =
-    let same : it ≡ answered_call answer = cc in ap (λ (x : Called). is_nothing x.reply) same
-something stop size (Refused why) it result whole e told = ap (λ (x : Called). is_nothing x.reply) (refused_for why it result e told).is
+something stop size (Answered answer) it result whole e told = ap says_nothing (sym e ∙ told)
+something stop size (Refused why) it result whole e told = refused_so why it result e told
 something stop size (Broken fault commits) it result whole e told = absurd (cc)
 
 -- a turn that is the call's last
+
+abbrev turn_of : Result BatchAnswer Refusal → AskTurn
+turn_of (Ok answer) = turn.Done answer
+turn_of (Err why) = turn.Refused why
+
+abbrev ended_of : Result BatchAnswer Refusal → Ended
+ended_of (Ok answer) = Answered answer
+ended_of (Err why) = refused_as why
 
 unbroken_as : (fault : Option StepFault) (why : Refusal) → fault ≡ None → is_broken (ended_with fault why) ≡ false
 unbroken_as None why e = refl
 unbroken_as (Some fault) why e = cc
 
--- the end of a turn
+unbroken : (result : Result BatchAnswer Refusal) → ask_fault (turn_of result) ≡ None → is_broken (ended_of result) ≡ false
+unbroken (Ok answer) e = refl
+unbroken (Err why) e = unbroken_as (fault_of why) why e
 
-finishes_under : (call : AskCall) (meaning : Meaning) (now mid : Standing) (meddles : List Meddle) (made : ℕ) (bytes : List ℕ)
-    (b : Batch) (turned : AskTurn) → now.is_on ≡ true → now.plan ≡ Some (record (plan_by Quiet meddles) { at = made })
-    → made < 255 → AskTurns meaning call now mid bytes b turned → AskTurns meaning call (under (behind meddles made) made now)
-    (under (behind meddles made) (counted made) mid) bytes b turned
-finishes_under call meaning now mid meddles made bytes b turned on planned few t =
-    ask_replanned call meaning now mid bytes b turned (behind meddles made) (plan_by Quiet meddles) made
-    (replans_behind now meddles made on planned few) t
+ends_by : (result : Result BatchAnswer Refusal) (call : AskCall) (meaning : Meaning) (old new : Standing) (bytes : List ℕ) (b : Batch)
+    → ask_fault (turn_of result) ≡ None → AskTurns meaning call old new bytes b (turn_of result)
+    → AskFinishes meaning call old new bytes b (ended_of result)
+ends_by (Ok answer) call meaning old new bytes b none t = ask_answers call meaning old new bytes b answer t
+ends_by (Err why) call meaning old new bytes b none t = ask_refuses call meaning old new bytes b why t none
 
 module _ (variant : Variant) (meaning : Meaning) (key barrier : List ℕ) (d : Digests) (from : Standing) (issued : List (List ℕ)) where
   -- what the step of a call that is over gives, by what it came to
@@ -110,24 +115,6 @@ module _ (variant : Variant) (meaning : Meaning) (key barrier : List ℕ) (d : D
       let came = comes_so i d issued meddles (stop_behind next) offer bytes b from new it offered c in
       (came, ap (λ x. is_nothing x) (sym came.reply) ∙ something (stop_behind next) size ended it result whole (sym e) told)
   over_gives meddles next offer bytes b new size ended (Err memory) result e whole told offered c = c
-
-  pub over_to : (call : AskCall) (now mid : Standing) (meddles : List Meddle) (next : ℕ) (offer : Offer) (bytes : List ℕ) (b : Batch)
-      (new : Standing) (size : ℕ) (ended : Ended) (result : Result Stepped Memory)
-      → (f : AsksInFlight variant meaning key barrier d from call now meddles next bytes b) → is_long b ≡ false → size ≡ size_of b
-      → offered_bytes issued offer ≡ Some bytes → is_broken ended ≡ false → AskFinishes meaning call (under (behind meddles f.made) f.made
-      now) (under (behind meddles f.made) (counted f.made) mid) bytes b ended → EndsAs (stop_behind next) size ended mid new result
-      → SteppedTo variant meaning key barrier d from issued meddles next offer bytes b new result
-  over_to call now mid meddles next offer bytes b new size ended result f short n offered whole finishes e =
-      let i = instance_by variant meaning key barrier in let made = f.made in let stop = stop_behind (made + 1) in
-      let settles = settled_under stop (is_broken ended) (behind meddles made) (counted made) mid new
-      (subst (λ (k : ℕ). SettlesPlan (stop_behind k) (is_broken ended) mid new) f.is_next e.settles) in
-      let told : CalledAs stop size ended e.called = subst (λ (k : ℕ). CalledAs (stop_behind k) size ended e.called) f.is_next e.told in
-      let came = comes variant meaning key barrier d from call now meddles next bytes b f short stop
-      (under (behind meddles made) (counted made) mid) new ended size e.called (omega arith) finishes n settles told issued in
-      let back : Comes i d issued meddles (stop_behind next) bytes b from new e.called = subst
-      (λ (k : ℕ). Comes i d issued meddles (stop_behind k) bytes b from new e.called) (sym f.is_next) came in
-      subst (λ (r : Result Stepped Memory). SteppedTo variant meaning key barrier d from issued meddles next offer bytes b new r)
-      (sym e.gives) (over_gives meddles next offer bytes b new size ended e.called e.called refl whole e.told offered back)
 
   -- the call has come to nothing so far: its next step may still fail without effect
   nothing_yet : (call : AskCall) (now : Standing) (meddles : List Meddle) (next : ℕ) (offer : Offer) (bytes : List ℕ) (b : Batch)
@@ -171,34 +158,35 @@ module _ (variant : Variant) (meaning : Meaning) (key barrier : List ℕ) (d : D
       } in
       (flight, nothing_yet on new meddles (next + 1) offer bytes b flight short offered)
 
-  pub answers_to : (call : AskCall) (now mid : Standing) (meddles : List Meddle) (next : ℕ) (offer : Offer) (bytes : List ℕ) (b : Batch)
-      (new : Standing) (size number : ℕ) (answer : BatchAnswer) (turned : AskTurn) (result : Result Stepped Memory)
-      → AsksInFlight variant meaning key barrier d from call now meddles next bytes b → is_long b ≡ false → size ≡ size_of b
-      → number ≡ ask_number call → offered_bytes issued offer ≡ Some bytes → AdvancedAsk meaning call now mid bytes b turned
-      → turned ≡ turn.Done answer → EndsAs (stop_behind number) size (Answered answer) mid new result
+module _ (variant : Variant) (meaning : Meaning) (key barrier : List ℕ) (d : Digests) (from : Standing) (issued : List (List ℕ))
+    (call : AskCall) (now mid : Standing) (meddles : List Meddle) (next : ℕ) (offer : Offer) (bytes : List ℕ) (b : Batch)
+    (f : AsksInFlight variant meaning key barrier d from call now meddles next bytes b) (short : is_long b ≡ false)
+    (offered : offered_bytes issued offer ≡ Some bytes) where
+  over_to : (new : Standing) (size : ℕ) (ended : Ended) (result : Result Stepped Memory) → size ≡ size_of b → is_broken ended ≡ false
+      → AskFinishes meaning call (under (behind meddles next) f.made now) (under (behind meddles next) (counted f.made) mid) bytes b ended
+      → EndsAs (stop_behind next) size ended mid new result
       → SteppedTo variant meaning key barrier d from issued meddles next offer bytes b new result
-  answers_to call now mid meddles next offer bytes b new size number answer turned result f short n at offered a e ends =
-      let t = finishes_under call meaning now mid meddles f.made bytes b (turn.Done answer) f.flies.is_on f.flies.planned f.flies.few
-      (subst (λ (x : AskTurn). AskTurns meaning call now mid bytes b x) e a.turns) in
-      over_to call now mid meddles next offer bytes b new size (Answered answer) result f short n offered refl (ask_answers call meaning
-      (under (behind meddles f.made) f.made now) (under (behind meddles f.made) (counted f.made) mid) bytes b answer t)
-      (subst (λ (k : ℕ). EndsAs (stop_behind k) size (Answered answer) mid new result) (at ∙ f.number ∙ sym f.is_next) ends)
+  over_to new size ended result n whole finishes e =
+      let stop = stop_behind next in
+      let came = comes variant meaning key barrier d from call now meddles next bytes b f short stop
+      (under (behind meddles next) (counted f.made) mid) new ended size e.called (omega (arith, f.is_next)) finishes n
+      (settled_under stop (is_broken ended) (behind meddles next) (counted f.made) mid new e.settles) e.told issued in
+      rw e.gives (over_gives variant meaning key barrier d from issued meddles next offer bytes b new size ended e.called e.called refl
+      whole e.told offered came)
 
-  pub refuses_to : (call : AskCall) (now mid : Standing) (meddles : List Meddle) (next : ℕ) (offer : Offer) (bytes : List ℕ) (b : Batch)
-      (new : Standing) (size number : ℕ) (why : Refusal) (turned : AskTurn) (ended : Ended) (result : Result Stepped Memory)
-      → AsksInFlight variant meaning key barrier d from call now meddles next bytes b → is_long b ≡ false → size ≡ size_of b
-      → number ≡ ask_number call → offered_bytes issued offer ≡ Some bytes → AdvancedAsk meaning call now mid bytes b turned
-      → turned ≡ turn.Refused why → ended ≡ refused_as why → EndsAs (stop_behind number) size ended mid new result
+  pub ended_to : (new : Standing) (size number : ℕ) (it : Result BatchAnswer Refusal) (turned : AskTurn) (ended : Ended)
+      (result : Result Stepped Memory) → size ≡ size_of b → number ≡ ask_number call → AdvancedAsk meaning call now mid bytes b turned
+      → turned ≡ turn_of it → ended ≡ ended_of it → EndsAs (stop_behind number) size ended mid new result
       → SteppedTo variant meaning key barrier d from issued meddles next offer bytes b new result
-  refuses_to call now mid meddles next offer bytes b new size number why turned ended result f short n at offered a e is ends =
-      let refused = subst (λ (x : AskTurn). AskTurns meaning call now mid bytes b x) e a.turns in
-      let none : fault_of why ≡ None = ask_faultless call meaning now mid bytes b (turn.Refused why) meddles f.made f.flies.is_on
-      f.flies.planned refused in
-      let t = finishes_under call meaning now mid meddles f.made bytes b (turn.Refused why) f.flies.is_on f.flies.planned f.flies.few
-      refused in
-      over_to call now mid meddles next offer bytes b new size (refused_as why) result f short n offered (unbroken_as (fault_of why) why
-      none) (ask_refuses call meaning (under (behind meddles f.made) f.made now) (under (behind meddles f.made) (counted f.made) mid) bytes
-      b why t none) (subst (λ (k : ℕ). EndsAs (stop_behind k) size (refused_as why) mid new result) (at ∙ f.number ∙ sym f.is_next)
+  ended_to new size number it turned ended result n at a e is ends =
+      let here = subst (λ (x : AskTurn). AskTurns meaning call now mid bytes b x) e a.turns in
+      let none = ask_faultless call meaning now mid bytes b (turn_of it) meddles f.made f.flies.is_on f.flies.planned here in
+      let there = ask_replanned call meaning now mid bytes b (turn_of it) (behind meddles next) (plan_by Quiet meddles) f.made
+      (replans_behind now meddles f.made next f.flies.is_on f.flies.planned f.flies.few f.is_next) here in
+      over_to new size (ended_of it) result n (unbroken it none)
+      (ends_by it call meaning (under (behind meddles next) f.made now) (under (behind meddles next) (counted f.made) mid) bytes b none
+      there)
+      (subst (λ (k : ℕ). EndsAs (stop_behind k) size (ended_of it) mid new result) (at ∙ f.number ∙ sym f.is_next)
       (subst (λ (x : Ended). EndsAs (stop_behind number) size x mid new result) is ends))
 
 -- the room that it takes, if it goes on

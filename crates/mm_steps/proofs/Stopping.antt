@@ -8,27 +8,15 @@ use Rattle.std.proofs.lemmas.Bool.Decides.{nat_tests}
 use Rattle.mm_platform.specs.Steps.{Act, Goes, fault_at, will_answer}
 use Rattle.mm_platform.specs.StepLaws.{goes}
 
-none_here : (here : Bool) (fault : StepFault) → here ≡ false → (if here then Some fault else None) ≡ None
-none_here true fault e = cc
-none_here false fault e = refl
-
-made_here : (here done : Bool) → here ≡ false → (if here then done else true) ≡ true
-made_here true done e = cc
-made_here false done e = refl
-
-on_here : (here : Bool) → here ≡ false → not here ≡ true
-on_here true e = cc
-on_here false e = refl
-
 same_at : (stop : Stop) (meddles : List Meddle) (n : ℕ) → (stopped_step stop ≡ n → ⊥)
     → SaySame (plan_by stop meddles) (plan_by Quiet meddles) n
 same_at Quiet meddles n other = record { brings = refl; answers = refl; makes = refl; stays = refl }
-same_at (Cut at) meddles n other = let e = ne_eqb at n other in record
-    { brings = refl; answers = none_here (at == n) Off e; makes = refl; stays = on_here (at == n) e }
-same_at (Drop at) meddles n other = let e = ne_eqb at n other in record
-    { brings = refl; answers = none_here (at == n) Off e; makes = refl; stays = refl }
-same_at (Fail at done) meddles n other = let e = ne_eqb at n other in record
-    { brings = refl; answers = none_here (at == n) Failed e; makes = made_here (at == n) done e; stays = refl }
+same_at (Cut at) meddles n other =
+    let e = ne_eqb at n other in record { brings = refl; answers = rw e refl; makes = refl; stays = rw e refl }
+same_at (Drop at) meddles n other =
+    let e = ne_eqb at n other in record { brings = refl; answers = rw e refl; makes = refl; stays = refl }
+same_at (Fail at done) meddles n other =
+    let e = ne_eqb at n other in record { brings = refl; answers = rw e refl; makes = rw e refl; stays = refl }
 
 earlier : (stop n made : ℕ) → made < stop → n ≤ made → stop ≡ n → ⊥
 earlier stop n made later few e = omega arith
@@ -47,56 +35,36 @@ same_next meddles made = same_at (stop_behind (made + 1)) meddles (made + 1)
 same_numbers : (n k : ℕ) → n ≡ k → (n == k) ≡ true
 same_numbers n k e = grind (arith, nat_tests)
 
-fails_if : (here : Bool) → here ≡ true → Some Failed ≡ (if here then Some Failed else None)
-fails_if true e = refl
-fails_if false e = cc
-
-answers_if : (on : Bool) (plan : Plan) (fault : Option StepFault) → on ≡ true → fault ≡ fault_at plan.stop (next_step plan)
-    → fault ≡ will_answer on plan
-answers_if true plan fault e known = known
-answers_if false plan fault e known = cc
-
 pub fails_next : (act : Act) (now : Standing) (meddles : List Meddle) (made : ℕ) → now.is_on ≡ true → made < 255
     → (let at = under (plan_by (stop_behind made) meddles) made now in Goes act at (step_made act at) (Some Failed))
 fails_next act now meddles made on few =
-    let plan : Plan = record (plan_by (stop_behind made) meddles) { at = made } in
     let at = under (plan_by (stop_behind made) meddles) made now in
     let here = same_numbers (made + 1) (counted made) (sym (counted_few made few)) in
-    goes act at (step_made act at) (Some Failed) refl (answers_if now.is_on plan (Some Failed) on
-    (fails_if (made + 1 == counted made) here))
+    goes act at (step_made act at) (Some Failed) refl (rw (on, here) refl)
 
 -- a platform whose next step fails by this stop
 
 none_fails : (stop : Stop) (n : ℕ) → fault_at stop n ≡ None → is_some (fault_at stop n) ≡ true → ⊥
 none_fails stop n none some = let clash : false ≡ true = sym (ap (λ (f : Option StepFault). is_some f) none) ∙ some in cc
 
-answered_on : (on : Bool) (plan : Plan) (fault : Option StepFault) → on ≡ true → fault ≡ will_answer on plan
-    → fault ≡ fault_at plan.stop (next_step plan)
-answered_on true plan fault e known = known
-answered_on false plan fault e known = cc
-
 pub always_fails : (stop : Stop) (old : Standing) → BreaksNext stop old
     → AlwaysFails (record old { plan = option_map (stopping stop) old.plan })
 always_fails stop old b = λ act new fault g none.
     let plan : Plan = stopping stop b.plan in
     let planned : option_map (stopping stop) old.plan ≡ Some plan = ap (λ (p : Option Plan). option_map (stopping stop) p) b.planned in
-    let known = answered_on old.is_on plan fault b.is_on (g.told plan planned).answers in
+    let known : fault ≡ fault_at plan.stop (next_step plan) = rw b.is_on at (g.told plan planned).answers in
     none_fails stop (next_step b.plan) (sym known ∙ none) b.fails
 
 -- a stop at the next step breaks it off
-
-some_here : (here : Bool) (fault : StepFault) → here ≡ true → is_some (if here then Some fault else None) ≡ true
-some_here true fault e = refl
-some_here false fault e = cc
 
 quiet_never : (n : ℕ) → 0 ≡ n → 0 < n → ⊥
 quiet_never n e positive = omega arith
 
 fails_at : (stop : Stop) (n : ℕ) → stopped_step stop ≡ n → 0 < n → is_some (fault_at stop n) ≡ true
 fails_at Quiet n e positive = absurd (quiet_never n e positive)
-fails_at (Cut at) n e positive = some_here (at == n) Off (same_numbers at n e)
-fails_at (Drop at) n e positive = some_here (at == n) Off (same_numbers at n e)
-fails_at (Fail at done) n e positive = some_here (at == n) Failed (same_numbers at n e)
+fails_at (Cut at) n e positive = rw (same_numbers at n e) refl
+fails_at (Drop at) n e positive = rw (same_numbers at n e) refl
+fails_at (Fail at done) n e positive = rw (same_numbers at n e) refl
 
 next_number : (stop next made count : ℕ) → stop ≡ next → next ≡ made + 1 → count ≡ made + 1 → stop ≡ count
 next_number stop next made count at is counts = omega arith
@@ -112,14 +80,15 @@ breaks_at stop now meddles made next on planned few at is =
       fails = fails_at stop (counted made) (next_number (stopped_step stop) next made (counted made) at is counts) (omega arith);
     }
 
--- the plan that stops behind the steps that were made, and what it leaves
+-- the plan that stops behind the next step, and what it leaves
 abbrev pub behind : List Meddle → ℕ → Plan
-behind meddles made = plan_by (stop_behind (made + 1)) meddles
+behind meddles next = plan_by (stop_behind next) meddles
 
-pub replans_behind : (now : Standing) (meddles : List Meddle) (made : ℕ) → now.is_on ≡ true
-    → now.plan ≡ Some (record (plan_by Quiet meddles) { at = made }) → made < 255
-    → Replans (behind meddles made) (plan_by Quiet meddles) made now
-replans_behind now meddles made on planned few = replans (behind meddles made) now meddles made on planned few (same_next meddles made)
+pub replans_behind : (now : Standing) (meddles : List Meddle) (made next : ℕ) → now.is_on ≡ true
+    → now.plan ≡ Some (record (plan_by Quiet meddles) { at = made }) → made < 255 → next ≡ made + 1
+    → Replans (behind meddles next) (plan_by Quiet meddles) made now
+replans_behind now meddles made next on planned few is =
+    rw is (replans (behind meddles (made + 1)) now meddles made on planned few (same_next meddles made))
 
 pub settled_under : (stop : Stop) (broken : Bool) (plan : Plan) (at : ℕ) (mid new : Standing) → SettlesPlan stop broken mid new
     → SettlesPlan stop broken (under plan at mid) new

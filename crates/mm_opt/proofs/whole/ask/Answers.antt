@@ -1,11 +1,7 @@
-use Rattle.mm_opt.proofs.Below.{Ok, subst, One, BatchAnswer, wholly, AskedInOpt}
+use Rattle.mm_opt.proofs.Below.{wholly}
 use Rattle.mm_opt.proofs.whole.ask.Goals as goal
 
 pub returns-in-Ok : goal.returns-in-Ok
 returns-in-Ok g c =
-    subst
-    (λ (a : BatchAnswer). AskedInOpt (g.M.Module.meaning c.args.module.now) (g.P.Device.standing c.args.platform.now)
-    (g.P.Device.standing c.call_one.new.platform) c.args.offer.now (One c.args.request.now) (Ok a))
-    (wholly c.in-Ok.answer c.into_one.result c.into_one.ensures.again c.into_one.ensures.position
-    c.into_one.ensures.output c.into_one.ensures.snapshot)
-    c.in-Ok.ensures.asked
+    rw (← wholly c.in-Ok.answer c.into_one.result c.into_one.ensures.again c.into_one.ensures.position c.into_one.ensures.output
+    c.into_one.ensures.snapshot) c.in-Ok.ensures.asked

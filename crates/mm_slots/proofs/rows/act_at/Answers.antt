@@ -1,4 +1,4 @@
-use Rattle.mm_slots.proofs.Below.{ℕ, [], ◌+◌, ◌-◌, ◌^◌, get_or, slice_set, refl, sym, subst, arith, Standing, new_platform, Fits, Wants}
+use Rattle.mm_slots.proofs.Below.{ℕ, [], ◌+◌, ◌-◌, ◌^◌, get_or, slice_set, arith, new_platform, Wants}
 use Rattle.mm_slots.proofs.Below.{Comes, instance_in, slot_in, AllFit, ActsAt, acted}
 use Rattle.mm_slots.proofs.Rowing.{same_length, fit_at, acts_at, lacks_at, on_ok, on_err}
 use Rattle.mm_slots.proofs.rows.act_at.Goals as goal
@@ -8,9 +8,8 @@ slot-requires c = omega (arith, c.requires.inside, same_length (2 ^ 32 - 1) c.ar
 
 pub act-requires-clause-fits : goal.act-requires-clause-fits
 act-requires-clause-fits c =
-    subst (λ (s : Standing). Fits s (get_or c.args.slots.now c.args.number c.index-slots-number.result)) (sym c.slot.ensures.value)
-    (fit_at (2 ^ 32 - 1) c.args.number c.args.platform.now.slots c.args.slots.now (new_platform []) c.index-slots-number.result
-    c.requires.inside c.requires.fit).fits
+    rw c.slot.ensures.value (fit_at (2 ^ 32 - 1) c.args.number c.args.platform.now.slots c.args.slots.now (new_platform [])
+    c.index-slots-number.result c.requires.inside c.requires.fit).fits
 
 pub act-requires-clause-few : goal.act-requires-clause-few
 act-requires-clause-few c =
@@ -30,8 +29,7 @@ returns-clause-ok c =
     (λ said d events fit. acts_at events c.args.number c.args.action c.args.platform.now.slots c.args.slots.now c.act.new.platform
     c.act.new.self said (new_platform [])
     c.index-slots-number.result c.requires.inside fit
-    (subst (λ (s : Standing). Comes c.act.new.platform slot c.act.new.self (acted (instance_in slot) (slot_in s slot) c.args.action) said)
-    c.slot.ensures.value d)) c.act.ensures.ok
+    (rw c.slot.ensures.value at d)) c.act.ensures.ok
 
 pub returns-clause-err : goal.returns-clause-err
 returns-clause-err c =

@@ -1,5 +1,4 @@
-use Rattle.mm_slots.proofs.Below.{[], ◌^◌, get_or, refl, sym, subst, arith, Standing, new_platform, Fits}
-use Rattle.mm_slots.specs.Held.{Loses}
+use Rattle.mm_slots.proofs.Below.{[], ◌^◌, arith, new_platform}
 use Rattle.mm_slots.proofs.Rowing.{same_length, fit_at, loses_at}
 use Rattle.mm_slots.proofs.rows.lose_at.Goals as goal
 
@@ -8,13 +7,11 @@ slot-requires c = omega (arith, c.requires.inside, same_length (2 ^ 32) c.args.p
 
 pub lose_power-requires : goal.lose_power-requires
 lose_power-requires c =
-    subst (λ (s : Standing). Fits s (get_or c.args.slots.now c.args.number c.index-slots-number.result)) (sym c.slot.ensures.value)
-    (fit_at (2 ^ 32) c.args.number c.args.platform.now.slots c.args.slots.now (new_platform []) c.index-slots-number.result
-    c.requires.inside c.requires.fit).fits
+    rw c.slot.ensures.value (fit_at (2 ^ 32) c.args.number c.args.platform.now.slots c.args.slots.now (new_platform [])
+    c.index-slots-number.result c.requires.inside c.requires.fit).fits
 
 pub returns : goal.returns
 returns c = λ events fit.
     loses_at events c.args.number c.args.platform.now.slots c.args.slots.now c.lose_power.new.platform c.lose_power.new.self
     (new_platform []) c.index-slots-number.result c.requires.inside fit
-    (subst (λ (s : Standing). Loses s c.lose_power.new.platform (get_or c.args.slots.now c.args.number c.index-slots-number.result)
-    c.lose_power.new.self) c.slot.ensures.value c.lose_power.ensures)
+    (rw c.slot.ensures.value at c.lose_power.ensures)

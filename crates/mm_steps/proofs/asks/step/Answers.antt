@@ -1,5 +1,6 @@
+use Rattle.std.proofs.Common.{Err, Ok, refl}
 use Rattle.mm_module.specs.Batches.{batch_of}
-use Rattle.mm_steps.proofs.Steps.{going_to, answers_to, refuses_to, over_may, going_may}
+use Rattle.mm_steps.proofs.Steps.{going_to, ended_to, over_may, going_may}
 use Rattle.mm_steps.proofs.asks.step.Goals as goal
 
 pub returns-in-Going-clause-steps : goal.returns-in-Going-clause-steps
@@ -10,18 +11,18 @@ returns-in-Going-clause-steps g c =
 
 pub returns-in-Done-clause-steps : goal.returns-in-Done-clause-steps
 returns-in-Done-clause-steps g c =
-    λ variant key barrier d from issued meddles next offer f offered. answers_to variant (g.M.Module.meaning c.args.module.now) key barrier
-    d from issued c.args.call c.args.platform.now c.advance.new.platform meddles next offer c.args.offer.now (batch_of c.args.batch)
-    c.over.new.platform c.len-size.result c.next_step.result c.in-Done.answer c.advance.result c.over.result f c.requires.short
-    c.len-size.ensures c.next_step.ensures.number offered c.advance.ensures c.in-Done.is c.over.ensures
+    λ variant key barrier d from issued meddles next offer f offered. ended_to variant (g.M.Module.meaning c.args.module.now) key barrier
+    d from issued c.args.call c.args.platform.now c.advance.new.platform meddles next offer c.args.offer.now (batch_of c.args.batch) f
+    c.requires.short offered c.over.new.platform c.len-size.result c.next_step.result (Ok c.in-Done.answer) c.advance.result _
+    c.over.result c.len-size.ensures c.next_step.ensures.number c.advance.ensures c.in-Done.is refl c.over.ensures
 
 pub returns-in-Refused-clause-steps : goal.returns-in-Refused-clause-steps
 returns-in-Refused-clause-steps g c =
-    λ variant key barrier d from issued meddles next offer f offered. refuses_to variant (g.M.Module.meaning c.args.module.now) key barrier
-    d from issued c.args.call c.args.platform.now c.advance.new.platform meddles next offer c.args.offer.now (batch_of c.args.batch)
-    c.over-in-Refused.new.platform c.len-size.result c.next_step.result c.in-Refused.refusal c.advance.result c.refused.result
-    c.over-in-Refused.result f c.requires.short c.len-size.ensures c.next_step.ensures.number offered c.advance.ensures c.in-Refused.is
-    c.refused.ensures c.over-in-Refused.ensures
+    λ variant key barrier d from issued meddles next offer f offered. ended_to variant (g.M.Module.meaning c.args.module.now) key barrier
+    d from issued c.args.call c.args.platform.now c.advance.new.platform meddles next offer c.args.offer.now (batch_of c.args.batch) f
+    c.requires.short offered c.over-in-Refused.new.platform c.len-size.result c.next_step.result (Err c.in-Refused.refusal)
+    c.advance.result c.refused.result c.over-in-Refused.result c.len-size.ensures c.next_step.ensures.number c.advance.ensures
+    c.in-Refused.is c.refused.ensures c.over-in-Refused.ensures
 
 pub returns-in-Going-clause-room : goal.returns-in-Going-clause-room
 returns-in-Going-clause-room g c = going_may c.in-Going.call c.advance.result c.advance.new.platform c.advance.ensures.room c.in-Going.is

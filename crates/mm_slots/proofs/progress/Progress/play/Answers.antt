@@ -1,4 +1,4 @@
-use Rattle.mm_slots.proofs.Below.{◌∙◌, ◌-◌, ◌^◌, ℕ, List, length, sym, ap, subst, arith, CodeSlot, AllFit, IsInside}
+use Rattle.mm_slots.proofs.Below.{◌∙◌, ◌-◌, ◌^◌, ℕ, List, length, sym, ap, subst, arith, CodeSlot, IsInside}
 use Rattle.mm_slots.proofs.Rowing.{all_more}
 use Rattle.mm_slots.proofs.Progressing.{sized}
 use Rattle.mm_slots.proofs.progress.Progress.play.Goals as goal
@@ -14,5 +14,5 @@ pub follow-requires-clause-fit : goal.follow-requires-clause-fit
 follow-requires-clause-fit c =
     let p = c.self.inside in
     let few = c.self.invariant.few in
-    subst (λ (x : List CodeSlot). AllFit (2 ^ 32 - 1) p.platform.slots x) (sym c.as_mut_slice.ensures.value)
+    rw c.as_mut_slice.ensures.value
     (all_more p.events (2 ^ 32 - 1) p.platform.slots p.slots.items (omega (arith, few)) c.self.invariant.fit)

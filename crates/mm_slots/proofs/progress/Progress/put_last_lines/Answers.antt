@@ -1,4 +1,4 @@
-use Rattle.mm_slots.proofs.Below.{◌≡◌, ◌∙◌, ◌++◌, List, ℕ, sym, ap, subst, OnOk, most_events, CodeSlot, end_lines, Running, AreCounted}
+use Rattle.mm_slots.proofs.Below.{◌≡◌, ◌∙◌, ◌++◌, List, ℕ, ap, subst, OnOk, most_events, CodeSlot, end_lines, Running}
 use Rattle.mm_slots.proofs.Below.{ends_from}
 use Rattle.mm_slots.proofs.Rowing.{all_more}
 use Rattle.mm_slots.proofs.Totalling.{are_counted, ends_are}
@@ -7,7 +7,7 @@ use Rattle.mm_slots.proofs.progress.Progress.put_last_lines.Goals as goal
 pub put_ends-requires-clause-counted : goal.put_ends-requires-clause-counted
 put_ends-requires-clause-counted c =
     let p = c.self.inside in
-    subst AreCounted (sym c.as_slice.ensures.value) (are_counted p.platform.slots p.slots.items
+    rw c.as_slice.ensures.value (are_counted p.platform.slots p.slots.items
     (all_more p.events most_events p.platform.slots p.slots.items c.self.invariant.few c.self.invariant.fit))
 
 pub returns : goal.returns
