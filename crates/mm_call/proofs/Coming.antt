@@ -50,8 +50,7 @@ module _ (i : Instance) (all : List (List ℕ)) (y sees : History) (lacks : Bool
   comes_by w found same asking is (nothing none unless) =
       let end : History = all_made (by_lists i) y w.moves in
       kept (same_batches i w.moves y none)
-      (λ (answer : BatchAnswer) (gives : given_for (ended_by (by_lists i) sees end b found w.moves w.broken) ≡ Ok answer).
-      let a = answered_only w.broken (by_lists i) sees end b found w.moves answer gives in
+      (λ answer gives. let a = answered_only w.broken (by_lists i) sees end b found w.moves answer gives in
       let told = told_as false true i sees end b found w.broken answer a (unless a.whole) (again_of a.it.again) in
       let was = unlacked (found_at i (by_lists i) sees b offer) lacks a.it (is ∙ a.found_is) in
       let p = placed all i sees offer b asking a.it was in
@@ -68,8 +67,7 @@ module _ (i : Instance) (all : List (List ℕ)) (y sees : History) (lacks : Bool
       let was = unlacked (found_at i (by_lists i) sees b offer) lacks f.0 (is ∙ f.1) in
       let p = placed all i sees offer b asking f.0 was in
       grown f.0.offered (right_at i sees offer b f.0 was) (p.position ∙ ap total_of (p.fresh f.2 ∙ same)) (more_batches i w.moves y b one)
-      (λ (answer : BatchAnswer) (gives : given_for (ended_by (by_lists i) sees end b found w.moves w.broken) ≡ Ok answer).
-      let a = answered_only w.broken (by_lists i) sees end b found w.moves answer gives in
+      (λ answer gives. let a = answered_only w.broken (by_lists i) sees end b found w.moves answer gives in
       (told_as true false i sees end b found w.broken answer a fresh (fresh_of a.it.again)).1)
 
 -- what a call comes to by lists, where what it sees are others' values more
