@@ -138,7 +138,7 @@ module _ (meaning : Meaning) (key : List ℕ) where
         (called_with I (by_lists I) y sees c b found) (called_with I (by_digests I) d seen c b x) in
         let C : Result Found Refusal → Type 0 = λ x. Commits b (is_fresh x) walked in
         subst P (sym agree) (record {
-          ending = ending_same all I sees y sees seen (all_made (by_digests I) d walked.moves) b walked walked.broken found refl (record {
+          ending = ending_same all I sees y seen b walked sees (all_made (by_digests I) d walked.moves) walked.broken found refl (record {
             same = same;
             found_at = placed_at;
             place = λ f is whole.

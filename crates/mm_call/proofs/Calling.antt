@@ -98,16 +98,6 @@ pub kept_same : (committed : Bool) (p q : ℕ) → (committed ≡ true → p ≡
 kept_same true p q e = ap (λ x. Some x) (e refl)
 kept_same false p q e = refl
 
--- what is known at the end of a call: what it found at a history with the same batches, and that the place of its answer is that of
--- the history
-pub record Ends (all : List (List ℕ)) (i : Instance) (z y : History) (seen : Digests) (b : Batch) (walked : Walked)
-    (found : Result Found Refusal) : Type 0 where
-  pub same : z.batches ≡ y.batches
-  pub found_at : (f : Found) → found ≡ Ok f → Placed all i z b f
-  pub place : (f : Found) → found ≡ Ok f → walked.broken ≡ None →
-      place_then i.variant seen.flag f.again i seen b
-      ≡ issued_place i.variant (all_made (by_lists i) y walked.moves).is_open i (all_made (by_lists i) y walked.moves)
-
 -- the batches at the end of a call that isn't broken off
 pub ended_batches : (batches named : List Batch) (b : Batch) (again : Bool) (walked : Walked) → (again ≡ false → named ≡ batches)
     → (again ≡ true → named ++ b ∷ [] ≡ batches) → Commits b (if again then false else true) walked → walked.broken ≡ None
@@ -117,37 +107,42 @@ ended_batches batches named b again walked fresh repeat (nothing none unless) wh
 ended_batches batches named b again walked fresh repeat (batch one is) whole =
     ap (λ v. batches ++ v) one ∙ ap (λ v. v ++ b ∷ []) (sym (fresh (fresh_of again is)))
 
-answers_same : (all : List (List ℕ)) (i : Instance) (z y : History) (seen : Digests) (b : Batch) (walked : Walked) (f : Found)
-    → Ends all i z y seen b walked (Ok f) → Commits b (if f.again then false else true) walked → walked.broken ≡ None
-    → (s : Digests) (t : History) → (by_digests i).answer f.again seen s f.offered b
-    ≡ (by_lists i).answer f.again t (all_made (by_lists i) y walked.moves) f.offered b
-answers_same all i z y seen b walked f ends c whole s t =
-    let p = ends.found_at f refl in
-    let end : History = all_made (by_lists i) y walked.moves in
-    let batches = batches-made i walked.moves y ∙ ended_batches y.batches p.named b f.again walked (λ x. p.fresh x ∙ ends.same)
-    (λ x. p.repeat x ∙ ends.same) c whole in
-    answer_same i end p.named b f.again f.offered (place_then i.variant seen.flag f.again i seen b) batches p.position p.state
-    (ends.place f refl whole)
+module _ (all : List (List ℕ)) (i : Instance) (z y : History) (seen : Digests) (b : Batch) (walked : Walked) where
+  abbrev end : History
+  end = all_made (by_lists i) y walked.moves
 
--- the position of a batch that was committed
-position_same : (all : List (List ℕ)) (i : Instance) (z y : History) (b : Batch) (walked : Walked) (f : Found) → z.batches ≡ y.batches
-    → Placed all i z b f → f.again ≡ false → committed_in walked.moves ≡ b ∷ [] → f.offered.position + size_of b ≡ total_of (all_made (by_lists i) y walked.moves).batches
-position_same all i z y b walked f same p fresh one =
-    let total = ap total_of (more_batches i walked.moves y b one) ∙ total-push y.batches b in
-    let named = p.position ∙ ap total_of (p.fresh fresh ∙ same) in
-    omega arith
+  -- what is known at the end of a call: what it found at a history with the same batches, and that the place of its answer is that of
+  -- the history
+  pub record Ends (found : Result Found Refusal) : Type 0 where
+    pub same : z.batches ≡ y.batches
+    pub found_at : (f : Found) → found ≡ Ok f → Placed all i z b f
+    pub place : (f : Found) → found ≡ Ok f → walked.broken ≡ None
+        → place_then i.variant seen.flag f.again i seen b ≡ issued_place i.variant end.is_open i end
 
-pub ending_same : (all : List (List ℕ)) (i : Instance) (z y t : History) (seen s : Digests) (b : Batch) (walked : Walked)
-    (broken : Option StepFault) (found : Result Found Refusal) → walked.broken ≡ broken → Ends all i z y seen b walked found
-    → Commits b (is_fresh found) walked
-    → ended_by (by_digests i) seen s b found walked.moves broken
-    ≡ ended_by (by_lists i) t (all_made (by_lists i) y walked.moves) b found walked.moves broken
-ending_same all i z y t seen s b walked (Some fault) (Err why) e ends c = refl
-ending_same all i z y t seen s b walked None (Err why) e ends c = refl
-ending_same all i z y t seen s b walked (Some fault) (Ok f) e ends (nothing none unless) =
-    ap (λ k. Breaks fault k) (kept_same (commits walked.moves) _ _ (λ x. let clash = sym (commits-none walked.moves none) ∙ x in cc))
-ending_same all i z y t seen s b walked (Some fault) (Ok f) e ends (batch one fresh) =
-    ap (λ k. Breaks fault k) (kept_same (commits walked.moves) _ _
-    (λ x. position_same all i z y b walked f ends.same (ends.found_at f refl) (fresh_of f.again fresh) one))
-ending_same all i z y t seen s b walked None (Ok f) e ends c =
-    ap (λ a. Answers a) (answers_same all i z y seen b walked f ends c e s t)
+  answers_same : (f : Found) → Ends (Ok f) → Commits b (if f.again then false else true) walked → walked.broken ≡ None
+      → (s : Digests) (t : History) → (by_digests i).answer f.again seen s f.offered b ≡ (by_lists i).answer f.again t end f.offered b
+  answers_same f ends c whole s t =
+      let p = ends.found_at f refl in
+      let batches = batches-made i walked.moves y ∙ ended_batches y.batches p.named b f.again walked (λ x. p.fresh x ∙ ends.same)
+      (λ x. p.repeat x ∙ ends.same) c whole in
+      answer_same i end p.named b f.again f.offered (place_then i.variant seen.flag f.again i seen b) batches p.position p.state
+      (ends.place f refl whole)
+
+  -- the position of a batch that was committed
+  position_same : (f : Found) → Ends (Ok f) → f.again ≡ false → committed_in walked.moves ≡ b ∷ []
+      → f.offered.position + size_of b ≡ total_of end.batches
+  position_same f ends fresh one =
+      let p = ends.found_at f refl in
+      let total = ap total_of (more_batches i walked.moves y b one) ∙ total-push y.batches b in
+      let named = p.position ∙ ap total_of (p.fresh fresh ∙ ends.same) in
+      omega arith
+
+  pub ending_same : (t : History) (s : Digests) (broken : Option StepFault) (found : Result Found Refusal) → walked.broken ≡ broken
+      → Ends found → Commits b (is_fresh found) walked
+      → ended_by (by_digests i) seen s b found walked.moves broken ≡ ended_by (by_lists i) t end b found walked.moves broken
+  ending_same t s (Some fault) (Err why) e ends c = refl
+  ending_same t s None (Err why) e ends c = refl
+  ending_same t s (Some fault) (Ok f) e ends (nothing none unless) = rw (commits-none walked.moves none) refl
+  ending_same t s (Some fault) (Ok f) e ends (batch one fresh) =
+      ap (λ k. Breaks fault k) (kept_same (commits walked.moves) _ _ (λ x. position_same f ends (fresh_of f.again fresh) one))
+  ending_same t s None (Ok f) e ends c = ap (λ a. Answers a) (answers_same f ends c e s t)

@@ -250,7 +250,7 @@ module _ (meaning : Meaning) (key barrier : List ℕ) where
       ends_alike a flag e =
           let w : Walked = steps_walk c flag found b in
           let end : Bool → History = λ fresh. path_end I c.fates 3 (changing flag fresh b) (sight y c) in
-          ending_same all I (sight y c) y sees seen (all_made (by_digests I) d w.moves) b w w.broken found refl (record {
+          ending_same all I (sight y c) y seen b w sees (all_made (by_digests I) d w.moves) w.broken found refl (record {
             same = refl;
             found_at = placed_at a;
             place = λ f is whole.

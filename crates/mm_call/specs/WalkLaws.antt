@@ -122,6 +122,7 @@ pub call_commits : (variant : Variant) (fates : ℕ → Fate) (flag fresh : Bool
     → Commits b fresh (walk fates 1 (ask_steps variant flag fresh b))
 call_commits variant fates flag fresh b = walk_commits fates 1 (ask_steps variant flag fresh b) b fresh (call_last variant flag fresh b)
 
+-- the same of Opt, by its steps
 pub opt_commits : (fates : ℕ → Fate) (flag fresh : Bool) (b : Batch)
     → Commits b fresh (walk fates 1 (Reads ∷ Reads ∷ changing flag fresh b))
 opt_commits fates flag fresh b =
