@@ -231,7 +231,8 @@ module _ (meaning : Meaning) (key barrier : List ℕ) (all others : List (List �
         }) e
 
     -- by the walk of its steps
-    hands_by : (flag fresh : Bool) → y.is_open ≡ flag → (let w = walk c.course.fates 1 (Reads ∷ Reads ∷ changing flag fresh (One request)) in
+    hands_by : (flag fresh : Bool) → y.is_open ≡ flag
+        → (let w = walk c.course.fates 1 (Reads ∷ Reads ∷ changing flag fresh (One request)) in
         (w.moves ≡ moves) × ((answer : BatchAnswer) → result ≡ Ok answer → w.broken ≡ None) → Hands y middle new offer request result more)
     hands_by true fresh e is =
         hands_open (counts_open I y d moves e (opt_tied meaning key barrier y d c.course offer (One request) refl))

@@ -85,7 +85,8 @@ abbrev pub AreOwn : List Step → Type 0
 AreOwn steps = EachMove (λ moves. foreign_in moves ≡ []) steps
 
 -- so what others put in among the moves of a step is what comes before it
-pub step_brings : (step : Step) (made : Bool) (values : List (List ℕ)) → AreOwn (step ∷ []) → foreign_in (step_moves step made values) ≡ values
+pub step_brings : (step : Step) (made : Bool) (values : List (List ℕ)) → AreOwn (step ∷ [])
+    → foreign_in (step_moves step made values) ≡ values
 step_brings Reads made values own = foreign_in-foreign values
 step_brings (Changes m) true values own = foreign_in-first values (m ∷ []) ∙ ap (λ w. values ++ w) own.0 ∙ append-nil values
 step_brings (Changes m) false values own = foreign_in-first values [] ∙ append-nil values
