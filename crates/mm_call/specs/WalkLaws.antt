@@ -115,6 +115,7 @@ changing_last true true b = inr (refl, refl, refl)
 changing_last false true b = inl (refl, inl (refl, inr (refl, refl, refl)))
 changing_last _ false b = refl
 
+-- what those steps commit, and those of a whole call of Opt
 pub changing_commits : (fates : ℕ → Fate) (flag fresh : Bool) (b : Batch) → Commits b fresh (walk fates 3 (changing flag fresh b))
 changing_commits fates flag fresh b = walk_commits fates 3 (changing flag fresh b) b fresh (changing_last flag fresh b)
 
