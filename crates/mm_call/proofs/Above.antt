@@ -26,5 +26,5 @@ pub use Rattle.mm_call.proofs.OptShapes.{Brought, cut, foreign_messages, none_co
 pub use Rattle.mm_call.proofs.OptShapes.{shape, two_reads}
 pub use Rattle.mm_call.proofs.OptShown.{flag_kept, pushed_open, shown_back, shown_front, shown_shut}
 pub use Rattle.mm_call.proofs.OptWalks.{AllMay, AreOwn, ask_may, before, first_in, foreign_all, holds_made, may_of, names_foreign}
-pub use Rattle.mm_call.proofs.OptWalks.{own_asked, own_checked, path_is, Ready, ready_closing, sight, sight_is, walk_fine}
+pub use Rattle.mm_call.proofs.OptWalks.{own_asked, own_checked, path_is, Ready, ready_closing, sight, sight_is, step_brings, walk_fine}
 pub use Rattle.mm_call.specs.TrailLaws.{foreign_made as brought_digests}

@@ -109,11 +109,9 @@ module _ (meaning : Meaning) (key : List ℕ) where
     agree : found_unless_wanting (found_at I (by_digests I) seen b offer) c.lacks ≡ found
     agree =
         let quiet : AreBasic moves = each_append IsBasicMove (map Foreign (c.fates 1).brings) [] (basic-foreign (c.fates 1).brings) tt in
-        ap (λ x. found_unless_wanting x c.lacks) (basic_found_same meaning key all sees seen offer b (record {
-          agrees = agrees-made meaning key moves y d quiet agrees;
-          plain = plain-made meaning key moves y quiet a.within.sound;
-          listed = listed_same meaning key all y sees a.within.listed same;
-        }) asking)
+        ap (λ x. found_unless_wanting x c.lacks) (basic_found_same meaning key all sees seen offer b
+        (agrees-made meaning key moves y d quiet agrees) (plain-made meaning key moves y quiet a.within.sound)
+        (listed_same meaning key all y sees a.within.listed same) asking)
 
     -- what is asked of the history at the end
     within_after : IsPlain end → Commits b (is_fresh found) walked → IsWithin all others asked I end
@@ -138,7 +136,7 @@ module _ (meaning : Meaning) (key : List ℕ) where
         (called_with I (by_lists I) y sees c b found) (called_with I (by_digests I) d seen c b x) in
         let C : Result Found Refusal → Type 0 = λ x. Commits b (is_fresh x) walked in
         subst P (sym agree) (record {
-          ending = ending_same all I sees y sees seen (all_made (by_digests I) d walked.moves) b walked walked.broken found refl (record {
+          ending = ending_same all I sees y seen b walked sees (all_made (by_digests I) d walked.moves) walked.broken found refl (record {
             same = same;
             found_at = placed_at;
             place = λ f is whole.
@@ -160,5 +158,4 @@ module _ (meaning : Meaning) (key : List ℕ) where
 pub basic_calls_agree : BasicCallsAgree
 basic_calls_agree meaning key all others asked y d course offer b agrees a =
     basic_same meaning key all others asked y d course offer b agrees
-    (let q = a.asks in
-    record { clear = q.clear; within = q.within; is_asked = q.is_asked; genuine = q.genuine; offered = q.offered })
+    (record { clear = a.clear; within = a.within; is_asked = a.is_asked; genuine = a.genuine; offered = a.offered })

@@ -57,7 +57,7 @@ pub use Rattle.mm_model.proofs.Above.{basic_names, fresh_lists, items_messages, 
 pub use Rattle.mm_model.proofs.Above.{opt_is_judged, opt_messages, opt_names, outside_moved, point_items, sound_items, sound_moved}
 pub use Rattle.mm_call.specs.AlongLaws.{closes-foreign, closes_first, commit_keeps, EachMove, GoesAlong, opt_closes, walk_along}
 pub use Rattle.mm_call.specs.Answers.{answer_at, answer_on}
-pub use Rattle.mm_call.specs.Asked.{AreAsked, counted_moves, counted_part, foreign_in, from_reset, IsAsked, IsPlain, IsWithin}
+pub use Rattle.mm_call.specs.Asked.{counted_moves, counted_part, foreign_in, from_reset, IsAsked, IsPlain, IsWithin}
 pub use Rattle.mm_call.specs.Asked.{moves_messages, right_messages}
 pub use Rattle.mm_call.specs.Called.{Answers, Breaks, called, Called, called_by, came_to, ended_by, Ending, given_for, position_of, seen_at}
 pub use Rattle.mm_call.specs.CalledWords.{called_with, kept_at}
@@ -73,7 +73,7 @@ pub use Rattle.mm_call.specs.Leaving.{Blames, IsUntouched, LeavesUntouched}
 pub use Rattle.mm_call.specs.LeavingLaws.{blamed, blamed_later, fault_handed}
 pub use Rattle.mm_call.specs.Levels.{Agrees, all_made, by_digests, by_lists, Level, place_then}
 pub use Rattle.mm_call.specs.MoveLaws.{agrees-made, batches-made, committed_in, IsBasicMove, more_batches, plain-made, same_batches}
-pub use Rattle.mm_call.specs.Premises.{AreShown, IsIdle}
+pub use Rattle.mm_call.specs.Premises.{AreAsked, AreShown, IsIdle}
 pub use Rattle.mm_call.specs.Ran.{RanSome}
 pub use Rattle.mm_call.specs.Refusals.{fault_in, fault_of}
 pub use Rattle.mm_call.specs.ShowingLaws.{asked_by, Counts, counts_open, same_rest}

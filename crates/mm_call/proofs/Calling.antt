@@ -3,30 +3,16 @@ use Rattle.mm_call.proofs.Below.{ℕ, ◌≡◌, ◌+◌, ◌-◌, Bool, true, f
 use Rattle.mm_call.proofs.Below.{if◌then◌else◌, Contains, flat_map-append, append-nil, Basic, start_of, Meaning, state_after, outputs_from}
 use Rattle.mm_call.proofs.Below.{state_from, Batch, members_of, size_of, state_after-append, outputs_from-append, length-outputs_from}
 use Rattle.mm_call.proofs.Below.{Content, sealed_of, Place, InBasic, InOpt, link, link_message, trail, Instance, basic, History}
-use Rattle.mm_call.proofs.Below.{requests_of, total_of, Within, history_messages, offer_messages, IsPlaceOf, issued_place, BatchAnswer}
-use Rattle.mm_call.proofs.Below.{trail_push, summary-push, total-push, answer_at, answer_on, Option, None, Some, Result, Ok, Err, StepFault}
-use Rattle.mm_call.proofs.Below.{Digests, Refusal, by_lists, by_digests, all_made, place_then, Found, is_fresh, Walked, commits, Answers}
-use Rattle.mm_call.proofs.Below.{Breaks, ended_by, kept_at, committed_in, batches-made, more_batches, Commits, nothing, batch, commits-none}
+use Rattle.mm_call.proofs.Below.{requests_of, total_of, Within, history_messages, offer_messages, IsPlaceOf, issued_place, trail_push}
+use Rattle.mm_call.proofs.Below.{summary-push, total-push, answer_at, answer_on, Option, None, Some, Result, Ok, Err, StepFault, Digests}
+use Rattle.mm_call.proofs.Below.{Refusal, by_lists, by_digests, all_made, place_then, Found, is_fresh, Walked, commits, Answers, Breaks}
+use Rattle.mm_call.proofs.Below.{ended_by, kept_at, committed_in, batches-made, more_batches, Commits, nothing, batch, commits-none}
 use Rattle.mm_model.specs.Chains.{summary_of}
 use Rattle.std.proofs.lemmas.List.{drop_at}
 use Rattle.mm_call.proofs.Finding.{Placed}
 
 pub requests-push : (bs : List Batch) (b : Batch) → requests_of (bs ++ b ∷ []) ≡ requests_of bs ++ members_of b
 requests-push bs b = flat_map-append members_of bs (b ∷ []) ∙ ap (λ v. requests_of bs ++ v) (append-nil (members_of b))
-
--- the answer to the batch after these, at this place
-abbrev pub answer_after : Instance → List Batch → Batch → Place → Bool → BatchAnswer
-answer_after i named b place again = record {
-  again = again;
-  position = total_of named + size_of b;
-  outputs = outputs_from i.meaning (state_after i.meaning (requests_of named)) (members_of b);
-  snapshot = sealed_of i.key (record {
-    id = i.meaning.id;
-    place = place;
-    position = total_of named + size_of b;
-    state = state_from i.meaning (state_after i.meaning (requests_of named)) (members_of b);
-  });
-}
 
 -- the position before the last batch, and what is said to it
 pub before_last : (batches named : List Batch) (b : Batch) → batches ≡ named ++ b ∷ [] → total_of batches - size_of b ≡ total_of named
@@ -46,36 +32,22 @@ said_last meaning batches named b e =
     ∙ ap (drop (total_of named)) outputs ∙ drop_at (outputs_from meaning meaning.first (requests_of named)) _ (total_of named)
     (length-outputs_from meaning meaning.first (requests_of named))
 
-pub answer-lists : (i : Instance) (y : History) (named : List Batch) (b : Batch) (again : Bool) → y.batches ≡ named ++ b ∷ []
-    → answer_on i y b again ≡ answer_after i named b (issued_place i.variant y.is_open i y) again
-answer-lists i y named b again e =
-    let total : total_of y.batches ≡ total_of named + size_of b = ap total_of e ∙ total-push named b in
-    let said = said_last i.meaning y.batches named b e in
-    let state = ap (λ v. state_after i.meaning (requests_of v)) e ∙ ap (state_after i.meaning) (requests-push named b)
-    ∙ state_after-append i.meaning (requests_of named) (members_of b) in
+-- the answer by digests is that by lists, where what was found is the batches before the last
+answer_same : (i : Instance) (y : History) (named : List Batch) (b : Batch) (again : Bool) (offered : Content) (place : Place)
+    → y.batches ≡ named ++ b ∷ [] → offered.position ≡ total_of named → offered.state ≡ state_after i.meaning (requests_of named)
+    → place ≡ issued_place i.variant y.is_open i y → answer_at i.meaning i.key offered place b again ≡ answer_on i y b again
+answer_same i y named b again offered place e position state is =
+    let total : offered.position + size_of b ≡ total_of y.batches =
+    ap (λ (n : ℕ). n + size_of b) position ∙ sym (ap total_of e ∙ total-push named b) in
+    let said = ap (λ (s : List ℕ). outputs_from i.meaning s (members_of b)) state ∙ sym (said_last i.meaning y.batches named b e) in
+    let after = ap (λ (s : List ℕ). state_from i.meaning s (members_of b)) state
+    ∙ sym (ap (λ v. state_after i.meaning (requests_of v)) e ∙ ap (state_after i.meaning) (requests-push named b)
+    ∙ state_after-append i.meaning (requests_of named) (members_of b)) in
     λ j. record {
       again = again;
       position = total j;
       outputs = said j;
-      snapshot =
-          sealed_of i.key (record { id = i.meaning.id; place = issued_place i.variant y.is_open i y; position = total j; state = state j });
-    }
-
--- the answer by digests, where what is found is the first batches of the history
-pub answer-digests : (i : Instance) (named : List Batch) (b : Batch) (again : Bool) (offered : Content) (first place : Place)
-    → offered.position ≡ total_of named → offered.state ≡ state_after i.meaning (requests_of named) → first ≡ place
-    → answer_at i.meaning i.key offered first b again ≡ answer_after i named b place again
-answer-digests i named b again offered first place position state is =
-    λ j. record {
-      again = again;
-      position = position j + size_of b;
-      outputs = outputs_from i.meaning (state j) (members_of b);
-      snapshot = sealed_of i.key (record {
-        id = i.meaning.id;
-        place = is j;
-        position = position j + size_of b;
-        state = state_from i.meaning (state j) (members_of b);
-      });
+      snapshot = sealed_of i.key (record { id = i.meaning.id; place = is j; position = total j; state = after j });
     }
 
 -- the summary after the batch
@@ -126,16 +98,6 @@ pub kept_same : (committed : Bool) (p q : ℕ) → (committed ≡ true → p ≡
 kept_same true p q e = ap (λ x. Some x) (e refl)
 kept_same false p q e = refl
 
--- what is known at the end of a call: what it found at a history with the same batches, and that the place of its answer is that of
--- the history
-pub record Ends (all : List (List ℕ)) (i : Instance) (z y : History) (seen : Digests) (b : Batch) (walked : Walked)
-    (found : Result Found Refusal) : Type 0 where
-  pub same : z.batches ≡ y.batches
-  pub found_at : (f : Found) → found ≡ Ok f → Placed all i z b f
-  pub place : (f : Found) → found ≡ Ok f → walked.broken ≡ None →
-      place_then i.variant seen.flag f.again i seen b
-      ≡ issued_place i.variant (all_made (by_lists i) y walked.moves).is_open i (all_made (by_lists i) y walked.moves)
-
 -- the batches at the end of a call that isn't broken off
 pub ended_batches : (batches named : List Batch) (b : Batch) (again : Bool) (walked : Walked) → (again ≡ false → named ≡ batches)
     → (again ≡ true → named ++ b ∷ [] ≡ batches) → Commits b (if again then false else true) walked → walked.broken ≡ None
@@ -145,38 +107,42 @@ ended_batches batches named b again walked fresh repeat (nothing none unless) wh
 ended_batches batches named b again walked fresh repeat (batch one is) whole =
     ap (λ v. batches ++ v) one ∙ ap (λ v. v ++ b ∷ []) (sym (fresh (fresh_of again is)))
 
-answers_same : (all : List (List ℕ)) (i : Instance) (z y : History) (seen : Digests) (b : Batch) (walked : Walked) (f : Found)
-    → Ends all i z y seen b walked (Ok f) → Commits b (if f.again then false else true) walked → walked.broken ≡ None
-    → (s : Digests) (t : History) → (by_digests i).answer f.again seen s f.offered b
-    ≡ (by_lists i).answer f.again t (all_made (by_lists i) y walked.moves) f.offered b
-answers_same all i z y seen b walked f ends c whole s t =
-    let p = ends.found_at f refl in
-    let end : History = all_made (by_lists i) y walked.moves in
-    let batches = batches-made i walked.moves y ∙ ended_batches y.batches p.named b f.again walked (λ x. p.fresh x ∙ ends.same)
-    (λ x. p.repeat x ∙ ends.same) c whole in
-    answer-digests i p.named b f.again f.offered (place_then i.variant seen.flag f.again i seen b)
-    (issued_place i.variant end.is_open i end) p.position p.state (ends.place f refl whole)
-    ∙ sym (answer-lists i end p.named b f.again batches)
+module _ (all : List (List ℕ)) (i : Instance) (z y : History) (seen : Digests) (b : Batch) (walked : Walked) where
+  abbrev end : History
+  end = all_made (by_lists i) y walked.moves
 
--- the position of a batch that was committed
-position_same : (all : List (List ℕ)) (i : Instance) (z y : History) (b : Batch) (walked : Walked) (f : Found) → z.batches ≡ y.batches
-    → Placed all i z b f → f.again ≡ false → committed_in walked.moves ≡ b ∷ [] → f.offered.position + size_of b ≡ total_of (all_made (by_lists i) y walked.moves).batches
-position_same all i z y b walked f same p fresh one =
-    let total = ap total_of (more_batches i walked.moves y b one) ∙ total-push y.batches b in
-    let named = p.position ∙ ap total_of (p.fresh fresh ∙ same) in
-    omega arith
+  -- what is known at the end of a call: what it found at a history with the same batches, and that the place of its answer is that of
+  -- the history
+  pub record Ends (found : Result Found Refusal) : Type 0 where
+    pub same : z.batches ≡ y.batches
+    pub found_at : (f : Found) → found ≡ Ok f → Placed all i z b f
+    pub place : (f : Found) → found ≡ Ok f → walked.broken ≡ None
+        → place_then i.variant seen.flag f.again i seen b ≡ issued_place i.variant end.is_open i end
 
-pub ending_same : (all : List (List ℕ)) (i : Instance) (z y t : History) (seen s : Digests) (b : Batch) (walked : Walked)
-    (broken : Option StepFault) (found : Result Found Refusal) → walked.broken ≡ broken → Ends all i z y seen b walked found
-    → Commits b (is_fresh found) walked
-    → ended_by (by_digests i) seen s b found walked.moves broken
-    ≡ ended_by (by_lists i) t (all_made (by_lists i) y walked.moves) b found walked.moves broken
-ending_same all i z y t seen s b walked (Some fault) (Err why) e ends c = refl
-ending_same all i z y t seen s b walked None (Err why) e ends c = refl
-ending_same all i z y t seen s b walked (Some fault) (Ok f) e ends (nothing none unless) =
-    ap (λ k. Breaks fault k) (kept_same (commits walked.moves) _ _ (λ x. let clash = sym (commits-none walked.moves none) ∙ x in cc))
-ending_same all i z y t seen s b walked (Some fault) (Ok f) e ends (batch one fresh) =
-    ap (λ k. Breaks fault k) (kept_same (commits walked.moves) _ _
-    (λ x. position_same all i z y b walked f ends.same (ends.found_at f refl) (fresh_of f.again fresh) one))
-ending_same all i z y t seen s b walked None (Ok f) e ends c =
-    ap (λ a. Answers a) (answers_same all i z y seen b walked f ends c e s t)
+  answers_same : (f : Found) → Ends (Ok f) → Commits b (if f.again then false else true) walked → walked.broken ≡ None
+      → (s : Digests) (t : History) → (by_digests i).answer f.again seen s f.offered b ≡ (by_lists i).answer f.again t end f.offered b
+  answers_same f ends c whole s t =
+      let p = ends.found_at f refl in
+      let batches = batches-made i walked.moves y ∙ ended_batches y.batches p.named b f.again walked (λ x. p.fresh x ∙ ends.same)
+      (λ x. p.repeat x ∙ ends.same) c whole in
+      answer_same i end p.named b f.again f.offered (place_then i.variant seen.flag f.again i seen b) batches p.position p.state
+      (ends.place f refl whole)
+
+  -- the position of a batch that was committed
+  position_same : (f : Found) → Ends (Ok f) → f.again ≡ false → committed_in walked.moves ≡ b ∷ []
+      → f.offered.position + size_of b ≡ total_of end.batches
+  position_same f ends fresh one =
+      let p = ends.found_at f refl in
+      let total = ap total_of (more_batches i walked.moves y b one) ∙ total-push y.batches b in
+      let named = p.position ∙ ap total_of (p.fresh fresh ∙ ends.same) in
+      omega arith
+
+  pub ending_same : (t : History) (s : Digests) (broken : Option StepFault) (found : Result Found Refusal) → walked.broken ≡ broken
+      → Ends found → Commits b (is_fresh found) walked
+      → ended_by (by_digests i) seen s b found walked.moves broken ≡ ended_by (by_lists i) t end b found walked.moves broken
+  ending_same t s (Some fault) (Err why) e ends c = refl
+  ending_same t s None (Err why) e ends c = refl
+  ending_same t s (Some fault) (Ok f) e ends (nothing none unless) = rw (commits-none walked.moves none) refl
+  ending_same t s (Some fault) (Ok f) e ends (batch one fresh) =
+      ap (λ k. Breaks fault k) (kept_same (commits walked.moves) _ _ (λ x. position_same f ends (fresh_of f.again fresh) one))
+  ending_same t s None (Ok f) e ends c = ap (λ a. Answers a) (answers_same f ends c e s t)

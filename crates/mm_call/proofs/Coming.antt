@@ -6,8 +6,8 @@ use Rattle.mm_call.proofs.Below.{moved, total_of, digests_of, issued_bytes, ask_
 use Rattle.mm_call.proofs.Below.{by_digests, all_made, Found, found_at, found_unless_wanting, is_fresh, Course, Walked, walk, called}
 use Rattle.mm_call.proofs.Below.{seen_at, ended_by, given_for, from_reset, counted_part, counted_moves, moves_messages, IsAsked, AreAsked}
 use Rattle.mm_call.proofs.Below.{Comes, kept, grown, asked_by, same_batches, more_batches, Commits, nothing, batch, call_commits}
-use Rattle.mm_call.proofs.Below.{foreign_first, ◌⊎◌, inl, inr, option_map, Opt, Item, Standing, Value, Digests, Fate, AreShown, IsIdle}
-use Rattle.mm_call.proofs.Below.{shown, standing_items, Level, same_rest, Tied, shows}
+use Rattle.mm_call.proofs.Below.{foreign_first, ◌⊎◌, inl, inr, option_map, Item, Standing, Value, Digests, AreShown, IsIdle, shown}
+use Rattle.mm_call.proofs.Below.{standing_items, Level, same_rest, Tied, shows, Opt}
 use Rattle.mm_call.proofs.BasicLaw.{AreBasic, unlacked, walk_basic, names_made}
 use Rattle.mm_call.proofs.Calling.{again_of, fresh_of, fresh_found}
 use Rattle.mm_call.proofs.Finding.{Asking, placed, right_at}
@@ -50,8 +50,7 @@ module _ (i : Instance) (all : List (List ℕ)) (y sees : History) (lacks : Bool
   comes_by w found same asking is (nothing none unless) =
       let end : History = all_made (by_lists i) y w.moves in
       kept (same_batches i w.moves y none)
-      (λ (answer : BatchAnswer) (gives : given_for (ended_by (by_lists i) sees end b found w.moves w.broken) ≡ Ok answer).
-      let a = answered_only w.broken (by_lists i) sees end b found w.moves answer gives in
+      (λ answer gives. let a = answered_only w.broken (by_lists i) sees end b found w.moves answer gives in
       let told = told_as false true i sees end b found w.broken answer a (unless a.whole) (again_of a.it.again) in
       let was = unlacked (found_at i (by_lists i) sees b offer) lacks a.it (is ∙ a.found_is) in
       let p = placed all i sees offer b asking a.it was in
@@ -68,8 +67,7 @@ module _ (i : Instance) (all : List (List ℕ)) (y sees : History) (lacks : Bool
       let was = unlacked (found_at i (by_lists i) sees b offer) lacks f.0 (is ∙ f.1) in
       let p = placed all i sees offer b asking f.0 was in
       grown f.0.offered (right_at i sees offer b f.0 was) (p.position ∙ ap total_of (p.fresh f.2 ∙ same)) (more_batches i w.moves y b one)
-      (λ (answer : BatchAnswer) (gives : given_for (ended_by (by_lists i) sees end b found w.moves w.broken) ≡ Ok answer).
-      let a = answered_only w.broken (by_lists i) sees end b found w.moves answer gives in
+      (λ answer gives. let a = answered_only w.broken (by_lists i) sees end b found w.moves answer gives in
       (told_as true false i sees end b found w.broken answer a fresh (fresh_of a.it.again)).1)
 
 -- what a call comes to by lists, where what it sees are others' values more
@@ -145,16 +143,6 @@ answered_at i y after offer b answer (kept same gives) =
 answered_at i y after offer b answer (grown content right at more gives) =
     let e = gives answer refl in (ap (λ (a : BatchAnswer). a.position) e, ap (λ (a : BatchAnswer). a.snapshot) e)
 
--- the walk of such a call
-abbrev Walk : (ℕ → Fate) → Bool → Bool → Batch → List Move
-Walk fates flag fresh b = (walk fates 1 (ask_steps Opt flag fresh b)).moves
-
-walked_only : (fates : ℕ → Fate) (flag fresh : Bool) (b : Batch) → flag ≡ false → fresh ≡ false → Brought (Walk fates flag fresh b)
-walked_only fates flag fresh b e f =
-    let is : Walk fates flag fresh b ≡ Walk fates false false b = ap (λ (x : Bool). Walk fates x fresh b) e
-    ∙ ap (λ (x : Bool). Walk fates false x b) f in
-    subst Brought (sym is) (reads_only (fates 1).brings (fates 2).brings (fates 1).ends (fates 2).ends)
-
 never_fresh : (at : Result Found Refusal) (lacks : Bool) → is_fresh at ≡ false → is_fresh (found_unless_wanting at lacks) ≡ false
 never_fresh (Err why) lacks f = refl
 never_fresh (Ok found) false f = f
@@ -186,8 +174,11 @@ module _ (meaning : Meaning) (key barrier : List ℕ) where
       → Brought (called I (by_lists I) y c offer b).moves
   idle_moves y c offer b idle =
       let at : Result Found Refusal = found_at I (by_lists I) (seen_at I (by_lists I) y c) b offer in
-      let not_new : is_fresh at ≡ false = ap is_fresh (found_seen y c offer b idle.shut) ∙ idle.not_new in
-      walked_only c.fates y.is_open (is_fresh (found_unless_wanting at c.lacks)) b idle.shut (never_fresh at c.lacks not_new)
+      let not_new : is_fresh (found_unless_wanting at c.lacks) ≡ false =
+      never_fresh at c.lacks (ap is_fresh (found_seen y c offer b idle.shut) ∙ idle.not_new) in
+      subst (λ (x : Bool). Brought (walk c.fates 1 (ask_steps Opt y.is_open x b)).moves) (sym not_new)
+      (subst (λ (x : Bool). Brought (walk c.fates 1 (ask_steps Opt x false b)).moves) (sym idle.shut)
+      (reads_only (c.fates 1).brings (c.fates 2).brings (c.fates 1).ends (c.fates 2).ends))
 
   pub asked_idle : (all others : List (List ℕ)) (asked : List Batch) (y : History) (c : Course) (offer : List ℕ) (b : Batch)
       → AreAsked all others asked I y offer b → IsIdle I y offer b

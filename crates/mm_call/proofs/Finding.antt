@@ -167,30 +167,26 @@ module _ (all : List (List ℕ)) (i : Instance) (y : History) (bytes : List ℕ)
 
 -- Basic
 
--- what holds before each event: the digests are those of the history; and its messages are in the list
-pub record BasicHolds (all : List (List ℕ)) (i : Instance) (y : History) (d : Digests) : Type 0 where
-  pub agrees : Agrees i y d
-  pub plain : IsPlain y
-  pub listed : Within (history_messages i y) all
-
 no_counting : (barrier : List ℕ) (closed : List (List Entry)) (is_open : Bool) (items : List Entry) (batches : List Batch) → closed ≡ []
     → is_open ≡ false → AreNoGuards barrier (values_in (joined closed ++ (if is_open then items else []))) batches
 no_counting barrier closed is_open items batches none shut =
     rw (none, shut) (λ d b c e _. absurd (omega (arith, c.1)))
 
 pub basic_found_same : (meaning : Meaning) (key : List ℕ) (all : List (List ℕ)) (y : History) (d : Digests) (bytes : List ℕ) (b : Batch)
-    → BasicHolds all (basic meaning key) y d → Asking all (basic meaning key) y bytes b
+    → Agrees (basic meaning key) y d → IsPlain y → Within (history_messages (basic meaning key) y) all → Asking all (basic meaning key) y bytes b
     → found_at (basic meaning key) (by_digests (basic meaning key)) d b bytes
     ≡ found_at (basic meaning key) (by_lists (basic meaning key)) y b bytes
-basic_found_same meaning key all y d bytes b h asking =
+basic_found_same meaning key all y d bytes b agrees plain listed asking =
     found_by all (basic meaning key) y bytes b d asking
-    (λ offered called names. rw (h.agrees.flag, h.agrees.digest) (basic_is_judged meaning key d.register y offered b all
+    (λ offered called names. rw (agrees.flag, agrees.digest) (basic_is_judged meaning key d.register y offered b all
     (record {
       clear = asking.clear;
-      history = h.listed;
+      history = listed;
       call = called;
-      foreign = no_counting zero_bytes y.closed y.is_open y.items (b ∷ y.batches) h.plain.closed h.plain.shut;
-    }) names)) (ap (λ f. f && bytes_eq d.register zero_bytes) h.agrees.flag)
+      foreign = no_counting zero_bytes y.closed y.is_open y.items (b ∷ y.batches) plain.closed plain.shut;
+    }) names)) (ap (λ f. f && bytes_eq d.register zero_bytes) agrees.flag)
+
+-- Opt
 
 -- what each element of a list is, an element of it is
 pub each_at : {A : Type 0} (P : A → Type 0) (xs : List A) (x : A) → AllByRecursion P xs → Contains xs x → P x

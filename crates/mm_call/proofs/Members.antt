@@ -9,26 +9,19 @@ drop_at xs i m e =
     let lt : i < length xs = slice_get_within xs i m e in
     rw (add-one, drop-cons xs i m) (ap (λ (v : List ℕ). v ∷ drop (suc i) xs) (get_or_from_slice_get xs i m m e))
 
--- one member more
-pub ran_more : (meaning : Meaning) → IsLawful meaning → (start : List ℕ) (members : List (List ℕ)) (i : ℕ) (state : List ℕ)
-    (outputs : List (List ℕ)) (m : List ℕ) → RanSome meaning start members i state outputs → slice_get members i ≡ Some m
-    → RanSome meaning start members (i + 1) (meaning.next state m) (outputs ++ meaning.says state m ∷ [])
-ran_more meaning lawful start members i state outputs m ran at =
-    let d : drop i members ≡ m ∷ drop (i + 1) members = drop_at members i m at in
-    record {
-      state_is = sym (ap (λ (v : List (List ℕ)). state_from meaning state v) d) ∙ ran.state_is;
-      outputs_are = append_assoc outputs (meaning.says state m ∷ []) (outputs_from meaning (meaning.next state m) (drop (i + 1) members))
-          ∙ sym (ap (λ (v : List (List ℕ)). outputs ++ outputs_from meaning state v) d) ∙ ran.outputs_are;
-      spelled = lawful.goes_on state m ran.spelled;
-    }
-
 -- one member more, by what its step gave
 pub ran_on : (meaning : Meaning) → IsLawful meaning → (start : List ℕ) (members : List (List ℕ)) (i : ℕ) (state read next said : List ℕ)
     (outputs longer : List (List ℕ)) (m : List ℕ) → RanSome meaning start members i state outputs → slice_get members i ≡ Some m
     → read ≡ state → next ≡ meaning.next read m → said ≡ meaning.says read m → longer ≡ outputs ++ said ∷ []
     → RanSome meaning start members (i + 1) next longer
 ran_on meaning lawful start members i state read next said outputs longer m ran at read_is next_is said_is longer_is =
-    rw (longer_is, said_is, next_is, read_is) (ran_more meaning lawful start members i state outputs m ran at)
+    let d : drop i members ≡ m ∷ drop (i + 1) members = drop_at members i m at in
+    rw (longer_is, said_is, next_is, read_is) (record {
+      state_is = sym (ap (λ (v : List (List ℕ)). state_from meaning state v) d) ∙ ran.state_is;
+      outputs_are = append_assoc outputs (meaning.says state m ∷ []) (outputs_from meaning (meaning.next state m) (drop (i + 1) members))
+          ∙ sym (ap (λ (v : List (List ℕ)). outputs ++ outputs_from meaning state v) d) ∙ ran.outputs_are;
+      spelled = lawful.goes_on state m ran.spelled;
+    })
 
 -- the state after a batch fits into a snapshot
 pub small_state : (meaning : Meaning) → IsLawful meaning → (start : List ℕ) (members : List (List ℕ)) (state : List ℕ) (id : ℕ)

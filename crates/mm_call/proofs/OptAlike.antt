@@ -132,12 +132,8 @@ module _ (meaning : Meaning) (key barrier : List ℕ) where
   issued_bare true y = refl
   issued_bare false y = refl
 
-  issued_as : Instance → History → Place → Content
-  issued_as i y place = record (issued i y) { place = place }
-
   issued_is : (y : History) → issued I y ≡ issued I (bare y)
-  unfolding issued_as
-  issued_is y = ap (issued_as I y) (issued_bare y.is_open y)
+  issued_is y = λ j. record (issued I y) { place = issued_bare y.is_open y j }
 
   pub issued_alike : (y z : History) → bare y ≡ bare z → issued I y ≡ issued I z
   issued_alike y z e = issued_is y ∙ ap (issued I) e ∙ sym (issued_is z)

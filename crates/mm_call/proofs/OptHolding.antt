@@ -111,7 +111,8 @@ module _ (meaning : Meaning) (key barrier : List ℕ) where
       → Agrees I (all_made (by_lists I) y (map Foreign values)) (all_made (by_digests I) d (map Foreign values))
   foreign_agrees [] y d a = a
   foreign_agrees (v ∷ values) y d a =
-      foreign_agrees values (moved I y (Foreign v)) (made I d (Foreign v)) (opt_agrees_moved y d (Foreign v) (foreign_may I y y.is_open v) a)
+      foreign_agrees values (moved I y (Foreign v)) (made I d (Foreign v))
+      (opt_agrees_moved y d (Foreign v) (foreign_may I y y.is_open v) a)
 
   -- a reset, while no segment is open
   pub reset_may : (y : History) → y.is_open ≡ false → MayMove I y Reset

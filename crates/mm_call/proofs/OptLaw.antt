@@ -208,6 +208,11 @@ module _ (meaning : Meaning) (key barrier : List ℕ) where
         ap (all_made (by_digests I) d) is ∙ foreign_digests I values (Reset ∷ rest) d in
         record { agrees = rw lists (rw digests end.agrees); within = rw lists end.within }
 
+    are_asked : (y : History) (moves : List Move) (offer : List ℕ) (b : Batch) → IsAsked all others asked I y moves offer b
+        → AreAsked all others asked I y offer b
+    are_asked y moves offer b a =
+        record { clear = a.clear; apart = a.apart; within = a.within; is_asked = a.is_asked; genuine = a.genuine; offered = a.offered }
+
     -- a call: what it sees and finds, by lists and by digests
     module _ (y : History) (d : Digests) (c : Course) (offer : List ℕ) (b : Batch) (agrees : Agrees I y d) where
       abbrev sees : History
@@ -250,7 +255,7 @@ module _ (meaning : Meaning) (key barrier : List ℕ) where
       ends_alike a flag e =
           let w : Walked = steps_walk c flag found b in
           let end : Bool → History = λ fresh. path_end I c.fates 3 (changing flag fresh b) (sight y c) in
-          ending_same all I (sight y c) y sees seen (all_made (by_digests I) d w.moves) b w w.broken found refl (record {
+          ending_same all I (sight y c) y seen b w sees (all_made (by_digests I) d w.moves) w.broken found refl (record {
             same = refl;
             found_at = placed_at a;
             place = λ f is whole.
@@ -263,29 +268,31 @@ module _ (meaning : Meaning) (key barrier : List ℕ) where
 
       by_flag : (flag : Bool) → y.is_open ≡ flag → AreSame flag
       by_flag true e x k a =
-          let apart : IsApart all others asked barrier = record { clear = a.asks.clear; apart = a.asks.apart } in
+          let q = are_asked y (steps_walk c true x b).moves offer b a in
+          let apart : IsApart all others asked barrier = record { clear = q.clear; apart = q.apart } in
           same_walks (Result Found Refusal) Ending (λ f. changing true (is_fresh f) b) lists_end digests_end y d c found other x e
-          (holds_open meaning key barrier all others asked y d e agrees a.asks.within) k
+          (holds_open meaning key barrier all others asked y d e agrees q.within) k
           (counts_at true y (steps_walk c true x b).moves e a.messages a.values)
           (λ hs. (
-            ap (λ z. found_unless_wanting z c.lacks) (found_same meaning key barrier all others asked sees seen offer b apart a.asks.is_asked
-                (subst (λ z. Holds all others asked I z seen) (sym (sight_is I y c)) hs) (asking a.asks)),
+            ap (λ z. found_unless_wanting z c.lacks) (found_same meaning key barrier all others asked sees seen offer b apart q.is_asked
+                (subst (λ z. Holds all others asked I z seen) (sym (sight_is I y c)) hs) (asking q)),
             own_changing true (is_fresh found) b,
             ready_third meaning key barrier all others asked c.fates (sight y c) b true (is_fresh found) e
-                (due_of (sight y c) seen b found apart hs a.asks.is_asked (placed_at a.asks)),
-            ends_alike a.asks true e,
+                (due_of (sight y c) seen b found apart hs q.is_asked (placed_at q)),
+            ends_alike q true e,
           ))
           (λ w values fault moves broken.
           rw (broken, commits-none w.moves (ap committed_in moves ∙ committed-foreign values)) refl)
       by_flag false e x k a =
+          let q = are_asked y (steps_walk c false x b).moves offer b a in
           let v = (c.fates 1).brings in
           let w = (c.fates 2).brings in
-          let apart : IsApart all others asked barrier = record { clear = a.asks.clear; apart = a.asks.apart } in
-          let h = holds_shut meaning key barrier all others asked y d e agrees a.asks.within in
+          let apart : IsApart all others asked barrier = record { clear = q.clear; apart = q.apart } in
+          let h = holds_shut meaning key barrier all others asked y d e agrees q.within in
           let asking_bare : Asking all I (bare y) offer b = record {
-            clear = a.asks.clear;
-            listed = a.asks.offered;
-            genuine = genuine_bare y offer e a.asks.within.sound a.asks.genuine;
+            clear = q.clear;
+            listed = q.offered;
+            genuine = genuine_bare y offer e q.within.sound q.genuine;
           } in
           let lists : found_at I (by_lists I) sees b offer ≡ found_at I (by_lists I) (bare y) b offer =
           ap (λ x. found_at I (by_lists I) x b offer) (sight_is I y c) ∙ found_lists meaning key barrier y (sight y c).items b offer e in
@@ -296,18 +303,18 @@ module _ (meaning : Meaning) (key barrier : List ℕ) where
           ap (λ x. found_at I (by_digests I) x b offer) seen_then
           ∙ found_digests meaning key barrier d register b offer (agrees.flag ∙ e) in
           let agree : other ≡ found = ap (λ x. found_unless_wanting x c.lacks)
-          (digests ∙ found_same meaning key barrier all others asked (bare y) (bare_digests d) offer b apart a.asks.is_asked h asking_bare
+          (digests ∙ found_same meaning key barrier all others asked (bare y) (bare_digests d) offer b apart q.is_asked h asking_bare
           ∙ sym lists) in
           let walked : Walked = steps_walk c false found b in
-          let after = shut_after y d c.fates b (is_fresh found) walked.moves e agrees a.asks.within
-          (due_of (bare y) (bare_digests d) b found apart h a.asks.is_asked
+          let after = shut_after y d c.fates b (is_fresh found) walked.moves e agrees q.within
+          (due_of (bare y) (bare_digests d) b found apart h q.is_asked
           (λ f is. placed all I (bare y) offer b asking_bare f (sym lists ∙ unlacked (found_at I (by_lists I) sees b offer) c.lacks f is)))
           (shape c.fates (is_fresh found) b)
           (subst (λ z. Counts false (bare y) (steps_walk c false z b).moves) (k agree)
           (counts_at false y (steps_walk c false x b).moves e a.messages a.values)) in
           subst (λ z. IsSameCall all others asked I (called_by (by_lists I) y sees b found walked)
           (called_by (by_digests I) d seen b z (steps_walk c false z b))) (sym agree)
-          (same_on Ending y d walked (lists_end found walked) (digests_end found walked) (ends_alike a.asks false e) after)
+          (same_on Ending y d walked (lists_end found walked) (digests_end found walked) (ends_alike q false e) after)
 
       -- the steps by digests
       asks_digests : ask_steps Opt d.flag (is_fresh other) b ≡ Reads ∷ Reads ∷ changing y.is_open (is_fresh other) b

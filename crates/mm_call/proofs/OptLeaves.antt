@@ -5,8 +5,8 @@ use Rattle.mm_call.proofs.Below.{Instance, opt, Entry, History, Move, Foreign, j
 use Rattle.mm_call.proofs.Below.{StandsFor, Reads, ask_steps, BatchAnswer, Refusal, by_lists, by_digests, all_made, Found, found_at}
 use Rattle.mm_call.proofs.Below.{found_unless_wanting, is_fresh, Course, Walked, walk, closes, called, seen_at, given_for, CallsOn}
 use Rattle.mm_call.proofs.Below.{StandsAt, shown, counted_part, counted_moves, IsWithin, IsAsked, AreAsked, AreShown, standing_items}
-use Rattle.mm_call.proofs.Below.{committed_in, asked_by, same_rest, Counts, counts_open, Commits, nothing, batch, changing, asks}
-use Rattle.mm_call.proofs.Below.{opt_commits, taking, committed-foreign, opt_closes, closes_first, closes-foreign, Comes, kept, GoesBy}
+use Rattle.mm_call.proofs.Below.{committed_in, asked_by, same_rest, Counts, counts_open, nothing, batch, changing, asks, opt_commits}
+use Rattle.mm_call.proofs.Below.{taking, committed-foreign, opt_closes, closes_first, closes-foreign, Comes, kept, GoesBy}
 use Rattle.mm_call.proofs.Going.{stands_at}
 use Rattle.mm_call.proofs.Finding.{lives}
 use Rattle.mm_call.proofs.OptHolding.{is_agrees, bare, within_items}
@@ -29,20 +29,18 @@ pub record OptAfter (all others : List (List ℕ)) (asked : List Batch) (meaning
   pub alike : Alike meaning key barrier y b after
   pub clean : (answer : BatchAnswer) → result ≡ Ok answer → has_value (joined after.closed) ≡ false
 
--- what a walk commits, on the history
-pub alike_of : (meaning : Meaning) (key barrier : List ℕ) (y : History) (b : Batch) (fresh : Bool) (w : Walked) → Commits b fresh w
-    → closes w.moves ≡ false → Alike meaning key barrier y b (all_made (by_lists (opt meaning key barrier)) y w.moves)
-alike_of meaning key barrier y b fresh w (nothing none unless) e = still (alike_still meaning key barrier w.moves y none e)
-alike_of meaning key barrier y b fresh w (batch one is) e = grown_by (alike_one meaning key barrier w.moves y b one e)
-
 -- what a call commits, on the history
 pub alike_call : (meaning : Meaning) (key barrier : List ℕ) (y : History) (c : Course) (offer : List ℕ) (b : Batch)
     → Alike meaning key barrier y b (called (opt meaning key barrier) (by_lists (opt meaning key barrier)) y c offer b).state
 alike_call meaning key barrier y c offer b =
     let i : Instance = opt meaning key barrier in
     let fresh : Bool = is_fresh (found_unless_wanting (found_at i (by_lists i) (seen_at i (by_lists i) y c) b offer) c.lacks) in
-    rw (asks y.is_open fresh b) (alike_of meaning key barrier y b fresh (walk c.fates 1 (Reads ∷ Reads ∷ changing y.is_open fresh b))
-    (opt_commits c.fates y.is_open fresh b) (opt_closes c.fates y.is_open fresh b))
+    let w : Walked = walk c.fates 1 (Reads ∷ Reads ∷ changing y.is_open fresh b) in
+    let quiet : closes w.moves ≡ false = opt_closes c.fates y.is_open fresh b in
+    rw (asks y.is_open fresh b) (elim (opt_commits c.fates y.is_open fresh b) [
+      | nothing none unless ↦ still (alike_still meaning key barrier w.moves y none quiet)
+      | batch one is ↦ grown_by (alike_one meaning key barrier w.moves y b one quiet)
+    ])
 
 clean_by : (meaning : Meaning) (key barrier : List ℕ) (y after : History) (b : Batch) → has_value (joined y.closed) ≡ false
     → Alike meaning key barrier y b after → has_value (joined after.closed) ≡ false
@@ -66,12 +64,6 @@ module _ (meaning : Meaning) (key barrier : List ℕ) (all others : List (List �
       → CallsOn Opt meaning old new offer (One request) result → History → List Move
   DigestMoves old new offer request result c y = (called I (by_digests I) (digests_of I y) c.course offer (One request)).moves
 
-  -- a call under the law: what it leaves, and whether a segment is open after it
-  record Lawful (y : History) (old new : Standing) (offer request : List ℕ) (result : Result BatchAnswer Refusal)
-      (c : CallsOn Opt meaning old new offer (One request) result) : Type 0 where
-    left : Left y new offer request result
-    flag : (all_made (by_digests I) (digests_of I y) (DigestMoves old new offer request result c y)).flag ≡ left.after.is_open
-
   pub answered_clean_as : (y : History) (old new : Standing) (offer request : List ℕ) (result : Result BatchAnswer Refusal)
       (c : CallsOn Opt meaning old new offer (One request) result) → AreAsked all others asked I y offer (One request)
       → (answer : BatchAnswer) → result ≡ Ok answer → result ≡ given_for (called I (by_lists I) y c.course offer (One request)).ending
@@ -88,28 +80,29 @@ module _ (meaning : Meaning) (key barrier : List ℕ) (all others : List (List �
       it.it it.found_is in
       clean_by meaning key barrier y end b (lives (sight y c.course) p.live).clean alike
 
+  -- a call under the law: what it leaves, and whether a segment is open after it
   by_law : (y : History) (old new : Standing) (offer request : List ℕ) (result : Result BatchAnswer Refusal)
       (c : CallsOn Opt meaning old new offer (One request) result) → StandsFor I old y → AreAsked all others asked I y offer (One request)
       → IsAsked all others asked I y (DigestMoves old new offer request result c y) offer (One request)
-      → Lawful y old new offer request result c
+      → (left : Left y new offer request result)
+      × ((all_made (by_digests I) (digests_of I y) (DigestMoves old new offer request result c y)).flag ≡ left.after.is_open)
   by_law y old new offer request result c s a is_asked =
       let b : Batch = One request in
       let o = called I (by_lists I) y c.course offer b in
       let k = c.continues key barrier y all others asked s is_asked in
       let same = opt_calls_agree meaning key barrier all others asked y (digests_of I y) c.course offer b
       (is_agrees I y (digests_of I y) refl) is_asked in
-      let alike : Alike meaning key barrier y b o.state = alike_call meaning key barrier y c.course offer b in
-      record {
-        left = record {
+      let alike : Alike meaning key barrier y b o.state = alike_call meaning key barrier y c.course offer b in (
+        record {
           after = o.state;
           stands = k.stands;
           within = k.within;
           comes = rw k.gives (comes meaning key barrier all others asked y c.course offer b a);
           alike = alike;
           clean = λ answer is. answered_clean_as y old new offer request result c a answer is k.gives alike;
-        };
-        flag = same.agrees.flag;
-      }
+        },
+        same.agrees.flag,
+      )
 
   -- From a set flag all that the register had shown stays in front.
   abbrev pub GoesOn : Standing → Standing → Type 0
@@ -159,7 +152,7 @@ module _ (meaning : Meaning) (key barrier : List ℕ) (all others : List (List �
       (rw empty tt)) in
       let same : (all_made (by_digests I) d moves).flag ≡ d.flag = ap (λ (x : Digests). x.flag)
       (digests_still meaning key barrier moves d (ap committed_in is ∙ committed-foreign values) (ap closes is ∙ closes-foreign values)) in
-      (law.left, sym law.flag ∙ same ∙ e)
+      (law.0, sym law.1 ∙ same ∙ e)
 
   -- A call, with what its platform shows before and after it and at the very end.
   module _ (y : History) (old middle new : Standing) (offer request : List ℕ) (result : Result BatchAnswer Refusal) (items more : List Item)
@@ -195,16 +188,16 @@ module _ (meaning : Meaning) (key barrier : List ℕ) (all others : List (List �
         let law = by_law y old middle offer request result c s a (asked_by I all others asked y moves offer (One request) a
         (rw k.tied.messages there.messages)
         (rw k.tied.values there.values)) in
-        let is_open : law.left.after.is_open ≡ true = sym law.flag ∙ f in
-        let register = register_then meaning key barrier y law.left.after old middle items k.more s known law.left.stands
+        let is_open : law.0.after.is_open ≡ true = sym law.1 ∙ f in
+        let register = register_then meaning key barrier y law.0.after old middle items k.more s known law.0.stands
         (known_then ∙ ap (λ (v : List Item). Some v) (k.are items)) is_open in
         record {
-          left = law.left;
+          left = law.0;
           items = items_then;
           known = known_then;
           more = rest.0;
           ends = rest.1 ∙ ap (λ (flag : Bool). Some (standing_items flag items_then ++ rest.0)) (sym is_open);
-          shown_are = shown_back all others I y law.left.after k.more rest.0 register whole;
+          shown_are = shown_back all others I y law.0.after k.more rest.0 register whole;
           pushed = λ _. record { front = k.more; whole = same; register = register };
         }
 
@@ -238,7 +231,8 @@ module _ (meaning : Meaning) (key barrier : List ℕ) (all others : List (List �
         }) e
 
     -- by the walk of its steps
-    hands_by : (flag fresh : Bool) → y.is_open ≡ flag → (let w = walk c.course.fates 1 (Reads ∷ Reads ∷ changing flag fresh (One request)) in
+    hands_by : (flag fresh : Bool) → y.is_open ≡ flag
+        → (let w = walk c.course.fates 1 (Reads ∷ Reads ∷ changing flag fresh (One request)) in
         (w.moves ≡ moves) × ((answer : BatchAnswer) → result ≡ Ok answer → w.broken ≡ None) → Hands y middle new offer request result more)
     hands_by true fresh e is =
         hands_open (counts_open I y d moves e (opt_tied meaning key barrier y d c.course offer (One request) refl))

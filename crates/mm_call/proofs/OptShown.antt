@@ -1,12 +1,12 @@
 -- Opt: what the register shows of a call, and what is asked of it.
 use Rattle.mm_call.proofs.Below.{◌≡◌, ℕ, Bool, true, false, List, [], ◌∷◌, ◌++◌, map, Option, Some, refl, sym, ap, ◌∙◌, subst}
-use Rattle.mm_call.proofs.Below.{if◌then◌else◌, AllByRecursion, Contains, option_map, append-nil, map-append, Opt, extended_message, Item}
-use Rattle.mm_call.proofs.Below.{Standing, item_values, Meaning, Batch, after, trail, Instance, opt, Value, History, Move, Commit, Foreign}
-use Rattle.mm_call.proofs.Below.{Reset, Close, first_history, register_value_of, entry_values, Within, Digests, made, committing}
-use Rattle.mm_call.proofs.Below.{digests_of, StandsFor, trail-append, register_folds, reads_zero, each_left, each_right, by_digests}
-use Rattle.mm_call.proofs.Below.{all_made, Fate, Course, closes, called, cell_at, StandsAt, shown, from_reset, counted_part, counted_moves}
-use Rattle.mm_call.proofs.Below.{AreShown, foreign_items, standing_items, Tied, shows, committed_in, Counts, taking, committed-foreign}
-use Rattle.mm_call.proofs.Below.{from_reset-foreign, zero_bytes, after-append}
+use Rattle.mm_call.proofs.Below.{if◌then◌else◌, AllByRecursion, Contains, option_map, map-append, Opt, extended_message, Item, Standing}
+use Rattle.mm_call.proofs.Below.{item_values, Meaning, Batch, after, trail, Instance, opt, Value, History, Move, Commit, Foreign, Reset}
+use Rattle.mm_call.proofs.Below.{Close, first_history, register_value_of, entry_values, Within, Digests, made, committing, digests_of}
+use Rattle.mm_call.proofs.Below.{StandsFor, trail-append, register_folds, reads_zero, each_left, each_right, by_digests, all_made, Fate}
+use Rattle.mm_call.proofs.Below.{Course, closes, called, cell_at, StandsAt, shown, from_reset, counted_part, counted_moves, AreShown}
+use Rattle.mm_call.proofs.Below.{foreign_items, standing_items, Tied, shows, committed_in, Counts, taking, committed-foreign}
+use Rattle.mm_call.proofs.Below.{from_reset-foreign, zero_bytes, after-append, counts_open}
 use Rattle.mm_model.specs.Chains.{register_of}
 use Rattle.mm_seal.specs.Cell.{IsCell, cell_spelling}
 use Rattle.mm_call.specs.Tied.{nothing}
@@ -21,11 +21,6 @@ pub record Pushes (i : Instance) (d : Digests) (moves : List Move) : Type 0 wher
 
 abbrev some_open : History
 some_open = record first_history { is_open = true }
-
-pushed_by : (i : Instance) (d : Digests) (moves : List Move) → Tied i some_open d moves → Pushes i d moves
-pushed_by i d moves (shows more tied are) = record { more = more; are = are }
-pushed_by i d moves (nothing is) =
-    record { more = []; are = λ items. ap (λ (ms : List Move). shown i d ms items) is ∙ sym (append-nil items) }
 
 -- a commit with no segment open comes behind a reset
 resets : (fates : ℕ → Fate) (fresh : Bool) (b : Batch) (moves : List Move) → Shape fates fresh b moves → committed_in moves ≡ b ∷ []
@@ -52,30 +47,33 @@ trail_split s m k =
     ap (trail extended_message s) (map-append (λ (item : Item). item.value) m k)
     ∙ trail-append extended_message s (item_values m) (item_values k)
 
+shown_parts : (all others : List (List ℕ)) (i : Instance) (y : History) (m k : List Item) → AreShown all others i y (m ++ k)
+    → (let s : List ℕ = after extended_message (register_value_of i (counted_part y)) (item_values m) in
+    AreShown all others i y m × Within (trail extended_message s (item_values k)) all × AllByRecursion (Contains others) (foreign_items k))
+shown_parts all others i y m k a =
+    let s : List ℕ = register_value_of i (counted_part y) in
+    let front : List (List ℕ) = trail extended_message s (item_values m) in
+    let back : List (List ℕ) = trail extended_message (after extended_message s (item_values m)) (item_values k) in
+    let messages : Within (front ++ back) all = subst (λ (ms : List (List ℕ)). Within ms all) (trail_split s m k) a.messages in
+    let values = subst (AllByRecursion (Contains others)) (foreign_of-append m k) a.values in (
+      record {
+        messages = each_left (Contains all) front back messages;
+        values = each_left (Contains others) (foreign_items m) (foreign_items k) values;
+      },
+      each_right (Contains all) front back messages,
+      each_right (Contains others) (foreign_items m) (foreign_items k) values,
+    )
+
 pub shown_front : (all others : List (List ℕ)) (i : Instance) (y : History) (m k : List Item) → AreShown all others i y (m ++ k)
     → AreShown all others i y m
-shown_front all others i y m k a =
-    let s : List ℕ = register_value_of i (counted_part y) in
-    record {
-      messages = each_left (Contains all) (trail extended_message s (item_values m))
-          (trail extended_message (after extended_message s (item_values m)) (item_values k))
-          (subst (λ (ms : List (List ℕ)). Within ms all) (trail_split s m k) a.messages);
-      values = each_left (Contains others) (foreign_items m) (foreign_items k)
-          (subst (AllByRecursion (Contains others)) (foreign_of-append m k) a.values);
-    }
+shown_front all others i y m k a = (shown_parts all others i y m k a).0
 
 pub shown_back : (all others : List (List ℕ)) (i : Instance) (y z : History) (m k : List Item)
     → register_value_of i (counted_part z) ≡ after extended_message (register_value_of i (counted_part y)) (item_values m)
     → AreShown all others i y (m ++ k) → AreShown all others i z k
 shown_back all others i y z m k e a =
-    let s : List ℕ = register_value_of i (counted_part y) in
-    let t : List ℕ = after extended_message s (item_values m) in
-    record {
-      messages = rw e (each_right (Contains all) (trail extended_message s (item_values m)) (trail extended_message t (item_values k))
-          (subst (λ (ms : List (List ℕ)). Within ms all) (trail_split s m k) a.messages));
-      values = each_right (Contains others) (foreign_items m) (foreign_items k)
-          (subst (AllByRecursion (Contains others)) (foreign_of-append m k) a.values);
-    }
+    let p = shown_parts all others i y m k a in
+    record { messages = rw e p.1; values = p.2 }
 
 -- with no segment open the register counts as empty
 pub shown_shut : (all others : List (List ℕ)) (i : Instance) (y z : History) (more : List Item) → y.is_open ≡ false → z.is_open ≡ false
@@ -139,7 +137,8 @@ module _ (meaning : Meaning) (key barrier : List ℕ) where
   pub pushed_open : (d : Digests) (c : Course) (offer : List ℕ) (b : Batch) → d.flag ≡ true
       → Pushes I d (called I (by_digests I) d c offer b).moves
   pushed_open d c offer b f =
-      pushed_by I d (called I (by_digests I) d c offer b).moves (opt_tied meaning key barrier some_open d c offer b f)
+      let k = counts_open I some_open d _ refl (opt_tied meaning key barrier some_open d c offer b f) in
+      record { more = k.more; are = k.are }
 
   pub reads_value : (standing : Standing) (y : History) (items : List Item) → StandsFor I standing y → standing.items ≡ Some items
       → platform.register_after (item_values items) ≡ register_value_of I y

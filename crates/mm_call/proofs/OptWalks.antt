@@ -84,13 +84,15 @@ path_is i fates (step ∷ steps) n y e =
 abbrev pub AreOwn : List Step → Type 0
 AreOwn steps = EachMove (λ moves. foreign_in moves ≡ []) steps
 
-foreign_of : (step : Step) (made : Bool) (values : List (List ℕ)) → AreOwn (step ∷ []) → foreign_in (step_moves step made values) ≡ values
-foreign_of Reads made values own = foreign_in-foreign values
-foreign_of (Changes m) true values own = foreign_in-first values (m ∷ []) ∙ ap (λ w. values ++ w) own.0 ∙ append-nil values
-foreign_of (Changes m) false values own = foreign_in-first values [] ∙ append-nil values
-foreign_of (Writes m) true values own =
+-- so what others put in among the moves of a step is what comes before it
+pub step_brings : (step : Step) (made : Bool) (values : List (List ℕ)) → AreOwn (step ∷ [])
+    → foreign_in (step_moves step made values) ≡ values
+step_brings Reads made values own = foreign_in-foreign values
+step_brings (Changes m) true values own = foreign_in-first values (m ∷ []) ∙ ap (λ w. values ++ w) own.0 ∙ append-nil values
+step_brings (Changes m) false values own = foreign_in-first values [] ∙ append-nil values
+step_brings (Writes m) true values own =
     foreign_in-append (m ∷ []) (map Foreign values) ∙ ap (λ w. w ++ foreign_in (map Foreign values)) own.0 ∙ foreign_in-foreign values
-foreign_of (Writes m) false values own = foreign_in-foreign values
+step_brings (Writes m) false values own = foreign_in-foreign values
 
 -- what others put in among moves is theirs
 module _ (others : List (List ℕ)) where
@@ -136,11 +138,11 @@ module _ (P : History → Move → Type 0) (others : List (List ℕ)) (i : Insta
       → Each P i y (after_step step values ends rest).moves
   after_each step values Done rest y own outside h =
       let o = outside_parts others (step_moves step true values) rest.moves outside in
-      let v = subst (AllByRecursion (Contains others)) (foreign_of step true values own) o.0 in
+      let v = subst (AllByRecursion (Contains others)) (step_brings step true values own) o.0 in
       each-made P i (step_moves step true values) rest.moves y (step_each step true values y v (h v).0)
       (rw (stood_is i step values y) ((h v).1 o.1))
   after_each step values (Fails fault made) rest y own outside h =
-      let v = subst (AllByRecursion (Contains others)) (foreign_of step made values own) outside in
+      let v = subst (AllByRecursion (Contains others)) (step_brings step made values own) outside in
       step_each step made values y v (h v).0
 
   pub walk_each : (fates : ℕ → Fate) (steps : List Step) (n : ℕ) (y : History) → AreOwn steps

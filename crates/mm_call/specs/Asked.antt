@@ -59,22 +59,17 @@ pub record IsWithin (all others : List (List ℕ)) (asked : List Batch) (i : Ins
   pub listed : Within (history_messages i (counted_part y)) all
   pub batches : AllByRecursion (Contains asked) y.batches
 
--- What is asked of a history, an offer and a batch: the list is clear, and none of the values is the
--- guard of one of the batches; the history is within them, and so are the batch and the messages of
--- a right offer, which names a position of the history.
-pub record AreAsked (all others : List (List ℕ)) (asked : List Batch) (i : Instance) (y : History)
-    (offer : List ℕ) (b : Batch) : Type 0 where
+-- What is asked of a call from a history that makes these moves: the list is clear, and none of the
+-- values is the guard of one of the batches; the history is within them, and so are the batch, the
+-- messages of a right offer, which names a position of the history, and what counts of the moves.
+pub record IsAsked (all others : List (List ℕ)) (asked : List Batch) (i : Instance) (y : History)
+    (moves : List Move) (offer : List ℕ)
+    (b : Batch) : Type 0 where
   pub clear : IsClear all
   pub apart : AreNoGuards i.barrier others asked
   pub within : IsWithin all others asked i y
   pub is_asked : Contains asked b
   pub genuine : IsGenuine i y offer
   pub offered : Within (right_messages i b (right_content i offer)) all
-
--- What is asked of a call from a history that makes these moves: besides, what counts of the moves
--- is within them.
-pub record IsAsked (all others : List (List ℕ)) (asked : List Batch) (i : Instance) (y : History)
-    (moves : List Move) (offer : List ℕ) (b : Batch) : Type 0 where
-  pub asks : AreAsked all others asked i y offer b
   pub messages : Within (moves_messages i (counted_part y) (counted_moves y.is_open moves)) all
   pub values : AllByRecursion (Contains others) (foreign_in (counted_moves y.is_open moves))

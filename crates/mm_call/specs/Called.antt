@@ -34,6 +34,7 @@ came_to level s ending walked = record {
   writes = walked.writes;
 }
 
+-- of a call
 abbrev pub Called : Type 0 → Type 0
 Called S = CameTo S Ending
 

@@ -19,6 +19,7 @@ pub data Closing : Type 0 where
   LostPower : Closing
   Stops : StepFault → Bool → Closing
 
+-- what a checkpoint came to
 abbrev pub Checkpointed : Type 0 → Type 0
 Checkpointed S = CameTo S Closing
 

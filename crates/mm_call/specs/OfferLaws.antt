@@ -34,13 +34,9 @@ pub right_is : (i : Instance) (parts : Result Snapshot PartsFault) (snapshot : S
     → content_if_right i parts ≡ Some snapshot.content
 right_is i parts snapshot e state tagged = rw (e, state, tagged) refl
 
-record IsSaid (s t : Bool) (x content : Content) : Type 0 where
-  spelled : s ≡ true
-  tagged : t ≡ true
-  same : x ≡ content
-
-said_if : (s t : Bool) (x content : Content) → (if s && t then Some x else None) ≡ Some content → IsSaid s t x content
-said_if true true x content e = record { spelled = refl; tagged = refl; same = cc }
+said_if : (s t : Bool) (x content : Content) → (if s && t then Some x else None) ≡ Some content
+    → (s ≡ true) × (t ≡ true) × (x ≡ content)
+said_if true true x content e = (refl, refl, cc)
 said_if _ _ x content e = absurd (cc)
 
 -- an offer that is looked at as a right one is right
@@ -50,7 +46,7 @@ right_of i offer (Err fault) e content is = absurd (cc)
 right_of i offer (Ok snapshot) e content is =
     let a = said_if (i.meaning.is_spelled snapshot.content.state) (bytes_eq snapshot.tag (tag_of i.key snapshot.content)) snapshot.content
     content is in
-    subst (λ (x : Content). IsRight i offer x) a.same (is_right i offer snapshot e a.spelled a.tagged)
+    subst (λ (x : Content). IsRight i offer x) a.2 (is_right i offer snapshot e a.0 a.1)
 
 pub listed_by : (i : Instance) (y : History) (b : Batch) (all : List (List ℕ)) (seen : Option Content)
     → ((content : Content) → seen ≡ Some content → Within (right_messages i b (Some content)) all) → Within (right_messages i b seen) all

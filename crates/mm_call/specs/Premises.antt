@@ -1,15 +1,25 @@
 -- What is asked of who calls, before anything is known of moves: of a history, an offer and a
--- batch (`AreAsked`); and of what the register shows. In Basic nothing is asked of what others do,
--- nor of steps: it never reads the register.
+-- batch; and of what the register shows.
 use Rattle.std.specs.Prelude.{◌≡◌, ℕ, false, List}
 use Rattle.std.specs.List.{AllByRecursion, Contains}
-use Rattle.mm_call.specs.Below.{extended_message, Item, item_values, Batch, trail, History, register_value_of, Instance, Within}
-use Rattle.mm_call.specs.Asked.{counted_part}
-use Rattle.mm_call.specs.Found.{found_at}
+use Rattle.mm_call.specs.Below.{extended_message, Item, item_values, Batch, trail, History, register_value_of, Instance, Within, IsClear}
+use Rattle.mm_call.specs.Below.{AreNoGuards, IsGenuine}
+use Rattle.mm_call.specs.Asked.{counted_part, right_messages, IsWithin}
+use Rattle.mm_call.specs.Found.{right_content, found_at}
 use Rattle.mm_call.specs.FoundWords.{is_fresh}
 use Rattle.mm_call.specs.Levels.{by_lists}
 use Rattle.mm_call.specs.Tied.{foreign_items}
-pub use Rattle.mm_call.specs.Asked.{AreAsked}
+
+-- What is asked of a history, an offer and a batch. In Basic nothing is asked of what others do,
+-- nor of steps: it never reads the register.
+pub record AreAsked (all others : List (List ℕ)) (asked : List Batch) (i : Instance) (y : History)
+    (offer : List ℕ) (b : Batch) : Type 0 where
+  pub clear : IsClear all
+  pub apart : AreNoGuards i.barrier others asked
+  pub within : IsWithin all others asked i y
+  pub is_asked : Contains asked b
+  pub genuine : IsGenuine i y offer
+  pub offered : Within (right_messages i b (right_content i offer)) all
 
 -- What is asked of the items that the register shows at exit, behind those that counted at entry:
 -- their messages, one after another, are in the clear list, and the values that aren't the

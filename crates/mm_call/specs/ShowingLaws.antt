@@ -24,7 +24,16 @@ shown_same (Some ys) f xs front more other e g h =
 pub asked_by : (i : Instance) (all others : List (List ℕ)) (asked : List Batch) (y : History) (moves : List Move) (offer : List ℕ)
     (b : Batch) → AreAsked all others asked i y offer b → Within (moves_messages i (counted_part y) (counted_moves y.is_open moves)) all
     → AllByRecursion (Contains others) (foreign_in (counted_moves y.is_open moves)) → IsAsked all others asked i y moves offer b
-asked_by i all others asked y moves offer b a messages values = record { asks = a; messages = messages; values = values }
+asked_by i all others asked y moves offer b a messages values = record {
+  clear = a.clear;
+  apart = a.apart;
+  within = a.within;
+  is_asked = a.is_asked;
+  genuine = a.genuine;
+  offered = a.offered;
+  messages = messages;
+  values = values;
+}
 
 -- What counts of a call's moves is these items more.
 pub record Counts (i : Instance) (y : History) (d : Digests) (moves : List Move) : Type 0 where

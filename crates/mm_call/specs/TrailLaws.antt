@@ -70,6 +70,7 @@ pub foreign_made : (i : Instance) (d : Digests) (values : List (List ℕ))
 foreign_made i d [] = refl
 foreign_made i d (v ∷ values) = foreign_made i (with_register d (extended_of d.register v)) values
 
+-- what the register shows of them
 pub foreign_shown : (i : Instance) (d : Digests) (values : List (List ℕ)) (items : List Item)
     → shown i d (map Foreign values) items ≡ items ++ map foreign_item values
 foreign_shown i d [] items = sym (append-nil items)

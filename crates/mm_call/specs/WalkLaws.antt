@@ -110,22 +110,27 @@ asks true true b = refl
 asks false true b = refl
 asks _ false b = refl
 
-call_last : (variant : Variant) (flag fresh : Bool) (b : Batch) → CommitsLast b fresh (ask_steps variant flag fresh b)
-call_last Basic flag true b = inl (refl, inr (refl, refl, refl))
-call_last Basic flag false b = inl (refl, refl)
-call_last Opt true true b = inl (refl, inl (refl, inr (refl, refl, refl)))
-call_last Opt false true b = inl (refl, inl (refl, inl (refl, inl (refl, inr (refl, refl, refl)))))
-call_last Opt _ false b = inl (refl, inl (refl, refl))
+changing_last : (flag fresh : Bool) (b : Batch) → CommitsLast b fresh (changing flag fresh b)
+changing_last true true b = inr (refl, refl, refl)
+changing_last false true b = inl (refl, inl (refl, inr (refl, refl, refl)))
+changing_last _ false b = refl
 
--- a call commits nothing, or its batch
-pub call_commits : (variant : Variant) (fates : ℕ → Fate) (flag fresh : Bool) (b : Batch)
-    → Commits b fresh (walk fates 1 (ask_steps variant flag fresh b))
-call_commits variant fates flag fresh b = walk_commits fates 1 (ask_steps variant flag fresh b) b fresh (call_last variant flag fresh b)
+-- what those steps commit, and those of a whole call of Opt
+pub changing_commits : (fates : ℕ → Fate) (flag fresh : Bool) (b : Batch) → Commits b fresh (walk fates 3 (changing flag fresh b))
+changing_commits fates flag fresh b = walk_commits fates 3 (changing flag fresh b) b fresh (changing_last flag fresh b)
 
 pub opt_commits : (fates : ℕ → Fate) (flag fresh : Bool) (b : Batch)
     → Commits b fresh (walk fates 1 (Reads ∷ Reads ∷ changing flag fresh b))
 opt_commits fates flag fresh b =
-    subst (λ s. Commits b fresh (walk fates 1 s)) (asks flag fresh b) (call_commits Opt fates flag fresh b)
+    walk_commits fates 1 (Reads ∷ Reads ∷ changing flag fresh b) b fresh (inl (refl, inl (refl, changing_last flag fresh b)))
+
+-- a call commits nothing, or its batch
+pub call_commits : (variant : Variant) (fates : ℕ → Fate) (flag fresh : Bool) (b : Batch)
+    → Commits b fresh (walk fates 1 (ask_steps variant flag fresh b))
+call_commits Basic fates flag true b = walk_commits fates 1 (ask_steps Basic flag true b) b true (inl (refl, inr (refl, refl, refl)))
+call_commits Basic fates flag false b = walk_commits fates 1 (ask_steps Basic flag false b) b false (inl (refl, refl))
+call_commits Opt fates flag fresh b =
+    subst (λ s. Commits b fresh (walk fates 1 s)) (sym (asks flag fresh b)) (opt_commits fates flag fresh b)
 
 -- moves made one after another
 

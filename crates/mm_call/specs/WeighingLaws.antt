@@ -1,5 +1,5 @@
 -- The order in which an offer is refused: when it is accepted.
-use Rattle.std.proofs.Common.{refl, sym, ap, subst, ◌≡◌, Bool, true, false, List, ℕ, Result, Ok}
+use Rattle.std.proofs.Common.{refl, ap, ◌≡◌, Bool, true, false, List, ℕ, Result, Ok}
 use Rattle.mm_call.specs.Below.{Content, Snapshot, tag_of, Refusal, Verdict, Fresh, Again}
 use Rattle.mm_call.specs.Order.{admitted}
 use Rattle.mm_call.specs.OrderWords.{weighed}
@@ -45,6 +45,4 @@ admits Again a = record { again = true; is = refl }
 admits _ a = absurd a
 
 pub weighs : (s t fits : Bool) (v : Verdict) → s ≡ true → t ≡ true → fits ≡ true → IsAccepted v → IsGiven (weighed s t v fits)
-weighs s t fits v p q r a =
-    subst (λ (x : Bool). IsGiven (weighed x t v fits)) (sym p) (subst (λ (x : Bool). IsGiven (weighed true x v fits)) (sym q)
-    (subst (λ (x : Bool). IsGiven (weighed true true v x)) (sym r) (admits v a)))
+weighs s t fits v p q r a = rw (p, q, r) (admits v a)
