@@ -1,23 +1,20 @@
 -- Opt: the same request behind a checkpoint is answered by its earlier reply, or refused as it is found.
 use Rattle.mm_callers.proofs.Below.{◌≡◌, ℕ, Bool, true, false, List, Option, None, Some, Result, Ok, Err, refl, sym, ap, ◌∙◌, subst}
-use Rattle.mm_callers.proofs.Below.{if◌then◌else◌, Opt, StepFault, Standing, Meaning, Batch, Instance, History, Move}
-use Rattle.mm_callers.proofs.Below.{total_of, Digests, StandsFor, ask_steps, BatchAnswer, Refusal, by_digests, Found, is_fresh}
-use Rattle.mm_callers.proofs.Below.{Fate, walk, ended_by, given_for, IsOnce, RepeatsReply, Comes, kept, grown}
-use Rattle.mm_callers.proofs.Below.{answered_at, Brought, reads_only, fault_of, ◌++◌, map}
-use Rattle.mm_callers.proofs.Below.{append_assoc, Item, foreign_item, One, Foreign, digests_of, by_lists, all_made, found_at}
-use Rattle.mm_callers.proofs.Below.{found_unless_wanting, Walked, called, seen_at, finds, SaysUnlessFault, MayClose}
-use Rattle.mm_callers.proofs.Below.{AreShownUnlessIdle, RepeatsBehind, EndsBehind, in_closing, ClosesBetween}
-use Rattle.mm_callers.proofs.Below.{shown_front, option_map, opt, checkpointed}
-use Rattle.mm_callers.proofs.Below.{CallsOn, AreAsked, AreShown, StandsAt, shown, standing_items, stands_at, placed}
-use Rattle.mm_callers.proofs.Below.{right_at, Said, ChecksOn, DigestMoves}
-use Rattle.mm_callers.proofs.Below.{call_goes_on, is_long, Answer, foreign_in, whole}
-use Rattle.mm_callers.proofs.Below.{Long, CheckpointRefusal}
+use Rattle.mm_callers.proofs.Below.{if◌then◌else◌, Opt, StepFault, Standing, Meaning, Batch, Instance, History, Move, total_of, Digests}
+use Rattle.mm_callers.proofs.Below.{StandsFor, ask_steps, BatchAnswer, Refusal, by_digests, Found, is_fresh, Fate, walk, ended_by}
+use Rattle.mm_callers.proofs.Below.{given_for, IsOnce, RepeatsReply, Comes, kept, grown, answered_at, Brought, reads_only, fault_of, ◌++◌}
+use Rattle.mm_callers.proofs.Below.{map, append_assoc, Item, foreign_item, One, Foreign, digests_of, by_lists, all_made, found_at}
+use Rattle.mm_callers.proofs.Below.{found_unless_wanting, Walked, called, seen_at, finds, SaysUnlessFault, MayClose, AreShownUnlessIdle}
+use Rattle.mm_callers.proofs.Below.{RepeatsBehind, EndsBehind, in_closing, ClosesBetween, shown_front, option_map, opt, checkpointed}
+use Rattle.mm_callers.proofs.Below.{CallsOn, AreAsked, AreShown, StandsAt, shown, standing_items, stands_at, placed, right_at, Said}
+use Rattle.mm_callers.proofs.Below.{ChecksOn, DigestMoves, call_goes_on, is_long, Answer, foreign_in, whole, Long, CheckpointRefusal}
 use Rattle.mm_call.specs.ShowingLaws.{shown_same}
 use Rattle.mm_callers.proofs.Leaving.{Call, answered, asked_on, not_long, After, Left, Offers, not_at_end, once, once_twice, answers_once}
 use Rattle.mm_callers.specs.Closing.{in_first, in_second}
 use Rattle.mm_callers.specs.declared.closing.Halted.TheVariants as halted
 use Rattle.mm_callers.proofs.OptCalls.{hands_on, asked_once, left_idle}
-use Rattle.mm_callers.proofs.OptChecking.{may_close_front, may_close_back, closing_foreign, closing_shown, Checked, check_leaves, check_goes_on}
+use Rattle.mm_callers.proofs.OptChecking.{may_close_front, may_close_back, closing_foreign, closing_shown, Checked, check_leaves}
+use Rattle.mm_callers.proofs.OptChecking.{check_goes_on}
 
 -- A call whose answer is told as a repeat, or that is refused, and not for a device's fault, found no new batch.
 
