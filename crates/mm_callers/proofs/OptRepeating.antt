@@ -57,13 +57,13 @@ repeats_by : {i : Instance} {y one two last : History} {new : Standing} {offer :
     → two.batches ≡ one.batches → StandsFor i new last → Comes i y offer b one (Ok first) → Comes i two offer b last (Ok second)
     → RepeatsReply i y new b first second
 repeats_by same s c (grown content right at more gives) = absurd (not_at_end (offers c) content right (at ∙ ap total_of same))
-repeats_by {i = i} {y = y} {one = one} {offer = offer} {b = b} {first = first} {second = second} same s c (kept is gives) =
+repeats_by {first = first} {second = second} same s c (kept is gives) =
     let g = gives second refl in
+    let first_is = ((once c).answers first refl).1 in
     record {
       again = ap (λ (a : BatchAnswer). a.again) g.answer_is;
-      position = ap (λ (a : BatchAnswer). a.position) g.answer_is ∙ ap total_of (is ∙ same)
-          ∙ sym (answered_at i y one offer b first c).0;
-      outputs = simp (g.answer_is, is ∙ same, ap (λ (a : BatchAnswer). a.outputs) ((once c).answers first refl).1);
+      position = simp (g.answer_is, is ∙ same, ap (λ (a : BatchAnswer). a.position) first_is);
+      outputs = simp (g.answer_is, is ∙ same, ap (λ (a : BatchAnswer). a.outputs) first_is);
       once = answers_once s (once_twice c same (kept is gives));
     }
 
@@ -150,16 +150,14 @@ module _ {meaning : Meaning} {old answered_at closed : Standing} {offer request 
         h.items ∙ ap (option_map (shown I d1 o.moves)) (g.items ∙ ap (option_map (shown I d moves)) known) in
         let front = front_by items there s known known_there y.is_open refl in
         let standing : List Item = standing_items y.is_open items in
-        let split_there : Some there ≡ Some (standing ++ front.0) = sym known_there ∙ front.1 in
-        let split : there ≡ standing ++ front.0 = cc in
+        let here : List Item = standing ++ front.0 in
         let third : List Move = (called I (by_digests I) o.state r.course offer (One request)).moves in
         let alone = quietly o.state h.stands q in
         let later : List Item = map foreign_item (foreign_in (map Foreign alone.values)) in
-        let same : front.0 ++ later ≡ more = shown_same closed.items (shown I o.state third) there standing more (front.0 ++ later)
-        known_there
-        (ap (λ (ms : List Move). shown I o.state ms there) alone.are
-        ∙ closing_shown meaning key barrier (map Foreign alone.values) false o.state there (closing_foreign alone.values false)
-        ∙ ap (λ (xs : List Item). xs ++ later) split ∙ append_assoc standing front.0 later)
+        let same : front.0 ++ later ≡ more = shown_same closed.items (shown I o.state third) here standing more (front.0 ++ later) front.1
+        (ap (λ (ms : List Move). shown I o.state ms here) alone.are
+        ∙ closing_shown meaning key barrier (map Foreign alone.values) false o.state here (closing_foreign alone.values false)
+        ∙ append_assoc standing front.0 later)
         (sym (r.goes key barrier o.state h.stands).items ∙ ends) in
         behind items front.0 s known front.1 a (λ busy.
         let all_of = subst (λ (xs : List Item). AreShown all others I y xs × MayClose all I y xs) (sym same) (shown_so busy) in
