@@ -98,8 +98,8 @@ once_twice {i = i} {after = after} {b = b} (grown content right at more none) e 
   answers = λ answer is. (inl (same ∙ e ∙ more), as_told i after b answer true (gives answer is).answer_is);
 }
 once_twice {y = y} (grown content right at more none) e (grown other right' at' more' gives) =
-    absurd (not_at_end (record { content = content; right = right; ends = record { front = y.batches; is = sym (e ∙ more) }; position = at })
-    other right' at')
+    absurd (not_at_end
+    (record { content = content; right = right; ends = record { front = y.batches; is = sym (e ∙ more) }; position = at }) other right' at')
 
 -- an answer is that of the run which stands then
 pub answers_once : {i : Instance} {y after : History} {new : Standing} {b : Batch} {answer : BatchAnswer} → StandsFor i new after

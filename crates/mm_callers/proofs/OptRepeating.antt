@@ -169,7 +169,8 @@ module _ {meaning : Meaning} {old answered_at closed : Standing} {offer request 
     never_new x (Err why) e = refl
     never_new x (Ok f) e =
         let z : History = x.two.after in
-        let p = placed all I z offer (One request) (record { clear = x.asks.clear; listed = x.asks.offered; genuine = x.asks.genuine }) f e in
+        let p = placed all I z offer (One request)
+        (record { clear = x.asks.clear; listed = x.asks.offered; genuine = x.asks.genuine }) f e in
         not_fresh f.again (λ is. not_at_end (offers x.one.comes) f.offered (right_at I z offer (One request) f e)
         (p.position ∙ ap total_of (p.fresh is ∙ x.two.batches)))
 
