@@ -1,15 +1,15 @@
 -- The words and laws that the proofs of this crate take from specs/ and from the crates below.
-pub use Rattle.std.specs.Prelude.{is_some, nat_le}
+pub use Rattle.std.specs.Prelude.{nat_le}
 pub use Rattle.std.specs.Str.{bytes_eq}
-pub use Rattle.std.proofs.Common.{◌+◌, ◌∙◌, ◌∷◌, ◌≡◌, ◌≤◌, ◌⊎◌, [], ap, arith, Bool, Err, false, IfOk, if◌then◌else◌, inl, inr, IsOk}
-pub use Rattle.std.proofs.Common.{IsTrue, length, List, map, None, Ok, Option, refl, Result, rules, Some, subst, sym, true, ℕ}
+pub use Rattle.std.proofs.Common.{◌+◌, ◌∙◌, ◌∷◌, ◌≡◌, ◌≤◌, [], ap, arith, Bool, Err, false, IfOk, if◌then◌else◌, inl, inr, IsOk, IsTrue}
+pub use Rattle.std.proofs.Common.{length, List, map, None, Ok, Option, refl, Result, rules, Some, subst, sym, true, ℕ}
 pub use Rattle.std.proofs.lemmas.Slice.Eq.{bytes_eq-Decides}
 pub use Rattle.mm_base.specs.Limits.{last_position}
 pub use Rattle.mm_digest.specs.Messages.{extended_of, start_of, zero_bytes}
 pub use Rattle.mm_digest.specs.declared.digest.Digest.{Digest}
 pub use Rattle.mm_digest.specs.declared.variant.Variant.TheVariants.{Basic}
 pub use Rattle.mm_seal.specs.Cell.{cell_spelling, IsCell, ReadsCell, SpellsCell}
-pub use Rattle.mm_seal.specs.Snapshot.{Content, ReadsParts, sealed_of, Snapshot, snapshot_front, tag_of, variant_of}
+pub use Rattle.mm_seal.specs.Snapshot.{Content, ReadsParts, sealed_of, Snapshot, tag_of, variant_of}
 pub use Rattle.mm_seal.specs.declared.cell.Cell.{Cell}
 pub use Rattle.mm_seal.specs.declared.cell.CellFault.TheVariants.{Blank, Cell as Unspelled}
 pub use Rattle.mm_seal.specs.declared.snapshot.PartsFault.{PartsFault}
@@ -19,7 +19,7 @@ pub use Rattle.mm_seal.specs.declared.snapshot.Place.TheVariants.{Basic as InBas
 pub use Rattle.mm_platform.specs.Standing.{Item, Standing}
 pub use Rattle.mm_platform.specs.Steps.{Goes, ReadCell, WriteCell}
 pub use Rattle.mm_platform.specs.declared.fault.StepFault.{StepFault}
-pub use Rattle.mm_module.specs.Batch.{Batch, Many, normal, One, size_of}
+pub use Rattle.mm_module.specs.Batch.{Batch, normal, One, size_of}
 pub use Rattle.mm_module.specs.Batches.{batch_of}
 pub use Rattle.mm_module.specs.Meaning.{IsLawful, Meaning}
 pub use Rattle.mm_model.specs.ChainLaws.{length-link}
@@ -32,31 +32,30 @@ pub use Rattle.mm_model.specs.Judge.{basic_verdict, judge, verdict_by, verdict_b
 pub use Rattle.mm_model.specs.Long.{is_long}
 pub use Rattle.mm_model.specs.Moves.{Digests, made}
 pub use Rattle.mm_model.specs.PlacesWords.{digest_of}
-pub use Rattle.mm_model.specs.Standing.{cell_of, IsRight, issued_bytes, StandsFor}
+pub use Rattle.mm_model.specs.Standing.{cell_of, IsRight, issued_bytes}
 pub use Rattle.mm_model.specs.Steps.{ask_steps, Reads as Reading, Step, Writes}
 pub use Rattle.mm_model.specs.declared.answer.BatchAnswer.{BatchAnswer}
 pub use Rattle.mm_model.specs.declared.refusal.Refusal.{Refusal}
-pub use Rattle.mm_model.specs.declared.refusal.Refusal.TheVariants.{Long, Memory}
+pub use Rattle.mm_model.specs.declared.refusal.Refusal.TheVariants.{Long}
 pub use Rattle.mm_model.specs.declared.verdict.Verdict.{Verdict}
 pub use Rattle.mm_model.proofs.Above.{links}
 pub use Rattle.mm_call.specs.Calls.{AsksTo, breaks_off, Calls, Commits, EndsTo, goes_on, IsCallSoFar}
 pub use Rattle.mm_call.specs.Ended.{CallsTo, result_of}
-pub use Rattle.mm_call.specs.Leaving.{Blames, IsAccepted, IsAnswered, IsUntouched, LeavesUntouched}
+pub use Rattle.mm_call.specs.Leaving.{Blames, IsAccepted, IsAnswered, LeavesUntouched}
 pub use Rattle.mm_call.specs.LeavingLaws.{blamed, read_untouched, same_untouched, wholly}
 pub use Rattle.mm_call.specs.Levels.{all_made, by_digests}
 pub use Rattle.mm_call.specs.Order.{examined}
 pub use Rattle.mm_call.specs.Refusals.{fault_in, fault_of, OrMemory}
 pub use Rattle.mm_call.specs.Standing.{cell_at, StandsAt}
-pub use Rattle.mm_call.specs.WeighingLaws.{IsGiven, offered_of, weighed_only, weighs}
+pub use Rattle.mm_call.specs.WeighingLaws.{offered_of, weighed_only, weighs}
 pub use Rattle.mm_call.specs.declared.ended.Ended.{Ended}
-pub use Rattle.mm_call.specs.declared.ended.Ended.TheVariants.{Answered, Broken, Refused}
+pub use Rattle.mm_call.specs.declared.ended.Ended.TheVariants.{Answered, Broken}
 pub use Rattle.mm_call.proofs.Above.{AsFound, basic_calls_agree, brought_digests, calls_from, commits_blamed, course_by, each_call}
-pub use Rattle.mm_call.proofs.Above.{ends_fates, ends_result, ends_untouched, fate_of, Given, given_all, GoesTo, lacks_in, reading_blamed}
-pub use Rattle.mm_call.proofs.Above.{reading_tale, refused_result, so_far, steps_blamed, steps_give, Told, told_reading}
+pub use Rattle.mm_call.proofs.Above.{ends_fates, ends_result, ends_untouched, fate_of, given_all, GoesTo, lacks_in, reading_blamed}
+pub use Rattle.mm_call.proofs.Above.{reading_tale, so_far, steps_blamed, steps_give, Told, told_reading}
 pub use Rattle.mm_basic.specs.Answers.{answer_of, committed_cell, found_from, found_in, linked}
 pub use Rattle.mm_basic.specs.Asked.{AskedInBasic}
-pub use Rattle.mm_basic.specs.Asks.{acts_for, answer_in, basic_call, Finishes, ReadsAndWrites, ReadsOnce, StepsAnswered, StepsBy}
-pub use Rattle.mm_basic.specs.Asks.{StepsRefused, WritesTo}
+pub use Rattle.mm_basic.specs.Asks.{acts_for, basic_call, Finishes, ReadsOnce, StepsAnswered, StepsBy, StepsRefused, WritesTo}
 pub use Rattle.mm_basic.specs.Order.{summary_in, verdict_of}
 pub use Rattle.mm_basic.specs.Seen.{Both, IsCellOf, IsSeen, NoCell, NoOffer, OtherCell, Seen}
 pub use Rattle.mm_basic.specs.Steps.{Finds, FindsIn, Reads}

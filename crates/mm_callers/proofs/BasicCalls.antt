@@ -1,10 +1,11 @@
 -- Basic: what a call leaves, and the callers' clauses, from those of their calls.
-use Rattle.mm_callers.proofs.Below.{◌≡◌, ℕ, List, [], Result, Ok, Err, refl, sym, subst, inl, inr, Basic, StepFault}
-use Rattle.mm_callers.proofs.Below.{Standing, Meaning, IsLawful, Batch, One, Within, offer_messages, issued, basic, History, IsFit, StandsFor}
-use Rattle.mm_callers.proofs.Below.{BatchAnswer, Refusal, Device, basic_issued, called, Blames, by_lists, basic_content, AreAsked}
-use Rattle.mm_callers.proofs.Below.{fault_of, foreign_made, basic_asked, basic_comes, names_made, IsOnce, AsksAgain, AreAskedNext}
-use Rattle.mm_callers.proofs.Below.{AsksTwice, in_first}
-use Rattle.mm_callers.proofs.Leaving.{Call, by_length, once, IsCalm, Left, asked_on, left_long, left_short, ends_once, ends_again, ends_next, asked_next}
+use Rattle.mm_callers.proofs.Below.{◌≡◌, ℕ, List, [], Result, Ok, Err, refl, sym, subst, inl, inr, Basic, StepFault, Standing, Meaning}
+use Rattle.mm_callers.proofs.Below.{IsLawful, Batch, One, Within, offer_messages, issued, basic, History, IsFit, StandsFor, BatchAnswer}
+use Rattle.mm_callers.proofs.Below.{Refusal, Device, basic_issued, called, Blames, by_lists, basic_content, AreAsked, fault_of}
+use Rattle.mm_callers.proofs.Below.{foreign_made, basic_asked, basic_comes, names_made, IsOnce, AsksAgain, AreAskedNext, AsksTwice}
+use Rattle.mm_callers.proofs.Below.{in_first}
+use Rattle.mm_callers.proofs.Leaving.{Call, by_length, once, IsCalm, Left, asked_on, left_long, left_short, ends_once, ends_again}
+use Rattle.mm_callers.proofs.Leaving.{ends_next, asked_next}
 
 module _ {meaning : Meaning} {old new : Standing} {offer request : List ℕ} {result : Result BatchAnswer Refusal}
     (call : Call Basic meaning old new offer request result) where
@@ -50,8 +51,8 @@ next_listed meaning key all asked y after first second n (inr same) = rw same.0 
 pub asked_twice : {meaning : Meaning} {old middle new : Standing} {offer next first second : List ℕ} {one : BatchAnswer}
     {result : Result BatchAnswer Refusal} → IsLawful meaning → Call Basic meaning old middle offer first (Ok one) → IsFit (One first) one
     → next ≡ one.snapshot → Call Basic meaning middle new next second result → AsksTwice meaning old new offer first second result
-asked_twice {meaning = meaning} {old = old} {first = first} {second = second} {one = one} {result = result} lawful before fit e call key y all others
-    asked s a n =
+asked_twice {meaning = meaning} {old = old} {first = first} {second = second} {one = one} {result = result} lawful before fit e call key y
+    all others asked s a n =
     let x = (left before key y all others asked s a).leaves in
     let so = asked_next old a x.within x.comes fit e (basic_content meaning lawful key x.after) (basic_issued meaning key x.after)
     n.is_asked (next_listed meaning key all asked y x.after (One first) (One second) n ((once x.comes).answers one refl).0) in

@@ -1,11 +1,10 @@
 -- A welcome offer is found, and a call that finds it and isn't broken off answers.
-use Rattle.mm_callers.proofs.Below.{◌≡◌, ℕ, ◌+◌, Bool, true, false, List, [], ◌∷◌, ◌++◌, None, Result, Ok, refl, sym, ap, ◌∙◌}
-use Rattle.mm_callers.proofs.Below.{subst, if◌then◌else◌, nat_eq, Variant, Batch, Content}
-use Rattle.mm_callers.proofs.Below.{Instance, History, total_of, Live, life_of, Step}
-use Rattle.mm_callers.proofs.Below.{ask_steps, at_the_end, before_the_last, Refusal, Verdict, by_lists, all_made, Found}
-use Rattle.mm_callers.proofs.Below.{found_at, found_unless_wanting, End, Done, Fails, Fate, Walked, after_step, walk}
-use Rattle.mm_callers.proofs.Below.{seen_at, ended_by, called_with, again_of, fresh_of, same_batches, more_batches, Commits, nothing, batch}
-use Rattle.mm_callers.proofs.Below.{IsOfferedAt, IsWelcome, batches_then, IsAnswer}
+use Rattle.mm_callers.proofs.Below.{◌≡◌, ℕ, ◌+◌, Bool, true, false, List, [], ◌∷◌, ◌++◌, None, Result, Ok, refl, sym, ap, ◌∙◌, subst}
+use Rattle.mm_callers.proofs.Below.{if◌then◌else◌, nat_eq, Variant, Batch, Content, Instance, History, total_of, Live, life_of, Step}
+use Rattle.mm_callers.proofs.Below.{ask_steps, at_the_end, before_the_last, Refusal, Verdict, by_lists, all_made, Found, found_at}
+use Rattle.mm_callers.proofs.Below.{found_unless_wanting, End, Done, Fails, Fate, Walked, after_step, walk, seen_at, ended_by, called_with}
+use Rattle.mm_callers.proofs.Below.{again_of, fresh_of, same_batches, more_batches, Commits, nothing, batch, IsOfferedAt, IsWelcome}
+use Rattle.mm_callers.proofs.Below.{batches_then, IsAnswer}
 use Rattle.std.proofs.lemmas.Bool.{eq-eqb}
 use Rattle.mm_model.specs.Judge.{judge}
 use Rattle.mm_model.specs.declared.verdict.Verdict.TheVariants.{Fresh, Again}

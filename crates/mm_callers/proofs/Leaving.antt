@@ -1,14 +1,13 @@
 -- What a call leaves and says, in either variant; and so the same call made again, or another one on its answer.
-use Rattle.mm_callers.proofs.Below.{◌≡◌, ℕ, ◌≤◌, Bool, true, false, List, [], ◌∷◌, ◌++◌, Option, None, Some, Result, Ok, Err, refl}
-use Rattle.mm_callers.proofs.Below.{sym, ap, ◌∙◌, subst, ◌⊎◌, inl, inr, arith, if◌then◌else◌, Contains, last_position, Variant, Basic}
-use Rattle.mm_callers.proofs.Below.{Opt, StepFault, Standing, Meaning, Batch, One, parts_of, Content, IsContent, sealed_of, Instance}
-use Rattle.mm_callers.proofs.Below.{History, Move, EndsWith, total_of, IsFit, is_long, Within, offer_messages, Names, issued, StandsFor}
-use Rattle.mm_callers.proofs.Below.{IsRight, issued_bytes, Reads, ask_steps, total-push, BatchAnswer, Refusal, Long, right_messages}
-use Rattle.mm_callers.proofs.Below.{IsWithin, called, seen_at, ended_by, given_for, reading_steps, CallContinues, CallsOn, Comes, kept}
-use Rattle.mm_callers.proofs.Below.{grown, Course, Walked, seen_in, walk, Found, found_at, foreign_made}
-use Rattle.mm_callers.proofs.Below.{right_content, found_unless_wanting, is_fresh, Blames, by_lists, all_made, one_content, right_of}
-use Rattle.mm_callers.proofs.Below.{listed_by, issued_once, AreAsked, fault_of, fault_in, answered_at, IsOnce}
-use Rattle.mm_callers.proofs.Below.{AnswersOnce, IsLeft, SaysFound, SaysUnlessFault, finds, in_second, CountsCall}
+use Rattle.mm_callers.proofs.Below.{◌≡◌, ℕ, ◌≤◌, Bool, true, false, List, [], ◌∷◌, ◌++◌, Option, None, Some, Result, Ok, Err, refl, sym, ap}
+use Rattle.mm_callers.proofs.Below.{◌∙◌, subst, ◌⊎◌, inl, inr, arith, if◌then◌else◌, Contains, last_position, Variant, Basic, Opt}
+use Rattle.mm_callers.proofs.Below.{StepFault, Standing, Meaning, Batch, One, parts_of, Content, IsContent, sealed_of, Instance, History}
+use Rattle.mm_callers.proofs.Below.{Move, EndsWith, total_of, IsFit, is_long, Within, offer_messages, Names, issued, StandsFor, IsRight}
+use Rattle.mm_callers.proofs.Below.{issued_bytes, Reads, ask_steps, total-push, BatchAnswer, Refusal, Long, right_messages, IsWithin}
+use Rattle.mm_callers.proofs.Below.{called, seen_at, ended_by, given_for, reading_steps, CallContinues, CallsOn, Comes, kept, grown, Course}
+use Rattle.mm_callers.proofs.Below.{Walked, seen_in, walk, Found, found_at, foreign_made, right_content, found_unless_wanting, is_fresh}
+use Rattle.mm_callers.proofs.Below.{Blames, by_lists, all_made, one_content, right_of, listed_by, issued_once, AreAsked, fault_of, fault_in}
+use Rattle.mm_callers.proofs.Below.{answered_at, IsOnce, AnswersOnce, IsLeft, SaysFound, SaysUnlessFault, finds, in_second, CountsCall}
 use Rattle.mm_base.specs.Faults.{counted, Rose}
 use Rattle.mm_module.specs.BatchLaws.{size_of-pos}
 use Rattle.mm_call.specs.Answers.{answer_on}
@@ -99,8 +98,8 @@ once_twice {i = i} {after = after} {b = b} (grown content right at more none) e 
   answers = λ answer is. (inl (same ∙ e ∙ more), as_told i after b answer true (gives answer is).answer_is);
 }
 once_twice {y = y} (grown content right at more none) e (grown other right' at' more' gives) =
-    absurd (not_at_end (record { content = content; right = right; ends = record { front = y.batches; is = sym (e ∙ more) }; position = at })
-    other right' at')
+    absurd (not_at_end
+    (record { content = content; right = right; ends = record { front = y.batches; is = sym (e ∙ more) }; position = at }) other right' at')
 
 -- an answer is that of the run which stands then
 pub answers_once : {i : Instance} {y after : History} {new : Standing} {b : Batch} {answer : BatchAnswer} → StandsFor i new after

@@ -3,16 +3,17 @@ use Rattle.mm_callers.proofs.Below.{◌≡◌, ℕ, Bool, true, false, List, [],
 use Rattle.mm_callers.proofs.Below.{inr, option_map, append-nil, Opt, StepFault, Item, Standing, Meaning, IsLawful, Batch, One, Content}
 use Rattle.mm_callers.proofs.Below.{Instance, opt, History, Move, Commit, Foreign, moved, IsFit, is_long, Within, offer_messages}
 use Rattle.mm_callers.proofs.Below.{digests_of, issued, StandsFor, BatchAnswer, Refusal, Device, Long, Verdict, opt_issued, same_closed}
-use Rattle.mm_callers.proofs.Below.{IsAsked, called, CallsOn, Blames, IsAccepted, by_lists, all_made, opt_content}
-use Rattle.mm_callers.proofs.Below.{AreAsked, AreShown, IsIdle, fault_of, shown, standing_items, foreign_first, opt_comes}
-use Rattle.mm_callers.proofs.Below.{stands_at, asked_for, asked_idle, idle_again, idle_moves, unless_idle, Alike, still, grown_by}
-use Rattle.mm_callers.proofs.Below.{alike_still, alike_foreign, issued_alike, names_after, Left as OptLeft, DigestMoves, GoesOn, Pushed}
-use Rattle.mm_callers.proofs.Below.{alike_call, call_goes_on, hands, seen_closes, bare, in_first, AsksOnce, AsksWelcome}
+use Rattle.mm_callers.proofs.Below.{IsAsked, called, CallsOn, Blames, IsAccepted, by_lists, all_made, opt_content, AreAsked, AreShown}
+use Rattle.mm_callers.proofs.Below.{IsIdle, fault_of, shown, standing_items, foreign_first, opt_comes, stands_at, asked_for, asked_idle}
+use Rattle.mm_callers.proofs.Below.{idle_again, idle_moves, unless_idle, Alike, still, grown_by, alike_still, alike_foreign, issued_alike}
+use Rattle.mm_callers.proofs.Below.{names_after, Left as OptLeft, DigestMoves, GoesOn, Pushed, alike_call, call_goes_on, hands, seen_closes}
+use Rattle.mm_callers.proofs.Below.{bare, in_first, AsksOnce, AsksWelcome}
 use Rattle.mm_opt.specs.Asked.{AskedInOpt}
 use Rattle.mm_callers.specs.Basic.{AreAskedNext}
 use Rattle.mm_callers.specs.Opt.{AsksTwice}
 use Rattle.mm_callers.proofs.Completing.{verdict_of, verdict_is}
-use Rattle.mm_callers.proofs.Leaving.{Call, by_length, not_long, answered, After, Left, asked_on, left_long, left_short, ends_once, ends_again, ends_next, asked_next}
+use Rattle.mm_callers.proofs.Leaving.{Call, by_length, not_long, answered, After, Left, asked_on, left_long, left_short, ends_once}
+use Rattle.mm_callers.proofs.Leaving.{ends_again, ends_next, asked_next}
 
 closed_same : (meaning : Meaning) (key barrier : List ℕ) (y after : History) (b : Batch) → Alike meaning key barrier y b after
     → after.closed ≡ y.closed
@@ -64,7 +65,7 @@ module _ (meaning : Meaning) (key barrier : List ℕ) (all others : List (List �
               ∙ alike_foreign meaning key barrier only.values y,
         )
 
-  -- what a call of mm_call's chain leaves
+  -- what a call leaves, from what mm_call says of it
   abbrev pub after_left : {y : History} {new : Standing} {offer request : List ℕ} {result : Result BatchAnswer Refusal}
       → AreAsked all others asked (opt meaning key barrier) y offer (One request)
       → OptLeft meaning key barrier all others asked y new offer request result

@@ -1,22 +1,18 @@
 -- Opt: the moves of a checkpoint, the messages by which it closes the segment, and what it leaves and says.
 use Rattle.mm_callers.proofs.Below.{◌≡◌, ℕ, Bool, true, false, List, [], ◌∷◌, ◌++◌, map, Option, None, Some, Ok, refl, sym, ap, ◌∙◌, subst}
-use Rattle.mm_callers.proofs.Below.{append_assoc, Err, Contains, append-nil, map-append, Opt, extended_message, anchored_message}
-use Rattle.mm_callers.proofs.Below.{StepFault, Item, foreign_item, item_values, after, Instance, Entry, Value, History, Move, Foreign}
-use Rattle.mm_callers.proofs.Below.{Close, register_value_of, cell_digest_of, entry_values, Within, made, Reads, Writes, checkpoint_steps}
-use Rattle.mm_callers.proofs.Below.{after-append, End, Done, Fails, Fate, Walked, after_step, walk, closing_of, counted_part}
-use Rattle.mm_callers.proofs.Below.{foreign_items, finished, Said, closing_told}
-use Rattle.mm_callers.proofs.Below.{MayClose, SaysClosing, life_of, is_lost, CheckpointRefusal, Result}
-use Rattle.mm_callers.proofs.Below.{AllByRecursion, Standing, trail, moved, IsClear, Digests, IsAllowed}
-use Rattle.mm_callers.proofs.Below.{digests_of, closes, checkpointed, IsClosedWithin, moves_messages}
-use Rattle.mm_callers.proofs.Below.{foreign_in, IsWithin, standing_items}
-use Rattle.mm_callers.proofs.Below.{ChecksOn, option_map, Meaning, Batch, Content, opt, is_empty, Names, StandsFor, opt_names, by_lists}
-use Rattle.mm_callers.proofs.Below.{by_digests, all_made, seen_at, shown, AreShown, stands_at, StandsAt}
-use Rattle.mm_callers.proofs.Below.{same_batches}
+use Rattle.mm_callers.proofs.Below.{append_assoc, Err, Contains, append-nil, map-append, Opt, extended_message, anchored_message, StepFault}
+use Rattle.mm_callers.proofs.Below.{Item, foreign_item, item_values, after, Instance, Entry, Value, History, Move, Foreign, Close}
+use Rattle.mm_callers.proofs.Below.{register_value_of, cell_digest_of, entry_values, Within, made, Reads, Step, Writes, checkpoint_steps}
+use Rattle.mm_callers.proofs.Below.{after-append, End, Done, Fails, Fate, Walked, after_step, walk, closing_of, counted_part, foreign_items}
+use Rattle.mm_callers.proofs.Below.{finished, Said, closing_told, MayClose, SaysClosing, life_of, is_lost, CheckpointRefusal, Result}
+use Rattle.mm_callers.proofs.Below.{AllByRecursion, Standing, trail, moved, IsClear, Digests, IsAllowed, digests_of, closes, checkpointed}
+use Rattle.mm_callers.proofs.Below.{IsClosedWithin, moves_messages, foreign_in, IsWithin, standing_items, ChecksOn, option_map, Meaning}
+use Rattle.mm_callers.proofs.Below.{Batch, Content, opt, is_empty, Names, StandsFor, opt_names, by_lists, by_digests, all_made, seen_at}
+use Rattle.mm_callers.proofs.Below.{shown, AreShown, stands_at, StandsAt, same_batches}
 use Rattle.mm_model.specs.Chains.{register_of}
 use Rattle.mm_model.specs.HistoryLaws.{values_of-append}
 use Rattle.mm_model.specs.ListLaws.{each_right}
 use Rattle.mm_model.specs.Sound.{IsSound}
-use Rattle.mm_model.specs.Steps.{Reads, Step}
 use Rattle.mm_model.proofs.Above.{sound_moved}
 use Rattle.mm_call.specs.AlongLaws.{checkpoint_none, closed_kept}
 use Rattle.mm_call.specs.Asked.{from_reset}

@@ -1,12 +1,11 @@
 -- Opt: a call that nothing disturbs answers a welcome offer, or lacks memory.
-use Rattle.mm_callers.proofs.Below.{◌≡◌, ℕ, Bool, true, false, List, [], Some, Result, Err, refl, sym, ap, ◌∙◌, subst}
-use Rattle.mm_callers.proofs.Below.{AllByRecursion, Contains, Opt, extended_message, StepFault, Standing, quiet_plan, Meaning, Batch, One}
-use Rattle.mm_callers.proofs.Below.{guard, Instance, opt, History, Move, register_value_of, Within}
-use Rattle.mm_callers.proofs.Below.{Digests, digests_of, StandsFor, ask_steps, BatchAnswer, Refusal, Memory}
-use Rattle.mm_callers.proofs.Below.{Device, by_lists, by_digests, found_at, found_unless_wanting, is_fresh, Done, Fate, Course, walk}
-use Rattle.mm_callers.proofs.Below.{Called, Refuses, called, called_by, given_for, called_with, CallContinues}
-use Rattle.mm_callers.proofs.Below.{counted_part, counted_moves, moves_messages, foreign_in, IsAsked, AreAsked}
-use Rattle.mm_callers.proofs.Below.{asked_by, IsWelcome, AnswersOrLacks, AsksByQuietPlan, AsksInMemory}
+use Rattle.mm_callers.proofs.Below.{◌≡◌, ℕ, Bool, true, false, List, [], Some, Result, Err, refl, sym, ap, ◌∙◌, subst, Contains, Opt}
+use Rattle.mm_callers.proofs.Below.{extended_message, StepFault, Standing, quiet_plan, Meaning, Batch, One, guard, Instance, opt, History}
+use Rattle.mm_callers.proofs.Below.{Move, register_value_of, Within, Digests, digests_of, StandsFor, ask_steps, BatchAnswer, Refusal}
+use Rattle.mm_callers.proofs.Below.{Memory, Device, by_lists, by_digests, found_at, found_unless_wanting, is_fresh, Done, Fate, Course}
+use Rattle.mm_callers.proofs.Below.{walk, Called, called, given_for, called_with, CallContinues, counted_part, counted_moves}
+use Rattle.mm_callers.proofs.Below.{moves_messages, foreign_in, IsAsked, AreAsked, asked_by, IsWelcome, AnswersOrLacks, AsksByQuietPlan}
+use Rattle.mm_callers.proofs.Below.{AsksInMemory}
 use Rattle.mm_callers.proofs.Completing.{complete, welcome_found}
 use Rattle.mm_callers.proofs.Leaving.{Call}
 

@@ -1,23 +1,20 @@
 -- Opt: the same request behind a checkpoint is answered by its earlier reply, or refused as it is found.
 use Rattle.mm_callers.proofs.Below.{◌≡◌, ℕ, Bool, true, false, List, Option, None, Some, Result, Ok, Err, refl, sym, ap, ◌∙◌, subst}
-use Rattle.mm_callers.proofs.Below.{if◌then◌else◌, Opt, StepFault, Standing, Meaning, Batch, Instance, History, Move}
-use Rattle.mm_callers.proofs.Below.{total_of, Digests, StandsFor, ask_steps, BatchAnswer, Refusal, by_digests, Found, is_fresh}
-use Rattle.mm_callers.proofs.Below.{Fate, walk, ended_by, given_for, IsOnce, RepeatsReply, Comes, kept, grown}
-use Rattle.mm_callers.proofs.Below.{answered_at, Brought, reads_only, fault_of, ◌++◌, map}
-use Rattle.mm_callers.proofs.Below.{append_assoc, Item, foreign_item, One, Foreign, digests_of, by_lists, all_made, found_at}
-use Rattle.mm_callers.proofs.Below.{found_unless_wanting, Walked, called, seen_at, finds, SaysUnlessFault, MayClose}
-use Rattle.mm_callers.proofs.Below.{AreShownUnlessIdle, RepeatsBehind, EndsBehind, in_closing, ClosesBetween}
-use Rattle.mm_callers.proofs.Below.{shown_front, option_map, opt, checkpointed}
-use Rattle.mm_callers.proofs.Below.{CallsOn, AreAsked, AreShown, StandsAt, shown, standing_items, stands_at, placed}
-use Rattle.mm_callers.proofs.Below.{right_at, Said, ChecksOn, DigestMoves}
-use Rattle.mm_callers.proofs.Below.{call_goes_on, is_long, Answer, foreign_in, whole}
-use Rattle.mm_callers.proofs.Below.{Long, CheckpointRefusal}
+use Rattle.mm_callers.proofs.Below.{if◌then◌else◌, Opt, StepFault, Standing, Meaning, Batch, Instance, History, Move, total_of, Digests}
+use Rattle.mm_callers.proofs.Below.{StandsFor, ask_steps, BatchAnswer, Refusal, by_digests, Found, is_fresh, Fate, walk, ended_by}
+use Rattle.mm_callers.proofs.Below.{given_for, IsOnce, RepeatsReply, Comes, kept, grown, answered_at, Brought, reads_only, fault_of, ◌++◌}
+use Rattle.mm_callers.proofs.Below.{map, append_assoc, Item, foreign_item, One, Foreign, digests_of, by_lists, all_made, found_at}
+use Rattle.mm_callers.proofs.Below.{found_unless_wanting, Walked, called, seen_at, finds, SaysUnlessFault, MayClose, AreShownUnlessIdle}
+use Rattle.mm_callers.proofs.Below.{RepeatsBehind, EndsBehind, in_closing, ClosesBetween, shown_front, option_map, opt, checkpointed}
+use Rattle.mm_callers.proofs.Below.{CallsOn, AreAsked, AreShown, StandsAt, shown, standing_items, stands_at, placed, right_at, Said}
+use Rattle.mm_callers.proofs.Below.{ChecksOn, DigestMoves, call_goes_on, is_long, Answer, foreign_in, whole, Long, CheckpointRefusal}
 use Rattle.mm_call.specs.ShowingLaws.{shown_same}
 use Rattle.mm_callers.proofs.Leaving.{Call, answered, asked_on, not_long, After, Left, Offers, not_at_end, once, once_twice, answers_once}
 use Rattle.mm_callers.specs.Closing.{in_first, in_second}
 use Rattle.mm_callers.specs.declared.closing.Halted.TheVariants as halted
 use Rattle.mm_callers.proofs.OptCalls.{hands_on, asked_once, left_idle}
-use Rattle.mm_callers.proofs.OptChecking.{may_close_front, may_close_back, closing_foreign, closing_shown, Checked, check_leaves, check_goes_on}
+use Rattle.mm_callers.proofs.OptChecking.{may_close_front, may_close_back, closing_foreign, closing_shown, Checked, check_leaves}
+use Rattle.mm_callers.proofs.OptChecking.{check_goes_on}
 
 -- A call whose answer is told as a repeat, or that is refused, and not for a device's fault, found no new batch.
 
@@ -60,13 +57,13 @@ repeats_by : {i : Instance} {y one two last : History} {new : Standing} {offer :
     → two.batches ≡ one.batches → StandsFor i new last → Comes i y offer b one (Ok first) → Comes i two offer b last (Ok second)
     → RepeatsReply i y new b first second
 repeats_by same s c (grown content right at more gives) = absurd (not_at_end (offers c) content right (at ∙ ap total_of same))
-repeats_by {i = i} {y = y} {one = one} {offer = offer} {b = b} {first = first} {second = second} same s c (kept is gives) =
+repeats_by {first = first} {second = second} same s c (kept is gives) =
     let g = gives second refl in
+    let first_is = ((once c).answers first refl).1 in
     record {
       again = ap (λ (a : BatchAnswer). a.again) g.answer_is;
-      position = ap (λ (a : BatchAnswer). a.position) g.answer_is ∙ ap total_of (is ∙ same)
-          ∙ sym (answered_at i y one offer b first c).0;
-      outputs = simp (g.answer_is, is ∙ same, ap (λ (a : BatchAnswer). a.outputs) ((once c).answers first refl).1);
+      position = simp (g.answer_is, is ∙ same, ap (λ (a : BatchAnswer). a.position) first_is);
+      outputs = simp (g.answer_is, is ∙ same, ap (λ (a : BatchAnswer). a.outputs) first_is);
       once = answers_once s (once_twice c same (kept is gives));
     }
 
@@ -153,16 +150,14 @@ module _ {meaning : Meaning} {old answered_at closed : Standing} {offer request 
         h.items ∙ ap (option_map (shown I d1 o.moves)) (g.items ∙ ap (option_map (shown I d moves)) known) in
         let front = front_by items there s known known_there y.is_open refl in
         let standing : List Item = standing_items y.is_open items in
-        let split_there : Some there ≡ Some (standing ++ front.0) = sym known_there ∙ front.1 in
-        let split : there ≡ standing ++ front.0 = cc in
+        let here : List Item = standing ++ front.0 in
         let third : List Move = (called I (by_digests I) o.state r.course offer (One request)).moves in
         let alone = quietly o.state h.stands q in
         let later : List Item = map foreign_item (foreign_in (map Foreign alone.values)) in
-        let same : front.0 ++ later ≡ more = shown_same closed.items (shown I o.state third) there standing more (front.0 ++ later)
-        known_there
-        (ap (λ (ms : List Move). shown I o.state ms there) alone.are
-        ∙ closing_shown meaning key barrier (map Foreign alone.values) false o.state there (closing_foreign alone.values false)
-        ∙ ap (λ (xs : List Item). xs ++ later) split ∙ append_assoc standing front.0 later)
+        let same : front.0 ++ later ≡ more = shown_same closed.items (shown I o.state third) here standing more (front.0 ++ later) front.1
+        (ap (λ (ms : List Move). shown I o.state ms here) alone.are
+        ∙ closing_shown meaning key barrier (map Foreign alone.values) false o.state here (closing_foreign alone.values false)
+        ∙ append_assoc standing front.0 later)
         (sym (r.goes key barrier o.state h.stands).items ∙ ends) in
         behind items front.0 s known front.1 a (λ busy.
         let all_of = subst (λ (xs : List Item). AreShown all others I y xs × MayClose all I y xs) (sym same) (shown_so busy) in
@@ -174,7 +169,8 @@ module _ {meaning : Meaning} {old answered_at closed : Standing} {offer request 
     never_new x (Err why) e = refl
     never_new x (Ok f) e =
         let z : History = x.two.after in
-        let p = placed all I z offer (One request) (record { clear = x.asks.clear; listed = x.asks.offered; genuine = x.asks.genuine }) f e in
+        let p = placed all I z offer (One request)
+        (record { clear = x.asks.clear; listed = x.asks.offered; genuine = x.asks.genuine }) f e in
         not_fresh f.again (λ is. not_at_end (offers x.one.comes) f.offered (right_at I z offer (One request) f e)
         (p.position ∙ ap total_of (p.fresh is ∙ x.two.batches)))
 

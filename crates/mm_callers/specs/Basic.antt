@@ -1,9 +1,9 @@
--- What callers of Basic get, by lists alone.
+-- What callers get in either variant, by lists alone; and what those of Basic do.
 use Rattle.std.specs.Prelude.{◌≡◌, ◌≤◌, ℕ, Bool, false, List, [], ◌∷◌, ◌++◌, Option, None, Some, Result, Ok, Err, ◌⊎◌, if◌then◌else◌}
 use Rattle.std.specs.List.{Contains}
-use Rattle.mm_callers.specs.Below.{counted, Standing, StepFault, Batch, One, Meaning, History, Commit, moved, Instance, basic, Within, offer_messages, issued}
-use Rattle.mm_callers.specs.Below.{is_long, StandsFor, issued_bytes, BatchAnswer, Refusal, Memory, Long, answer_on, EndsWith, Found}
-use Rattle.mm_callers.specs.Below.{found_at, by_lists, AreAsked, fault_of}
+use Rattle.mm_callers.specs.Below.{counted, Standing, StepFault, Batch, One, Meaning, History, Commit, moved, Instance, basic, Within}
+use Rattle.mm_callers.specs.Below.{offer_messages, issued, is_long, StandsFor, issued_bytes, BatchAnswer, Refusal, Memory, Long, answer_on}
+use Rattle.mm_callers.specs.Below.{EndsWith, Found, found_at, by_lists, AreAsked, fault_of}
 
 -- The batch was committed once: it follows the history's batches, or it was their last one before.
 abbrev pub IsOnce : List Batch → Batch → List Batch → Type 0

@@ -2,18 +2,18 @@
 -- more, by lists.
 use Rattle.std.specs.Prelude.{◌≡◌, ℕ, true, List, ◌++◌, Option, None, Some, Result, Ok, Err}
 use Rattle.std.specs.List.{Contains}
-use Rattle.mm_callers.specs.Below.{extended_message, anchored_message, after, Opt, Item, Standing, item_values, StepFault, Batch, One, Meaning, History}
-use Rattle.mm_callers.specs.Below.{register_value_of, cell_digest_of, Instance, life_of, is_lost, Answer, BatchAnswer, Refusal}
-use Rattle.mm_callers.specs.Below.{counted_part, CallsOn, whole, AreShown, IsIdle, fault_of, ChecksOn, CheckpointRefusal, Device, Blank}
-use Rattle.mm_callers.specs.Below.{Cell, Kind, Lost, Checkpointed}
+use Rattle.mm_callers.specs.Below.{extended_message, anchored_message, after, Opt, Item, Standing, item_values, StepFault, Batch, One}
+use Rattle.mm_callers.specs.Below.{Meaning, History, register_value_of, cell_digest_of, Instance, life_of, is_lost, Answer, BatchAnswer}
+use Rattle.mm_callers.specs.Below.{Refusal, counted_part, CallsOn, whole, AreShown, IsIdle, fault_of, ChecksOn, CheckpointRefusal, Device}
+use Rattle.mm_callers.specs.Below.{Blank, Cell, Kind, Lost, Checkpointed}
 use Rattle.mm_callers.specs.Basic.{IsOnce, AnswersOnce, finds, SaysFound, Stays, Refuses}
 use Rattle.mm_callers.specs.Opt.{OnEach}
 use Rattle.mm_callers.specs.declared.closing.Replies.{Replies}
 use Rattle.mm_callers.specs.declared.closing.Halted.{Halted}
 use Rattle.mm_callers.specs.declared.closing.Halted.TheVariants.{Asking, Closing}
 
--- What is asked besides for a checkpoint: the messages by which it may close the segment, at any of
--- these items, with the register's value behind the first of them.
+-- What is asked besides for a checkpoint: the messages by which it may close the segment before,
+-- between or behind these items, each with the register's value behind the first of them.
 abbrev pub MayClose : List (List ℕ) → Instance → History → List Item → Type 0
 MayClose all i y more =
     (first later : List (List ℕ)) → first ++ later ≡ item_values more →

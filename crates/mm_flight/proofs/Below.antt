@@ -1,14 +1,13 @@
 -- The words and laws that the proofs of this crate take from specs/ and from the crates below.
 pub use Rattle.std.specs.Option.{option_map}
 pub use Rattle.std.specs.Result.{result_err}
-pub use Rattle.std.proofs.Common.{◌++◌, ◌+◌, ◌<◌, ◌∙◌, ◌∷◌, ◌≡◌, ◌≤◌, [], ap, arith, Bool, Err, false, List, map, None, Ok, Option, refl}
-pub use Rattle.std.proofs.Common.{Result, Some, subst, sym, true, ℕ}
+pub use Rattle.std.proofs.Common.{◌++◌, ◌+◌, ◌<◌, ◌∙◌, ◌∷◌, ◌≡◌, ◌≤◌, [], ap, arith, Bool, Err, false, List, None, Ok, Option, refl, Result}
+pub use Rattle.std.proofs.Common.{Some, subst, sym, true, ℕ}
 pub use Rattle.mm_base.specs.Faults.{counted}
 pub use Rattle.mm_seal.specs.declared.cell.Cell.{Cell}
 pub use Rattle.mm_platform.specs.Memory.{meddling, stopping}
 pub use Rattle.mm_platform.specs.Standing.{Plan, Standing}
-pub use Rattle.mm_platform.specs.Steps.{Act, cell_after, EndsBy, ExtendRegister, Goes, GoesByPlan, ReadCell, ReadRegister, ResetRegister}
-pub use Rattle.mm_platform.specs.Steps.{will_answer, will_be_made, will_be_on, will_bring, WriteCell}
+pub use Rattle.mm_platform.specs.Steps.{Act, cell_after, EndsBy, Goes, GoesByPlan, ReadCell, ReadRegister, will_answer, WriteCell}
 pub use Rattle.mm_platform.specs.declared.fault.StepFault.{StepFault}
 pub use Rattle.mm_platform.specs.declared.plan.Meddle.{Meddle}
 pub use Rattle.mm_platform.specs.declared.plan.Stop.TheVariants.{Quiet}
@@ -27,6 +26,6 @@ pub use Rattle.mm_opt.specs.Asks.{opt_call, ReadsOn}
 pub use Rattle.mm_opt.specs.Steps.{Makes, MakesRoom}
 pub use Rattle.mm_opt.specs.declared.call.Turn.{Turn}
 pub use Rattle.mm_opt.specs.declared.found.Found.{Found}
-pub use Rattle.mm_opt.specs.declared.found.Found.TheVariants.{Inside, Opens, Repeat}
+pub use Rattle.mm_opt.specs.declared.found.Found.TheVariants.{Inside, Opens}
 pub use Rattle.mm_opt.proofs.Above.{acts_at, closing_acts_at}
 pub use Rattle.mm_flight.specs.InFlight.{GoesOnAs, InFlight, plan_by, SaySame, under}
