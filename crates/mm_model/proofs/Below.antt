@@ -15,7 +15,7 @@ pub use Rattle.mm_seal.specs.declared.snapshot.Place.{Place}
 pub use Rattle.mm_seal.specs.declared.snapshot.Place.TheVariants.{Basic as InBasic, Opt as InOpt}
 pub use Rattle.mm_module.specs.Batch.{Batch, size_of}
 pub use Rattle.mm_module.specs.Meaning.{IsLawful, Meaning, said_after, state_after}
-pub use Rattle.mm_model.specs.BasicLaws.{basic_here, verdicts}
+pub use Rattle.mm_model.specs.BasicLaws.{basic_here, basic_stands, verdicts}
 pub use Rattle.mm_model.specs.BatchLaws.{at_the_end, before_the_last, same_batch-Decides, same_tests, total-push}
 pub use Rattle.mm_model.specs.ChainLaws.{trail_front, trail_push}
 pub use Rattle.mm_model.specs.Chains.{anchor_of, closing_message, guard, guard_message, link, register_of, summary_of, trail}

@@ -252,10 +252,6 @@ module _ (meaning : Meaning) (key barrier : List ℕ) (others : List (List ℕ))
       → Brings Opt y.is_open others y m → IsOutside others (moved (opt meaning key barrier) y m)
   outside_moved y m = outside_at y y.is_open m
 
-pub basic_whole : (meaning : Meaning) (key : List ℕ) (y : History) (b : Batch)
-    → with_batch Basic y b ≡ moved_by (basic meaning key) y (commit_moves Basic y.is_open b)
-basic_whole meaning key y b = refl
-
 whole_at : (meaning : Meaning) (key barrier : List ℕ) (y : History) (flag : Bool) (b : Batch) → with_batch Opt (record y { is_open = flag })
     b ≡ moved_by (opt meaning key barrier) (record y { is_open = flag }) (commit_moves Opt flag b)
 whole_at meaning key barrier y true b = refl

@@ -12,6 +12,7 @@ use Rattle.mm_model.proofs.Below.{same_own_values, same_tests, at_the_end, befor
 use Rattle.mm_model.proofs.Below.{FreshSomehow, AgainSomehow, fresh_joins, again_joins, Reaches, IsHeld, fresh_from, again_from, Listed, Clears}
 use Rattle.mm_model.proofs.Below.{own_values-append, values_of-append, joined-values, has_value-append, values_of-clean, values_of-own, meets}
 use Rattle.std.proofs.lemmas.Bool.{or_left, or_right, false_from_ne_true}
+use Rattle.mm_digest.specs.declared.digest.Digest.{Digest}
 use Rattle.std.proofs.lemmas.List.Elements.{Contains-append_left, Contains-append_right, Contains-push, Contains-push_cases}
 use Rattle.mm_model.proofs.Paths.{live_clean, path_of, shut_current}
 use Rattle.mm_model.proofs.Opt.{zero_tells, second_listed, fresh_somehow, again_somehow}
@@ -80,7 +81,7 @@ pub record Stood (i : Instance) (y : History) (named rest : List Batch) (a e : L
   pub path : Listed i.meaning.id all before taken
   pub guards : Within (map (guard_message i.barrier) y.batches) all
 
-pub stood_of : (i : Instance) (y : History) (named rest : List Batch) (a e : List ℕ) (all : List (List ℕ)) → IsSound y → IsClear all
+stood_of : (i : Instance) (y : History) (named rest : List Batch) (a e : List ℕ) (all : List (List ℕ)) → IsSound y → IsClear all
     → Within (messages_of Opt i y) all → y.batches ≡ named ++ rest → IsPoint i y named a e → Stood i y named rest a e all
 stood_of i y named rest a e all sound clear history first place =
     let h = history_listed i y all history in let p = path_of i y named rest a e sound first all h.runs place in
@@ -109,6 +110,13 @@ stood_of i y named rest a e all sound clear history first place =
       };
       guards = h.guards;
     }
+
+pub stood_at : (i : Instance) (y : History) (named rest : List Batch) (place : Place) (all : List (List ℕ)) → IsSound y → IsClear all
+    → Within (messages_of Opt i y) all → y.batches ≡ named ++ rest → IsPlaceOf Opt i y named place
+    → (a : Digest) × (e : Digest) × (place ≡ InOpt a e) × Stood i y named rest a.bytes e.bytes all
+stood_at i y named rest (InBasic s) all sound clear history first is = absurd is
+stood_at i y named rest (InOpt a e) all sound clear history first is =
+    (a, e, refl, stood_of i y named rest a.bytes e.bytes all sound clear history first is)
 
 -- what a test tells of a history that isn't lost: nothing holds of one that is spoiled
 abbrev pub told : Life → Bool → Bool
@@ -235,23 +243,15 @@ module _ (i : Instance) (y : History) (named rest : List Batch) (a e : List ℕ)
       (λ some. (second_listed i.meaning.id all q.clears.clear q.before q.taken v q.path listed some).0))
       (again_told sound b foreign called listed))
 
-opt_at : (meaning : Meaning) (key barrier : List ℕ) (y : History) (named rest : List Batch) (place : Place) (b : Batch)
-    (all : List (List ℕ)) → IsSound y → IsClearFor all (opt meaning key barrier) y place b → y.batches ≡ named ++ rest
-    → IsPlaceOf Opt (opt meaning key barrier) y named place → verdict_by_digests barrier y.is_open (cell_digest_of (opt meaning key barrier)
-    Opt y) (register_value_of (opt meaning key barrier) y) place b ≡ judge Opt y (total_of named) b
-opt_at meaning key barrier y named rest (InBasic s) b all sound clear first is = absurd is
-opt_at meaning key barrier y named rest (InOpt a e) b all sound clear first is =
-    let i = opt meaning key barrier in
-    opt_on i y named rest a.bytes e.bytes all (stood_of i y named rest a.bytes e.bytes all sound clear.clear clear.history first is) sound b
-    clear.call.0 clear.call.1 clear.foreign
-
 pub opt_is_judged : (meaning : Meaning) (key barrier : List ℕ) (y : History) (offered : Content) (b : Batch) (all : List (List ℕ))
     → IsSound y → IsClearFor all (opt meaning key barrier) y offered.place b → Names (opt meaning key barrier) y offered
     → verdict_by_digests barrier y.is_open (cell_digest_of (opt meaning key barrier) Opt y) (register_value_of (opt meaning key barrier) y)
     offered.place b ≡ judge Opt y offered.position b
 opt_is_judged meaning key barrier y offered b all sound clear names =
-    opt_at meaning key barrier y names.named names.rest offered.place b all sound clear names.first names.place
-    ∙ ap (λ (p : ℕ). judge Opt y p b) (sym names.position)
+    let i = opt meaning key barrier in
+    let s = stood_at i y names.named names.rest offered.place all sound clear.clear clear.history names.first names.place in
+    let call = rw s.2 at clear.call in
+    rw (s.2, names.position) (opt_on i y names.named names.rest s.0.bytes s.1.bytes all s.3 sound b call.0 call.1 clear.foreign)
 
 pub lost_is_zero : (meaning : Meaning) (key barrier : List ℕ) (y : History) (all : List (List ℕ)) → IsClear all
     → Within (messages_of Opt (opt meaning key barrier) y) all

@@ -69,8 +69,7 @@ module _ {A : Type 0} (f : List ℕ → A → List ℕ) (start : List ℕ) (Fine
   -- a chain that took a step doesn't end at its start
   pub never_back : Telling f start Fine all → (xs : List A) (x : A) → Within (trail f start (xs ++ x ∷ [])) all
       → after f start (xs ++ x ∷ []) ≢ start
-  never_back telling xs x w e =
-      telling.leaves (after f start xs) x (trail_last f start xs x all w) (sym (after-push f start xs x) ∙ e)
+  never_back telling xs x w e = telling.leaves (after f start xs) x (trail_last f start xs x all w) (sym (after-push f start xs x) ∙ e)
 
   same_none : Telling f start Fine all → SameFrom []
   same_none telling ys fx fy wx wy e = elim (ends ys) [
