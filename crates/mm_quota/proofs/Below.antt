@@ -7,7 +7,7 @@ pub use Rattle.mm_module.specs.LineLaws.{and-true, are_bytes-Fits}
 pub use Rattle.mm_module.specs.declared.modules.Stepped.{Stepped}
 pub use Rattle.mm_quota.specs.AccountLaws.{IsAccount-from}
 pub use Rattle.mm_quota.specs.LedgerLaws.{account_named-absent, account_named-found, account_named-other, account_named-this}
-pub use Rattle.mm_quota.specs.LedgerLaws.{bytes_eq-order, FoundOf, length-put}
+pub use Rattle.mm_quota.specs.LedgerLaws.{bytes_eq-order, FoundOf, length-after, put-place}
 pub use Rattle.mm_quota.specs.QuotaLaws.{total_used-le}
 pub use Rattle.mm_quota.specs.Spelled.{follow, IsSpelled}
 pub use Rattle.mm_quota.specs.SpellingLaws.{account_at-account_bytes, accounts_from-reads, is_state-SpellsLedger, ReadsBody}
