@@ -51,13 +51,10 @@ SaysWords (says.Words seed place count) = (place < 2 ^ 64) × (count ≤ 16)
 SaysWords _ = Unit {0}
 
 -- a state that can be spelled and what can be said
-outcome_by : (state : State) (request : Option Request) → IsDispenserState state
-    → IsDispenserRequest request → IsOutcome IsDispenserState SaysWords (outcome_of state request)
-outcome_by state request good asked = grind (arith, nat_tests)
-
 pub outcome_of-IsOutcome : (state : State) (request : List ℕ) → IsDispenserState state
     → IsOutcome IsDispenserState SaysWords (outcome_of state (request_of (words_of request)))
-outcome_of-IsOutcome state request good = outcome_by state _ good (request_of-IsDispenserRequest (words_of request))
+outcome_of-IsOutcome state request good =
+    let asked = request_of-IsDispenserRequest (words_of request) in grind (arith, nat_tests)
 
 -- a spelling is read back
 seeded_of-joined : (seed : List ℕ) (place : ℕ) → IsSeeded seed place → seeded_of (seed ++ eight_bytes place) ≡ Some (Seeded seed place)

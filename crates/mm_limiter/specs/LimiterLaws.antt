@@ -53,13 +53,10 @@ SaysGuesses (HasLeft left) = left ≤ 100
 SaysGuesses _ = Unit {0}
 
 -- a state that can be spelled and what can be said
-outcome_by : (state : State) (request : Option Request) → IsLimiterState state → IsLimiterRequest request
-    → IsOutcome IsLimiterState SaysGuesses (outcome_of state request)
-outcome_by state request is asked = grind (arith, nat_tests)
-
 outcome_of-IsOutcome : (state : State) (request : List ℕ) → IsLimiterState state
     → IsOutcome IsLimiterState SaysGuesses (outcome_of state (request_of (words_of request)))
-outcome_of-IsOutcome state request is = outcome_by state _ is (request_of-IsLimiterRequest (words_of request))
+outcome_of-IsOutcome state request is =
+    let asked = request_of-IsLimiterRequest (words_of request) in grind (arith, nat_tests)
 
 -- bytes that spell a state are its spelling
 record IsRead (bytes : List ℕ) (state : State) : Type 0 where

@@ -38,20 +38,12 @@ run_grows barrier all run b w c =
 module _ (i : Instance) where
   listed_history : (y : History) (all : List (List ℕ)) → HistoryListed i y all → Within (messages_of Opt i y) all
   listed_history y all h =
-      let C = Contains all in let guards = map (guard_message i.barrier) y.batches in
-      let runs = flat_map (λ run. register_trail (own_values i.barrier run)) (runs_of y) in
-      let closed = flat_map (λ segment. register_trail (values_of i.barrier segment)) y.closed in
-      let items = register_trail (values_of i.barrier y.items) in
-      let closings = trail closing_message (start_of Opt i.meaning.id) (map (values_of i.barrier) y.closed) in (
-        h.starts,
-        each_append C
-            (guards ++ runs ++ closed ++ items) closings
-            (each_append C (guards ++ runs ++ closed) items (each_append C (guards ++ runs) closed (each_append C guards runs h.guards
-            (flat_each C (λ run. register_trail (own_values i.barrier run)) (runs_of y) h.runs))
-            (flat_each C (λ segment. register_trail (values_of i.barrier segment)) y.closed
-            (unmap_each (λ vs. Within (register_trail vs) all)
-            (values_of i.barrier) y.closed h.listed.inner))) h.listed.last) h.listed.outer,
-      )
+      let C = Contains all in
+      let runs = flat_each C (λ run. register_trail (own_values i.barrier run)) (runs_of y) h.runs in
+      let segments = unmap_each (λ vs. Within (register_trail vs) all) (values_of i.barrier) y.closed h.listed.inner in
+      let closed = flat_each C (λ segment. register_trail (values_of i.barrier segment)) y.closed segments in
+      let two = each_append C _ _ (each_append C _ _ h.guards runs) closed in
+      (h.starts, each_append C _ _ (each_append C _ _ two h.listed.last) h.listed.outer)
 
   -- the items alone change
   items_listed : (y : History) (items : List Entry) (all : List (List ℕ)) → HistoryListed i y all

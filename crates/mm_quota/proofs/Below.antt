@@ -1,5 +1,5 @@
 -- The words and laws that the proofs of this crate take from specs/ and from the crates below.
-pub use Rattle.std.specs.Prelude.{◌&&◌, ◌*◌, ◌++◌, ◌+◌, ◌<◌, ◌^◌, ◌∷◌, ◌≡◌, ◌≤◌, [], Bool, drop, Err, false, IfOk, if◌then◌else◌, is_some}
+pub use Rattle.std.specs.Prelude.{◌&&◌, ◌++◌, ◌+◌, ◌<◌, ◌^◌, ◌∷◌, ◌≡◌, ◌≤◌, [], Bool, drop, Err, false, IfOk, if◌then◌else◌, is_some}
 pub use Rattle.std.specs.Prelude.{length, List, nat_le, None, Ok, Option, option_and_then, option_map, Result, Some, suc, take, true}
 pub use Rattle.std.proofs.Common.{◌-◌, ◌∙◌, ap, append_assoc, arith, length-append, min, refl, rules, subst, sym, ℕ}
 pub use Rattle.std.proofs.lemmas.Bool.Decides.{nat_tests}
