@@ -72,8 +72,7 @@ module _ (barrier : List ℕ) (all : List (List ℕ)) where
   pub guards_grow : (batches : List Batch) (b : Batch) → Within (map (guard_message barrier) batches) all
       → Contains all (guard_message barrier b) → Within (map (guard_message barrier) (batches ++ b ∷ [])) all
   guards_grow batches b w c =
-      rw (map-append (guard_message barrier) batches (b ∷ []))
-      (each_append (Contains all) (map (guard_message barrier) batches) (guard_message barrier b ∷ []) w (c, tt))
+      rw (map-append (guard_message barrier) batches (b ∷ [])) (each_append (Contains all) _ _ w (c, tt))
 
   runs_commit : (y : History) (current : List Batch) (is_open : Bool) (items : List Entry) (b : Batch) → current ≡ y.current ++ b ∷ []
       → AllByRecursion (RunsListed barrier all) (runs_of y) → Contains all (extended_message (register_of (own_values barrier y.current))
@@ -85,9 +84,8 @@ module _ (barrier : List ℕ) (all : List (List ℕ)) where
       }))
   runs_commit y current is_open items b grown runs c =
       let parts = runs_parts (RunsListed barrier all) y runs in
-      rw (grown, front_stays y.batches y.current b) (each_append (RunsListed barrier all)
-      (closed_runs y.closed (take (length y.batches - length y.current) y.batches)) ((y.current ++ b ∷ []) ∷ []) parts.0
-      (run_grows barrier all y.current b parts.1 c, tt))
+      rw (grown, front_stays y.batches y.current b)
+      (each_append (RunsListed barrier all) _ _ parts.0 (run_grows barrier all y.current b parts.1 c, tt))
 
 commit_listed : (i : Instance) (y : History) (current : List Batch) (is_open : Bool) (items : List Entry) (b : Batch) (all : List (List ℕ))
     → current ≡ y.current ++ b ∷ [] → HistoryListed i y all → Within (register_trail (values_of i.barrier items)) all
@@ -133,11 +131,10 @@ close_listed i y all clean h c =
     record {
       starts = h.starts;
       guards = h.guards;
-      runs = each_append R (closed_runs (y.closed ++ y.items ∷ []) (take (length y.batches - 0) y.batches)) ([] ∷ [])
-          (rw whole (runs_push R y.closed y.items bs y.current (length-batches_in (joined y.closed) clean.clean) closed parts.1)) (tt, tt);
+      runs = each_append R _ ([] ∷ []) (rw whole (runs_push R y.closed y.items bs y.current (length-batches_in (joined y.closed) clean.clean)
+          closed parts.1)) (tt, tt);
       listed = record {
-        inner = rw is (each_append (λ vs. Within (register_trail vs) all) (map V y.closed) (V y.items ∷ []) h.listed.inner
-            (h.listed.last, tt));
+        inner = rw is (each_append (λ vs. Within (register_trail vs) all) _ _ h.listed.inner (h.listed.last, tt));
         outer = rw is (trail_push closing_message (start_of Opt i.meaning.id) (map V y.closed) (V y.items) all h.listed.outer c);
         last = h.listed.last;
       };

@@ -104,7 +104,7 @@ stood_of i y named rest a e all sound clear history first place =
       clears = record { clear = clear; starts = h.starts };
       history = h.listed;
       path = record {
-        inner = each_left (λ vs. Within (register_trail vs) all) before (map V p.later) (rw split at h.listed.inner);
+        inner = each_left (λ vs. Within (register_trail vs) all) _ _ (rw split at h.listed.inner);
         outer = trail_front closing_message (start_of Opt id) before (map V p.later) all (rw split at h.listed.outer);
         last = p.listed;
       };
@@ -176,8 +176,7 @@ module _ (i : Instance) (y : History) (named rest : List Batch) (a e : List ℕ)
   path_messages v call = rw (q.anchor_is, q.extension_is) at call
 
   guards_of_named : Within (map (guard_message i.barrier) named) all
-  guards_of_named =
-      each_left (Contains all) (map (guard_message i.barrier) named) (map (guard_message i.barrier) rest)
+  guards_of_named = each_left (Contains all) (map (guard_message i.barrier) named) _
       (rw (q.first, map-append (guard_message i.barrier) named rest) at q.guards)
 
   -- A test that holds exactly where the values of these batches are all that count: by the life of the history.
@@ -227,8 +226,7 @@ module _ (i : Instance) (y : History) (named rest : List Batch) (a e : List ℕ)
       (λ f. more ∙ again_joins y.is_open closed_here items_here v q.before q.taken f ∙ flat_here)
       (λ held is. again_from y.is_open closed_here q.before q.later items_here v q.taken q.split q.filled held q.reaches
       (sym more ∙ is ∙ sym flat_here))
-      (rw (map-append (guard_message i.barrier) named (b ∷ [])) (each_append (Contains all) (map (guard_message i.barrier) named)
-      (guard_message i.barrier b ∷ []) guards_of_named (called, tt)))
+      (rw (map-append (guard_message i.barrier) named (b ∷ [])) (each_append (Contains all) _ _ guards_of_named (called, tt)))
       (λ d c among asked. foreign d c among (among_asked y.batches named rest b q.first c asked)) (life_of Opt y) refl)
 
   -- the verdict, by the path that the place is

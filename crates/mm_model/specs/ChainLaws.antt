@@ -52,13 +52,11 @@ module _ {A : Type 0} (f : List ℕ → A → List ℕ) (s : List ℕ) where
   trail_front xs ys all w = each_left (Contains all) (trail f s xs) (trail f (after f s xs) ys) (rw (trail-append f s xs ys) at w)
 
   pub trail_last : (xs : List A) (x : A) (all : List (List ℕ)) → Within (trail f s (xs ++ x ∷ [])) all → Contains all (f (after f s xs) x)
-  trail_last xs x all w =
-      (each_right (Contains all) (trail f s xs) (trail f (after f s xs) (x ∷ [])) (rw (trail-append f s xs (x ∷ [])) at w)).0
+  trail_last xs x all w = (each_right (Contains all) (trail f s xs) _ (rw (trail-append f s xs (x ∷ [])) at w)).0
 
   pub trail_push : (xs : List A) (x : A) (all : List (List ℕ)) → Within (trail f s xs) all → Contains all (f (after f s xs) x)
       → Within (trail f s (xs ++ x ∷ [])) all
-  trail_push xs x all w c =
-      rw (trail-append f s xs (x ∷ [])) (each_append (Contains all) (trail f s xs) (trail f (after f s xs) (x ∷ [])) w (c, tt))
+  trail_push xs x all w c = rw (trail-append f s xs (x ∷ [])) (each_append (Contains all) (trail f s xs) _ w (c, tt))
 
 module _ {A : Type 0} (f : List ℕ → A → List ℕ) (start : List ℕ) (Fine : A → Type 0) (all : List (List ℕ)) where
   abbrev pub SameFrom : List A → Type 0
