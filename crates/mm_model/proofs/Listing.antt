@@ -131,8 +131,8 @@ close_listed i y all clean h c =
     record {
       starts = h.starts;
       guards = h.guards;
-      runs = each_append R _ ([] ∷ []) (rw whole (runs_push R y.closed y.items bs y.current (length-batches_in (joined y.closed) clean.clean)
-          closed parts.1)) (tt, tt);
+      runs = each_append R _ ([] ∷ []) (rw whole (runs_push R y.closed y.items bs y.current
+          (length-batches_in (joined y.closed) clean.clean) closed parts.1)) (tt, tt);
       listed = record {
         inner = rw is (each_append (λ vs. Within (register_trail vs) all) _ _ h.listed.inner (h.listed.last, tt));
         outer = rw is (trail_push closing_message (start_of Opt i.meaning.id) (map V y.closed) (V y.items) all h.listed.outer c);

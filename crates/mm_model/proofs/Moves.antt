@@ -224,7 +224,8 @@ outside_more others false closed items e h new = h
 outside_less : (others : List (List ℕ)) (flag : Bool) (closed : List (List Entry)) (items : List Entry) → OutsideAt others flag closed items
     → OutsideAt others flag closed []
 outside_less others true closed items h =
-    rw (append-nil (joined closed)) (each_left (Contains others) (values_in (joined closed)) _ (rw (values_in-append (joined closed) items) at h))
+    rw (append-nil (joined closed))
+    (each_left (Contains others) (values_in (joined closed)) _ (rw (values_in-append (joined closed) items) at h))
 outside_less others false closed items h = h
 
 module _ (meaning : Meaning) (key barrier : List ℕ) (others : List (List ℕ)) where

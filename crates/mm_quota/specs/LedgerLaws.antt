@@ -121,8 +121,8 @@ length-after {new = new} (Behind {account} {accounts} is later) previous rising 
     rw (bytes_eq-order new.name account.name Greater is) (grind (arith, more))
 
 -- accounts of other names stay
-pub others-after : {new : Account} {accounts after : List Account} → Puts new accounts after → (name : List ℕ) → bytes_eq name new.name ≡ false
-    → account_named name after ≡ account_named name accounts
+pub others-after : {new : Account} {accounts after : List Account} → Puts new accounts after → (name : List ℕ)
+    → bytes_eq name new.name ≡ false → account_named name after ≡ account_named name accounts
 others-after Last name other = rw other refl
 others-after (Before _) name other = rw other refl
 others-after {new = new} (Instead {account} {accounts} is) name other = rw (other, ← order-Equal new.name account.name is, other) refl
