@@ -1,7 +1,7 @@
 -- No place is told by two draws: the place never falls, and a draw tells those from the place
 -- before it to the one after.
 use Rattle.std.proofs.Common.{◌≡◌, ℕ, zero, suc, ◌+◌, ◌<◌, ◌≤◌, ◌^◌, Bool, true, false, not, List, [], ◌∷◌, ◌++◌, length, Option, Some, None, refl, sym, ◌∙◌, ap, subst, arith, append-nil}
-use Rattle.std.specs.Prelude.{All, option_map}
+use Rattle.std.specs.Prelude.{All}
 use Rattle.std.specs.Fmt.{decimal}
 use Rattle.std.specs.List.{list_all}
 use Rattle.std.proofs.lemmas.Bool.Decides.{nat_tests}
@@ -16,7 +16,7 @@ use Rattle.mm_module.specs.WordsWords.{is_space}
 use Rattle.mm_dispenser.specs.Draws.{word_of, word_text, words_text, drawn_text}
 use Rattle.mm_dispenser.specs.Table.{request_of, outcome_of, text_of}
 use Rattle.mm_dispenser.specs.DispenserLaws.{IsDispenserState, SaysWords, outcome_of-IsOutcome, digits_at, dispenser_table, dispenser_is_table}
-use Rattle.mm_dispenser.specs.Places.{PlacesFrom, places_in, places_told, places_at, RisesByPlaces, PlacesAreToldOnce}
+use Rattle.mm_dispenser.specs.Places.{PlacesFrom, places_told, places_at, RisesByPlaces, PlacesAreToldOnce}
 use Rattle.mm_dispenser.specs.declared.dispenser.State.{State}
 use Rattle.mm_dispenser.specs.declared.dispenser.State.TheVariants.{Unset, Seeded}
 use Rattle.mm_dispenser.specs.declared.dispenser.Request.{Request}

@@ -1,6 +1,6 @@
 -- Wrong guesses run out: outputs are what is said from a state, and each wrong guess takes one of
 -- those left.
-use Rattle.std.proofs.Common.{◌≡◌, ℕ, suc, zero, ◌+◌, ◌≤◌, ◌||◌, Bool, false, cond, List, [], ◌∷◌, take, Option, sym, subst, arith}
+use Rattle.std.proofs.Common.{◌≡◌, ℕ, suc, zero, ◌+◌, ◌≤◌, false, cond, List, [], ◌∷◌, take, Option, sym, subst, arith}
 use Rattle.std.specs.Prelude.{count_by}
 use Rattle.std.specs.List.{list_any}
 use Rattle.std.proofs.lemmas.Bool.{or_parts}

@@ -2,7 +2,7 @@
 -- the other way round, and a test that each element passes holds at each place.
 pub use Rattle.std.proofs.lemmas.Bool.{and_parts as and-true, and_from as and-both}
 pub use Rattle.std.proofs.lemmas.List.Sums.{AllPass-from_list_all as list_all-get_or}
-use Rattle.std.specs.Prelude.{◌≡◌, ◌≢◌, ◌==◌, ◌&&◌, ℕ, suc, ◌%◌, ◌^◌, ◌<◌, ◌≤◌, List, [], ◌∷◌, length, Bool, true, false, not, All}
+use Rattle.std.specs.Prelude.{◌≡◌, ◌≢◌, ◌==◌, ℕ, ◌%◌, ◌^◌, ◌<◌, ◌≤◌, List, [], ◌∷◌, length, Bool, true, not, All}
 use Rattle.std.proofs.Common.{refl, arith, lit<, get_or, Fits, w8}
 use Rattle.std.specs.Fmt.{decimal}
 use Rattle.std.specs.Char.{is_ascii_digit}
