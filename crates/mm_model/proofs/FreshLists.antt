@@ -1,8 +1,8 @@
 -- Opt: a fresh offer lists the messages that its batch adds to the history.
-use Rattle.mm_model.proofs.Below.{ℕ, ◌≡◌, ◌+◌, Bool, true, false, ◌&&◌, List, [], ◌∷◌, ◌++◌, map, refl, sym, ap, ◌∙◌, subst, inl, inr}
-use Rattle.mm_model.proofs.Below.{nat_eq, Contains, Opt, extended_message, Batch, size_of, Meaning, Place, InBasic, InOpt, Content}
+use Rattle.mm_model.proofs.Below.{ℕ, ◌≡◌, ◌+◌, Bool, true, false, ◌&&◌, List, map, refl, sym, ap, ◌∙◌, inl, inr}
+use Rattle.mm_model.proofs.Below.{nat_eq, Contains, Opt, extended_message, Batch, size_of, Meaning, Content}
 use Rattle.mm_model.proofs.Below.{guard_message, guard, register_of, own_values, Instance, opt, History, Commit, joined, total_of}
-use Rattle.mm_model.proofs.Below.{values_of, is_empty, has_value, are_own, Life, Live, life_of, is_last, judge, judged, IsPlaceOf, Names}
+use Rattle.mm_model.proofs.Below.{values_of, is_empty, has_value, are_own, Life, Live, life_of, is_last, judge, judged, Names}
 use Rattle.mm_model.proofs.Below.{IsSound, Within, IsClearFor, point_messages, batch_messages, at_the_end, taken_in, FreshSomehow}
 use Rattle.mm_model.proofs.Below.{reads_zero, values_of-own}
 use Rattle.mm_model.specs.declared.verdict.Verdict.TheVariants.{Fresh as IsFresh}

@@ -1,6 +1,6 @@
 -- The messages of a history of Opt, by kind, and what its life tells of its four tests.
-use Rattle.mm_model.proofs.Below.{ℕ, ◌≡◌, Bool, true, false, ◌&&◌, List, [], ◌∷◌, ◌++◌, map, refl, sym, ◌⊎◌, inl, inr, AllByRecursion}
-use Rattle.mm_model.proofs.Below.{Contains, flat_map, Opt, start_message, start_of, trail, guard_message, closing_message, own_values}
+use Rattle.mm_model.proofs.Below.{ℕ, ◌≡◌, Bool, true, false, ◌&&◌, List, [], ◌∷◌, map, refl, sym, ◌⊎◌, inl, inr, AllByRecursion}
+use Rattle.mm_model.proofs.Below.{Contains, flat_map, Opt, start_message, guard_message, own_values}
 use Rattle.mm_model.proofs.Below.{Instance, History, values_of, Live, Spoiled, life_by, is_lost_life, Within, register_trail}
 use Rattle.mm_model.proofs.Below.{messages_of, runs_of, each_left, each_right, true_not_false, Listed}
 use Rattle.mm_model.proofs.Paths.{RunsListed}

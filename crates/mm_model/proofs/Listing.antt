@@ -2,10 +2,10 @@
 use Rattle.mm_model.proofs.Below.{ℕ, ◌≡◌, ◌-◌, ◌≤◌, Bool, true, false, List, [], ◌∷◌, ◌++◌, length, map, take, drop, refl, sym, ap, ◌∙◌}
 use Rattle.mm_model.proofs.Below.{subst, arith, length-append, AllByRecursion, Contains, flat_map, append-nil, map-append, length-drop}
 use Rattle.mm_model.proofs.Below.{take-append-le, drop-append-le, take_all, take_at, drop_at, Opt, start_of, extended_message}
-use Rattle.mm_model.proofs.Below.{anchored_message, Batch, Meaning, trail, guard_message, closing_message, guard, own_values, Instance, opt}
-use Rattle.mm_model.proofs.Below.{Entry, Own, Value, History, Move, Commit, Foreign, Placed, Reset, Close, Power, joined, value_of, renamed}
+use Rattle.mm_model.proofs.Below.{anchored_message, Batch, Meaning, guard_message, closing_message, guard, own_values, Instance, opt}
+use Rattle.mm_model.proofs.Below.{Entry, Own, Value, History, Move, Commit, Foreign, Placed, Close, joined, value_of, renamed}
 use Rattle.mm_model.proofs.Below.{moved, values_of, IsSound, IsClean, batches_in, Within, register_trail, closed_runs, runs_of, messages_of}
-use Rattle.mm_model.proofs.Below.{moving_messages, IsAllowed, MayMove, batch_messages, each_append, each_left, each_right, trail_push}
+use Rattle.mm_model.proofs.Below.{MayMove, batch_messages, each_append, trail_push}
 use Rattle.mm_model.proofs.Below.{nil_from_length, listed_value, own_values-append, values_of-append, length-batches_in, values_renamed}
 use Rattle.mm_model.specs.Chains.{register_of, anchor_of}
 use Rattle.mm_model.specs.MessagesWords.{move_messages}

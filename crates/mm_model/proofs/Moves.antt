@@ -1,6 +1,6 @@
 -- What each move keeps and does: soundness, the digests, and the values that it leaves that stand for no batch.
-use Rattle.mm_model.proofs.Below.{ℕ, ◌≡◌, Bool, true, false, ◌||◌, List, [], ◌∷◌, ◌++◌, refl, sym, ap, ◌∙◌, subst, inl, inr, append_assoc}
-use Rattle.mm_model.proofs.Below.{map, append-nil, map-append, and_from, and_parts, Opt, Basic, Batch, Meaning, guard, register_of}
+use Rattle.mm_model.proofs.Below.{ℕ, ◌≡◌, Bool, true, false, List, [], ◌∷◌, ◌++◌, refl, sym, ap, ◌∙◌, inl, inr, append_assoc}
+use Rattle.mm_model.proofs.Below.{map, append-nil, map-append, and_from, and_parts, Opt, Batch, Meaning, guard, register_of}
 use Rattle.mm_model.proofs.Below.{anchor_of, Instance, opt, basic, Entry, Own, Value, History, Move, Commit, Foreign, Placed, Reset, Close}
 use Rattle.mm_model.proofs.Below.{Power, joined, renamed, moved, committed, is_empty, has_value, are_own, same_batch}
 use Rattle.mm_model.proofs.Below.{IsSound, AreItems, batches_in, IsOpening, IsAllowed, MayMove, Digests, digests_of, made, committing}

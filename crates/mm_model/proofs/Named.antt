@@ -1,10 +1,10 @@
 -- A snapshot that names a position names it after each move; the snapshot of an answer names the last position.
-use Rattle.mm_model.proofs.Below.{ℕ, ◌≡◌, ◌≤◌, Bool, true, false, List, [], ◌∷◌, ◌++◌, length, refl, sym, ap, ◌∙◌, subst, ◌⊎◌, inl, inr}
-use Rattle.mm_model.proofs.Below.{arith, append_assoc, length-append, append-nil, append_cancel_right, Basic, Opt, Batch, Meaning, Place}
+use Rattle.mm_model.proofs.Below.{ℕ, ◌≡◌, ◌≤◌, Bool, true, false, List, [], ◌∷◌, ◌++◌, length, refl, sym, ap, ◌∙◌, ◌⊎◌, inl, inr}
+use Rattle.mm_model.proofs.Below.{arith, append_assoc, length-append, append-nil, append_cancel_right, Opt, Batch, Meaning, Place}
 use Rattle.mm_model.proofs.Below.{InBasic, InOpt, Content, guard, Instance, basic, opt, Entry, Own, Value, History, Move, Commit, Foreign}
-use Rattle.mm_model.proofs.Below.{Placed, Close, joined, moved, renamed, has_value, IsSound, IsClean, batches_in, AtAnchor}
-use Rattle.mm_model.proofs.Below.{InClosed, InCurrent, IsPoint, at_anchor, in_closed, in_current, IsPlaceOf, Names, issued, issued_place, IsAllowed}
-use Rattle.mm_model.proofs.Below.{MayMove, joined-append, length-batches_in}
+use Rattle.mm_model.proofs.Below.{Placed, Close, joined, moved, renamed, has_value, IsSound, IsClean, batches_in}
+use Rattle.mm_model.proofs.Below.{InClosed, InCurrent, IsPoint, at_anchor, in_closed, in_current, IsPlaceOf, Names, issued, issued_place}
+use Rattle.mm_model.proofs.Below.{MayMove, length-batches_in}
 use Rattle.mm_model.proofs.Below.{anchor_after, basic_stands}
 use Rattle.mm_model.proofs.Paths.{clean_size, current_clean, live_clean, shut_current}
 use Rattle.mm_model.proofs.Moves.{flagged, open_current, opening_clean}

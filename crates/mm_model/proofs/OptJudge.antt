@@ -1,7 +1,7 @@
 -- Opt: from a sound history the verdict by digests is the verdict on the history.
-use Rattle.mm_model.proofs.Below.{ℕ, ◌≡◌, ◌+◌, Bool, true, false, ◌&&◌, ◌||◌, List, [], ◌∷◌, ◌++◌, length, map, refl, sym, ap, ◌∙◌}
+use Rattle.mm_model.proofs.Below.{ℕ, ◌≡◌, ◌+◌, Bool, true, false, ◌&&◌, List, [], ◌∷◌, ◌++◌, length, map, refl, sym, ap, ◌∙◌}
 use Rattle.mm_model.proofs.Below.{subst, inl, inr, nat_eq, if◌then◌else◌, Decides, bytes_eq, AllByRecursion, Contains, list_any}
-use Rattle.mm_model.proofs.Below.{append-nil, map-append, Opt, zero_bytes, start_of, anchored_message, Batch, size_of, trail, guard_message, closing_message}
+use Rattle.mm_model.proofs.Below.{append-nil, map-append, Opt, zero_bytes, start_of, anchored_message, Batch, size_of, guard_message, closing_message}
 use Rattle.mm_model.proofs.Below.{guard, register_of, anchor_of, own_values, Meaning, Place, InBasic, InOpt, Content, Instance, opt, Entry}
 use Rattle.mm_model.proofs.Below.{History, joined, total_of, register_value_of, values_of, cell_digest_of, is_empty, has_value, are_own}
 use Rattle.mm_model.proofs.Below.{Life, Live, Spoiled, Lost, life_by, life_of, is_lost_life, verdict_by_digests, forms_of, fits_fresh}

@@ -1,12 +1,12 @@
 -- Whether an offer stands where the module stands: the verdicts by digests and on the history tell the same, whatever the
 -- batch, and no message of a batch is looked at.
-use Rattle.mm_model.proofs.Below.{ℕ, ◌≡◌, ◌+◌, Bool, true, false, ◌&&◌, List, [], ◌∷◌, ◌++◌, refl, sym, ap, ◌∙◌, nat_eq}
-use Rattle.mm_model.proofs.Below.{if◌then◌else◌, bytes_eq, Contains, Basic, Opt, zero_bytes, anchored_message, Batch}
-use Rattle.mm_model.proofs.Below.{size_of, Meaning, Place, InBasic, InOpt, Content, guard, link, summary_of, register_of, anchor_of}
+use Rattle.mm_model.proofs.Below.{ℕ, ◌≡◌, ◌+◌, Bool, true, false, ◌&&◌, List, [], ◌∷◌, refl, sym, ◌∙◌, nat_eq}
+use Rattle.mm_model.proofs.Below.{if◌then◌else◌, bytes_eq, Basic, Opt, zero_bytes, anchored_message, Batch}
+use Rattle.mm_model.proofs.Below.{size_of, Meaning, Content, guard, summary_of, register_of}
 use Rattle.mm_model.proofs.Below.{Instance, basic, opt, History, total_of, register_value_of, values_of, cell_digest_of}
 use Rattle.mm_model.proofs.Below.{Life, Live, Spoiled, Lost, life_of, is_lost_life, verdict_by_digests, forms_of}
 use Rattle.mm_model.proofs.Below.{is_last, verdict_by, opt_verdict, judge, judged, Within, IsClear, AreNoGuards}
-use Rattle.mm_model.proofs.Below.{history_messages, values_in, counting, IsPlaceOf, Names, anchor_after, IsSound}
+use Rattle.mm_model.proofs.Below.{history_messages, values_in, counting, Names, anchor_after, IsSound}
 use Rattle.mm_model.proofs.Below.{basic_here, basic_stands}
 use Rattle.mm_model.specs.StandingHere.{is_new, place_messages}
 use Rattle.mm_model.proofs.Opt.{zero_tells}
@@ -37,13 +37,6 @@ new_told Live fresh again here repeat f = new_by fresh again ∙ f refl ∙ sym 
 new_told Spoiled fresh again here repeat f = new_by fresh again ∙ f refl
 new_told Lost fresh again here repeat f = refl
 
--- the second form's message, at the path that the place is
-closes_there : (id : ℕ) (all : List (List ℕ)) (before : List (List (List ℕ))) (taken : List (List ℕ)) (zero : Bool) → zero ≡ false
-    → Within (if zero then [] else anchored_message (anchor_of id before) (register_of taken) ∷ []) all
-    → Contains all (anchored_message (anchor_of id before) (register_of taken))
-closes_there id all before taken true not_zero listed = absurd (cc)
-closes_there id all before taken false not_zero listed = listed.0
-
 opt_on : (i : Instance) (y : History) (named rest : List Batch) (a e : List ℕ) (b : Batch) (all : List (List ℕ)) → IsSound y
     → Stood i y named rest a e all → Within (if bytes_eq e zero_bytes then [] else anchored_message a e ∷ []) all
     → AreNoGuards i.barrier (values_in (counting y)) y.batches
@@ -53,10 +46,8 @@ opt_on i y named rest a e b all sound q listed foreign =
     rw (zero_is_lost i y all q.clears.clear q.history.last) (new_told (life_of Opt y) _ _ (nat_eq (total_of named) (total_of y.batches))
     (nat_eq (total_of named + size_of b) (total_of y.batches) && is_last y.batches b)
     (fresh_told i y named rest a e all q sound foreign (λ some.
-    let there : Within (if bytes_eq (register_of q.taken) zero_bytes then [] else anchored_message (anchor_of i.meaning.id q.before)
-    (register_of q.taken) ∷ []) all = rw (← q.anchor_is, ← q.extension_is) listed in
-    closes_there i.meaning.id all q.before q.taken (bytes_eq (register_of q.taken) zero_bytes)
-    (zero_tells all q.clears.clear q.taken q.path.last ∙ some) there)))
+    let there : bytes_eq (register_of q.taken) zero_bytes ≡ false = zero_tells all q.clears.clear q.taken q.path.last ∙ some in
+    (rw (q.anchor_is, q.extension_is, there) at listed).0)))
 
 pub opt_stands_here : (meaning : Meaning) (key barrier : List ℕ) (y : History) (offered : Content) (b : Batch) (all : List (List ℕ))
     → IsSound y → IsClear all → Within (history_messages (opt meaning key barrier) y) all → Within (place_messages offered.place) all

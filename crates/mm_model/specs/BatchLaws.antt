@@ -1,6 +1,6 @@
 -- Batches: their tests, and counts of requests that tell how far a list of batches goes.
 use Rattle.std.specs.Prelude.{nat_eq}
-use Rattle.std.proofs.Common.{◌≡◌, ◌+◌, ◌&&◌, ◌++◌, refl, sym, ap, ◌∙◌, subst, arith, length-append, Bool, true, false, List, [], ◌∷◌}
+use Rattle.std.proofs.Common.{◌≡◌, ◌+◌, ◌&&◌, ◌++◌, refl, sym, ap, ◌∙◌, arith, length-append, Bool, true, false, List, [], ◌∷◌}
 use Rattle.std.proofs.lemmas.Bool.{and_parts, and_from}
 use Rattle.std.proofs.lemmas.Bool.Decides.{Decides-eqb}
 use Rattle.std.proofs.lemmas.List.{append-nil}

@@ -1,6 +1,6 @@
 -- An answer that was run from a spelled state, with positions left for it, is fit.
 use Rattle.std.specs.Prelude.{All}
-use Rattle.std.proofs.Common.{◌≡◌, ◌+◌, ◌≤◌, ◌<◌, length, IsTrue, arith, length-append, ℕ, Bool, true, false, List, [], ◌∷◌}
+use Rattle.std.proofs.Common.{◌≡◌, ◌+◌, ◌≤◌, length, IsTrue, arith, length-append, ℕ, Bool, List, [], ◌∷◌}
 use Rattle.std.proofs.lemmas.Bool.Decides.{nat_tests}
 use Rattle.std.proofs.lemmas.List.Elements.{All-nil, All-cons}
 use Rattle.mm_model.specs.Below.{last_position, limit_of, length-hmac_of, Variant, Basic, Opt, place_length, Content, IsPlace, IsContent}
