@@ -9,7 +9,8 @@ use Rattle.mm_receipt.specs.Table.{receipted}
 -- `receipt-` and the name of the module inside, whose requests it is asked
 abbrev pub receipt_listing : Listing → Listing
 receipt_listing inner =
-    listing_of (codes "receipt-" ++ inner.name) (receipted inner.meaning) inner.request promises_nothing
+    listing_of (codes "receipt-" ++ inner.name) (receipted inner.meaning) inner.request
+    promises_nothing
 
 receipt_named : (name : List ℕ) → IsName name → IsName (codes "receipt-" ++ name)
 receipt_named name is = record { begins = refl; letters = is.letters; other = refl }
