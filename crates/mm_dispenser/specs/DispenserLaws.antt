@@ -13,7 +13,7 @@ use Rattle.mm_module.specs.Bytes.{is_byte, are_bytes}
 use Rattle.mm_module.specs.LineLaws.{is_unbroken, and-true, and-both, IsText, is_unbroken-decimal, length-decimal}
 use Rattle.mm_module.specs.Meaning.{IsLawful}
 use Rattle.mm_module.specs.PartLaws.{take-front, drop-front, are_bytes-take, are_bytes-append, length-eight, are_bytes-eight, of_eight_bytes-eight}
-use Rattle.mm_module.specs.TableLaws.{Table, IsTable, IsOutcome, table_is_lawful}
+use Rattle.mm_module.specs.TableLaws.{Table, IsTable, IsOutcome, table_by, table_is_lawful}
 use Rattle.mm_module.specs.ValueLaws.{IsValue, value_at-value, is_unbroken-encoded}
 use Rattle.mm_module.specs.Words.{words_of}
 use Rattle.mm_dispenser.specs.Draws.{word_of, word_text, words_text}
@@ -51,18 +51,13 @@ SaysWords (says.Words seed place count) = (place < 2 ^ 64) × (count ≤ 16)
 SaysWords _ = Unit {0}
 
 -- a state that can be spelled and what can be said
-outcome_by : (state : State) (request : Option Request) → IsDispenserState state
-    → IsDispenserRequest request → IsOutcome IsDispenserState SaysWords (outcome_of state request)
-outcome_by state request good asked = grind (arith, nat_tests)
-
 pub outcome_of-IsOutcome : (state : State) (request : List ℕ) → IsDispenserState state
     → IsOutcome IsDispenserState SaysWords (outcome_of state (request_of (words_of request)))
 outcome_of-IsOutcome state request good =
-    outcome_by state _ good (request_of-IsDispenserRequest (words_of request))
+    let asked = request_of-IsDispenserRequest (words_of request) in grind (arith, nat_tests)
 
 -- a spelling is read back
-seeded_of-joined : (seed : List ℕ) (place : ℕ) → IsSeeded seed place
-    → seeded_of (seed ++ eight_bytes place) ≡ Some (Seeded seed place)
+seeded_of-joined : (seed : List ℕ) (place : ℕ) → IsSeeded seed place → seeded_of (seed ++ eight_bytes place) ≡ Some (Seeded seed place)
 seeded_of-joined seed place good =
     grind (
       arith,
@@ -74,8 +69,7 @@ seeded_of-joined seed place good =
       of_eight_bytes-eight place,
     )
 
-state_of-spelling_of : (state : State) → IsDispenserState state
-    → state_of (spelling_of state) ≡ Some state
+state_of-spelling_of : (state : State) → IsDispenserState state → state_of (spelling_of state) ≡ Some state
 unfolding state_of
 state_of-spelling_of Unset good = refl
 state_of-spelling_of (Seeded [] place) good = absurd (omega (arith, good.formed.long))
@@ -93,15 +87,13 @@ seeded-read bytes state is read =
     let front = are_bytes-take 32 bytes is in grind (arith, nat_tests, length-take-le 32 bytes)
 
 formed-read : (formed : Bool) (read : Option State) (long : ℕ)
-    → ((state : State) → read ≡ Some state → IsDispenserState state × (long ≤ 40))
-    → is_some (if formed then read else None) ≡ true
+    → ((state : State) → read ≡ Some state → IsDispenserState state × (long ≤ 40)) → is_some (if formed then read else None) ≡ true
     → IsDispenserState (unwrap_or (if formed then read else None) Unset) × (long ≤ 40)
 formed-read true (Some state) long each is = each state refl
 formed-read true None long each is = cc
 formed-read false read long each is = cc
 
-state-IsRead : (bytes : List ℕ) → is_state bytes ≡ true
-    → IsRead bytes (unwrap_or (state_of bytes) Unset)
+state-IsRead : (bytes : List ℕ) → is_state bytes ≡ true → IsRead bytes (unwrap_or (state_of bytes) Unset)
 unfolding is_state state_of
 state-IsRead [] is = cc
 state-IsRead (form ∷ []) is = grind (arith, nat_tests)
@@ -111,15 +103,12 @@ state-IsRead (form ∷ first ∷ rest) is =
     (λ state read. seeded-read (first ∷ rest) state (and-true (is_byte form) _ w.0).1 read) w.1 in
     record { good = r.0; short = omega (arith, r.1); are = w.0 }
 
-are_bytes-spelling_of : (state : State) → IsDispenserState state
-    → are_bytes (spelling_of state) ≡ true
+are_bytes-spelling_of : (state : State) → IsDispenserState state → are_bytes (spelling_of state) ≡ true
 are_bytes-spelling_of state good = grind (arith, are_bytes-append, are_bytes-eight)
 
-is_state-spelling_of : (state : State) → IsDispenserState state
-    → is_state (spelling_of state) ≡ true
+is_state-spelling_of : (state : State) → IsDispenserState state → is_state (spelling_of state) ≡ true
 unfolding is_state
-is_state-spelling_of state good =
-    and-both _ _ (are_bytes-spelling_of state good) (ap is_some (state_of-spelling_of state good))
+is_state-spelling_of state good = and-both _ _ (are_bytes-spelling_of state good) (ap is_some (state_of-spelling_of state good))
 
 -- a word's text is a space and eight digits
 unfoldable pub digits_at : List ℕ → ℕ → List ℕ
@@ -133,8 +122,7 @@ unbroken-word_text : (word : ℕ) → is_unbroken (word_text word) ≡ true
 unfolding word_text
 unbroken-word_text word = is_unbroken-encoded (to_be_bytes w32 word)
 
-length-words_text : (seed : List ℕ) (place count : ℕ)
-    → length (words_text seed place count) ≡ 9 * count
+length-words_text : (seed : List ℕ) (place count : ℕ) → length (words_text seed place count) ≡ 9 * count
 length-words_text seed place zero = refl
 length-words_text seed place (suc count) =
     omega (
@@ -144,8 +132,7 @@ length-words_text seed place (suc count) =
       length-words_text seed (place + 1) count,
     )
 
-unbroken-words_text : (seed : List ℕ) (place count : ℕ)
-    → is_unbroken (words_text seed place count) ≡ true
+unbroken-words_text : (seed : List ℕ) (place count : ℕ) → is_unbroken (words_text seed place count) ≡ true
 unbroken-words_text seed place zero = refl
 unbroken-words_text seed place (suc count) =
     list_all-append (λ byte. not (byte == 10)) (word_text (word_of seed place))
@@ -167,13 +154,7 @@ text_of-IsText said is =
     )
 
 abbrev pub dispenser_table : Table State
-dispenser_table = record {
-  first = Unset;
-  read = λ bytes. unwrap_or (state_of bytes) Unset;
-  spelling = spelling_of;
-  does = λ state request.
-      let o = outcome_of state (request_of (words_of request)) in (o.0, text_of o.1);
-}
+dispenser_table = table_by Unset (λ bytes. unwrap_or (state_of bytes) Unset) spelling_of request_of outcome_of text_of
 
 pub dispenser_is_table : IsTable dispenser_table dispenser IsDispenserState 41 170
 unfolding stepped

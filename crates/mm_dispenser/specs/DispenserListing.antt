@@ -2,7 +2,7 @@
 use Rattle.std.specs.Prelude.{ℕ, ◌+◌, ◌/◌, ◌%◌, ◌==◌, codes}
 use Rattle.std.proofs.Common.{refl, arith}
 use Rattle.mm_module.specs.LineLaws.{IsText}
-use Rattle.mm_listing.specs.Listing.{Listing, IsListing}
+use Rattle.mm_listing.specs.Listing.{Listing, listing_of, IsListing}
 use Rattle.mm_listing.specs.RequestLaws.{counted, in_both, listed}
 use Rattle.mm_dispenser.specs.DispenserLaws.{dispenser_is_lawful}
 use Rattle.mm_dispenser.specs.Promise.{KeepsPlacesApart}
@@ -11,12 +11,9 @@ use Rattle.mm_dispenser.specs.Requests.{dispenser_request}
 use Rattle.mm_dispenser.specs.Table.{dispenser}
 
 abbrev pub dispenser_listing : Listing
-dispenser_listing = record {
-  name = codes "dispenser";
-  meaning = dispenser;
-  request = dispenser_request;
-  promise = λ requests tellings. KeepsPlacesApart requests tellings;
-}
+dispenser_listing =
+    listing_of (codes "dispenser") dispenser dispenser_request
+    (λ requests tellings. KeepsPlacesApart requests tellings)
 
 asks : (choice : ℕ) → IsText 256 (dispenser_request choice)
 asks choice =

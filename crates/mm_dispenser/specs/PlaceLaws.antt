@@ -1,7 +1,7 @@
 -- No place is told by two draws: the place never falls, and a draw tells those from the place
 -- before it to the one after.
 use Rattle.std.proofs.Common.{◌≡◌, ℕ, zero, suc, ◌+◌, ◌<◌, ◌≤◌, ◌^◌, Bool, true, false, not, List, [], ◌∷◌, ◌++◌, length, Option, Some, None, refl, sym, ◌∙◌, ap, subst, arith, append-nil}
-use Rattle.std.specs.Prelude.{All, option_map}
+use Rattle.std.specs.Prelude.{All}
 use Rattle.std.specs.Fmt.{decimal}
 use Rattle.std.specs.List.{list_all}
 use Rattle.std.proofs.lemmas.Bool.Decides.{nat_tests}
@@ -16,7 +16,7 @@ use Rattle.mm_module.specs.WordsWords.{is_space}
 use Rattle.mm_dispenser.specs.Draws.{word_of, word_text, words_text, drawn_text}
 use Rattle.mm_dispenser.specs.Table.{request_of, outcome_of, text_of}
 use Rattle.mm_dispenser.specs.DispenserLaws.{IsDispenserState, SaysWords, outcome_of-IsOutcome, digits_at, dispenser_table, dispenser_is_table}
-use Rattle.mm_dispenser.specs.Places.{PlacesFrom, places_in, places_told, places_at, RisesByPlaces, PlacesAreToldOnce}
+use Rattle.mm_dispenser.specs.Places.{PlacesFrom, places_told, places_at, RisesByPlaces, PlacesAreToldOnce}
 use Rattle.mm_dispenser.specs.declared.dispenser.State.{State}
 use Rattle.mm_dispenser.specs.declared.dispenser.State.TheVariants.{Unset, Seeded}
 use Rattle.mm_dispenser.specs.declared.dispenser.Request.{Request}
@@ -31,12 +31,10 @@ refuted : (b : Bool) → not b ≡ true → b ≡ false
 refuted b is = grind arith
 
 no_space : (text : List ℕ) → is_whole text ≡ true → All (λ byte. is_space byte ≡ false) text
-no_space text is =
-    λ k d inside. refuted _ (list_all-get_or (λ byte. not (is_space byte)) text is k d inside)
+no_space text is = λ k d inside. refuted _ (list_all-get_or (λ byte. not (is_space byte)) text is k d inside)
 
 decimal-whole : (n : ℕ) → n < 2 ^ 64 → is_whole (decimal n) ≡ true
-decimal-whole n small =
-    passes-decimal (λ byte. not (is_space byte)) (λ d is. grind (arith, nat_tests)) n small
+decimal-whole n small = passes-decimal (λ byte. not (is_space byte)) (λ d is. grind (arith, nat_tests)) n small
 
 -- the words behind a first one, as many as are drawn
 abbrev word_list : List ℕ → ℕ → ℕ → List (List ℕ)
@@ -51,16 +49,14 @@ digits_at-whole : (seed : List ℕ) (place : ℕ) → is_whole (digits_at seed p
 unfolding digits_at
 digits_at-whole seed place = passes-encoded (λ byte. not (is_space byte)) refl refl _
 
-word_text-digits : (seed : List ℕ) (place : ℕ) → word_text (word_of seed place) ≡ 32
-    ∷ digits_at seed place
+word_text-digits : (seed : List ℕ) (place : ℕ) → word_text (word_of seed place) ≡ 32 ∷ digits_at seed place
 unfolding word_text digits_at
 word_text-digits seed place = refl
 
 -- a first word and the words that are drawn
 words-drawn : (count place : ℕ) (seed front : List ℕ) → is_whole front ≡ true
     → words_of (front ++ words_text seed place count) ≡ front ∷ word_list seed place count
-words-drawn zero place seed front whole =
-    rw (append-nil front) (slice_split_none is_space front (no_space front whole))
+words-drawn zero place seed front whole = rw (append-nil front) (slice_split_none is_space front (no_space front whole))
 words-drawn (suc count) place seed front whole =
     let rest = digits_at seed place ++ words_text seed (place + 1) count in
     rw (word_text-digits seed place) (slice_split_at is_space front 32 rest (no_space front whole) refl
@@ -106,8 +102,7 @@ record Moves (place : ℕ) (outcome : State × Says) : Type 0 where
   tells : (p : PlacesFrom) → told_of outcome.1 ≡ Some p
       → (p.from ≡ place) × (next_place outcome.0 ≡ p.from + p.size)
 
-moves_by : (state : State) (request : Option Request)
-    → Moves (next_place state) (outcome_of state request)
+moves_by : (state : State) (request : Option Request) → Moves (next_place state) (outcome_of state request)
 moves_by state request = record { rises = grind arith; tells = λ p is. grind arith }
 
 record MovesOn (place next : ℕ) (output : List ℕ) : Type 0 where
@@ -123,9 +118,8 @@ moves state request good =
     record { rises = m.rises; tells = λ p is. m.tells p (sym (told-is _ said) ∙ is) }
 
 -- places that are told later begin at or behind the place of now
-from_here : (j : ℕ) (state : State) (requests : List (List ℕ)) → IsDispenserState state
-    → (q : PlacesFrom) → places_at (outputs_by dispenser_table state requests) j ≡ Some q
-    → next_place state ≤ q.from
+from_here : (j : ℕ) (state : State) (requests : List (List ℕ)) → IsDispenserState state → (q : PlacesFrom)
+    → places_at (outputs_by dispenser_table state requests) j ≡ Some q → next_place state ≤ q.from
 from_here j state [] good q is = cc
 from_here zero state (request ∷ requests) good q is =
     let m = moves state request good in omega (arith, (m.tells q is).0)
@@ -138,10 +132,9 @@ from_here (suc j) state (request ∷ requests) good q is =
           (dispenser_is_table.stays state request good) q is,
     )
 
-rises-by : (i j : ℕ) (state : State) (requests : List (List ℕ)) → IsDispenserState state
-    → (p q : PlacesFrom) → i < j
-    → places_at (outputs_by dispenser_table state requests) i ≡ Some p
-    → places_at (outputs_by dispenser_table state requests) j ≡ Some q → p.from + p.size ≤ q.from
+rises-by : (i j : ℕ) (state : State) (requests : List (List ℕ)) → IsDispenserState state → (p q : PlacesFrom) → i < j
+    → places_at (outputs_by dispenser_table state requests) i ≡ Some p → places_at (outputs_by dispenser_table state requests) j ≡ Some q
+    → p.from + p.size ≤ q.from
 rises-by i j state [] good p q before one two = cc
 rises-by i zero state (request ∷ requests) good p q before one two = absurd (omega arith)
 rises-by zero (suc j) state (request ∷ requests) good p q before one two =

@@ -10,11 +10,9 @@ use Rattle.mm_dispenser.specs.PlaceLaws.{places-once}
 use Rattle.mm_dispenser.specs.Promise.{KeepsPlacesApart, TellsPlacesOnce}
 use Rattle.mm_dispenser.specs.Table.{dispenser}
 
-places-are : (outputs : List (List ℕ)) (telling : Telling) (p : PlacesFrom)
-    → WasSaid outputs telling
-    → places_told telling.output ≡ Some p → places_at outputs telling.before ≡ Some p
-places-are outputs telling p said is =
-    ap (λ (o : Option (List ℕ)). option_and_then places_told o) said ∙ is
+places-are : (outputs : List (List ℕ)) (telling : Telling) (p : PlacesFrom) → WasSaid outputs telling → places_told telling.output ≡ Some p
+    → places_at outputs telling.before ≡ Some p
+places-are outputs telling p said is = ap (λ (o : Option (List ℕ)). option_and_then places_told o) said ∙ is
 
 by_order : (a b : ℕ) → (a ≡ b) ⊎ ((a < b) ⊎ (b < a))
 by_order a b = grind arith

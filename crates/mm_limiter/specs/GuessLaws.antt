@@ -1,6 +1,6 @@
 -- Wrong guesses run out: outputs are what is said from a state, and each wrong guess takes one of
 -- those left.
-use Rattle.std.proofs.Common.{◌≡◌, ℕ, suc, zero, ◌+◌, ◌≤◌, ◌||◌, Bool, false, cond, List, [], ◌∷◌, take, Option, sym, subst, arith}
+use Rattle.std.proofs.Common.{◌≡◌, ℕ, suc, zero, ◌+◌, ◌≤◌, false, cond, List, [], ◌∷◌, take, Option, sym, subst, arith}
 use Rattle.std.specs.Prelude.{count_by}
 use Rattle.std.specs.List.{list_any}
 use Rattle.std.proofs.lemmas.Bool.{or_parts}
@@ -25,15 +25,12 @@ left_in Unset = 0
 left_in (Guarded tries left secret) = left
 
 -- a request that renews nothing takes as many of those left as it is told wrong
-costs : (state : State) (request : Option Request)
-    → is_renewal (text_of (outcome_of state request).1) ≡ false
-    → cond (is_wrong (text_of (outcome_of state request).1)) 1 0
-    + left_in (outcome_of state request).0 ≤ left_in state
+costs : (state : State) (request : Option Request) → is_renewal (text_of (outcome_of state request).1) ≡ false
+    → cond (is_wrong (text_of (outcome_of state request).1)) 1 0 + left_in (outcome_of state request).0 ≤ left_in state
 costs state request none = grind (arith, nat_tests)
 
 -- no more are wrong than are left
-few_wrong : (size : ℕ) (state : State) (requests : List (List ℕ))
-    → list_any is_renewal (take size (outputs_at state requests)) ≡ false
+few_wrong : (size : ℕ) (state : State) (requests : List (List ℕ)) → list_any is_renewal (take size (outputs_at state requests)) ≡ false
     → count_by is_wrong (take size (outputs_at state requests)) ≤ left_in state
 few_wrong zero state requests none = omega arith
 few_wrong (suc size) state [] none = omega arith
@@ -53,8 +50,7 @@ abbrev allowed_at : State → List (List ℕ) → ℕ
 allowed_at Unset requests = allowed_by requests (outputs_at Unset requests)
 allowed_at (Guarded tries left secret) requests = tries
 
-left-allowed : (state : State) (requests : List (List ℕ)) → IsLimiterState state
-    → left_in state ≤ allowed_at state requests
+left-allowed : (state : State) (requests : List (List ℕ)) → IsLimiterState state → left_in state ≤ allowed_at state requests
 left-allowed state requests good = grind arith
 
 -- it stays along a run
@@ -66,8 +62,7 @@ allowed-same state request requests = grind (arith, nat_tests)
 limited_at : (from size : ℕ) (state : State) (requests : List (List ℕ)) → IsLimiterState state
     → list_any is_renewal (stretch from size (outputs_at state requests)) ≡ false
     → count_by is_wrong (stretch from size (outputs_at state requests)) ≤ allowed_at state requests
-limited_at zero size state requests good none =
-    omega (arith, few_wrong size state requests none, left-allowed state requests good)
+limited_at zero size state requests good none = omega (arith, few_wrong size state requests none, left-allowed state requests good)
 limited_at (suc from) zero state [] good none = omega arith
 limited_at (suc from) (suc size) state [] good none = omega arith
 limited_at (suc from) size state (request ∷ requests) good none =

@@ -7,7 +7,7 @@ use Rattle.mm_module.specs.Bytes.{are_bytes}
 use Rattle.mm_module.specs.LineLaws.{IsText, is_unbroken-decimal, length-decimal}
 use Rattle.mm_module.specs.Meaning.{IsLawful, IsShort}
 use Rattle.mm_module.specs.PartLaws.{are_bytes-visible}
-use Rattle.mm_module.specs.TableLaws.{Table, IsTable, IsOutcome, table_is_lawful, table_is_short}
+use Rattle.mm_module.specs.TableLaws.{Table, IsTable, IsOutcome, table_by, table_is_lawful, table_is_short}
 use Rattle.mm_module.specs.Visible.{is_visible}
 use Rattle.mm_module.specs.Words.{words_of}
 use Rattle.mm_limiter.specs.Table.{State, Unset, Guarded, Request, Guard, Says, IsWrong, HasLeft, outcome_of, text_of, is_secret, request_of, is_guard, state_of, spelling_of, IsShortSecret, stepped, is_state, limiter}
@@ -53,34 +53,26 @@ SaysGuesses (HasLeft left) = left ≤ 100
 SaysGuesses _ = Unit {0}
 
 -- a state that can be spelled and what can be said
-outcome_by : (state : State) (request : Option Request) → IsLimiterState state
-    → IsLimiterRequest request
-    → IsOutcome IsLimiterState SaysGuesses (outcome_of state request)
-outcome_by state request is asked = grind (arith, nat_tests)
-
 outcome_of-IsOutcome : (state : State) (request : List ℕ) → IsLimiterState state
     → IsOutcome IsLimiterState SaysGuesses (outcome_of state (request_of (words_of request)))
 outcome_of-IsOutcome state request is =
-    outcome_by state _ is (request_of-IsLimiterRequest (words_of request))
+    let asked = request_of-IsLimiterRequest (words_of request) in grind (arith, nat_tests)
 
 -- bytes that spell a state are its spelling
 record IsRead (bytes : List ℕ) (state : State) : Type 0 where
   good : IsLimiterState state
   spelled : bytes ≡ spelling_of state
 
-state-IsRead : (bytes : List ℕ) → is_state bytes ≡ true
-    → IsRead bytes (unwrap_or (state_of bytes) Unset)
+state-IsRead : (bytes : List ℕ) → is_state bytes ≡ true → IsRead bytes (unwrap_or (state_of bytes) Unset)
 unfolding is_state state_of is_guard
 state-IsRead bytes is = grind (arith, nat_tests, IsSecret-from)
 
 -- a spelling is read back
-state_of-spelling_of : (state : State) → IsLimiterState state
-    → state_of (spelling_of state) ≡ Some state
+state_of-spelling_of : (state : State) → IsLimiterState state → state_of (spelling_of state) ≡ Some state
 unfolding state_of is_guard
 state_of-spelling_of state is = grind (arith, nat_tests, is_secret-IsSecret)
 
-are_bytes-spelling_of : (state : State) → IsLimiterState state
-    → are_bytes (spelling_of state) ≡ true
+are_bytes-spelling_of : (state : State) → IsLimiterState state → are_bytes (spelling_of state) ≡ true
 are_bytes-spelling_of state is = grind (arith, nat_tests, are_bytes-visible)
 
 length-spelling_of : (state : State) → IsLimiterState state → length (spelling_of state) ≤ 68
@@ -91,13 +83,7 @@ text_of-IsText : (says : Says) → SaysGuesses says → IsText 26 (text_of says)
 text_of-IsText says is = grind (arith, length-decimal, is_unbroken-decimal)
 
 abbrev pub limiter_table : Table State
-limiter_table = record {
-  first = Unset;
-  read = λ bytes. unwrap_or (state_of bytes) Unset;
-  spelling = spelling_of;
-  does = λ state request.
-      let o = outcome_of state (request_of (words_of request)) in (o.0, text_of o.1);
-}
+limiter_table = table_by Unset (λ bytes. unwrap_or (state_of bytes) Unset) spelling_of request_of outcome_of text_of
 
 pub limiter_is_table : IsTable limiter_table limiter IsLimiterState 68 26
 unfolding is_state stepped
@@ -131,10 +117,8 @@ short_secret : (state : State) → IsLimiterState state → IsShortSecret state
 short_secret state is = grind arith
 
 -- the secret after a request at a spelled state is short
-pub short_after : (state request : List ℕ) → is_state state ≡ true → (was : State)
-    → was ≡ unwrap_or (state_of state) Unset
-    → (asked : Option Request) → asked ≡ request_of (words_of request) → (after : State × Says)
-    → after ≡ outcome_of was asked
+pub short_after : (state request : List ℕ) → is_state state ≡ true → (was : State) → was ≡ unwrap_or (state_of state) Unset
+    → (asked : Option Request) → asked ≡ request_of (words_of request) → (after : State × Says) → after ≡ outcome_of was asked
     → IsShortSecret after.0
 short_after state request is was was_is asked asked_is after after_is =
     rw (after_is, asked_is, was_is)

@@ -2,7 +2,7 @@
 use Rattle.std.specs.Prelude.{ℕ, ◌/◌, ◌%◌, ◌==◌, codes}
 use Rattle.std.proofs.Common.{refl, arith}
 use Rattle.mm_module.specs.LineLaws.{IsText}
-use Rattle.mm_listing.specs.Listing.{Listing, IsListing}
+use Rattle.mm_listing.specs.Listing.{Listing, listing_of, IsListing}
 use Rattle.mm_listing.specs.RequestLaws.{counted, in_both, listed, word}
 use Rattle.mm_limiter.specs.LimiterLaws.{limiter_is_lawful}
 use Rattle.mm_limiter.specs.Promise.{KeepsGuessesFew}
@@ -11,12 +11,9 @@ use Rattle.mm_limiter.specs.Requests.{limiter_request}
 use Rattle.mm_limiter.specs.Table.{limiter}
 
 abbrev pub limiter_listing : Listing
-limiter_listing = record {
-  name = codes "limiter";
-  meaning = limiter;
-  request = limiter_request;
-  promise = λ requests tellings. KeepsGuessesFew requests tellings;
-}
+limiter_listing =
+    listing_of (codes "limiter") limiter limiter_request
+    (λ requests tellings. KeepsGuessesFew requests tellings)
 
 asks : (choice : ℕ) → IsText 256 (limiter_request choice)
 asks choice =

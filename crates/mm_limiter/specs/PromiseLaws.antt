@@ -14,17 +14,14 @@ use Rattle.mm_limiter.specs.Table.{limiter}
 
 -- the output at this place is a wrong guess
 abbrev IsWrongAt : List (List ℕ) → ℕ → Type 0
-IsWrongAt outputs before =
-    (output : List ℕ) × (slice_get outputs before ≡ Some output) × (is_wrong output ≡ true)
+IsWrongAt outputs before = (output : List ℕ) × (slice_get outputs before ≡ Some output) × (is_wrong output ≡ true)
 
 -- a place that is told wrong was wrong
-told_first : (telling : Telling) (before : ℕ) (more : Bool)
-    → ((telling.before == before && is_wrong telling.output) || more) ≡ true
+told_first : (telling : Telling) (before : ℕ) (more : Bool) → ((telling.before == before && is_wrong telling.output) || more) ≡ true
     → ((telling.before ≡ before) × (is_wrong telling.output ≡ true)) ⊎ (more ≡ true)
 told_first telling before more is = grind (arith, nat_tests)
 
-told_wrong : (outputs : List (List ℕ)) (tellings : List Telling) (before : ℕ)
-    → AllByRecursion (WasSaid outputs) tellings
+told_wrong : (outputs : List (List ℕ)) (tellings : List Telling) (before : ℕ) → AllByRecursion (WasSaid outputs) tellings
     → tells_wrong tellings before ≡ true → IsWrongAt outputs before
 told_wrong outputs [] before said is = cc
 told_wrong outputs (telling ∷ tellings) before said is =
@@ -42,8 +39,7 @@ less : (a b : Bool) → (a ≡ true → b ≡ true) → cond a 1 0 ≤ cond b 1 
 less a b h = grind arith
 
 place-counts : (p : Bool) (rest : List (List ℕ)) (size : ℕ) → (p ≡ true → IsWrongAt rest 0)
-    → cond p 1 0 + count_by is_wrong (take size (drop 1 rest)) ≤ count_by is_wrong
-    (take (suc size) rest)
+    → cond p 1 0 + count_by is_wrong (take size (drop 1 rest)) ≤ count_by is_wrong (take (suc size) rest)
 place-counts true [] size holds = let none = (holds refl).1 in cc
 place-counts false [] zero holds = omega arith
 place-counts false [] (suc size) holds = omega arith
@@ -55,8 +51,7 @@ place-counts p (x ∷ rest) size holds =
     )
 
 -- as many places at most as there are outputs of the kind
-places-count : (size from : ℕ) (p : ℕ → Bool) (outputs : List (List ℕ))
-    → ((before : ℕ) → p before ≡ true → IsWrongAt outputs before)
+places-count : (size from : ℕ) (p : ℕ → Bool) (outputs : List (List ℕ)) → ((before : ℕ) → p before ≡ true → IsWrongAt outputs before)
     → count_by p (range_with_len from size) ≤ count_by is_wrong (take size (drop from outputs))
 places-count zero from p outputs holds = omega arith
 places-count (suc size) from p outputs holds =
@@ -71,8 +66,7 @@ places-count (suc size) from p outputs holds =
     omega (arith, sum, more, place-counts (p from) (drop from outputs) size here)
 
 -- every run keeps the promise
-pub keeps-few : (requests : List (List ℕ)) (tellings : List Telling)
-    → AreSaid limiter requests tellings → KeepsGuessesFew requests tellings
+pub keeps-few : (requests : List (List ℕ)) (tellings : List Telling) → AreSaid limiter requests tellings → KeepsGuessesFew requests tellings
 keeps-few requests tellings said = record {
   guesses = guesses-limited requests;
   told = λ from size none.

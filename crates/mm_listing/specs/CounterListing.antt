@@ -5,7 +5,7 @@ use Rattle.std.specs.Fmt.{decimal}
 use Rattle.mm_module.specs.CounterLaws.{counter_is_lawful}
 use Rattle.mm_module.specs.CounterTable.{counter}
 use Rattle.mm_module.specs.LineLaws.{IsText}
-use Rattle.mm_listing.specs.Listing.{Listing, IsListing, promises_nothing}
+use Rattle.mm_listing.specs.Listing.{Listing, listing_of, IsListing, promises_nothing}
 use Rattle.mm_listing.specs.RequestLaws.{counted, in_both, listed, word}
 
 abbrev pub counter_request : ℕ → List ℕ
@@ -14,12 +14,8 @@ counter_request choice =
     else codes "add " ++ decimal (choice / 4 % 1000)
 
 abbrev pub counter_listing : Listing
-counter_listing = record {
-  name = codes "counter";
-  meaning = counter;
-  request = counter_request;
-  promise = promises_nothing;
-}
+counter_listing =
+    listing_of (codes "counter") counter counter_request promises_nothing
 
 asks : (choice : ℕ) → IsText 256 (counter_request choice)
 asks choice =

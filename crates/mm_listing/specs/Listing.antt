@@ -14,6 +14,12 @@ pub record Listing : Type 1 where
   pub request : ℕ → List ℕ
   pub promise : List (List ℕ) → List Telling → Type 0
 
+-- these four in one listing
+abbrev pub listing_of : List ℕ → Meaning → (ℕ → List ℕ) → (List (List ℕ) → List Telling → Type 0)
+    → Listing
+listing_of name meaning request promise =
+    record { name = name; meaning = meaning; request = request; promise = promise }
+
 -- a lower-case letter
 abbrev pub is_letter : ℕ → Bool
 is_letter byte = nat_le 97 byte && nat_le byte 122

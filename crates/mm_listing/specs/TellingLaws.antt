@@ -30,8 +30,7 @@ at-place P (first ∷ tellings) zero telling all is = let same : first ≡ telli
 at-place P (first ∷ tellings) (suc i) telling all is = at-place P tellings i telling all.1 is
 
 -- lines that name one request are the same
-pub one-telling : (outputs : List (List ℕ)) (a b : Telling) → WasSaid outputs a → WasSaid outputs b
-    → a.before ≡ b.before → a ≡ b
+pub one-telling : (outputs : List (List ℕ)) (a b : Telling) → WasSaid outputs a → WasSaid outputs b → a.before ≡ b.before → a ≡ b
 one-telling outputs a b one two same =
     let e : a.output ≡ b.output = some-same a.output b.output
     (sym one ∙ ap (λ n. slice_get outputs n) same ∙ two) in

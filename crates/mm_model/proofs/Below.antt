@@ -3,19 +3,19 @@ pub use Rattle.std.specs.Bool.{Decides}
 pub use Rattle.std.specs.List.{AllByRecursion, Contains, flat_map, list_any}
 pub use Rattle.std.specs.Prelude.{if◌then◌else◌, IsTrue, nat_eq, Vec}
 pub use Rattle.std.specs.Str.{bytes_eq}
-pub use Rattle.std.proofs.Common.{◌&&◌, ◌++◌, ◌+◌, ◌-◌, ◌<◌, ◌||◌, ◌∙◌, ◌∷◌, ◌≡◌, ◌≢◌, ◌≤◌, ◌⊎◌, [], ap, append_assoc, arith, Bool, drop}
+pub use Rattle.std.proofs.Common.{◌&&◌, ◌++◌, ◌+◌, ◌-◌, ◌<◌, ◌||◌, ◌∙◌, ◌∷◌, ◌≡◌, ◌≤◌, ◌⊎◌, [], ap, append_assoc, arith, Bool, drop}
 pub use Rattle.std.proofs.Common.{false, get_or, inl, inr, length, length-append, List, map, refl, subst, suc, sym, take, true, zero, ℕ}
 pub use Rattle.std.proofs.lemmas.Bool.{and_from, and_parts, or_parts}
-pub use Rattle.std.proofs.lemmas.List.{append-nil, append_cancel_right, drop-append-le, drop_all, drop_at, drop_more, length-drop}
-pub use Rattle.std.proofs.lemmas.List.{length-map, map-append, nil_from_length, take-append-le, take_all, take_at, take_more}
-pub use Rattle.mm_digest.specs.Messages.{anchored_message, anchored_of, extended_message, extended_of, start_message, start_of, zero_bytes}
+pub use Rattle.std.proofs.lemmas.List.{append-nil, append_cancel_right, drop-append-le, drop_at, drop_more, length-drop}
+pub use Rattle.std.proofs.lemmas.List.{length-map, map-append, nil_from_length, take-append-le, take_all, take_at}
+pub use Rattle.mm_digest.specs.Messages.{anchored_message, anchored_of, extended_message, start_message, start_of, zero_bytes}
 pub use Rattle.mm_digest.specs.declared.variant.Variant.TheVariants.{Basic, Opt}
 pub use Rattle.mm_seal.specs.Snapshot.{Content}
 pub use Rattle.mm_seal.specs.declared.snapshot.Place.{Place}
 pub use Rattle.mm_seal.specs.declared.snapshot.Place.TheVariants.{Basic as InBasic, Opt as InOpt}
 pub use Rattle.mm_module.specs.Batch.{Batch, size_of}
 pub use Rattle.mm_module.specs.Meaning.{IsLawful, Meaning, said_after, state_after}
-pub use Rattle.mm_model.specs.BasicLaws.{basic_here, verdicts}
+pub use Rattle.mm_model.specs.BasicLaws.{basic_here, basic_stands, verdicts}
 pub use Rattle.mm_model.specs.BatchLaws.{at_the_end, before_the_last, same_batch-Decides, same_tests, total-push}
 pub use Rattle.mm_model.specs.ChainLaws.{trail_front, trail_push}
 pub use Rattle.mm_model.specs.Chains.{anchor_of, closing_message, guard, guard_message, link, register_of, summary_of, trail}

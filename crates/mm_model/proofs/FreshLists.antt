@@ -1,13 +1,13 @@
 -- Opt: a fresh offer lists the messages that its batch adds to the history.
-use Rattle.mm_model.proofs.Below.{ℕ, ◌≡◌, ◌+◌, Bool, true, false, ◌&&◌, List, [], ◌∷◌, ◌++◌, map, refl, sym, ap, ◌∙◌, subst, inl, inr}
-use Rattle.mm_model.proofs.Below.{nat_eq, Contains, Opt, extended_message, Batch, size_of, Meaning, Place, InBasic, InOpt, Content}
+use Rattle.mm_model.proofs.Below.{ℕ, ◌≡◌, ◌+◌, Bool, true, false, ◌&&◌, List, map, refl, sym, ap, ◌∙◌, inl, inr}
+use Rattle.mm_model.proofs.Below.{nat_eq, Contains, Opt, extended_message, Batch, size_of, Meaning, Content}
 use Rattle.mm_model.proofs.Below.{guard_message, guard, register_of, own_values, Instance, opt, History, Commit, joined, total_of}
-use Rattle.mm_model.proofs.Below.{values_of, is_empty, has_value, are_own, Life, Live, life_of, is_last, judge, judged, IsPlaceOf, Names}
+use Rattle.mm_model.proofs.Below.{values_of, is_empty, has_value, are_own, Life, Live, life_of, is_last, judge, judged, Names}
 use Rattle.mm_model.proofs.Below.{IsSound, Within, IsClearFor, point_messages, batch_messages, at_the_end, taken_in, FreshSomehow}
 use Rattle.mm_model.proofs.Below.{reads_zero, values_of-own}
 use Rattle.mm_model.specs.declared.verdict.Verdict.TheVariants.{Fresh as IsFresh}
 use Rattle.mm_model.proofs.Opt.{second_listed}
-use Rattle.mm_model.proofs.OptJudge.{Stood, stood_of, path_messages, fresh_path, held_at, live_values_at}
+use Rattle.mm_model.proofs.OptJudge.{Stood, stood_at, path_messages, fresh_path, held_at, live_values_at}
 use Rattle.mm_model.proofs.Paths.{live_clean, shut_current}
 use Rattle.mm_model.proofs.HistoryParts.{LiveParts, live_parts}
 
@@ -49,19 +49,11 @@ module _ (i : Instance) (y : History) (named rest : List Batch) (a e : List ℕ)
         ∙ sym (live_values_at i.barrier y y.is_open sound refl (live_clean y sound parts.clean) parts)) in
         (called, (extends b call (current_values i.barrier y y.is_open sound refl parts) found, tt))
 
-fresh_at : (meaning : Meaning) (key barrier : List ℕ) (y : History) (named rest : List Batch) (place : Place) (b : Batch)
-    (all : List (List ℕ)) → IsSound y → IsClearFor all (opt meaning key barrier) y place b → y.batches ≡ named ++ rest
-    → IsPlaceOf Opt (opt meaning key barrier) y named place → judge Opt y (total_of named) b ≡ IsFresh
-    → Within (batch_messages (opt meaning key barrier) y (Commit b)) all
-fresh_at meaning key barrier y named rest (InBasic s) b all sound clear first is e = absurd is
-fresh_at meaning key barrier y named rest (InOpt a x) b all sound clear first is e =
-    let i = opt meaning key barrier in
-    fresh_on i y named rest a.bytes x.bytes all (stood_of i y named rest a.bytes x.bytes all sound clear.clear clear.history first is) b
-    sound clear.call.0 clear.call.1 e
-
 pub fresh_lists : (meaning : Meaning) (key barrier : List ℕ) (y : History) (offered : Content) (b : Batch) (all : List (List ℕ)) → IsSound y
     → IsClearFor all (opt meaning key barrier) y offered.place b → Names (opt meaning key barrier) y offered
     → judge Opt y offered.position b ≡ IsFresh → Within (batch_messages (opt meaning key barrier) y (Commit b)) all
 fresh_lists meaning key barrier y offered b all sound clear names e =
-    fresh_at meaning key barrier y names.named names.rest offered.place b all sound clear names.first names.place
-    (ap (λ (p : ℕ). judge Opt y p b) (sym names.position) ∙ e)
+    let i = opt meaning key barrier in
+    let s = stood_at i y names.named names.rest offered.place all sound clear.clear clear.history names.first names.place in
+    let call = rw s.2 at clear.call in
+    fresh_on i y names.named names.rest s.0.bytes s.1.bytes all s.3 b sound call.0 call.1 (rw names.position at e)

@@ -1,6 +1,6 @@
 -- The messages of a history of Opt, by kind, and what its life tells of its four tests.
-use Rattle.mm_model.proofs.Below.{ℕ, ◌≡◌, Bool, true, false, ◌&&◌, List, [], ◌∷◌, ◌++◌, map, refl, sym, ◌⊎◌, inl, inr, AllByRecursion}
-use Rattle.mm_model.proofs.Below.{Contains, flat_map, Opt, start_message, start_of, trail, guard_message, closing_message, own_values}
+use Rattle.mm_model.proofs.Below.{ℕ, ◌≡◌, Bool, true, false, ◌&&◌, List, [], ◌∷◌, map, refl, sym, ◌⊎◌, inl, inr, AllByRecursion}
+use Rattle.mm_model.proofs.Below.{Contains, flat_map, Opt, start_message, guard_message, own_values}
 use Rattle.mm_model.proofs.Below.{Instance, History, values_of, Live, Spoiled, life_by, is_lost_life, Within, register_trail}
 use Rattle.mm_model.proofs.Below.{messages_of, runs_of, each_left, each_right, true_not_false, Listed}
 use Rattle.mm_model.proofs.Paths.{RunsListed}
@@ -24,24 +24,18 @@ pub record HistoryListed (i : Instance) (y : History) (all : List (List ℕ)) : 
 
 pub history_listed : (i : Instance) (y : History) (all : List (List ℕ)) → Within (messages_of Opt i y) all → HistoryListed i y all
 history_listed i y all h =
-    let C = Contains all in let guards = map (guard_message i.barrier) y.batches in
-    let runs = flat_map (λ run. register_trail (own_values i.barrier run)) (runs_of y) in
-    let closed = flat_map (λ segment. register_trail (values_of i.barrier segment)) y.closed in
-    let items = register_trail (values_of i.barrier y.items) in
-    let closings = trail closing_message (start_of Opt i.meaning.id) (map (values_of i.barrier) y.closed) in
-    let four = each_left C (guards ++ runs ++ closed ++ items) closings h.1 in
-    let three = each_left C (guards ++ runs ++ closed) items four in
-    let two = each_left C (guards ++ runs) closed three in
+    let C = Contains all in
+    let four = each_left C _ _ h.1 in let three = each_left C _ _ four in let two = each_left C _ _ three in
     record {
       starts = h.0;
-      guards = each_left C guards runs two;
-      runs = each_flat C (λ run. register_trail (own_values i.barrier run)) (runs_of y) (each_right C guards runs two);
+      guards = each_left C _ _ two;
+      runs = each_flat C (λ run. register_trail (own_values i.barrier run)) (runs_of y) (each_right C _ _ two);
       listed = record {
         inner = each_unmap (λ vs. Within (register_trail vs) all) (λ s. Within (register_trail (values_of i.barrier s)) all)
             (values_of i.barrier) (λ s h. h) y.closed
-            (each_flat C (λ segment. register_trail (values_of i.barrier segment)) y.closed (each_right C (guards ++ runs) closed three));
-        outer = each_right C (guards ++ runs ++ closed ++ items) closings h.1;
-        last = each_right C (guards ++ runs ++ closed) items four;
+            (each_flat C (λ segment. register_trail (values_of i.barrier segment)) y.closed (each_right C _ _ three));
+        outer = each_right C _ _ h.1;
+        last = each_right C _ _ four;
       };
     }
 

@@ -2,10 +2,10 @@
 use Rattle.mm_model.proofs.Below.{ℕ, ◌≡◌, ◌-◌, ◌≤◌, Bool, true, false, List, [], ◌∷◌, ◌++◌, length, map, take, drop, refl, sym, ap, ◌∙◌}
 use Rattle.mm_model.proofs.Below.{subst, arith, length-append, AllByRecursion, Contains, flat_map, append-nil, map-append, length-drop}
 use Rattle.mm_model.proofs.Below.{take-append-le, drop-append-le, take_all, take_at, drop_at, Opt, start_of, extended_message}
-use Rattle.mm_model.proofs.Below.{anchored_message, Batch, Meaning, trail, guard_message, closing_message, guard, own_values, Instance, opt}
-use Rattle.mm_model.proofs.Below.{Entry, Own, Value, History, Move, Commit, Foreign, Placed, Reset, Close, Power, joined, value_of, renamed}
+use Rattle.mm_model.proofs.Below.{anchored_message, Batch, Meaning, guard_message, closing_message, guard, own_values, Instance, opt}
+use Rattle.mm_model.proofs.Below.{Entry, Own, Value, History, Move, Commit, Foreign, Placed, Close, joined, value_of, renamed}
 use Rattle.mm_model.proofs.Below.{moved, values_of, IsSound, IsClean, batches_in, Within, register_trail, closed_runs, runs_of, messages_of}
-use Rattle.mm_model.proofs.Below.{moving_messages, IsAllowed, MayMove, batch_messages, each_append, each_left, each_right, trail_push}
+use Rattle.mm_model.proofs.Below.{MayMove, batch_messages, each_append, trail_push}
 use Rattle.mm_model.proofs.Below.{nil_from_length, listed_value, own_values-append, values_of-append, length-batches_in, values_renamed}
 use Rattle.mm_model.specs.Chains.{register_of, anchor_of}
 use Rattle.mm_model.specs.MessagesWords.{move_messages}
@@ -38,20 +38,12 @@ run_grows barrier all run b w c =
 module _ (i : Instance) where
   listed_history : (y : History) (all : List (List ℕ)) → HistoryListed i y all → Within (messages_of Opt i y) all
   listed_history y all h =
-      let C = Contains all in let guards = map (guard_message i.barrier) y.batches in
-      let runs = flat_map (λ run. register_trail (own_values i.barrier run)) (runs_of y) in
-      let closed = flat_map (λ segment. register_trail (values_of i.barrier segment)) y.closed in
-      let items = register_trail (values_of i.barrier y.items) in
-      let closings = trail closing_message (start_of Opt i.meaning.id) (map (values_of i.barrier) y.closed) in (
-        h.starts,
-        each_append C
-            (guards ++ runs ++ closed ++ items) closings
-            (each_append C (guards ++ runs ++ closed) items (each_append C (guards ++ runs) closed (each_append C guards runs h.guards
-            (flat_each C (λ run. register_trail (own_values i.barrier run)) (runs_of y) h.runs))
-            (flat_each C (λ segment. register_trail (values_of i.barrier segment)) y.closed
-            (unmap_each (λ vs. Within (register_trail vs) all)
-            (values_of i.barrier) y.closed h.listed.inner))) h.listed.last) h.listed.outer,
-      )
+      let C = Contains all in
+      let runs = flat_each C (λ run. register_trail (own_values i.barrier run)) (runs_of y) h.runs in
+      let segments = unmap_each (λ vs. Within (register_trail vs) all) (values_of i.barrier) y.closed h.listed.inner in
+      let closed = flat_each C (λ segment. register_trail (values_of i.barrier segment)) y.closed segments in
+      let two = each_append C _ _ (each_append C _ _ h.guards runs) closed in
+      (h.starts, each_append C _ _ (each_append C _ _ two h.listed.last) h.listed.outer)
 
   -- the items alone change
   items_listed : (y : History) (items : List Entry) (all : List (List ℕ)) → HistoryListed i y all
@@ -80,8 +72,7 @@ module _ (barrier : List ℕ) (all : List (List ℕ)) where
   pub guards_grow : (batches : List Batch) (b : Batch) → Within (map (guard_message barrier) batches) all
       → Contains all (guard_message barrier b) → Within (map (guard_message barrier) (batches ++ b ∷ [])) all
   guards_grow batches b w c =
-      rw (map-append (guard_message barrier) batches (b ∷ []))
-      (each_append (Contains all) (map (guard_message barrier) batches) (guard_message barrier b ∷ []) w (c, tt))
+      rw (map-append (guard_message barrier) batches (b ∷ [])) (each_append (Contains all) _ _ w (c, tt))
 
   runs_commit : (y : History) (current : List Batch) (is_open : Bool) (items : List Entry) (b : Batch) → current ≡ y.current ++ b ∷ []
       → AllByRecursion (RunsListed barrier all) (runs_of y) → Contains all (extended_message (register_of (own_values barrier y.current))
@@ -93,9 +84,8 @@ module _ (barrier : List ℕ) (all : List (List ℕ)) where
       }))
   runs_commit y current is_open items b grown runs c =
       let parts = runs_parts (RunsListed barrier all) y runs in
-      rw (grown, front_stays y.batches y.current b) (each_append (RunsListed barrier all)
-      (closed_runs y.closed (take (length y.batches - length y.current) y.batches)) ((y.current ++ b ∷ []) ∷ []) parts.0
-      (run_grows barrier all y.current b parts.1 c, tt))
+      rw (grown, front_stays y.batches y.current b)
+      (each_append (RunsListed barrier all) _ _ parts.0 (run_grows barrier all y.current b parts.1 c, tt))
 
 commit_listed : (i : Instance) (y : History) (current : List Batch) (is_open : Bool) (items : List Entry) (b : Batch) (all : List (List ℕ))
     → current ≡ y.current ++ b ∷ [] → HistoryListed i y all → Within (register_trail (values_of i.barrier items)) all
@@ -141,11 +131,10 @@ close_listed i y all clean h c =
     record {
       starts = h.starts;
       guards = h.guards;
-      runs = each_append R (closed_runs (y.closed ++ y.items ∷ []) (take (length y.batches - 0) y.batches)) ([] ∷ [])
-          (rw whole (runs_push R y.closed y.items bs y.current (length-batches_in (joined y.closed) clean.clean) closed parts.1)) (tt, tt);
+      runs = each_append R _ ([] ∷ []) (rw whole (runs_push R y.closed y.items bs y.current
+          (length-batches_in (joined y.closed) clean.clean) closed parts.1)) (tt, tt);
       listed = record {
-        inner = rw is (each_append (λ vs. Within (register_trail vs) all) (map V y.closed) (V y.items ∷ []) h.listed.inner
-            (h.listed.last, tt));
+        inner = rw is (each_append (λ vs. Within (register_trail vs) all) _ _ h.listed.inner (h.listed.last, tt));
         outer = rw is (trail_push closing_message (start_of Opt i.meaning.id) (map V y.closed) (V y.items) all h.listed.outer c);
         last = h.listed.last;
       };

@@ -1,6 +1,6 @@
 -- What each move keeps and does: soundness, the digests, and the values that it leaves that stand for no batch.
-use Rattle.mm_model.proofs.Below.{ℕ, ◌≡◌, Bool, true, false, ◌||◌, List, [], ◌∷◌, ◌++◌, refl, sym, ap, ◌∙◌, subst, inl, inr, append_assoc}
-use Rattle.mm_model.proofs.Below.{map, append-nil, map-append, and_from, and_parts, Opt, Basic, Batch, Meaning, guard, register_of}
+use Rattle.mm_model.proofs.Below.{ℕ, ◌≡◌, Bool, true, false, List, [], ◌∷◌, ◌++◌, refl, sym, ap, ◌∙◌, inl, inr, append_assoc}
+use Rattle.mm_model.proofs.Below.{map, append-nil, map-append, and_from, and_parts, Opt, Batch, Meaning, guard, register_of}
 use Rattle.mm_model.proofs.Below.{anchor_of, Instance, opt, basic, Entry, Own, Value, History, Move, Commit, Foreign, Placed, Reset, Close}
 use Rattle.mm_model.proofs.Below.{Power, joined, renamed, moved, committed, is_empty, has_value, are_own, same_batch}
 use Rattle.mm_model.proofs.Below.{IsSound, AreItems, batches_in, IsOpening, IsAllowed, MayMove, Digests, digests_of, made, committing}
@@ -217,17 +217,15 @@ outside_more : (others : List (List ℕ)) (flag : Bool) (closed : List (List Ent
     → OutsideAt others flag closed items → (flag ≡ true → AllByRecursion (Contains others) (values_in (e ∷ [])))
     → OutsideAt others flag closed (items ++ e ∷ [])
 outside_more others true closed items e h new =
-    subst (λ (v : List (List ℕ)). AllByRecursion (Contains others) v)
-    (sym (values_in-append (joined closed ++ items) (e ∷ [])) ∙ ap values_in (append_assoc (joined closed) items (e ∷ [])))
-    (each_append (Contains others) (values_in (joined closed ++ items)) (values_in (e ∷ [])) h (new refl))
+    rw (← append_assoc (joined closed) items (e ∷ []), values_in-append (joined closed ++ items) (e ∷ []))
+    (each_append (Contains others) _ _ h (new refl))
 outside_more others false closed items e h new = h
 
 outside_less : (others : List (List ℕ)) (flag : Bool) (closed : List (List Entry)) (items : List Entry) → OutsideAt others flag closed items
     → OutsideAt others flag closed []
 outside_less others true closed items h =
-    subst (λ (v : List (List ℕ)). AllByRecursion (Contains others) v) (ap values_in (sym (append-nil (joined closed))))
-    (each_left (Contains others) (values_in (joined closed)) (values_in items)
-    (subst (λ (v : List (List ℕ)). AllByRecursion (Contains others) v) (values_in-append (joined closed) items) h))
+    rw (append-nil (joined closed))
+    (each_left (Contains others) (values_in (joined closed)) _ (rw (values_in-append (joined closed) items) at h))
 outside_less others false closed items h = h
 
 module _ (meaning : Meaning) (key barrier : List ℕ) (others : List (List ℕ)) where
@@ -237,12 +235,9 @@ module _ (meaning : Meaning) (key barrier : List ℕ) (others : List (List ℕ))
   outside_at y flag (Foreign d) h may b = outside_more others flag y.closed y.items (Value d) h (λ _. (b, tt))
   outside_at y true (Commit b) h may k = outside_more others true y.closed y.items (Own b) h (λ _. tt)
   outside_at y false (Commit b) h may k =
-      subst (λ (v : List (List ℕ)). AllByRecursion (Contains others) v) (sym (values_in-append (joined y.closed) (renamed y.items b)))
-      (each_append (Contains others) (values_in (joined y.closed)) (values_in (renamed y.items b))
-      (subst (λ (v : List Entry). AllByRecursion (Contains others) (values_in v)) (append-nil (joined y.closed)) h) k)
-  outside_at y true Close h may k =
-      subst (λ (v : List Entry). AllByRecursion (Contains others) (values_in v))
-      (sym (joined-push y.closed y.items) ∙ sym (append-nil (joined (y.closed ++ y.items ∷ [])))) h
+      rw (values_in-append (joined y.closed) (renamed y.items b))
+      (each_append (Contains others) _ _ (rw (append-nil (joined y.closed)) at h) k)
+  outside_at y true Close h may k = rw (append-nil (joined (y.closed ++ y.items ∷ [])), joined-push y.closed y.items) h
   outside_at y flag Power h may k = outside_less others flag y.closed y.items h
   outside_at y false (Placed b) h may k = h
   outside_at y false Reset h may k = h
@@ -251,10 +246,6 @@ module _ (meaning : Meaning) (key barrier : List ℕ) (others : List (List ℕ))
   pub outside_moved : (y : History) (m : Move) → IsOutside others y → MayMove (opt meaning key barrier) y m
       → Brings Opt y.is_open others y m → IsOutside others (moved (opt meaning key barrier) y m)
   outside_moved y m = outside_at y y.is_open m
-
-pub basic_whole : (meaning : Meaning) (key : List ℕ) (y : History) (b : Batch)
-    → with_batch Basic y b ≡ moved_by (basic meaning key) y (commit_moves Basic y.is_open b)
-basic_whole meaning key y b = refl
 
 whole_at : (meaning : Meaning) (key barrier : List ℕ) (y : History) (flag : Bool) (b : Batch) → with_batch Opt (record y { is_open = flag })
     b ≡ moved_by (opt meaning key barrier) (record y { is_open = flag }) (commit_moves Opt flag b)

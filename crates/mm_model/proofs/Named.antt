@@ -1,11 +1,11 @@
 -- A snapshot that names a position names it after each move; the snapshot of an answer names the last position.
-use Rattle.mm_model.proofs.Below.{ℕ, ◌≡◌, ◌≤◌, Bool, true, false, List, [], ◌∷◌, ◌++◌, length, refl, sym, ap, ◌∙◌, subst, ◌⊎◌, inl, inr}
-use Rattle.mm_model.proofs.Below.{arith, append_assoc, length-append, append-nil, append_cancel_right, Basic, Opt, Batch, Meaning, Place}
+use Rattle.mm_model.proofs.Below.{ℕ, ◌≡◌, ◌≤◌, Bool, true, false, List, [], ◌∷◌, ◌++◌, length, refl, sym, ap, ◌∙◌, ◌⊎◌, inl, inr}
+use Rattle.mm_model.proofs.Below.{arith, append_assoc, length-append, append-nil, append_cancel_right, Opt, Batch, Meaning, Place}
 use Rattle.mm_model.proofs.Below.{InBasic, InOpt, Content, guard, Instance, basic, opt, Entry, Own, Value, History, Move, Commit, Foreign}
-use Rattle.mm_model.proofs.Below.{Placed, Close, joined, moved, renamed, has_value, IsSound, IsClean, batches_in, AtAnchor}
-use Rattle.mm_model.proofs.Below.{InClosed, InCurrent, IsPoint, at_anchor, in_closed, in_current, IsPlaceOf, Names, issued, issued_place, IsAllowed}
-use Rattle.mm_model.proofs.Below.{MayMove, joined-append, length-batches_in}
-use Rattle.mm_model.proofs.Below.{anchor_after}
+use Rattle.mm_model.proofs.Below.{Placed, Close, joined, moved, renamed, has_value, IsSound, IsClean, batches_in}
+use Rattle.mm_model.proofs.Below.{InClosed, InCurrent, IsPoint, at_anchor, in_closed, in_current, IsPlaceOf, Names, issued, issued_place}
+use Rattle.mm_model.proofs.Below.{MayMove, length-batches_in}
+use Rattle.mm_model.proofs.Below.{anchor_after, basic_stands}
 use Rattle.mm_model.proofs.Paths.{clean_size, current_clean, live_clean, shut_current}
 use Rattle.mm_model.proofs.Moves.{flagged, open_current, opening_clean}
 
@@ -203,11 +203,6 @@ module _ (meaning : Meaning) (key barrier : List ℕ) where
   }
 
 module _ (meaning : Meaning) (key : List ℕ) where
-  basic_place : (y z : History) (named : List Batch) (place : Place) → IsPlaceOf Basic (basic meaning key) y named place
-      → IsPlaceOf Basic (basic meaning key) z named place
-  basic_place y z named (InBasic s) p = p
-  basic_place y z named (InOpt a e) p = absurd p
-
   basic_batches : (y : History) (m : Move) → (moved (basic meaning key) y m).batches ≡ y.batches ++ added m
   unfolding added
   basic_batches y (Commit b) = refl
@@ -221,7 +216,7 @@ module _ (meaning : Meaning) (key : List ℕ) where
     first = basic_batches y m ∙ ap (λ (v : List Batch). v ++ added m) n.first ∙ append_assoc n.named n.rest (added m);
     position = n.position;
     state = n.state;
-    place = basic_place y (moved (basic meaning key) y m) n.named offered.place n.place;
+    place = let s = basic_stands meaning key y n.named offered.place n.place in rw s.1 s.2;
   }
 
   pub basic_issued : (y : History) → Names (basic meaning key) y (issued (basic meaning key) y)

@@ -42,9 +42,7 @@ module _ (id : ℕ) where
       → Contains all (anchored_message (anchor_of id before) (register_of rest))
       × Within (form_messages (anchored_of (anchor_of id before) (register_of rest)) zero_bytes v) all
   second_listed all clear before rest v l m some =
-      let a = anchor_of id before in let e = register_of rest in
-      subst (λ (b : Bool). Within (if b then [] else anchored_message a e ∷ form_messages (anchored_of a e) zero_bytes v) all)
-      (zero_tells all clear rest l.last ∙ some) m.1.1
+      let there : bytes_eq (register_of rest) zero_bytes ≡ false = zero_tells all clear rest l.last ∙ some in rw there at m.1.1
 
 module _ (id : ℕ) (all : List (List ℕ)) (clears : Clears id all) (flag : Bool) (closed : List (List (List ℕ))) (items : List (List ℕ))
     (before : List (List (List ℕ))) (rest : List (List ℕ)) (k : Listed id all closed items) (l : Listed id all before rest) where

@@ -1,7 +1,7 @@
 -- Opt: from a sound history the verdict by digests is the verdict on the history.
-use Rattle.mm_model.proofs.Below.{ℕ, ◌≡◌, ◌+◌, Bool, true, false, ◌&&◌, ◌||◌, List, [], ◌∷◌, ◌++◌, length, map, refl, sym, ap, ◌∙◌}
+use Rattle.mm_model.proofs.Below.{ℕ, ◌≡◌, ◌+◌, Bool, true, false, ◌&&◌, List, [], ◌∷◌, ◌++◌, length, map, refl, sym, ap, ◌∙◌}
 use Rattle.mm_model.proofs.Below.{subst, inl, inr, nat_eq, if◌then◌else◌, Decides, bytes_eq, AllByRecursion, Contains, list_any}
-use Rattle.mm_model.proofs.Below.{append-nil, map-append, Opt, zero_bytes, start_of, anchored_message, Batch, size_of, trail, guard_message, closing_message}
+use Rattle.mm_model.proofs.Below.{append-nil, map-append, Opt, zero_bytes, start_of, anchored_message, Batch, size_of, guard_message, closing_message}
 use Rattle.mm_model.proofs.Below.{guard, register_of, anchor_of, own_values, Meaning, Place, InBasic, InOpt, Content, Instance, opt, Entry}
 use Rattle.mm_model.proofs.Below.{History, joined, total_of, register_value_of, values_of, cell_digest_of, is_empty, has_value, are_own}
 use Rattle.mm_model.proofs.Below.{Life, Live, Spoiled, Lost, life_by, life_of, is_lost_life, verdict_by_digests, forms_of, fits_fresh}
@@ -12,6 +12,7 @@ use Rattle.mm_model.proofs.Below.{same_own_values, same_tests, at_the_end, befor
 use Rattle.mm_model.proofs.Below.{FreshSomehow, AgainSomehow, fresh_joins, again_joins, Reaches, IsHeld, fresh_from, again_from, Listed, Clears}
 use Rattle.mm_model.proofs.Below.{own_values-append, values_of-append, joined-values, has_value-append, values_of-clean, values_of-own, meets}
 use Rattle.std.proofs.lemmas.Bool.{or_left, or_right, false_from_ne_true}
+use Rattle.mm_digest.specs.declared.digest.Digest.{Digest}
 use Rattle.std.proofs.lemmas.List.Elements.{Contains-append_left, Contains-append_right, Contains-push, Contains-push_cases}
 use Rattle.mm_model.proofs.Paths.{live_clean, path_of, shut_current}
 use Rattle.mm_model.proofs.Opt.{zero_tells, second_listed, fresh_somehow, again_somehow}
@@ -80,7 +81,7 @@ pub record Stood (i : Instance) (y : History) (named rest : List Batch) (a e : L
   pub path : Listed i.meaning.id all before taken
   pub guards : Within (map (guard_message i.barrier) y.batches) all
 
-pub stood_of : (i : Instance) (y : History) (named rest : List Batch) (a e : List ℕ) (all : List (List ℕ)) → IsSound y → IsClear all
+stood_of : (i : Instance) (y : History) (named rest : List Batch) (a e : List ℕ) (all : List (List ℕ)) → IsSound y → IsClear all
     → Within (messages_of Opt i y) all → y.batches ≡ named ++ rest → IsPoint i y named a e → Stood i y named rest a e all
 stood_of i y named rest a e all sound clear history first place =
     let h = history_listed i y all history in let p = path_of i y named rest a e sound first all h.runs place in
@@ -103,12 +104,19 @@ stood_of i y named rest a e all sound clear history first place =
       clears = record { clear = clear; starts = h.starts };
       history = h.listed;
       path = record {
-        inner = each_left (λ vs. Within (register_trail vs) all) before (map V p.later) (rw split at h.listed.inner);
+        inner = each_left (λ vs. Within (register_trail vs) all) _ _ (rw split at h.listed.inner);
         outer = trail_front closing_message (start_of Opt id) before (map V p.later) all (rw split at h.listed.outer);
         last = p.listed;
       };
       guards = h.guards;
     }
+
+pub stood_at : (i : Instance) (y : History) (named rest : List Batch) (place : Place) (all : List (List ℕ)) → IsSound y → IsClear all
+    → Within (messages_of Opt i y) all → y.batches ≡ named ++ rest → IsPlaceOf Opt i y named place
+    → (a : Digest) × (e : Digest) × (place ≡ InOpt a e) × Stood i y named rest a.bytes e.bytes all
+stood_at i y named rest (InBasic s) all sound clear history first is = absurd is
+stood_at i y named rest (InOpt a e) all sound clear history first is =
+    (a, e, refl, stood_of i y named rest a.bytes e.bytes all sound clear history first is)
 
 -- what a test tells of a history that isn't lost: nothing holds of one that is spoiled
 abbrev pub told : Life → Bool → Bool
@@ -168,8 +176,7 @@ module _ (i : Instance) (y : History) (named rest : List Batch) (a e : List ℕ)
   path_messages v call = rw (q.anchor_is, q.extension_is) at call
 
   guards_of_named : Within (map (guard_message i.barrier) named) all
-  guards_of_named =
-      each_left (Contains all) (map (guard_message i.barrier) named) (map (guard_message i.barrier) rest)
+  guards_of_named = each_left (Contains all) (map (guard_message i.barrier) named) _
       (rw (q.first, map-append (guard_message i.barrier) named rest) at q.guards)
 
   -- A test that holds exactly where the values of these batches are all that count: by the life of the history.
@@ -219,8 +226,7 @@ module _ (i : Instance) (y : History) (named rest : List Batch) (a e : List ℕ)
       (λ f. more ∙ again_joins y.is_open closed_here items_here v q.before q.taken f ∙ flat_here)
       (λ held is. again_from y.is_open closed_here q.before q.later items_here v q.taken q.split q.filled held q.reaches
       (sym more ∙ is ∙ sym flat_here))
-      (rw (map-append (guard_message i.barrier) named (b ∷ [])) (each_append (Contains all) (map (guard_message i.barrier) named)
-      (guard_message i.barrier b ∷ []) guards_of_named (called, tt)))
+      (rw (map-append (guard_message i.barrier) named (b ∷ [])) (each_append (Contains all) _ _ guards_of_named (called, tt)))
       (λ d c among asked. foreign d c among (among_asked y.batches named rest b q.first c asked)) (life_of Opt y) refl)
 
   -- the verdict, by the path that the place is
@@ -235,23 +241,15 @@ module _ (i : Instance) (y : History) (named rest : List Batch) (a e : List ℕ)
       (λ some. (second_listed i.meaning.id all q.clears.clear q.before q.taken v q.path listed some).0))
       (again_told sound b foreign called listed))
 
-opt_at : (meaning : Meaning) (key barrier : List ℕ) (y : History) (named rest : List Batch) (place : Place) (b : Batch)
-    (all : List (List ℕ)) → IsSound y → IsClearFor all (opt meaning key barrier) y place b → y.batches ≡ named ++ rest
-    → IsPlaceOf Opt (opt meaning key barrier) y named place → verdict_by_digests barrier y.is_open (cell_digest_of (opt meaning key barrier)
-    Opt y) (register_value_of (opt meaning key barrier) y) place b ≡ judge Opt y (total_of named) b
-opt_at meaning key barrier y named rest (InBasic s) b all sound clear first is = absurd is
-opt_at meaning key barrier y named rest (InOpt a e) b all sound clear first is =
-    let i = opt meaning key barrier in
-    opt_on i y named rest a.bytes e.bytes all (stood_of i y named rest a.bytes e.bytes all sound clear.clear clear.history first is) sound b
-    clear.call.0 clear.call.1 clear.foreign
-
 pub opt_is_judged : (meaning : Meaning) (key barrier : List ℕ) (y : History) (offered : Content) (b : Batch) (all : List (List ℕ))
     → IsSound y → IsClearFor all (opt meaning key barrier) y offered.place b → Names (opt meaning key barrier) y offered
     → verdict_by_digests barrier y.is_open (cell_digest_of (opt meaning key barrier) Opt y) (register_value_of (opt meaning key barrier) y)
     offered.place b ≡ judge Opt y offered.position b
 opt_is_judged meaning key barrier y offered b all sound clear names =
-    opt_at meaning key barrier y names.named names.rest offered.place b all sound clear names.first names.place
-    ∙ ap (λ (p : ℕ). judge Opt y p b) (sym names.position)
+    let i = opt meaning key barrier in
+    let s = stood_at i y names.named names.rest offered.place all sound clear.clear clear.history names.first names.place in
+    let call = rw s.2 at clear.call in
+    rw (s.2, names.position) (opt_on i y names.named names.rest s.0.bytes s.1.bytes all s.3 sound b call.0 call.1 clear.foreign)
 
 pub lost_is_zero : (meaning : Meaning) (key barrier : List ℕ) (y : History) (all : List (List ℕ)) → IsClear all
     → Within (messages_of Opt (opt meaning key barrier) y) all

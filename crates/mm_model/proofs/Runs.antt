@@ -1,5 +1,5 @@
 -- A machine that runs one more request.
-use Rattle.mm_model.proofs.Below.{ℕ, ◌≡◌, List, [], ◌∷◌, ◌++◌, sym, ap, ◌∙◌, subst, IsTrue, Meaning, IsLawful, state_after, said_after}
+use Rattle.mm_model.proofs.Below.{ℕ, ◌≡◌, List, [], ◌∷◌, ◌++◌, sym, ◌∙◌, subst, IsTrue, Meaning, IsLawful, state_after}
 use Rattle.mm_module.specs.RunLaws.{state_after-push, said_after-push, state_after-is_spelled}
 use Rattle.mm_model.specs.Run.{IsRun}
 

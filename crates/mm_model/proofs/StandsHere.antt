@@ -1,16 +1,16 @@
 -- Whether an offer stands where the module stands: the verdicts by digests and on the history tell the same, whatever the
 -- batch, and no message of a batch is looked at.
-use Rattle.mm_model.proofs.Below.{ℕ, ◌≡◌, ◌+◌, Bool, true, false, ◌&&◌, List, [], ◌∷◌, ◌++◌, refl, sym, ap, ◌∙◌, nat_eq}
-use Rattle.mm_model.proofs.Below.{if◌then◌else◌, bytes_eq, Contains, Basic, Opt, zero_bytes, anchored_message, Batch}
-use Rattle.mm_model.proofs.Below.{size_of, Meaning, Place, InBasic, InOpt, Content, guard, link, summary_of, register_of, anchor_of}
+use Rattle.mm_model.proofs.Below.{ℕ, ◌≡◌, ◌+◌, Bool, true, false, ◌&&◌, List, [], ◌∷◌, refl, sym, ◌∙◌, nat_eq}
+use Rattle.mm_model.proofs.Below.{if◌then◌else◌, bytes_eq, Basic, Opt, zero_bytes, anchored_message, Batch}
+use Rattle.mm_model.proofs.Below.{size_of, Meaning, Content, guard, summary_of, register_of}
 use Rattle.mm_model.proofs.Below.{Instance, basic, opt, History, total_of, register_value_of, values_of, cell_digest_of}
 use Rattle.mm_model.proofs.Below.{Life, Live, Spoiled, Lost, life_of, is_lost_life, verdict_by_digests, forms_of}
 use Rattle.mm_model.proofs.Below.{is_last, verdict_by, opt_verdict, judge, judged, Within, IsClear, AreNoGuards}
-use Rattle.mm_model.proofs.Below.{history_messages, values_in, counting, IsPlaceOf, Names, anchor_after, IsSound}
-use Rattle.mm_model.proofs.Below.{basic_here}
+use Rattle.mm_model.proofs.Below.{history_messages, values_in, counting, Names, anchor_after, IsSound}
+use Rattle.mm_model.proofs.Below.{basic_here, basic_stands}
 use Rattle.mm_model.specs.StandingHere.{is_new, place_messages}
 use Rattle.mm_model.proofs.Opt.{zero_tells}
-use Rattle.mm_model.proofs.OptJudge.{Stood, stood_of, told, fresh_told, zero_is_lost}
+use Rattle.mm_model.proofs.OptJudge.{Stood, stood_at, told, fresh_told, zero_is_lost}
 
 new_by : (fresh again : Bool) → is_new (verdict_by false fresh again) ≡ fresh
 new_by false true = refl
@@ -20,36 +20,22 @@ new_judged : (here repeat : Bool) → is_new (judged Live here repeat) ≡ here
 new_judged false true = refl
 new_judged _ _ = refl
 
-basic_on : (meaning : Meaning) (key register : List ℕ) (y : History) (named rest : List Batch) (place : Place) (b : Batch)
-    (all : List (List ℕ)) → IsClear all → Within (history_messages (basic meaning key) y) all → y.batches ≡ named ++ rest
-    → IsPlaceOf Basic (basic meaning key) y named place → is_new (verdict_by_digests zero_bytes false (summary_of meaning.id y.batches)
-    register place b) ≡ is_new (judge Basic y (total_of named) b)
-basic_on meaning key register y named rest (InOpt a e) b all clear history first is = absurd is
-basic_on meaning key register y named rest (InBasic s) b all clear history first is =
-    rw is (new_by (bytes_eq (summary_of meaning.id named) (summary_of meaning.id y.batches)) _
-    ∙ basic_here meaning.id y.batches named rest all clear history.0 history.1 first ∙ sym (new_judged (nat_eq (total_of named)
-    (total_of y.batches)) (nat_eq (total_of named + size_of b) (total_of y.batches) && is_last y.batches b)))
-
 pub basic_stands_here : (meaning : Meaning) (key register : List ℕ) (y : History) (offered : Content) (b : Batch) (all : List (List ℕ))
     → IsClear all → Within (history_messages (basic meaning key) y) all → Names (basic meaning key) y offered
     → is_new (verdict_by_digests zero_bytes false (cell_digest_of (basic meaning key) Basic y) register offered.place b) ≡ is_new
     (judge Basic y offered.position b)
 basic_stands_here meaning key register y offered b all clear history names =
-    basic_on meaning key register y names.named names.rest offered.place b all clear history names.first names.place
-    ∙ ap (λ (p : ℕ). is_new (judge Basic y p b)) (sym names.position)
+    let s = basic_stands meaning key y names.named offered.place names.place in
+    rw (s.1, s.2, names.position) (new_by (bytes_eq (summary_of meaning.id names.named) (summary_of meaning.id y.batches)) _
+    ∙ basic_here meaning.id y.batches names.named names.rest all clear history.0 history.1 names.first
+    ∙ sym (new_judged (nat_eq (total_of names.named) (total_of y.batches)) (nat_eq (total_of names.named + size_of b)
+    (total_of y.batches) && is_last y.batches b)))
 
 new_told : (life : Life) (fresh again here repeat : Bool) → (is_lost_life life ≡ false → fresh ≡ told life here)
     → is_new (verdict_by (is_lost_life life) fresh again) ≡ is_new (judged life here repeat)
 new_told Live fresh again here repeat f = new_by fresh again ∙ f refl ∙ sym (new_judged here repeat)
 new_told Spoiled fresh again here repeat f = new_by fresh again ∙ f refl
 new_told Lost fresh again here repeat f = refl
-
--- the second form's message, at the path that the place is
-closes_there : (id : ℕ) (all : List (List ℕ)) (before : List (List (List ℕ))) (taken : List (List ℕ)) (zero : Bool) → zero ≡ false
-    → Within (if zero then [] else anchored_message (anchor_of id before) (register_of taken) ∷ []) all
-    → Contains all (anchored_message (anchor_of id before) (register_of taken))
-closes_there id all before taken true not_zero listed = absurd (cc)
-closes_there id all before taken false not_zero listed = listed.0
 
 opt_on : (i : Instance) (y : History) (named rest : List Batch) (a e : List ℕ) (b : Batch) (all : List (List ℕ)) → IsSound y
     → Stood i y named rest a e all → Within (if bytes_eq e zero_bytes then [] else anchored_message a e ∷ []) all
@@ -60,28 +46,15 @@ opt_on i y named rest a e b all sound q listed foreign =
     rw (zero_is_lost i y all q.clears.clear q.history.last) (new_told (life_of Opt y) _ _ (nat_eq (total_of named) (total_of y.batches))
     (nat_eq (total_of named + size_of b) (total_of y.batches) && is_last y.batches b)
     (fresh_told i y named rest a e all q sound foreign (λ some.
-    let there : Within (if bytes_eq (register_of q.taken) zero_bytes then [] else anchored_message (anchor_of i.meaning.id q.before)
-    (register_of q.taken) ∷ []) all = rw (← q.anchor_is, ← q.extension_is) listed in
-    closes_there i.meaning.id all q.before q.taken (bytes_eq (register_of q.taken) zero_bytes)
-    (zero_tells all q.clears.clear q.taken q.path.last ∙ some) there)))
+    let there : bytes_eq (register_of q.taken) zero_bytes ≡ false = zero_tells all q.clears.clear q.taken q.path.last ∙ some in
+    (rw (q.anchor_is, q.extension_is, there) at listed).0)))
 
-module _ (meaning : Meaning) where
-  opt_at : (key barrier : List ℕ) (y : History) (named rest : List Batch) (place : Place) (b : Batch) (all : List (List ℕ)) → IsSound y
-      → IsClear all → Within (history_messages (opt meaning key barrier) y) all → Within (place_messages place) all
-      → AreNoGuards barrier (values_in (counting y)) y.batches → y.batches ≡ named ++ rest → IsPlaceOf Opt (opt meaning key barrier) y named
-      place → is_new (verdict_by_digests barrier y.is_open (cell_digest_of (opt meaning key barrier) Opt y)
-      (register_value_of (opt meaning key barrier) y) place b) ≡ is_new (judge Opt y (total_of named) b)
-  opt_at key barrier y named rest (InBasic s) b all sound clear history listed foreign first is = absurd is
-  opt_at key barrier y named rest (InOpt a e) b all sound clear history listed foreign first is =
-      let i = opt meaning key barrier in
-      opt_on i y named rest a.bytes e.bytes b all sound (stood_of i y named rest a.bytes e.bytes all sound clear history first is) listed
-      foreign
-
-  pub opt_stands_here : (key barrier : List ℕ) (y : History) (offered : Content) (b : Batch) (all : List (List ℕ)) → IsSound y → IsClear all
-      → Within (history_messages (opt meaning key barrier) y) all → Within (place_messages offered.place) all
-      → AreNoGuards barrier (values_in (counting y)) y.batches → Names (opt meaning key barrier) y offered
-      → is_new (verdict_by_digests barrier y.is_open (cell_digest_of (opt meaning key barrier) Opt y)
-      (register_value_of (opt meaning key barrier) y) offered.place b) ≡ is_new (judge Opt y offered.position b)
-  opt_stands_here key barrier y offered b all sound clear history listed foreign names =
-      opt_at key barrier y names.named names.rest offered.place b all sound clear history listed foreign names.first names.place
-      ∙ ap (λ (p : ℕ). is_new (judge Opt y p b)) (sym names.position)
+pub opt_stands_here : (meaning : Meaning) (key barrier : List ℕ) (y : History) (offered : Content) (b : Batch) (all : List (List ℕ))
+    → IsSound y → IsClear all → Within (history_messages (opt meaning key barrier) y) all → Within (place_messages offered.place) all
+    → AreNoGuards barrier (values_in (counting y)) y.batches → Names (opt meaning key barrier) y offered
+    → is_new (verdict_by_digests barrier y.is_open (cell_digest_of (opt meaning key barrier) Opt y)
+    (register_value_of (opt meaning key barrier) y) offered.place b) ≡ is_new (judge Opt y offered.position b)
+opt_stands_here meaning key barrier y offered b all sound clear history listed foreign names =
+    let i = opt meaning key barrier in
+    let s = stood_at i y names.named names.rest offered.place all sound clear history names.first names.place in
+    rw (s.2, names.position) (opt_on i y names.named names.rest s.0.bytes s.1.bytes b all sound s.3 (rw s.2 at listed) foreign)

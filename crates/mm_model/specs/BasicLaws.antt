@@ -1,10 +1,10 @@
 -- Basic: the verdict by digests is the verdict on the history.
 use Rattle.std.specs.Prelude.{nat_eq}
-use Rattle.std.proofs.Common.{◌≡◌, ◌+◌, ◌&&◌, ◌++◌, refl, sym, ap, ◌∙◌, subst, ℕ, Bool, true, false, List, [], ◌∷◌}
+use Rattle.std.proofs.Common.{◌≡◌, ◌+◌, ◌&&◌, ◌++◌, refl, sym, ap, ◌∙◌, ℕ, Bool, true, false, List, [], ◌∷◌}
 use Rattle.std.proofs.lemmas.Bool.Decides.{same_from_decides}
 use Rattle.std.specs.List.{Contains}
 use Rattle.std.specs.Str.{bytes_eq}
-use Rattle.mm_model.specs.Below.{zero_bytes, start_message, start_of, Basic, Content, Place, InBasic, InOpt, Batch, size_of, Meaning}
+use Rattle.mm_model.specs.Below.{zero_bytes, start_message, start_of, Digest, Basic, Content, Place, InBasic, InOpt, Batch, size_of, Meaning}
 use Rattle.mm_model.specs.Chains.{trail, link_message, link, summary_of}
 use Rattle.mm_model.specs.InstanceWords.{basic}
 use Rattle.mm_model.specs.History.{History, total_of}
@@ -52,18 +52,18 @@ module _ (id : ℕ) where
       rw (here, again) (verdicts (nat_eq (total_of named) (total_of batches)) (nat_eq (total_of named + size_of b) (total_of batches)
       && is_last batches b))
 
-basic_on : (meaning : Meaning) (key register : List ℕ) (y : History) (named rest : List Batch) (place : Place) (b : Batch)
-    (all : List (List ℕ)) → IsClearFor all (basic meaning key) y place b → y.batches ≡ named ++ rest
-    → IsPlaceOf Basic (basic meaning key) y named place
-    → verdict_by_digests zero_bytes false (summary_of meaning.id y.batches) register place b ≡ judge Basic y (total_of named) b
-basic_on meaning key register y named rest (InBasic s) b all clear e is =
-    rw is (basic_at meaning.id y.batches named rest b all clear.clear clear.history.0 clear.history.1 (rw is at clear.call.0) e)
-basic_on meaning key register y named rest (InOpt a x) b all clear e is = absurd is
+-- a place is the summary of the batches named
+pub basic_stands : (meaning : Meaning) (key : List ℕ) (y : History) (named : List Batch) (place : Place)
+    → IsPlaceOf Basic (basic meaning key) y named place → (s : Digest) × (place ≡ InBasic s) × (s.bytes ≡ summary_of meaning.id named)
+basic_stands meaning key y named (InBasic s) is = (s, refl, is)
+basic_stands meaning key y named (InOpt a e) is = absurd is
 
 pub basic_is_judged : (meaning : Meaning) (key register : List ℕ) (y : History) (offered : Content) (b : Batch) (all : List (List ℕ))
     → IsClearFor all (basic meaning key) y offered.place b → Names (basic meaning key) y offered
     → verdict_by_digests zero_bytes false (cell_digest_of (basic meaning key) Basic y) register offered.place b ≡ judge Basic y
     offered.position b
 basic_is_judged meaning key register y offered b all clear names =
-    basic_on meaning key register y names.named names.rest offered.place b all clear names.first names.place
-    ∙ ap (λ (p : ℕ). judge Basic y p b) (sym names.position)
+    let s = basic_stands meaning key y names.named offered.place names.place in
+    let call = rw (s.1, s.2) at clear.call in
+    rw (s.1, s.2, names.position)
+    (basic_at meaning.id y.batches names.named names.rest b all clear.clear clear.history.0 clear.history.1 call.0 names.first)

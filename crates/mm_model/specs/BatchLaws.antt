@@ -1,6 +1,6 @@
 -- Batches: their tests, and counts of requests that tell how far a list of batches goes.
 use Rattle.std.specs.Prelude.{nat_eq}
-use Rattle.std.proofs.Common.{◌≡◌, ◌+◌, ◌&&◌, ◌++◌, refl, sym, ap, ◌∙◌, subst, arith, length-append, Bool, true, false, List, [], ◌∷◌}
+use Rattle.std.proofs.Common.{◌≡◌, ◌+◌, ◌&&◌, ◌++◌, refl, sym, ap, ◌∙◌, arith, length-append, Bool, true, false, List, [], ◌∷◌}
 use Rattle.std.proofs.lemmas.Bool.{and_parts, and_from}
 use Rattle.std.proofs.lemmas.Bool.Decides.{Decides-eqb}
 use Rattle.std.proofs.lemmas.List.{append-nil}
@@ -73,15 +73,9 @@ same_fronts (b ∷ bs) (c ∷ cs) ds es e t =
 module _ (batches named : List Batch) where
   -- the first part of a list counts as the whole exactly where it is the whole
   pub at_the_end : (rest : List Batch) → batches ≡ named ++ rest → Decides (nat_eq (total_of named) (total_of batches)) (named ≡ batches)
-  at_the_end rest e = (
-    λ t.
-        let counts : total_of named ≡ total_of batches = (Decides-eqb (total_of named) (total_of batches)).0 t in
-        let none : total_of rest ≡ 0 = omega (arith, counts, ap total_of e, total-append named rest) in
-        let nothing = total-nil rest none in
-        same_fronts named batches rest [] (sym e ∙ sym (append-nil batches)) counts,
-    λ s. (Decides-eqb (total_of named)
-        (total_of batches)).1 (ap total_of s),
-  )
+  at_the_end rest e =
+      let test = Decides-eqb (total_of named) (total_of batches) in
+      (λ t. same_fronts named batches rest [] (sym e ∙ sym (append-nil batches)) (test.0 t), λ s. test.1 (ap total_of s))
 
   -- the first part, and then b, count as the whole and b is the last, exactly where they are the whole
   pub before_the_last : (rest : List Batch) (b : Batch) → batches ≡ named ++ rest
@@ -89,17 +83,11 @@ module _ (batches named : List Batch) where
   before_the_last rest b e = (
     λ t.
         let both = and_parts (nat_eq (total_of named + size_of b) (total_of batches)) (is_last batches b) t in
-        let counts : total_of named + size_of b ≡ total_of batches =
-        (Decides-eqb (total_of named + size_of b) (total_of batches)).0 both.0 in
+        let counts = (Decides-eqb (total_of named + size_of b) (total_of batches)).0 both.0 in
         let h = is_last_tells batches b both.1 in
-        let one : total_of (b ∷ []) ≡ size_of b + 0 = total-cons b [] in
-        let fronts : total_of named ≡ total_of h.front = omega (arith, counts, ap total_of h.is, total-append h.front (b ∷ []), one) in
-        let same : named ≡ h.front = same_fronts named h.front rest (b ∷ []) (sym e ∙ h.is) fronts in
-        ap (λ (xs : List Batch). xs ++ b ∷ []) same ∙ sym h.is,
+        let fronts : total_of named ≡ total_of h.front = omega (arith, counts, ap total_of h.is, total-push h.front b) in
+        ap (λ (xs : List Batch). xs ++ b ∷ []) (same_fronts named h.front rest (b ∷ []) (sym e ∙ h.is) fronts) ∙ sym h.is,
     λ s.
-        let one : total_of (b ∷ []) ≡ size_of b + 0 = total-cons b [] in
-        let counts : total_of named + size_of b ≡ total_of batches = omega (arith, ap total_of s, total-append named (b ∷ []), one) in
-        and_from (nat_eq (total_of named + size_of b) (total_of batches)) (is_last batches b)
-        ((Decides-eqb (total_of named + size_of b) (total_of batches)).1 counts) (subst (λ (xs : List Batch). is_last xs b ≡ true) s
-        (is_last_of named b)),
+        let counts = (Decides-eqb (total_of named + size_of b) (total_of batches)).1 (sym (total-push named b) ∙ ap total_of s) in
+        and_from (nat_eq (total_of named + size_of b) (total_of batches)) (is_last batches b) counts (rw (← s) (is_last_of named b)),
   )

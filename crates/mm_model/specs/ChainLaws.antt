@@ -1,5 +1,5 @@
 -- Chains of digests: one more item, and equal ends of equal lists.
-use Rattle.std.proofs.Common.{◌≡◌, ◌≢◌, ◌++◌, length, refl, sym, ap, ◌∙◌, subst, inl, inr, ℕ, List, [], ◌∷◌}
+use Rattle.std.proofs.Common.{◌≡◌, ◌≢◌, ◌++◌, length, refl, sym, ap, ◌∙◌, inl, inr, ℕ, List, [], ◌∷◌}
 use Rattle.std.specs.List.{AllByRecursion, Contains}
 use Rattle.mm_model.specs.Below.{length-sha256, sha256, length-zero_bytes, length-start_of, zero_bytes, start_of, extended_message, Basic}
 use Rattle.mm_model.specs.Below.{Opt, Batch}
@@ -52,13 +52,11 @@ module _ {A : Type 0} (f : List ℕ → A → List ℕ) (s : List ℕ) where
   trail_front xs ys all w = each_left (Contains all) (trail f s xs) (trail f (after f s xs) ys) (rw (trail-append f s xs ys) at w)
 
   pub trail_last : (xs : List A) (x : A) (all : List (List ℕ)) → Within (trail f s (xs ++ x ∷ [])) all → Contains all (f (after f s xs) x)
-  trail_last xs x all w =
-      (each_right (Contains all) (trail f s xs) (trail f (after f s xs) (x ∷ [])) (rw (trail-append f s xs (x ∷ [])) at w)).0
+  trail_last xs x all w = (each_right (Contains all) (trail f s xs) _ (rw (trail-append f s xs (x ∷ [])) at w)).0
 
   pub trail_push : (xs : List A) (x : A) (all : List (List ℕ)) → Within (trail f s xs) all → Contains all (f (after f s xs) x)
       → Within (trail f s (xs ++ x ∷ [])) all
-  trail_push xs x all w c =
-      rw (trail-append f s xs (x ∷ [])) (each_append (Contains all) (trail f s xs) (trail f (after f s xs) (x ∷ [])) w (c, tt))
+  trail_push xs x all w c = rw (trail-append f s xs (x ∷ [])) (each_append (Contains all) (trail f s xs) _ w (c, tt))
 
 module _ {A : Type 0} (f : List ℕ → A → List ℕ) (start : List ℕ) (Fine : A → Type 0) (all : List (List ℕ)) where
   abbrev pub SameFrom : List A → Type 0
@@ -69,23 +67,20 @@ module _ {A : Type 0} (f : List ℕ → A → List ℕ) (start : List ℕ) (Fine
   -- a chain that took a step doesn't end at its start
   pub never_back : Telling f start Fine all → (xs : List A) (x : A) → Within (trail f start (xs ++ x ∷ [])) all
       → after f start (xs ++ x ∷ []) ≢ start
-  never_back telling xs x w e =
-      telling.leaves (after f start xs) x (trail_last f start xs x all w) (sym (after-push f start xs x) ∙ e)
+  never_back telling xs x w e = telling.leaves (after f start xs) x (trail_last f start xs x all w) (sym (after-push f start xs x) ∙ e)
 
   same_none : Telling f start Fine all → SameFrom []
   same_none telling ys fx fy wx wy e = elim (ends ys) [
     | inl none ↦ sym none
     | inr h ↦
-        absurd (never_back telling h.front h.last (subst (λ (v : List _). Within (trail f start v) all) h.is wy)
-        (sym (e ∙ ap (after f start) h.is)))
+        absurd (never_back telling h.front h.last (rw h.is at wy) (sym (e ∙ ap (after f start) h.is)))
   ]
 
   same_more : Telling f start Fine all → IsClear all → (xs : List A) (x : A) → SameFrom xs → SameFrom (xs ++ x ∷ [])
   same_more telling clear xs x same ys fx fy wx wy e = elim (ends ys) [
     | inl none ↦ absurd (never_back telling xs x wx (e ∙ ap (after f start) none))
     | inr h ↦
-        let wy' = subst (λ (v : List A). Within (trail f start v) all) h.is wy in
-        let fy' = subst (λ (v : List A). AllByRecursion Fine v) h.is fy in
+        let wy' = rw h.is at wy in let fy' = rw h.is at fy in
         let digests : sha256 (f (after f start xs) x) ≡ sha256 (f (after f start h.front) h.last) =
         sym (after-push f start xs x) ∙ e ∙ ap (after f start) h.is ∙ after-push f start h.front h.last in
         let messages = clear.apart (f (after f start xs) x) (f (after f start h.front) h.last)

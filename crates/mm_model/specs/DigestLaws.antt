@@ -115,14 +115,13 @@ module _ (barrier : List ℕ) where
   pub same_own_values : (all : List (List ℕ)) → IsClear all → (bs cs : List Batch) → Within (map (guard_message barrier) bs) all
       → Within (map (guard_message barrier) cs) all → own_values barrier bs ≡ own_values barrier cs → bs ≡ cs
   same_own_values all clear [] [] wb wc e = refl
-  same_own_values all clear [] (c ∷ cs) wb wc e = absurd (cc)
-  same_own_values all clear (b ∷ bs) [] wb wc e = absurd (cc)
   same_own_values all clear (b ∷ bs) (c ∷ cs) wb wc e =
       let heads : guard barrier b ≡ guard barrier c = cc in
       let tails : own_values barrier bs ≡ own_values barrier cs = cc in
       let first : b ≡ c = same_guards all clear b c wb.0 wc.0 heads in
       let others : bs ≡ cs = same_own_values all clear bs cs wb.1 wc.1 tails in
       cc
+  same_own_values all clear _ _ wb wc e = absurd (cc)
 
 -- equal links, equal batches
 pub same_links : (all : List (List ℕ)) → IsClear all → (s t : List ℕ) (b c : Batch) → length s ≡ 32 → length t ≡ 32

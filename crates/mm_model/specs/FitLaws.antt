@@ -1,6 +1,7 @@
 -- An answer that was run from a spelled state, with positions left for it, is fit.
-use Rattle.std.specs.Prelude.{All, nat_lt, if◌then◌else◌}
-use Rattle.std.proofs.Common.{◌≡◌, ◌+◌, ◌≤◌, ◌<◌, length, IsTrue, arith, length-append, ℕ, Bool, true, false, List, [], ◌∷◌}
+use Rattle.std.specs.Prelude.{All}
+use Rattle.std.proofs.Common.{◌≡◌, ◌+◌, ◌≤◌, length, IsTrue, arith, length-append, ℕ, Bool, List, [], ◌∷◌}
+use Rattle.std.proofs.lemmas.Bool.Decides.{nat_tests}
 use Rattle.std.proofs.lemmas.List.Elements.{All-nil, All-cons}
 use Rattle.mm_model.specs.Below.{last_position, limit_of, length-hmac_of, Variant, Basic, Opt, place_length, Content, IsPlace, IsContent}
 use Rattle.mm_model.specs.Below.{variant_of, snapshot_front, length-snapshot_front, Place, Batch, members_of, size_of, size_of-pos, Meaning}
@@ -15,12 +16,8 @@ lines_from meaning lawful state (request ∷ requests) spelled =
     All-cons IsLine (meaning.says state request) (outputs_from meaning (meaning.next state request) requests) (lawful.says_lines state
     request spelled) (lines_from meaning lawful (meaning.next state request) requests (lawful.goes_on state request spelled))
 
-limit_by : (is_narrow : Bool) → (if is_narrow then 65536 else 1048576) ≤ 1048576
-limit_by true = omega arith
-limit_by false = omega arith
-
 limit_of-most : (id : ℕ) → limit_of id ≤ 1048576
-limit_of-most id = limit_by (nat_lt id 128)
+limit_of-most id = grind (arith, nat_tests)
 
 place_length-most : (v : Variant) → place_length v ≤ 64
 place_length-most Basic = omega arith
@@ -38,9 +35,6 @@ sealed_of-most key content is =
     (limit_of content.id) _ (length-snapshot_front content is) (place_length-most (variant_of content.place)) is.state
     (limit_of-most content.id) (length-hmac_of key (snapshot_front content)))
 
-positive : (position size : ℕ) → 0 < size → 1 ≤ position + size
-positive position size h = omega arith
-
 -- the answer to a batch that was run from this state
 pub is_fit : (meaning : Meaning) → IsLawful meaning → (key state : List ℕ) (position : ℕ) (place : Place) (b : Batch) (again : Bool)
     → IsPlace place → IsTrue (meaning.is_spelled state) → position + size_of b ≤ last_position → IsFit b (record {
@@ -52,7 +46,7 @@ pub is_fit : (meaning : Meaning) → IsLawful meaning → (key state : List ℕ)
           { id = meaning.id; place = place; position = position + size_of b; state = state_from meaning state (members_of b) });
     })
 is_fit meaning lawful key state position place b again placed spelled fits = record {
-  least = positive position (size_of b) (size_of-pos b);
+  least = omega (arith, size_of-pos b);
   most = fits;
   counted = length-outputs_from meaning state (members_of b);
   lines = lines_from meaning lawful state (members_of b) spelled;

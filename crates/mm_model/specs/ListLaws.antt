@@ -41,9 +41,6 @@ each_append P (x ∷ xs) ys h k = (h.0, each_append P xs ys h.1 k)
 -- each item of a list is one of it
 pub each_self : {A : Type 0} (front xs : List A) → AllByRecursion (Contains (front ++ xs)) xs
 each_self front [] = tt
-each_self {A} front (x ∷ xs) =
-    let P : List A → Type 0 = λ w. AllByRecursion (Contains w) xs in (
-      Contains-append_right front (x ∷ xs) x (0, omega arith, refl),
-      subst
-          P (append_assoc front (x ∷ []) xs) (each_self (front ++ x ∷ []) xs),
-    )
+each_self front (x ∷ xs) =
+    let later : AllByRecursion (Contains (front ++ x ∷ xs)) xs = rw (append_assoc front (x ∷ []) xs) at (each_self (front ++ x ∷ []) xs) in
+    (Contains-append_right front (x ∷ xs) x (0, omega arith, refl), later)

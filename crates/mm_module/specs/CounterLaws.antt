@@ -11,7 +11,7 @@ use Rattle.mm_module.specs.Words.{words_of}
 use Rattle.mm_module.specs.declared.counter.Says.{Says}
 use Rattle.mm_module.specs.declared.counter.Says.TheVariants.{Value}
 use Rattle.mm_module.specs.Meaning.{IsLawful, IsShort}
-use Rattle.mm_module.specs.TableLaws.{IsTable, IsOutcome, table_is_lawful, table_is_short}
+use Rattle.mm_module.specs.TableLaws.{IsTable, IsOutcome, table_by, table_is_lawful, table_is_short}
 use Rattle.mm_module.specs.CounterTable.{counter, stepped, is_state, request_of, outcome_of, text_of}
 
 -- a state has 8 bytes
@@ -60,13 +60,7 @@ outcome_of-64 : (value : ℕ) (request : List ℕ) → value < 2 ^ 64
 outcome_of-64 value request small = grind (arith, nat_tests)
 
 -- the counter is a module
-counter_table : IsTable (record {
-  first = 0;
-  read = of_eight_bytes;
-  spelling = eight_bytes;
-  does = λ value request.
-      let o = outcome_of value (request_of (words_of request)) in (o.0, text_of o.1);
-}) counter (λ value. value < 2 ^ 64) 8 20
+counter_table : IsTable (table_by 0 of_eight_bytes eight_bytes request_of outcome_of text_of) counter (λ value. value < 2 ^ 64) 8 20
 unfolding stepped
 counter_table = record {
   begins = unfold eight_bytes in refl;

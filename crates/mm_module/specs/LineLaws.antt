@@ -2,7 +2,7 @@
 -- the other way round, and a test that each element passes holds at each place.
 pub use Rattle.std.proofs.lemmas.Bool.{and_parts as and-true, and_from as and-both}
 pub use Rattle.std.proofs.lemmas.List.Sums.{AllPass-from_list_all as list_all-get_or}
-use Rattle.std.specs.Prelude.{◌≡◌, ◌≢◌, ◌==◌, ◌&&◌, ℕ, suc, ◌%◌, ◌^◌, ◌<◌, ◌≤◌, List, [], ◌∷◌, length, Bool, true, false, not, All}
+use Rattle.std.specs.Prelude.{◌≡◌, ◌≢◌, ◌==◌, ℕ, ◌%◌, ◌^◌, ◌<◌, ◌≤◌, List, [], ◌∷◌, length, Bool, true, not, All}
 use Rattle.std.proofs.Common.{refl, arith, lit<, get_or, Fits, w8}
 use Rattle.std.specs.Fmt.{decimal}
 use Rattle.std.specs.Char.{is_ascii_digit}
@@ -35,8 +35,7 @@ byte-Fits : (x : ℕ) → Fits w8 x → is_byte x ≡ true
 byte-Fits x fits = let small : x < 256 = omega (arith, fits) in grind (arith, nat_tests)
 
 -- the bytes of a slice are bytes
-pub are_bytes-Fits : (bytes : List ℕ) → ((i : ℕ) → Fits w8 (get_or bytes i 0))
-    → are_bytes bytes ≡ true
+pub are_bytes-Fits : (bytes : List ℕ) → ((i : ℕ) → Fits w8 (get_or bytes i 0)) → are_bytes bytes ≡ true
 are_bytes-Fits bytes fits =
     list_all-from_AllPass is_byte bytes (λ k d inside. rw (get_or_default_zero bytes k d inside) (byte-Fits _ (fits k)))
 
@@ -60,8 +59,7 @@ passes-decimal p each n small =
 
 -- a decimal has no LF
 pub is_unbroken-decimal : (n : ℕ) → n < 2 ^ 64 → is_unbroken (decimal n) ≡ true
-is_unbroken-decimal n small =
-    passes-decimal (λ byte. not (byte == 10)) (λ d is. grind (arith, nat_tests)) n small
+is_unbroken-decimal n small = passes-decimal (λ byte. not (byte == 10)) (λ d is. grind (arith, nat_tests)) n small
 
 -- a decimal of 64 bits has at most 20 digits
 pub length-decimal : (n : ℕ) → n < 2 ^ 64 → length (decimal n) ≤ 20
@@ -73,10 +71,8 @@ pub record IsText (most : ℕ) (text : List ℕ) : Type 0 where
   pub unbroken : is_unbroken text ≡ true
 
 -- such a text is a line
-pub IsLine-text : (most : ℕ) (text : List ℕ) → most ≤ longest_request → IsText most text
-    → IsLine text
-IsLine-text most text few is =
-    record { short = omega (arith, is.short, few); unbroken = All-is_unbroken text is.unbroken }
+pub IsLine-text : (most : ℕ) (text : List ℕ) → most ≤ longest_request → IsText most text → IsLine text
+IsLine-text most text few is = record { short = omega (arith, is.short, few); unbroken = All-is_unbroken text is.unbroken }
 
 -- a text with no LF, from each byte
 pub is_unbroken-All : (text : List ℕ) → All (λ byte. byte ≢ 10) text → is_unbroken text ≡ true

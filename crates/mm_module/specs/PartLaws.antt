@@ -1,5 +1,5 @@
 -- Laws of the parts of byte lists, for the laws of modules.
-use Rattle.std.specs.Prelude.{◌≡◌, ℕ, zero, suc, ◌^◌, ◌<◌, true, nat_le, List, [], ◌∷◌, ◌++◌, length, take, drop, All}
+use Rattle.std.specs.Prelude.{◌≡◌, ℕ, zero, suc, ◌^◌, ◌<◌, true, List, [], ◌∷◌, ◌++◌, length, take, drop, All}
 use Rattle.std.proofs.Common.{refl, sym, ◌∙◌, ap, arith, get_or}
 use Rattle.std.specs.List.{list_all}
 use Rattle.std.proofs.Math.Seq.{take-append_seam, drop-append_seam}
@@ -22,8 +22,7 @@ pub drop-front : (n : ℕ) (front back : List ℕ) → length front ≡ n → dr
 drop-front n front back is = rw (← is) (drop-append_seam front back)
 
 -- the bytes of each part are bytes
-are_bytes-parts : (n : ℕ) (bytes : List ℕ) → are_bytes bytes ≡ true
-    → (are_bytes (take n bytes) ≡ true) × (are_bytes (drop n bytes) ≡ true)
+are_bytes-parts : (n : ℕ) (bytes : List ℕ) → are_bytes bytes ≡ true → (are_bytes (take n bytes) ≡ true) × (are_bytes (drop n bytes) ≡ true)
 are_bytes-parts n bytes is =
     and-true _ _ (sym (list_all-append is_byte (take n bytes) (drop n bytes)) ∙ ap are_bytes (take-append-drop n bytes) ∙ is)
 
@@ -34,14 +33,12 @@ pub are_bytes-drop : (n : ℕ) (bytes : List ℕ) → are_bytes bytes ≡ true �
 are_bytes-drop n bytes is = (are_bytes-parts n bytes is).1
 
 -- and those of parts that are put together
-pub are_bytes-append : (xs ys : List ℕ) → are_bytes xs ≡ true → are_bytes ys ≡ true
-    → are_bytes (xs ++ ys) ≡ true
+pub are_bytes-append : (xs ys : List ℕ) → are_bytes xs ≡ true → are_bytes ys ≡ true → are_bytes (xs ++ ys) ≡ true
 are_bytes-append xs ys is_xs is_ys = list_all-append is_byte xs ys ∙ and-both _ _ is_xs is_ys
 
 -- numbers below 256 are bytes, and a byte list has them at each place
 pub are_bytes-All : (bytes : List ℕ) → All (λ byte. byte < 256) bytes → are_bytes bytes ≡ true
-are_bytes-All bytes all =
-    list_all-from_AllPass is_byte bytes (λ k d inside. let small = all k d inside in grind (arith, nat_tests))
+are_bytes-All bytes all = list_all-from_AllPass is_byte bytes (λ k d inside. let small = all k d inside in grind (arith, nat_tests))
 
 pub get_or-small : (bytes : List ℕ) → are_bytes bytes ≡ true → (i : ℕ) → get_or bytes i 0 < 256
 get_or-small [] is i = omega arith
@@ -68,7 +65,6 @@ pub of_eight_bytes-eight : (n : ℕ) → n < 2 ^ 64 → of_eight_bytes (eight_by
 unfolding of_eight_bytes eight_bytes
 of_eight_bytes-eight n small = from_be_bytes-to_be_bytes_8 n small
 
-pub eight-of_eight_bytes : (bytes : List ℕ) → length bytes ≡ 8 → are_bytes bytes ≡ true
-    → eight_bytes (of_eight_bytes bytes) ≡ bytes
+pub eight-of_eight_bytes : (bytes : List ℕ) → length bytes ≡ 8 → are_bytes bytes ≡ true → eight_bytes (of_eight_bytes bytes) ≡ bytes
 unfolding of_eight_bytes eight_bytes
 eight-of_eight_bytes bytes eight is = be_bytes_8 bytes _ eight (get_or-small bytes is) refl

@@ -4,6 +4,7 @@ use Rattle.mm_base.specs.Limits.{limit_of, longest_request}
 use Rattle.mm_module.specs.Bytes.{are_bytes}
 use Rattle.mm_module.specs.LineLaws.{All-are_bytes, IsText, IsLine-text}
 use Rattle.mm_module.specs.Meaning.{Meaning, IsLawful, IsShort, outputs_from}
+use Rattle.mm_module.specs.Words.{words_of}
 
 -- a state and what is said, with what holds of each
 pub record IsOutcome {State Says : Type 0} (IsGood : State → Type 0) (IsSaid : Says → Type 0)
@@ -18,6 +19,17 @@ pub record Table (State : Type 0) : Type 0 where
   pub read : List ℕ → State
   pub spelling : State → List ℕ
   pub does : State → List ℕ → State × List ℕ
+
+-- The table of a module that reads its requests word by word: a first state; the state that bytes
+-- spell, and the bytes of a state; the request of these words; what it does; and what is said.
+abbrev pub table_by : {State Request Says : Type 0} → State → (List ℕ → State) → (State → List ℕ)
+    → (List (List ℕ) → Request) → (State → Request → State × Says) → (Says → List ℕ) → Table State
+table_by first read spelling asked outcome text = record {
+  first = first;
+  read = read;
+  spelling = spelling;
+  does = λ state request. let o = outcome state (asked (words_of request)) in (o.0, text o.1);
+}
 
 -- It is the table of a module. Good states are those that spelled bytes spell, of so many bytes at
 -- most; and an output has at most so many.
@@ -44,18 +56,14 @@ is-true b is = search (rules, is)
 -- the outputs from a state
 abbrev pub outputs_by : {State : Type 0} → Table State → State → List (List ℕ) → List (List ℕ)
 outputs_by it state [] = []
-outputs_by it state (request ∷ requests) =
-    (it.does state request).1 ∷ outputs_by it (it.does state request).0 requests
+outputs_by it state (request ∷ requests) = (it.does state request).1 ∷ outputs_by it (it.does state request).0 requests
 
 module _ {State : Type 0} {it : Table State} {meaning : Meaning} {IsGood : State → Type 0}
     {longest most : ℕ} (t : IsTable it meaning IsGood longest most) where
-  said : (state request : List ℕ) → meaning.is_spelled state ≡ true
-      → IsText most (meaning.says state request)
-  said state request is =
-      subst (IsText most) (sym (t.says state request)) (t.tells _ request (t.reads state is))
+  said : (state request : List ℕ) → meaning.is_spelled state ≡ true → IsText most (meaning.says state request)
+  said state request is = subst (IsText most) (sym (t.says state request)) (t.tells _ request (t.reads state is))
 
-  goes : (state request : List ℕ) → meaning.is_spelled state ≡ true
-      → meaning.is_spelled (meaning.next state request) ≡ true
+  goes : (state request : List ℕ) → meaning.is_spelled state ≡ true → meaning.is_spelled (meaning.next state request) ≡ true
   goes state request is =
       ap meaning.is_spelled (t.next state request)
       ∙ t.spells _ (t.stays _ request (t.reads state is))

@@ -28,8 +28,7 @@ are_bytes-IsBytes bytes below =
     list_all-from_AllPass is_byte bytes (λ k d inside. rw (get_or_default_zero bytes k d inside)
     (let small : get_or bytes k 0 < 256 = below k in grind (arith, nat_tests)))
 
-decoded-value : (word : List ℕ) (decoded : Result (List ℕ) FromHexError)
-    → decode_sized word 32 ≡ decoded → MayBeValue (result_ok decoded)
+decoded-value : (word : List ℕ) (decoded : Result (List ℕ) FromHexError) → decode_sized word 32 ≡ decoded → MayBeValue (result_ok decoded)
 decoded-value word (Ok bytes) is =
     let double = decode_sized-ok word 32 bytes is in
     let whole : decode_of word ≡ Ok bytes = sym (decode_sized-twice word 32 double) ∙ is in
@@ -43,8 +42,7 @@ unfolding value_at
 value_at-value word = decoded-value word (decode_sized word 32) refl
 
 -- what each of these numbers passes, and 0, passes each of them and any past the end
-passes_at : (p : ℕ → Bool) (xs : List ℕ) → list_all p xs ≡ true → p 0 ≡ true → (i : ℕ)
-    → p (slice_index xs i) ≡ true
+passes_at : (p : ℕ → Bool) (xs : List ℕ) → list_all p xs ≡ true → p 0 ≡ true → (i : ℕ) → p (slice_index xs i) ≡ true
 passes_at p [] all none i = none
 passes_at p (x ∷ xs) all none zero = (and-true (p x) (list_all p xs) all).0
 passes_at p (x ∷ xs) all none (suc i) = passes_at p xs (and-true (p x) (list_all p xs) all).1 none i

@@ -3,7 +3,7 @@ use Rattle.mm_quota.proofs.Below.{Result, Ok, Err, IfOk, ◌≡◌, ◌+◌, ◌
 use Rattle.mm_quota.proofs.Below.{Option, Some, None, is_some, option_map, if◌then◌else◌, refl, sym, ◌∙◌, ap, arith, subst, nat_tests}
 use Rattle.mm_quota.proofs.Below.{Account, Action, Request, On, Says, account_named, put, decision_of, is_name, is_account, request_of}
 use Rattle.mm_quota.proofs.Below.{rises, account_bytes, body_of, count_bytes, is_state, ledger_of, stepped, greatest_limit, FoundOf}
-use Rattle.mm_quota.proofs.Below.{account_named-found, length-put, is_state-SpellsLedger, IsAccount-from}
+use Rattle.mm_quota.proofs.Below.{account_named-found, length-after, put-place, is_state-SpellsLedger, IsAccount-from}
 use Rattle.mm_quota.proofs.Below.{IsSpelled, as_account}
 use Rattle.std.specs.Prelude.{ℕ, min}
 use Rattle.mm_quota.specs.Table.{spelling_of}
@@ -53,7 +53,7 @@ put-is most bytes name action account is named acts puts =
 count-case : (most : ℕ) (accounts : List Account) (account : Account) (there : Bool) → is_some (account_named account.name accounts) ≡ there
     → rises [] accounts ≡ true → (there ≡ false → nat_le most (length accounts) ≡ false) → most < 2 ^ 16
     → (if there then length accounts else min (length accounts + 1) 65535) ≡ length (put account accounts)
-count-case most accounts account there is rising room small = grind (arith, nat_tests, length-put account accounts rising)
+count-case most accounts account there is rising room small = grind (arith, nat_tests, length-after (put-place account accounts) [] rising)
 
 -- the bytes with the account at its place are those of the ledger with the account
 pub put-spelled : (most count : ℕ) (bytes name front back : List ℕ) (account : Account) (there : Bool) → most < 2 ^ 16 → IsSpelled bytes

@@ -1,5 +1,5 @@
 -- The words and laws that the proofs of this crate take from specs/ and from the crates below.
-pub use Rattle.std.specs.Prelude.{◌&&◌, ◌*◌, ◌++◌, ◌+◌, ◌<◌, ◌^◌, ◌∷◌, ◌≡◌, ◌≤◌, [], Bool, drop, Err, false, IfOk, if◌then◌else◌, is_some}
+pub use Rattle.std.specs.Prelude.{◌&&◌, ◌++◌, ◌+◌, ◌<◌, ◌^◌, ◌∷◌, ◌≡◌, ◌≤◌, [], Bool, drop, Err, false, IfOk, if◌then◌else◌, is_some}
 pub use Rattle.std.specs.Prelude.{length, List, nat_le, None, Ok, Option, option_and_then, option_map, Result, Some, suc, take, true}
 pub use Rattle.std.proofs.Common.{◌-◌, ◌∙◌, ap, append_assoc, arith, length-append, min, refl, rules, subst, sym, ℕ}
 pub use Rattle.std.proofs.lemmas.Bool.Decides.{nat_tests}
@@ -7,7 +7,7 @@ pub use Rattle.mm_module.specs.LineLaws.{and-true, are_bytes-Fits}
 pub use Rattle.mm_module.specs.declared.modules.Stepped.{Stepped}
 pub use Rattle.mm_quota.specs.AccountLaws.{IsAccount-from}
 pub use Rattle.mm_quota.specs.LedgerLaws.{account_named-absent, account_named-found, account_named-other, account_named-this}
-pub use Rattle.mm_quota.specs.LedgerLaws.{bytes_eq-order, FoundOf, length-put}
+pub use Rattle.mm_quota.specs.LedgerLaws.{bytes_eq-order, FoundOf, length-after, put-place}
 pub use Rattle.mm_quota.specs.QuotaLaws.{total_used-le}
 pub use Rattle.mm_quota.specs.Spelled.{follow, IsSpelled}
 pub use Rattle.mm_quota.specs.SpellingLaws.{account_at-account_bytes, accounts_from-reads, is_state-SpellsLedger, ReadsBody}

@@ -13,8 +13,7 @@ use Rattle.mm_module.specs.LineLaws.{and-true, and-both}
 use Rattle.mm_quota.specs.Table.{Account, order_of, account_named, put, rises}
 
 -- names that the order tells apart are not the same bytes
-pub bytes_eq-order : (name other : List ℕ) (order : Ordering) → order_of name other ≡ order
-    → bytes_eq name other ≡ is_eq order
+pub bytes_eq-order : (name other : List ℕ) (order : Ordering) → order_of name other ≡ order → bytes_eq name other ≡ is_eq order
 bytes_eq-order name other order is = texts_ties name other ∙ ap is_eq is
 
 -- names that the order does not tell apart are one
@@ -40,20 +39,17 @@ rises-on previous account accounts rising =
     in record { first = is_lt-Less _ w.0; later = w.1 }
 
 -- an account of another name is passed over
-pub account_named-other : (name : List ℕ) (account : Account) (accounts : List Account)
-    → bytes_eq name account.name ≡ false
+pub account_named-other : (name : List ℕ) (account : Account) (accounts : List Account) → bytes_eq name account.name ≡ false
     → account_named name (account ∷ accounts) ≡ account_named name accounts
 account_named-other name account accounts other = rw other refl
 
 -- an account of the name is found
-pub account_named-this : (name : List ℕ) (account : Account) (accounts : List Account)
-    → bytes_eq name account.name ≡ true
+pub account_named-this : (name : List ℕ) (account : Account) (accounts : List Account) → bytes_eq name account.name ≡ true
     → account_named name (account ∷ accounts) ≡ Some account
 account_named-this name account accounts this = rw this refl
 
 -- where the names rise from a greater one on, there is no account of the name
-pub account_named-absent : (name previous : List ℕ) (accounts : List Account)
-    → order_of name previous ≡ Less
+pub account_named-absent : (name previous : List ℕ) (accounts : List Account) → order_of name previous ≡ Less
     → rises previous accounts ≡ true → account_named name accounts ≡ None
 account_named-absent name previous [] less rising = refl
 account_named-absent name previous (account ∷ accounts) less rising =
@@ -64,7 +60,7 @@ account_named-absent name previous (account ∷ accounts) less rising =
 
 -- Where an account is put: behind all, before a greater name, in the place of its name, or behind
 -- a smaller one.
-data Puts (new : Account) : List Account → List Account → Type 0 where
+pub data Puts (new : Account) : List Account → List Account → Type 0 where
   Last : Puts new [] (new ∷ [])
   Before : {account : Account} {accounts : List Account} → order_of new.name account.name ≡ Less
       → Puts new (account ∷ accounts) (new ∷ account ∷ accounts)
@@ -74,25 +70,22 @@ data Puts (new : Account) : List Account → List Account → Type 0 where
       → order_of new.name account.name ≡ Greater → Puts new accounts after
       → Puts new (account ∷ accounts) (account ∷ after)
 
-puts-by : (new account : Account) (accounts : List Account) (order : Ordering)
-    → order_of new.name account.name ≡ order → Puts new accounts (put new accounts)
-    → Puts new (account ∷ accounts)
-    (match_ordering order (new ∷ account ∷ accounts) (new ∷ accounts) (account ∷ put new accounts))
+puts-by : (new account : Account) (accounts : List Account) (order : Ordering) → order_of new.name account.name ≡ order
+    → Puts new accounts (put new accounts)
+    → Puts new (account ∷ accounts) (match_ordering order (new ∷ account ∷ accounts) (new ∷ accounts) (account ∷ put new accounts))
 puts-by new account accounts Less is later = Before is
 puts-by new account accounts Equal is later = Instead is
 puts-by new account accounts Greater is later = Behind is later
 
-puts : (new : Account) (accounts : List Account) → Puts new accounts (put new accounts)
-puts new [] = Last
-puts new (account ∷ accounts) = puts-by new account accounts _ refl (puts new accounts)
+pub put-place : (new : Account) (accounts : List Account) → Puts new accounts (put new accounts)
+put-place new [] = Last
+put-place new (account ∷ accounts) = puts-by new account accounts _ refl (put-place new accounts)
 
 -- a put keeps names that rise
-rises-after : {new : Account} {accounts after : List Account} → Puts new accounts after
-    → (previous : List ℕ) → order_of previous new.name ≡ Less
-    → rises previous accounts ≡ true → rises previous after ≡ true
+pub rises-after : {new : Account} {accounts after : List Account} → Puts new accounts after → (previous : List ℕ)
+    → order_of previous new.name ≡ Less → rises previous accounts ≡ true → rises previous after ≡ true
 rises-after Last previous less rising = rw less refl
-rises-after (Before {account} {accounts} is) previous less rising =
-    rw (less, is) (rises-on previous account accounts rising).later
+rises-after (Before {account} {accounts} is) previous less rising = rw (less, is) (rises-on previous account accounts rising).later
 rises-after {new = new} (Instead {account} {accounts} is) previous less rising =
     rw (less, order-Equal new.name account.name is)
     (rises-on previous account accounts rising).later
@@ -101,33 +94,20 @@ rises-after {new = new} (Behind {account} {accounts} is later) previous less ris
     rw r.first
     (rises-after later account.name (order-turned new.name account.name is) r.later)
 
-pub rises-put : (previous : List ℕ) (new : Account) (accounts : List Account)
-    → order_of previous new.name ≡ Less
-    → rises previous accounts ≡ true → rises previous (put new accounts) ≡ true
-rises-put previous new accounts less rising =
-    rises-after (puts new accounts) previous less rising
-
 -- and a test of each account
-all-after : {new : Account} {accounts after : List Account} → Puts new accounts after
+pub all-after : {new : Account} {accounts after : List Account} → Puts new accounts after
     → (p : Account → Bool) → p new ≡ true → list_all p accounts ≡ true → list_all p after ≡ true
 all-after Last p is all = rw is refl
 all-after (Before _) p is all = rw is all
-all-after (Instead {account} {accounts} _) p is all =
-    rw is (and-true (p account) (list_all p accounts) all).1
+all-after (Instead {account} {accounts} _) p is all = rw is (and-true (p account) (list_all p accounts) all).1
 all-after (Behind {account} {accounts} _ later) p is all =
     let w = and-true (p account) (list_all p accounts) all in
     and-both _ _ w.0 (all-after later p is w.1)
 
-pub list_all-put : (p : Account → Bool) (new : Account) (accounts : List Account) → p new ≡ true
-    → list_all p accounts ≡ true
-    → list_all p (put new accounts) ≡ true
-list_all-put p new accounts is all = all-after (puts new accounts) p is all
-
 -- it adds an account where there is none of the name
-length-after : {new : Account} {accounts after : List Account} → Puts new accounts after
-    → (previous : List ℕ) → rises previous accounts ≡ true
-    → length after ≡ (if is_some (account_named new.name accounts) then length accounts
-    else suc (length accounts))
+pub length-after : {new : Account} {accounts after : List Account} → Puts new accounts after → (previous : List ℕ)
+    → rises previous accounts ≡ true
+    → length after ≡ (if is_some (account_named new.name accounts) then length accounts else suc (length accounts))
 length-after Last previous rising = refl
 length-after {new = new} (Before {account} {accounts} is) previous rising =
     rw (
@@ -135,33 +115,20 @@ length-after {new = new} (Before {account} {accounts} is) previous rising =
       account_named-absent new.name account.name
           accounts is (rises-on previous account accounts rising).later,
     ) refl
-length-after {new = new} (Instead {account} is) previous rising =
-    rw (bytes_eq-order new.name account.name Equal is) refl
+length-after {new = new} (Instead {account} is) previous rising = rw (bytes_eq-order new.name account.name Equal is) refl
 length-after {new = new} (Behind {account} {accounts} is later) previous rising =
     let more = length-after later account.name (rises-on previous account accounts rising).later in
     rw (bytes_eq-order new.name account.name Greater is) (grind (arith, more))
 
-pub length-put : (new : Account) (accounts : List Account) → rises [] accounts ≡ true
-    → length (put new accounts) ≡ (if is_some (account_named new.name accounts) then length accounts
-    else suc (length accounts))
-length-put new accounts rising = length-after (puts new accounts) [] rising
-
 -- accounts of other names stay
-others-after : {new : Account} {accounts after : List Account} → Puts new accounts after
-    → (name : List ℕ) → bytes_eq name new.name ≡ false
-    → account_named name after ≡ account_named name accounts
+pub others-after : {new : Account} {accounts after : List Account} → Puts new accounts after → (name : List ℕ)
+    → bytes_eq name new.name ≡ false → account_named name after ≡ account_named name accounts
 others-after Last name other = rw other refl
 others-after (Before _) name other = rw other refl
-others-after {new = new} (Instead {account} {accounts} is) name other =
-    rw (other, ← order-Equal new.name account.name is, other) refl
+others-after {new = new} (Instead {account} {accounts} is) name other = rw (other, ← order-Equal new.name account.name is, other) refl
 others-after (Behind {account} _ later) name other =
     ap (λ found. if bytes_eq name account.name then Some account else found)
     (others-after later name other)
-
-pub account_named-put-other : (name : List ℕ) (new : Account) (accounts : List Account)
-    → bytes_eq name new.name ≡ false
-    → account_named name (put new accounts) ≡ account_named name accounts
-account_named-put-other name new accounts other = others-after (puts new accounts) name other
 
 -- an account that was found has the name and passes the test of all
 pub record IsFound (p : Account → Bool) (wanted : List ℕ) (account : Account) : Type 0 where
@@ -172,13 +139,11 @@ abbrev pub FoundOf : (Account → Bool) → List ℕ → Option Account → Type
 FoundOf p name None = Unit {0}
 FoundOf p name (Some account) = IsFound p name account
 
-found-first : (p : Account → Bool) (name : List ℕ) (account : Account) (more : Option Account)
-    → p account ≡ true → FoundOf p name more
+found-first : (p : Account → Bool) (name : List ℕ) (account : Account) (more : Option Account) → p account ≡ true → FoundOf p name more
     → FoundOf p name (if bytes_eq name account.name then Some account else more)
 found-first p name account more passed later = grind (arith, bytes_eq-Decides name account.name)
 
-pub account_named-found : (p : Account → Bool) (name : List ℕ) (accounts : List Account)
-    → list_all p accounts ≡ true
+pub account_named-found : (p : Account → Bool) (name : List ℕ) (accounts : List Account) → list_all p accounts ≡ true
     → FoundOf p name (account_named name accounts)
 account_named-found p name [] all = tt
 account_named-found p name (account ∷ accounts) all =

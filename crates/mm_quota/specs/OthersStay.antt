@@ -5,7 +5,7 @@ use Rattle.std.specs.Str.{bytes_eq}
 use Rattle.std.proofs.lemmas.Slice.Eq.{bytes_eq-Decides}
 use Rattle.mm_module.specs.Words.{words_of}
 use Rattle.mm_quota.specs.Table.{Account, Request, Sum, On, account_named, settled, outcome_of, request_of, is_account, spelling_of, is_state, ledger_of, stepped}
-use Rattle.mm_quota.specs.LedgerLaws.{account_named-found, account_named-put-other}
+use Rattle.mm_quota.specs.LedgerLaws.{account_named-found, others-after, put-place}
 use Rattle.mm_quota.specs.Spelled.{IsLedger}
 use Rattle.mm_quota.specs.SpellingLaws.{is_state-SpellsLedger, ledger_of-spelling_of}
 use Rattle.mm_quota.specs.QuotaLaws.{IsQuotaRequest, request_of-IsQuotaRequest, PutIf, decision_of-is, outcome-IsOutcome}
@@ -29,7 +29,7 @@ settled-others : (full : Bool) (wanted name : List ℕ) (accounts : List Account
 settled-others full wanted name accounts None is apart = refl
 settled-others full wanted name accounts (Some account) is apart =
     let named = is.named in
-    account_named-put-other name account accounts
+    others-after (put-place account accounts) name
     (differ (bytes_eq name account.name) (λ same. apart
     (sym named ∙ sym ((bytes_eq-Decides name account.name).0 same))))
   where

@@ -7,10 +7,10 @@ use Rattle.std.proofs.lemmas.Bool.Decides.{nat_tests}
 use Rattle.mm_base.specs.Limits.{limit_of}
 use Rattle.mm_module.specs.LineLaws.{and-true, IsText, is_unbroken-decimal, length-decimal}
 use Rattle.mm_module.specs.Meaning.{IsLawful, IsShort}
-use Rattle.mm_module.specs.TableLaws.{Table, IsTable, IsOutcome, table_is_lawful, table_is_short}
+use Rattle.mm_module.specs.TableLaws.{Table, IsTable, IsOutcome, table_by, table_is_lawful, table_is_short}
 use Rattle.mm_module.specs.Words.{words_of}
 use Rattle.mm_quota.specs.Table.{Account, Action, Open, Request, Sum, On, Says, IsUsed, IsOver, IsUnder, HasLeft, HasSum, order_of, account_named, total_used, decision_of, settled, outcome_of, text_of, is_name, request_of, is_account, count_bytes, spelling_of, ledger_of, stepped, quota, greatest_limit}
-use Rattle.mm_quota.specs.LedgerLaws.{rises-put, list_all-put, length-put, FoundOf, account_named-found}
+use Rattle.mm_quota.specs.LedgerLaws.{put-place, rises-after, all-after, length-after, FoundOf, account_named-found}
 use Rattle.mm_quota.specs.Spelled.{IsLedger}
 use Rattle.mm_quota.specs.SpellingLaws.{is_state-SpellsLedger, are_bytes-state, length-spelling_of, is_state-spelling_of, ledger_of-spelling_of}
 use Rattle.mm_quota.specs.AccountLaws.{IsAccount-from, is_account-made}
@@ -55,12 +55,9 @@ pub record IsDecision (full : Bool) (wanted : List ℕ) (found : Option Account)
   pub change : PutIf full wanted found decision.0
   pub said : SaysNumber decision.1
 
-pub decision_of-is : (full : Bool) (name : List ℕ) (found : Option Account) (action : Action)
-    → is_name name ≡ true → IsAction action
-    → FoundOf is_account name found
-    → IsDecision full name found (decision_of full name found action)
-decision_of-is full name found action named is there =
-    grind (arith, nat_tests, IsAccount-from, is_account-made)
+pub decision_of-is : (full : Bool) (name : List ℕ) (found : Option Account) (action : Action) → is_name name ≡ true → IsAction action
+    → FoundOf is_account name found → IsDecision full name found (decision_of full name found action)
+decision_of-is full name found action named is there = grind (arith, nat_tests, IsAccount-from, is_account-made)
 
 -- a name is greater than no bytes
 order-empty : (name : List ℕ) → 1 ≤ length name → order_of [] name ≡ Less
@@ -69,34 +66,29 @@ order-empty (x ∷ xs) some = refl
 
 -- a decision keeps a ledger
 settled-ledger : (most : ℕ) (accounts : List Account) (name : List ℕ) (change : Option Account)
-    → PutIf (nat_le most (length accounts)) name (account_named name accounts) change
-    → IsLedger most accounts
+    → PutIf (nat_le most (length accounts)) name (account_named name accounts) change → IsLedger most accounts
     → IsLedger most (settled accounts change)
 settled-ledger most accounts name None is ledger = ledger
 settled-ledger most accounts name (Some account) is ledger =
     let kept = IsAccount-from account is.good in
     record {
       few =
-          let longer = length-put account accounts ledger.rising in
+          let longer = length-after (put-place account accounts) [] ledger.rising in
           let room = is.room in grind (arith, nat_tests);
-      good = list_all-put is_account account accounts is.good ledger.good;
-      rising =
-          rises-put [] account accounts (order-empty account.name kept.named.some) ledger.rising;
+      good = all-after (put-place account accounts) is_account is.good ledger.good;
+      rising = rises-after (put-place account accounts) [] (order-empty account.name kept.named.some) ledger.rising;
     }
 
 -- the sum of what is used
-pub total_used-le : (accounts : List Account) → list_all is_account accounts ≡ true
-    → total_used accounts ≤ greatest_limit * length accounts
+pub total_used-le : (accounts : List Account) → list_all is_account accounts ≡ true → total_used accounts ≤ greatest_limit * length accounts
 total_used-le [] all = omega arith
 total_used-le (account ∷ accounts) all =
     let w = and-true (is_account account) (list_all is_account accounts) all in
     let kept = IsAccount-from account w.0 in
     omega (arith, kept.limited, kept.within, total_used-le accounts w.1)
 
-outcome_of-is : (most : ℕ) (accounts : List Account) (request : Option Request) → most < 2 ^ 16
-    → IsLedger most accounts
-    → IsQuotaRequest request
-    → IsOutcome (IsLedger most) SaysNumber (outcome_of most accounts request)
+outcome_of-is : (most : ℕ) (accounts : List Account) (request : Option Request) → most < 2 ^ 16 → IsLedger most accounts
+    → IsQuotaRequest request → IsOutcome (IsLedger most) SaysNumber (outcome_of most accounts request)
 outcome_of-is most accounts (Some Sum) small ledger asked =
     record { state = ledger; said = omega (arith, total_used-le accounts ledger.good, ledger.few) }
 outcome_of-is most accounts (Some (On name action)) small ledger asked =
@@ -106,10 +98,8 @@ outcome_of-is most accounts (Some (On name action)) small ledger asked =
     record { state = settled-ledger most accounts name _ d.change ledger; said = d.said }
 outcome_of-is most accounts None small ledger asked = record { state = ledger; said = tt }
 
-pub outcome-IsOutcome : (most : ℕ) (accounts : List Account) (request : List ℕ) → most < 2 ^ 16
-    → IsLedger most accounts
-    → IsOutcome (IsLedger most) SaysNumber
-    (outcome_of most accounts (request_of (words_of request)))
+pub outcome-IsOutcome : (most : ℕ) (accounts : List Account) (request : List ℕ) → most < 2 ^ 16 → IsLedger most accounts
+    → IsOutcome (IsLedger most) SaysNumber (outcome_of most accounts (request_of (words_of request)))
 outcome-IsOutcome most accounts request small ledger =
     outcome_of-is most accounts _ small ledger (request_of-IsQuotaRequest (words_of request))
 
@@ -122,17 +112,10 @@ unfolding spelling_of count_bytes
 empty_bytes = refl
 
 abbrev pub quota_table : ℕ → Table (List Account)
-quota_table most = record {
-  first = [];
-  read = ledger_of;
-  spelling = spelling_of;
-  does = λ accounts request.
-      let o = outcome_of most accounts (request_of (words_of request)) in (o.0, text_of o.1);
-}
+quota_table most = table_by [] ledger_of spelling_of request_of (outcome_of most) text_of
 
 -- a ledger that its id allows is a module
-pub quota_is_table : (id most : ℕ) → most < 2 ^ 16
-    → IsTable (quota_table most) (quota id most) (IsLedger most) (2 + 49 * most) 26
+pub quota_is_table : (id most : ℕ) → most < 2 ^ 16 → IsTable (quota_table most) (quota id most) (IsLedger most) (2 + 49 * most) 26
 unfolding stepped
 quota_is_table id most small = record {
   begins = empty_bytes;
@@ -152,10 +135,8 @@ quota_is_table id most small = record {
   bytes = are_bytes-state most;
 }
 
-pub quota_is_lawful : (id most : ℕ) → most < 2 ^ 16 → 2 + 49 * most ≤ limit_of id
-    → IsLawful (quota id most)
-quota_is_lawful id most small allowed =
-    table_is_lawful (quota_is_table id most small) allowed (omega arith)
+pub quota_is_lawful : (id most : ℕ) → most < 2 ^ 16 → 2 + 49 * most ≤ limit_of id → IsLawful (quota id most)
+quota_is_lawful id most small allowed = table_is_lawful (quota_is_table id most small) allowed (omega arith)
 
 -- the small ledger is short
 pub quota_is_short : (id : ℕ) → IsShort (quota id 256)

@@ -28,8 +28,7 @@ of_count_bytes-count_bytes : (n : ℕ) → n < 2 ^ 16 → of_count_bytes (count_
 unfolding of_count_bytes count_bytes
 of_count_bytes-count_bytes n small = from_be_bytes-to_be_bytes_2 n small
 
-count_bytes-of_count_bytes : (bytes : List ℕ) → length bytes ≡ 2 → are_bytes bytes ≡ true
-    → count_bytes (of_count_bytes bytes) ≡ bytes
+count_bytes-of_count_bytes : (bytes : List ℕ) → length bytes ≡ 2 → are_bytes bytes ≡ true → count_bytes (of_count_bytes bytes) ≡ bytes
 unfolding of_count_bytes count_bytes
 count_bytes-of_count_bytes bytes two is = be_bytes_2 bytes _ two (get_or-small bytes is) refl
 
@@ -69,10 +68,8 @@ abbrev pub IsFront : List ℕ → Option (Account × List ℕ) → Type 0
 IsFront bytes None = Unit {0}
 IsFront bytes (Some front) = bytes ≡ account_bytes front.0 ++ front.1
 
-eight-front : (bytes : List ℕ) → are_bytes bytes ≡ true → 8 ≤ length bytes
-    → eight_bytes (of_eight_bytes (take 8 bytes)) ≡ take 8 bytes
-eight-front bytes is long =
-    eight-of_eight_bytes _ (length-take-le 8 bytes long) (are_bytes-take 8 bytes is)
+eight-front : (bytes : List ℕ) → are_bytes bytes ≡ true → 8 ≤ length bytes → eight_bytes (of_eight_bytes (take 8 bytes)) ≡ take 8 bytes
+eight-front bytes is long = eight-of_eight_bytes _ (length-take-le 8 bytes long) (are_bytes-take 8 bytes is)
 
 account-front : (count : ℕ) (bytes : List ℕ) → are_bytes bytes ≡ true → count + 16 ≤ length bytes
     → count ∷ bytes ≡ account_bytes (record {
@@ -110,21 +107,18 @@ abbrev pub ReadsBody : ℕ → List ℕ → Option (List Account) → Type 0
 ReadsBody count bytes None = Unit {0}
 ReadsBody count bytes (Some accounts) = IsBody count bytes accounts
 
-more-read : (count : ℕ) (bytes : List ℕ) (account : Account) (rest : List ℕ)
-    (accounts : Option (List Account))
+more-read : (count : ℕ) (bytes : List ℕ) (account : Account) (rest : List ℕ) (accounts : Option (List Account))
     → bytes ≡ account_bytes account ++ rest → ReadsBody count rest accounts
     → ReadsBody (suc count) bytes (option_map (λ others. account ∷ others) accounts)
 more-read count bytes account rest accounts whole reads = grind arith
 
-after-front : (bytes : List ℕ) (account : Account) (rest : List ℕ)
-    → bytes ≡ account_bytes account ++ rest → are_bytes bytes ≡ true
+after-front : (bytes : List ℕ) (account : Account) (rest : List ℕ) → bytes ≡ account_bytes account ++ rest → are_bytes bytes ≡ true
     → are_bytes rest ≡ true
 after-front bytes account rest whole is =
     (and-true _ _ (sym (list_all-append is_byte (account_bytes account) rest)
     ∙ ap (λ (b : List ℕ). are_bytes b) (sym whole) ∙ is)).1
 
-pub accounts_from-reads : (count : ℕ) (bytes : List ℕ) → are_bytes bytes ≡ true
-    → ReadsBody count bytes (accounts_from count bytes)
+pub accounts_from-reads : (count : ℕ) (bytes : List ℕ) → are_bytes bytes ≡ true → ReadsBody count bytes (accounts_from count bytes)
 accounts_from-reads zero [] is = record { whole = refl; counted = refl }
 accounts_from-reads zero (x ∷ xs) is = grind (arith, nat_tests)
 accounts_from-reads (suc count) bytes is =
@@ -149,36 +143,29 @@ accounts_from-body_of (account ∷ accounts) all =
     rw (account_at-account_bytes account (body_of accounts) w.0)
     (rw (accounts_from-body_of accounts w.1) refl)
 
-IsLedger-from : (most : ℕ) (accounts : List Account) → is_ledger most accounts ≡ true
-    → IsLedger most accounts
+IsLedger-from : (most : ℕ) (accounts : List Account) → is_ledger most accounts ≡ true → IsLedger most accounts
 unfolding is_ledger
 IsLedger-from most accounts is = grind (arith, nat_tests)
 
-is_ledger-IsLedger : (most : ℕ) (accounts : List Account) → IsLedger most accounts
-    → is_ledger most accounts ≡ true
+is_ledger-IsLedger : (most : ℕ) (accounts : List Account) → IsLedger most accounts → is_ledger most accounts ≡ true
 unfolding is_ledger
 is_ledger-IsLedger most accounts is = grind (arith, nat_tests)
 
 -- a spelled ledger is that of its bytes
 abbrev Reads : List ℕ → Option (List Account) → Type 0
 Reads bytes None = Unit {0}
-Reads bytes (Some accounts) =
-    (2 ≤ length bytes) × IsBody (of_count_bytes (take 2 bytes)) (drop 2 bytes) accounts
+Reads bytes (Some accounts) = (2 ≤ length bytes) × IsBody (of_count_bytes (take 2 bytes)) (drop 2 bytes) accounts
 
-reads-by : (bytes : List ℕ) (read : Option (List Account))
-    → ReadsBody (of_count_bytes (take 2 bytes)) (drop 2 bytes) read
+reads-by : (bytes : List ℕ) (read : Option (List Account)) → ReadsBody (of_count_bytes (take 2 bytes)) (drop 2 bytes) read
     → Reads bytes (if nat_le 2 (length bytes) then read else None)
 reads-by bytes read reads = grind (arith, nat_tests)
 
 accounts_of-reads : (bytes : List ℕ) → are_bytes bytes ≡ true → Reads bytes (accounts_of bytes)
 unfolding accounts_of
-accounts_of-reads bytes is =
-    reads-by bytes _ (accounts_from-reads _ (drop 2 bytes) (are_bytes-drop 2 bytes is))
+accounts_of-reads bytes is = reads-by bytes _ (accounts_from-reads _ (drop 2 bytes) (are_bytes-drop 2 bytes is))
 
-spells-by : (most : ℕ) (bytes : List ℕ) (accounts : Option (List Account))
-    → are_bytes bytes ≡ true → Reads bytes accounts
-    → holds_ledger most accounts ≡ true → accounts_of bytes ≡ accounts
-    → SpellsLedger most bytes
+spells-by : (most : ℕ) (bytes : List ℕ) (accounts : Option (List Account)) → are_bytes bytes ≡ true → Reads bytes accounts
+    → holds_ledger most accounts ≡ true → accounts_of bytes ≡ accounts → SpellsLedger most bytes
 unfolding spelling_of ledger_of
 spells-by most bytes None is reads holds read = cc
 spells-by most bytes (Some accounts) is reads holds read =
@@ -193,29 +180,24 @@ spells-by most bytes (Some accounts) is reads holds read =
       headed = reads.0;
     }
 
-pub are_bytes-state : (most : ℕ) (bytes : List ℕ) → is_state most bytes ≡ true
-    → are_bytes bytes ≡ true
+pub are_bytes-state : (most : ℕ) (bytes : List ℕ) → is_state most bytes ≡ true → are_bytes bytes ≡ true
 unfolding is_state
-are_bytes-state most bytes is =
-    (and-true (are_bytes bytes) (holds_ledger most (accounts_of bytes)) is).0
+are_bytes-state most bytes is = (and-true (are_bytes bytes) (holds_ledger most (accounts_of bytes)) is).0
 
-pub is_state-SpellsLedger : (most : ℕ) (bytes : List ℕ) → is_state most bytes ≡ true
-    → SpellsLedger most bytes
+pub is_state-SpellsLedger : (most : ℕ) (bytes : List ℕ) → is_state most bytes ≡ true → SpellsLedger most bytes
 unfolding is_state
 is_state-SpellsLedger most bytes is =
     let w = and-true (are_bytes bytes) (holds_ledger most (accounts_of bytes)) is in
     spells-by most bytes _ w.0 (accounts_of-reads bytes w.0) w.1 refl
 
 -- the bytes of a ledger are bytes
-are_bytes-account_bytes : (account : Account) → is_account account ≡ true
-    → are_bytes (account_bytes account) ≡ true
+are_bytes-account_bytes : (account : Account) → is_account account ≡ true → are_bytes (account_bytes account) ≡ true
 unfolding account_bytes
 are_bytes-account_bytes account is =
     let kept = (IsAccount-from account is).named in
     grind (arith, nat_tests, are_bytes-append, are_bytes-visible, are_bytes-eight)
 
-are_bytes-body_of : (accounts : List Account) → list_all is_account accounts ≡ true
-    → are_bytes (body_of accounts) ≡ true
+are_bytes-body_of : (accounts : List Account) → list_all is_account accounts ≡ true → are_bytes (body_of accounts) ≡ true
 are_bytes-body_of [] all = refl
 are_bytes-body_of (account ∷ accounts) all =
     let w = and-true (is_account account) (list_all is_account accounts) all in
@@ -223,13 +205,11 @@ are_bytes-body_of (account ∷ accounts) all =
     (are_bytes-account_bytes account w.0) (are_bytes-body_of accounts w.1)
 
 -- an account has at most 49 bytes
-length-account_bytes : (account : Account)
-    → length (account_bytes account) ≡ length account.name + 17
+length-account_bytes : (account : Account) → length (account_bytes account) ≡ length account.name + 17
 unfolding account_bytes
 length-account_bytes account = omega (arith, length-append {A = ℕ}, length-eight)
 
-length-body_of : (accounts : List Account) → list_all is_account accounts ≡ true
-    → length (body_of accounts) ≤ 49 * length accounts
+length-body_of : (accounts : List Account) → list_all is_account accounts ≡ true → length (body_of accounts) ≤ 49 * length accounts
 length-body_of [] all = omega arith
 length-body_of (account ∷ accounts) all =
     let w = and-true (is_account account) (list_all is_account accounts) all in
@@ -241,8 +221,7 @@ length-body_of (account ∷ accounts) all =
       length-body_of accounts w.1,
     )
 
-pub length-spelling_of : (most : ℕ) (accounts : List Account) → IsLedger most accounts
-    → length (spelling_of accounts) ≤ 2 + 49 * most
+pub length-spelling_of : (most : ℕ) (accounts : List Account) → IsLedger most accounts → length (spelling_of accounts) ≤ 2 + 49 * most
 unfolding spelling_of
 length-spelling_of most accounts is = omega (
   arith,
@@ -253,8 +232,7 @@ length-spelling_of most accounts is = omega (
 )
 
 -- a ledger is read that the bytes spell
-accounts_of-spelling_of : (accounts : List Account) → length accounts < 2 ^ 16
-    → list_all is_account accounts ≡ true
+accounts_of-spelling_of : (accounts : List Account) → length accounts < 2 ^ 16 → list_all is_account accounts ≡ true
     → accounts_of (spelling_of accounts) ≡ Some accounts
 unfolding accounts_of spelling_of
 accounts_of-spelling_of accounts few all =
@@ -269,16 +247,14 @@ accounts_of-spelling_of accounts few all =
       of_count_bytes-count_bytes (length accounts) few,
     ) (accounts_from-body_of accounts all)
 
-pub ledger_of-spelling_of : (most : ℕ) (accounts : List Account) → most < 2 ^ 16
-    → IsLedger most accounts
+pub ledger_of-spelling_of : (most : ℕ) (accounts : List Account) → most < 2 ^ 16 → IsLedger most accounts
     → ledger_of (spelling_of accounts) ≡ accounts
 unfolding ledger_of
 ledger_of-spelling_of most accounts small is =
     ap (λ (read : Option (List Account)). unwrap_or read [])
     (accounts_of-spelling_of accounts (omega (arith, is.few)) is.good)
 
-pub is_state-spelling_of : (most : ℕ) (accounts : List Account) → most < 2 ^ 16
-    → IsLedger most accounts
+pub is_state-spelling_of : (most : ℕ) (accounts : List Account) → most < 2 ^ 16 → IsLedger most accounts
     → is_state most (spelling_of accounts) ≡ true
 unfolding is_state
 is_state-spelling_of most accounts small is =

@@ -1,5 +1,5 @@
 -- What the code reads of a state.
-use Rattle.mm_receipt.proofs.Below.{◌≡◌, ◌≢◌, ℕ, zero, suc, ◌<◌, ◌≤◌, Bool, true, false, List, [], ◌∷◌, length, take, drop, refl, sym}
+use Rattle.mm_receipt.proofs.Below.{◌≡◌, ◌≢◌, ℕ, ◌<◌, ◌≤◌, Bool, true, false, List, [], length, take, drop, refl, sym}
 use Rattle.mm_receipt.proofs.Below.{ap, subst, arith, rules, IsTrue, last_position, Meaning, parts_by, receipt_parts, ReceiptState}
 use Rattle.mm_receipt.proofs.Below.{is_front, receipt_state_in, SpellsKept, SpellsKept-from, kept_of-IsKept, is-true}
 use Rattle.std.specs.Prelude.{None}

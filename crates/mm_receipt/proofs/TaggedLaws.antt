@@ -1,9 +1,9 @@
 -- What receipts prove of a run: a message tells its parts, and the count of a state is the position.
-use Rattle.mm_receipt.proofs.Below.{inl, inr, ◌≡◌, ◌≢◌, ℕ, zero, suc, ◌+◌, ◌<◌, ◌≤◌, ◌^◌, List, [], ◌∷◌}
+use Rattle.mm_receipt.proofs.Below.{inl, inr, ◌≡◌, ◌≢◌, ℕ, suc, ◌+◌, ◌<◌, ◌≤◌, ◌^◌, List, [], ◌∷◌}
 use Rattle.mm_receipt.proofs.Below.{◌++◌, length, take, drop, Some, refl, sym, ◌∙◌, ap, arith, length-append, slice_get}
 use Rattle.mm_receipt.proofs.Below.{Ok, ◌⊎◌, last_position, longest_request, Meaning, outputs_from}
 use Rattle.mm_receipt.proofs.Below.{digits_of, receipt_of, parts_by, verified_by, verified, ReceiptState, outcome_of}
-use Rattle.mm_receipt.proofs.Below.{first_kept, spelling_of, receipt_state_in, receipted, IsKept, kept_of-spelling_of, outcome_of-IsKept}
+use Rattle.mm_receipt.proofs.Below.{first_kept, spelling_of, receipted, IsKept, kept_of-spelling_of, outcome_of-IsKept}
 use Rattle.std.specs.List.{AllByRecursion}
 use Rattle.std.proofs.lemmas.Bool.Decides.{nat_tests}
 use Rattle.std.proofs.lemmas.List.{drop-drop, take-append-drop}

@@ -2,18 +2,15 @@
 use Rattle.std.specs.Prelude.{List, ℕ, ◌++◌, codes}
 use Rattle.std.proofs.Common.{refl, ap}
 use Rattle.mm_module.specs.Meaning.{Meaning, IsShort}
-use Rattle.mm_listing.specs.Listing.{Listing, IsListing, IsName, promises_nothing}
+use Rattle.mm_listing.specs.Listing.{Listing, listing_of, IsListing, IsName, promises_nothing}
 use Rattle.mm_receipt.specs.ReceiptedLaws.{receipted_is_lawful}
 use Rattle.mm_receipt.specs.Table.{receipted}
 
 -- `receipt-` and the name of the module inside, whose requests it is asked
 abbrev pub receipt_listing : Listing → Listing
-receipt_listing inner = record {
-  name = codes "receipt-" ++ inner.name;
-  meaning = receipted inner.meaning;
-  request = inner.request;
-  promise = promises_nothing;
-}
+receipt_listing inner =
+    listing_of (codes "receipt-" ++ inner.name) (receipted inner.meaning) inner.request
+    promises_nothing
 
 receipt_named : (name : List ℕ) → IsName name → IsName (codes "receipt-" ++ name)
 receipt_named name is = record { begins = refl; letters = is.letters; other = refl }

@@ -26,21 +26,17 @@ pub record IsKept (kept : ReceiptState) : Type 0 where
   pub keyed : MayBeValue kept.key
 
 -- what is kept after a request has its form too
-pub outcome_of-IsKept : (inner : Meaning) (kept : ReceiptState) (request : List ℕ) → IsKept kept
-    → IsKept (outcome_of inner kept request).0
+pub outcome_of-IsKept : (inner : Meaning) (kept : ReceiptState) (request : List ℕ) → IsKept kept → IsKept (outcome_of inner kept request).0
 outcome_of-IsKept inner kept request good = grind (arith, nat_tests, value_at-value)
 
 -- a key and a state inside are read back
 kept_by-joined : (count : ℕ) (key : Option (List ℕ)) (inner : List ℕ) → MayBeValue key
-    → as_receipt_state count
-    (key_bytes key ++ inner) ≡ record { count = count; key = key; inner = inner }
+    → as_receipt_state count (key_bytes key ++ inner) ≡ record { count = count; key = key; inner = inner }
 kept_by-joined count None inner is = refl
-kept_by-joined count (Some key) inner is =
-    rw (take-front 32 key inner is.long, drop-front 32 key inner is.long) refl
+kept_by-joined count (Some key) inner is = rw (take-front 32 key inner is.long, drop-front 32 key inner is.long) refl
 
 -- a spelling is read back
-pub kept_of-spelling_of : (kept : ReceiptState) → IsKept kept
-    → receipt_state_in (spelling_of kept) ≡ kept
+pub kept_of-spelling_of : (kept : ReceiptState) → IsKept kept → receipt_state_in (spelling_of kept) ≡ kept
 unfolding receipt_state_in
 kept_of-spelling_of kept good =
     let behind = key_bytes kept.key ++ kept.inner in
@@ -50,8 +46,7 @@ kept_of-spelling_of kept good =
       of_eight_bytes-eight kept.count (omega (arith, good.few)),
     ) (kept_by-joined kept.count kept.key kept.inner good.keyed)
 
-is_keyed-joined : (key : Option (List ℕ)) (inner : List ℕ)
-    → is_keyed (key_bytes key ++ inner) ≡ true
+is_keyed-joined : (key : Option (List ℕ)) (inner : List ℕ) → is_keyed (key_bytes key ++ inner) ≡ true
 is_keyed-joined None inner = refl
 is_keyed-joined (Some key) inner = refl
 
@@ -64,28 +59,16 @@ bytes-key_bytes key is = grind arith
 is_front-spelling_of : (kept : ReceiptState) → IsKept kept → is_front (spelling_of kept) ≡ true
 is_front-spelling_of kept good =
     let behind = key_bytes kept.key ++ kept.inner in
-    let enough : 41 ≤ length (eight_bytes kept.count ++ behind) =
-    omega (
-      arith,
-      length-append (eight_bytes kept.count) behind,
-      length-eight kept.count,
-      length-append (key_bytes kept.key) kept.inner,
-      length-key_bytes kept.key good.keyed,
-    ) in
     let few : kept.count ≤ last_position = good.few in
-    let long : nat_le 41 (length (eight_bytes kept.count ++ behind)) ≡ true =
-    grind (arith, nat_tests) in
-    let room : nat_le kept.count last_position ≡ true = grind (arith, nat_tests) in
-    rw (
-      take-front 8 (eight_bytes kept.count) behind (length-eight kept.count),
-      drop-front 8 (eight_bytes kept.count) behind (length-eight kept.count),
-      of_eight_bytes-eight kept.count (omega (arith, few)),
-      is_keyed-joined kept.key kept.inner,
-    ) (and-both _ _ long (and-both _ _ room refl))
+    let eight = length-eight kept.count in
+    let count = of_eight_bytes-eight kept.count (omega (arith, few)) in
+    let keyed = is_keyed-joined kept.key kept.inner in
+    let long = length-key_bytes kept.key good.keyed in
+    rw (take-front 8 (eight_bytes kept.count) behind eight, drop-front 8 (eight_bytes kept.count) behind eight)
+    (rw (count, keyed) (grind (arith, nat_tests, length-append)))
 
 -- what is kept spells a state, where the state inside is spelled
-is_state-spelling_of : (inner : Meaning) → IsLawful inner → (kept : ReceiptState) → IsKept kept
-    → inner.is_spelled kept.inner ≡ true
+is_state-spelling_of : (inner : Meaning) → IsLawful inner → (kept : ReceiptState) → IsKept kept → inner.is_spelled kept.inner ≡ true
     → is_state inner (spelling_of kept) ≡ true
 unfolding is_state
 is_state-spelling_of inner lawful kept good spelled =
@@ -106,14 +89,11 @@ pub record SpellsKept (inner : Meaning) (bytes : List ℕ) : Type 0 where
   pub spelled : inner.is_spelled (receipt_state_in bytes).inner ≡ true
 
 spells-kept : (bytes : List ℕ) (all keyed spelled : Bool)
-    → (all && ((nat_le 41 (length bytes)
-    && (nat_le (of_eight_bytes (take 8 bytes)) last_position && keyed)) && spelled)) ≡ true
-    → ((all ≡ true) × (spelled ≡ true)) × (41 ≤ length bytes)
-    × (of_eight_bytes (take 8 bytes) ≤ last_position)
+    → (all && ((nat_le 41 (length bytes) && (nat_le (of_eight_bytes (take 8 bytes)) last_position && keyed)) && spelled)) ≡ true
+    → ((all ≡ true) × (spelled ≡ true)) × (41 ≤ length bytes) × (of_eight_bytes (take 8 bytes) ≤ last_position)
 spells-kept bytes all keyed spelled is = grind (arith, nat_tests)
 
-pub SpellsKept-from : (inner : Meaning) (bytes : List ℕ) → is_state inner bytes ≡ true
-    → SpellsKept inner bytes
+pub SpellsKept-from : (inner : Meaning) (bytes : List ℕ) → is_state inner bytes ≡ true → SpellsKept inner bytes
 unfolding is_state
 SpellsKept-from inner bytes is =
     let w = spells-kept bytes (are_bytes bytes) _ _ is in
@@ -124,12 +104,10 @@ record KeepsBehind (count : ℕ) (back : List ℕ) : Type 0 where
   kept : IsKept (as_receipt_state count back)
   long : length back ≡ 33 + length (as_receipt_state count back).inner
 
-key_in-key : (named : Bool) (bytes : List ℕ) → IsValue bytes
-    → MayBeValue (if named then Some bytes else None)
+key_in-key : (named : Bool) (bytes : List ℕ) → IsValue bytes → MayBeValue (if named then Some bytes else None)
 key_in-key named bytes is = grind arith
 
-keeps-behind : (count : ℕ) (back : List ℕ) → count ≤ last_position → 33 ≤ length back
-    → are_bytes back ≡ true → KeepsBehind count back
+keeps-behind : (count : ℕ) (back : List ℕ) → count ≤ last_position → 33 ≤ length back → are_bytes back ≡ true → KeepsBehind count back
 keeps-behind count [] few long all = absurd (omega (arith, long))
 keeps-behind count (form ∷ rest) few long all =
     record {
@@ -143,25 +121,20 @@ keeps-behind count (form ∷ rest) few long all =
       long = omega (arith, length-drop 32 rest, long);
     }
 
-behind-front : (inner : Meaning) (bytes : List ℕ) → SpellsKept inner bytes
-    → KeepsBehind (of_eight_bytes (take 8 bytes)) (drop 8 bytes)
+behind-front : (inner : Meaning) (bytes : List ℕ) → SpellsKept inner bytes → KeepsBehind (of_eight_bytes (take 8 bytes)) (drop 8 bytes)
 behind-front inner bytes is =
     keeps-behind _ (drop 8 bytes) is.few (omega (arith, length-drop 8 bytes, is.long))
     (are_bytes-drop 8 bytes is.all)
 
-pub kept_of-IsKept : (inner : Meaning) (bytes : List ℕ) → SpellsKept inner bytes
-    → IsKept (receipt_state_in bytes)
+pub kept_of-IsKept : (inner : Meaning) (bytes : List ℕ) → SpellsKept inner bytes → IsKept (receipt_state_in bytes)
 unfolding receipt_state_in
 kept_of-IsKept inner bytes is = (behind-front inner bytes is).kept
 
-kept_of-length : (inner : Meaning) (bytes : List ℕ) → SpellsKept inner bytes
-    → length bytes ≡ 41 + length (receipt_state_in bytes).inner
+kept_of-length : (inner : Meaning) (bytes : List ℕ) → SpellsKept inner bytes → length bytes ≡ 41 + length (receipt_state_in bytes).inner
 unfolding receipt_state_in
-kept_of-length inner bytes is =
-    omega (arith, length-drop 8 bytes, (behind-front inner bytes is).long, is.long)
+kept_of-length inner bytes is = omega (arith, length-drop 8 bytes, (behind-front inner bytes is).long, is.long)
 
-pub length-digits_of : (key : List ℕ) (position : ℕ) (request said : List ℕ)
-    → length (digits_of key position request said) ≡ 64
+pub length-digits_of : (key : List ℕ) (position : ℕ) (request said : List ℕ) → length (digits_of key position request said) ≡ 64
 unfolding digits_of
 length-digits_of key position request said =
     omega (
@@ -170,16 +143,13 @@ length-digits_of key position request said =
       length-hmac_of key (receipt_message position request said),
     )
 
-unbroken-digits_of : (key : List ℕ) (position : ℕ) (request said : List ℕ)
-    → is_unbroken (digits_of key position request said) ≡ true
+unbroken-digits_of : (key : List ℕ) (position : ℕ) (request said : List ℕ) → is_unbroken (digits_of key position request said) ≡ true
 unfolding digits_of
 unbroken-digits_of key position request said = is_unbroken-encoded _
 
 -- what is said has at most 400 bytes, with no LF; and the state inside stays spelled
-outcome_of-IsText : (inner : Meaning) (kept : ReceiptState) (request : List ℕ)
-    → length (inner.says kept.inner request) ≤ 256
-    → is_unbroken (inner.says kept.inner request) ≡ true
-    → IsText 400 (outcome_of inner kept request).1
+outcome_of-IsText : (inner : Meaning) (kept : ReceiptState) (request : List ℕ) → length (inner.says kept.inner request) ≤ 256
+    → is_unbroken (inner.says kept.inner request) ≡ true → IsText 400 (outcome_of inner kept request).1
 outcome_of-IsText inner kept request short unbroken =
     grind (
       arith,
@@ -190,10 +160,8 @@ outcome_of-IsText inner kept request short unbroken =
       unbroken-digits_of,
     )
 
-outcome_of-spelled : (inner : Meaning) (kept : ReceiptState) (request : List ℕ)
-    → inner.is_spelled kept.inner ≡ true
-    → inner.is_spelled (inner.next kept.inner request) ≡ true
-    → inner.is_spelled (outcome_of inner kept request).0.inner ≡ true
+outcome_of-spelled : (inner : Meaning) (kept : ReceiptState) (request : List ℕ) → inner.is_spelled kept.inner ≡ true
+    → inner.is_spelled (inner.next kept.inner request) ≡ true → inner.is_spelled (outcome_of inner kept request).0.inner ≡ true
 outcome_of-spelled inner kept request here next = grind (arith, nat_tests)
 
 abbrev receipted_table : Meaning → Table ReceiptState
@@ -206,8 +174,7 @@ receipted_table inner = record {
 
 -- a module that gives receipts is a module
 receipted_is_table : (inner : Meaning) → IsLawful inner → IsShort inner
-    → IsTable (receipted_table inner) (receipted inner)
-    (λ kept. IsKept kept × (inner.is_spelled kept.inner ≡ true)) 65041 400
+    → IsTable (receipted_table inner) (receipted inner) (λ kept. IsKept kept × (inner.is_spelled kept.inner ≡ true)) 65041 400
 receipted_is_table inner lawful short = record {
   begins = refl;
   first = (record { few = omega arith; keyed = tt }, is-true _ lawful.begins);
@@ -239,7 +206,5 @@ receipted_is_table inner lawful short = record {
 wide_enough : (id : ℕ) → 65041 ≤ limit_of id
 wide_enough id = grind (arith, nat_tests)
 
-pub receipted_is_lawful : (inner : Meaning) → IsLawful inner → IsShort inner
-    → IsLawful (receipted inner)
-receipted_is_lawful inner lawful short =
-    table_is_lawful (receipted_is_table inner lawful short) (wide_enough _) (omega arith)
+pub receipted_is_lawful : (inner : Meaning) → IsLawful inner → IsShort inner → IsLawful (receipted inner)
+receipted_is_lawful inner lawful short = table_is_lawful (receipted_is_table inner lawful short) (wide_enough _) (omega arith)

@@ -1,5 +1,5 @@
 -- Laws of the cell's spelling.
-use Rattle.std.proofs.Common.{Result, Ok, Err, ◌≢◌, ℕ, ◌≡◌, Bool, true, false, List, [], ◌∷◌, ◌++◌, length, get_or, refl, ap, sym, ◌∙◌, arith, length-append}
+use Rattle.std.proofs.Common.{Result, Ok, Err, ◌≢◌, ℕ, ◌≡◌, Bool, true, false, List, [], ◌∷◌, ◌++◌, length, get_or, refl, ap, sym, ◌∙◌, arith}
 use Rattle.std.specs.Prelude.{◌==◌}
 use Rattle.std.proofs.lemmas.List.{append-nil}
 use Rattle.mm_digest.specs.declared.variant.Variant.{Variant}
@@ -11,7 +11,6 @@ use Rattle.mm_seal.specs.declared.cell.CellFault.TheVariants.{Blank, Cell as Uns
 use Rattle.mm_seal.specs.Fields.{version_of}
 use Rattle.mm_seal.specs.Cell.{IsCell, ReadsCell, flag_byte, cell_spelling, blank_cell}
 use Rattle.mm_base.specs.FieldLaws.{append-injective}
-use Rattle.mm_base.specs.Limits.{cell_length}
 
 pub variant_byte-injective : (v w : Variant) → variant_byte v ≡ variant_byte w → v ≡ w
 variant_byte-injective Basic Basic e = refl

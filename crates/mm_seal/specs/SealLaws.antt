@@ -1,7 +1,7 @@
 -- What is sealed has one content, and is taken apart to it.
 use Rattle.std.proofs.Common.{ℕ, ◌≡◌, List, Ok, sym, ◌∙◌, ap}
 use Rattle.mm_digest.specs.declared.variant.Variant.{Variant}
-use Rattle.mm_seal.specs.Snapshot.{Content, Snapshot, IsContent, ReadsParts, variant_of, tag_of, sealed_of, offered_of}
+use Rattle.mm_seal.specs.Snapshot.{Content, Snapshot, IsContent, ReadsParts, variant_of, sealed_of, offered_of}
 use Rattle.mm_seal.specs.Parts.{parts_of}
 use Rattle.mm_seal.specs.SnapshotLaws.{sealed_of-spells, same_snapshot}
 use Rattle.mm_seal.specs.FieldLaws.{parts_are}

@@ -20,16 +20,13 @@ use Rattle.mm_base.specs.FieldLaws.{append-injective, eight_bytes-injective, fou
 use Rattle.mm_seal.specs.CellLaws.{variant_byte-injective}
 
 -- five parts put at the end one after another
-pub put_in_parts : (old b₁ b₂ b₃ b₄ b₅ p₁ p₂ p₃ p₄ p₅ q₁ q₃ q₄ : List ℕ) → b₁ ≡ old ++ p₁ → b₂ ≡ b₁ ++ p₂ →
-    b₃ ≡ b₂ ++ p₃ → b₄ ≡ b₃ ++ p₄ → b₅ ≡ b₄ ++ p₅ → p₁ ≡ q₁ → p₃ ≡ q₃ → p₄ ≡ q₄ →
-    b₅ ≡ old ++ (q₁ ++ (p₂ ++ (q₃ ++ (q₄ ++ p₅))))
-put_in_parts old b₁ b₂ b₃ b₄ b₅ p₁ p₂ p₃ p₄ p₅ q₁ q₃ q₄ e₁ e₂ e₃ e₄ e₅ f₁ f₃ f₄ =
-    rw (e₅, e₄, e₃, e₂, e₁, f₁, f₃, f₄) (simp append_assoc)
+pub put_in_parts : (old b₁ b₂ b₃ b₄ b₅ p₁ p₂ p₃ p₄ p₅ q₁ q₃ q₄ : List ℕ) → b₁ ≡ old ++ p₁ → b₂ ≡ b₁ ++ p₂ → b₃ ≡ b₂ ++ p₃ → b₄ ≡ b₃ ++ p₄
+    → b₅ ≡ b₄ ++ p₅ → p₁ ≡ q₁ → p₃ ≡ q₃ → p₄ ≡ q₄ → b₅ ≡ old ++ (q₁ ++ (p₂ ++ (q₃ ++ (q₄ ++ p₅))))
+put_in_parts old b₁ b₂ b₃ b₄ b₅ p₁ p₂ p₃ p₄ p₅ q₁ q₃ q₄ e₁ e₂ e₃ e₄ e₅ f₁ f₃ f₄ = rw (e₅, e₄, e₃, e₂, e₁, f₁, f₃, f₄) (simp append_assoc)
 
 pub length-place_spelling : (place : Place) → IsPlace place → length (place_spelling place) ≡ place_length (variant_of place)
 length-place_spelling (Basic summary) is = is
-length-place_spelling (Opt anchor extension) is =
-    length-append anchor.bytes extension.bytes ∙ omega (arith, is.0, is.1)
+length-place_spelling (Opt anchor extension) is = length-append anchor.bytes extension.bytes ∙ omega (arith, is.0, is.1)
 
 place_length-least : (v : Variant) → 32 ≤ place_length v
 place_length-least variants.Basic = omega arith
@@ -48,12 +45,10 @@ front_variant x = refl
 
 -- why bytes are no content's
 pub no_front-short : (front : List ℕ) → length front < 50 → SpellsNoContent front
-no_front-short front h x is e =
-    omega (arith, ap length e, length-snapshot_front x is, place_length-least (variant_of x.place))
+no_front-short front h x is e = omega (arith, ap length e, length-snapshot_front x is, place_length-least (variant_of x.place))
 
 pub no_front-variant : (front : List ℕ) → ((v : Variant) → variant_byte v ≢ get_or front 4 0) → SpellsNoContent front
-no_front-variant front h x is e =
-    h (variant_of x.place) (front_variant x ∙ sym (ap (λ (f : List ℕ). get_or f 4 0) e))
+no_front-variant front h x is e = h (variant_of x.place) (front_variant x ∙ sym (ap (λ (f : List ℕ). get_or f 4 0) e))
 
 pub no_front-fields : (front : List ℕ) (v : Variant) → variant_byte v ≡ get_or front 4 0 →
     length front < 18 + place_length v → SpellsNoContent front
@@ -64,18 +59,16 @@ no_front-fields front v t h x is e =
     omega (arith, ap length e, length-snapshot_front x is, ap place_length same)
 
 -- bytes with room for the fields do not end before them
-pub no_end_in_fields : (v : Variant) (place : Place) (position : ℕ) (front head r₁ r₂ r₃ : List ℕ) →
-    18 + place_length v ≤ length front → front ≡ head ++ r₁ → length head ≡ 6 →
-    r₁ ≡ place_spelling place ++ r₂ → variant_of place ≡ v → IsPlace place → r₂ ≡ eight_bytes position ++ r₃ →
-    length r₃ < 4 → ⊥
+pub no_end_in_fields : (v : Variant) (place : Place) (position : ℕ) (front head r₁ r₂ r₃ : List ℕ) → 18 + place_length v ≤ length front
+    → front ≡ head ++ r₁ → length head ≡ 6 → r₁ ≡ place_spelling place ++ r₂ → variant_of place ≡ v → IsPlace place
+    → r₂ ≡ eight_bytes position ++ r₃ → length r₃ < 4 → ⊥
 no_end_in_fields v place position front head r₁ r₂ r₃ room e₁ h e₂ t is e₃ short =
     let l₁ = ap length e₁ ∙ length-append head r₁ in
     let l₂ = ap length e₂ ∙ length-append (place_spelling place) r₂ in
     let l₃ = ap length e₃ ∙ length-append (eight_bytes position) r₃ in
     omega (arith, l₁, l₂, l₃, length-place_spelling place is, length-eight_bytes position, ap place_length t)
 
-place_spelling-injective : (p q : Place) → IsPlace p → IsPlace q → variant_of p ≡ variant_of q →
-    place_spelling p ≡ place_spelling q → p ≡ q
+place_spelling-injective : (p q : Place) → IsPlace p → IsPlace q → variant_of p ≡ variant_of q → place_spelling p ≡ place_spelling q → p ≡ q
 place_spelling-injective (Basic a) (Basic b) ip iq v e = λ i. Basic (record { bytes = e i })
 place_spelling-injective (Opt a c) (Opt b d) ip iq v e =
     let both = append-injective a.bytes b.bytes c.bytes d.bytes (ip.0 ∙ sym iq.0) e in
@@ -99,11 +92,10 @@ pub record SameFields (x y : Content) (head : List ℕ) (n : ℕ) (a b : List �
   pub size : n ≡ length x.state
   pub after : a ≡ x.state ++ b
 
-pub same_fields : (x y : Content) (head : List ℕ) (n : ℕ) (a b : List ℕ) → IsContent x → IsPlace y.place →
-    y.position < 2 ^ 64 → n < 2 ^ 32 → length head ≡ 6 →
-    variant_byte (variant_of y.place) ≡ get_or head 4 0 → y.id ≡ get_or head 5 0 →
-    head ++ (place_spelling y.place ++ (eight_bytes y.position ++ (four_bytes n ++ a))) ≡ snapshot_front x ++ b →
-    SameFields x y head n a b
+pub same_fields : (x y : Content) (head : List ℕ) (n : ℕ) (a b : List ℕ) → IsContent x → IsPlace y.place → y.position < 2 ^ 64 → n < 2 ^ 32
+    → length head ≡ 6 → variant_byte (variant_of y.place) ≡ get_or head 4 0 → y.id ≡ get_or head 5 0
+    → head ++ (place_spelling y.place ++ (eight_bytes y.position ++ (four_bytes n ++ a))) ≡ snapshot_front x ++ b
+    → SameFields x y head n a b
 same_fields x y head n a b is iy p q h t u e =
     let first = append-injective head (front_head x) _ _ h (e ∙ regrouped-front x b) in
     let kind : variant_of y.place ≡ variant_of x.place =
@@ -124,11 +116,10 @@ same_fields x y head n a b is iy p q h t u e =
     }
 
 -- a content of bytes whose fields were read is the only one
-pub only_content : (x y : Content) (front head r₁ r₂ r₃ : List ℕ) (n : ℕ) → IsContent x →
-    front ≡ snapshot_front x → front ≡ head ++ r₁ → length head ≡ 6 →
-    variant_byte (variant_of y.place) ≡ get_or head 4 0 → y.id ≡ get_or head 5 0 → IsPlace y.place →
-    r₁ ≡ place_spelling y.place ++ r₂ → r₂ ≡ eight_bytes y.position ++ r₃ → r₃ ≡ four_bytes n ++ y.state →
-    y.position < 2 ^ 64 → n < 2 ^ 32 → HasHead y head n
+pub only_content : (x y : Content) (front head r₁ r₂ r₃ : List ℕ) (n : ℕ) → IsContent x → front ≡ snapshot_front x → front ≡ head ++ r₁
+    → length head ≡ 6 → variant_byte (variant_of y.place) ≡ get_or head 4 0 → y.id ≡ get_or head 5 0 → IsPlace y.place
+    → r₁ ≡ place_spelling y.place ++ r₂ → r₂ ≡ eight_bytes y.position ++ r₃ → r₃ ≡ four_bytes n ++ y.state → y.position < 2 ^ 64
+    → n < 2 ^ 32 → HasHead y head n
 only_content x y front head r₁ r₂ r₃ n is e e₁ h t u iy e₂ e₃ e₄ p q =
     let whole : head ++ (place_spelling y.place ++ (eight_bytes y.position ++ (four_bytes n ++ y.state))) ≡ snapshot_front x ++ [] =
     rw (← e₄) (rw (← e₃) (rw (← e₂) (sym e₁ ∙ e ∙ sym (append-nil (snapshot_front x))))) in
@@ -143,10 +134,9 @@ only_content x y front head r₁ r₂ r₃ n is e e₁ h t u iy e₂ e₃ e₄ p
     )
 
 -- bytes whose fields were read are those of the content
-pub front_of_fields : (y : Content) (front head r₁ r₂ r₃ : List ℕ) (n : ℕ) →
-    front ≡ head ++ r₁ → IsPlace y.place → r₁ ≡ place_spelling y.place ++ r₂ →
-    r₂ ≡ eight_bytes y.position ++ r₃ → r₃ ≡ four_bytes n ++ y.state → HasHead y head n →
-    IsContent y × (front ≡ snapshot_front y)
+pub front_of_fields : (y : Content) (front head r₁ r₂ r₃ : List ℕ) (n : ℕ) → front ≡ head ++ r₁ → IsPlace y.place
+    → r₁ ≡ place_spelling y.place ++ r₂ → r₂ ≡ eight_bytes y.position ++ r₃ → r₃ ≡ four_bytes n ++ y.state → HasHead y head n
+    → IsContent y × (front ≡ snapshot_front y)
 unfolding snapshot_front
 front_of_fields y front head r₁ r₂ r₃ n e₁ iy e₂ e₃ e₄ h =
     (record { place = iy; position = h.1; state = h.3 }, rw (e₁, h.0, e₂, e₃, e₄, h.2) refl)
@@ -173,8 +163,7 @@ one_spelling s t rest is it e =
 
 -- equal bytes are of one snapshot
 pub same_snapshot : (bytes : List ℕ) (s t : Snapshot) → Spells bytes s → Spells bytes t → s ≡ t
-same_snapshot bytes s t h k =
-    (one_spelling s t [] h.0 k.0 (append-nil (snapshot_spelling s) ∙ sym h.1 ∙ k.1)).0
+same_snapshot bytes s t h k = (one_spelling s t [] h.0 k.0 (append-nil (snapshot_spelling s) ∙ sym h.1 ∙ k.1)).0
 
 -- taking apart has one answer
 pub reads_parts-same : (bytes : List ℕ) (variant : Variant) (id : ℕ) (r s : Result Snapshot PartsFault) →
@@ -195,5 +184,4 @@ reads_parts-same bytes variant id (Err Kind) (Err Kind) h k = refl
 pub sealed_of-spells : (key : List ℕ) (content : Content) → IsContent content →
     Spells (sealed_of key content) (record { content = content; tag = tag_of key content })
 unfolding sealed_of
-sealed_of-spells key content is =
-    (record { content = is; tag = length-hmac_of key (snapshot_front content) }, refl)
+sealed_of-spells key content is = (record { content = is; tag = length-hmac_of key (snapshot_front content) }, refl)

@@ -1,8 +1,6 @@
 -- Words of the laws and proofs, each of which says a thing of Snapshot in short.
 use Rattle.std.specs.Prelude.{ℕ, List, [], ◌∷◌}
-use Rattle.mm_digest.specs.declared.variant.Variant.TheVariants as variants
 use Rattle.mm_digest.specs.Messages.{variant_byte}
-use Rattle.mm_seal.specs.declared.snapshot.OpenFault.TheVariants as opening
 use Rattle.mm_seal.specs.Fields.{version_of}
 use Rattle.mm_seal.specs.Snapshot.{variant_of, Content}
 

@@ -2,7 +2,7 @@
 use Rattle.std.specs.Prelude.{ℕ, ◌%◌, ◌==◌, List, codes, if◌then◌else◌}
 use Rattle.std.proofs.Common.{refl, arith}
 use Rattle.mm_module.specs.LineLaws.{IsText}
-use Rattle.mm_listing.specs.Listing.{Listing, IsListing}
+use Rattle.mm_listing.specs.Listing.{Listing, listing_of, IsListing}
 use Rattle.mm_listing.specs.RequestLaws.{in_both, listed, word}
 use Rattle.mm_tally.specs.Promise.{TellsMarks}
 use Rattle.mm_tally.specs.PromiseLaws.{tells-marks}
@@ -13,12 +13,9 @@ abbrev pub tally_request : ℕ → List ℕ
 tally_request choice = if choice % 4 == 0 then codes "read" else codes "mark"
 
 abbrev pub tally_listing : Listing
-tally_listing = record {
-  name = codes "tally";
-  meaning = tally;
-  request = tally_request;
-  promise = λ requests tellings. TellsMarks requests tellings;
-}
+tally_listing =
+    listing_of (codes "tally") tally tally_request
+    (λ requests tellings. TellsMarks requests tellings)
 
 asks : (choice : ℕ) → IsText 256 (tally_request choice)
 asks choice =

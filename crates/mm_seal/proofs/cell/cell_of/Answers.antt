@@ -18,7 +18,8 @@ pub returns-else-fits_variant : goal.returns-else-fits_variant
 returns-else-fits_variant c cell is e =
     let same =
     cell_of_fields-only _ _ _ _ _ _ _ _ _ cell is e (joined 8 _ _ _ c.split_at.ensures.front c.split_at.ensures.back)
-    c.split_at.ensures.front_len c.in_ok-summary.ensures c.in_ok-key.ensures c.in_ok-barrier.ensures c.in_ok-variant.variant c.in_ok-variant.ensures
+    c.split_at.ensures.front_len c.in_ok-summary.ensures c.in_ok-key.ensures c.in_ok-barrier.ensures
+    c.in_ok-variant.variant c.in_ok-variant.ensures
     in
     let fits = subst (λ (x : Cell). FitsVariant x.variant x.flag x.barrier) (sym same) is.variant in
     let spelled = e ∙ sym (ap cell_spelling same) in
