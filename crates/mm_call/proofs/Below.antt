@@ -57,8 +57,8 @@ pub use Rattle.mm_model.proofs.Above.{basic_names, fresh_lists, items_messages, 
 pub use Rattle.mm_model.proofs.Above.{opt_is_judged, opt_messages, opt_names, outside_moved, point_items, sound_items, sound_moved}
 pub use Rattle.mm_call.specs.AlongLaws.{closes-foreign, closes_first, commit_keeps, EachMove, GoesAlong, opt_closes, walk_along}
 pub use Rattle.mm_call.specs.Answers.{answer_at, answer_on}
-pub use Rattle.mm_call.specs.Asked.{counted_moves, counted_part, foreign_in, from_reset, IsAsked, IsPlain, IsWithin}
-pub use Rattle.mm_call.specs.Asked.{moves_messages, right_messages}
+pub use Rattle.mm_call.specs.Asked.{counted_moves, counted_part, foreign_in, from_reset, IsAsked, IsPlain, IsWithin, moves_messages}
+pub use Rattle.mm_call.specs.Asked.{right_messages}
 pub use Rattle.mm_call.specs.Called.{Answers, Breaks, called, Called, called_by, came_to, ended_by, Ending, given_for, position_of, seen_at}
 pub use Rattle.mm_call.specs.CalledWords.{called_with, kept_at}
 pub use Rattle.mm_call.specs.Calls.{AsksTo, breaks_off, CallOf, Calls, commits_before, EndsTo, goes_on, IsCallSoFar, StepsTo}
@@ -80,7 +80,7 @@ pub use Rattle.mm_call.specs.ShowingLaws.{asked_by, Counts, counts_open, same_re
 pub use Rattle.mm_call.specs.Standing.{cell_at, instance_by, RegisterAt, shown, shown_by, StandsAt}
 pub use Rattle.mm_call.specs.TellingLaws.{AreMet, begins_at, IsAt, met, met_at, room_at, stepped, then_at, told_by, trail_fails, trail_on}
 pub use Rattle.mm_call.specs.Tied.{foreign_items, OptTied, shows, standing_items, Tied}
-pub use Rattle.mm_call.specs.TrailLaws.{all_made-append, leads, shown-append}
+pub use Rattle.mm_call.specs.TrailLaws.{leads, shown-append}
 pub use Rattle.mm_call.specs.Trails.{MakesStep, Rest, Stepped, Trail}
 pub use Rattle.mm_call.specs.WalkLaws.{asks, batch, call_commits, changing, Commits, commits-none, committed-foreign, finished}
 pub use Rattle.mm_call.specs.WalkLaws.{foreign_first, foreign_in-append, foreign_in-first, foreign_in-foreign, foreign_made}

@@ -7,8 +7,8 @@ pub use Rattle.std.specs.Ordering.{is_eq, match_ordering, nat_cmp}
 pub use Rattle.std.specs.Prelude.{◌||◌, not, Vec, ◌==◌}
 pub use Rattle.std.specs.Str.{bytes_eq}
 pub use Rattle.std.proofs.Common.{◌++◌, ◌+◌, ◌<◌, ◌∙◌, ◌∷◌, ◌≡◌, ◌≤◌, ◌⊎◌, [], ap, append-nil, append_assoc, arith, Bool, cond, drop, Err}
-pub use Rattle.std.proofs.Common.{false, get_or, if◌then◌else◌, inl, inr, length, length-append, List, map, nat_lt, None, Ok, Option, refl}
-pub use Rattle.std.proofs.Common.{Result, Some, subst, suc, sym, take, true, zero, ℕ, ◌*◌, ◌-◌}
+pub use Rattle.std.proofs.Common.{false, get_or, inl, inr, length, length-append, List, map, nat_lt, None, Ok, Option, refl, Result, Some}
+pub use Rattle.std.proofs.Common.{subst, suc, sym, take, true, zero, ℕ, ◌*◌, ◌-◌}
 pub use Rattle.std.proofs.lemmas.Bool.Decides.{nat_tests}
 pub use Rattle.std.proofs.lemmas.Cmp.{nat_list_eq_equiv}
 pub use Rattle.std.proofs.lemmas.Grind.{flat_map-append}

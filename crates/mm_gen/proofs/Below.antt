@@ -35,7 +35,7 @@ pub use Rattle.mm_gen.specs.Limits.{is_over, IsLimited}
 pub use Rattle.mm_gen.specs.LineBreaks.{is_break, line_at}
 pub use Rattle.mm_gen.specs.Schedules.{lines_from, schedule_lines, schedule_text, seed_from, words_at}
 pub use Rattle.mm_gen.specs.Sums.{SumsUp}
-pub use Rattle.mm_gen.specs.Turns.{ask_text, cut_word, effect_word, pair, request_chosen, row_14, row_15, turn_lines}
+pub use Rattle.mm_gen.specs.Turns.{ask_text, cut_word, pair, request_chosen, row_14, row_15, turn_lines}
 pub use Rattle.mm_gen.specs.declared.fault.BulkFault.{BulkFault}
 pub use Rattle.mm_gen.specs.declared.fault.BulkFault.TheVariants.{Memory, TooMuch}
 pub use Rattle.mm_gen.specs.declared.summary.Summary.{Summary}

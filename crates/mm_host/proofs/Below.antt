@@ -3,7 +3,6 @@ pub use Rattle.std.specs.Io.KnownBytes.{Consumes, IsAtEnd}
 pub use Rattle.std.specs.List.{Contains, list_any}
 pub use Rattle.std.specs.Option.{option_map}
 pub use Rattle.std.specs.Prelude.{◌⊎◌, if◌then◌else◌, IfSome, nat_eq, nat_le, nat_lt}
-pub use Rattle.std.specs.Str.{bytes_eq}
 pub use Rattle.std.proofs.Common.{◌%◌, ◌&&◌, ◌++◌, ◌+◌, ◌-◌, ◌<◌, ◌∙◌, ◌∷◌, ◌≡◌, ◌≢◌, ◌≤◌, [], ap, arith, Bool, drop, Err, false, IfOk, inl}
 pub use Rattle.std.proofs.Common.{inr, length, length-append, length-drop, length-take, List, map, None, Ok, Option, refl, Result, rules}
 pub use Rattle.std.proofs.Common.{Some, subst, suc, sym, take, true, zero, ℕ}
@@ -24,7 +23,7 @@ pub use Rattle.mm_seal.specs.declared.snapshot.PartsFault.{PartsFault}
 pub use Rattle.mm_platform.specs.Standing.{Item, item_values, register_after as folded_of, Standing}
 pub use Rattle.mm_platform.specs.Steps.{cell_after, EndsBy, WriteCell}
 pub use Rattle.mm_platform.specs.declared.fault.StepFault.{StepFault}
-pub use Rattle.mm_module.specs.Batch.{Batch, One, size_of}
+pub use Rattle.mm_module.specs.Batch.{Batch, One}
 pub use Rattle.mm_module.specs.Meaning.{IsLawful, Meaning}
 pub use Rattle.mm_model.specs.BatchLaws.{before_the_last, total-push}
 pub use Rattle.mm_model.specs.Chains.{guard, register_of}
@@ -87,8 +86,8 @@ pub use Rattle.mm_host.specs.CellWrites.{CallWrites, is_open_after, IsNewAt, IsN
 pub use Rattle.mm_host.specs.CellWrites.{RequestWrites, TellsFlag, WritesByOpening, WritesFor}
 pub use Rattle.mm_host.specs.Faults.{refusal_fault, store_fault_as}
 pub use Rattle.mm_host.specs.Fitting.{first_offer, FitsBy, Holds, IsAwaited, offer_slot}
-pub use Rattle.mm_host.specs.Init.{AfterLooking, AfterPut, AfterPuts, AfterTaking, Devices, first_puts, Inits, instance_from, LooksAtCell}
-pub use Rattle.mm_host.specs.Init.{Put, PutsAll, SetsUp, TakesBytes, written_as}
+pub use Rattle.mm_host.specs.Init.{AfterLooking, AfterPuts, AfterTaking, Devices, first_puts, Inits, instance_from, LooksAtCell, Put}
+pub use Rattle.mm_host.specs.Init.{PutsAll, SetsUp, TakesBytes, written_as}
 pub use Rattle.mm_host.specs.Next.{AfterRecord, AsksNext}
 pub use Rattle.mm_host.specs.Recovery.{AnswersAt, AsksIdly, CanRecover, ComesTo, IsAskedFor, IsGrown, IsRefusedAs, MayHaveCommitted}
 pub use Rattle.mm_host.specs.Recovery.{Recovers, RecoversTo}

@@ -36,7 +36,7 @@ pub use Rattle.mm_model.specs.InstanceWords.{opt}
 pub use Rattle.mm_model.specs.Judge.{is_last, judge, judged, verdict_by_digests}
 pub use Rattle.mm_model.specs.Long.{is_long}
 pub use Rattle.mm_model.specs.Moves.{Digests, digests_of, made}
-pub use Rattle.mm_model.specs.Standing.{cell_of, IsRight, issued_bytes, StandsFor}
+pub use Rattle.mm_model.specs.Standing.{cell_of, IsRight, issued_bytes}
 pub use Rattle.mm_model.specs.Steps.{ask_steps, Changes, checkpoint_steps, Reads as Reading, Step, Writes}
 pub use Rattle.mm_model.specs.declared.answer.BatchAnswer.{BatchAnswer}
 pub use Rattle.mm_model.specs.declared.refusal.Refusal.{Refusal}
@@ -46,7 +46,7 @@ pub use Rattle.mm_model.specs.declared.verdict.Verdict.TheVariants.{Again, Fresh
 pub use Rattle.mm_call.specs.Called.{called, ended_by, given_for}
 pub use Rattle.mm_call.specs.Calls.{AsksTo, breaks_off, Calls, EndsTo, goes_on, IsCallSoFar, StepsTo}
 pub use Rattle.mm_call.specs.CallsOn.{CallsOn}
-pub use Rattle.mm_call.specs.Checkpoints.{checkpointed, CheckpointsAgree, Closing, closing_of, IsClosedWithin}
+pub use Rattle.mm_call.specs.Checkpoints.{checkpointed, CheckpointsAgree, Closing, closing_of}
 pub use Rattle.mm_call.specs.CheckpointsWords.{closed_by}
 pub use Rattle.mm_call.specs.Courses.{closes, Course, Done, End, Fate, step_moves, walk, Walked}
 pub use Rattle.mm_call.specs.Ended.{CallsTo, committed_as, refused_as, result_of, StaysOn}
@@ -61,29 +61,26 @@ pub use Rattle.mm_call.specs.Order.{admitted, examined}
 pub use Rattle.mm_call.specs.OrderWords.{weighed}
 pub use Rattle.mm_call.specs.Refusals.{fault_in, fault_of, OrMemory}
 pub use Rattle.mm_call.specs.Standing.{cell_at, instance_by, shown, shown_by, StandsAt}
-pub use Rattle.mm_call.specs.TellingLaws.{begins_at, stepped, told_by, trail_fails, trail_last}
-pub use Rattle.mm_call.specs.TellingLaws.{trail_on}
+pub use Rattle.mm_call.specs.TellingLaws.{begins_at, stepped, told_by, trail_fails, trail_last, trail_on}
 pub use Rattle.mm_call.specs.TrailLaws.{all_made-append, foreign_made, leads, reads_beside, reads_of, with_register}
 pub use Rattle.mm_call.specs.Trails.{IsChange, IsWrite, Trail}
 pub use Rattle.mm_call.specs.WalkLaws.{asks, changing, foreign_first, foreign_in-first}
 pub use Rattle.mm_call.specs.declared.ended.Ended.{Ended}
 pub use Rattle.mm_call.specs.declared.ended.Ended.TheVariants.{Answered, Refused}
 pub use Rattle.mm_call.proofs.Above.{Accepts, agrees_is, answered_result, AsFound as AsMade, asked_for, basic_checkpoints_agree, before}
-pub use Rattle.mm_call.proofs.Above.{BlamesFor, calls_from, course_by, each_call, ends_fates, ends_result, ends_untouched, fate_of}
-pub use Rattle.mm_call.proofs.Above.{finds, given_all, is_agrees, is_memory, lacks_in, life_bare, MakesAll, opt_calls_agree}
-pub use Rattle.mm_call.proofs.Above.{opt_checkpoints_agree, opt_tied, reading_blamed}
-pub use Rattle.mm_call.proofs.Above.{reading_tale, refused_reading, sees, sight_is, stands_at, stands_for, steps_blamed, steps_give, Tale}
-pub use Rattle.mm_call.proofs.Above.{tale_on, Told, told_on, told_reading, two_reads}
+pub use Rattle.mm_call.proofs.Above.{BlamesFor, calls_from, course_by, each_call, ends_fates, ends_result, ends_untouched, fate_of, finds}
+pub use Rattle.mm_call.proofs.Above.{given_all, is_agrees, is_memory, lacks_in, life_bare, MakesAll, opt_calls_agree, opt_checkpoints_agree}
+pub use Rattle.mm_call.proofs.Above.{opt_tied, reading_blamed, reading_tale, refused_reading, sees, sight_is, stands_at, stands_for}
+pub use Rattle.mm_call.proofs.Above.{steps_blamed, steps_give, Tale, tale_on, Told, told_on, told_reading, two_reads}
 pub use Rattle.mm_opt.specs.Answers.{answer_of, change_by, extension_after, extension_at, found_from, found_in, found_in_offer}
 pub use Rattle.mm_opt.specs.Answers.{found_unless, opened_cell, place_after}
 pub use Rattle.mm_opt.specs.Asked.{AskedInOpt}
-pub use Rattle.mm_opt.specs.Asks.{acts_for, answer_in, five_steps, four_steps, one_step, OneStep, opt_call, Reads, ReadsOn}
-pub use Rattle.mm_opt.specs.Asks.{StepsBy, StepsRefused, three_steps, two_steps, TwoSteps}
-pub use Rattle.mm_opt.specs.Asks.{WritesBy}
+pub use Rattle.mm_opt.specs.Asks.{acts_for, answer_in, five_steps, four_steps, one_step, OneStep, opt_call, Reads, ReadsOn, StepsBy}
+pub use Rattle.mm_opt.specs.Asks.{StepsRefused, three_steps, two_steps, TwoSteps, WritesBy}
 pub use Rattle.mm_opt.specs.Checkpoints.{closed_cell, Closes, ClosesSegment, closing_by, closing_fault_in, closing_fault_of}
 pub use Rattle.mm_opt.specs.Checkpoints.{closing_handed_on, ClosingStepsBy, ClosingStepsRefused, EndsClosing, EndsLooking, FindsSegment}
 pub use Rattle.mm_opt.specs.Checkpoints.{LeavesStill, Looks, segment_by, segment_in, Weighs}
-pub use Rattle.mm_opt.specs.ChecksOn.{ChecksBy, ChecksFor, ChecksOn, closing_told}
+pub use Rattle.mm_opt.specs.ChecksOn.{ChecksBy, ChecksOn, closing_told}
 pub use Rattle.mm_opt.specs.Finishes.{acts_left, answer_left, Finishes}
 pub use Rattle.mm_opt.specs.Order.{batch_value, has_lost_power, verdict_at, verdict_of}
 pub use Rattle.mm_opt.specs.Seen.{cell_in, is_cell_of, own_cell}

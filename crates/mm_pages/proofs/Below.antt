@@ -17,14 +17,13 @@ pub use Rattle.mm_base.specs.declared.fault.Failed.{Failed}
 pub use Rattle.mm_digest.specs.declared.digest.Digest.{Digest}
 pub use Rattle.mm_store.specs.Calls.{putting}
 pub use Rattle.mm_store.specs.Slots.{longest_slot, slot_in, Slots, with_slot}
-pub use Rattle.mm_store.specs.Unsynced.{marking, MarksAlone, Unsynced}
+pub use Rattle.mm_store.specs.Unsynced.{marking}
 pub use Rattle.mm_store.proofs.Above.{longest_slot-is, marked_last, marks_alone, putting-twice, slot_in-with_slot, take-min, with_slot-same}
-pub use Rattle.mm_store.proofs.Above.{with_slot-twice}
 pub use Rattle.mm_pages.specs.Bytes.{page_count, page_of, resized, with_page}
 pub use Rattle.mm_pages.specs.Cached.{AreInStep, Cached, KeepsStep}
 pub use Rattle.mm_pages.specs.Calls.{changing, ReadsLength, ReadsPage, Syncs, WritesPage}
 pub use Rattle.mm_pages.specs.Counts.{change_count, changes_of, counted_by, look_at, looks_at, may_be, one_if}
 pub use Rattle.mm_pages.specs.Paged.{Paged}
 pub use Rattle.mm_pages.specs.Puts.{AreOf, ChangesSlot, EndsInSync, Fails, FailsIn, Fits, FitsAndSyncs, HoldsPage, IsFilled, IsInStep}
-pub use Rattle.mm_pages.specs.Puts.{IsOneMoreAtMost, IsPutAt, PutsBytes, PutsFirst, PutsOne, PutsWhole}
+pub use Rattle.mm_pages.specs.Puts.{IsPutAt, PutsBytes, PutsFirst, PutsOne, PutsWhole}
 pub use Rattle.mm_pages.specs.Rows.{DropsPage, keeping, kept_digest, page_digest, page_digests, row_in, Rows, with_row}

@@ -1,7 +1,7 @@
 -- The words and laws that the proofs of this crate take from specs/ and from the crates below.
 pub use Rattle.std.specs.Prelude.{◌⊎◌, IsTrue, Ok, slice_get}
-pub use Rattle.std.proofs.Common.{◌++◌, ◌+◌, ◌<◌, ◌^◌, ◌∙◌, ◌∷◌, ◌≡◌, ◌≢◌, ◌≤◌, [], ap, arith, Bool, drop, false, inl, inr}
-pub use Rattle.std.proofs.Common.{length, length-append, List, refl, rules, Some, subst, suc, sym, take, true, zero, ℕ}
+pub use Rattle.std.proofs.Common.{◌++◌, ◌+◌, ◌<◌, ◌^◌, ◌∙◌, ◌∷◌, ◌≡◌, ◌≢◌, ◌≤◌, [], ap, arith, Bool, drop, false, inl, inr, length}
+pub use Rattle.std.proofs.Common.{length-append, List, refl, rules, Some, subst, suc, sym, take, true, ℕ}
 pub use Rattle.mm_base.specs.Limits.{last_position, longest_request}
 pub use Rattle.mm_module.specs.Meaning.{Meaning, outputs_from}
 pub use Rattle.mm_module.specs.TableLaws.{is-true}

@@ -1,18 +1,17 @@
 -- The words and laws that the proofs of this crate take from specs/ and from the crates below.
-pub use Rattle.std.specs.List.{AllByRecursion, Contains, flat_map, list_any, range_with_len}
-pub use Rattle.std.specs.Prelude.{◌==◌, ◌||◌, All, bit_xor, codes, filter, if◌then◌else◌, nat_eq, nat_lt, replicate, slice_index}
+pub use Rattle.std.specs.List.{AllByRecursion, Contains, flat_map, range_with_len}
+pub use Rattle.std.specs.Prelude.{◌==◌, All, bit_xor, codes, filter, if◌then◌else◌, nat_eq, replicate, slice_index}
 pub use Rattle.std.specs.Str.{bytes_eq}
-pub use Rattle.std.proofs.Common.{◌%◌, ◌&&◌, ◌*◌, ◌++◌, ◌+◌, ◌-◌, ◌/◌, ◌<◌, ◌∙◌, ◌∷◌, ◌≡◌, ◌≢◌, ◌≤◌, ◌⊎◌, [], add-one, add_assoc, ap}
-pub use Rattle.std.proofs.Common.{append_assoc, arith, Bool, cond, drop, Err, false, get_or, inl, inr, IsTrue, length, length-append}
-pub use Rattle.std.proofs.Common.{length-drop, List, map, nat_le, None, Ok, Option, refl, Result, Some, subst, suc, sym, take, true, zero}
-pub use Rattle.std.proofs.Common.{zero-add, ℕ}
+pub use Rattle.std.proofs.Common.{◌%◌, ◌&&◌, ◌*◌, ◌++◌, ◌+◌, ◌-◌, ◌/◌, ◌<◌, ◌∙◌, ◌∷◌, ◌≡◌, ◌≤◌, [], add-one, add_assoc, ap, append_assoc}
+pub use Rattle.std.proofs.Common.{arith, Bool, cond, drop, Err, false, get_or, inl, inr, IsTrue, length, length-append, length-drop, List}
+pub use Rattle.std.proofs.Common.{map, nat_le, None, Ok, Option, refl, Result, Some, subst, suc, sym, take, true, zero, zero-add, ℕ}
 pub use Rattle.std.proofs.lemmas.Bool.{and_parts}
 pub use Rattle.std.proofs.lemmas.Bool.Decides.{nat_tests}
 pub use Rattle.std.proofs.lemmas.List.{append-nil, ext_get_or, set_split}
-pub use Rattle.std.proofs.lemmas.List.Elements.{All-cons, All-nil, Contains-append_cases, Contains-append_left, Contains-push_cases}
-pub use Rattle.sha2.specs.Sha256.{add_state, digest_bytes, first_words, initial_hash_256, next_word, padded_message, rounds, sha256}
+pub use Rattle.std.proofs.lemmas.List.Elements.{All-cons, All-nil, Contains-append_left}
+pub use Rattle.sha2.specs.Sha256.{add_state, digest_bytes, first_words, initial_hash_256, next_word, padded_message, rounds}
 pub use Rattle.mm_base.specs.Limits.{last_position, longest_request, most_members}
-pub use Rattle.mm_digest.specs.Messages.{anchored_message, anchored_of, extended_message, start_message, start_of, zero_bytes}
+pub use Rattle.mm_digest.specs.Messages.{anchored_message, anchored_of, extended_message, start_message, zero_bytes}
 pub use Rattle.mm_digest.specs.declared.variant.Variant.{Variant}
 pub use Rattle.mm_digest.specs.declared.variant.Variant.TheVariants.{Basic, Opt}
 pub use Rattle.mm_seal.specs.Parts.{parts_of}
@@ -25,13 +24,13 @@ pub use Rattle.mm_platform.specs.declared.fault.StepFault.{StepFault}
 pub use Rattle.mm_platform.specs.declared.plan.Meddle.{Meddle}
 pub use Rattle.mm_platform.specs.declared.plan.Stop.{Stop}
 pub use Rattle.mm_platform.specs.declared.plan.Stop.TheVariants.{Cut, Quiet}
-pub use Rattle.mm_module.specs.Batch.{Batch, batch_text, members_of, normal, One, size_of}
+pub use Rattle.mm_module.specs.Batch.{Batch, members_of, normal, One, size_of}
 pub use Rattle.mm_module.specs.BatchLaws.{members_of-normal}
 pub use Rattle.mm_module.specs.CounterLaws.{counter_is_lawful}
 pub use Rattle.mm_module.specs.CounterTable.{counter}
 pub use Rattle.mm_module.specs.Meaning.{IsLawful, Meaning, outputs_from, state_after}
 pub use Rattle.mm_module.specs.RunLaws.{state_after-is_spelled}
-pub use Rattle.mm_model.specs.Chains.{anchor_of, guard, guard_message, link_message}
+pub use Rattle.mm_model.specs.Chains.{guard, guard_message, link_message}
 pub use Rattle.mm_model.specs.EndLaws.{first_outside, first_sound}
 pub use Rattle.mm_model.specs.FormLaws.{reads_zero}
 pub use Rattle.mm_model.specs.History.{Close, Commit, first_history, Foreign, History, joined, Move, moved, Own, Placed, Power as PowerMove}
@@ -56,8 +55,7 @@ pub use Rattle.mm_call.specs.AlongLaws.{checkpoint_none, closed_kept, opt_closes
 pub use Rattle.mm_call.specs.Asked.{counted_moves, counted_part, foreign_in, from_reset, IsPlain, IsWithin, moves_messages, right_messages}
 pub use Rattle.mm_call.specs.Called.{Answers, Breaks, Called, called, ended_by, Ending, reading_steps, seen_at}
 pub use Rattle.mm_call.specs.CalledWords.{called_with, kept_at}
-pub use Rattle.mm_call.specs.Checkpoints.{Checkpointed, checkpointed, Closing, IsSameCheckpoint}
-pub use Rattle.mm_call.specs.Checkpoints.{Stops}
+pub use Rattle.mm_call.specs.Checkpoints.{Checkpointed, checkpointed, Closing, IsSameCheckpoint, Stops}
 pub use Rattle.mm_call.specs.CheckpointsWords.{checkpointed_with}
 pub use Rattle.mm_call.specs.Courses.{after_step, closes, commits, Course, Done, End, Fails, Fate, seen_in, step_moves, walk, Walked}
 pub use Rattle.mm_call.specs.Found.{Found, found_at, found_by_verdict, right_content}
@@ -71,8 +69,8 @@ pub use Rattle.mm_call.specs.Standing.{instance_by}
 pub use Rattle.mm_call.specs.WalkLaws.{asks, batch, call_commits, Commits, commits-none, commits_batch, foreign_in-append, foreign_in-first}
 pub use Rattle.mm_call.specs.WalkLaws.{foreign_in-foreign, from_reset-foreign, messages-made, nothing, seen_none, taking, taking_is}
 pub use Rattle.mm_call.proofs.Above.{admitted_tells, again_of, AllMay, AreOwn, ask_may, bare, basic_checkpoint_same, basic_same, before}
-pub use Rattle.mm_call.proofs.Above.{each_at, first_in, foreign_fine, foreign_may, found_with_tells, fresh_of, holds_moved}
-pub use Rattle.mm_call.proofs.Above.{holds_open, listed_bare, live_found, may_of, not_lost, opt_agrees_moved, opt_calls_agree_by_lists}
+pub use Rattle.mm_call.proofs.Above.{each_at, first_in, foreign_fine, foreign_may, found_with_tells, fresh_of, holds_moved, holds_open}
+pub use Rattle.mm_call.proofs.Above.{listed_bare, live_found, may_of, not_lost, opt_agrees_moved, opt_calls_agree_by_lists}
 pub use Rattle.mm_call.proofs.Above.{opt_checkpoints_agree_by_lists, own_asked, own_checked, plain_outside, power_brings, power_fine}
 pub use Rattle.mm_call.proofs.Above.{power_may, read_moves, Ready, ready_closing, requests-push, reset, reset_messages, said_last, Shape}
 pub use Rattle.mm_call.proofs.Above.{shape, sight, sight_is, unlacked, unless_lost, walk_fine, weighed_tells, within_items, within_of}
@@ -84,14 +82,12 @@ pub use Rattle.mm_schedule.specs.declared.reply.Reply.{Reply}
 pub use Rattle.mm_schedule.specs.declared.reply.Way.{Way}
 pub use Rattle.mm_run.specs.Folds.{after_stop, asked, closed_outcome, closing_reply, closing_then, course_of, event_outcome, expected}
 pub use Rattle.mm_run.specs.Folds.{first_digests, first_issued, followed, Followed, followed_by, moves_then, Outcome, outcome_by}
-pub use Rattle.mm_run.specs.Folds.{replies_by_digests, reply_of, snapshots_of, uncalled, way_of}
-pub use Rattle.mm_run.specs.Folds.{broken_reply}
+pub use Rattle.mm_run.specs.Folds.{replies_by_digests, reply_of, snapshots_of, uncalled, way_of, broken_reply}
 pub use Rattle.mm_run.specs.Held.{world_barrier, world_key}
-pub use Rattle.mm_run.specs.Laws.{after_two_segments, AgreesThroughout, continued, ExpectedRuns, IsExpected, IsIssued}
-pub use Rattle.mm_run.specs.Laws.{IssuedNamePositions, one_ask, two_segments}
+pub use Rattle.mm_run.specs.Laws.{after_two_segments, AgreesThroughout, continued, ExpectedRuns, IsExpected, IsIssued, IssuedNamePositions}
+pub use Rattle.mm_run.specs.Laws.{one_ask, two_segments}
 pub use Rattle.mm_run.specs.Offered.{flipped, offered_bytes}
 pub use Rattle.mm_run.specs.OneEvent.{EventsAgree, EventsKeepNames, IsSameOutcome, IsSoundIn, Keeps, KeepsNames}
 pub use Rattle.mm_run.specs.Premises.{AreApartIn, AreGenuine, batches_of, event_messages, foreign_of, IsClearRun, IsGenuineEvent}
-pub use Rattle.mm_run.specs.Premises.{IsGenuineRun}
-pub use Rattle.mm_run.specs.Premises.{messages_from, moves_of}
-pub use Rattle.mm_run.specs.Premises.{ask_moves, asked_batches, asking_messages, foreign_values, IsGenuineOffer, run_messages}
+pub use Rattle.mm_run.specs.Premises.{IsGenuineRun, messages_from, moves_of, ask_moves, asked_batches, asking_messages, foreign_values}
+pub use Rattle.mm_run.specs.Premises.{IsGenuineOffer, run_messages}

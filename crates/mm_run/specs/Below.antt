@@ -6,7 +6,7 @@ pub use Rattle.mm_seal.specs.Snapshot.{Content, sealed_of}
 pub use Rattle.mm_platform.specs.Standing.{Plan}
 pub use Rattle.mm_platform.specs.declared.plan.Meddle.{Meddle}
 pub use Rattle.mm_platform.specs.declared.plan.Stop.{Stop}
-pub use Rattle.mm_platform.specs.declared.plan.Stop.TheVariants.{Cut, Drop, Fail, Quiet}
+pub use Rattle.mm_platform.specs.declared.plan.Stop.TheVariants.{Cut, Drop, Quiet}
 pub use Rattle.mm_module.specs.Batch.{Batch, One, normal}
 pub use Rattle.mm_module.specs.Meaning.{Meaning}
 pub use Rattle.mm_modules.specs.Modules.{meaning_of}

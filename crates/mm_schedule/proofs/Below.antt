@@ -26,7 +26,7 @@ pub use Rattle.mm_modules.specs.Modules.{any_is_found, any_is_listed, meaning_of
 pub use Rattle.mm_modules.proofs.Above.{name_spelled}
 pub use Rattle.mm_schedule.specs.Events.{Ask, Checkpoint, Event, Extend, meddles_of, Power}
 pub use Rattle.mm_schedule.specs.Grammar.{meddle_at, meddles_at}
-pub use Rattle.mm_schedule.specs.Machine.{AsksNone, IsTold, Runs, Steps, StepsOn}
+pub use Rattle.mm_schedule.specs.Machine.{IsTold, Runs, Steps}
 pub use Rattle.mm_schedule.specs.Replies.{lines_of_reply, told_lines}
 pub use Rattle.mm_schedule.specs.RepliesWords.{told_line}
 pub use Rattle.mm_schedule.specs.Spelling.{asks, SpellsBytes, SpellsEvent, SpellsMeddles, SpellsNumber, SpellsOffer, SpellsPrefix}

@@ -1,7 +1,7 @@
 -- The words and laws that the proofs of this crate take from specs/ and from the crates below.
 pub use Rattle.std.specs.Io.KnownBytes.{Consumes, IsAtEnd}
 pub use Rattle.std.specs.List.{AllByRecursion, Contains, fold}
-pub use Rattle.std.specs.Prelude.{◌⊎◌, if◌then◌else◌, is_some, nat_eq, nat_le}
+pub use Rattle.std.specs.Prelude.{◌⊎◌, if◌then◌else◌, is_some, nat_eq}
 pub use Rattle.std.proofs.Common.{◌%◌, ◌++◌, ◌+◌, ◌-◌, ◌<◌, ◌||◌, ◌∙◌, ◌∷◌, ◌≡◌, ◌≢◌, ◌≤◌, [], ap, append_assoc, arith, Bool, drop, Err}
 pub use Rattle.std.proofs.Common.{false, IfOk, inl, inr, IsSome, length, length-append, length-take, List, map, None, Ok, Option, refl}
 pub use Rattle.std.proofs.Common.{Result, Some, subst, suc, sym, take, take-append-drop, true, ℕ}
@@ -85,7 +85,7 @@ pub use Rattle.mm_host.proofs.Above.{left_by, length-pending_spelling, Met, new_
 pub use Rattle.mm_host.proofs.Above.{one_waiting, opt_grown, opt_met, opt_met_idle, recovers_by, refusal_told, rests, resumes_came}
 pub use Rattle.mm_host.proofs.Above.{resumes_told, Saw, saw_two, Told, was_powered}
 pub use Rattle.mm_session.specs.AnySlots.{answered_to, AreAmong, AreAskedInTurn, AsksNothingNew, EndsRun, MayStart, offered_after}
-pub use Rattle.mm_session.specs.AnySlots.{requests_with, RunsOnce, RunsOnceFrom, says_last, SessionRunsOnce}
+pub use Rattle.mm_session.specs.AnySlots.{requests_with, RunsOnce, RunsOnceFrom, SessionRunsOnce}
 pub use Rattle.mm_session.specs.Continuing.{answer_reply, AreToFollow, CanServe, ContinuesTo, HasUntold, history_then, IsInHand}
 pub use Rattle.mm_session.specs.Continuing.{IsNotBeyond, MayBeUntold, RefusesAs, RunsOver, RunsTo, SessionContinues, told_first, told_in}
 pub use Rattle.mm_session.specs.Continuing.{waiting_position}

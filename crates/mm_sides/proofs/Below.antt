@@ -20,11 +20,11 @@ pub use Rattle.mm_platform.specs.declared.plan.Stop.{Stop}
 pub use Rattle.mm_platform.specs.declared.plan.Stop.TheVariants.{Cut, Quiet}
 pub use Rattle.mm_module.specs.Batch.{Batch, members_of, One, size_of}
 pub use Rattle.mm_module.specs.Meaning.{Meaning, state_after}
-pub use Rattle.mm_model.specs.History.{Close, Commit, Entry, first_history, Foreign, History, joined, Move, moved, Placed}
-pub use Rattle.mm_model.specs.History.{Power as PowerMove, register_value_of, requests_of, Reset, total_of}
+pub use Rattle.mm_model.specs.History.{Entry, first_history, Foreign, History, joined, Move, moved, Power as PowerMove, register_value_of}
+pub use Rattle.mm_model.specs.History.{requests_of, total_of}
 pub use Rattle.mm_model.specs.Instance.{Instance}
 pub use Rattle.mm_model.specs.InstanceWords.{basic, opt}
-pub use Rattle.mm_model.specs.Life.{are_own, has_value, is_empty, Life, life_by, life_of, Live as LiveHistory, Lost, Spoiled}
+pub use Rattle.mm_model.specs.Life.{are_own, has_value, is_empty, Life, life_by, life_of, Live as LiveHistory}
 pub use Rattle.mm_model.specs.ListLaws.{each_append, each_left, each_right, each_self}
 pub use Rattle.mm_model.specs.Long.{is_long}
 pub use Rattle.mm_model.specs.Messages.{AreNoGuards, counting, history_messages, IsClear, moving_messages, values_in, Within}
@@ -54,21 +54,20 @@ pub use Rattle.mm_run.specs.Offered.{offered_bytes}
 pub use Rattle.mm_run.specs.OneEvent.{EventsAgree, EventsKeepNames, IsSoundIn, Keeps}
 pub use Rattle.mm_run.specs.Premises.{batches_of, event_messages, foreign_of, moves_of}
 pub use Rattle.mm_run.specs.PremisesWords.{AreApartIn, run_messages}
-pub use Rattle.mm_run.proofs.Above.{basic_begins, opt_begins}
-pub use Rattle.mm_run.proofs.Above.{anchor_nil, basic_events_agree, basic_events_keep_names, clear_within, event_steps, opt_events_agree}
-pub use Rattle.mm_run.proofs.Above.{opt_events_keep_names}
+pub use Rattle.mm_run.proofs.Above.{basic_begins, opt_begins, anchor_nil, basic_events_agree, basic_events_keep_names, clear_within}
+pub use Rattle.mm_run.proofs.Above.{event_steps, opt_events_agree, opt_events_keep_names}
 pub use Rattle.mm_sides.specs.Both.{Both, digests_move, First, first_both, first_lists, instance_on, key_of, lists_move, Mover, Pair}
 pub use Rattle.mm_sides.specs.Both.{Second, Side, turned, Which}
 pub use Rattle.mm_sides.specs.Folds.{accepting, Act, affected_if, both_expected, both_followed, both_outcome, BothEvent, BothFollowed}
 pub use Rattle.mm_sides.specs.Folds.{BothOutcome, BothReply, brought_to, effect_if, effect_of, Entered, finding, handed, Invited, is_moved}
 pub use Rattle.mm_sides.specs.Folds.{Left, move_ended, move_steps, moved_by, moved_if, Moves, noted_if, outcome_here, Plain, plain_outcome}
-pub use Rattle.mm_sides.specs.Folds.{refused_where, retiring, Said, stopped_moves, told, turned_back, unissued}
+pub use Rattle.mm_sides.specs.Folds.{refused_where, retiring, Said, stopped_moves, told, unissued}
 pub use Rattle.mm_sides.specs.Laws.{both_continued, counters, EntersAlone, history_at, history_now, IsOneFrom, MovesOnce, one_move}
 pub use Rattle.mm_sides.specs.Laws.{OneIsLive, PairsAgree, PairsAgreeThroughout, PairsGoOn, plain_events, plain_in, plain_replies}
 pub use Rattle.mm_sides.specs.Laws.{plain_reply, SidesIssueNames, SidesRunAsOne, SnapshotsName}
 pub use Rattle.mm_sides.specs.Moves.{Accept, accepted_on, Already, Command, entered_again, entered_as, FoundMove, Gone, Invite, invited_on}
-pub use Rattle.mm_sides.specs.Moves.{left_by, MoveCause, Nonce, offered_to, Open, Refused, Retire, retired_on, stands_here, ticket_by}
-pub use Rattle.mm_sides.specs.Moves.{ticket_in, verdict_here}
+pub use Rattle.mm_sides.specs.Moves.{left_by, MoveCause, Nonce, offered_to, Open, Refused, Retire, retired_on, stands_here, ticket_in}
+pub use Rattle.mm_sides.specs.Moves.{verdict_here}
 pub use Rattle.mm_sides.specs.Order.{AreInOrder, AtMostOne, away, EntersLast, here, IsAwaited, IsFreshEffect, IsLastTicket, IsSomewhere}
 pub use Rattle.mm_sides.specs.Order.{MayTake, nonces_of, RolesAreOne, RolesBegin, RolesEnterLast, RolesGoOn, RolesSwap, there, WaitApart}
 pub use Rattle.mm_sides.specs.Order.{WaitsElse}

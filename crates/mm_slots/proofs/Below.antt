@@ -59,13 +59,13 @@ pub use Rattle.mm_play.proofs.Above.{whole_err, whole_ok}
 pub use Rattle.mm_slots.specs.Answers.{answer_text, answers_text, end_lines, IsSayable, slot_end_line}
 pub use Rattle.mm_slots.specs.First.{AddsSlot, AreFirst, IsFirst}
 pub use Rattle.mm_slots.specs.Grammar.{action_at, event_at}
-pub use Rattle.mm_slots.specs.Held.{call_in, Comes, digests_in, EndsCall, Fits, FitsCall, FitsFlight, flight_in, flown}
-pub use Rattle.mm_slots.specs.Held.{GoesOn, HasRegister, instance_in, IsNewSlot, KeepsSlot, Loses as Lost, slot_in, Wants, within_64}
+pub use Rattle.mm_slots.specs.Held.{call_in, Comes, digests_in, EndsCall, Fits, FitsCall, FitsFlight, flight_in, flown, GoesOn, HasRegister}
+pub use Rattle.mm_slots.specs.Held.{instance_in, IsNewSlot, KeepsSlot, Loses as Lost, slot_in, Wants, within_64}
 pub use Rattle.mm_slots.specs.Laws.{SlotRuns, SlotsAreAlone, SlotsRun}
 pub use Rattle.mm_slots.specs.Plays.{Reports}
 pub use Rattle.mm_slots.specs.Rows.{ActsAt, AllFit, FitsWithin, Follows, IsInside, KeepsAll, LosesAll, LosesAt, LosesIf, LosesUnless}
 pub use Rattle.mm_slots.specs.Rows.{only_at, others_lose, row_in, rows_in, Tells, touched, Touches}
-pub use Rattle.mm_slots.specs.Slot.{acted, acted_by, Acts, Asks, beginning, begun, Closes, event_by, first_slot, Flight, flying, folded}
+pub use Rattle.mm_slots.specs.Slot.{acted, acted_by, Acts, Asks, beginning, begun, event_by, first_slot, Flight, flying, folded}
 pub use Rattle.mm_slots.specs.Slot.{followed_by, joined, Loses, merely, Met, outcome_in, plays, Slot, slot_instance, so_far, stepped}
 pub use Rattle.mm_slots.specs.Slot.{stop_at, Turned, turned, unpowered}
 pub use Rattle.mm_slots.specs.Slots.{all_cycled, selected_of, Slots}

@@ -5,4 +5,4 @@ pub use Rattle.std.proofs.Common.{true, ℕ}
 pub use Rattle.std.proofs.lemmas.List.{length-take-le, take_all}
 pub use Rattle.sha2.proofs.Facts256.{length-sha256}
 pub use Rattle.mm_base.specs.FieldLaws.{joined}
-pub use Rattle.mm_store.specs.Pending.{ReadsPending, record_word, SpellsNoRecord}
+pub use Rattle.mm_store.specs.Pending.{record_word, SpellsNoRecord}

@@ -27,7 +27,7 @@ pub use Rattle.mm_platform.specs.declared.plan.Stop.{Stop}
 pub use Rattle.mm_module.specs.Batch.{Batch, One}
 pub use Rattle.mm_module.specs.Meaning.{IsLawful, Meaning}
 pub use Rattle.mm_modules.specs.Modules.{meaning_of}
-pub use Rattle.mm_model.specs.History.{Close, Commit, first_history, Foreign, History, Move, Placed, Power as PowerMove, requests_of, Reset}
+pub use Rattle.mm_model.specs.History.{Commit, first_history, Foreign, History, Move, Power as PowerMove, requests_of}
 pub use Rattle.mm_model.specs.Instance.{Instance}
 pub use Rattle.mm_model.specs.Moves.{Digests, made}
 pub use Rattle.mm_model.specs.PlacesWords.{digest_of}
@@ -44,8 +44,7 @@ pub use Rattle.mm_move.specs.Cells.{IsWaiting, moved_of, retired_spelling, waiti
 pub use Rattle.mm_move.specs.Orders.{accepted_as, accepts_in, arrives_by, barrier_of, has_arrived_by, invites_in, is_barred, is_other}
 pub use Rattle.mm_move.specs.Orders.{leaves_by, offer_by, retires_in, same_waiting, stands_at, ticket_for, waiting_for}
 pub use Rattle.mm_move.specs.Refusals.{move_fault_in, move_fault_of, OrNoMemory, refuse_if}
-pub use Rattle.mm_move.specs.Tickets.{IsTicket, place_at, sealed_ticket, SpellsTicket, summary_in, TaggedTicket, ticket_of, ticket_tag}
-pub use Rattle.mm_move.specs.Tickets.{TicketContent}
+pub use Rattle.mm_move.specs.Tickets.{IsTicket, place_at, sealed_ticket, SpellsTicket, summary_in, TaggedTicket, ticket_of, TicketContent}
 pub use Rattle.mm_move.specs.declared.cell.MovedCell.{MovedCell}
 pub use Rattle.mm_move.specs.declared.cell.Waiting.{Waiting as WaitingCell}
 pub use Rattle.mm_move.specs.declared.inviting.Invited.{Invited}
@@ -69,19 +68,19 @@ pub use Rattle.mm_run.proofs.Above.{few_committed, issues_one, printable}
 pub use Rattle.mm_sides.specs.Both.{Both, digests_move, First, first_both, first_lists, instance_on, key_of, lists_move, Pair, Second, Side}
 pub use Rattle.mm_sides.specs.Both.{turned, Which}
 pub use Rattle.mm_sides.specs.Folds.{accepting, affected_if, both_by_digests, both_expected, both_followed, both_outcome, BothEvent}
-pub use Rattle.mm_sides.specs.Folds.{BothFollowed, BothOutcome, BothReply, brought_to, Denied, effect_if, effect_of, finding, grown}
-pub use Rattle.mm_sides.specs.Folds.{is_moved, is_written, move_ended, move_outcome, move_steps, moved_if, Moves, noted_if, plain_on}
-pub use Rattle.mm_sides.specs.Folds.{handed, refused_where, retiring, stopped_moves, told, unissued}
+pub use Rattle.mm_sides.specs.Folds.{BothFollowed, BothReply, brought_to, Denied, effect_if, effect_of, finding, grown, is_moved}
+pub use Rattle.mm_sides.specs.Folds.{is_written, move_ended, move_outcome, move_steps, moved_if, Moves, noted_if, plain_on, handed}
+pub use Rattle.mm_sides.specs.Folds.{refused_where, retiring, stopped_moves, told, unissued}
 pub use Rattle.mm_sides.specs.Laws.{history_now, IsOneFrom, OneIsLive, PairsAgreeThroughout, PairsGoOn, plain_events, plain_replies}
 pub use Rattle.mm_sides.specs.Laws.{SidesRunAsOne}
-pub use Rattle.mm_sides.specs.Moves.{Accept, accepted_on, Already, Command, entered_again, entered_as, FoundMove, Gone, Invite, invited_on}
-pub use Rattle.mm_sides.specs.Moves.{left_by, MoveCause, Nonce, offered_to, Open, Refused, Retire, retired_on, stands_here, ticket_by}
-pub use Rattle.mm_sides.specs.Moves.{ticket_in, verdict_here}
+pub use Rattle.mm_sides.specs.Moves.{Accept, accepted_on, Command, entered_again, entered_as, FoundMove, Gone, Invite, invited_on, left_by}
+pub use Rattle.mm_sides.specs.Moves.{MoveCause, offered_to, Open, Refused, Retire, retired_on, stands_here, ticket_by, ticket_in}
+pub use Rattle.mm_sides.specs.Moves.{verdict_here}
 pub use Rattle.mm_sides.specs.Roles.{Blank, Effect, Enters, Invites, is_live, Leaves, Live, no_notes, Notes, Retired, Retired as Left, Role}
 pub use Rattle.mm_sides.specs.Roles.{role_after, Waiting, Waiting as Waits}
 pub use Rattle.mm_sides.proofs.Above.{any_value, AreOuter, foreign_outer, found_outer, IsOuter, stop_outer, stopped_outer}
 pub use Rattle.mm_world.specs.Calls.{is_cut, SettlesPlan, takes_effect}
-pub use Rattle.mm_world.specs.Held.{digest_in, digests_in, value_in}
+pub use Rattle.mm_world.specs.Held.{digest_in, value_in}
 pub use Rattle.mm_world.specs.InVain.{AsksPlanned, CameInVain, ChecksPlanned, IsRead}
 pub use Rattle.mm_world.specs.Stands.{IsQuiet, Stands}
 pub use Rattle.mm_world.proofs.Above.{digests_are, on_settled, power_if, reads_none, reads_shown, register_at, stands_new, stop_power}
@@ -93,8 +92,8 @@ pub use Rattle.mm_transfer.specs.Events.{act_of, command_of, side_event_of, whic
 pub use Rattle.mm_transfer.specs.Headline.{AnswersAll, AnswersEvents, AnswersLines, IsContinuous, IsOneTransfer, IsTooMuch, IsWithinLimits}
 pub use Rattle.mm_transfer.specs.Headline.{unended}
 pub use Rattle.mm_transfer.specs.Lengths.{length_if}
-pub use Rattle.mm_transfer.specs.OneSide.{at_by, at_in, Comes, digest_by, EndsCall, FitsSide, flag_by, IsBare, IsNew, Lacks, link_of}
-pub use Rattle.mm_transfer.specs.OneSide.{outcome_on, role_in, role_of, side_in, StandsAs, within_64}
+pub use Rattle.mm_transfer.specs.OneSide.{at_by, at_in, Comes, EndsCall, FitsSide, IsBare, IsNew, Lacks, link_of, outcome_on, role_in}
+pub use Rattle.mm_transfer.specs.OneSide.{role_of, side_in, StandsAs, within_64}
 pub use Rattle.mm_transfer.specs.Pairs.{pair_of}
 pub use Rattle.mm_transfer.specs.Planned.{ended_as, Ends, later_steps, MakesMove, moves_at, MovesPlanned, WantsMemory, written_by}
 pub use Rattle.mm_transfer.specs.Planned.{written_if}
