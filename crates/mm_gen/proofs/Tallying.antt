@@ -14,8 +14,8 @@ use Rattle.mm_schedule.specs.declared.reply.Reply.TheVariants.{Told}
 use Rattle.mm_gen.proofs.Spelled.{header-unbroken, is_schedule}
 use Rattle.mm_model.specs.Moves.{Digests}
 use Rattle.mm_call.specs.Levels.{by_digests}
-use Rattle.mm_gen.specs.Answered.{RunsLine}
-use Rattle.mm_gen.specs.Counting.{counted_reply, counts_of, no_counts, total}
+use Rattle.mm_gen.specs.Limits.{RunsLine}
+use Rattle.mm_gen.specs.Sums.{counted_reply, counts_of, no_counts, total}
 use Rattle.mm_gen.specs.LineBreaks.{line_at}
 use Rattle.mm_gen.specs.declared.counts.Counts.{Counts}
 
@@ -132,8 +132,7 @@ module _ (lines : List (List ℕ)) where
           few = omega (arith, total-counted counts said, few);
           over = over_behind r line more event is room ∙ going.over;
           rests = record {
-            replies = append_assoc text (text_of_replies said) (texts_of (left_of (after_event r line event) (events_of more are.1)).replies)
-                ∙ going.rests.replies;
+            replies = append_assoc text (text_of_replies said) _ ∙ going.rests.replies;
             counted = going.rests.counted;
             state = going.rests.state;
             issued = going.rests.issued;
