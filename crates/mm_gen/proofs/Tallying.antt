@@ -14,8 +14,8 @@ use Rattle.mm_schedule.specs.declared.reply.Reply.TheVariants.{Told}
 use Rattle.mm_gen.proofs.Spelled.{header-unbroken, is_schedule}
 use Rattle.mm_model.specs.Moves.{Digests}
 use Rattle.mm_call.specs.Levels.{by_digests}
-use Rattle.mm_gen.specs.Answered.{RunsLine}
-use Rattle.mm_gen.specs.Counting.{counted_reply, counts_of, no_counts, total}
+use Rattle.mm_gen.specs.Limits.{RunsLine}
+use Rattle.mm_gen.specs.Sums.{counted_reply, counts_of, no_counts, total}
 use Rattle.mm_gen.specs.LineBreaks.{line_at}
 use Rattle.mm_gen.specs.declared.counts.Counts.{Counts}
 
@@ -132,8 +132,7 @@ module _ (lines : List (List ℕ)) where
           few = omega (arith, total-counted counts said, few);
           over = over_behind r line more event is room ∙ going.over;
           rests = record {
-            replies = append_assoc text (text_of_replies said) (texts_of (left_of (after_event r line event) (events_of more are.1)).replies)
-                ∙ going.rests.replies;
+            replies = append_assoc text (text_of_replies said) _ ∙ going.rests.replies;
             counted = going.rests.counted;
             state = going.rests.state;
             issued = going.rests.issued;
@@ -198,18 +197,34 @@ module _ (lines : List (List ℕ)) where
       subst (λ (h : Header). is_over (begun h) lines ≡ true) same (step.over (limit refl))
   stops rest r counts text line behind header Memory step same limit = tt
 
-  pub ended : (rest : List ℕ) (r : Running) (counts : Counts) (text : List ℕ) → Going lines rest r counts text → line_at rest ≡ None
-      → SumsUp r.header lines (so_far r counts text)
-  ended rest r counts text going none = (ended_at going.left going.are rest r counts text going.stands none).1
+  -- a summary by its parts
+  pub ended : (rest : List ℕ) (r : Running) (counts : Counts) (text : List ℕ) (header : Header) (committed issued : ℕ) (digest : Digest)
+      → Going lines rest r counts text → line_at rest ≡ None → r.header ≡ header → committed ≡ r.digests.count → issued ≡ length r.issued
+      → digest.bytes ≡ sha256 (text ++ end_line r.digests.count (length r.issued))
+      → SumsUp header lines (record { counts = counts; committed = committed; issued = issued; replies = digest })
+  ended rest r counts text header committed issued digest going none same one two three =
+      let made = (ended_at going.left going.are rest r counts text going.stands none).1 in
+      subst (λ (h : Header). SumsUp h lines (record { counts = counts; committed = committed; issued = issued; replies = digest })) same
+      (record {
+        events = made.events;
+        read = made.read;
+        told = (λ j. record { counts = counts; committed = one j; issued = two j; replies = record { bytes = three j } }) ∙ made.told;
+      })
 
 -- ---- the beginning
 
-pub begins : (number count : ℕ) (header : Header) → count ≤ most_events
-    → Going (schedule_lines number count header) (lines_joined (schedule_lines number count header)) (begun header) no_counts []
-begins number count header few =
+pub behind_first : (number count : ℕ) (header : Header)
+    → line_at (schedule_text number count header) ≡ Some (header_text header, lines_joined (schedule_lines number count header))
+behind_first number count header =
+    line_again (header_text header) (lines_joined (schedule_lines number count header)) (header-unbroken header)
+
+pub starts : (number count : ℕ) (header : Header) (rest : List ℕ) (r : Running) (counts : Counts) (text : List ℕ) → count ≤ most_events
+    → rest ≡ lines_joined (schedule_lines number count header) → r ≡ begun header → counts ≡ no_counts → text ≡ []
+    → Going (schedule_lines number count header) rest r counts text
+starts number count header rest r counts text few one two three four =
     let is = is_schedule number count header few in let lines : List (List ℕ) = schedule_lines number count header in
     let are = recursion_from_All IsEventLine lines is.events in
-    record {
+    rw (one, two, three, four) (record {
       left = lines;
       are = are;
       stands = record {
@@ -220,29 +235,7 @@ begins number count header few =
         over = refl;
         rests = record { replies = refl; counted = refl; state = refl; issued = refl };
       };
-    }
-
-pub behind_first : (number count : ℕ) (header : Header)
-    → line_at (schedule_text number count header) ≡ Some (header_text header, lines_joined (schedule_lines number count header))
-behind_first number count header =
-    line_again (header_text header) (lines_joined (schedule_lines number count header)) (header-unbroken header)
-
--- a summary by its parts
-pub told_at : (header : Header) (lines : List (List ℕ)) (r : Running) (counts : Counts) (committed issued : ℕ) (digest : Digest)
-    (text : List ℕ) → r.header ≡ header → committed ≡ r.digests.count → issued ≡ length r.issued
-    → digest.bytes ≡ sha256 (text ++ end_line r.digests.count (length r.issued)) → SumsUp r.header lines (so_far r counts text)
-    → SumsUp header lines (record { counts = counts; committed = committed; issued = issued; replies = digest })
-told_at header lines r counts committed issued digest text same one two three made =
-    let equal : so_far r counts text ≡ record { counts = counts; committed = committed; issued = issued; replies = digest } =
-    λ i. record { counts = counts; committed = sym one i; issued = sym two i; replies = record { bytes = sym three i } } in
-    subst (λ (m : Header). SumsUp m lines (record { counts = counts; committed = committed; issued = issued; replies = digest })) same
-    (subst (λ (it : Summary). SumsUp r.header lines it) equal made)
-
--- the beginning, by what stands there
-pub starts : (number count : ℕ) (header : Header) (rest : List ℕ) (r : Running) (counts : Counts) (text : List ℕ) → count ≤ most_events
-    → rest ≡ lines_joined (schedule_lines number count header) → r ≡ begun header → counts ≡ no_counts → text ≡ []
-    → Going (schedule_lines number count header) rest r counts text
-starts number count header rest r counts text few one two three four = rw (one, two, three, four) (begins number count header few)
+    })
 
 -- a line more, by what stands behind it
 pub goes_on : (lines : List (List ℕ)) (rest : List ℕ) (r new : Running) (counts more : Counts) (text written line behind : List ℕ)

@@ -1,5 +1,3 @@
-pub mod Answered
-pub mod Counting
 pub mod Laws
 pub mod Limits
 pub mod LineBreaks

@@ -1,8 +1,10 @@
--- When a schedule passes the limits of a replay.
-use Rattle.std.specs.Prelude.{◌≡◌, ℕ, Bool, true, false, ◌||◌, List, [], ◌∷◌, Result, Ok, Err}
+-- When a schedule passes the limits of a replay, and one event line of it that passes none.
+use Rattle.std.specs.Prelude.{◌≡◌, ℕ, Bool, true, false, ◌||◌, List, [], ◌∷◌, Some, Result, Ok, Err}
 use Rattle.std.specs.Option.{option_map_or}
+use Rattle.mm_schedule.specs.declared.reply.Reply.{Reply}
+use Rattle.mm_schedule.specs.Events.{Event}
 use Rattle.mm_schedule.specs.Grammar.{event_at}
-use Rattle.mm_replay.specs.Schedule.{Running, after_event, is_too_much}
+use Rattle.mm_replay.specs.Schedule.{Running, after_event, is_too_much, running_outcome}
 use Rattle.mm_gen.specs.declared.fault.BulkFault.{BulkFault}
 use Rattle.mm_gen.specs.declared.fault.BulkFault.TheVariants.{Memory, TooMuch}
 use Rattle.mm_gen.specs.declared.summary.Summary.{Summary}
@@ -19,3 +21,10 @@ abbrev pub IsLimited : Bool → Result Summary BulkFault → Type 0
 IsLimited over (Ok summary) = over ≡ false
 IsLimited over (Err TooMuch) = over ≡ true
 IsLimited over (Err Memory) = Unit {0}
+
+-- The line passes no limit, its event was answered with this reply, and the run stands behind it.
+abbrev pub RunsLine : Running → Running → List ℕ → Reply → Type 0
+RunsLine old new line reply =
+    (is_too_much old line ≡ false)
+    × ((event : Event) → event_at line ≡ Some event → (reply ≡ (running_outcome old event).reply)
+    × (new ≡ after_event old line event))

@@ -1,16 +1,39 @@
--- What a schedule comes to.
-use Rattle.std.specs.Prelude.{◌≡◌, ℕ, List, ◌++◌, length, map, Some}
+-- What a schedule comes to: its replies counted by their kinds, and digested.
+use Rattle.std.specs.Prelude.{◌≡◌, ℕ, ◌+◌, true, false, List, ◌++◌, length, map, Some}
+use Rattle.std.specs.List.{fold}
 use Rattle.sha2.specs.Sha256.{sha256}
 use Rattle.mm_schedule.specs.declared.header.Header.{Header}
 use Rattle.mm_schedule.specs.Events.{Event}
 use Rattle.mm_schedule.specs.Grammar.{event_at}
 use Rattle.mm_schedule.specs.Replies.{end_line}
+use Rattle.mm_schedule.specs.declared.reply.Reply.{Reply}
+use Rattle.mm_schedule.specs.declared.reply.Reply.TheVariants.{Told, No, Kept, Nothing}
 use Rattle.mm_run.specs.Folds.{Followed, replies_by_digests}
 use Rattle.mm_run.specs.Held.{world_of}
 use Rattle.mm_model.specs.Moves.{Digests}
 use Rattle.mm_replay.specs.Text.{texts_of}
-use Rattle.mm_gen.specs.Counting.{counts_of}
+use Rattle.mm_gen.specs.declared.counts.Counts.{Counts}
 use Rattle.mm_gen.specs.declared.summary.Summary.{Summary}
+
+abbrev pub no_counts : Counts
+no_counts = record { ok = 0; again = 0; no = 0; kept = 0; lost = 0; other = 0 }
+
+-- one reply more, by its kind: `ok`, `again`, `no`, one with `kept`, one with `lost`, or another
+abbrev pub counted_reply : Counts → Reply → Counts
+counted_reply counts (Told false position outputs) = record counts { ok = counts.ok + 1 }
+counted_reply counts (Told true position outputs) = record counts { again = counts.again + 1 }
+counted_reply counts (No cause) = record counts { no = counts.no + 1 }
+counted_reply counts (Kept way position) = record counts { kept = counts.kept + 1 }
+counted_reply counts (Nothing way) = record counts { lost = counts.lost + 1 }
+counted_reply counts reply = record counts { other = counts.other + 1 }
+
+-- these replies, counted
+abbrev pub counts_of : List Reply → Counts
+counts_of replies = fold counted_reply no_counts replies
+
+-- how many replies there are
+abbrev pub total : Counts → ℕ
+total counts = counts.ok + counts.again + counts.no + counts.kept + counts.lost + counts.other
 
 -- the replies counted, and digested with the last line of a replay
 abbrev pub bulk_summary : Followed Digests → Summary

@@ -2,7 +2,7 @@
 
 ghost use Rattle.std.specs.Prelude.{◌≡◌, ◌+◌, ◌<◌};
 ghost use Rattle.mm_base.specs.Limits.{most_events};
-ghost use Rattle.mm_gen.specs.Counting.{counted_reply, no_counts, total};
+ghost use Rattle.mm_gen.specs.Sums.{counted_reply, no_counts, total};
 
 use mm_schedule::Reply;
 

@@ -13,8 +13,7 @@ use Rattle.mm_schedule.specs.Machine.{Runs}
 use Rattle.mm_run.specs.Held.{world_key, world_barrier}
 use Rattle.mm_run.specs.OneRun.{IsOneRun, FrontsAreOneRun}
 use Rattle.mm_call.specs.Standing.{instance_by}
-use Rattle.mm_replay.specs.Text.{texts_of}
-use Rattle.mm_replay.specs.TextWords.{text_of_replies}
+use Rattle.mm_replay.specs.Text.{text_of_replies, texts_of}
 use Rattle.mm_replay.specs.Headline.{IsContinuous, IsPromisedRun, IsWithinLimits, AnswersEvents, AnswersLines, AnswersAll, IsTooMuch}
 use Rattle.mm_replay.specs.Headline.{unended}
 

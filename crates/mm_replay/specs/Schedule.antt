@@ -12,7 +12,7 @@ use Rattle.mm_run.specs.Folds.{Outcome, event_outcome, first_issued, first_diges
 use Rattle.mm_run.specs.Held.{world_of}
 use Rattle.mm_play.specs.Events.{EventPlayer, is_over, event_answer as answer_by, header_answer as begins_by}
 use Rattle.mm_play.specs.declared.player.Refused.{Refused}
-use Rattle.mm_replay.specs.TextWords.{text_of_replies}
+use Rattle.mm_replay.specs.Text.{text_of_replies}
 
 -- the most bytes of event lines and issued snapshots together
 abbrev pub most_kept : ℕ

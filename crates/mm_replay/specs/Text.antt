@@ -4,6 +4,9 @@ use Rattle.std.specs.List.{concat, flat_map}
 use Rattle.mm_schedule.specs.declared.reply.Reply.{Reply}
 use Rattle.mm_schedule.specs.Replies.{lines_of_reply}
 
--- the lines of these replies, one after another
+-- the lines of a reply, one after another; and those of these replies
+abbrev pub text_of_replies : Reply → List ℕ
+text_of_replies reply = concat (lines_of_reply reply)
+
 abbrev pub texts_of : List Reply → List ℕ
-texts_of replies = flat_map (λ reply. concat (lines_of_reply reply)) replies
+texts_of replies = flat_map text_of_replies replies

@@ -4,13 +4,14 @@ use Rattle.mm_run.proofs.Below.{if◌then◌else◌, AllByRecursion, Contains, M
 use Rattle.mm_run.proofs.Below.{PowerMove, moved, is_long, Within, Digests, made, IsGenuine, each_left, each_right, by_lists, by_digests}
 use Rattle.mm_run.proofs.Below.{all_made, right_content, Called, called, Checkpointed, checkpointed}
 use Rattle.mm_run.proofs.Below.{IsSameCheckpoint, moves_messages, right_messages, IsSameCall, Event, Ask, Checkpoint, Power, Extend, Reply}
-use Rattle.mm_run.proofs.Below.{offered_bytes, Outcome, way_of, course_of, reply_of, snapshots_of, moves_then, outcome_by}
-use Rattle.mm_run.proofs.Below.{uncalled, asked, closing_reply, closing_then, closed_outcome, event_outcome, followed, moves_of}
+use Rattle.mm_run.proofs.Below.{offered_bytes, Outcome, way_of, course_of, reply_of, snapshots_of, outcome_by}
+use Rattle.mm_run.proofs.Below.{uncalled, asked, closing_reply, closed_outcome, event_outcome, followed, moves_of}
 use Rattle.mm_run.proofs.Below.{event_messages, messages_from, foreign_of, batches_of, AreGenuine, ask_moves}
 use Rattle.mm_run.proofs.Below.{asking_messages, foreign_values, asked_batches, IsGenuineOffer, AgreesThroughout, Keeps, IsSameOutcome}
 use Rattle.mm_run.proofs.Below.{start_message, first_history, first_digests, first_issued, run_messages, expected, replies_by_digests}
 use Rattle.mm_run.proofs.Below.{IsGenuineRun, each_self}
 use Rattle.mm_run.specs.OneEvent.{IsEventWithin}
+use Rattle.mm_run.proofs.Below.{Move}
 use Rattle.mm_run.proofs.EachWay.{then_all, closing_all}
 use Rattle.mm_schedule.specs.declared.reply.Reply.TheVariants as reply
 use Rattle.mm_schedule.specs.declared.reply.Cause.TheVariants as cause
@@ -50,34 +51,31 @@ module _ (all others : List (List ℕ)) (asked_for : List Batch) (i : Instance) 
   abbrev Same : Outcome History → Outcome Digests → Type 0
   Same o p = IsSameOutcome all others asked_for i o p
 
+  abbrev Then : History → Digests → List Move → Type 0
+  Then y d moves = Kept (all_made (by_lists i) y moves) (all_made (by_digests i) d moves)
+
   outcome_same : (stop : Stop) (issued : List (List ℕ)) (o : Called History) (p : Called Digests) → IsSameCall all others asked_for i o p
       → Same (outcome_by (by_lists i) stop issued o) (outcome_by (by_digests i) stop issued p)
-  outcome_same stop issued o p s = record {
-    reply = ap (reply_of (way_of stop)) s.ending;
-    issued = ap (λ e. issued ++ snapshots_of e) s.ending;
-    steps = s.steps;
-    writes = s.writes;
-    keeps = subst (λ e. Kept (all_made (by_lists i) o.state (moves_then stop o.ending))
-        (all_made (by_digests i) p.state (moves_then stop e))) (sym s.ending)
-        (let k : Kept o.state p.state = record { agrees = s.agrees; within = s.within } in
-        then_all (λ moves. Kept (all_made (by_lists i) o.state moves) (all_made (by_digests i) p.state moves)) k
-        (v.power o.state p.state k) stop o.ending);
-  }
+  outcome_same stop issued o p s =
+      let k : Kept o.state p.state = record { agrees = s.agrees; within = s.within } in record {
+        reply = ap (reply_of (way_of stop)) s.ending;
+        issued = ap (λ e. issued ++ snapshots_of e) s.ending;
+        steps = s.steps;
+        writes = s.writes;
+        keeps = rw s.ending (then_all (Then o.state p.state) k (v.power o.state p.state k) stop o.ending);
+      }
 
   closed_same : (stop : Stop) (issued : List (List ℕ)) (o : Checkpointed History) (p : Checkpointed Digests)
       → IsSameCheckpoint all others asked_for i o p
       → Same (closed_outcome (by_lists i) stop issued o) (closed_outcome (by_digests i) stop issued p)
-  closed_same stop issued o p s = record {
-    reply = ap (closing_reply (way_of stop)) s.ending;
-    issued = refl;
-    steps = s.steps;
-    writes = s.writes;
-    keeps = subst (λ e. Kept (all_made (by_lists i) o.state (closing_then stop o.ending))
-        (all_made (by_digests i) p.state (closing_then stop e))) (sym s.ending)
-        (let k : Kept o.state p.state = record { agrees = s.agrees; within = s.within } in
-        closing_all (λ moves. Kept (all_made (by_lists i) o.state moves) (all_made (by_digests i) p.state moves)) k
-        (v.power o.state p.state k) stop o.ending);
-  }
+  closed_same stop issued o p s =
+      let k : Kept o.state p.state = record { agrees = s.agrees; within = s.within } in record {
+        reply = ap (closing_reply (way_of stop)) s.ending;
+        issued = refl;
+        steps = s.steps;
+        writes = s.writes;
+        keeps = rw s.ending (closing_all (Then o.state p.state) k (v.power o.state p.state k) stop o.ending);
+      }
 
   uncalled_same : (y : History) (d : Digests) (issued : List (List ℕ)) (said : Reply) → Kept y d
       → Same (uncalled y issued said) (uncalled d issued said)

@@ -1,11 +1,11 @@
 -- A world goes on as its platform does; each of its replies can be printed, and an event issues at most one snapshot.
 use Rattle.mm_world.proofs.Below.{◌≡◌, ℕ, ◌+◌, ◌-◌, ◌<◌, ◌≤◌, ◌^◌, Bool, true, false, List, [], ◌∷◌, ◌++◌, length, take, drop, Option, None}
-use Rattle.mm_world.proofs.Below.{Some, Result, Ok, Err, IfOk, OnErr, inl, inr, refl, sym, ap, ◌∙◌, subst, arith, length-append, ◌⊎◌, ◌==◌}
-use Rattle.mm_world.proofs.Below.{option_to_list, min, slice_index, Memory, Variant, Basic, Opt, zero_bytes, Batch, Meaning, Cell}
+use Rattle.mm_world.proofs.Below.{Some, Result, Ok, Err, IfOk, OnErr, inl, inr, refl, sym, ap, ◌∙◌, subst, arith, length-append, ◌==◌}
+use Rattle.mm_world.proofs.Below.{option_to_list, min, slice_index, Memory, Variant, Basic, Opt, Batch, Meaning, Cell}
 use Rattle.mm_world.proofs.Below.{flag_byte, Meddle, Stop, Standing, beside, Instance, Foreign, first_history, Digests, made, cell_of}
 use Rattle.mm_world.proofs.Below.{issued_bytes, register_reads, by_digests, seen_in, seen_at, reading_steps, instance_by, cell_at}
 use Rattle.mm_world.proofs.Below.{anchor-nil, summary-nil, seen_none, meaning_of, Reply, Ask, Checkpoint, Outcome, course_of, first_issued}
-use Rattle.mm_world.proofs.Below.{first_digests, Held, world_of, first_held, outcome_in, Follows, having_read, Wants, Stands, IsQuiet, Came}
+use Rattle.mm_world.proofs.Below.{first_digests, Held, world_of, first_held, outcome_in, Follows, Wants, Stands, IsQuiet, Came}
 use Rattle.mm_world.proofs.Below.{Lacks, AsksAs, ChecksAs, quiet_as, reads_beside, Event, printed, grown}
 use Rattle.mm_digest.specs.LengthLaws.{length-zero_bytes, length-start_of}
 use Rattle.mm_seal.specs.Cell.{cell_spelling}
@@ -86,24 +86,6 @@ module _ (h : Header) (old new : Standing) (issued : List (List ℕ)) (committed
   abbrev Holds : List (List ℕ) → ℕ → Type 0
   Holds issued' committed' = KeepsWorld h new issued' committed'
 
-  -- memory was wanting: the world is as before, or its reading steps were made
-  wants : (issued' : List (List ℕ)) (meddles : List Meddle) (stop : Stop) → Lacks (world_of h) d meddles stop old new → issued' ≡ issued
-      → (held_in h new issued' committed ≡ held_in h old issued committed)
-      ⊎ (held_in h new issued' committed ≡ having_read stop meddles (held_in h old issued committed))
-  wants issued' meddles stop l i =
-      let c = course_of stop meddles in let w = l.writes in
-      elim l.called [
-        | inl e ↦ inl (λ j. held_in h (e j) (i j) committed)
-        | inr e ↦
-            let seen = seen_at (world_of h) (by_digests (world_of h)) d c in
-            let n : seen.count ≡ committed = count_none (world_of h) (seen_in c.fates (reading_steps (world_of h).variant) 1) d
-            (seen_none c.fates (reading_steps (world_of h).variant) 1) in
-            let there : digests_in new committed ≡ seen = digests_are (world_of h) seen new committed e.0
-            ∙ (λ j. record seen { count = sym n j }) in
-            let steps = e.1 in
-            inr (λ j. record { header = h; digests = there j; issued = i j; steps = steps j; writes = w j })
-      ]
-
   -- an ask
   module _ (lent issued' : List (List ℕ)) (committed' : ℕ) (meddles : List Meddle) (stop : Stop) (offer : Offer) (b : Batch) where
     abbrev Asks : List (List ℕ) → Result Called Memory → Type 0
@@ -126,10 +108,23 @@ module _ (h : Header) (old new : Standing) (issued : List (List ℕ)) (committed
         subst (λ (x : List (List ℕ)). Holds x committed') (sym i) (settles h new _ (issued ++ option_to_list it.snapshot)
         committed' c.stands c.quiet (few_more issued it.snapshot few) (omega (arith, n)))
 
+    -- memory was wanting: the world is as before, or its reading steps were made
     pub wants_ask : (memory : Memory) → Asks lent (Err memory) → issued' ≡ issued
         → Wants (Ask meddles stop offer b) world (held_in h new issued' committed)
-    wants_ask memory asks i = subst (λ (w : Held). Wants (Ask meddles stop offer b) w (held_in h new issued' committed)) is
-        (wants issued' meddles stop (asks world_key world_barrier d s.stands s.quiet) i)
+    wants_ask memory asks i =
+        let c = course_of stop meddles in
+        let l : Lacks (world_of h) d meddles stop old new = asks world_key world_barrier d s.stands s.quiet in let w = l.writes in
+        subst (λ (w : Held). Wants (Ask meddles stop offer b) w (held_in h new issued' committed)) is (elim l.called [
+          | inl e ↦ inl (λ j. held_in h (e j) (i j) committed)
+          | inr e ↦
+              let seen = seen_at (world_of h) (by_digests (world_of h)) d c in
+              let n : seen.count ≡ committed = count_none (world_of h) (seen_in c.fates (reading_steps (world_of h).variant) 1) d
+              (seen_none c.fates (reading_steps (world_of h).variant) 1) in
+              let there : digests_in new committed ≡ seen = digests_are (world_of h) seen new committed e.0
+              ∙ (λ j. record seen { count = sym n j }) in
+              let steps = e.1 in
+              inr (λ j. record { header = h; digests = there j; issued = i j; steps = steps j; writes = w j })
+        ])
 
     pub settled_lacking : (memory : Memory) → Asks lent (Err memory) → issued' ≡ issued → Holds issued' committed
     settled_lacking memory asks i =
@@ -196,9 +191,7 @@ stands_new Basic meaning key barrier cell length-key length-barrier e =
       at = record {
         spells =
             record { summary = length-start_of Basic meaning.id; key = length-key; barrier = length-zero_bytes; variant = (refl, refl) };
-        cell =
-            ap Some (e ∙ ap (λ (s : List ℕ). cell_spelling
-            (cell_at i (record { digest = s; flag = false; register = zero_bytes; count = 0 }))) (sym (summary-nil meaning.id)));
+        cell = rw (e, summary-nil meaning.id) refl;
         reads = tt;
       };
       register = refl;
@@ -208,9 +201,7 @@ stands_new Opt meaning key barrier cell length-key length-barrier e =
     record {
       at = record {
         spells = record { summary = length-start_of Opt meaning.id; key = length-key; barrier = length-barrier; variant = tt };
-        cell =
-            ap Some (e ∙ ap (λ (s : List ℕ). cell_spelling
-            (cell_at i (record { digest = s; flag = false; register = zero_bytes; count = 0 }))) (sym (anchor-nil meaning.id)));
+        cell = rw (e, anchor-nil meaning.id) refl;
         reads = refl;
       };
       register = refl;

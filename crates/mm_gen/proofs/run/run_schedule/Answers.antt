@@ -1,6 +1,6 @@
-use Rattle.mm_gen.proofs.Below.{◌∙◌, sym, ap, Err, sha256, schedule_lines, running, Running, line_at}
+use Rattle.mm_gen.proofs.Below.{◌∙◌, sym, ap, Err, sha256, running, Running, line_at}
 use Rattle.std.proofs.lemmas.Result.{err_from_is_err_and}
-use Rattle.mm_gen.proofs.Tallying.{behind_first, ended, goes_on, next, starts, stops, told_at, within}
+use Rattle.mm_gen.proofs.Tallying.{behind_first, ended, goes_on, next, starts, stops, within}
 use Rattle.mm_gen.proofs.run.run_schedule.Goals as goal
 
 pub lines-init : goal.lines-init
@@ -15,26 +15,23 @@ lines-init c =
     }
 
 pub answered-requires-clause-short : goal.answered-requires-clause-short
-answered-requires-clause-short c =
-    (next _ _ _ _ _ c.in-Some.line.now c.in-Some.behind.now c.lines.invariant.going (sym c.in-Some.ensures)).short
+answered-requires-clause-short c = (next _ _ _ _ _ _ _ c.lines.invariant.going (sym c.in-Some.ensures)).short
 
 pub answered-requires-clause-known : goal.answered-requires-clause-known
-answered-requires-clause-known c =
-    (next _ _ _ _ _ c.in-Some.line.now c.in-Some.behind.now c.lines.invariant.going (sym c.in-Some.ensures)).known
+answered-requires-clause-known c = (next _ _ _ _ _ _ _ c.lines.invariant.going (sym c.in-Some.ensures)).known
 
 pub count-requires : goal.count-requires
-count-requires c = (next _ _ _ _ _ c.in-Some.line.now c.in-Some.behind.now c.lines.invariant.going (sym c.in-Some.ensures)).room
+count-requires c = (next _ _ _ _ _ _ _ c.lines.invariant.going (sym c.in-Some.ensures)).room
 
 pub lines-smaller-in_ok-put_reply : goal.lines-smaller-in_ok-put_reply
-lines-smaller-in_ok-put_reply c =
-    (next _ _ _ _ _ c.in-Some.line.now c.in-Some.behind.now c.lines.invariant.going (sym c.in-Some.ensures)).less
+lines-smaller-in_ok-put_reply c = (next _ _ _ _ _ _ _ c.lines.invariant.going (sym c.in-Some.ensures)).less
 
 pub lines-smaller : goal.lines-smaller
-lines-smaller c = (next _ _ _ _ _ c.in-Some.line.now c.in-Some.behind.now c.lines.invariant.going (sym c.in-Some.ensures)).less
+lines-smaller c = (next _ _ _ _ _ _ _ c.lines.invariant.going (sym c.in-Some.ensures)).less
 
 pub lines-preserved-in_ok-put_reply : goal.lines-preserved-in_ok-put_reply
 lines-preserved-in_ok-put_reply c =
-    let step = next _ _ _ _ _ c.in-Some.line.now c.in-Some.behind.now c.lines.invariant.going (sym c.in-Some.ensures) in
+    let step = next _ _ _ _ _ _ _ c.lines.invariant.going (sym c.in-Some.ensures) in
     record {
       going = goes_on _ _ _ (running c.answered.new.progress) _ _ _ _ c.in-Some.line.now c.in-Some.behind.now c.in_ok-reply.reply step
           c.in_ok-reply.ensures.reply c.count.ensures.counted c.in_ok-put_reply.ensures;
@@ -43,7 +40,7 @@ lines-preserved-in_ok-put_reply c =
 
 pub lines-preserved : goal.lines-preserved
 lines-preserved c =
-    let step = next _ _ _ _ _ c.in-Some.line.now c.in-Some.behind.now c.lines.invariant.going (sym c.in-Some.ensures) in
+    let step = next _ _ _ _ _ _ _ c.lines.invariant.going (sym c.in-Some.ensures) in
     record {
       going = goes_on _ _ _ (running c.answered.new.progress) _ _ _ _ c.in-Some.line.now c.in-Some.behind.now c.in_ok-reply.reply step
           c.in_ok-reply.ensures.reply c.count.ensures.counted c.in_ok-put_reply.ensures;
@@ -52,16 +49,14 @@ lines-preserved c =
 
 pub returns-clause-sums : goal.returns-clause-sums
 returns-clause-sums c =
-    let made = ended _ _ (running c.lines.progress) c.lines.counts c.lines.replies c.lines.invariant.going (sym c.in_default.ensures) in
-    told_at c.args.header.now (schedule_lines c.args.number c.args.count c.args.header.now) (running c.lines.progress) c.lines.counts
-    c.report-report.result.committed c.report-report.result.issued c.digest_of.result c.lines.replies
+    ended _ _ (running c.lines.progress) _ _ _ _ _ c.digest_of.result c.lines.invariant.going (sym c.in_default.ensures)
     c.lines.invariant.header c.report-report.ensures.0 c.report-report.ensures.1
-    (c.digest_of.ensures ∙ ap sha256 (c.as_slice-2.ensures.value ∙ c.in_ok-put_last_line.ensures)) made
+    (c.digest_of.ensures ∙ ap sha256 (c.as_slice-2.ensures.value ∙ c.in_ok-put_last_line.ensures))
 
 pub returns-in_err-reply-clause-limit : goal.returns-in_err-reply-clause-limit
 returns-in_err-reply-clause-limit c =
     let p = err_from_is_err_and c.from_residual-in_err-reply.result c.from_residual-in_err-reply.ensures.1 in
-    let step = next _ _ _ _ _ c.in-Some.line.now c.in-Some.behind.now c.lines.invariant.going (sym c.in-Some.ensures) in
+    let step = next _ _ _ _ _ _ _ c.lines.invariant.going (sym c.in-Some.ensures) in
     rw (p.1, p.2) (stops _ _ _ _ _ _ _ _ c.in_err-reply.field-0.0 step c.lines.invariant.header
     (λ much. c.in_err-reply.ensures.limit (ap Err much)))
 
