@@ -19,23 +19,19 @@ use Rattle.mm_seal.specs.declared.cell.CellFault.TheVariants as cell_fault
 use Rattle.mm_basic.proofs.Above as in_basic
 use Rattle.mm_opt.proofs.Above as in_opt
 
-asked_begun : (variant : Variant) (meaning : Meaning) → IsLawful meaning
-    → (old new : Standing) (offer : List ℕ) (b : Batch) (ended : Ended) → is_long b ≡ false
-    → FinishedAsk meaning (begun variant) old new offer b ended → AskedIn variant meaning old new offer b (result_of ended)
-asked_begun Basic meaning lawful old new offer b ended short f =
-    in_basic.asked meaning lawful old new offer b (result_of ended)
-    (in_basic.calls_finished meaning None old new offer b ended (result_of ended) refl short f.finishes refl)
-    (λ _. (f.ends Basic refl).calls)
-asked_begun Opt meaning lawful old new offer b ended short f =
-    in_opt.asked meaning lawful old new offer b (result_of ended)
-    (in_opt.calls_finished Begun meaning old new offer b ended (result_of ended) refl short f.finishes refl) f.faults
-
 pub asked_in : (variant : Variant) (meaning : Meaning) → IsLawful meaning
     → (old new : Standing) (offer : List ℕ) (b : Batch) (call : AskCall) (ended : Ended) (result : Result BatchAnswer Refusal)
     → is_long b ≡ false → call ≡ begun variant
     → FinishedAsk meaning call old new offer b ended → result ≡ result_of ended → AskedIn variant meaning old new offer b result
-asked_in variant meaning lawful old new offer b call ended result short first f is =
-    rw is (asked_begun variant meaning lawful old new offer b ended short (rw (sym first) f))
+asked_in Basic meaning lawful old new offer b call ended result short first finished is =
+    let f : FinishedAsk meaning (begun Basic) old new offer b ended = rw (sym first) finished in
+    rw is (in_basic.asked meaning lawful old new offer b (result_of ended)
+    (in_basic.calls_finished meaning None old new offer b ended (result_of ended) refl short f.finishes refl)
+    (λ _. (f.ends Basic refl).calls))
+asked_in Opt meaning lawful old new offer b call ended result short first finished is =
+    let f : FinishedAsk meaning (begun Opt) old new offer b ended = rw (sym first) finished in
+    rw is (in_opt.asked meaning lawful old new offer b (result_of ended)
+    (in_opt.calls_finished Begun meaning old new offer b ended (result_of ended) refl short f.finishes refl) f.faults)
 
 pub one_output : (variant : Variant) (meaning : Meaning) (old new : Standing) (offer request : List ℕ)
     (result : Result BatchAnswer Refusal) → AskedIn variant meaning old new offer (One request) result
@@ -90,33 +86,29 @@ ends_short (Ok found) old new ended short ends =
     given_short ended (answer_in found) (steps_give (acts_for found) (answer_in found) old new ended ends)
 
 -- one call of either variant
-called_in : (variant : Variant) (meaning : Meaning) (old new : Standing) (offer request : List ℕ) (result : Result Answer Refusal)
-    → is_long (One request) ≡ false → AskedIn variant meaning old new offer (One request) (whole_in result)
-    → IsCall variant meaning old new offer request result
-called_in Basic meaning old new offer request result short a = record {
-  goes = a.goes short;
-  untouched = a.untouched;
-  faults = (of_whole result old new request a.faults a.fits).0;
-  short = λ e.
-      let k = a.calls.asks short in
-      subst (λ (r : Result Answer Refusal). IsShort (whole_in r)) e
-      (subst (λ (r : Result BatchAnswer Refusal). IsShort r) (sym k.gives)
-      (ends_short k.asks.found k.asks.middle new k.ended
-      (reads_short meaning old k.asks.middle offer (One request) k.asks.found k.asks.reads) k.asks.ends));
-  fits = (of_whole result old new request a.faults a.fits).1;
-  counts = basic_writes old new result (a.steps short);
-}
-called_in Opt meaning old new offer request result short a = record {
-  goes = a.goes short;
-  untouched = a.untouched;
-  faults = (of_whole result old new request a.faults a.fits).0;
-  short = λ e. subst (λ (r : Result Answer Refusal). StepsBy (whole_in r) old new) e (a.steps short);
-  fits = (of_whole result old new request a.faults a.fits).1;
-  counts = opt_writes meaning old new offer (One request) result short a;
-}
-
 pub is_call : (variant : Variant) (meaning : Meaning) (old new : Standing) (offer request : List ℕ) (result : Result Answer Refusal)
     (gives : Result BatchAnswer Refusal) → gives ≡ whole_in result → is_long (One request) ≡ false
     → AskedIn variant meaning old new offer (One request) gives → IsCall variant meaning old new offer request result
-is_call variant meaning old new offer request result gives e short a =
-    called_in variant meaning old new offer request result short (rw (sym e) a)
+is_call Basic meaning old new offer request result gives e short asked =
+    let a : AskedIn Basic meaning old new offer (One request) (whole_in result) = rw (sym e) asked in record {
+      goes = a.goes short;
+      untouched = a.untouched;
+      faults = (of_whole result old new request a.faults a.fits).0;
+      short = λ e.
+          let k = a.calls.asks short in
+          subst (λ (r : Result Answer Refusal). IsShort (whole_in r)) e
+          (subst (λ (r : Result BatchAnswer Refusal). IsShort r) (sym k.gives)
+          (ends_short k.asks.found k.asks.middle new k.ended
+          (reads_short meaning old k.asks.middle offer (One request) k.asks.found k.asks.reads) k.asks.ends));
+      fits = (of_whole result old new request a.faults a.fits).1;
+      counts = basic_writes old new result (a.steps short);
+    }
+is_call Opt meaning old new offer request result gives e short asked =
+    let a : AskedIn Opt meaning old new offer (One request) (whole_in result) = rw (sym e) asked in record {
+      goes = a.goes short;
+      untouched = a.untouched;
+      faults = (of_whole result old new request a.faults a.fits).0;
+      short = λ e. subst (λ (r : Result Answer Refusal). StepsBy (whole_in r) old new) e (a.steps short);
+      fits = (of_whole result old new request a.faults a.fits).1;
+      counts = opt_writes meaning old new offer (One request) result short a;
+    }

@@ -98,25 +98,20 @@ pub offered_then : (i : Instance) (y s : History) (p : Pending) (offer : List �
 offered_then i y s p offer same o =
     record { content = o.content; right = o.right; at = o.at; awaited = awaited_then y s p same o.awaited; most = o.most }
 
--- a record that waits has a position of at most 2^48
-abbrev AtMost : Option Pending → Type 0
-AtMost read = IfSome read (λ p. p.position ≤ last_position)
-
-read_most : (slot : ℕ) (bytes : List ℕ) (read : Option Pending) → ReadsPending slot bytes read → AtMost read
-read_most slot bytes None r = tt
-read_most slot bytes (Some p) r = r.0.most
-
-later_most : (a b : Option Pending) → AtMost a → AtMost b → AtMost (later a b)
-later_most None b x y = y
-later_most (Some a) None x y = x
-later_most (Some a) (Some b) x y =
-    elim (nat_le b.position a.position) as (λ (t : Bool). AtMost (if t then Some a else Some b)) [ true ↦ x | false ↦ y ]
+-- a record that waits is one of those that were read, so its position is at most 2^48
+later_is : (a b : Option Pending) (p : Pending) → later a b ≡ Some p → (a ≡ Some p) ⊎ (b ≡ Some p)
+later_is None b p = inr
+later_is (Some a) None p = inl
+later_is (Some a) (Some b) p =
+    elim (nat_le b.position a.position) as
+    (λ (t : Bool). (if t then Some a else Some b) ≡ Some p → (Some a ≡ Some p) ⊎ (Some b ≡ Some p)) [ true ↦ inl | false ↦ inr ]
 
 pub waiting_most : (two three : List ℕ) (waiting : Option Pending) (p : Pending) → IsWaiting two three waiting → waiting ≡ Some p
     → p.position ≤ last_position
-waiting_most two three waiting p w e =
-    subst (λ (read : Option Pending). AtMost read) (sym w.is ∙ e)
-    (later_most w.in_two w.in_three (read_most 2 two w.in_two w.reads_two) (read_most 3 three w.in_three w.reads_three))
+waiting_most two three waiting p w e = elim (later_is w.in_two w.in_three p (sym w.is ∙ e)) [
+  | inl is ↦ (subst (ReadsPending 2 two) is w.reads_two).0.most
+  | inr is ↦ (subst (ReadsPending 3 three) is w.reads_three).0.most
+]
 
 -- the position is the last one, or the request is a repeat
 placed_by : (s : History) (p : Pending) (position : ℕ) → position ≡ p.position - 1 → IsAwaited s p → 1 ≤ p.position
