@@ -66,18 +66,12 @@ module _ (meaning : Meaning) (key barrier : List ℕ) where
     others = foreign_powered;
   }
 
-  commit_powered : (b : Batch) → KeepsPower (Commit b ∷ [])
-  commit_powered b y may h = λ _. committed_items y.is_open y b
-
-  opening_powered : (b : Batch) → KeepsPower (Reset ∷ []) × KeepsPower (Placed b ∷ [])
-  opening_powered b = (
-    λ y may h is. absurd (subst (λ (f : Bool). IsAllowed Opt f I y Reset) is may.0),
-    λ y may h _. pushed_items y.items (Value (guard barrier b)),
-  )
-
   asks_powered : (flag fresh : Bool) (b : Batch) → EachMove KeepsPower (ask_steps Opt flag fresh b)
-  asks_powered true true b = (commit_powered b, tt)
-  asks_powered false true b = let o = opening_powered b in (o.0, (o.1, (commit_powered b, tt)))
+  asks_powered true true b = (λ y may h _. committed_items y.is_open y b, tt)
+  asks_powered false true b = (
+    λ y may h is. absurd (subst (λ (f : Bool). IsAllowed Opt f I y Reset) is may.0),
+    (λ y may h _. pushed_items y.items (Value (guard barrier b)), (λ y may h _. committed_items y.is_open y b, tt)),
+  )
   asks_powered flag false b = tt
 
   pub stays_powered : (y : History) (c : Course) (offer : List ℕ) (b : Batch) → life_of Opt y ≢ LostLife

@@ -67,19 +67,12 @@ elsewhere_same slots p = record { two = refl; three = refl; offer = refl }
 turns : (n m : ℕ) → n ≡ m → 1 ≤ m → ((n % 2 ≡ 0) × ((m - 1) % 2 ≡ 1)) ⊎ ((n % 2 ≡ 1) × ((m - 1) % 2 ≡ 0))
 turns n m e h = grind (arith, e, h)
 
-abbrev LeavesSlot : Slots → List ℕ → ℕ → ℕ → Type 0
-LeavesSlot slots bytes here n = slot_read (with_slot slots here bytes) n ≡ slot_read slots n
-
-by_turn : (slots : Slots) (bytes : List ℕ) (here there : ℕ)
-    → ((here ≡ 0) × (there ≡ 1)) ⊎ ((here ≡ 1) × (there ≡ 0))
-    → LeavesSlot slots bytes here 2 × LeavesSlot slots bytes here 3 × LeavesSlot slots bytes here there
-by_turn slots bytes here there (inl t) = rw (t.0, t.1) (refl, refl, refl)
-by_turn slots bytes here there (inr t) = rw (t.0, t.1) (refl, refl, refl)
-
 pub elsewhere_put : (slots : Slots) (p : Pending) (n : ℕ) (bytes : List ℕ) → n ≡ p.position → 1 ≤ p.position
     → IsElsewhere slots (with_slot slots (n % 2) bytes) p
-elsewhere_put slots p n bytes e h =
-    let t = by_turn slots bytes (n % 2) (offer_slot p) (turns n p.position e h) in record { two = t.0; three = t.1; offer = t.2 }
+elsewhere_put slots p n bytes e h = elim (turns n p.position e h) [
+  | inl t ↦ record { two = rw t.0 refl; three = rw t.0 refl; offer = rw (t.0, t.1) refl }
+  | inr t ↦ record { two = rw t.0 refl; three = rw t.0 refl; offer = rw (t.0, t.1) refl }
+]
 
 -- Slots that fit go on to fit, and the first ones do.
 
