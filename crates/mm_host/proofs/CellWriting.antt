@@ -34,24 +34,17 @@ counted_most (suc n) count = let rest = counted_most n (counted count) in omega 
 
 opens_sum : (flag : Bool) (n m before middle after : ℕ) → middle ≡ counted_by (openings flag n) before
     → after ≡ counted_by (openings (is_open_after flag n) m) middle → after ≡ counted_by (openings flag (n + m)) before
-opens_sum true n m before middle after e f = f ∙ e
-opens_sum false zero m before middle after e f = rw (zero-add m, sym e) f
-opens_sum false (suc n) m before middle after e f = rw (suc-add n m) (f ∙ e)
+opens_sum flag n m before middle after e f = grind (arith, e, f)
 
 open_sum : (flag : Bool) (n m : ℕ) → is_open_after (is_open_after flag n) m ≡ is_open_after flag (n + m)
-open_sum true n m = refl
-open_sum false zero m = ap (is_open_after false) (sym (zero-add m))
-open_sum false (suc n) m = ap (is_open_after false) (sym (suc-add n m))
+open_sum flag n m = grind arith
 
 once_by : (flag : Bool) (n before after : ℕ) → after ≡ counted_by (openings flag n) before → (after ≡ before) ⊎ (after ≡ counted before)
-once_by true n before after e = inl e
-once_by false zero before after e = inl e
-once_by false (suc n) before after e = inr e
+once_by flag n before after e = grind (arith, e)
 
 -- where nothing was written
 opens_none : (flag : Bool) (before after : ℕ) → after ≡ before → after ≡ counted_by (openings flag 0) before
-opens_none true before after e = e
-opens_none false before after e = e
+opens_none flag before after e = grind (arith, e)
 
 pub writes_none : (before after : Standing) → after.writes ≡ before.writes → WritesByOpening 0 before after
 writes_none before after e = record {
@@ -70,8 +63,7 @@ LeadsOver Basic requests before after = Unit {0}
 LeadsOver Opt requests before after = ((requests ≡ 0) × (after ≡ before)) ⊎ LeavesFlag requests before after
 
 flag_kept : (flag : Bool) → flag ≡ is_open_after flag 0
-flag_kept true = refl
-flag_kept false = refl
+flag_kept flag = grind arith
 
 leaves_of : (n : ℕ) (before after : Standing) → LeadsOver Opt n before after → (flag : Bool) → TellsFlag before flag
     → TellsFlag after (is_open_after flag n)
@@ -280,8 +272,7 @@ none_new (Some fault) = omega arith
 
 opens_one : (flag : Bool) (before after : ℕ) → (flag ≡ true → after ≡ before) → after ≡ counted before
     → after ≡ counted_by (openings flag 1) before
-opens_one true before after same e = same refl
-opens_one false before after same e = e
+opens_one flag before after same e = grind (arith, same, e)
 
 opt_quiet : (why : Refusal) (old new : Standing) → new.writes ≡ old.writes → CallWrites Opt (Err why) old new
 opt_quiet why old new same =
