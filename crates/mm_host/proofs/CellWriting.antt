@@ -118,8 +118,7 @@ both_writes variant n m before middle after a b = record {
 
 -- Basic
 basic_answered : (again : Bool) (old new : Standing) → BasicAnswered again old new → new.writes ≡ counted_by (new_by again) old.writes
-basic_answered true old new s = s.1
-basic_answered false old new s = s.1
+basic_answered again old new s = grind (arith, s)
 
 -- the requests that a refused call came to write
 basic_refused : (broken : Option StepFault) (old new : Standing) → BasicRefused broken old new
@@ -144,8 +143,7 @@ IsByCell cell found = Unit {0}
 
 change_by_cell : (cell : Cell) (flag : Bool) (value : List ℕ) (answer : BatchAnswer) → cell.flag ≡ flag → answer.again ≡ false
     → IsByCell cell (Ok (change_by flag value (opened_cell cell) answer))
-change_by_cell cell true value answer e new = (new, e)
-change_by_cell cell false value answer e new = (new, e, refl)
+change_by_cell cell flag value answer e new = grind (arith, e, new)
 
 from_by_cell : (e : Result Bool Refusal) (cell : Cell) (value : List ℕ) (answer : Bool → BatchAnswer)
     → ((again : Bool) → (answer again).again ≡ again) → IsByCell cell (found_from e cell value answer)
@@ -164,14 +162,11 @@ at_by_cell false meaning cell register (Ok offered) b =
 
 -- want of memory may come in its place
 pub or_all : {A : Type 0} (P : Result A Refusal → Type 0) (x found : Result A Refusal) → P x → P (Err Memory) → OrMemory x found → P found
-or_all P (Err why) found h m o = subst P (sym o) h
-or_all P (Ok it) found h m (inl e) = subst P (sym e) h
-or_all P (Ok it) found h m (inr e) = subst P (sym e) m
+or_all P x found h m o = grind (arith, h, m, o)
 
 -- the cell that was seen
 own_spelled : (t : Bool) (bytes : List ℕ) (cell seen : Cell) → SpellsCell bytes cell → own_cell t cell ≡ Ok seen → SpellsCell bytes seen
-own_spelled true bytes cell seen s e = let same : cell ≡ seen = cc in subst (λ (c : Cell). SpellsCell bytes c) same s
-own_spelled false bytes cell seen s e = absurd (cc)
+own_spelled t bytes cell seen s e = grind (arith, s, e)
 
 seen_spelled : (id : ℕ) (bytes : List ℕ) (read : Result Cell CellFault) (seen : Cell) → ReadsCell bytes read → Ok seen ≡ cell_in id read
     → SpellsCell bytes seen
@@ -180,9 +175,7 @@ seen_spelled id bytes (Err Unspelled) seen r e = absurd (cc)
 seen_spelled id bytes (Ok cell) seen r e = own_spelled (is_cell_of id cell) bytes cell seen r (sym e)
 
 room_cell : (found : Found) (old new : Standing) → MakesRoom (Ok found) old new → new.cell ≡ old.cell
-room_cell (Repeat answer) old new r = ap (λ (s : Standing). s.cell) r
-room_cell (Inside ready) old new r = ap (λ (s : Standing). s.cell) r.same
-room_cell (Opens opening) old new r = ap (λ (s : Standing). s.cell) r.same
+room_cell found old new r = grind (arith, r)
 
 -- the cell after these steps; a call that gave an answer made all of its own
 abbrev cells_after : List Act → Option (List ℕ) → Option (List ℕ)
@@ -257,8 +250,7 @@ writes_new old new once opens = record {
 }
 
 opens_from : (flag : Bool) (old new : Standing) → StepsFrom flag false old new → new.writes ≡ counted_by (openings flag 1) old.writes
-opens_from true old new s = s.1
-opens_from false old new s = s.1
+opens_from flag old new s = grind (arith, s)
 
 opt_answered : (again : Bool) (old new : Standing) → StepsAnswered again old new → WritesAtMostOnce old new
     → ((flag : Bool) → TellsFlag old flag → StepsFrom flag again old new) → WritesByOpening (new_by again) old new
@@ -267,8 +259,7 @@ opt_answered false old new s once from = writes_new old new once (λ flag t. ope
 
 -- a refused call
 none_new : (broken : Option StepFault) → IsNewAt broken 0
-none_new None = refl
-none_new (Some fault) = omega arith
+none_new broken = grind arith
 
 opens_one : (flag : Bool) (before after : ℕ) → (flag ≡ true → after ≡ before) → after ≡ counted before
     → after ≡ counted_by (openings flag 1) before

@@ -32,15 +32,12 @@ pub record CameWrites (variant : Variant) (came : Result Resumed HostFault) (bef
   pub leads : LeadsBy variant came counts.requests before after
 
 pub new_most : (again : Bool) (n : ℕ) → n ≡ new_by again → n ≤ 1
-new_most true n e = omega (arith, e)
-new_most false n e = omega (arith, e)
+new_most again n e = grind (arith, e)
 
 -- a finding counts as its last read
 three_counted : (two : List ℕ) (three : Result (List ℕ) StoreFault) (old new : StoreStanding) (result : Result (Option Pending) StoreFault)
     → CountsFailures old.faults new.faults three → AfterThree two three result → CountsFailures old.faults new.faults result
-three_counted two (Err fault.Memory) old new result c g = rw g c
-three_counted two (Err fault.Failed) old new result c g = rw g c
-three_counted two (Ok three) old new result c g = elim g.gives [ inl e ↦ rw e c | inr e ↦ rw e c ]
+three_counted two three old new result c g = grind (arith, c, g)
 
 two_counted : (two : Result (List ℕ) StoreFault) (old middle new : StoreStanding) (result : Result (Option Pending) StoreFault)
     → CountsFailures old.faults middle.faults two → AfterTwo two middle new result → CountsFailures old.faults new.faults result

@@ -1,5 +1,5 @@
 -- What one call for a request comes to by lists, in either variant.
-use Rattle.mm_host.proofs.Below.{◌≡◌, ◌≢◌, ℕ, List, [], ◌∷◌, ◌++◌, Option, None, Some, Result, Ok, Err, refl, ◌∙◌, subst, inl, inr, ◌⊎◌}
+use Rattle.mm_host.proofs.Below.{arith, ◌≡◌, ◌≢◌, ℕ, List, [], ◌∷◌, ◌++◌, Option, None, Some, Result, Ok, Err, refl, ◌∙◌, subst, inl, inr, ◌⊎◌}
 use Rattle.mm_host.proofs.Below.{Variant, Basic, Opt, Item, Standing, StepFault, Meaning, IsLawful, Batch, One, Content, Instance, basic}
 use Rattle.mm_host.proofs.Below.{opt, History, Commit, moved, Life, LostLife, life_of, digests_of, Names, StandsFor, BatchAnswer, Refusal}
 use Rattle.mm_host.proofs.Below.{Memory, Device, IsAsked, IsWithin, called, given_for, CallContinues, CallsOn, Course, found_at, by_lists}
@@ -32,15 +32,10 @@ committed_items true y b = pushed_items y.items (Own b)
 committed_items false y b = renamed_items y.items b
 
 pub not_lost : (flag bare own marred : Bool) → (flag ≡ true → bare ≡ false) → life_by flag bare own marred ≢ LostLife
-not_lost true true own marred h = let clash : true ≡ false = h refl in absurd (cc)
-not_lost true false true true h = λ e. cc
-not_lost false bare own true h = λ e. cc
-not_lost flag bare own marred h = λ e. cc
+not_lost flag bare own marred h = grind (arith, h)
 
 pub was_powered : (flag bare own marred : Bool) → life_by flag bare own marred ≢ LostLife → flag ≡ true → bare ≡ false
-was_powered true true own marred h e = absurd (h refl)
-was_powered true false own marred h e = refl
-was_powered false bare own marred h e = absurd (cc)
+was_powered flag bare own marred h e = grind (arith, h, e)
 
 module _ (meaning : Meaning) (key barrier : List ℕ) where
   abbrev I : Instance
@@ -122,8 +117,7 @@ pub record Met (all others : List (List ℕ)) (asked : List Batch) (i : Instance
   pub powered : life_of i.variant y ≢ LostLife → life_of i.variant after ≢ LostLife
 
 faulted : (why : Refusal) (life : Life) (broken : StepFault) → fault_of why ≡ Some broken → IsRefusedAs why life
-faulted (Device fault) _ broken has = tt
-faulted why _ broken has = absurd (cc)
+faulted why end broken has = grind (arith, has)
 
 module _ (all others : List (List ℕ)) (asked : List Batch) (i : Instance) (y : History) (standing : Standing) (offer : List ℕ)
     (p : Pending) (gives : Result BatchAnswer Refusal) where

@@ -1,5 +1,5 @@
 -- One call of either variant promises what the cores' whole calls do.
-use Rattle.mm_host.proofs.Below.{◌≡◌, ℕ, Bool, true, false, List, length, None, Result, Ok, Err, refl, sym, subst, Variant, Basic, Opt}
+use Rattle.mm_host.proofs.Below.{arith, ◌≡◌, ℕ, Bool, true, false, List, length, None, Result, Ok, Err, refl, sym, subst, Variant, Basic, Opt}
 use Rattle.mm_host.proofs.Below.{Standing, Meaning, IsLawful, Batch, One, IsFit, is_long, Answer, BatchAnswer, Refusal, Long, Verdict}
 use Rattle.mm_host.proofs.Below.{Ended, Answered, Refused, Broken, result_of, Blames, whole, whole_in, fault_in, weighed, EndsTo}
 use Rattle.mm_host.proofs.Below.{ends_result, Given, steps_give, acts_for, answer_in, basic_call, StepsBy, AskedIn, IsCall}
@@ -43,8 +43,7 @@ one_output Opt meaning old new offer request result a = in_basic.one_output requ
 of_whole : (result : Result Answer Refusal) (old new : Standing) (request : List ℕ)
     → Blames (fault_in (whole_in result)) old.faults new.faults → IfOk (whole_in result) (λ all. IsFit (One request) all)
     → Blames (fault_in result) old.faults new.faults × IfOk result (λ answer. IsFit (One request) (whole answer))
-of_whole (Ok answer) old new request b f = (b, f)
-of_whole (Err why) old new request b f = (b, f)
+of_whole result old new request b f = grind (arith, b, f)
 
 -- no call of Basic that isn't too long is refused as that
 abbrev IsShort : {A : Type 0} → Result A Refusal → Type 0
@@ -53,9 +52,7 @@ IsShort result = Unit {0}
 
 weighed_short : (spelled tagged : Bool) (verdict : Verdict) (fits : Bool) (next : List ℕ) (answer : Bool → BatchAnswer)
     → IsShort (found_from (weighed spelled tagged verdict fits) next answer)
-weighed_short true true Fresh true next answer = tt
-weighed_short true true Again true next answer = tt
-weighed_short _ _ _ _ next answer = tt
+weighed_short spelled tagged verdict fits next answer = grind arith
 
 found_short : (meaning : Meaning) (seen : Seen) (b : Batch) → IsShort (found_in meaning seen b)
 found_short meaning (NoCell cell_fault.Blank) b = tt

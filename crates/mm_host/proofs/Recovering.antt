@@ -1,5 +1,5 @@
 -- Every exit of a recovery leaves slots that fit the history.
-use Rattle.mm_host.proofs.Below.{◌≡◌, ℕ, ◌-◌, ◌%◌, true, List, Option, None, Some, Result, Ok, Err, refl, sym, ap, ◌∙◌, subst, inl, inr}
+use Rattle.mm_host.proofs.Below.{arith, ◌≡◌, ℕ, ◌-◌, ◌%◌, true, List, Option, None, Some, Result, Ok, Err, refl, sym, ap, ◌∙◌, subst, inl, inr}
 use Rattle.mm_host.proofs.Below.{◌≤◌, IfOk, ◌⊎◌, Variant, Basic, Opt, Standing, Meaning, IsLawful, Batch, One, Instance, basic, opt}
 use Rattle.mm_host.proofs.Below.{History, total_of, StandsFor, Answer, BatchAnswer, life_of, Refusal, whole, whole_in, AreAsked, fault_of}
 use Rattle.mm_host.proofs.Below.{StepFault, StoreFault, ReadsSlot, WritesSlot, putting, StoreStanding, Pending, Slots, slot_read, with_slot}
@@ -32,8 +32,7 @@ pub record Saw (slots : Slots) (old new : StoreStanding) (result : Result (Optio
 
 took : (two three : List ℕ) (result : Result (Option Pending) StoreFault) (taken w : Option Pending) → IsWaiting two three taken
     → (result ≡ Ok taken) ⊎ (result ≡ Err fault.Memory) → result ≡ Ok w → IsWaiting two three w
-took two three result taken w is (inl e) f = let same : taken ≡ w = cc in rw (sym same) is
-took two three result taken w is (inr e) f = absurd (cc)
+took two three result taken w is e f = grind (arith, is, e, f)
 
 saw_three : (slots : Slots) (two : List ℕ) (three : Result (List ℕ) StoreFault) (old new : StoreStanding)
     (result : Result (Option Pending) StoreFault) → old.slots ≡ Some slots → two ≡ slot_read slots 2 → ReadsSlot 3 old new three
@@ -55,8 +54,7 @@ saw_two slots (Ok two) old middle new result t r g =
     record { told = s.told; honest = s.honest ∙ r.honest; waiting = s.waiting }
 
 grown_none : (y : History) (waiting : Option Pending) → IsGrown y waiting y
-grown_none y None = refl
-grown_none y (Some p) = inl refl
+grown_none y waiting = grind arith
 
 -- nothing more is known where memory was wanting in the call
 refused_comes : (i : Instance) (y : History) (slots : Slots) (waiting : Option Pending) (after : History) (why : Refusal)

@@ -133,12 +133,7 @@ FindsAs life content examined = AsLife life (if is_lost life then Err Lost else 
 
 admitted_here : (life : Life) (content : Content) (here repeat : Bool) → (here ≡ true) ⊎ (repeat ≡ true)
     → FindsAs life content (admitted (judged life here repeat) true)
-admitted_here LostLife content here repeat h = refl
-admitted_here Spoiled content here repeat h = refl
-admitted_here Live content true repeat h = tt
-admitted_here Live content false true h = tt
-admitted_here Live content false false (inl e) = absurd (cc)
-admitted_here Live content false false (inr e) = absurd (cc)
+admitted_here ends content here repeat h = grind (arith, h)
 
 pub found_refused : (i : Instance) (s : History) (p : Pending) (offer : List ℕ) (o : IsOffered i s p offer) (why : Refusal)
     → found_at i (by_lists i) s (One p.request) offer ≡ Err why → IsRefusedAs why (life_of i.variant s)
@@ -165,17 +160,12 @@ found_refused i s p offer o why e =
 ended_found : (i : Instance) (seen end : History) (b : Batch) (found : Result Found Refusal) (moves : List Move) (broken : Option StepFault)
     (why : Refusal)
     → given_for (ended_by (by_lists i) seen end b found moves broken) ≡ Err why → fault_of why ≡ None → (found ≡ Err why) × (broken ≡ None)
-ended_found i seen end b found moves (Some fault) why e none =
-    let same : Device fault ≡ why = cc in
-    let some : fault_of (Device fault) ≡ None = subst (λ (w : Refusal). fault_of w ≡ None) (sym same) none in absurd (cc)
-ended_found i seen end b (Err w) moves None why e none = let same : w ≡ why = cc in (ap (λ (x : Refusal). Err x) same, refl)
-ended_found i seen end b (Ok found) moves None why e none = absurd (cc)
+ended_found i seen end b found moves broken why e none = grind (arith, e, none)
 
 -- where nothing was found, the call made its reading steps alone
 read_then : (values : List (List ℕ)) (ends : End) (rest : Walked) (seen : List Move) → (rest.broken ≡ None → rest.moves ≡ seen)
     → (after_step Reads values ends rest).broken ≡ None → (after_step Reads values ends rest).moves ≡ map Foreign values ++ seen
-read_then values Done rest seen h e = ap (λ (moves : List Move). map Foreign values ++ moves) (h e)
-read_then values (Fails fault made) rest seen h e = absurd (cc)
+read_then values ends rest seen h e = grind (arith, h, e)
 
 read_alone : (variant : Variant) (fates : ℕ → Fate) (flag fresh : Bool) (b : Batch) → fresh ≡ false
     → (walk fates 1 (ask_steps variant flag fresh b)).broken ≡ None
@@ -189,9 +179,7 @@ read_alone Opt fates flag false b e whole =
 -- memory may be wanting besides
 lacking_or : (found : Result Found Refusal) (lacks : Bool) (why : Refusal) → found_unless_wanting found lacks ≡ Err why
     → (why ≡ Memory) ⊎ (found ≡ Err why)
-lacking_or (Err w) lacks why e = inr e
-lacking_or (Ok found) false why e = absurd (cc)
-lacking_or (Ok found) true why e = let same : Memory ≡ why = cc in inl (sym same)
+lacking_or found lacks why e = grind (arith, e)
 
 -- so such a call leaves what it saw, and is refused as the offer is there
 module _ (i : Instance) (y : History) (c : Course) (b : Batch) (offer : List ℕ) (why : Refusal)

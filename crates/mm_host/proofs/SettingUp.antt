@@ -132,8 +132,7 @@ entries_values barrier (v ∷ values) = ap (λ (vs : List (List ℕ)). v ∷ vs)
 
 reads_values : (items : Option (List Item)) (values : List (List ℕ)) → option_map item_values items ≡ Some values
     → option_map (λ (xs : List Item). folded_of (item_values xs)) items ≡ Some (folded_of values)
-reads_values None values e = absurd (cc)
-reads_values (Some items) values e = let same : item_values items ≡ values = cc in ap (λ (vs : List (List ℕ)). Some (folded_of vs)) same
+reads_values items values e = grind (arith, e)
 
 stands_first : (variant : Variant) (meaning : Meaning) (key barrier : List ℕ) (standing : Standing) (values : List (List ℕ))
     → length key ≡ 32 → length barrier ≡ 32

@@ -25,9 +25,7 @@ issued_in_opt meaning lawful key barrier y sound clean =
     record { formed = opt_content meaning lawful key barrier y; names = opt_issued meaning key barrier y sound clean }
 
 placed_as : (variant : Variant) (flag : Bool) (i : Instance) (y : History) → variant_of (issued_place variant flag i y) ≡ variant
-placed_as Basic flag i y = refl
-placed_as Opt true i y = refl
-placed_as Opt false i y = refl
+placed_as variant flag i y = grind arith
 
 pub holds_issued : (i : Instance) → IsLawful i.meaning → (y : History) (bytes : List ℕ) (position : ℕ) → IsIssued i y
     → total_of y.batches ≤ last_position → bytes ≡ issued_bytes i y → position ≡ total_of y.batches → Holds i y bytes position
@@ -77,8 +75,7 @@ elsewhere_put slots p n bytes e h = elim (turns n p.position e h) [
 -- Slots that fit go on to fit, and the first ones do.
 
 same_batches : (i : Instance) (y : History) (m : Move) → commits (m ∷ []) ≡ false → (moved i y m).batches ≡ y.batches
-same_batches i y (Commit b) e = absurd (cc)
-same_batches i y m e = refl
+same_batches i y m e = grind (arith, e)
 
 module _ (i : Instance) (slots : Slots) (y z : History) (same : z.batches ≡ y.batches)
     (names : (content : Content) → Names i y content → Names i z content) where
@@ -119,8 +116,7 @@ fitting_are_genuine i y slots fits = first_genuine i y slots fits.waiting fits.f
 of_instance : (variant : Variant) (meaning : Meaning) (key barrier : List ℕ) (all : List (List ℕ))
     → Contains all (start_message variant meaning.id)
     → Contains all (start_message (instance_by variant meaning key barrier).variant (instance_by variant meaning key barrier).meaning.id)
-of_instance Basic meaning key barrier all h = h
-of_instance Opt meaning key barrier all h = h
+of_instance variant meaning key barrier all h = grind (arith, h)
 
 pub first_starts_can_go_on : FirstStartsCanGoOn
 first_starts_can_go_on variant meaning before after begun cell slots values all others asked told shows honest holds clear apart start =
