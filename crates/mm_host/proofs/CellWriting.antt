@@ -54,8 +54,7 @@ writes_none before after e = record {
 }
 
 pub rests : (variant : Variant) (before after : Standing) → after ≡ before → WritesFor variant 0 before after
-rests Basic before after e = ap (λ (s : Standing). s.writes) e
-rests Opt before after e = writes_none before after (ap (λ (s : Standing). s.writes) e)
+rests variant before after e = grind (arith, writes_none, e)
 
 -- what answered calls leave of a flag: none was made, or the first found one
 abbrev pub LeadsOver : Variant → ℕ → Standing → Standing → Type 0
@@ -71,13 +70,11 @@ leaves_of n before after (inl e) flag t = rw (e.0, e.1, sym (flag_kept flag)) t
 leaves_of n before after (inr l) flag t = l.leaves flag t
 
 pub leads_rest : (variant : Variant) (before after : Standing) → after ≡ before → LeadsOver variant 0 before after
-leads_rest Basic before after e = tt
-leads_rest Opt before after e = inl (refl, e)
+leads_rest variant before after e = grind (arith, e)
 
 pub leads_answer : (variant : Variant) (answer : Answer) (n : ℕ) (before after : Standing) → LeavesOpen variant (Ok answer) n before after
     → LeadsOver variant n before after
-leads_answer Basic answer n before after l = tt
-leads_answer Opt answer n before after l = inr l
+leads_answer variant answer n before after l = grind (arith, l)
 
 -- calls, and those behind them
 pub joined : (variant : Variant) (n m : ℕ) (before middle after : Standing) → LeadsOver variant n before middle
@@ -147,9 +144,7 @@ change_by_cell cell flag value answer e new = grind (arith, e, new)
 
 from_by_cell : (e : Result Bool Refusal) (cell : Cell) (value : List ℕ) (answer : Bool → BatchAnswer)
     → ((again : Bool) → (answer again).again ≡ again) → IsByCell cell (found_from e cell value answer)
-from_by_cell (Err why) cell value answer says = tt
-from_by_cell (Ok true) cell value answer says = says true
-from_by_cell (Ok false) cell value answer says = change_by_cell cell cell.flag value (answer false) refl (says false)
+from_by_cell e cell value answer says = grind (arith, change_by_cell, says)
 
 at_by_cell : (lost : Bool) (meaning : Meaning) (cell : Cell) (register : List ℕ) (taken : Result Snapshot PartsFault) (b : Batch)
     → IsByCell cell (found_unless lost (found_in_offer meaning cell register taken b))
@@ -170,9 +165,7 @@ own_spelled t bytes cell seen s e = grind (arith, s, e)
 
 seen_spelled : (id : ℕ) (bytes : List ℕ) (read : Result Cell CellFault) (seen : Cell) → ReadsCell bytes read → Ok seen ≡ cell_in id read
     → SpellsCell bytes seen
-seen_spelled id bytes (Err BlankCell) seen r e = absurd (cc)
-seen_spelled id bytes (Err Unspelled) seen r e = absurd (cc)
-seen_spelled id bytes (Ok cell) seen r e = own_spelled (is_cell_of id cell) bytes cell seen r (sym e)
+seen_spelled id bytes read seen r e = grind (arith, own_spelled, r, e)
 
 room_cell : (found : Found) (old new : Standing) → MakesRoom (Ok found) old new → new.cell ≡ old.cell
 room_cell found old new r = grind (arith, r)

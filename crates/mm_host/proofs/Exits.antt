@@ -41,9 +41,7 @@ three_counted two three old new result c g = grind (arith, c, g)
 
 two_counted : (two : Result (List ℕ) StoreFault) (old middle new : StoreStanding) (result : Result (Option Pending) StoreFault)
     → CountsFailures old.faults middle.faults two → AfterTwo two middle new result → CountsFailures old.faults new.faults result
-two_counted (Err fault.Memory) old middle new result c g = rw (g.0, g.1) c
-two_counted (Err fault.Failed) old middle new result c g = rw (g.0, g.1) c
-two_counted (Ok two) old middle new result c g = rw (sym c) (three_counted two g.three middle new result g.reads.counted g.goes)
+two_counted two old middle new result c g = grind (arith, three_counted, c, g)
 
 module _ (variant : Variant) (meaning : Meaning) (before after : Standing) where
   record Exit (old new : StoreStanding) (result : Result Resumed HostFault) : Type 0 where
@@ -62,10 +60,7 @@ module _ (variant : Variant) (meaning : Meaning) (before after : Standing) where
   stored_exit : (T : Type 0) (why : StoreFault) (old new : StoreStanding) (requests : ℕ) → requests ≤ 1
       → WritesFor variant requests before after → after.faults ≡ before.faults → CountsFailures {T = T} old.faults new.faults (Err why)
       → Exit old new (Err (store_fault_as why))
-  stored_exit T fault.Memory old new requests few w s c =
-      exit_of (s, c) (record { remembered = λ e. absurd (cc); short = λ e. absurd (cc) }) requests few w tt
-  stored_exit T fault.Failed old new requests few w s c =
-      exit_of (s, c) (record { remembered = λ e. absurd (cc); short = λ e. absurd (cc) }) requests few w tt
+  stored_exit T why old new requests few w s c = grind (arith, few, w, s, c)
 
   -- an exit where the store failed, and nothing was asked
   failed_exit : (T : Type 0) (why : StoreFault) (old middle new : StoreStanding) (result : Result Resumed HostFault)

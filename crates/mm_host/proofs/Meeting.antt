@@ -28,8 +28,7 @@ renamed_items (x ∷ []) b = refl
 renamed_items (x ∷ y ∷ items) b = refl
 
 committed_items : (flag : Bool) (y : History) (b : Batch) → is_empty (committed Opt flag y b).items ≡ false
-committed_items true y b = pushed_items y.items (Own b)
-committed_items false y b = renamed_items y.items b
+committed_items flag y b = grind (arith, pushed_items, renamed_items)
 
 pub not_lost : (flag bare own marred : Bool) → (flag ≡ true → bare ≡ false) → life_by flag bare own marred ≢ LostLife
 not_lost flag bare own marred h = grind (arith, h)
@@ -93,13 +92,11 @@ IsGrownBy i y waiting after =
 
 basic_grown : (meaning : Meaning) (key : List ℕ) (y after : History) (p : Pending)
     → (after.batches ≡ y.batches) ⊎ (after.batches ≡ y.batches ++ One p.request ∷ []) → IsGrownBy (basic meaning key) y (Some p) after
-basic_grown meaning key y after p (inl e) = inl e
-basic_grown meaning key y after p (inr e) = inr (p, refl, e)
+basic_grown meaning key y after p h = grind (arith, h)
 
 pub opt_grown : (meaning : Meaning) (key barrier : List ℕ) (y after : History) (p : Pending)
     → Alike meaning key barrier y (One p.request) after → IsGrownBy (opt meaning key barrier) y (Some p) after
-opt_grown meaning key barrier y after p (still e) = inl e
-opt_grown meaning key barrier y after p (grown_by e) = inr (p, refl, e)
+opt_grown meaning key barrier y after p h = grind (arith, h)
 
 -- what one call for a request comes to by lists, whatever is offered that names a position where it is right
 pub record Met (all others : List (List ℕ)) (asked : List Batch) (i : Instance) (y : History) (standing : Standing) (offer : List ℕ)

@@ -71,9 +71,7 @@ reads_short meaning old new offer b (Err Long) r =
 reads_short meaning old new offer b found r = tt
 
 given_short : (ended : Ended) (answer : BatchAnswer) → Given answer ended → IsShort (result_of ended)
-given_short (Answered it) answer g = tt
-given_short (Refused why) answer g = absurd g
-given_short (Broken fault position) answer g = tt
+given_short ended answer g = grind (arith, g)
 
 ends_short : (found : Result Found Refusal) (old new : Standing) (ended : Ended) → IsShort found
     → EndsTo basic_call found old new ended → IsShort (result_of ended)

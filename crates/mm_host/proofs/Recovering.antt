@@ -188,8 +188,7 @@ module _ (More : History → Type 0) (all others : List (List ℕ)) (asked : Lis
 
 pub refusal_told : (call : Result Answer Refusal) (old new : StoreStanding) (result : Result Resumed HostFault)
     → AfterAsk call old new result → (why : Refusal) → call ≡ Err why → result ≡ Err (refusal_fault why)
-refusal_told (Err w) old new result g why e = let same : w ≡ why = cc in g.1 ∙ ap (λ (x : Refusal). Err (refusal_fault x)) same
-refusal_told (Ok answer) old new result g why e = absurd (cc)
+refusal_told call old new result g why e = grind (arith, g, e)
 
 -- it leads on from slots that fit
 module _ (all others : List (List ℕ)) (asked : List Batch) (i : Instance) (y : History) (slots : Slots) (before : Standing)

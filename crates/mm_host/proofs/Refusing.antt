@@ -20,8 +20,7 @@ pub one_more : (batches : List Batch) (request : List ℕ) → total_of (batches
 one_more batches request = total-push batches (One request)
 
 pub awaited_least : (y : History) (p : Pending) → IsAwaited y p → 1 ≤ p.position
-awaited_least y p (inl e) = omega (arith, e)
-awaited_least y p (inr e) = omega (arith, e.0, one_more e.1.front p.request, ap total_of e.1.is)
+awaited_least y p w = grind (arith, one_more, w)
 
 pub awaited_then : (y after : History) (p : Pending) → after.batches ≡ y.batches → IsAwaited y p → IsAwaited after p
 awaited_then y after p same w = rw same w
@@ -44,8 +43,7 @@ eq_later n m e = grind (arith, nat_tests, e)
 
 pub grows : (i : Instance) (y : History) (p : Pending) (offer : List ℕ) (after : History) (gives : Result BatchAnswer Refusal)
     → Comes i y offer (One p.request) after gives → (after.batches ≡ y.batches) ⊎ (after.batches ≡ y.batches ++ One p.request ∷ [])
-grows i y p offer after gives (kept same answers) = inl same
-grows i y p offer after gives (grown content right at more answers) = inr more
+grows i y p offer after gives c = grind (arith, c)
 
 module _ (i : Instance) (y : History) (p : Pending) (offer : List ℕ) (after : History) (w : IsAwaited y p)
     (h : Holds i y offer (p.position - 1)) where

@@ -174,8 +174,7 @@ module _ (variant : Variant) (meaning : Meaning) (lawful : IsLawful meaning) (be
   -- the exits of the store
   store_exit : (after : Devices) (why : StoreFault) → FoundBlank after.platform → after.source_faults ≡ before.source_faults
       → CountsFailures {T = Unit {0}} before.store.faults after.store.faults (Err why) → Comes after (Err (store_failed_as why))
-  store_exit after fault.Memory f source store = came f.cell f.blank f.faults source store
-  store_exit after fault.Failed f source store = came f.cell f.blank f.faults source store
+  store_exit after why f source store = grind (arith, f, source, store)
 
   module _ (after : Devices) (middle : Standing) (secrets : List ℕ) (f : FoundBlank middle) (size : length secrets ≡ 64)
       (taken : Consumes before.left after.left secrets) (source : after.source_faults ≡ before.source_faults) where
