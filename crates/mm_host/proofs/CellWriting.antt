@@ -138,34 +138,22 @@ IsByCell cell (Ok (Inside ready)) = (ready.answer.again ≡ false) × (cell.flag
 IsByCell cell (Ok (Opens opening)) = (opening.answer.again ≡ false) × (cell.flag ≡ false) × (opening.next ≡ opened_cell cell)
 IsByCell cell found = Unit {0}
 
-change_by_cell : (cell : Cell) (flag : Bool) (value : List ℕ) (answer : BatchAnswer) → cell.flag ≡ flag → answer.again ≡ false
-    → IsByCell cell (Ok (change_by flag value (opened_cell cell) answer))
-change_by_cell cell flag value answer e new = grind (arith, e, new)
-
 from_by_cell : (e : Result Bool Refusal) (cell : Cell) (value : List ℕ) (answer : Bool → BatchAnswer)
     → ((again : Bool) → (answer again).again ≡ again) → IsByCell cell (found_from e cell value answer)
-from_by_cell e cell value answer says = grind (arith, change_by_cell, says)
+from_by_cell e cell value answer says = grind (arith, says)
 
 at_by_cell : (lost : Bool) (meaning : Meaning) (cell : Cell) (register : List ℕ) (taken : Result Snapshot PartsFault) (b : Batch)
     → IsByCell cell (found_unless lost (found_in_offer meaning cell register taken b))
-at_by_cell true meaning cell register taken b = tt
-at_by_cell false meaning cell register (Err parts.Form) b = tt
-at_by_cell false meaning cell register (Err parts.Kind) b = tt
-at_by_cell false meaning cell register (Ok offered) b =
-    from_by_cell (examined meaning cell.key offered b (verdict_of cell register offered b)) cell (batch_value cell b)
-    (answer_of meaning cell register offered.content b) (λ again. refl)
+at_by_cell lost meaning cell register taken b = grind (arith, from_by_cell)
 
 -- want of memory may come in its place
 pub or_all : {A : Type 0} (P : Result A Refusal → Type 0) (x found : Result A Refusal) → P x → P (Err Memory) → OrMemory x found → P found
 or_all P x found h m o = grind (arith, h, m, o)
 
 -- the cell that was seen
-own_spelled : (t : Bool) (bytes : List ℕ) (cell seen : Cell) → SpellsCell bytes cell → own_cell t cell ≡ Ok seen → SpellsCell bytes seen
-own_spelled t bytes cell seen s e = grind (arith, s, e)
-
 seen_spelled : (id : ℕ) (bytes : List ℕ) (read : Result Cell CellFault) (seen : Cell) → ReadsCell bytes read → Ok seen ≡ cell_in id read
     → SpellsCell bytes seen
-seen_spelled id bytes read seen r e = grind (arith, own_spelled, r, e)
+seen_spelled id bytes read seen r e = grind (arith, r, e)
 
 room_cell : (found : Found) (old new : Standing) → MakesRoom (Ok found) old new → new.cell ≡ old.cell
 room_cell found old new r = grind (arith, r)

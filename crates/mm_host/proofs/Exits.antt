@@ -35,13 +35,9 @@ pub new_most : (again : Bool) (n : ℕ) → n ≡ new_by again → n ≤ 1
 new_most again n e = grind (arith, e)
 
 -- a finding counts as its last read
-three_counted : (two : List ℕ) (three : Result (List ℕ) StoreFault) (old new : StoreStanding) (result : Result (Option Pending) StoreFault)
-    → CountsFailures old.faults new.faults three → AfterThree two three result → CountsFailures old.faults new.faults result
-three_counted two three old new result c g = grind (arith, c, g)
-
 two_counted : (two : Result (List ℕ) StoreFault) (old middle new : StoreStanding) (result : Result (Option Pending) StoreFault)
     → CountsFailures old.faults middle.faults two → AfterTwo two middle new result → CountsFailures old.faults new.faults result
-two_counted two old middle new result c g = grind (arith, three_counted, c, g)
+two_counted two old middle new result c g = grind (arith, c, g)
 
 module _ (variant : Variant) (meaning : Meaning) (before after : Standing) where
   record Exit (old new : StoreStanding) (result : Result Resumed HostFault) : Type 0 where
@@ -66,9 +62,7 @@ module _ (variant : Variant) (meaning : Meaning) (before after : Standing) where
   failed_exit : (T : Type 0) (why : StoreFault) (old middle new : StoreStanding) (result : Result Resumed HostFault)
       → CountsFailures {T = T} old.faults middle.faults (Err why)
       → (after ≡ before) × (new ≡ middle) × (result ≡ Err (store_fault_as why)) → Exit old new result
-  failed_exit T why old middle new result c g =
-      rw g.2 (stored_exit T why old new 0 (omega arith) (rests variant before after g.0) (ap (λ (x : Standing). x.faults) g.0)
-      (subst (λ (k : StoreStanding). CountsFailures {T = T} old.faults k.faults (Err why)) (sym g.1) c))
+  failed_exit T why old middle new result c g = grind (arith, stored_exit, rests, c, g)
 
   started_exit : (zero : Result (List ℕ) StoreFault) (old new : StoreStanding) → after ≡ before → CountsFailures old.faults new.faults zero
       → Exit old new (started zero)
@@ -80,13 +74,7 @@ module _ (variant : Variant) (meaning : Meaning) (before after : Standing) where
   -- a call, and the answer's snapshot
   refused_exit : (why : Refusal) (old new : StoreStanding) → Blames (fault_of why) before.faults after.faults → why ≢ Long
       → CallWrites variant (Err why) before after → new.faults ≡ old.faults → Exit old new (Err (refusal_fault why))
-  refused_exit why old new b short c s =
-      by_refusal (λ (w : Refusal) (f : HostFault).
-      Blames (fault_of w) before.faults after.faults → w ≢ Long → IsNewAt (fault_of w) c.requests → Exit old new (Err f))
-      (λ h l n.
-      exit_of (h, s) (record { remembered = λ e. absurd (cc); short = λ e. absurd (cc) }) c.requests (omega (arith, n)) c.writes tt)
-      (λ w m h l n. exit_of (h, s) (record { remembered = λ e. absurd (m (cc)); short = λ e. absurd (l (cc)) }) c.requests n c.writes tt)
-      why b short c.new
+  refused_exit why old new b short c s = grind (arith, b, short, c, s)
 
   kept_exit : (answer : Answer) (written : Result Unit StoreFault) (old new : StoreStanding) → after.faults ≡ before.faults
       → CallWrites variant (Ok answer) before after → CountsFailures old.faults new.faults written → Exit old new (kept_as answer written)

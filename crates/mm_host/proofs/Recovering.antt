@@ -37,21 +37,12 @@ took two three result taken w is e f = grind (arith, is, e, f)
 saw_three : (slots : Slots) (two : List ℕ) (three : Result (List ℕ) StoreFault) (old new : StoreStanding)
     (result : Result (Option Pending) StoreFault) → old.slots ≡ Some slots → two ≡ slot_read slots 2 → ReadsSlot 3 old new three
     → AfterThree two three result → Saw slots old new result
-saw_three slots two (Err why) old new result t e r g = record { told = r.slots ∙ t; honest = r.honest; waiting = λ w f. absurd (cc) }
-saw_three slots two (Ok three) old new result t e r g = record {
-  told = r.slots ∙ t;
-  honest = r.honest;
-  waiting = λ w f. rw (sym e, sym (r.gives slots t)) (took two three result g.waiting w g.is_waiting g.gives f);
-}
+saw_three slots two three old new result t e r g = grind (arith, took, t, e, r, g)
 
 pub saw_two : (slots : Slots) (two : Result (List ℕ) StoreFault) (old middle new : StoreStanding)
     (result : Result (Option Pending) StoreFault) → old.slots ≡ Some slots → ReadsSlot 2 old middle two
     → AfterTwo two middle new result → Saw slots old new result
-saw_two slots (Err why) old middle new result t r g =
-    rw (g.0, g.1) (record { told = r.slots ∙ t; honest = r.honest; waiting = λ w f. absurd (cc) })
-saw_two slots (Ok two) old middle new result t r g =
-    let s = saw_three slots two g.three middle new result (r.slots ∙ t) (r.gives slots t) g.reads g.goes in
-    record { told = s.told; honest = s.honest ∙ r.honest; waiting = s.waiting }
+saw_two slots two old middle new result t r g = grind (arith, saw_three, t, r, g)
 
 grown_none : (y : History) (waiting : Option Pending) → IsGrown y waiting y
 grown_none y waiting = grind arith
@@ -164,8 +155,7 @@ module _ (More : History → Type 0) (all others : List (List ℕ)) (asked : Lis
 
   only_by : (why : Refusal) (broken : Option StepFault) → fault_of why ≡ broken → (l : LeftBy (Err why))
       → (l.after.batches ≡ y.batches) ⊎ MayHaveCommitted {T = Resumed} (Err (refusal_fault why))
-  only_by why None e l = inl (l.only why refl e)
-  only_by why (Some broken) e l = inr (may_commit why broken e)
+  only_by why broken e l = grind (arith, may_commit, e, l)
 
   asked_exit : (call : Result Answer Refusal) (old new : StoreStanding) (result : Result Resumed HostFault) (l : LeftBy (whole_in call))
       → More l.after → IfOk call (λ answer. IsFit (One p.request) (whole answer)) → old.is_honest ≡ true → old.slots ≡ Some slots

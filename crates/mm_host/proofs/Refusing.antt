@@ -97,19 +97,9 @@ offered_then i y s p offer same o =
     record { content = o.content; right = o.right; at = o.at; awaited = awaited_then y s p same o.awaited; most = o.most }
 
 -- a record that waits is one of those that were read, so its position is at most 2^48
-later_is : (a b : Option Pending) (p : Pending) → later a b ≡ Some p → (a ≡ Some p) ⊎ (b ≡ Some p)
-later_is None b p = inr
-later_is (Some a) None p = inl
-later_is (Some a) (Some b) p =
-    elim (nat_le b.position a.position) as
-    (λ (t : Bool). (if t then Some a else Some b) ≡ Some p → (Some a ≡ Some p) ⊎ (Some b ≡ Some p)) [ true ↦ inl | false ↦ inr ]
-
 pub waiting_most : (two three : List ℕ) (waiting : Option Pending) (p : Pending) → IsWaiting two three waiting → waiting ≡ Some p
     → p.position ≤ last_position
-waiting_most two three waiting p w e = elim (later_is w.in_two w.in_three p (sym w.is ∙ e)) [
-  | inl is ↦ (subst (ReadsPending 2 two) is w.reads_two).0.most
-  | inr is ↦ (subst (ReadsPending 3 three) is w.reads_three).0.most
-]
+waiting_most two three waiting p w e = grind (arith, w, e)
 
 -- the position is the last one, or the request is a repeat
 placed_by : (s : History) (p : Pending) (position : ℕ) → position ≡ p.position - 1 → IsAwaited s p → 1 ≤ p.position
@@ -168,11 +158,7 @@ read_then values ends rest seen h e = grind (arith, h, e)
 read_alone : (variant : Variant) (fates : ℕ → Fate) (flag fresh : Bool) (b : Batch) → fresh ≡ false
     → (walk fates 1 (ask_steps variant flag fresh b)).broken ≡ None
     → (walk fates 1 (ask_steps variant flag fresh b)).moves ≡ seen_in fates (reading_steps variant) 1
-read_alone variant fates flag true b e whole = absurd (cc)
-read_alone Basic fates flag false b e whole = read_then (fates 1).brings (fates 1).ends finished [] (λ _. refl) whole
-read_alone Opt fates flag false b e whole =
-    read_then (fates 1).brings (fates 1).ends (walk fates 2 (Reads ∷ [])) (map Foreign (fates 2).brings ++ [])
-    (read_then (fates 2).brings (fates 2).ends finished [] (λ _. refl)) whole
+read_alone variant fates flag fresh b e whole = grind (arith, read_then, e, whole)
 
 -- memory may be wanting besides
 lacking_or : (found : Result Found Refusal) (lacks : Bool) (why : Refusal) → found_unless_wanting found lacks ≡ Err why

@@ -205,8 +205,7 @@ module _ (variant : Variant) (meaning : Meaning) (lawful : IsLawful meaning) (be
     may_begin : (made : Bool) → Stored (Ok tt)
         → after.platform.cell ≡ cell_after (WriteCell (cell_spelling (cell_of I first_history))) made middle.cell
         → (after.platform.cell ≡ before.platform.cell) ⊎ Begins variant meaning before after
-    may_begin true puts cell = inr (begins puts cell)
-    may_begin false puts cell = inl (cell ∙ f.cell)
+    may_begin made puts cell = grind (arith, begins, puts, cell)
 
     write_exit : (written : Result Unit StepFault) (made : Bool) → Stored (Ok tt)
         → after.platform.cell ≡ cell_after (WriteCell (cell_spelling (cell_of I first_history))) made middle.cell
