@@ -22,8 +22,7 @@ changed slot AreSo change (Some was) new e h = record {
 
 -- slots that stay are slots with their own bytes put in place
 unchanged : (slot : ℕ) (slots : Option Slots) → slots ≡ changing slot (λ bytes. bytes) slots
-unchanged slot None = refl
-unchanged slot (Some told) = ap Some (sym (with_slot-same told slot))
+unchanged slot slots = grind (arith, with_slot-same)
 
 pub stays : (slot : ℕ) (AreSo : List ℕ → List ℕ → Type 0) (slots : Option Slots) →
     ((told : Slots) → slots ≡ Some told → AreSo (slot_in told slot) (slot_in told slot)) → ChangesSlot slot AreSo slots slots

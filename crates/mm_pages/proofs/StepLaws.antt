@@ -6,8 +6,7 @@ use Rattle.mm_pages.proofs.Below.{PutsWhole, AreOf, AreInStep, KeepsStep}
 use Rattle.mm_pages.proofs.RowLaws.{length-digests_of}
 
 last_of : (n : ℕ) (digest other : Digest) → get_or (Some digest ∷ []) n None ≡ Some other → (n ≡ 0) × (digest ≡ other)
-last_of zero digest other e = (refl, cc)
-last_of (suc n) digest other e = absurd (cc)
+last_of n digest other e = grind (arith, e)
 
 -- the digests of bytes are those of their own pages
 are_of_own : (bytes : List ℕ) (count : ℕ) → AreOf (page_digests bytes count) bytes
@@ -38,14 +37,7 @@ put_slot a b c slots bytes =
 
 step_put : (a b c : Bool) (rows : Rows) (slots : Slots) (row : List (Option Digest)) (bytes : List ℕ) →
     AreInStep rows slots → AreOf row bytes → AreInStep (put a b c rows row) (put_slot a b c slots bytes)
-step_put true b c rows slots row bytes h k =
-    record { at_zero = k; at_one = h.at_one; at_two = h.at_two; at_three = h.at_three }
-step_put false true c rows slots row bytes h k =
-    record { at_zero = h.at_zero; at_one = k; at_two = h.at_two; at_three = h.at_three }
-step_put false false true rows slots row bytes h k =
-    record { at_zero = h.at_zero; at_one = h.at_one; at_two = k; at_three = h.at_three }
-step_put false false false rows slots row bytes h k =
-    record { at_zero = h.at_zero; at_one = h.at_one; at_two = h.at_two; at_three = k }
+step_put a b c rows slots row bytes h k = grind (arith, h, k)
 
 step_with : (slot : ℕ) (rows : Rows) (slots : Slots) (row : List (Option Digest)) (bytes : List ℕ) →
     AreInStep rows slots → AreOf row bytes → AreInStep (with_row rows slot row) (with_slot slots slot bytes)

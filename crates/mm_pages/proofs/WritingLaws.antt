@@ -246,5 +246,4 @@ fails_at_end {slot} {bytes} {some = some} f r g =
 pub put_whole : {D : Type 0} (pages : D → Paged) (slot : ℕ) (bytes : List ℕ) (x y : Cached D) (new : Paged) (after : Rows)
     (result : Result Unit Failed) → x ≡ y → PutsBytes slot bytes (pages x.device) new x.rows after result → is_err result ≡ false →
     PutsWhole slot bytes (pages y.device) new y.rows after
-put_whole pages slot bytes x y new after (Ok done) same p e = rw (sym same) p
-put_whole pages slot bytes x y new after (Err fault) same p e = absurd (cc)
+put_whole pages slot bytes x y new after result same p e = grind (arith, same, p, e)
