@@ -1,4 +1,5 @@
 -- Digests that are those of what the device has.
+use Rattle.std.proofs.lemmas.Bool.Decides.{nat_tests}
 use Rattle.mm_pages.proofs.Below.{ℕ, ◌≡◌, ◌-◌, zero, suc, Bool, true, false, Option, Some, None, List, [], ◌∷◌, length, get_or, refl, ap}
 use Rattle.mm_pages.proofs.Below.{sym, ◌∙◌, subst, inl, inr, arith, ◌==◌, if◌then◌else◌, cases_lt, get_or_append_left, get_or-append_right}
 use Rattle.mm_pages.proofs.Below.{Digest, Slots, with_slot, putting, page_of, page_count, Paged, Rows, with_row, page_digest, page_digests}
@@ -25,23 +26,9 @@ are_of_own bytes (suc count) page digest e =
           sym found.1 ∙ ap (λ n. page_digest (page_of bytes n)) same)
     ]
 
-abbrev put : Bool → Bool → Bool → Rows → List (Option Digest) → Rows
-put a b c rows row =
-    if a then record rows { zero = row } else if b then record rows { one = row }
-    else if c then record rows { two = row } else record rows { three = row }
-
-abbrev put_slot : Bool → Bool → Bool → Slots → List ℕ → Slots
-put_slot a b c slots bytes =
-    if a then record slots { zero = bytes } else if b then record slots { one = bytes }
-    else if c then record slots { two = bytes } else record slots { three = bytes }
-
-step_put : (a b c : Bool) (rows : Rows) (slots : Slots) (row : List (Option Digest)) (bytes : List ℕ) →
-    AreInStep rows slots → AreOf row bytes → AreInStep (put a b c rows row) (put_slot a b c slots bytes)
-step_put a b c rows slots row bytes h k = grind (arith, h, k)
-
 step_with : (slot : ℕ) (rows : Rows) (slots : Slots) (row : List (Option Digest)) (bytes : List ℕ) →
     AreInStep rows slots → AreOf row bytes → AreInStep (with_row rows slot row) (with_slot slots slot bytes)
-step_with slot rows slots row bytes h k = step_put (slot == 0) (slot == 1) (slot == 2) rows slots row bytes h k
+step_with slot rows slots row bytes h k = grind (arith, nat_tests, h, k)
 
 -- one slot and its digests changed
 step_after : (slot : ℕ) {rows after : Rows} (row : List (Option Digest)) (bytes : List ℕ) {old new : Option Slots} {was now : Slots} →

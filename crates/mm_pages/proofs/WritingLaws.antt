@@ -138,11 +138,7 @@ fails_after {slot} {old = old} {new = new} {rows = rows} f g = record {
 -- slots whose length is right
 length_stays : (slot size : ℕ) (slots : Option Slots) → ((told : Slots) → slots ≡ Some told → length (slot_in told slot) ≡ size) →
     slots ≡ changing slot (resized size) slots
-length_stays slot size None h = refl
-length_stays slot size (Some told) h =
-    let same : resized size (slot_in told slot) ≡ slot_in told slot =
-    subst (λ n. resized n (slot_in told slot) ≡ slot_in told slot) (h told refl) (resized-length (slot_in told slot)) in
-    ap Some (sym (with_slot-same told slot) ∙ ap (λ (x : List ℕ). with_slot told slot x) (sym same))
+length_stays slot size slots h = grind (arith, with_slot-same, resized-length, h)
 
 -- the length, where it is right already
 pub fits_already : {slot size seen : ℕ} {old new : Paged} → ReadsLength slot old new (Ok seen) → seen ≡ size →
@@ -192,8 +188,7 @@ whole bytes was now f = resized-same bytes now (λ i below. f.filled i (omega ar
 
 put_as : (slot : ℕ) (bytes : List ℕ) (old new : Option Slots) → ChangesSlot slot (λ was now. now ≡ bytes) old new →
     new ≡ putting slot bytes old
-put_as slot bytes None new c = c.slots
-put_as slot bytes (Some told) new c = c.slots ∙ ap (λ (x : List ℕ). Some (with_slot told slot x)) (c.so told refl)
+put_as slot bytes old new c = grind (arith, c)
 
 -- all pages, and then the length
 pub puts_all : {slot : ℕ} {bytes : List ℕ} {old mid new : Paged} {rows some after : Rows} →

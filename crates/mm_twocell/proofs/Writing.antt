@@ -1,5 +1,5 @@
 -- What a read and a write over two cells do to the one cell.
-use Rattle.mm_twocell.proofs.Below.{ℕ, ◌≡◌, ◌-◌, ◌*◌, ◌⊎◌, inl, inr, Bool, true, false, List, [], ◌∷◌, ◌++◌, length, get_or, Option, None}
+use Rattle.mm_twocell.proofs.Below.{nat_tests, ℕ, ◌≡◌, ◌-◌, ◌*◌, ◌⊎◌, inl, inr, Bool, true, false, List, [], ◌∷◌, ◌++◌, length, get_or, Option, None}
 use Rattle.mm_twocell.proofs.Below.{Some, refl, sym, ap, ◌∙◌, subst, arith, ◌%◌, ◌==◌, slice_index, option_map, Rose, cell_length}
 use Rattle.mm_twocell.proofs.Below.{StepFault, Failed, Off, Standing, WriteCell, beside, cell_after, EndsBy, spliced, LeavesRest, ReadsRaw}
 use Rattle.mm_twocell.proofs.Below.{WritesRaw, beside-beside, picked, WritesPicked}
@@ -71,8 +71,7 @@ cell_by w old made = cell_after (WriteCell w) made (Some old)
 -- a selector picks the other cell, or the one that was picked
 picks_by : (second : Bool) (m : ℕ) → ((m % 2 ≡ number (not second)) × ((m % 2 == number (not second)) ≡ true))
     ⊎ ((m % 2 ≡ number second) × ((m % 2 == number (not second)) ≡ false))
-picks_by true m = elim (parity m) [ inl even ↦ inl (even, rw even refl) | inr odd ↦ inr (odd, rw odd refl) ]
-picks_by false m = elim (parity m) [ inl even ↦ inr (even, rw even refl) | inr odd ↦ inl (odd, rw odd refl) ]
+picks_by second m = grind (arith, nat_tests)
 
 -- a selector that is written then picks the written cell or the old one
 selector_picks : (bytes w : List ℕ) (other m : ℕ) → Picks bytes other → length w ≡ cell_length
