@@ -1,9 +1,9 @@
 -- How often calls are to write the cell, and what flag they leave: one of either core, and calls one after another.
-use Rattle.mm_host.proofs.Below.{◌≡◌, ◌∙◌, ◌+◌, ◌≤◌, ℕ, zero, suc, Bool, true, false, List, Some, Ok, refl, sym, ap, subst, inl, inr, arith}
+use Rattle.mm_host.proofs.Below.{◌≡◌, ◌∙◌, ◌+◌, ◌≤◌, ℕ, zero, suc, Bool, true, false, List, Some, Ok, refl, sym, ap, inl, inr, arith}
 use Rattle.mm_host.proofs.Below.{◌⊎◌, counted, Variant, Basic, Opt, Standing, Answer, counted_by, WritesAtMostOnce, LeavesOpen, TellsFlag}
 use Rattle.mm_host.proofs.Below.{WritesByOpening, WritesFor, is_open_after, openings, Option, None, Result, Err, StepFault, cell_after}
 use Rattle.mm_host.proofs.Below.{Meaning, Batch, PartsFault, IsCell, ReadsCell, SpellsCell, cell_spelling, Snapshot, BatchAnswer, Refusal}
-use Rattle.mm_host.proofs.Below.{Memory, Device, is_long, whole, whole_in, examined, Ended, goes_on, breaks_off, EndsTo, result_of}
+use Rattle.mm_host.proofs.Below.{Memory, Device, is_long, whole, whole_in, Ended, goes_on, breaks_off, EndsTo, result_of}
 use Rattle.mm_host.proofs.Below.{fault_of, OrMemory, refused_result, BasicSteps, BasicAnswered, BasicRefused, ReadsOn, opt_call}
 use Rattle.mm_host.proofs.Below.{StepsAnswered, StepsFrom, CallWrites, IsNewAt, LeavesFlag, new_by, [], ◌∷◌}
 use Rattle.mm_platform.specs.Steps.{Act}
@@ -11,17 +11,15 @@ use Rattle.mm_call.specs.Calls.{StepsTo}
 use Rattle.std.proofs.Math.Nat.{suc-add, zero-add}
 use Rattle.mm_seal.specs.declared.cell.Cell.{Cell}
 use Rattle.mm_seal.specs.declared.cell.CellFault.{CellFault}
-use Rattle.mm_seal.specs.declared.cell.CellFault.TheVariants.{Blank as BlankCell, Cell as Unspelled}
 use Rattle.mm_seal.specs.CellLaws.{reads_cell-same}
 use Rattle.mm_opt.specs.declared.found.Found.{Found}
 use Rattle.mm_opt.specs.declared.found.Found.TheVariants.{Repeat, Inside, Opens}
-use Rattle.mm_opt.specs.Seen.{is_cell_of, own_cell, cell_in}
-use Rattle.mm_opt.specs.Order.{batch_value, has_lost_power, verdict_of}
-use Rattle.mm_opt.specs.Answers.{answer_of, change_by, opened_cell, found_from, found_in_offer, found_unless, found_in}
+use Rattle.mm_opt.specs.Seen.{cell_in}
+use Rattle.mm_opt.specs.Order.{has_lost_power}
+use Rattle.mm_opt.specs.Answers.{opened_cell, found_from, found_in_offer, found_unless, found_in}
 use Rattle.mm_opt.specs.Steps.{ReadsOwnCell, FindsCell, MakesRoom}
 use Rattle.mm_opt.specs.Asks.{Reads, acts_for, answer_in}
 use Rattle.mm_opt.specs.Asked.{AskedInOpt}
-use Rattle.mm_seal.specs.declared.snapshot.PartsFault.TheVariants as parts
 
 -- counts
 counted_sum : (n m count : ℕ) → counted_by m (counted_by n count) ≡ counted_by (n + m) count

@@ -1,13 +1,12 @@
 -- What each exit of a recovery, and of one more request, is told as: whose fault it is, and how often the cell was to be written.
-use Rattle.mm_host.proofs.Below.{ℕ, ◌≡◌, ◌≢◌, ◌≤◌, Bool, true, false, List, Option, None, Some, Result, Ok, Err, refl, sym, ap, ◌∙◌}
-use Rattle.mm_host.proofs.Below.{subst, arith, inl, inr, Variant, Standing, Meaning, Answer, Refusal, Long, Blames, fault_of}
+use Rattle.mm_host.proofs.Below.{ℕ, ◌≡◌, ◌≢◌, ◌≤◌, Bool, List, Option, None, Some, Result, Ok, Err, refl, sym, ap, ◌∙◌}
+use Rattle.mm_host.proofs.Below.{arith, Variant, Standing, Meaning, Answer, Refusal, Long, Blames, fault_of}
 use Rattle.mm_host.proofs.Below.{StoreFault, CountsFailures, StoreStanding, Pending, HostFault, Resumed, store_fault_as, refusal_fault}
-use Rattle.mm_host.proofs.Below.{AfterRecord, AsksNext, AfterThree, AfterTwo, started, kept_as, AfterAsk, AfterOffer, AfterFinding, Resumes}
-use Rattle.mm_host.proofs.Below.{IsCall, CallWrites, IsNewAt, WritesFor, new_by, IsNewOf, RequestWrites, new_first}
+use Rattle.mm_host.proofs.Below.{AfterRecord, AsksNext, AfterTwo, started, kept_as, AfterAsk, AfterOffer, AfterFinding, Resumes}
+use Rattle.mm_host.proofs.Below.{IsCall, CallWrites, WritesFor, new_by, IsNewOf, RequestWrites, new_first}
 use Rattle.mm_host.specs.Blame.{Blamed, IsNamed}
 use Rattle.mm_host.proofs.CellWriting.{AnsweredWrites, LeadsOver, leads_answer, leads_rest, rests}
 use Rattle.mm_model.specs.declared.refusal.Refusal.TheVariants as refusal
-use Rattle.mm_store.specs.declared.fault.StoreFault.TheVariants as fault
 use Rattle.mm_host.specs.declared.fault.HostFault.TheVariants as host
 
 -- What holds of want of memory, and of each other refusal as it is, holds of every refusal as it is told.

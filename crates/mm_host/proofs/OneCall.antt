@@ -1,11 +1,10 @@
 -- One call of either variant promises what the cores' whole calls do.
-use Rattle.mm_host.proofs.Below.{arith, ◌≡◌, ℕ, Bool, true, false, List, length, None, Result, Ok, Err, refl, sym, subst, Variant, Basic, Opt}
+use Rattle.mm_host.proofs.Below.{arith, ◌≡◌, ℕ, Bool, false, List, length, None, Result, Ok, Err, refl, sym, subst, Variant, Basic, Opt}
 use Rattle.mm_host.proofs.Below.{Standing, Meaning, IsLawful, Batch, One, IsFit, is_long, Answer, BatchAnswer, Refusal, Long, Verdict}
-use Rattle.mm_host.proofs.Below.{Ended, Answered, Refused, Broken, result_of, Blames, whole, whole_in, fault_in, weighed, EndsTo}
+use Rattle.mm_host.proofs.Below.{Ended, result_of, Blames, whole, whole_in, fault_in, weighed, EndsTo}
 use Rattle.mm_host.proofs.Below.{ends_result, Given, steps_give, acts_for, answer_in, basic_call, StepsBy, AskedIn, IsCall}
 use Rattle.std.specs.Prelude.{IfOk}
 use Rattle.mm_seal.specs.declared.snapshot.PartsFault.TheVariants.{Form, Kind}
-use Rattle.mm_model.specs.declared.verdict.Verdict.TheVariants.{Fresh, Again}
 use Rattle.mm_basic.specs.declared.found.Found.{Found}
 use Rattle.mm_basic.specs.Seen.{Seen, NoCell, OtherCell, NoOffer, Both}
 use Rattle.mm_basic.specs.Order.{verdict_of}

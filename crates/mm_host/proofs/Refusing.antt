@@ -2,12 +2,12 @@
 use Rattle.mm_host.proofs.Below.{◌≡◌, ℕ, ◌+◌, ◌-◌, ◌≤◌, true, false, List, [], ◌∷◌, ◌++◌, Result, Ok, refl, sym, ap, ◌∙◌, subst, arith, inl}
 use Rattle.mm_host.proofs.Below.{inr, ◌⊎◌, nat_eq, nat_tests, Batch, One, Content, Instance, History, total_of, IsRight, total-push}
 use Rattle.mm_host.proofs.Below.{BatchAnswer, Refusal, Comes, kept, grown, one_content, Pending, Holds, IsAwaited, Some, Answer, whole}
-use Rattle.mm_host.proofs.Below.{AnswersAt, Names, IsGenuine, Bool, ◌&&◌, map, Option, None, Err, nat_le, if◌then◌else◌, IfSome}
-use Rattle.mm_host.proofs.Below.{last_position, Basic, Opt, Variant, StepFault, Snapshot, tag_of, offered_of, PartsFault, Move, Foreign}
-use Rattle.mm_host.proofs.Below.{Life, Live, Spoiled, LostLife, life_of, is_lost, Reads, ask_steps, Memory, Device, Lost, before_the_last}
-use Rattle.mm_host.proofs.Below.{ended_by, given_for, called, Course, End, Done, Fails, Fate, Walked, walk, after_step, seen_in, seen_at}
+use Rattle.mm_host.proofs.Below.{AnswersAt, Names, IsGenuine, Bool, ◌&&◌, map, Option, None, Err, if◌then◌else◌}
+use Rattle.mm_host.proofs.Below.{last_position, Variant, StepFault, Snapshot, tag_of, offered_of, PartsFault, Move, Foreign}
+use Rattle.mm_host.proofs.Below.{Life, life_of, is_lost, Reads, ask_steps, Memory, Lost, before_the_last}
+use Rattle.mm_host.proofs.Below.{ended_by, given_for, called, Course, End, Fate, Walked, walk, after_step, seen_in, seen_at}
 use Rattle.mm_host.proofs.Below.{reading_steps, Found, found_by_verdict, found_at, found_with, found_unless_wanting, is_fresh, by_lists}
-use Rattle.mm_host.proofs.Below.{all_made, admitted, same_batches, seen_none, finished, fault_of, ReadsPending, later, IsWaiting}
+use Rattle.mm_host.proofs.Below.{all_made, admitted, same_batches, seen_none, fault_of, IsWaiting}
 use Rattle.mm_host.proofs.Below.{IsRefusedAs}
 use Rattle.mm_call.specs.Answers.{answer_on}
 use Rattle.std.proofs.lemmas.Bool.{le-leb}

@@ -1,10 +1,10 @@
 -- What slots hold: what a history issues names its end, and a snapshot fits; and slots that fit go on to fit.
-use Rattle.mm_host.proofs.Below.{◌≡◌, ◌≤◌, ℕ, Bool, true, false, List, refl, sym, last_position, Variant, Basic, Opt, Meaning, IsLawful}
+use Rattle.mm_host.proofs.Below.{◌≡◌, ◌≤◌, ℕ, Bool, false, List, refl, sym, last_position, Variant, Basic, Opt, Meaning, IsLawful}
 use Rattle.mm_host.proofs.Below.{IsContent, variant_of, Instance, basic, opt, History, joined, requests_of, total_of, has_value, Names}
 use Rattle.mm_host.proofs.Below.{issued, issued_place, IsSound, issued_bytes, basic_issued, opt_issued, basic_content, opt_content, Holds}
 use Rattle.mm_host.proofs.Below.{◌-◌, ◌%◌, length, take, ap, ◌∙◌, arith, inl, inr, ◌⊎◌, take_all, Pending, Slots, longest_slot, with_slot}
 use Rattle.mm_host.proofs.Below.{slot_read, longest_slot-is, slot_in-with_slot, offer_slot, [], ◌∷◌, Option, None, Some, subst, Contains}
-use Rattle.mm_host.proofs.Below.{start_message, Content, Move, Commit, moved, IsGenuine, basic_names, opt_names, commits, instance_by}
+use Rattle.mm_host.proofs.Below.{start_message, Content, Move, moved, IsGenuine, basic_names, opt_names, commits, instance_by}
 use Rattle.mm_host.proofs.Below.{first_offer, FitsBy, instance_from, first_on, first_slots, IsFirstStore, IsAskedFor}
 use Rattle.mm_module.specs.RunLaws.{state_after-is_spelled}
 use Rattle.mm_host.proofs.Refusing.{awaited_then, genuine_by, holds_on}
