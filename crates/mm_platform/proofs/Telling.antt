@@ -1,5 +1,5 @@
 -- A device step leaves what it is told to leave.
-use Rattle.mm_platform.proofs.Below.{◌≡◌, Bool, true, false, Option, None, Some, List, [], ◌∷◌, refl, sym, ◌∙◌, ap, is_none, if◌then◌else◌}
+use Rattle.mm_platform.proofs.Below.{◌≡◌, Bool, true, false, Option, None, Some, List, [], ◌∷◌, refl, sym, ◌∙◌, ap, subst, is_none, if◌then◌else◌}
 use Rattle.mm_platform.proofs.Below.{Plan, Standing, plan_after, Act, beside, cell_after, items_after, will_answer, will_be_made}
 use Rattle.mm_platform.proofs.Below.{will_be_on, will_bring, faults_after, Goes, known_plan}
 use Rattle.std.specs.Option.{option_map}
@@ -70,69 +70,45 @@ pub alike-self : (one : Standing) → AreAlike one one
 alike-self one = record { cell = refl; items = refl; is_on = refl; steps = refl; writes = refl; cycles = refl; faults = refl; plan = refl }
 
 -- Several steps, of which none comes after one that fails.
-if-alike : (b c : Bool) (x y z w : Standing) → b ≡ c → AreAlike x z → AreAlike y w
-    → AreAlike (if b then x else y) (if c then z else w)
-if-alike true true x y z w e p q = p
-if-alike false false x y z w e p q = q
-if-alike true false x y z w e p q = cc
-if-alike false true x y z w e p q = cc
+if-both : {A : Type 0} (AreSo : A → A → Type 0) (b c : Bool) (x y z w : A) → b ≡ c → AreSo x z → AreSo y w
+    → AreSo (if b then x else y) (if c then z else w)
+if-both AreSo true true x y z w e p q = p
+if-both AreSo false false x y z w e p q = q
+if-both AreSo _ _ x y z w e p q = cc
 
 pub acted-alike : (acts : List Act) (one other : Standing) → AreAlike one other → AreAlike (acted acts one) (acted acts other)
 acted-alike [] one other a = a
 acted-alike (act ∷ acts) one other a =
-    if-alike (is_none (next_answer one)) (is_none (next_answer other)) _ _ _ _ (ap is_none (answer-alike one other a))
+    if-both AreAlike (is_none (next_answer one)) (is_none (next_answer other)) _ _ _ _ (ap is_none (answer-alike one other a))
     (acted-alike acts (step_made act one) (step_made act other) (stepped-alike act one other a)) (stepped-alike act one other a)
-
-if-same : (b c : Bool) (x y z w : Option StepFault) → b ≡ c → x ≡ z → y ≡ w → (if b then x else y) ≡ (if c then z else w)
-if-same true true x y z w e p q = p
-if-same false false x y z w e p q = q
-if-same true false x y z w e p q = cc
-if-same false true x y z w e p q = cc
 
 pub answered-alike : (acts : List Act) (one other : Standing) → AreAlike one other → acts_answer acts one ≡ acts_answer acts other
 answered-alike [] one other a = refl
 answered-alike (act ∷ acts) one other a =
-    if-same (is_none (next_answer one)) (is_none (next_answer other)) _ _ _ _ (ap is_none (answer-alike one other a))
+    if-both (λ (x y : Option StepFault). x ≡ y) (is_none (next_answer one)) (is_none (next_answer other)) _ _ _ _
+    (ap is_none (answer-alike one other a))
     (answered-alike acts (step_made act one) (step_made act other) (stepped-alike act one other a)) (answer-alike one other a)
 
 -- a step that fails is the last
-failed-acted : (fault : StepFault) (answer : Option StepFault) (x y new : Standing) → Some fault ≡ answer → AreAlike new y
-    → AreAlike new (if is_none answer then x else y)
-failed-acted fault (Some f) x y new e a = a
-failed-acted fault None x y new e a = cc
-
-failed-answered : (fault : StepFault) (answer later : Option StepFault) → Some fault ≡ answer
-    → Some fault ≡ (if is_none answer then later else answer)
-failed-answered fault (Some f) later e = e
-failed-answered fault None later e = cc
-
 pub told_failed : (act : Act) (acts : List Act) (old new : Standing) (fault : StepFault) → Goes act old new (Some fault)
     → (plan : Plan) → old.plan ≡ Some plan → ActsAsTold (act ∷ acts) old new (Some fault)
 told_failed act acts old new fault step plan known =
     let told = as_told act old new (Some fault) step plan known in record {
-      answer = failed-answered fault (next_answer old) _ told.answer;
-      stands = failed-acted fault (next_answer old) _ (step_made act old) new told.answer told.stands;
+      answer = told.answer
+          ∙ (λ j. if is_none (told.answer j) then acts_answer acts (step_made act old) else next_answer old);
+      stands = subst (λ (f : Option StepFault). AreAlike new (if is_none f then acted acts (step_made act old) else step_made act old))
+          told.answer told.stands;
     }
 
 -- a step that doesn't fail is followed by the next
-done-acted : (answer : Option StepFault) (x y new : Standing) → None ≡ answer → AreAlike new x
-    → AreAlike new (if is_none answer then x else y)
-done-acted (Some f) x y new e a = cc
-done-acted None x y new e a = a
-
-done-answered : (fault answer later : Option StepFault) → None ≡ answer → fault ≡ later
-    → fault ≡ (if is_none answer then later else answer)
-done-answered fault (Some f) later e a = cc
-done-answered fault None later e a = a
-
 pub told_then : (act : Act) (acts : List Act) (old mid new : Standing) (fault : Option StepFault) → Goes act old mid None
     → (plan : Plan) → old.plan ≡ Some plan → ActsAsTold acts mid new fault → ActsAsTold (act ∷ acts) old new fault
 told_then act acts old mid new fault step plan known rest =
     let told = as_told act old mid None step plan known in record {
-      answer = done-answered fault (next_answer old) _ told.answer
-          (rest.answer ∙ answered-alike acts mid (step_made act old) told.stands);
-      stands = done-acted (next_answer old) _ (step_made act old) new told.answer
-          (alike-then new (acted acts mid) (acted acts (step_made act old)) rest.stands
+      answer = rest.answer ∙ answered-alike acts mid (step_made act old) told.stands
+          ∙ (λ j. if is_none (told.answer j) then acts_answer acts (step_made act old) else next_answer old);
+      stands = subst (λ (f : Option StepFault). AreAlike new (if is_none f then acted acts (step_made act old) else step_made act old))
+          told.answer (alike-then new (acted acts mid) (acted acts (step_made act old)) rest.stands
           (acted-alike acts mid (step_made act old) told.stands));
     }
 

@@ -4,7 +4,7 @@ use Rattle.std.specs.Option.{option_map, option_map_or}
 use Rattle.mm_platform.specs.declared.fault.StepFault.{StepFault}
 use Rattle.mm_platform.specs.declared.plan.Stop.TheVariants.{Quiet}
 use Rattle.mm_platform.specs.Standing.{Plan, Standing, plan_after}
-use Rattle.mm_platform.specs.Steps.{Act, ReadCell, WriteCell, ReadRegister, ResetRegister, ExtendRegister, beside, cell_after, items_after, writes_after, will_answer, will_be_made, will_be_on, will_bring, faults_after}
+use Rattle.mm_platform.specs.Steps.{Act, ExtendRegister, beside, cell_after, items_after, writes_after, will_answer, will_be_made, will_be_on, will_bring, faults_after}
 use Rattle.mm_base.specs.Faults.{counted}
 
 -- nothing goes wrong, and nobody else extends the register
@@ -35,11 +35,7 @@ step_begun old = record old {
 -- the room after a step whose effect is made, or isn't
 abbrev pub spare_after : Act → Bool → ℕ → ℕ
 spare_after (ExtendRegister value) true spare = spare - 1
-spare_after (ExtendRegister value) false spare = spare
-spare_after ReadCell made spare = spare
-spare_after (WriteCell bytes) made spare = spare
-spare_after ReadRegister made spare = spare
-spare_after ResetRegister made spare = spare
+spare_after _ made spare = spare
 
 -- what stands after a step
 abbrev pub step_made : Act → Standing → Standing
