@@ -46,25 +46,15 @@ step_made act old = let now : Standing = step_begun old in record now {
   spare = spare_after act (makes old) now.spare;
 }
 
--- What stands after these steps, of which none comes after one that fails; and what the last of
--- them answers.
-abbrev pub acted : List Act → Standing → Standing
-acted [] old = old
+-- what stands after these steps, of which none comes after one that fails; and what the last of
+-- them answers
+abbrev pub acted : List Act → Standing → Standing × Option StepFault
+acted [] old = (old, None)
 acted (act ∷ acts) old =
-    if is_none (next_answer old) then acted acts (step_made act old) else step_made act old
-
-abbrev pub acts_answer : List Act → Standing → Option StepFault
-acts_answer [] old = None
-acts_answer (act ∷ acts) old =
-    if is_none (next_answer old) then acts_answer acts (step_made act old) else next_answer old
+    if is_none (next_answer old) then acted acts (step_made act old)
+    else (step_made act old, next_answer old)
 
 -- two standings that differ in their room at most
 pub record AreAlike (one other : Standing) : Type 0 where
-  pub cell : one.cell ≡ other.cell
-  pub items : one.items ≡ other.items
-  pub is_on : one.is_on ≡ other.is_on
-  pub steps : one.steps ≡ other.steps
-  pub writes : one.writes ≡ other.writes
-  pub cycles : one.cycles ≡ other.cycles
-  pub faults : one.faults ≡ other.faults
-  pub plan : one.plan ≡ other.plan
+  pub spare : ℕ
+  pub same : one ≡ record other { spare = spare }
