@@ -1,5 +1,5 @@
 -- A device step leaves what it is told to leave.
-use Rattle.mm_platform.proofs.Below.{◌≡◌, Bool, true, false, Option, None, Some, List, [], ◌∷◌, refl, sym, ◌∙◌, ap, subst, is_none, if◌then◌else◌}
+use Rattle.mm_platform.proofs.Below.{arith, ◌≡◌, Bool, Option, None, Some, List, [], ◌∷◌, refl, sym, ◌∙◌, ap, subst, is_none, if◌then◌else◌}
 use Rattle.mm_platform.proofs.Below.{Plan, Standing, plan_after, Act, beside, cell_after, items_after, will_answer, will_be_made}
 use Rattle.mm_platform.proofs.Below.{will_be_on, will_bring, faults_after, Goes, known_plan}
 use Rattle.std.specs.Option.{option_map}
@@ -57,9 +57,7 @@ ActsAlike one other = AreAlike one.0 other.0 × (one.1 ≡ other.1)
 
 if-alike : (b c : Bool) (x y z w : Standing × Option StepFault) → b ≡ c → ActsAlike x z → ActsAlike y w
     → ActsAlike (if b then x else y) (if c then z else w)
-if-alike true true x y z w e p q = p
-if-alike false false x y z w e p q = q
-if-alike _ _ x y z w e p q = absurd (cc)
+if-alike b c x y z w e p q = grind (arith, e, p, q)
 
 pub acted-alike : (acts : List Act) (one other : Standing) → AreAlike one other → ActsAlike (acted acts one) (acted acts other)
 acted-alike [] one other a = (a, refl)

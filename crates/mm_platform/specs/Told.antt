@@ -1,5 +1,5 @@
 -- What stands after each step, exactly, where a platform tells its plan.
-use Rattle.std.specs.Prelude.{ℕ, ◌-◌, Bool, true, false, List, [], ◌∷◌, Option, None, is_none, if◌then◌else◌, ◌≡◌}
+use Rattle.std.specs.Prelude.{ℕ, ◌-◌, Bool, true, List, [], ◌∷◌, Option, None, is_none, if◌then◌else◌, ◌≡◌}
 use Rattle.std.specs.Option.{option_map, option_map_or}
 use Rattle.mm_platform.specs.declared.fault.StepFault.{StepFault}
 use Rattle.mm_platform.specs.declared.plan.Stop.TheVariants.{Quiet}
