@@ -36,15 +36,19 @@ module _ (old new : Standing) (fault : Option StepFault) (bytes : List ℕ) (cyc
       let answers : next_answer t ≡ None = ap (λ (o : Bool). will_answer o quiet_plan) steady.0 in
       record {
         stands = record {
-          cell = sym (same (makes t) (whole_bytes (Some bytes)));
-          items = g.items ∙ ap (λ (m : Bool). items_after act m (beside g.others old.items)) (s.made ∙ sym made)
-              ∙ ap (λ (o : List (List ℕ)). items_after act (makes t) (beside o old.items)) (s.others ∙ sym brings);
-          is_on = s.on ∙ sym (ap (λ (o : Bool). will_be_on o quiet_plan) steady.0);
-          steps = g.steps;
-          writes = g.writes;
-          cycles = refl;
-          faults = sym (ap (λ (f : Option StepFault). faults_after f faults) answers);
-          plan = refl;
+          spare = new.spare;
+          same = λ j. record {
+            cell = sym (same (makes t) (whole_bytes (Some bytes))) j;
+            items = (g.items ∙ ap (λ (m : Bool). items_after act m (beside g.others old.items)) (s.made ∙ sym made)
+                ∙ ap (λ (o : List (List ℕ)). items_after act (makes t) (beside o old.items)) (s.others ∙ sym brings)) j;
+            is_on = (s.on ∙ sym (ap (λ (o : Bool). will_be_on o quiet_plan) steady.0)) j;
+            steps = g.steps j;
+            writes = g.writes j;
+            cycles = cycles;
+            spare = new.spare;
+            faults = sym (ap (λ (f : Option StepFault). faults_after f faults) answers) j;
+            plan = None;
+          };
         };
         ahead = refl;
         leaves = refl;
