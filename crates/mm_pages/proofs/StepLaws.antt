@@ -1,7 +1,7 @@
 -- Digests that are those of what the device has.
 use Rattle.std.proofs.lemmas.Bool.Decides.{nat_tests}
-use Rattle.mm_pages.proofs.Below.{ℕ, ◌≡◌, ◌-◌, zero, suc, Bool, true, false, Option, Some, None, List, [], ◌∷◌, length, get_or, refl, ap}
-use Rattle.mm_pages.proofs.Below.{sym, ◌∙◌, subst, inl, inr, arith, ◌==◌, if◌then◌else◌, cases_lt, get_or_append_left, get_or-append_right}
+use Rattle.mm_pages.proofs.Below.{ℕ, ◌≡◌, ◌-◌, zero, suc, Option, Some, None, List, [], ◌∷◌, length, get_or, ap}
+use Rattle.mm_pages.proofs.Below.{sym, ◌∙◌, subst, inl, inr, arith, cases_lt, get_or_append_left, get_or-append_right}
 use Rattle.mm_pages.proofs.Below.{Digest, Slots, with_slot, putting, page_of, page_count, Paged, Rows, with_row, page_digest, page_digests}
 use Rattle.mm_pages.proofs.Below.{PutsWhole, AreOf, AreInStep, KeepsStep}
 use Rattle.mm_pages.proofs.RowLaws.{length-digests_of}

@@ -1,5 +1,5 @@
 -- The steps of a write, one after another.
-use Rattle.mm_pages.proofs.Below.{ℕ, ◌≡◌, ◌+◌, ◌*◌, ◌<◌, ◌≤◌, suc, true, false, Option, Some, None, Result, Ok, Err, List, ◌++◌, length}
+use Rattle.mm_pages.proofs.Below.{ℕ, ◌≡◌, ◌+◌, ◌*◌, ◌<◌, ◌≤◌, suc, true, false, Option, Some, Result, Ok, Err, List, ◌++◌, length}
 use Rattle.mm_pages.proofs.Below.{get_or, take, drop, refl, ap, sym, ◌∙◌, subst, inl, inr, arith, ◌-◌, length-append, is_err, cases_lt}
 use Rattle.mm_pages.proofs.Below.{Failed, Rose, Digest, Slots, slot_in, with_slot, putting, slot_in-with_slot, with_slot-same}
 use Rattle.mm_pages.proofs.Below.{putting-twice, marks_alone, marked_last, marking, Cached, resized, page_of, page_count, Paged}
