@@ -1,5 +1,6 @@
 -- Laws of counts, and of what tests of bytes and of digests tell.
-use Rattle.mm_pages.proofs.Below.{ℕ, ◌≡◌, ◌+◌, zero, suc, Bool, true, false, Option, Some, None, List, refl, ap, ◌∙◌, subst, arith, zero-add}
+use Rattle.mm_pages.proofs.Below.{ℕ, ◌≡◌, ◌+◌, zero, suc, Bool, true, false, Option, Some, None, List, refl, ap, ◌∙◌, subst, arith}
+use Rattle.mm_pages.proofs.Below.{zero-add}
 use Rattle.mm_pages.proofs.Below.{◌&&◌, bytes_eq, counted, Digest, page_of, counted_by, may_be, change_count, changes_of, page_digest}
 use Rattle.std.proofs.lemmas.Slice.Eq.{bytes_eq-Decides}
 use Rattle.sha2.specs.Sha256.{sha256}

@@ -59,8 +59,8 @@ put_held {slot} {page} {part} {digest} {kept} {old} {new} {rows} h d k r = recor
       λ honest.
       subst (ChangesSlot slot (IsPutAt page part) old.slots) (sym (ap (λ (x : Paged). x.slots) h.same))
       (stays slot (IsPutAt page part) old.slots (λ told e.
-      let there : page_of (slot_in told slot) page ≡ part = held (may_be kept digest) (page_of (slot_in told slot) page) part (h.holds told e)
-      in
+      let there : page_of (slot_in told slot) page ≡ part =
+      held (may_be kept digest) (page_of (slot_in told slot) page) part (h.holds told e) in
       record {
         within = λ i below. sym (get_or-page_of (slot_in told slot) page i below) ∙ ap (λ (x : List ℕ). get_or x i 0) there;
         before = λ i before. refl;

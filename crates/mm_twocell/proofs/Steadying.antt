@@ -1,6 +1,6 @@
 -- Steps of a register whose plan is quiet.
-use Rattle.mm_twocell.proofs.Below.{arith, ℕ, ◌≡◌, Bool, true, List, [], Option, None, Some, refl, sym, ap, ◌∙◌, option_map, StepFault, Plan}
-use Rattle.mm_twocell.proofs.Below.{Standing, Act, ReadRegister, ResetRegister, ExtendRegister, beside, cell_after, items_after}
+use Rattle.mm_twocell.proofs.Below.{arith, ℕ, ◌≡◌, Bool, true, List, [], Option, None, Some, refl, sym, ap, ◌∙◌, option_map, StepFault}
+use Rattle.mm_twocell.proofs.Below.{Standing, Act, ReadRegister, ResetRegister, ExtendRegister, beside, cell_after, items_after, Plan}
 use Rattle.mm_twocell.proofs.Below.{will_answer, will_be_made, will_be_on, will_bring, faults_after, Goes}
 use Rattle.mm_twocell.proofs.Below.{Torn, told_by, whole_bytes, StepsRegister, from_start, IsSteady}
 use Rattle.mm_platform.specs.Told.{quiet_plan, next_answer, makes}

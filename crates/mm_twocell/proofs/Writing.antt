@@ -1,6 +1,6 @@
 -- What a read and a write over two cells do to the one cell.
-use Rattle.mm_twocell.proofs.Below.{nat_tests, ℕ, ◌≡◌, ◌-◌, ◌*◌, ◌⊎◌, inl, inr, Bool, true, false, List, [], ◌∷◌, ◌++◌, length, get_or, Option, None}
-use Rattle.mm_twocell.proofs.Below.{Some, refl, sym, ap, ◌∙◌, arith, ◌%◌, ◌==◌, slice_index, option_map, cell_length}
+use Rattle.mm_twocell.proofs.Below.{nat_tests, ℕ, ◌≡◌, ◌-◌, ◌*◌, ◌⊎◌, inl, inr, Bool, true, false, List, [], ◌∷◌, ◌++◌, length, get_or}
+use Rattle.mm_twocell.proofs.Below.{Some, refl, sym, ap, ◌∙◌, arith, ◌%◌, ◌==◌, slice_index, option_map, cell_length, Option, None}
 use Rattle.mm_twocell.proofs.Below.{StepFault, Standing, WriteCell, beside, cell_after, EndsBy, spliced, LeavesRest, ReadsRaw}
 use Rattle.mm_twocell.proofs.Below.{WritesRaw, beside-beside, picked, WritesPicked}
 use Rattle.mm_twocell.proofs.Cells.{in_three, pair, number, one_item, parity, picks_own, picks_other, put_other, put_selector, selector_of}
