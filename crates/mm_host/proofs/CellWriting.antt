@@ -1,9 +1,9 @@
 -- How often calls are to write the cell, and what flag they leave: one of either core, and calls one after another.
-use Rattle.mm_host.proofs.Below.{◌≡◌, ◌∙◌, ◌+◌, ◌≤◌, ℕ, zero, suc, Bool, true, false, List, Some, Ok, refl, sym, ap, subst, inl, inr, arith}
+use Rattle.mm_host.proofs.Below.{◌≡◌, ◌∙◌, ◌+◌, ◌≤◌, ℕ, zero, suc, Bool, true, false, List, Some, Ok, refl, sym, ap, inl, inr, arith}
 use Rattle.mm_host.proofs.Below.{◌⊎◌, counted, Variant, Basic, Opt, Standing, Answer, counted_by, WritesAtMostOnce, LeavesOpen, TellsFlag}
 use Rattle.mm_host.proofs.Below.{WritesByOpening, WritesFor, is_open_after, openings, Option, None, Result, Err, StepFault, cell_after}
 use Rattle.mm_host.proofs.Below.{Meaning, Batch, PartsFault, IsCell, ReadsCell, SpellsCell, cell_spelling, Snapshot, BatchAnswer, Refusal}
-use Rattle.mm_host.proofs.Below.{Memory, Device, is_long, whole, whole_in, examined, Ended, goes_on, breaks_off, EndsTo, result_of}
+use Rattle.mm_host.proofs.Below.{Memory, Device, is_long, whole, whole_in, Ended, goes_on, breaks_off, EndsTo, result_of}
 use Rattle.mm_host.proofs.Below.{fault_of, OrMemory, refused_result, BasicSteps, BasicAnswered, BasicRefused, ReadsOn, opt_call}
 use Rattle.mm_host.proofs.Below.{StepsAnswered, StepsFrom, CallWrites, IsNewAt, LeavesFlag, new_by, [], ◌∷◌}
 use Rattle.mm_platform.specs.Steps.{Act}
@@ -11,17 +11,15 @@ use Rattle.mm_call.specs.Calls.{StepsTo}
 use Rattle.std.proofs.Math.Nat.{suc-add, zero-add}
 use Rattle.mm_seal.specs.declared.cell.Cell.{Cell}
 use Rattle.mm_seal.specs.declared.cell.CellFault.{CellFault}
-use Rattle.mm_seal.specs.declared.cell.CellFault.TheVariants.{Blank as BlankCell, Cell as Unspelled}
 use Rattle.mm_seal.specs.CellLaws.{reads_cell-same}
 use Rattle.mm_opt.specs.declared.found.Found.{Found}
 use Rattle.mm_opt.specs.declared.found.Found.TheVariants.{Repeat, Inside, Opens}
-use Rattle.mm_opt.specs.Seen.{is_cell_of, own_cell, cell_in}
-use Rattle.mm_opt.specs.Order.{batch_value, has_lost_power, verdict_of}
-use Rattle.mm_opt.specs.Answers.{answer_of, change_by, opened_cell, found_from, found_in_offer, found_unless, found_in}
+use Rattle.mm_opt.specs.Seen.{cell_in}
+use Rattle.mm_opt.specs.Order.{has_lost_power}
+use Rattle.mm_opt.specs.Answers.{opened_cell, found_from, found_in_offer, found_unless, found_in}
 use Rattle.mm_opt.specs.Steps.{ReadsOwnCell, FindsCell, MakesRoom}
 use Rattle.mm_opt.specs.Asks.{Reads, acts_for, answer_in}
 use Rattle.mm_opt.specs.Asked.{AskedInOpt}
-use Rattle.mm_seal.specs.declared.snapshot.PartsFault.TheVariants as parts
 
 -- counts
 counted_sum : (n m count : ℕ) → counted_by m (counted_by n count) ≡ counted_by (n + m) count
@@ -34,24 +32,17 @@ counted_most (suc n) count = let rest = counted_most n (counted count) in omega 
 
 opens_sum : (flag : Bool) (n m before middle after : ℕ) → middle ≡ counted_by (openings flag n) before
     → after ≡ counted_by (openings (is_open_after flag n) m) middle → after ≡ counted_by (openings flag (n + m)) before
-opens_sum true n m before middle after e f = f ∙ e
-opens_sum false zero m before middle after e f = rw (zero-add m, sym e) f
-opens_sum false (suc n) m before middle after e f = rw (suc-add n m) (f ∙ e)
+opens_sum flag n m before middle after e f = grind (arith, e, f)
 
 open_sum : (flag : Bool) (n m : ℕ) → is_open_after (is_open_after flag n) m ≡ is_open_after flag (n + m)
-open_sum true n m = refl
-open_sum false zero m = ap (is_open_after false) (sym (zero-add m))
-open_sum false (suc n) m = ap (is_open_after false) (sym (suc-add n m))
+open_sum flag n m = grind arith
 
 once_by : (flag : Bool) (n before after : ℕ) → after ≡ counted_by (openings flag n) before → (after ≡ before) ⊎ (after ≡ counted before)
-once_by true n before after e = inl e
-once_by false zero before after e = inl e
-once_by false (suc n) before after e = inr e
+once_by flag n before after e = grind (arith, e)
 
 -- where nothing was written
 opens_none : (flag : Bool) (before after : ℕ) → after ≡ before → after ≡ counted_by (openings flag 0) before
-opens_none true before after e = e
-opens_none false before after e = e
+opens_none flag before after e = grind (arith, e)
 
 pub writes_none : (before after : Standing) → after.writes ≡ before.writes → WritesByOpening 0 before after
 writes_none before after e = record {
@@ -61,8 +52,7 @@ writes_none before after e = record {
 }
 
 pub rests : (variant : Variant) (before after : Standing) → after ≡ before → WritesFor variant 0 before after
-rests Basic before after e = ap (λ (s : Standing). s.writes) e
-rests Opt before after e = writes_none before after (ap (λ (s : Standing). s.writes) e)
+rests variant before after e = grind (arith, writes_none, e)
 
 -- what answered calls leave of a flag: none was made, or the first found one
 abbrev pub LeadsOver : Variant → ℕ → Standing → Standing → Type 0
@@ -70,8 +60,7 @@ LeadsOver Basic requests before after = Unit {0}
 LeadsOver Opt requests before after = ((requests ≡ 0) × (after ≡ before)) ⊎ LeavesFlag requests before after
 
 flag_kept : (flag : Bool) → flag ≡ is_open_after flag 0
-flag_kept true = refl
-flag_kept false = refl
+flag_kept flag = grind arith
 
 leaves_of : (n : ℕ) (before after : Standing) → LeadsOver Opt n before after → (flag : Bool) → TellsFlag before flag
     → TellsFlag after (is_open_after flag n)
@@ -79,13 +68,11 @@ leaves_of n before after (inl e) flag t = rw (e.0, e.1, sym (flag_kept flag)) t
 leaves_of n before after (inr l) flag t = l.leaves flag t
 
 pub leads_rest : (variant : Variant) (before after : Standing) → after ≡ before → LeadsOver variant 0 before after
-leads_rest Basic before after e = tt
-leads_rest Opt before after e = inl (refl, e)
+leads_rest variant before after e = grind (arith, e)
 
 pub leads_answer : (variant : Variant) (answer : Answer) (n : ℕ) (before after : Standing) → LeavesOpen variant (Ok answer) n before after
     → LeadsOver variant n before after
-leads_answer Basic answer n before after l = tt
-leads_answer Opt answer n before after l = inr l
+leads_answer variant answer n before after l = grind (arith, l)
 
 -- calls, and those behind them
 pub joined : (variant : Variant) (n m : ℕ) (before middle after : Standing) → LeadsOver variant n before middle
@@ -126,8 +113,7 @@ both_writes variant n m before middle after a b = record {
 
 -- Basic
 basic_answered : (again : Bool) (old new : Standing) → BasicAnswered again old new → new.writes ≡ counted_by (new_by again) old.writes
-basic_answered true old new s = s.1
-basic_answered false old new s = s.1
+basic_answered again old new s = grind (arith, s)
 
 -- the requests that a refused call came to write
 basic_refused : (broken : Option StepFault) (old new : Standing) → BasicRefused broken old new
@@ -150,47 +136,25 @@ IsByCell cell (Ok (Inside ready)) = (ready.answer.again ≡ false) × (cell.flag
 IsByCell cell (Ok (Opens opening)) = (opening.answer.again ≡ false) × (cell.flag ≡ false) × (opening.next ≡ opened_cell cell)
 IsByCell cell found = Unit {0}
 
-change_by_cell : (cell : Cell) (flag : Bool) (value : List ℕ) (answer : BatchAnswer) → cell.flag ≡ flag → answer.again ≡ false
-    → IsByCell cell (Ok (change_by flag value (opened_cell cell) answer))
-change_by_cell cell true value answer e new = (new, e)
-change_by_cell cell false value answer e new = (new, e, refl)
-
 from_by_cell : (e : Result Bool Refusal) (cell : Cell) (value : List ℕ) (answer : Bool → BatchAnswer)
     → ((again : Bool) → (answer again).again ≡ again) → IsByCell cell (found_from e cell value answer)
-from_by_cell (Err why) cell value answer says = tt
-from_by_cell (Ok true) cell value answer says = says true
-from_by_cell (Ok false) cell value answer says = change_by_cell cell cell.flag value (answer false) refl (says false)
+from_by_cell e cell value answer says = grind (arith, says)
 
 at_by_cell : (lost : Bool) (meaning : Meaning) (cell : Cell) (register : List ℕ) (taken : Result Snapshot PartsFault) (b : Batch)
     → IsByCell cell (found_unless lost (found_in_offer meaning cell register taken b))
-at_by_cell true meaning cell register taken b = tt
-at_by_cell false meaning cell register (Err parts.Form) b = tt
-at_by_cell false meaning cell register (Err parts.Kind) b = tt
-at_by_cell false meaning cell register (Ok offered) b =
-    from_by_cell (examined meaning cell.key offered b (verdict_of cell register offered b)) cell (batch_value cell b)
-    (answer_of meaning cell register offered.content b) (λ again. refl)
+at_by_cell lost meaning cell register taken b = grind (arith, from_by_cell)
 
 -- want of memory may come in its place
 pub or_all : {A : Type 0} (P : Result A Refusal → Type 0) (x found : Result A Refusal) → P x → P (Err Memory) → OrMemory x found → P found
-or_all P (Err why) found h m o = subst P (sym o) h
-or_all P (Ok it) found h m (inl e) = subst P (sym e) h
-or_all P (Ok it) found h m (inr e) = subst P (sym e) m
+or_all P x found h m o = grind (arith, h, m, o)
 
 -- the cell that was seen
-own_spelled : (t : Bool) (bytes : List ℕ) (cell seen : Cell) → SpellsCell bytes cell → own_cell t cell ≡ Ok seen → SpellsCell bytes seen
-own_spelled true bytes cell seen s e = let same : cell ≡ seen = cc in subst (λ (c : Cell). SpellsCell bytes c) same s
-own_spelled false bytes cell seen s e = absurd (cc)
-
 seen_spelled : (id : ℕ) (bytes : List ℕ) (read : Result Cell CellFault) (seen : Cell) → ReadsCell bytes read → Ok seen ≡ cell_in id read
     → SpellsCell bytes seen
-seen_spelled id bytes (Err BlankCell) seen r e = absurd (cc)
-seen_spelled id bytes (Err Unspelled) seen r e = absurd (cc)
-seen_spelled id bytes (Ok cell) seen r e = own_spelled (is_cell_of id cell) bytes cell seen r (sym e)
+seen_spelled id bytes read seen r e = grind (arith, r, e)
 
 room_cell : (found : Found) (old new : Standing) → MakesRoom (Ok found) old new → new.cell ≡ old.cell
-room_cell (Repeat answer) old new r = ap (λ (s : Standing). s.cell) r
-room_cell (Inside ready) old new r = ap (λ (s : Standing). s.cell) r.same
-room_cell (Opens opening) old new r = ap (λ (s : Standing). s.cell) r.same
+room_cell found old new r = grind (arith, r)
 
 -- the cell after these steps; a call that gave an answer made all of its own
 abbrev cells_after : List Act → Option (List ℕ) → Option (List ℕ)
@@ -265,8 +229,7 @@ writes_new old new once opens = record {
 }
 
 opens_from : (flag : Bool) (old new : Standing) → StepsFrom flag false old new → new.writes ≡ counted_by (openings flag 1) old.writes
-opens_from true old new s = s.1
-opens_from false old new s = s.1
+opens_from flag old new s = grind (arith, s)
 
 opt_answered : (again : Bool) (old new : Standing) → StepsAnswered again old new → WritesAtMostOnce old new
     → ((flag : Bool) → TellsFlag old flag → StepsFrom flag again old new) → WritesByOpening (new_by again) old new
@@ -275,13 +238,11 @@ opt_answered false old new s once from = writes_new old new once (λ flag t. ope
 
 -- a refused call
 none_new : (broken : Option StepFault) → IsNewAt broken 0
-none_new None = refl
-none_new (Some fault) = omega arith
+none_new broken = grind arith
 
 opens_one : (flag : Bool) (before after : ℕ) → (flag ≡ true → after ≡ before) → after ≡ counted before
     → after ≡ counted_by (openings flag 1) before
-opens_one true before after same e = same refl
-opens_one false before after same e = e
+opens_one flag before after same e = grind (arith, same, e)
 
 opt_quiet : (why : Refusal) (old new : Standing) → new.writes ≡ old.writes → CallWrites Opt (Err why) old new
 opt_quiet why old new same =

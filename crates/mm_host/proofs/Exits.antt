@@ -1,13 +1,12 @@
 -- What each exit of a recovery, and of one more request, is told as: whose fault it is, and how often the cell was to be written.
-use Rattle.mm_host.proofs.Below.{ℕ, ◌≡◌, ◌≢◌, ◌≤◌, Bool, true, false, List, Option, None, Some, Result, Ok, Err, refl, sym, ap, ◌∙◌}
-use Rattle.mm_host.proofs.Below.{subst, arith, inl, inr, Variant, Standing, Meaning, Answer, Refusal, Long, Blames, fault_of}
+use Rattle.mm_host.proofs.Below.{ℕ, ◌≡◌, ◌≢◌, ◌≤◌, Bool, List, Option, None, Some, Result, Ok, Err, refl, sym, ap, ◌∙◌}
+use Rattle.mm_host.proofs.Below.{arith, Variant, Standing, Meaning, Answer, Refusal, Long, Blames, fault_of}
 use Rattle.mm_host.proofs.Below.{StoreFault, CountsFailures, StoreStanding, Pending, HostFault, Resumed, store_fault_as, refusal_fault}
-use Rattle.mm_host.proofs.Below.{AfterRecord, AsksNext, AfterThree, AfterTwo, started, kept_as, AfterAsk, AfterOffer, AfterFinding, Resumes}
-use Rattle.mm_host.proofs.Below.{IsCall, CallWrites, IsNewAt, WritesFor, new_by, IsNewOf, RequestWrites, new_first}
+use Rattle.mm_host.proofs.Below.{AfterRecord, AsksNext, AfterTwo, started, kept_as, AfterAsk, AfterOffer, AfterFinding, Resumes}
+use Rattle.mm_host.proofs.Below.{IsCall, CallWrites, WritesFor, new_by, IsNewOf, RequestWrites, new_first}
 use Rattle.mm_host.specs.Blame.{Blamed, IsNamed}
 use Rattle.mm_host.proofs.CellWriting.{AnsweredWrites, LeadsOver, leads_answer, leads_rest, rests}
 use Rattle.mm_model.specs.declared.refusal.Refusal.TheVariants as refusal
-use Rattle.mm_store.specs.declared.fault.StoreFault.TheVariants as fault
 use Rattle.mm_host.specs.declared.fault.HostFault.TheVariants as host
 
 -- What holds of want of memory, and of each other refusal as it is, holds of every refusal as it is told.
@@ -32,21 +31,12 @@ pub record CameWrites (variant : Variant) (came : Result Resumed HostFault) (bef
   pub leads : LeadsBy variant came counts.requests before after
 
 pub new_most : (again : Bool) (n : ℕ) → n ≡ new_by again → n ≤ 1
-new_most true n e = omega (arith, e)
-new_most false n e = omega (arith, e)
+new_most again n e = grind (arith, e)
 
 -- a finding counts as its last read
-three_counted : (two : List ℕ) (three : Result (List ℕ) StoreFault) (old new : StoreStanding) (result : Result (Option Pending) StoreFault)
-    → CountsFailures old.faults new.faults three → AfterThree two three result → CountsFailures old.faults new.faults result
-three_counted two (Err fault.Memory) old new result c g = rw g c
-three_counted two (Err fault.Failed) old new result c g = rw g c
-three_counted two (Ok three) old new result c g = elim g.gives [ inl e ↦ rw e c | inr e ↦ rw e c ]
-
 two_counted : (two : Result (List ℕ) StoreFault) (old middle new : StoreStanding) (result : Result (Option Pending) StoreFault)
     → CountsFailures old.faults middle.faults two → AfterTwo two middle new result → CountsFailures old.faults new.faults result
-two_counted (Err fault.Memory) old middle new result c g = rw (g.0, g.1) c
-two_counted (Err fault.Failed) old middle new result c g = rw (g.0, g.1) c
-two_counted (Ok two) old middle new result c g = rw (sym c) (three_counted two g.three middle new result g.reads.counted g.goes)
+two_counted two old middle new result c g = grind (arith, c, g)
 
 module _ (variant : Variant) (meaning : Meaning) (before after : Standing) where
   record Exit (old new : StoreStanding) (result : Result Resumed HostFault) : Type 0 where
@@ -65,18 +55,13 @@ module _ (variant : Variant) (meaning : Meaning) (before after : Standing) where
   stored_exit : (T : Type 0) (why : StoreFault) (old new : StoreStanding) (requests : ℕ) → requests ≤ 1
       → WritesFor variant requests before after → after.faults ≡ before.faults → CountsFailures {T = T} old.faults new.faults (Err why)
       → Exit old new (Err (store_fault_as why))
-  stored_exit T fault.Memory old new requests few w s c =
-      exit_of (s, c) (record { remembered = λ e. absurd (cc); short = λ e. absurd (cc) }) requests few w tt
-  stored_exit T fault.Failed old new requests few w s c =
-      exit_of (s, c) (record { remembered = λ e. absurd (cc); short = λ e. absurd (cc) }) requests few w tt
+  stored_exit T why old new requests few w s c = grind (arith, few, w, s, c)
 
   -- an exit where the store failed, and nothing was asked
   failed_exit : (T : Type 0) (why : StoreFault) (old middle new : StoreStanding) (result : Result Resumed HostFault)
       → CountsFailures {T = T} old.faults middle.faults (Err why)
       → (after ≡ before) × (new ≡ middle) × (result ≡ Err (store_fault_as why)) → Exit old new result
-  failed_exit T why old middle new result c g =
-      rw g.2 (stored_exit T why old new 0 (omega arith) (rests variant before after g.0) (ap (λ (x : Standing). x.faults) g.0)
-      (subst (λ (k : StoreStanding). CountsFailures {T = T} old.faults k.faults (Err why)) (sym g.1) c))
+  failed_exit T why old middle new result c g = grind (arith, stored_exit, rests, c, g)
 
   started_exit : (zero : Result (List ℕ) StoreFault) (old new : StoreStanding) → after ≡ before → CountsFailures old.faults new.faults zero
       → Exit old new (started zero)
@@ -88,13 +73,7 @@ module _ (variant : Variant) (meaning : Meaning) (before after : Standing) where
   -- a call, and the answer's snapshot
   refused_exit : (why : Refusal) (old new : StoreStanding) → Blames (fault_of why) before.faults after.faults → why ≢ Long
       → CallWrites variant (Err why) before after → new.faults ≡ old.faults → Exit old new (Err (refusal_fault why))
-  refused_exit why old new b short c s =
-      by_refusal (λ (w : Refusal) (f : HostFault).
-      Blames (fault_of w) before.faults after.faults → w ≢ Long → IsNewAt (fault_of w) c.requests → Exit old new (Err f))
-      (λ h l n.
-      exit_of (h, s) (record { remembered = λ e. absurd (cc); short = λ e. absurd (cc) }) c.requests (omega (arith, n)) c.writes tt)
-      (λ w m h l n. exit_of (h, s) (record { remembered = λ e. absurd (m (cc)); short = λ e. absurd (l (cc)) }) c.requests n c.writes tt)
-      why b short c.new
+  refused_exit why old new b short c s = grind (arith, b, short, c, s)
 
   kept_exit : (answer : Answer) (written : Result Unit StoreFault) (old new : StoreStanding) → after.faults ≡ before.faults
       → CallWrites variant (Ok answer) before after → CountsFailures old.faults new.faults written → Exit old new (kept_as answer written)

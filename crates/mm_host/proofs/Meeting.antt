@@ -1,11 +1,11 @@
 -- What one call for a request comes to by lists, in either variant.
-use Rattle.mm_host.proofs.Below.{◌≡◌, ◌≢◌, ℕ, List, [], ◌∷◌, ◌++◌, Option, None, Some, Result, Ok, Err, refl, ◌∙◌, subst, inl, inr, ◌⊎◌}
+use Rattle.mm_host.proofs.Below.{arith, ◌≡◌, ◌≢◌, ℕ, List, [], ◌∷◌, ◌++◌, Option, None, Some, Result, Ok, Err, refl, ◌∙◌, subst, inl, inr, ◌⊎◌}
 use Rattle.mm_host.proofs.Below.{Variant, Basic, Opt, Item, Standing, StepFault, Meaning, IsLawful, Batch, One, Content, Instance, basic}
 use Rattle.mm_host.proofs.Below.{opt, History, Commit, moved, Life, LostLife, life_of, digests_of, Names, StandsFor, BatchAnswer, Refusal}
-use Rattle.mm_host.proofs.Below.{Memory, Device, IsAsked, IsWithin, called, given_for, CallContinues, CallsOn, Course, found_at, by_lists}
+use Rattle.mm_host.proofs.Below.{Memory, IsAsked, IsWithin, called, given_for, CallContinues, CallsOn, Course, found_at, by_lists}
 use Rattle.mm_host.proofs.Below.{by_digests, AreAsked, AreShown, IsIdle, fault_of, stands_at, bare, asked_for, asked_idle, basic_asked}
-use Rattle.mm_host.proofs.Below.{names_made, basic_comes, comes, Comes, Alike, alike_call, names_after, answered_clean_as, still, grown_by}
-use Rattle.mm_host.proofs.Below.{Pending, IsRefusedAs, Bool, true, false, map, guard, Entry, Own, Value, Move, Foreign, Placed, Reset}
+use Rattle.mm_host.proofs.Below.{names_made, basic_comes, comes, Comes, Alike, alike_call, names_after, answered_clean_as}
+use Rattle.mm_host.proofs.Below.{Pending, IsRefusedAs, Bool, true, false, map, guard, Entry, Value, Move, Foreign, Reset}
 use Rattle.mm_host.proofs.Below.{committed, joined, renamed, are_own, has_value, is_empty, life_by, IsAllowed, ask_steps, Found}
 use Rattle.mm_host.proofs.Below.{found_unless_wanting, is_fresh, all_made, before, AllMay, ask_may}
 use Rattle.mm_call.specs.Tied.{standing_items}
@@ -28,19 +28,13 @@ renamed_items (x ∷ []) b = refl
 renamed_items (x ∷ y ∷ items) b = refl
 
 committed_items : (flag : Bool) (y : History) (b : Batch) → is_empty (committed Opt flag y b).items ≡ false
-committed_items true y b = pushed_items y.items (Own b)
-committed_items false y b = renamed_items y.items b
+committed_items flag y b = grind (arith, pushed_items, renamed_items)
 
 pub not_lost : (flag bare own marred : Bool) → (flag ≡ true → bare ≡ false) → life_by flag bare own marred ≢ LostLife
-not_lost true true own marred h = let clash : true ≡ false = h refl in absurd (cc)
-not_lost true false true true h = λ e. cc
-not_lost false bare own true h = λ e. cc
-not_lost flag bare own marred h = λ e. cc
+not_lost flag bare own marred h = grind (arith, h)
 
 pub was_powered : (flag bare own marred : Bool) → life_by flag bare own marred ≢ LostLife → flag ≡ true → bare ≡ false
-was_powered true true own marred h e = absurd (h refl)
-was_powered true false own marred h e = refl
-was_powered false bare own marred h e = absurd (cc)
+was_powered flag bare own marred h e = grind (arith, h, e)
 
 module _ (meaning : Meaning) (key barrier : List ℕ) where
   abbrev I : Instance
@@ -66,18 +60,12 @@ module _ (meaning : Meaning) (key barrier : List ℕ) where
     others = foreign_powered;
   }
 
-  commit_powered : (b : Batch) → KeepsPower (Commit b ∷ [])
-  commit_powered b y may h = λ _. committed_items y.is_open y b
-
-  opening_powered : (b : Batch) → KeepsPower (Reset ∷ []) × KeepsPower (Placed b ∷ [])
-  opening_powered b = (
-    λ y may h is. absurd (subst (λ (f : Bool). IsAllowed Opt f I y Reset) is may.0),
-    λ y may h _. pushed_items y.items (Value (guard barrier b)),
-  )
-
   asks_powered : (flag fresh : Bool) (b : Batch) → EachMove KeepsPower (ask_steps Opt flag fresh b)
-  asks_powered true true b = (commit_powered b, tt)
-  asks_powered false true b = let o = opening_powered b in (o.0, (o.1, (commit_powered b, tt)))
+  asks_powered true true b = (λ y may h _. committed_items y.is_open y b, tt)
+  asks_powered false true b = (
+    λ y may h is. absurd (subst (λ (f : Bool). IsAllowed Opt f I y Reset) is may.0),
+    (λ y may h _. pushed_items y.items (Value (guard barrier b)), (λ y may h _. committed_items y.is_open y b, tt)),
+  )
   asks_powered flag false b = tt
 
   pub stays_powered : (y : History) (c : Course) (offer : List ℕ) (b : Batch) → life_of Opt y ≢ LostLife
@@ -104,13 +92,11 @@ IsGrownBy i y waiting after =
 
 basic_grown : (meaning : Meaning) (key : List ℕ) (y after : History) (p : Pending)
     → (after.batches ≡ y.batches) ⊎ (after.batches ≡ y.batches ++ One p.request ∷ []) → IsGrownBy (basic meaning key) y (Some p) after
-basic_grown meaning key y after p (inl e) = inl e
-basic_grown meaning key y after p (inr e) = inr (p, refl, e)
+basic_grown meaning key y after p h = grind (arith, h)
 
 pub opt_grown : (meaning : Meaning) (key barrier : List ℕ) (y after : History) (p : Pending)
     → Alike meaning key barrier y (One p.request) after → IsGrownBy (opt meaning key barrier) y (Some p) after
-opt_grown meaning key barrier y after p (still e) = inl e
-opt_grown meaning key barrier y after p (grown_by e) = inr (p, refl, e)
+opt_grown meaning key barrier y after p h = grind (arith, h)
 
 -- what one call for a request comes to by lists, whatever is offered that names a position where it is right
 pub record Met (all others : List (List ℕ)) (asked : List Batch) (i : Instance) (y : History) (standing : Standing) (offer : List ℕ)
@@ -128,8 +114,7 @@ pub record Met (all others : List (List ℕ)) (asked : List Batch) (i : Instance
   pub powered : life_of i.variant y ≢ LostLife → life_of i.variant after ≢ LostLife
 
 faulted : (why : Refusal) (life : Life) (broken : StepFault) → fault_of why ≡ Some broken → IsRefusedAs why life
-faulted (Device fault) _ broken has = tt
-faulted why _ broken has = absurd (cc)
+faulted why end broken has = grind (arith, has)
 
 module _ (all others : List (List ℕ)) (asked : List Batch) (i : Instance) (y : History) (standing : Standing) (offer : List ℕ)
     (p : Pending) (gives : Result BatchAnswer Refusal) where

@@ -1,11 +1,10 @@
 -- One call of either variant promises what the cores' whole calls do.
-use Rattle.mm_host.proofs.Below.{◌≡◌, ℕ, Bool, true, false, List, length, None, Result, Ok, Err, refl, sym, subst, Variant, Basic, Opt}
+use Rattle.mm_host.proofs.Below.{arith, ◌≡◌, ℕ, Bool, false, List, length, None, Result, Ok, Err, refl, sym, subst, Variant, Basic, Opt}
 use Rattle.mm_host.proofs.Below.{Standing, Meaning, IsLawful, Batch, One, IsFit, is_long, Answer, BatchAnswer, Refusal, Long, Verdict}
-use Rattle.mm_host.proofs.Below.{Ended, Answered, Refused, Broken, result_of, Blames, whole, whole_in, fault_in, weighed, EndsTo}
+use Rattle.mm_host.proofs.Below.{Ended, result_of, Blames, whole, whole_in, fault_in, weighed, EndsTo}
 use Rattle.mm_host.proofs.Below.{ends_result, Given, steps_give, acts_for, answer_in, basic_call, StepsBy, AskedIn, IsCall}
 use Rattle.std.specs.Prelude.{IfOk}
 use Rattle.mm_seal.specs.declared.snapshot.PartsFault.TheVariants.{Form, Kind}
-use Rattle.mm_model.specs.declared.verdict.Verdict.TheVariants.{Fresh, Again}
 use Rattle.mm_basic.specs.declared.found.Found.{Found}
 use Rattle.mm_basic.specs.Seen.{Seen, NoCell, OtherCell, NoOffer, Both}
 use Rattle.mm_basic.specs.Order.{verdict_of}
@@ -19,23 +18,19 @@ use Rattle.mm_seal.specs.declared.cell.CellFault.TheVariants as cell_fault
 use Rattle.mm_basic.proofs.Above as in_basic
 use Rattle.mm_opt.proofs.Above as in_opt
 
-asked_begun : (variant : Variant) (meaning : Meaning) → IsLawful meaning
-    → (old new : Standing) (offer : List ℕ) (b : Batch) (ended : Ended) → is_long b ≡ false
-    → FinishedAsk meaning (begun variant) old new offer b ended → AskedIn variant meaning old new offer b (result_of ended)
-asked_begun Basic meaning lawful old new offer b ended short f =
-    in_basic.asked meaning lawful old new offer b (result_of ended)
-    (in_basic.calls_finished meaning None old new offer b ended (result_of ended) refl short f.finishes refl)
-    (λ _. (f.ends Basic refl).calls)
-asked_begun Opt meaning lawful old new offer b ended short f =
-    in_opt.asked meaning lawful old new offer b (result_of ended)
-    (in_opt.calls_finished Begun meaning old new offer b ended (result_of ended) refl short f.finishes refl) f.faults
-
 pub asked_in : (variant : Variant) (meaning : Meaning) → IsLawful meaning
     → (old new : Standing) (offer : List ℕ) (b : Batch) (call : AskCall) (ended : Ended) (result : Result BatchAnswer Refusal)
     → is_long b ≡ false → call ≡ begun variant
     → FinishedAsk meaning call old new offer b ended → result ≡ result_of ended → AskedIn variant meaning old new offer b result
-asked_in variant meaning lawful old new offer b call ended result short first f is =
-    rw is (asked_begun variant meaning lawful old new offer b ended short (rw (sym first) f))
+asked_in Basic meaning lawful old new offer b call ended result short first finished is =
+    let f : FinishedAsk meaning (begun Basic) old new offer b ended = rw (sym first) finished in
+    rw is (in_basic.asked meaning lawful old new offer b (result_of ended)
+    (in_basic.calls_finished meaning None old new offer b ended (result_of ended) refl short f.finishes refl)
+    (λ _. (f.ends Basic refl).calls))
+asked_in Opt meaning lawful old new offer b call ended result short first finished is =
+    let f : FinishedAsk meaning (begun Opt) old new offer b ended = rw (sym first) finished in
+    rw is (in_opt.asked meaning lawful old new offer b (result_of ended)
+    (in_opt.calls_finished Begun meaning old new offer b ended (result_of ended) refl short f.finishes refl) f.faults)
 
 pub one_output : (variant : Variant) (meaning : Meaning) (old new : Standing) (offer request : List ℕ)
     (result : Result BatchAnswer Refusal) → AskedIn variant meaning old new offer (One request) result
@@ -47,8 +42,7 @@ one_output Opt meaning old new offer request result a = in_basic.one_output requ
 of_whole : (result : Result Answer Refusal) (old new : Standing) (request : List ℕ)
     → Blames (fault_in (whole_in result)) old.faults new.faults → IfOk (whole_in result) (λ all. IsFit (One request) all)
     → Blames (fault_in result) old.faults new.faults × IfOk result (λ answer. IsFit (One request) (whole answer))
-of_whole (Ok answer) old new request b f = (b, f)
-of_whole (Err why) old new request b f = (b, f)
+of_whole result old new request b f = grind (arith, b, f)
 
 -- no call of Basic that isn't too long is refused as that
 abbrev IsShort : {A : Type 0} → Result A Refusal → Type 0
@@ -57,9 +51,7 @@ IsShort result = Unit {0}
 
 weighed_short : (spelled tagged : Bool) (verdict : Verdict) (fits : Bool) (next : List ℕ) (answer : Bool → BatchAnswer)
     → IsShort (found_from (weighed spelled tagged verdict fits) next answer)
-weighed_short true true Fresh true next answer = tt
-weighed_short true true Again true next answer = tt
-weighed_short _ _ _ _ next answer = tt
+weighed_short spelled tagged verdict fits next answer = grind arith
 
 found_short : (meaning : Meaning) (seen : Seen) (b : Batch) → IsShort (found_in meaning seen b)
 found_short meaning (NoCell cell_fault.Blank) b = tt
@@ -78,9 +70,7 @@ reads_short meaning old new offer b (Err Long) r =
 reads_short meaning old new offer b found r = tt
 
 given_short : (ended : Ended) (answer : BatchAnswer) → Given answer ended → IsShort (result_of ended)
-given_short (Answered it) answer g = tt
-given_short (Refused why) answer g = absurd g
-given_short (Broken fault position) answer g = tt
+given_short ended answer g = grind (arith, g)
 
 ends_short : (found : Result Found Refusal) (old new : Standing) (ended : Ended) → IsShort found
     → EndsTo basic_call found old new ended → IsShort (result_of ended)
@@ -90,33 +80,29 @@ ends_short (Ok found) old new ended short ends =
     given_short ended (answer_in found) (steps_give (acts_for found) (answer_in found) old new ended ends)
 
 -- one call of either variant
-called_in : (variant : Variant) (meaning : Meaning) (old new : Standing) (offer request : List ℕ) (result : Result Answer Refusal)
-    → is_long (One request) ≡ false → AskedIn variant meaning old new offer (One request) (whole_in result)
-    → IsCall variant meaning old new offer request result
-called_in Basic meaning old new offer request result short a = record {
-  goes = a.goes short;
-  untouched = a.untouched;
-  faults = (of_whole result old new request a.faults a.fits).0;
-  short = λ e.
-      let k = a.calls.asks short in
-      subst (λ (r : Result Answer Refusal). IsShort (whole_in r)) e
-      (subst (λ (r : Result BatchAnswer Refusal). IsShort r) (sym k.gives)
-      (ends_short k.asks.found k.asks.middle new k.ended
-      (reads_short meaning old k.asks.middle offer (One request) k.asks.found k.asks.reads) k.asks.ends));
-  fits = (of_whole result old new request a.faults a.fits).1;
-  counts = basic_writes old new result (a.steps short);
-}
-called_in Opt meaning old new offer request result short a = record {
-  goes = a.goes short;
-  untouched = a.untouched;
-  faults = (of_whole result old new request a.faults a.fits).0;
-  short = λ e. subst (λ (r : Result Answer Refusal). StepsBy (whole_in r) old new) e (a.steps short);
-  fits = (of_whole result old new request a.faults a.fits).1;
-  counts = opt_writes meaning old new offer (One request) result short a;
-}
-
 pub is_call : (variant : Variant) (meaning : Meaning) (old new : Standing) (offer request : List ℕ) (result : Result Answer Refusal)
     (gives : Result BatchAnswer Refusal) → gives ≡ whole_in result → is_long (One request) ≡ false
     → AskedIn variant meaning old new offer (One request) gives → IsCall variant meaning old new offer request result
-is_call variant meaning old new offer request result gives e short a =
-    called_in variant meaning old new offer request result short (rw (sym e) a)
+is_call Basic meaning old new offer request result gives e short asked =
+    let a : AskedIn Basic meaning old new offer (One request) (whole_in result) = rw (sym e) asked in record {
+      goes = a.goes short;
+      untouched = a.untouched;
+      faults = (of_whole result old new request a.faults a.fits).0;
+      short = λ e.
+          let k = a.calls.asks short in
+          subst (λ (r : Result Answer Refusal). IsShort (whole_in r)) e
+          (subst (λ (r : Result BatchAnswer Refusal). IsShort r) (sym k.gives)
+          (ends_short k.asks.found k.asks.middle new k.ended
+          (reads_short meaning old k.asks.middle offer (One request) k.asks.found k.asks.reads) k.asks.ends));
+      fits = (of_whole result old new request a.faults a.fits).1;
+      counts = basic_writes old new result (a.steps short);
+    }
+is_call Opt meaning old new offer request result gives e short asked =
+    let a : AskedIn Opt meaning old new offer (One request) (whole_in result) = rw (sym e) asked in record {
+      goes = a.goes short;
+      untouched = a.untouched;
+      faults = (of_whole result old new request a.faults a.fits).0;
+      short = λ e. subst (λ (r : Result Answer Refusal). StepsBy (whole_in r) old new) e (a.steps short);
+      fits = (of_whole result old new request a.faults a.fits).1;
+      counts = opt_writes meaning old new offer (One request) result short a;
+    }

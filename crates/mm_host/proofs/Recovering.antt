@@ -1,5 +1,5 @@
 -- Every exit of a recovery leaves slots that fit the history.
-use Rattle.mm_host.proofs.Below.{◌≡◌, ℕ, ◌-◌, ◌%◌, true, List, Option, None, Some, Result, Ok, Err, refl, sym, ap, ◌∙◌, subst, inl, inr}
+use Rattle.mm_host.proofs.Below.{arith, ◌≡◌, ℕ, ◌-◌, ◌%◌, true, List, Option, None, Some, Result, Ok, Err, refl, sym, ap, ◌∙◌, subst, inl, inr}
 use Rattle.mm_host.proofs.Below.{◌≤◌, IfOk, ◌⊎◌, Variant, Basic, Opt, Standing, Meaning, IsLawful, Batch, One, Instance, basic, opt}
 use Rattle.mm_host.proofs.Below.{History, total_of, StandsFor, Answer, BatchAnswer, life_of, Refusal, whole, whole_in, AreAsked, fault_of}
 use Rattle.mm_host.proofs.Below.{StepFault, StoreFault, ReadsSlot, WritesSlot, putting, StoreStanding, Pending, Slots, slot_read, with_slot}
@@ -32,31 +32,20 @@ pub record Saw (slots : Slots) (old new : StoreStanding) (result : Result (Optio
 
 took : (two three : List ℕ) (result : Result (Option Pending) StoreFault) (taken w : Option Pending) → IsWaiting two three taken
     → (result ≡ Ok taken) ⊎ (result ≡ Err fault.Memory) → result ≡ Ok w → IsWaiting two three w
-took two three result taken w is (inl e) f = let same : taken ≡ w = cc in rw (sym same) is
-took two three result taken w is (inr e) f = absurd (cc)
+took two three result taken w is e f = grind (arith, is, e, f)
 
 saw_three : (slots : Slots) (two : List ℕ) (three : Result (List ℕ) StoreFault) (old new : StoreStanding)
     (result : Result (Option Pending) StoreFault) → old.slots ≡ Some slots → two ≡ slot_read slots 2 → ReadsSlot 3 old new three
     → AfterThree two three result → Saw slots old new result
-saw_three slots two (Err why) old new result t e r g = record { told = r.slots ∙ t; honest = r.honest; waiting = λ w f. absurd (cc) }
-saw_three slots two (Ok three) old new result t e r g = record {
-  told = r.slots ∙ t;
-  honest = r.honest;
-  waiting = λ w f. rw (sym e, sym (r.gives slots t)) (took two three result g.waiting w g.is_waiting g.gives f);
-}
+saw_three slots two three old new result t e r g = grind (arith, took, t, e, r, g)
 
 pub saw_two : (slots : Slots) (two : Result (List ℕ) StoreFault) (old middle new : StoreStanding)
     (result : Result (Option Pending) StoreFault) → old.slots ≡ Some slots → ReadsSlot 2 old middle two
     → AfterTwo two middle new result → Saw slots old new result
-saw_two slots (Err why) old middle new result t r g =
-    rw (g.0, g.1) (record { told = r.slots ∙ t; honest = r.honest; waiting = λ w f. absurd (cc) })
-saw_two slots (Ok two) old middle new result t r g =
-    let s = saw_three slots two g.three middle new result (r.slots ∙ t) (r.gives slots t) g.reads g.goes in
-    record { told = s.told; honest = s.honest ∙ r.honest; waiting = s.waiting }
+saw_two slots two old middle new result t r g = grind (arith, saw_three, t, r, g)
 
 grown_none : (y : History) (waiting : Option Pending) → IsGrown y waiting y
-grown_none y None = refl
-grown_none y (Some p) = inl refl
+grown_none y waiting = grind arith
 
 -- nothing more is known where memory was wanting in the call
 refused_comes : (i : Instance) (y : History) (slots : Slots) (waiting : Option Pending) (after : History) (why : Refusal)
@@ -166,8 +155,7 @@ module _ (More : History → Type 0) (all others : List (List ℕ)) (asked : Lis
 
   only_by : (why : Refusal) (broken : Option StepFault) → fault_of why ≡ broken → (l : LeftBy (Err why))
       → (l.after.batches ≡ y.batches) ⊎ MayHaveCommitted {T = Resumed} (Err (refusal_fault why))
-  only_by why None e l = inl (l.only why refl e)
-  only_by why (Some broken) e l = inr (may_commit why broken e)
+  only_by why broken e l = grind (arith, may_commit, e, l)
 
   asked_exit : (call : Result Answer Refusal) (old new : StoreStanding) (result : Result Resumed HostFault) (l : LeftBy (whole_in call))
       → More l.after → IfOk call (λ answer. IsFit (One p.request) (whole answer)) → old.is_honest ≡ true → old.slots ≡ Some slots
@@ -190,8 +178,7 @@ module _ (More : History → Type 0) (all others : List (List ℕ)) (asked : Lis
 
 pub refusal_told : (call : Result Answer Refusal) (old new : StoreStanding) (result : Result Resumed HostFault)
     → AfterAsk call old new result → (why : Refusal) → call ≡ Err why → result ≡ Err (refusal_fault why)
-refusal_told (Err w) old new result g why e = let same : w ≡ why = cc in g.1 ∙ ap (λ (x : Refusal). Err (refusal_fault x)) same
-refusal_told (Ok answer) old new result g why e = absurd (cc)
+refusal_told call old new result g why e = grind (arith, g, e)
 
 -- it leads on from slots that fit
 module _ (all others : List (List ℕ)) (asked : List Batch) (i : Instance) (y : History) (slots : Slots) (before : Standing)

@@ -2,12 +2,12 @@
 use Rattle.mm_host.proofs.Below.{◌≡◌, ℕ, ◌+◌, ◌-◌, ◌≤◌, true, false, List, [], ◌∷◌, ◌++◌, Result, Ok, refl, sym, ap, ◌∙◌, subst, arith, inl}
 use Rattle.mm_host.proofs.Below.{inr, ◌⊎◌, nat_eq, nat_tests, Batch, One, Content, Instance, History, total_of, IsRight, total-push}
 use Rattle.mm_host.proofs.Below.{BatchAnswer, Refusal, Comes, kept, grown, one_content, Pending, Holds, IsAwaited, Some, Answer, whole}
-use Rattle.mm_host.proofs.Below.{AnswersAt, Names, IsGenuine, Bool, ◌&&◌, map, Option, None, Err, nat_le, if◌then◌else◌, IfSome}
-use Rattle.mm_host.proofs.Below.{last_position, Basic, Opt, Variant, StepFault, Snapshot, tag_of, offered_of, PartsFault, Move, Foreign}
-use Rattle.mm_host.proofs.Below.{Life, Live, Spoiled, LostLife, life_of, is_lost, Reads, ask_steps, Memory, Device, Lost, before_the_last}
-use Rattle.mm_host.proofs.Below.{ended_by, given_for, called, Course, End, Done, Fails, Fate, Walked, walk, after_step, seen_in, seen_at}
+use Rattle.mm_host.proofs.Below.{AnswersAt, Names, IsGenuine, Bool, ◌&&◌, map, Option, None, Err, if◌then◌else◌}
+use Rattle.mm_host.proofs.Below.{last_position, Variant, StepFault, Snapshot, tag_of, offered_of, PartsFault, Move, Foreign}
+use Rattle.mm_host.proofs.Below.{Life, life_of, is_lost, Reads, ask_steps, Memory, Lost, before_the_last}
+use Rattle.mm_host.proofs.Below.{ended_by, given_for, called, Course, End, Fate, Walked, walk, after_step, seen_in, seen_at}
 use Rattle.mm_host.proofs.Below.{reading_steps, Found, found_by_verdict, found_at, found_with, found_unless_wanting, is_fresh, by_lists}
-use Rattle.mm_host.proofs.Below.{all_made, admitted, same_batches, seen_none, finished, fault_of, ReadsPending, later, IsWaiting}
+use Rattle.mm_host.proofs.Below.{all_made, admitted, same_batches, seen_none, fault_of, IsWaiting}
 use Rattle.mm_host.proofs.Below.{IsRefusedAs}
 use Rattle.mm_call.specs.Answers.{answer_on}
 use Rattle.std.proofs.lemmas.Bool.{le-leb}
@@ -20,8 +20,7 @@ pub one_more : (batches : List Batch) (request : List ℕ) → total_of (batches
 one_more batches request = total-push batches (One request)
 
 pub awaited_least : (y : History) (p : Pending) → IsAwaited y p → 1 ≤ p.position
-awaited_least y p (inl e) = omega (arith, e)
-awaited_least y p (inr e) = omega (arith, e.0, one_more e.1.front p.request, ap total_of e.1.is)
+awaited_least y p w = grind (arith, one_more, w)
 
 pub awaited_then : (y after : History) (p : Pending) → after.batches ≡ y.batches → IsAwaited y p → IsAwaited after p
 awaited_then y after p same w = rw same w
@@ -44,8 +43,7 @@ eq_later n m e = grind (arith, nat_tests, e)
 
 pub grows : (i : Instance) (y : History) (p : Pending) (offer : List ℕ) (after : History) (gives : Result BatchAnswer Refusal)
     → Comes i y offer (One p.request) after gives → (after.batches ≡ y.batches) ⊎ (after.batches ≡ y.batches ++ One p.request ∷ [])
-grows i y p offer after gives (kept same answers) = inl same
-grows i y p offer after gives (grown content right at more answers) = inr more
+grows i y p offer after gives c = grind (arith, c)
 
 module _ (i : Instance) (y : History) (p : Pending) (offer : List ℕ) (after : History) (w : IsAwaited y p)
     (h : Holds i y offer (p.position - 1)) where
@@ -98,25 +96,10 @@ pub offered_then : (i : Instance) (y s : History) (p : Pending) (offer : List �
 offered_then i y s p offer same o =
     record { content = o.content; right = o.right; at = o.at; awaited = awaited_then y s p same o.awaited; most = o.most }
 
--- a record that waits has a position of at most 2^48
-abbrev AtMost : Option Pending → Type 0
-AtMost read = IfSome read (λ p. p.position ≤ last_position)
-
-read_most : (slot : ℕ) (bytes : List ℕ) (read : Option Pending) → ReadsPending slot bytes read → AtMost read
-read_most slot bytes None r = tt
-read_most slot bytes (Some p) r = r.0.most
-
-later_most : (a b : Option Pending) → AtMost a → AtMost b → AtMost (later a b)
-later_most None b x y = y
-later_most (Some a) None x y = x
-later_most (Some a) (Some b) x y =
-    elim (nat_le b.position a.position) as (λ (t : Bool). AtMost (if t then Some a else Some b)) [ true ↦ x | false ↦ y ]
-
+-- a record that waits is one of those that were read, so its position is at most 2^48
 pub waiting_most : (two three : List ℕ) (waiting : Option Pending) (p : Pending) → IsWaiting two three waiting → waiting ≡ Some p
     → p.position ≤ last_position
-waiting_most two three waiting p w e =
-    subst (λ (read : Option Pending). AtMost read) (sym w.is ∙ e)
-    (later_most w.in_two w.in_three (read_most 2 two w.in_two w.reads_two) (read_most 3 three w.in_three w.reads_three))
+waiting_most two three waiting p w e = grind (arith, w, e)
 
 -- the position is the last one, or the request is a repeat
 placed_by : (s : History) (p : Pending) (position : ℕ) → position ≡ p.position - 1 → IsAwaited s p → 1 ≤ p.position
@@ -138,12 +121,7 @@ FindsAs life content examined = AsLife life (if is_lost life then Err Lost else 
 
 admitted_here : (life : Life) (content : Content) (here repeat : Bool) → (here ≡ true) ⊎ (repeat ≡ true)
     → FindsAs life content (admitted (judged life here repeat) true)
-admitted_here LostLife content here repeat h = refl
-admitted_here Spoiled content here repeat h = refl
-admitted_here Live content true repeat h = tt
-admitted_here Live content false true h = tt
-admitted_here Live content false false (inl e) = absurd (cc)
-admitted_here Live content false false (inr e) = absurd (cc)
+admitted_here ends content here repeat h = grind (arith, h)
 
 pub found_refused : (i : Instance) (s : History) (p : Pending) (offer : List ℕ) (o : IsOffered i s p offer) (why : Refusal)
     → found_at i (by_lists i) s (One p.request) offer ≡ Err why → IsRefusedAs why (life_of i.variant s)
@@ -170,33 +148,22 @@ found_refused i s p offer o why e =
 ended_found : (i : Instance) (seen end : History) (b : Batch) (found : Result Found Refusal) (moves : List Move) (broken : Option StepFault)
     (why : Refusal)
     → given_for (ended_by (by_lists i) seen end b found moves broken) ≡ Err why → fault_of why ≡ None → (found ≡ Err why) × (broken ≡ None)
-ended_found i seen end b found moves (Some fault) why e none =
-    let same : Device fault ≡ why = cc in
-    let some : fault_of (Device fault) ≡ None = subst (λ (w : Refusal). fault_of w ≡ None) (sym same) none in absurd (cc)
-ended_found i seen end b (Err w) moves None why e none = let same : w ≡ why = cc in (ap (λ (x : Refusal). Err x) same, refl)
-ended_found i seen end b (Ok found) moves None why e none = absurd (cc)
+ended_found i seen end b found moves broken why e none = grind (arith, e, none)
 
 -- where nothing was found, the call made its reading steps alone
 read_then : (values : List (List ℕ)) (ends : End) (rest : Walked) (seen : List Move) → (rest.broken ≡ None → rest.moves ≡ seen)
     → (after_step Reads values ends rest).broken ≡ None → (after_step Reads values ends rest).moves ≡ map Foreign values ++ seen
-read_then values Done rest seen h e = ap (λ (moves : List Move). map Foreign values ++ moves) (h e)
-read_then values (Fails fault made) rest seen h e = absurd (cc)
+read_then values ends rest seen h e = grind (arith, h, e)
 
 read_alone : (variant : Variant) (fates : ℕ → Fate) (flag fresh : Bool) (b : Batch) → fresh ≡ false
     → (walk fates 1 (ask_steps variant flag fresh b)).broken ≡ None
     → (walk fates 1 (ask_steps variant flag fresh b)).moves ≡ seen_in fates (reading_steps variant) 1
-read_alone variant fates flag true b e whole = absurd (cc)
-read_alone Basic fates flag false b e whole = read_then (fates 1).brings (fates 1).ends finished [] (λ _. refl) whole
-read_alone Opt fates flag false b e whole =
-    read_then (fates 1).brings (fates 1).ends (walk fates 2 (Reads ∷ [])) (map Foreign (fates 2).brings ++ [])
-    (read_then (fates 2).brings (fates 2).ends finished [] (λ _. refl)) whole
+read_alone variant fates flag fresh b e whole = grind (arith, read_then, e, whole)
 
 -- memory may be wanting besides
 lacking_or : (found : Result Found Refusal) (lacks : Bool) (why : Refusal) → found_unless_wanting found lacks ≡ Err why
     → (why ≡ Memory) ⊎ (found ≡ Err why)
-lacking_or (Err w) lacks why e = inr e
-lacking_or (Ok found) false why e = absurd (cc)
-lacking_or (Ok found) true why e = let same : Memory ≡ why = cc in inl (sym same)
+lacking_or found lacks why e = grind (arith, e)
 
 -- so such a call leaves what it saw, and is refused as the offer is there
 module _ (i : Instance) (y : History) (c : Course) (b : Batch) (offer : List ℕ) (why : Refusal)

@@ -10,6 +10,7 @@ use Rattle.mm_host.proofs.Below.{AfterLooking, Inits, first_on, ShowsValues, Beg
 use Rattle.mm_host.proofs.Below.{Contains, start_message, Batch, basic, opt, IsSound, IsWithin, ReadsPending, longest_slot, slot_read}
 use Rattle.mm_host.proofs.Below.{reads_none-short, longest_slot-is, IsWaiting, first_slots, IsFirstStore}
 use Rattle.std.proofs.lemmas.List.{length-take}
+use Rattle.std.specs.List.{fold}
 use Rattle.std.specs.Result.{result_err}
 use Rattle.mm_base.specs.declared.fault.Failed.{Failed}
 use Rattle.mm_model.specs.HistoryWords.{values_of as entry_values}
@@ -67,13 +68,8 @@ empty_reads slot =
     rw (take-nil longest_slot) (reads_none-short slot [] (omega arith))
 
 none_waits : IsWaiting (take longest_slot []) (take longest_slot []) None
-none_waits = record {
-  in_two = None;
-  in_three = None;
-  reads_two = empty_reads 2;
-  reads_three = empty_reads 3;
-  is = refl;
-}
+none_waits =
+    record { in_two = None; in_three = None; reads_two = empty_reads 2; reads_three = empty_reads 3; is = refl }
 
 -- the slot of the first snapshot holds it
 first_store : (i : Instance) (values : List (List ℕ)) → IsLawful i.meaning → IsIssued i (first_on values)
@@ -87,9 +83,8 @@ first_store i values lawful issues same within = record {
     fits = (
       refl,
       holds_issued i lawful (first_on values) (slot_read (first_slots i) 0) 0 issues (omega arith)
-          (ap (λ (bytes : List ℕ). take longest_slot bytes) same
-          ∙ take_all longest_slot (issued_bytes i (first_on values))
-          (fits_slot _ longest_slot (sealed_of-most _ _ (issues.formed (omega arith))) longest_slot-is)) refl,
+          (rw same (take_all longest_slot (issued_bytes i (first_on values))
+          (fits_slot _ longest_slot (sealed_of-most _ _ (issues.formed (omega arith))) longest_slot-is))) refl,
     );
   };
   nothing_waits = refl;
@@ -106,19 +101,13 @@ is_first Opt meaning key barrier values lawful =
     record { sound = sound_first values; outside = tt; listed = (h, tt); batches = tt })
 
 -- The store after puts: its count, and where all were written its slots, which are synced.
-abbrev all_put : Slots → List Put → Slots
-all_put slots [] = slots
-all_put slots (put ∷ puts) = all_put (with_slot slots put.0 put.1) puts
-
-abbrev all_marked : Unsynced → List Put → Unsynced
-all_marked marks [] = marks
-all_marked marks (put ∷ puts) = all_marked (with_unsynced marks put.0 false) puts
-
 record ArePut (puts : List Put) (old new : StoreStanding) (stored : Result Unit StoreFault) : Type 0 where
   counted : CountsFailures old.faults new.faults stored
   honest : new.is_honest ≡ old.is_honest
-  told : (slots : Slots) → stored ≡ Ok tt → old.is_honest ≡ true → old.slots ≡ Some slots → new.slots ≡ Some (all_put slots puts)
-  synced : (marks : Unsynced) → stored ≡ Ok tt → old.unsynced ≡ Some marks → new.unsynced ≡ Some (all_marked marks puts)
+  told : (slots : Slots) → stored ≡ Ok tt → old.is_honest ≡ true → old.slots ≡ Some slots
+      → new.slots ≡ Some (fold (λ (s : Slots) (put : Put). with_slot s put.0 put.1) slots puts)
+  synced : (marks : Unsynced) → stored ≡ Ok tt → old.unsynced ≡ Some marks
+      → new.unsynced ≡ Some (fold (λ (m : Unsynced) (put : Put). with_unsynced m put.0 false) marks puts)
 
 are_put : (puts : List Put) (old new : StoreStanding) (stored : Result Unit StoreFault) → PutsAll puts old new stored
     → ArePut puts old new stored
@@ -143,8 +132,7 @@ entries_values barrier (v ∷ values) = ap (λ (vs : List (List ℕ)). v ∷ vs)
 
 reads_values : (items : Option (List Item)) (values : List (List ℕ)) → option_map item_values items ≡ Some values
     → option_map (λ (xs : List Item). folded_of (item_values xs)) items ≡ Some (folded_of values)
-reads_values None values e = absurd (cc)
-reads_values (Some items) values e = let same : item_values items ≡ values = cc in ap (λ (vs : List (List ℕ)). Some (folded_of vs)) same
+reads_values items values e = grind (arith, e)
 
 stands_first : (variant : Variant) (meaning : Meaning) (key barrier : List ℕ) (standing : Standing) (values : List (List ℕ))
     → length key ≡ 32 → length barrier ≡ 32
@@ -186,8 +174,7 @@ module _ (variant : Variant) (meaning : Meaning) (lawful : IsLawful meaning) (be
   -- the exits of the store
   store_exit : (after : Devices) (why : StoreFault) → FoundBlank after.platform → after.source_faults ≡ before.source_faults
       → CountsFailures {T = Unit {0}} before.store.faults after.store.faults (Err why) → Comes after (Err (store_failed_as why))
-  store_exit after fault.Memory f source store = came f.cell f.blank f.faults source store
-  store_exit after fault.Failed f source store = came f.cell f.blank f.faults source store
+  store_exit after why f source store = grind (arith, f, source, store)
 
   module _ (after : Devices) (middle : Standing) (secrets : List ℕ) (f : FoundBlank middle) (size : length secrets ≡ 64)
       (taken : Consumes before.left after.left secrets) (source : after.source_faults ≡ before.source_faults) where
@@ -218,8 +205,7 @@ module _ (variant : Variant) (meaning : Meaning) (lawful : IsLawful meaning) (be
     may_begin : (made : Bool) → Stored (Ok tt)
         → after.platform.cell ≡ cell_after (WriteCell (cell_spelling (cell_of I first_history))) made middle.cell
         → (after.platform.cell ≡ before.platform.cell) ⊎ Begins variant meaning before after
-    may_begin true puts cell = inr (begins puts cell)
-    may_begin false puts cell = inl (cell ∙ f.cell)
+    may_begin made puts cell = grind (arith, begins, puts, cell)
 
     write_exit : (written : Result Unit StepFault) (made : Bool) → Stored (Ok tt)
         → after.platform.cell ≡ cell_after (WriteCell (cell_spelling (cell_of I first_history))) made middle.cell

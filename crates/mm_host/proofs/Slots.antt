@@ -1,10 +1,10 @@
 -- What slots hold: what a history issues names its end, and a snapshot fits; and slots that fit go on to fit.
-use Rattle.mm_host.proofs.Below.{◌≡◌, ◌≤◌, ℕ, Bool, true, false, List, refl, sym, last_position, Variant, Basic, Opt, Meaning, IsLawful}
+use Rattle.mm_host.proofs.Below.{◌≡◌, ◌≤◌, ℕ, Bool, false, List, refl, sym, last_position, Variant, Basic, Opt, Meaning, IsLawful}
 use Rattle.mm_host.proofs.Below.{IsContent, variant_of, Instance, basic, opt, History, joined, requests_of, total_of, has_value, Names}
 use Rattle.mm_host.proofs.Below.{issued, issued_place, IsSound, issued_bytes, basic_issued, opt_issued, basic_content, opt_content, Holds}
 use Rattle.mm_host.proofs.Below.{◌-◌, ◌%◌, length, take, ap, ◌∙◌, arith, inl, inr, ◌⊎◌, take_all, Pending, Slots, longest_slot, with_slot}
 use Rattle.mm_host.proofs.Below.{slot_read, longest_slot-is, slot_in-with_slot, offer_slot, [], ◌∷◌, Option, None, Some, subst, Contains}
-use Rattle.mm_host.proofs.Below.{start_message, Content, Move, Commit, moved, IsGenuine, basic_names, opt_names, commits, instance_by}
+use Rattle.mm_host.proofs.Below.{start_message, Content, Move, moved, IsGenuine, basic_names, opt_names, commits, instance_by}
 use Rattle.mm_host.proofs.Below.{first_offer, FitsBy, instance_from, first_on, first_slots, IsFirstStore, IsAskedFor}
 use Rattle.mm_module.specs.RunLaws.{state_after-is_spelled}
 use Rattle.mm_host.proofs.Refusing.{awaited_then, genuine_by, holds_on}
@@ -25,9 +25,7 @@ issued_in_opt meaning lawful key barrier y sound clean =
     record { formed = opt_content meaning lawful key barrier y; names = opt_issued meaning key barrier y sound clean }
 
 placed_as : (variant : Variant) (flag : Bool) (i : Instance) (y : History) → variant_of (issued_place variant flag i y) ≡ variant
-placed_as Basic flag i y = refl
-placed_as Opt true i y = refl
-placed_as Opt false i y = refl
+placed_as variant flag i y = grind arith
 
 pub holds_issued : (i : Instance) → IsLawful i.meaning → (y : History) (bytes : List ℕ) (position : ℕ) → IsIssued i y
     → total_of y.batches ≤ last_position → bytes ≡ issued_bytes i y → position ≡ total_of y.batches → Holds i y bytes position
@@ -67,25 +65,17 @@ elsewhere_same slots p = record { two = refl; three = refl; offer = refl }
 turns : (n m : ℕ) → n ≡ m → 1 ≤ m → ((n % 2 ≡ 0) × ((m - 1) % 2 ≡ 1)) ⊎ ((n % 2 ≡ 1) × ((m - 1) % 2 ≡ 0))
 turns n m e h = grind (arith, e, h)
 
-abbrev LeavesSlot : Slots → List ℕ → ℕ → ℕ → Type 0
-LeavesSlot slots bytes here n = slot_read (with_slot slots here bytes) n ≡ slot_read slots n
-
-by_turn : (slots : Slots) (bytes : List ℕ) (here there : ℕ)
-    → ((here ≡ 0) × (there ≡ 1)) ⊎ ((here ≡ 1) × (there ≡ 0))
-    → LeavesSlot slots bytes here 2 × LeavesSlot slots bytes here 3 × LeavesSlot slots bytes here there
-by_turn slots bytes here there (inl t) = rw (t.0, t.1) (refl, refl, refl)
-by_turn slots bytes here there (inr t) = rw (t.0, t.1) (refl, refl, refl)
-
 pub elsewhere_put : (slots : Slots) (p : Pending) (n : ℕ) (bytes : List ℕ) → n ≡ p.position → 1 ≤ p.position
     → IsElsewhere slots (with_slot slots (n % 2) bytes) p
-elsewhere_put slots p n bytes e h =
-    let t = by_turn slots bytes (n % 2) (offer_slot p) (turns n p.position e h) in record { two = t.0; three = t.1; offer = t.2 }
+elsewhere_put slots p n bytes e h = elim (turns n p.position e h) [
+  | inl t ↦ record { two = rw t.0 refl; three = rw t.0 refl; offer = rw (t.0, t.1) refl }
+  | inr t ↦ record { two = rw t.0 refl; three = rw t.0 refl; offer = rw (t.0, t.1) refl }
+]
 
 -- Slots that fit go on to fit, and the first ones do.
 
 same_batches : (i : Instance) (y : History) (m : Move) → commits (m ∷ []) ≡ false → (moved i y m).batches ≡ y.batches
-same_batches i y (Commit b) e = absurd (cc)
-same_batches i y m e = refl
+same_batches i y m e = grind (arith, e)
 
 module _ (i : Instance) (slots : Slots) (y z : History) (same : z.batches ≡ y.batches)
     (names : (content : Content) → Names i y content → Names i z content) where
@@ -126,8 +116,7 @@ fitting_are_genuine i y slots fits = first_genuine i y slots fits.waiting fits.f
 of_instance : (variant : Variant) (meaning : Meaning) (key barrier : List ℕ) (all : List (List ℕ))
     → Contains all (start_message variant meaning.id)
     → Contains all (start_message (instance_by variant meaning key barrier).variant (instance_by variant meaning key barrier).meaning.id)
-of_instance Basic meaning key barrier all h = h
-of_instance Opt meaning key barrier all h = h
+of_instance variant meaning key barrier all h = grind (arith, h)
 
 pub first_starts_can_go_on : FirstStartsCanGoOn
 first_starts_can_go_on variant meaning before after begun cell slots values all others asked told shows honest holds clear apart start =

@@ -1,5 +1,6 @@
 -- Laws of counts, and of what tests of bytes and of digests tell.
-use Rattle.mm_pages.proofs.Below.{ℕ, ◌≡◌, ◌+◌, zero, suc, Bool, true, false, Option, Some, None, List, refl, ap, sym, ◌∙◌, subst, arith, zero-add}
+use Rattle.mm_pages.proofs.Below.{ℕ, ◌≡◌, ◌+◌, zero, suc, Bool, true, false, Option, Some, None, List, refl, ap, ◌∙◌, subst, arith}
+use Rattle.mm_pages.proofs.Below.{zero-add}
 use Rattle.mm_pages.proofs.Below.{◌&&◌, bytes_eq, counted, Digest, page_of, counted_by, may_be, change_count, changes_of, page_digest}
 use Rattle.std.proofs.lemmas.Slice.Eq.{bytes_eq-Decides}
 use Rattle.sha2.specs.Sha256.{sha256}
@@ -16,12 +17,10 @@ same_bytes one other e = (bytes_eq-Decides one other).0 e
 
 -- a page that was found there is there, and doesn't change
 pub held : (a : Bool) (was part : List ℕ) → true ≡ (a && bytes_eq was part) → was ≡ part
-held true was part e = same_bytes was part (sym e)
-held false was part e = absurd (cc)
+held a was part e = grind (arith, same_bytes, e)
 
 pub no_change : (a : Bool) (was part : List ℕ) → true ≡ (a && bytes_eq was part) → change_count was part ≡ 0
-no_change true was part e = rw (sym e) refl
-no_change false was part e = absurd (cc)
+no_change a was part e = grind (arith, e)
 
 -- a page with the digest that is kept, if any, may be there
 alike : (kept : Option Digest) (part : List ℕ) → ((digest : Digest) → kept ≡ Some digest → digest ≡ page_digest part) →

@@ -22,8 +22,7 @@ changed slot AreSo change (Some was) new e h = record {
 
 -- slots that stay are slots with their own bytes put in place
 unchanged : (slot : ℕ) (slots : Option Slots) → slots ≡ changing slot (λ bytes. bytes) slots
-unchanged slot None = refl
-unchanged slot (Some told) = ap Some (sym (with_slot-same told slot))
+unchanged slot slots = grind (arith, with_slot-same)
 
 pub stays : (slot : ℕ) (AreSo : List ℕ → List ℕ → Type 0) (slots : Option Slots) →
     ((told : Slots) → slots ≡ Some told → AreSo (slot_in told slot) (slot_in told slot)) → ChangesSlot slot AreSo slots slots
@@ -60,8 +59,8 @@ put_held {slot} {page} {part} {digest} {kept} {old} {new} {rows} h d k r = recor
       λ honest.
       subst (ChangesSlot slot (IsPutAt page part) old.slots) (sym (ap (λ (x : Paged). x.slots) h.same))
       (stays slot (IsPutAt page part) old.slots (λ told e.
-      let there : page_of (slot_in told slot) page ≡ part = held (may_be kept digest) (page_of (slot_in told slot) page) part (h.holds told e)
-      in
+      let there : page_of (slot_in told slot) page ≡ part =
+      held (may_be kept digest) (page_of (slot_in told slot) page) part (h.holds told e) in
       record {
         within = λ i below. sym (get_or-page_of (slot_in told slot) page i below) ∙ ap (λ (x : List ℕ). get_or x i 0) there;
         before = λ i before. refl;

@@ -1,13 +1,13 @@
 -- Digests that are those of what the device has.
-use Rattle.mm_pages.proofs.Below.{ℕ, ◌≡◌, ◌-◌, zero, suc, Bool, true, false, Option, Some, None, List, [], ◌∷◌, length, get_or, refl, ap}
-use Rattle.mm_pages.proofs.Below.{sym, ◌∙◌, subst, inl, inr, arith, ◌==◌, if◌then◌else◌, cases_lt, get_or_append_left, get_or-append_right}
+use Rattle.std.proofs.lemmas.Bool.Decides.{nat_tests}
+use Rattle.mm_pages.proofs.Below.{ℕ, ◌≡◌, ◌-◌, zero, suc, Option, Some, None, List, [], ◌∷◌, length, get_or, ap}
+use Rattle.mm_pages.proofs.Below.{sym, ◌∙◌, subst, inl, inr, arith, cases_lt, get_or_append_left, get_or-append_right}
 use Rattle.mm_pages.proofs.Below.{Digest, Slots, with_slot, putting, page_of, page_count, Paged, Rows, with_row, page_digest, page_digests}
 use Rattle.mm_pages.proofs.Below.{PutsWhole, AreOf, AreInStep, KeepsStep}
 use Rattle.mm_pages.proofs.RowLaws.{length-digests_of}
 
 last_of : (n : ℕ) (digest other : Digest) → get_or (Some digest ∷ []) n None ≡ Some other → (n ≡ 0) × (digest ≡ other)
-last_of zero digest other e = (refl, cc)
-last_of (suc n) digest other e = absurd (cc)
+last_of n digest other e = grind (arith, e)
 
 -- the digests of bytes are those of their own pages
 are_of_own : (bytes : List ℕ) (count : ℕ) → AreOf (page_digests bytes count) bytes
@@ -26,30 +26,9 @@ are_of_own bytes (suc count) page digest e =
           sym found.1 ∙ ap (λ n. page_digest (page_of bytes n)) same)
     ]
 
-abbrev put : Bool → Bool → Bool → Rows → List (Option Digest) → Rows
-put a b c rows row =
-    if a then record rows { zero = row } else if b then record rows { one = row }
-    else if c then record rows { two = row } else record rows { three = row }
-
-abbrev put_slot : Bool → Bool → Bool → Slots → List ℕ → Slots
-put_slot a b c slots bytes =
-    if a then record slots { zero = bytes } else if b then record slots { one = bytes }
-    else if c then record slots { two = bytes } else record slots { three = bytes }
-
-step_put : (a b c : Bool) (rows : Rows) (slots : Slots) (row : List (Option Digest)) (bytes : List ℕ) →
-    AreInStep rows slots → AreOf row bytes → AreInStep (put a b c rows row) (put_slot a b c slots bytes)
-step_put true b c rows slots row bytes h k =
-    record { at_zero = k; at_one = h.at_one; at_two = h.at_two; at_three = h.at_three }
-step_put false true c rows slots row bytes h k =
-    record { at_zero = h.at_zero; at_one = k; at_two = h.at_two; at_three = h.at_three }
-step_put false false true rows slots row bytes h k =
-    record { at_zero = h.at_zero; at_one = h.at_one; at_two = k; at_three = h.at_three }
-step_put false false false rows slots row bytes h k =
-    record { at_zero = h.at_zero; at_one = h.at_one; at_two = h.at_two; at_three = k }
-
 step_with : (slot : ℕ) (rows : Rows) (slots : Slots) (row : List (Option Digest)) (bytes : List ℕ) →
     AreInStep rows slots → AreOf row bytes → AreInStep (with_row rows slot row) (with_slot slots slot bytes)
-step_with slot rows slots row bytes h k = step_put (slot == 0) (slot == 1) (slot == 2) rows slots row bytes h k
+step_with slot rows slots row bytes h k = grind (arith, nat_tests, h, k)
 
 -- one slot and its digests changed
 step_after : (slot : ℕ) {rows after : Rows} (row : List (Option Digest)) (bytes : List ℕ) {old new : Option Slots} {was now : Slots} →

@@ -1,5 +1,5 @@
 -- The steps of a write, one after another.
-use Rattle.mm_pages.proofs.Below.{ℕ, ◌≡◌, ◌+◌, ◌*◌, ◌<◌, ◌≤◌, suc, true, false, Option, Some, None, Result, Ok, Err, List, ◌++◌, length}
+use Rattle.mm_pages.proofs.Below.{ℕ, ◌≡◌, ◌+◌, ◌*◌, ◌<◌, ◌≤◌, suc, true, false, Option, Some, Result, Ok, Err, List, ◌++◌, length}
 use Rattle.mm_pages.proofs.Below.{get_or, take, drop, refl, ap, sym, ◌∙◌, subst, inl, inr, arith, ◌-◌, length-append, is_err, cases_lt}
 use Rattle.mm_pages.proofs.Below.{Failed, Rose, Digest, Slots, slot_in, with_slot, putting, slot_in-with_slot, with_slot-same}
 use Rattle.mm_pages.proofs.Below.{putting-twice, marks_alone, marked_last, marking, Cached, resized, page_of, page_count, Paged}
@@ -138,11 +138,7 @@ fails_after {slot} {old = old} {new = new} {rows = rows} f g = record {
 -- slots whose length is right
 length_stays : (slot size : ℕ) (slots : Option Slots) → ((told : Slots) → slots ≡ Some told → length (slot_in told slot) ≡ size) →
     slots ≡ changing slot (resized size) slots
-length_stays slot size None h = refl
-length_stays slot size (Some told) h =
-    let same : resized size (slot_in told slot) ≡ slot_in told slot =
-    subst (λ n. resized n (slot_in told slot) ≡ slot_in told slot) (h told refl) (resized-length (slot_in told slot)) in
-    ap Some (sym (with_slot-same told slot) ∙ ap (λ (x : List ℕ). with_slot told slot x) (sym same))
+length_stays slot size slots h = grind (arith, with_slot-same, resized-length, h)
 
 -- the length, where it is right already
 pub fits_already : {slot size seen : ℕ} {old new : Paged} → ReadsLength slot old new (Ok seen) → seen ≡ size →
@@ -192,8 +188,7 @@ whole bytes was now f = resized-same bytes now (λ i below. f.filled i (omega ar
 
 put_as : (slot : ℕ) (bytes : List ℕ) (old new : Option Slots) → ChangesSlot slot (λ was now. now ≡ bytes) old new →
     new ≡ putting slot bytes old
-put_as slot bytes None new c = c.slots
-put_as slot bytes (Some told) new c = c.slots ∙ ap (λ (x : List ℕ). Some (with_slot told slot x)) (c.so told refl)
+put_as slot bytes old new c = grind (arith, c)
 
 -- all pages, and then the length
 pub puts_all : {slot : ℕ} {bytes : List ℕ} {old mid new : Paged} {rows some after : Rows} →
@@ -246,5 +241,4 @@ fails_at_end {slot} {bytes} {some = some} f r g =
 pub put_whole : {D : Type 0} (pages : D → Paged) (slot : ℕ) (bytes : List ℕ) (x y : Cached D) (new : Paged) (after : Rows)
     (result : Result Unit Failed) → x ≡ y → PutsBytes slot bytes (pages x.device) new x.rows after result → is_err result ≡ false →
     PutsWhole slot bytes (pages y.device) new y.rows after
-put_whole pages slot bytes x y new after (Ok done) same p e = rw (sym same) p
-put_whole pages slot bytes x y new after (Err fault) same p e = absurd (cc)
+put_whole pages slot bytes x y new after result same p e = grind (arith, same, p, e)

@@ -1,10 +1,10 @@
 -- A device step leaves what it is told to leave.
-use Rattle.mm_platform.proofs.Below.{◌≡◌, Bool, true, false, Option, None, Some, List, [], ◌∷◌, refl, sym, ◌∙◌, ap, is_none, if◌then◌else◌}
+use Rattle.mm_platform.proofs.Below.{arith, ◌≡◌, Bool, Option, None, Some, List, [], ◌∷◌, refl, sym, ◌∙◌, ap, subst, is_none, if◌then◌else◌}
 use Rattle.mm_platform.proofs.Below.{Plan, Standing, plan_after, Act, beside, cell_after, items_after, will_answer, will_be_made}
 use Rattle.mm_platform.proofs.Below.{will_be_on, will_bring, faults_after, Goes, known_plan}
 use Rattle.std.specs.Option.{option_map}
 use Rattle.mm_platform.specs.declared.fault.StepFault.{StepFault}
-use Rattle.mm_platform.specs.Told.{next_answer, makes, step_made, acted, acts_answer, AreAlike}
+use Rattle.mm_platform.specs.Told.{next_answer, makes, spare_after, step_made, acted, AreAlike}
 use Rattle.mm_platform.specs.Calls.{ActsAsTold}
 
 -- what a step does, by the plan that it was told
@@ -23,125 +23,81 @@ as_told act old new fault step plan known =
     record {
       answer = answers;
       stands = record {
-        cell = step.cell ∙ ap (λ m. cell_after act m old.cell) made;
-        items = step.items ∙ ap (λ m. items_after act m (beside step.others old.items)) made
-            ∙ ap (λ o. items_after act (makes old) (beside o old.items)) brings;
-        is_on = told.power ∙ ap (will_be_on old.is_on) same;
-        steps = step.steps;
-        writes = step.writes;
-        cycles = step.cycles;
-        faults = told.counts ∙ ap (λ f. faults_after f old.faults) answers;
-        plan = step.plan;
+        spare = new.spare;
+        same = λ j. record {
+          cell = (step.cell ∙ ap (λ m. cell_after act m old.cell) made) j;
+          items = (step.items ∙ ap (λ m. items_after act m (beside step.others old.items)) made
+              ∙ ap (λ o. items_after act (makes old) (beside o old.items)) brings) j;
+          is_on = (told.power ∙ ap (will_be_on old.is_on) same) j;
+          steps = step.steps j;
+          writes = step.writes j;
+          cycles = step.cycles j;
+          spare = new.spare;
+          faults = (told.counts ∙ ap (λ f. faults_after f old.faults) answers) j;
+          plan = step.plan j;
+        };
       };
     }
 
 -- Alike standings meet the same next step.
 pub answer-alike : (one other : Standing) → AreAlike one other → next_answer one ≡ next_answer other
-answer-alike one other a = rw (a.is_on, a.plan) refl
+answer-alike one other a = ap next_answer a.same
 
 pub stepped-alike : (act : Act) (one other : Standing) → AreAlike one other → AreAlike (step_made act one) (step_made act other)
 stepped-alike act one other a =
-    let made : makes one ≡ makes other = rw (a.is_on, a.plan) refl in
-    let answers = answer-alike one other a in
-    record {
-      cell = rw (a.cell, made) refl;
-      items = rw (a.items, a.is_on, a.plan) refl;
-      is_on = rw (a.is_on, a.plan) refl;
-      steps = rw a.steps refl;
-      writes = rw a.writes refl;
-      cycles = a.cycles;
-      faults = rw (answers, a.faults) refl;
-      plan = rw a.plan refl;
-    }
+    record { spare = spare_after act (makes other) a.spare; same = ap (step_made act) a.same }
 
 pub alike-then : (one other last : Standing) → AreAlike one other → AreAlike other last → AreAlike one last
-alike-then one other last a b = record {
-  cell = a.cell ∙ b.cell;
-  items = a.items ∙ b.items;
-  is_on = a.is_on ∙ b.is_on;
-  steps = a.steps ∙ b.steps;
-  writes = a.writes ∙ b.writes;
-  cycles = a.cycles ∙ b.cycles;
-  faults = a.faults ∙ b.faults;
-  plan = a.plan ∙ b.plan;
-}
-
-pub alike-self : (one : Standing) → AreAlike one one
-alike-self one = record { cell = refl; items = refl; is_on = refl; steps = refl; writes = refl; cycles = refl; faults = refl; plan = refl }
+alike-then one other last a b =
+    record { spare = a.spare; same = a.same ∙ ap (λ (x : Standing). record x { spare = a.spare }) b.same }
 
 -- Several steps, of which none comes after one that fails.
-if-alike : (b c : Bool) (x y z w : Standing) → b ≡ c → AreAlike x z → AreAlike y w
-    → AreAlike (if b then x else y) (if c then z else w)
-if-alike true true x y z w e p q = p
-if-alike false false x y z w e p q = q
-if-alike true false x y z w e p q = cc
-if-alike false true x y z w e p q = cc
+abbrev pub ActsAlike : Standing × Option StepFault → Standing × Option StepFault → Type 0
+ActsAlike one other = AreAlike one.0 other.0 × (one.1 ≡ other.1)
 
-pub acted-alike : (acts : List Act) (one other : Standing) → AreAlike one other → AreAlike (acted acts one) (acted acts other)
-acted-alike [] one other a = a
+if-alike : (b c : Bool) (x y z w : Standing × Option StepFault) → b ≡ c → ActsAlike x z → ActsAlike y w
+    → ActsAlike (if b then x else y) (if c then z else w)
+if-alike b c x y z w e p q = grind (arith, e, p, q)
+
+pub acted-alike : (acts : List Act) (one other : Standing) → AreAlike one other → ActsAlike (acted acts one) (acted acts other)
+acted-alike [] one other a = (a, refl)
 acted-alike (act ∷ acts) one other a =
     if-alike (is_none (next_answer one)) (is_none (next_answer other)) _ _ _ _ (ap is_none (answer-alike one other a))
-    (acted-alike acts (step_made act one) (step_made act other) (stepped-alike act one other a)) (stepped-alike act one other a)
+    (acted-alike acts (step_made act one) (step_made act other) (stepped-alike act one other a))
+    (stepped-alike act one other a, answer-alike one other a)
 
-if-same : (b c : Bool) (x y z w : Option StepFault) → b ≡ c → x ≡ z → y ≡ w → (if b then x else y) ≡ (if c then z else w)
-if-same true true x y z w e p q = p
-if-same false false x y z w e p q = q
-if-same true false x y z w e p q = cc
-if-same false true x y z w e p q = cc
-
-pub answered-alike : (acts : List Act) (one other : Standing) → AreAlike one other → acts_answer acts one ≡ acts_answer acts other
-answered-alike [] one other a = refl
-answered-alike (act ∷ acts) one other a =
-    if-same (is_none (next_answer one)) (is_none (next_answer other)) _ _ _ _ (ap is_none (answer-alike one other a))
-    (answered-alike acts (step_made act one) (step_made act other) (stepped-alike act one other a)) (answer-alike one other a)
+-- what comes of the first step, by its answer
+first_acted : (act : Act) (acts : List Act) (old new : Standing) (fault answer : Option StepFault) → answer ≡ next_answer old
+    → ActsAlike (new, fault) (if is_none answer then acted acts (step_made act old) else (step_made act old, next_answer old))
+    → ActsAsTold (act ∷ acts) old new fault
+first_acted act acts old new fault answer e alike =
+    let all : ActsAlike (new, fault) (acted (act ∷ acts) old) =
+    subst (λ (f : Option StepFault). ActsAlike (new, fault)
+    (if is_none f then acted acts (step_made act old) else (step_made act old, next_answer old))) e alike in
+    record { answer = all.1; stands = all.0 }
 
 -- a step that fails is the last
-failed-acted : (fault : StepFault) (answer : Option StepFault) (x y new : Standing) → Some fault ≡ answer → AreAlike new y
-    → AreAlike new (if is_none answer then x else y)
-failed-acted fault (Some f) x y new e a = a
-failed-acted fault None x y new e a = cc
-
-failed-answered : (fault : StepFault) (answer later : Option StepFault) → Some fault ≡ answer
-    → Some fault ≡ (if is_none answer then later else answer)
-failed-answered fault (Some f) later e = e
-failed-answered fault None later e = cc
-
 pub told_failed : (act : Act) (acts : List Act) (old new : Standing) (fault : StepFault) → Goes act old new (Some fault)
     → (plan : Plan) → old.plan ≡ Some plan → ActsAsTold (act ∷ acts) old new (Some fault)
 told_failed act acts old new fault step plan known =
-    let told = as_told act old new (Some fault) step plan known in record {
-      answer = failed-answered fault (next_answer old) _ told.answer;
-      stands = failed-acted fault (next_answer old) _ (step_made act old) new told.answer told.stands;
-    }
+    let told = as_told act old new (Some fault) step plan known in
+    first_acted act acts old new (Some fault) (Some fault) told.answer (told.stands, told.answer)
 
 -- a step that doesn't fail is followed by the next
-done-acted : (answer : Option StepFault) (x y new : Standing) → None ≡ answer → AreAlike new x
-    → AreAlike new (if is_none answer then x else y)
-done-acted (Some f) x y new e a = cc
-done-acted None x y new e a = a
-
-done-answered : (fault answer later : Option StepFault) → None ≡ answer → fault ≡ later
-    → fault ≡ (if is_none answer then later else answer)
-done-answered fault (Some f) later e a = cc
-done-answered fault None later e a = a
-
 pub told_then : (act : Act) (acts : List Act) (old mid new : Standing) (fault : Option StepFault) → Goes act old mid None
     → (plan : Plan) → old.plan ≡ Some plan → ActsAsTold acts mid new fault → ActsAsTold (act ∷ acts) old new fault
 told_then act acts old mid new fault step plan known rest =
-    let told = as_told act old mid None step plan known in record {
-      answer = done-answered fault (next_answer old) _ told.answer
-          (rest.answer ∙ answered-alike acts mid (step_made act old) told.stands);
-      stands = done-acted (next_answer old) _ (step_made act old) new told.answer
-          (alike-then new (acted acts mid) (acted acts (step_made act old)) rest.stands
-          (acted-alike acts mid (step_made act old) told.stands));
-    }
+    let told = as_told act old mid None step plan known in
+    let same = acted-alike acts mid (step_made act old) told.stands in
+    first_acted act acts old new fault None told.answer
+    (alike-then new (acted acts mid).0 (acted acts (step_made act old)).0 rest.stands same.0, rest.answer ∙ same.1)
 
 -- the last step, whatever it answers
 pub told_last : (act : Act) (old new : Standing) (fault : Option StepFault) → Goes act old new fault
     → (plan : Plan) → old.plan ≡ Some plan → ActsAsTold (act ∷ []) old new fault
 told_last act old new (Some fault) step plan known = told_failed act [] old new fault step plan known
 told_last act old new None step plan known =
-    told_then act [] old new new None step plan known (record { answer = refl; stands = alike-self new })
+    told_then act [] old new new None step plan known (record { answer = refl; stands = record { spare = new.spare; same = refl } })
 
 pub plan_then : (act : Act) (old new : Standing) (fault : Option StepFault) → Goes act old new fault
     → (plan : Plan) → old.plan ≡ Some plan → new.plan ≡ Some (plan_after plan)

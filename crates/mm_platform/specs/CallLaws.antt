@@ -3,14 +3,12 @@ use Rattle.std.proofs.Common.{◌≡◌, ℕ, Bool, true, false, List, [], ◌++
 use Rattle.std.proofs.lemmas.List.{append-nil, map-append}
 use Rattle.mm_base.specs.Faults.{Rose}
 use Rattle.mm_platform.specs.declared.fault.StepFault.{StepFault}
-use Rattle.mm_platform.specs.declared.fault.StepFault.TheVariants.{Failed, Off}
 use Rattle.mm_platform.specs.Standing.{Item, foreign_item, Standing}
 use Rattle.mm_platform.specs.Steps.{ReadCell, WriteCell, ExtendRegister, beside, cell_after, items_after, EndsBy, Goes}
 use Rattle.mm_platform.specs.Calls.{EndsCalls, ActsUntold}
 
 pub beside-none : (items : Option (List Item)) → beside [] items ≡ items
-beside-none None = refl
-beside-none (Some xs) = ap Some (append-nil xs)
+beside-none items = grind (arith, append-nil)
 
 pub beside-beside : (first second : List (List ℕ)) (items : Option (List Item))
     → beside second (beside first items) ≡ beside (first ++ second) items
@@ -20,8 +18,7 @@ beside-beside first second (Some xs) =
     ∙ ap (λ ys. xs ++ ys) (sym (map-append foreign_item first second)))
 
 pub rose_by : (fault : StepFault) (old new : Standing) (made : Bool) → EndsBy (Some fault) old new made → Rose old.faults new.faults
-rose_by Failed old new made e = e.faults
-rose_by Off old new made e = e.faults
+rose_by fault old new made e = grind (arith, e)
 
 pub first_failed : (value bytes : List ℕ) (old one : Standing) (fault : StepFault) → Goes ReadCell old one (Some fault)
     → ActsUntold value bytes old one (Some fault)
@@ -58,9 +55,7 @@ second_failed value bytes old one two fault a b =
 ends_calls : (fault : Option StepFault) (old one two three : Standing) (extended written : Bool)
     → extended ≡ true → one.faults ≡ old.faults → two.faults ≡ one.faults
     → EndsBy fault two three written → EndsCalls fault old three extended written
-ends_calls None old one two three extended written e a b c = (e, c.made, c.faults ∙ b ∙ a)
-ends_calls (Some fault) old one two three extended written e a b c =
-    let rose = rose_by fault two three written c in omega arith
+ends_calls fault old one two three extended written e a b c = grind (arith, e, a, b, c)
 
 pub all_called : (value bytes : List ℕ) (old one two three : Standing) (fault : Option StepFault) → Goes ReadCell old one None
     → Goes (ExtendRegister value) one two None → Goes (WriteCell bytes) two three fault → ActsUntold value bytes old three fault

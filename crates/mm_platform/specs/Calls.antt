@@ -5,7 +5,7 @@ use Rattle.mm_base.specs.Faults.{Rose}
 use Rattle.mm_platform.specs.declared.fault.StepFault.{StepFault}
 use Rattle.mm_platform.specs.Standing.{Standing}
 use Rattle.mm_platform.specs.Steps.{Act, ReadCell, WriteCell, ExtendRegister, beside, cell_after, items_after}
-use Rattle.mm_platform.specs.Told.{acted, acts_answer, AreAlike}
+use Rattle.mm_platform.specs.Told.{acted, AreAlike}
 
 abbrev pub read_extend_write : List ℕ → List ℕ → List Act
 read_extend_write value bytes = ReadCell ∷ ExtendRegister value ∷ WriteCell bytes ∷ []
@@ -13,8 +13,8 @@ read_extend_write value bytes = ReadCell ∷ ExtendRegister value ∷ WriteCell 
 -- where the plan is told: the answer, and what stands
 pub record ActsAsTold (acts : List Act) (old new : Standing) (fault : Option StepFault) : Type 0
   where
-    pub answer : fault ≡ acts_answer acts old
-    pub stands : AreAlike new (acted acts old)
+    pub answer : fault ≡ (acted acts old).1
+    pub stands : AreAlike new (acted acts old).0
 
 -- where it isn't: the extension and the write were made, or weren't, and others extended the
 -- register before and after the caller's own extension

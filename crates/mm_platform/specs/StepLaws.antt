@@ -1,64 +1,18 @@
 -- A step of the platform in memory is a device step as the traits say it.
-use Rattle.std.proofs.Common.{◌≡◌, ℕ, ◌+◌, ◌-◌, ◌≤◌, Bool, true, false, not, List, [], ◌∷◌, ◌++◌, Option, None, Some, refl, sym, ◌∙◌, ap, arith}
-use Rattle.std.specs.Prelude.{if◌then◌else◌, ◌==◌}
-use Rattle.mm_base.specs.Faults.{counted}
+use Rattle.std.proofs.Common.{◌≡◌, ℕ, ◌+◌, ◌-◌, ◌≤◌, Bool, true, false, not, List, [], ◌∷◌, ◌++◌, Option, Some, refl, sym, ◌∙◌, ap, arith}
 use Rattle.mm_platform.specs.declared.fault.StepFault.{StepFault}
-use Rattle.mm_platform.specs.declared.fault.StepFault.TheVariants.{Failed, Off}
-use Rattle.mm_platform.specs.declared.plan.Stop.{Stop}
-use Rattle.mm_platform.specs.declared.plan.Stop.TheVariants.{Quiet, Cut, Drop, Fail}
-use Rattle.mm_platform.specs.Standing.{Item, own_item, Plan, Standing, next_step}
-use Rattle.mm_platform.specs.Steps.{Act, ReadCell, WriteCell, ReadRegister, ResetRegister, ExtendRegister, room_taken, EndsBy, IsDone, IsOff, fault_at, is_made_at, is_on_at, will_answer, will_be_made, will_be_on, will_bring, faults_after, GoesByPlan, Goes}
+use Rattle.mm_platform.specs.Standing.{Item, own_item, Plan, Standing}
+use Rattle.mm_platform.specs.Steps.{Act, ResetRegister, ExtendRegister, room_taken, EndsBy, will_answer, will_be_made, will_be_on, will_bring, faults_after, GoesByPlan, Goes}
 use Rattle.mm_platform.specs.Told.{next_plan, next_answer, makes, step_begun, spare_after, step_made}
 
--- a step that answers Off on a platform that was on
-off_ends : (old new : Standing) (is_made : Bool) → old.is_on ≡ true → new.faults ≡ counted old.faults → IsOff old new is_made
-off_ends old new is_made was_on faults = record {
-  faults = omega arith;
-  still = λ was_off. let clash : true ≡ false = sym was_on ∙ was_off in cc;
-}
-
-done_ends : (old new : Standing) → old.is_on ≡ true → new.is_on ≡ true → new.faults ≡ old.faults → IsDone old new true
-done_ends old new was_on is_on faults = record { made = refl; was_on = was_on; is_on = is_on; faults = faults }
-
-cut_ends : (hit : Bool) (old new : Standing) → old.is_on ≡ true → new.is_on ≡ not hit
-    → new.faults ≡ faults_after (if hit then Some Off else None) old.faults
-    → EndsBy (if hit then Some Off else None) old new true
-cut_ends true old new was_on is_on faults = off_ends old new true was_on faults
-cut_ends false old new was_on is_on faults = done_ends old new was_on is_on faults
-
-drop_ends : (hit : Bool) (old new : Standing) → old.is_on ≡ true → new.is_on ≡ true
-    → new.faults ≡ faults_after (if hit then Some Off else None) old.faults
-    → EndsBy (if hit then Some Off else None) old new true
-drop_ends true old new was_on is_on faults = off_ends old new true was_on faults
-drop_ends false old new was_on is_on faults = done_ends old new was_on is_on faults
-
-fail_ends : (hit done : Bool) (old new : Standing) → old.is_on ≡ true → new.is_on ≡ true
-    → new.faults ≡ faults_after (if hit then Some Failed else None) old.faults
-    → EndsBy (if hit then Some Failed else None) old new (if hit then done else true)
-fail_ends true done old new was_on is_on faults = record { was_on = was_on; is_on = is_on; faults = omega arith }
-fail_ends false done old new was_on is_on faults = done_ends old new was_on is_on faults
-
-ends_at : (stop : Stop) (step : ℕ) (old new : Standing) → old.is_on ≡ true → new.is_on ≡ is_on_at stop step
-    → new.faults ≡ faults_after (fault_at stop step) old.faults
-    → EndsBy (fault_at stop step) old new (is_made_at stop step)
-ends_at Quiet step old new was_on is_on faults = done_ends old new was_on is_on faults
-ends_at (Cut at) step old new was_on is_on faults = cut_ends (at == step) old new was_on is_on faults
-ends_at (Drop at) step old new was_on is_on faults = drop_ends (at == step) old new was_on is_on faults
-ends_at (Fail at done) step old new was_on is_on faults = fail_ends (at == step) done old new was_on is_on faults
-
+-- a step ends as its plan says
 ends_by : (was_on : Bool) (plan : Plan) (old new : Standing) → old.is_on ≡ was_on → new.is_on ≡ will_be_on was_on plan
     → new.faults ≡ faults_after (will_answer was_on plan) old.faults
     → EndsBy (will_answer was_on plan) old new (will_be_made was_on plan)
-ends_by true plan old new was is_on faults = ends_at plan.stop (next_step plan) old new was is_on faults
-ends_by false plan old new was is_on faults = record { faults = omega arith; still = λ _. (refl, is_on) }
+ends_by was_on plan old new was is_on faults = grind (arith, was, is_on, faults)
 
 room_left : (act : Act) (is_made : Bool) (spare : ℕ) → spare ≤ spare_after act is_made spare + room_taken act is_made
-room_left (ExtendRegister value) true spare = omega arith
-room_left (ExtendRegister value) false spare = omega arith
-room_left ReadCell is_made spare = omega arith
-room_left (WriteCell bytes) is_made spare = omega arith
-room_left ReadRegister is_made spare = omega arith
-room_left ResetRegister is_made spare = omega arith
+room_left act is_made spare = grind arith
 
 by_plan : (act : Act) (old : Standing) (plan : Plan) → next_plan old ≡ plan
     → GoesByPlan plan old (step_made act old) (makes old) (will_bring old.is_on (next_plan old)) (next_answer old)
@@ -110,5 +64,4 @@ extends value old seen now items stands made held is =
     is ∙ rw (stands, made, held') refl
 
 pub is_made_of : (made : Bool) → not made ≡ false → made ≡ true
-is_made_of true e = refl
-is_made_of false e = cc
+is_made_of made e = grind (arith, e)

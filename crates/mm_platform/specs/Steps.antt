@@ -24,38 +24,23 @@ beside others items = option_map (λ xs. xs ++ map foreign_item others) items
 -- the cell after a step whose effect is made, or isn't
 abbrev pub cell_after : Act → Bool → Option (List ℕ) → Option (List ℕ)
 cell_after (WriteCell bytes) true cell = option_map (λ _. bytes) cell
-cell_after (WriteCell bytes) false cell = cell
-cell_after ReadCell made cell = cell
-cell_after ReadRegister made cell = cell
-cell_after ResetRegister made cell = cell
-cell_after (ExtendRegister value) made cell = cell
+cell_after _ made cell = cell
 
 -- the items after a step whose effect is made, or isn't
 abbrev pub items_after : Act → Bool → Option (List Item) → Option (List Item)
 items_after ResetRegister true items = option_map (λ _. []) items
-items_after ResetRegister false items = items
 items_after (ExtendRegister value) true items = option_map (λ xs. xs ++ own_item value ∷ []) items
-items_after (ExtendRegister value) false items = items
-items_after ReadCell made items = items
-items_after (WriteCell bytes) made items = items
-items_after ReadRegister made items = items
+items_after _ made items = items
 
 -- the count of writes after a step is called
 abbrev pub writes_after : Act → ℕ → ℕ
 writes_after (WriteCell bytes) writes = counted writes
-writes_after ReadCell writes = writes
-writes_after ReadRegister writes = writes
-writes_after ResetRegister writes = writes
-writes_after (ExtendRegister value) writes = writes
+writes_after _ writes = writes
 
 -- the room that a step's effect takes: one for an own extension
 abbrev pub room_taken : Act → Bool → ℕ
 room_taken (ExtendRegister value) true = 1
-room_taken (ExtendRegister value) false = 0
-room_taken ReadCell made = 0
-room_taken (WriteCell bytes) made = 0
-room_taken ReadRegister made = 0
-room_taken ResetRegister made = 0
+room_taken _ made = 0
 
 -- Ok: the effect is made and no fault is counted. A platform that is off never answers so.
 pub record IsDone (old new : Standing) (is_made : Bool) : Type 0 where
@@ -90,16 +75,12 @@ fault_at (Drop at) step = if at == step then Some Off else None
 fault_at (Fail at done) step = if at == step then Some Failed else None
 
 abbrev pub is_made_at : Stop → ℕ → Bool
-is_made_at Quiet step = true
-is_made_at (Cut at) step = true
-is_made_at (Drop at) step = true
 is_made_at (Fail at done) step = if at == step then done else true
+is_made_at _ step = true
 
 abbrev pub is_on_at : Stop → ℕ → Bool
-is_on_at Quiet step = true
 is_on_at (Cut at) step = not (at == step)
-is_on_at (Drop at) step = true
-is_on_at (Fail at done) step = true
+is_on_at _ step = true
 
 -- What the next step will do where the plan is told, on a platform that is on or off.
 abbrev pub will_answer : Bool → Plan → Option StepFault

@@ -1,10 +1,10 @@
 -- What stands after each step, exactly, where a platform tells its plan.
-use Rattle.std.specs.Prelude.{ℕ, ◌-◌, Bool, true, false, List, [], ◌∷◌, Option, None, is_none, if◌then◌else◌, ◌≡◌}
+use Rattle.std.specs.Prelude.{ℕ, ◌-◌, Bool, true, List, [], ◌∷◌, Option, None, is_none, if◌then◌else◌, ◌≡◌}
 use Rattle.std.specs.Option.{option_map, option_map_or}
 use Rattle.mm_platform.specs.declared.fault.StepFault.{StepFault}
 use Rattle.mm_platform.specs.declared.plan.Stop.TheVariants.{Quiet}
 use Rattle.mm_platform.specs.Standing.{Plan, Standing, plan_after}
-use Rattle.mm_platform.specs.Steps.{Act, ReadCell, WriteCell, ReadRegister, ResetRegister, ExtendRegister, beside, cell_after, items_after, writes_after, will_answer, will_be_made, will_be_on, will_bring, faults_after}
+use Rattle.mm_platform.specs.Steps.{Act, ExtendRegister, beside, cell_after, items_after, writes_after, will_answer, will_be_made, will_be_on, will_bring, faults_after}
 use Rattle.mm_base.specs.Faults.{counted}
 
 -- nothing goes wrong, and nobody else extends the register
@@ -35,11 +35,7 @@ step_begun old = record old {
 -- the room after a step whose effect is made, or isn't
 abbrev pub spare_after : Act → Bool → ℕ → ℕ
 spare_after (ExtendRegister value) true spare = spare - 1
-spare_after (ExtendRegister value) false spare = spare
-spare_after ReadCell made spare = spare
-spare_after (WriteCell bytes) made spare = spare
-spare_after ReadRegister made spare = spare
-spare_after ResetRegister made spare = spare
+spare_after _ made spare = spare
 
 -- what stands after a step
 abbrev pub step_made : Act → Standing → Standing
@@ -50,25 +46,15 @@ step_made act old = let now : Standing = step_begun old in record now {
   spare = spare_after act (makes old) now.spare;
 }
 
--- What stands after these steps, of which none comes after one that fails; and what the last of
--- them answers.
-abbrev pub acted : List Act → Standing → Standing
-acted [] old = old
+-- what stands after these steps, of which none comes after one that fails; and what the last of
+-- them answers
+abbrev pub acted : List Act → Standing → Standing × Option StepFault
+acted [] old = (old, None)
 acted (act ∷ acts) old =
-    if is_none (next_answer old) then acted acts (step_made act old) else step_made act old
-
-abbrev pub acts_answer : List Act → Standing → Option StepFault
-acts_answer [] old = None
-acts_answer (act ∷ acts) old =
-    if is_none (next_answer old) then acts_answer acts (step_made act old) else next_answer old
+    if is_none (next_answer old) then acted acts (step_made act old)
+    else (step_made act old, next_answer old)
 
 -- two standings that differ in their room at most
 pub record AreAlike (one other : Standing) : Type 0 where
-  pub cell : one.cell ≡ other.cell
-  pub items : one.items ≡ other.items
-  pub is_on : one.is_on ≡ other.is_on
-  pub steps : one.steps ≡ other.steps
-  pub writes : one.writes ≡ other.writes
-  pub cycles : one.cycles ≡ other.cycles
-  pub faults : one.faults ≡ other.faults
-  pub plan : one.plan ≡ other.plan
+  pub spare : ℕ
+  pub same : one ≡ record other { spare = spare }

@@ -19,27 +19,8 @@ length-pending_front p =
     simp length-append (omega (arith, length-eight_bytes p.position, length-four_bytes (length p.request)))
 
 -- bytes that end before the fields of a record do are no record's
-pub no_front-word : (front : List ℕ) → length front < 4 → SpellsNoRecord front
-no_front-word front h p most e = omega (arith, ap length e, length-pending_front p)
-
-pub no_front-position : (front head rest : List ℕ) → front ≡ head ++ rest → length head ≡ 4 → length rest < 8 →
-    SpellsNoRecord front
-no_front-position front head rest e size h p most f =
-    omega (arith, ap length e, length-append head rest, ap length f, length-pending_front p)
-
-pub no_front-size : (front head rest after : List ℕ) (position : ℕ) → front ≡ head ++ rest → length head ≡ 4 →
-    rest ≡ eight_bytes position ++ after → length after < 4 → SpellsNoRecord front
-no_front-size front head rest after position e size d h p most f =
-    omega (
-      arith,
-      ap length e,
-      length-append head rest,
-      ap length d,
-      length-append (eight_bytes position) after,
-      length-eight_bytes position,
-      ap length f,
-      length-pending_front p,
-    )
+pub no_front-short : (front : List ℕ) → length front < 16 → SpellsNoRecord front
+no_front-short front h p most e = omega (arith, ap length e, length-pending_front p)
 
 -- four parts and what follows them, in one row
 regrouped : (a b c d e : List ℕ) → (a ++ (b ++ (c ++ d))) ++ e ≡ a ++ (b ++ (c ++ (d ++ e)))

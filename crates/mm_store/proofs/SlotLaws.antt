@@ -1,7 +1,7 @@
 -- Laws of slots.
 use Rattle.std.proofs.lemmas.Bool.Decides.{nat_tests}
-use Rattle.mm_store.proofs.Below.{ℕ, ◌≡◌, Bool, true, false, Option, Some, None, List, length, take, min, refl, ap, sym, ◌∙◌, inl, inr}
-use Rattle.mm_store.proofs.Below.{arith, take_all, ◌==◌, if◌then◌else◌}
+use Rattle.mm_store.proofs.Below.{ℕ, ◌≡◌, Option, List, length, take, min, refl, ap, sym, ◌∙◌, inl, inr}
+use Rattle.mm_store.proofs.Below.{arith, take_all}
 use Rattle.std.proofs.lemmas.Bool.{cases_lt}
 use Rattle.mm_store.specs.Slots.{Slots, longest_slot, slot_in, with_slot}
 use Rattle.mm_store.specs.Calls.{putting}
@@ -38,5 +38,4 @@ with_slot-same slots n = grind (arith, nat_tests)
 
 pub putting-twice : (n : ℕ) (one other : List ℕ) (slots : Option Slots) →
     putting n other (putting n one slots) ≡ putting n other slots
-putting-twice n one other None = refl
-putting-twice n one other (Some slots) = ap Some (with_slot-twice slots n one other)
+putting-twice n one other slots = grind (arith, nat_tests)

@@ -1,13 +1,12 @@
 -- Laws of what is told of the slots that have changes that were not synced.
 use Rattle.std.proofs.lemmas.Bool.Decides.{nat_tests}
-use Rattle.mm_store.proofs.Below.{ℕ, ◌≡◌, Bool, true, false, arith, Option, Some, None, refl, ap, sym, ◌∙◌, ◌==◌, if◌then◌else◌}
-use Rattle.mm_store.specs.Unsynced.{Unsynced, with_unsynced, marking, MarksAlone}
+use Rattle.mm_store.proofs.Below.{ℕ, ◌≡◌, Bool, true, arith, Option, ap, sym, ◌∙◌}
+use Rattle.mm_store.specs.Unsynced.{Unsynced, marking, MarksAlone}
 
 -- the later mark stands
 marking-twice : (slot : ℕ) (one other : Bool) (marks : Option Unsynced) →
     marking slot other (marking slot one marks) ≡ marking slot other marks
-marking-twice slot one other None = refl
-marking-twice n one other (Some marks) = grind (arith, nat_tests)
+marking-twice slot one other marks = grind (arith, nat_tests)
 
 -- a slot alone is marked
 pub marks_alone : (slot : ℕ) (mark : Bool) (old new : Option Unsynced) → new ≡ marking slot mark old →

@@ -1,9 +1,8 @@
 -- Steps of a register whose plan is quiet.
-use Rattle.mm_twocell.proofs.Below.{ℕ, ◌≡◌, Bool, true, List, [], Option, None, Some, refl, sym, ap, ◌∙◌, option_map, StepFault, Plan}
-use Rattle.mm_twocell.proofs.Below.{Standing, next_step, Act, ReadRegister, ResetRegister, ExtendRegister, beside, cell_after, items_after}
-use Rattle.mm_twocell.proofs.Below.{is_made_at, is_on_at, will_answer, will_be_made, will_be_on, will_bring, faults_after, Goes}
+use Rattle.mm_twocell.proofs.Below.{arith, ℕ, ◌≡◌, Bool, true, List, [], Option, None, Some, refl, sym, ap, ◌∙◌, option_map, StepFault}
+use Rattle.mm_twocell.proofs.Below.{Standing, Act, ReadRegister, ResetRegister, ExtendRegister, beside, cell_after, items_after, Plan}
+use Rattle.mm_twocell.proofs.Below.{will_answer, will_be_made, will_be_on, will_bring, faults_after, Goes}
 use Rattle.mm_twocell.proofs.Below.{Torn, told_by, whole_bytes, StepsRegister, from_start, IsSteady}
-use Rattle.mm_platform.specs.StandingWords.{due}
 use Rattle.mm_platform.specs.Told.{quiet_plan, next_answer, makes}
 
 -- what such a step does
@@ -14,16 +13,7 @@ record Steadies {act : Act} {old new : Standing} {fault : Option StepFault} (g :
 
 steadies_by : {act : Act} {old new : Standing} {fault : Option StepFault} (g : Goes act old new fault) (told : Option Plan)
     → old.plan ≡ told → old.is_on ≡ true → option_map from_start told ≡ Some quiet_plan → Steadies g
-steadies_by g None known on quiet = absurd (cc)
-steadies_by {act} {old} {new} {fault} g (Some plan) known on quiet =
-    let same : from_start plan ≡ quiet_plan = cc in
-    let stop = ap (λ (p : Plan). p.stop) same in
-    let t = g.told plan known in
-    record {
-      made = t.makes ∙ ap (λ (o : Bool). will_be_made o plan) on ∙ ap (λ s. is_made_at s (next_step plan)) stop;
-      others = t.brings ∙ ap (λ (o : Bool). will_bring o plan) on ∙ ap (λ (p : Plan). due (next_step plan) p.meddles) same;
-      on = t.power ∙ ap (λ (o : Bool). will_be_on o plan) on ∙ ap (λ s. is_on_at s (next_step plan)) stop;
-    }
+steadies_by {act} {old} {new} {fault} g told known on quiet = grind (arith, known, on, quiet)
 
 -- the memory that has this register
 abbrev pub torn_of : List ℕ → ℕ → ℕ → ℕ → List ℕ → Standing → Torn
@@ -45,15 +35,19 @@ module _ (old new : Standing) (fault : Option StepFault) (bytes : List ℕ) (cyc
       let answers : next_answer t ≡ None = ap (λ (o : Bool). will_answer o quiet_plan) steady.0 in
       record {
         stands = record {
-          cell = sym (same (makes t) (whole_bytes (Some bytes)));
-          items = g.items ∙ ap (λ (m : Bool). items_after act m (beside g.others old.items)) (s.made ∙ sym made)
-              ∙ ap (λ (o : List (List ℕ)). items_after act (makes t) (beside o old.items)) (s.others ∙ sym brings);
-          is_on = s.on ∙ sym (ap (λ (o : Bool). will_be_on o quiet_plan) steady.0);
-          steps = g.steps;
-          writes = g.writes;
-          cycles = refl;
-          faults = sym (ap (λ (f : Option StepFault). faults_after f faults) answers);
-          plan = refl;
+          spare = new.spare;
+          same = λ j. record {
+            cell = sym (same (makes t) (whole_bytes (Some bytes))) j;
+            items = (g.items ∙ ap (λ (m : Bool). items_after act m (beside g.others old.items)) (s.made ∙ sym made)
+                ∙ ap (λ (o : List (List ℕ)). items_after act (makes t) (beside o old.items)) (s.others ∙ sym brings)) j;
+            is_on = (s.on ∙ sym (ap (λ (o : Bool). will_be_on o quiet_plan) steady.0)) j;
+            steps = g.steps j;
+            writes = g.writes j;
+            cycles = cycles;
+            spare = new.spare;
+            faults = sym (ap (λ (f : Option StepFault). faults_after f faults) answers) j;
+            plan = None;
+          };
         };
         ahead = refl;
         leaves = refl;

@@ -1,7 +1,7 @@
 -- What a read and a write over two cells do to the one cell.
-use Rattle.mm_twocell.proofs.Below.{ℕ, ◌≡◌, ◌-◌, ◌*◌, ◌⊎◌, inl, inr, Bool, true, false, List, [], ◌∷◌, ◌++◌, length, get_or, Option, None}
-use Rattle.mm_twocell.proofs.Below.{Some, refl, sym, ap, ◌∙◌, subst, arith, ◌%◌, ◌==◌, slice_index, option_map, Rose, cell_length}
-use Rattle.mm_twocell.proofs.Below.{StepFault, Failed, Off, Standing, WriteCell, beside, cell_after, EndsBy, spliced, LeavesRest, ReadsRaw}
+use Rattle.mm_twocell.proofs.Below.{nat_tests, ℕ, ◌≡◌, ◌-◌, ◌*◌, ◌⊎◌, inl, inr, Bool, true, false, List, [], ◌∷◌, ◌++◌, length, get_or}
+use Rattle.mm_twocell.proofs.Below.{Some, refl, sym, ap, ◌∙◌, arith, ◌%◌, ◌==◌, slice_index, option_map, cell_length, Option, None}
+use Rattle.mm_twocell.proofs.Below.{StepFault, Standing, WriteCell, beside, cell_after, EndsBy, spliced, LeavesRest, ReadsRaw}
 use Rattle.mm_twocell.proofs.Below.{WritesRaw, beside-beside, picked, WritesPicked}
 use Rattle.mm_twocell.proofs.Cells.{in_three, pair, number, one_item, parity, picks_own, picks_other, put_other, put_selector, selector_of}
 use Rattle.std.specs.Prelude.{not}
@@ -9,17 +9,10 @@ use Rattle.std.specs.Prelude.{not}
 -- how a call ends that went on from a call that was done
 pub ends_with : (fault : Option StepFault) (old two three : Standing) (made any : Bool) → old.is_on ≡ true → two.faults ≡ old.faults
     → (fault ≡ None → made ≡ true) → EndsBy fault two three any → EndsBy fault old three made
-ends_with None old two three made any on same m e = record { made = m refl; was_on = on; is_on = e.is_on; faults = e.faults ∙ same }
-ends_with (Some Failed) old two three made any on same m e =
-    record { was_on = on; is_on = e.is_on; faults = subst (λ (n : ℕ). Rose n three.faults) same e.faults }
-ends_with (Some Off) old two three made any on same m e = record {
-  faults = subst (λ (n : ℕ). Rose n three.faults) same e.faults;
-  still = λ off. let f : false ≡ true = sym off ∙ on in absurd (cc);
-}
+ends_with fault old two three made any on same m e = grind (arith, on, same, m, e)
 
 done_made : (fault : Option StepFault) (old new : Standing) (made : Bool) → EndsBy fault old new made → fault ≡ None → made ≡ true
-done_made None old new made e none = e.made
-done_made (Some fault) old new made e none = absurd (cc)
+done_made fault old new made e none = grind (arith, e, none)
 
 pub leaves_then : (old one two : Standing) → LeavesRest old one → LeavesRest one two → LeavesRest old two
 leaves_then old one two a b = record {
@@ -78,8 +71,7 @@ cell_by w old made = cell_after (WriteCell w) made (Some old)
 -- a selector picks the other cell, or the one that was picked
 picks_by : (second : Bool) (m : ℕ) → ((m % 2 ≡ number (not second)) × ((m % 2 == number (not second)) ≡ true))
     ⊎ ((m % 2 ≡ number second) × ((m % 2 == number (not second)) ≡ false))
-picks_by true m = elim (parity m) [ inl even ↦ inl (even, rw even refl) | inr odd ↦ inr (odd, rw odd refl) ]
-picks_by false m = elim (parity m) [ inl even ↦ inr (even, rw even refl) | inr odd ↦ inl (odd, rw odd refl) ]
+picks_by second m = grind (arith, nat_tests)
 
 -- a selector that is written then picks the written cell or the old one
 selector_picks : (bytes w : List ℕ) (other m : ℕ) → Picks bytes other → length w ≡ cell_length
@@ -96,8 +88,7 @@ selector_picks bytes w other m (picks second x y n whole lx ly e o) lw =
     ])
 
 none_after : (w : List ℕ) (made : Bool) → None ≡ cell_after (WriteCell w) made None
-none_after w true = refl
-none_after w false = refl
+none_after w made = grind arith
 
 told_left : (cell : Option (List ℕ)) (w : List ℕ) (selector other : ℕ) → IsRead cell selector other → length w ≡ cell_length
     → option_map picked (option_map (spliced (cell_length * other) w) cell) ≡ option_map picked cell

@@ -1,29 +1,37 @@
 use Rattle.mm_store.proofs.Below.{◌≡◌, ◌∙◌, ap, refl, arith, List, ℕ, ◌++◌, length, true, false, length-take-le, record_word}
-use Rattle.mm_store.proofs.Below.{SpellsNoRecord, joined}
-use Rattle.mm_store.proofs.PendingLaws.{no_front-word, no_front-position, no_front-size, no_front-fields, front_of_fields}
+use Rattle.mm_store.proofs.Below.{joined}
+use Rattle.std.proofs.Common.{◌<◌, length-append, length-drop}
+use Rattle.mm_base.specs.FieldLaws.{length-eight_bytes}
+use Rattle.mm_store.proofs.PendingLaws.{no_front-short, no_front-fields, front_of_fields}
 use Rattle.mm_store.proofs.pending.front_of.Goals as goal
 use Rattle.mm_store.proofs.pending.front_of.Goals.{else-begins_record-via-then-begins_record+else-request-length, else-begins_record-via-else-begins_record}
 
 pub returns-in_err-word : goal.returns-in_err-word
 returns-in_err-word c =
-    rw c.from_residual.ensures (no_front-word c.args.front.now c.in_err-word.ensures.cases)
+    rw c.from_residual.ensures (no_front-short c.args.front.now (omega (arith, c.in_err-word.ensures.cases)))
 
 pub returns-in_err-position : goal.returns-in_err-position
 returns-in_err-position c =
-    let parts = c.in_ok-word.ensures.cases in
-    let none : SpellsNoRecord c.args.front.now =
-    no_front-position c.args.front.now _ _ (joined 4 _ _ _ parts.0 parts.1)
-    (ap length parts.0 ∙ length-take-le 4 c.args.front.now (omega arith)) c.in_err-position.ensures in
-    rw c.from_residual-in_err-position.ensures none
+    let rest = c.in_ok-word.ensures.cases.1 in
+    let short : length c.args.front.now < 16 =
+    omega (arith, ap length rest, length-drop 4 c.args.front.now, c.in_err-position.ensures) in
+    rw c.from_residual-in_err-position.ensures (no_front-short c.args.front.now short)
 
 pub returns-in_err-length : goal.returns-in_err-length
 returns-in_err-length c =
-    let parts = c.in_ok-word.ensures.cases in
-    let none : SpellsNoRecord c.args.front.now =
-    no_front-size c.args.front.now _ _ _ _ (joined 4 _ _ _ parts.0 parts.1)
-    (ap length parts.0 ∙ length-take-le 4 c.args.front.now (omega arith)) c.in_ok-position.ensures.0
-    c.in_err-length.ensures in
-    rw c.from_residual-in_err-length.ensures none
+    let rest = c.in_ok-word.ensures.cases.1 in
+    let after = c.in_ok-position.ensures.0 in
+    let short : length c.args.front.now < 16 =
+    omega (
+      arith,
+      ap length rest,
+      length-drop 4 c.args.front.now,
+      ap length after,
+      length-append {A = ℕ},
+      length-eight_bytes,
+      c.in_err-length.ensures,
+    ) in
+    rw c.from_residual-in_err-length.ensures (no_front-short c.args.front.now short)
 
 pub returns-then-request-length : goal.returns-then-request-length
 returns-then-request-length c =

@@ -1,4 +1,4 @@
-use Rattle.mm_store.proofs.Below.{◌≡◌, refl, true, false, None}
+use Rattle.mm_store.proofs.Below.{◌≡◌, refl, true, false}
 use Rattle.mm_store.specs.Records.{pending_of}
 use Rattle.mm_store.proofs.PendingLaws.{reads_none-short, reads_none-front, reads_none-invalid, reads_some}
 use Rattle.mm_store.proofs.pending.read_pending.Goals as goal
