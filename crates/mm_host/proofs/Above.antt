@@ -3,7 +3,8 @@ pub use Rattle.mm_call.specs.OfferLaws.{basic_content}
 pub use Rattle.mm_host.proofs.Askable.{length-pending_spelling}
 pub use Rattle.mm_host.proofs.Refusing.{grows, one_more}
 pub use Rattle.mm_host.proofs.CellWriting.{AnsweredWrites, both_writes, counted_most, joined, leads_rest, rests}
-pub use Rattle.mm_host.proofs.Exits.{answered_writes, by_refusal, CameWrites, new_most, next_came, next_told, resumes_came, resumes_told, Told}
+pub use Rattle.mm_host.proofs.Exits.{answered_writes, by_refusal, CameWrites, new_most, next_came, next_told, resumes_came, resumes_told}
+pub use Rattle.mm_host.proofs.Exits.{Told}
 pub use Rattle.mm_host.proofs.Slots.{holds_issued, IsIssued, issued_in_opt}
 pub use Rattle.mm_host.proofs.Meeting.{basic_called, basic_met, called_of, IsGrownBy, IsSame, Met, Met as Called, not_lost, opt_called}
 pub use Rattle.mm_host.proofs.Meeting.{opt_grown, opt_met, opt_met_idle, was_powered}

@@ -2,7 +2,7 @@
 pub use Rattle.std.specs.Io.KnownBytes.{Consumes, IsAtEnd}
 pub use Rattle.std.specs.List.{Contains, list_any}
 pub use Rattle.std.specs.Option.{option_map}
-pub use Rattle.std.specs.Prelude.{◌⊎◌, if◌then◌else◌, IfSome, nat_eq, nat_le, nat_lt}
+pub use Rattle.std.specs.Prelude.{◌⊎◌, if◌then◌else◌, nat_eq, nat_lt}
 pub use Rattle.std.proofs.Common.{◌%◌, ◌&&◌, ◌++◌, ◌+◌, ◌-◌, ◌<◌, ◌∙◌, ◌∷◌, ◌≡◌, ◌≢◌, ◌≤◌, [], ap, arith, Bool, drop, Err, false, IfOk, inl}
 pub use Rattle.std.proofs.Common.{inr, length, length-append, length-drop, length-take, List, map, None, Ok, Option, refl, Result, rules}
 pub use Rattle.std.proofs.Common.{Some, subst, suc, sym, take, true, zero, ℕ}
@@ -28,11 +28,11 @@ pub use Rattle.mm_module.specs.Meaning.{IsLawful, Meaning}
 pub use Rattle.mm_model.specs.BatchLaws.{before_the_last, total-push}
 pub use Rattle.mm_model.specs.Chains.{guard, register_of}
 pub use Rattle.mm_model.specs.Fit.{IsFit}
-pub use Rattle.mm_model.specs.History.{Commit, committed, Entry, first_history, Foreign, History, joined, Move, moved, Own, Placed, renamed}
-pub use Rattle.mm_model.specs.History.{requests_of, Reset, total_of, Value}
+pub use Rattle.mm_model.specs.History.{Commit, committed, Entry, first_history, Foreign, History, joined, Move, moved, renamed, requests_of}
+pub use Rattle.mm_model.specs.History.{Reset, total_of, Value}
 pub use Rattle.mm_model.specs.Instance.{Instance}
 pub use Rattle.mm_model.specs.InstanceWords.{basic, opt}
-pub use Rattle.mm_model.specs.Life.{are_own, has_value, is_empty, is_lost, Life, life_by, life_of, Live, Lost as LostLife, Spoiled}
+pub use Rattle.mm_model.specs.Life.{are_own, has_value, is_empty, is_lost, Life, life_by, life_of, Lost as LostLife}
 pub use Rattle.mm_model.specs.Long.{is_long}
 pub use Rattle.mm_model.specs.Moves.{digests_of, IsAllowed}
 pub use Rattle.mm_model.specs.Places.{issued, issued_place, Names}
@@ -50,7 +50,7 @@ pub use Rattle.mm_call.specs.Called.{called, ended_by, given_for, reading_steps,
 pub use Rattle.mm_call.specs.Calls.{breaks_off, EndsTo, goes_on}
 pub use Rattle.mm_call.specs.CallsOn.{CallContinues, CallsOn}
 pub use Rattle.mm_call.specs.Coming.{Comes, grown, kept}
-pub use Rattle.mm_call.specs.Courses.{after_step, commits, Course, Done, End, Fails, Fate, seen_in, walk, Walked}
+pub use Rattle.mm_call.specs.Courses.{after_step, commits, Course, End, Fate, seen_in, walk, Walked}
 pub use Rattle.mm_call.specs.Ended.{result_of}
 pub use Rattle.mm_call.specs.Found.{Found, found_at, found_by_verdict}
 pub use Rattle.mm_call.specs.FoundWords.{found_unless_wanting, found_with, is_fresh}
@@ -58,18 +58,16 @@ pub use Rattle.mm_call.specs.Leaving.{Blames, whole, whole_in}
 pub use Rattle.mm_call.specs.Levels.{all_made, by_digests, by_lists}
 pub use Rattle.mm_call.specs.MoveLaws.{same_batches}
 pub use Rattle.mm_call.specs.OfferLaws.{basic_content, one_content, opt_content}
-pub use Rattle.mm_call.specs.Order.{admitted, examined}
+pub use Rattle.mm_call.specs.Order.{admitted}
 pub use Rattle.mm_call.specs.OrderWords.{weighed}
 pub use Rattle.mm_call.specs.Premises.{AreAsked, AreShown, IsIdle}
 pub use Rattle.mm_call.specs.Refusals.{fault_in, fault_of, OrMemory}
 pub use Rattle.mm_call.specs.Standing.{counted_by, instance_by}
-pub use Rattle.mm_call.specs.WalkLaws.{finished, seen_none}
+pub use Rattle.mm_call.specs.WalkLaws.{seen_none}
 pub use Rattle.mm_call.specs.declared.ended.Ended.{Ended}
-pub use Rattle.mm_call.specs.declared.ended.Ended.TheVariants.{Answered, Broken, Refused}
 pub use Rattle.mm_call.proofs.Above.{Alike, alike_call, AllMay, answered_clean_as, ask_may, asked_for, asked_idle, bare, basic_asked}
-pub use Rattle.mm_call.proofs.Above.{basic_comes, before, ends_result, Given, grown_by, names_after, names_made, opt_comes as comes}
-pub use Rattle.mm_call.proofs.Above.{refused_result, stands_at, steps_give}
-pub use Rattle.mm_call.proofs.OptAlike.{still}
+pub use Rattle.mm_call.proofs.Above.{basic_comes, before, ends_result, Given, names_after, names_made, opt_comes as comes, refused_result}
+pub use Rattle.mm_call.proofs.Above.{stands_at, steps_give}
 pub use Rattle.mm_basic.specs.Asks.{acts_for, answer_in, basic_call, StepsAnswered as BasicAnswered, StepsBy as BasicSteps}
 pub use Rattle.mm_basic.specs.Asks.{StepsRefused as BasicRefused}
 pub use Rattle.mm_opt.specs.Asks.{opt_call, ReadsOn, StepsAnswered, StepsBy, StepsFrom, WritesAtMostOnce}

@@ -1,8 +1,8 @@
 -- What one call for a request comes to by lists, in either variant.
-use Rattle.mm_host.proofs.Below.{arith, ◌≡◌, ◌≢◌, ℕ, List, [], ◌∷◌, ◌++◌, Option, None, Some, Result, Ok, Err, refl, ◌∙◌, subst, inl, inr, ◌⊎◌}
+use Rattle.mm_host.proofs.Below.{arith, ◌≡◌, ◌≢◌, ℕ, List, [], ◌∷◌, ◌++◌, Option, None, Some, Result, Ok, Err, refl, ◌∙◌, subst, inl, inr}
 use Rattle.mm_host.proofs.Below.{Variant, Basic, Opt, Item, Standing, StepFault, Meaning, IsLawful, Batch, One, Content, Instance, basic}
 use Rattle.mm_host.proofs.Below.{opt, History, Commit, moved, Life, LostLife, life_of, digests_of, Names, StandsFor, BatchAnswer, Refusal}
-use Rattle.mm_host.proofs.Below.{Memory, IsAsked, IsWithin, called, given_for, CallContinues, CallsOn, Course, found_at, by_lists}
+use Rattle.mm_host.proofs.Below.{Memory, IsAsked, IsWithin, called, given_for, CallContinues, CallsOn, Course, found_at, by_lists, ◌⊎◌}
 use Rattle.mm_host.proofs.Below.{by_digests, AreAsked, AreShown, IsIdle, fault_of, stands_at, bare, asked_for, asked_idle, basic_asked}
 use Rattle.mm_host.proofs.Below.{names_made, basic_comes, comes, Comes, Alike, alike_call, names_after, answered_clean_as}
 use Rattle.mm_host.proofs.Below.{Pending, IsRefusedAs, Bool, true, false, map, guard, Entry, Value, Move, Foreign, Reset}

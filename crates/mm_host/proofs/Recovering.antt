@@ -1,12 +1,12 @@
 -- Every exit of a recovery leaves slots that fit the history.
-use Rattle.mm_host.proofs.Below.{arith, ◌≡◌, ℕ, ◌-◌, ◌%◌, true, List, Option, None, Some, Result, Ok, Err, refl, sym, ap, ◌∙◌, subst, inl, inr}
-use Rattle.mm_host.proofs.Below.{◌≤◌, IfOk, ◌⊎◌, Variant, Basic, Opt, Standing, Meaning, IsLawful, Batch, One, Instance, basic, opt}
+use Rattle.mm_host.proofs.Below.{arith, ◌≡◌, ℕ, ◌-◌, ◌%◌, true, List, Option, None, Some, Result, Ok, Err, refl, sym, ap, ◌∙◌, subst, inl}
+use Rattle.mm_host.proofs.Below.{◌≤◌, IfOk, ◌⊎◌, Variant, Basic, Opt, Standing, Meaning, IsLawful, Batch, One, Instance, basic, opt, inr}
 use Rattle.mm_host.proofs.Below.{History, total_of, StandsFor, Answer, BatchAnswer, life_of, Refusal, whole, whole_in, AreAsked, fault_of}
 use Rattle.mm_host.proofs.Below.{StepFault, StoreFault, ReadsSlot, WritesSlot, putting, StoreStanding, Pending, Slots, slot_read, with_slot}
 use Rattle.mm_host.proofs.Below.{last_position, IsFit, HostFault, Resumed, Start, store_fault_as, refusal_fault, IsWaiting, started}
 use Rattle.mm_host.proofs.Below.{kept_as, AfterAsk, AfterOffer, AfterFinding, Resumes, IsCall, offer_slot, Holds, FitsBy, IsAskedFor}
-use Rattle.mm_host.proofs.Below.{AnswersAt, CanRecover, IsGrown, AsksIdly, ComesTo, MayHaveCommitted, Recovers, RecoversTo, one_reading, AfterThree}
-use Rattle.mm_host.proofs.Below.{AfterTwo}
+use Rattle.mm_host.proofs.Below.{AnswersAt, CanRecover, IsGrown, AsksIdly, ComesTo, MayHaveCommitted, Recovers, RecoversTo, one_reading}
+use Rattle.mm_host.proofs.Below.{AfterTwo, AfterThree}
 use Rattle.mm_host.specs.Last.{position_at, snapshot_at}
 use Rattle.mm_host.specs.declared.resuming.Resumed.TheVariants.{Answered}
 use Rattle.mm_host.proofs.Slots.{IsElsewhere, elsewhere_same, elsewhere_put, seen_put, holds_issued}

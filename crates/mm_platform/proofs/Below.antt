@@ -1,8 +1,8 @@
 -- The words and laws that the proofs of this crate take from specs/ and from the crates below.
 pub use Rattle.std.specs.Prelude.{if◌then◌else◌, is_none, nat_lt}
 pub use Rattle.std.specs.Result.{result_err}
-pub use Rattle.std.proofs.Common.{◌++◌, ◌+◌, ◌∙◌, ◌∷◌, ◌≡◌, ◌≤◌, [], ap, arith, Bool, cond, drop, false, List, map, None, Option, refl}
-pub use Rattle.std.proofs.Common.{Some, subst, sym, take, true, vec_capacity, vec_len, ℕ}
+pub use Rattle.std.proofs.Common.{◌++◌, ◌+◌, ◌∙◌, ◌∷◌, ◌≡◌, ◌≤◌, [], ap, arith, Bool, cond, drop, List, map, None, Option, refl, Some}
+pub use Rattle.std.proofs.Common.{subst, sym, take, vec_capacity, vec_len, ℕ}
 pub use Rattle.mm_platform.specs.Entries.{item_of, items_of}
 pub use Rattle.mm_platform.specs.Standing.{foreign_item, Item, Plan, plan_after, Standing}
 pub use Rattle.mm_platform.specs.StepLaws.{extends, goes, is_made_of, known_plan, resets}

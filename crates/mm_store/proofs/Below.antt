@@ -1,8 +1,6 @@
 -- The words and laws that the proofs of this crate take from specs/ and from the crates below.
-pub use Rattle.std.specs.Prelude.{◌==◌, if◌then◌else◌}
-pub use Rattle.std.proofs.Common.{◌++◌, ◌∙◌, ◌≡◌, ap, arith, Bool, false, inl, inr, length, List, min, None, Option, refl, Some, sym, take}
-pub use Rattle.std.proofs.Common.{true, ℕ}
+pub use Rattle.std.proofs.Common.{◌++◌, ◌∙◌, ◌≡◌, ap, arith, Bool, false, inl, inr, length, List, min, Option, refl, sym, take, true, ℕ}
 pub use Rattle.std.proofs.lemmas.List.{length-take-le, take_all}
 pub use Rattle.sha2.proofs.Facts256.{length-sha256}
 pub use Rattle.mm_base.specs.FieldLaws.{joined}
-pub use Rattle.mm_store.specs.Pending.{record_word, SpellsNoRecord}
+pub use Rattle.mm_store.specs.Pending.{record_word}

@@ -10,12 +10,11 @@ pub use Rattle.mm_base.specs.Faults.{counted, Rose}
 pub use Rattle.mm_base.specs.Limits.{cell_length}
 pub use Rattle.mm_platform.specs.CallLaws.{beside-beside, beside-none}
 pub use Rattle.mm_platform.specs.Raw.{LeavesRest, range_of, ReadsRaw, spliced, WritesRaw}
-pub use Rattle.mm_platform.specs.Standing.{next_step, Plan, Standing}
-pub use Rattle.mm_platform.specs.Steps.{Act, beside, cell_after, EndsBy, ExtendRegister, faults_after, Goes, is_made_at, is_on_at}
-pub use Rattle.mm_platform.specs.Steps.{items_after, ReadRegister, ResetRegister, will_answer, will_be_made, will_be_on, will_bring}
-pub use Rattle.mm_platform.specs.Steps.{WriteCell}
+pub use Rattle.mm_platform.specs.Standing.{Plan, Standing}
+pub use Rattle.mm_platform.specs.Steps.{Act, beside, cell_after, EndsBy, ExtendRegister, faults_after, Goes, items_after, ReadRegister}
+pub use Rattle.mm_platform.specs.Steps.{ResetRegister, will_answer, will_be_made, will_be_on, will_bring, WriteCell}
 pub use Rattle.mm_platform.specs.declared.fault.StepFault.{StepFault}
-pub use Rattle.mm_platform.specs.declared.fault.StepFault.TheVariants.{Failed, Off}
+pub use Rattle.mm_platform.specs.declared.fault.StepFault.TheVariants.{Failed}
 pub use Rattle.mm_twocell.specs.Pairs.{picked, WritesPicked}
 pub use Rattle.mm_twocell.specs.Torn.{call_made, from_start, IsSteady, IsUsable, put_in, StepsRegister, told_by, Torn, whole_bytes}
 pub use Rattle.mm_twocell.specs.Torn.{will_fail}

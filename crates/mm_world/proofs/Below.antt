@@ -1,9 +1,8 @@
 -- The words and laws that the proofs of this crate take from specs/ and from the crates below.
 pub use Rattle.std.specs.Option.{option_map}
-pub use Rattle.std.specs.Prelude.{◌==◌, ◌⊎◌, if◌then◌else◌, is_some, MatchResult, min, option_to_list, slice_index}
-pub use Rattle.std.proofs.Common.{◌&&◌, ◌++◌, ◌+◌, ◌-◌, ◌<◌, ◌^◌, ◌∙◌, ◌∷◌, ◌≡◌, ◌≤◌, [], ap, arith, Bool, drop, Err, false}
-pub use Rattle.std.proofs.Common.{IfOk, inl, inr, length, length-append, List, map, None, Ok, OnErr, Option, refl, Result, Some, subst}
-pub use Rattle.std.proofs.Common.{sym, take, true, ℕ}
+pub use Rattle.std.specs.Prelude.{◌==◌, if◌then◌else◌, is_some, MatchResult, min, option_to_list, slice_index}
+pub use Rattle.std.proofs.Common.{◌&&◌, ◌++◌, ◌+◌, ◌-◌, ◌<◌, ◌^◌, ◌∙◌, ◌∷◌, ◌≡◌, ◌≤◌, [], ap, arith, Bool, drop, Err, false, IfOk, inl, inr}
+pub use Rattle.std.proofs.Common.{length, length-append, List, map, None, Ok, OnErr, Option, refl, Result, Some, subst, sym, take, true, ℕ}
 pub use Rattle.std.proofs.lemmas.Bool.{eq-eqb, eqb-true}
 pub use Rattle.std.proofs.lemmas.List.{append-nil, map-append}
 pub use Rattle.mm_base.specs.declared.fault.Memory.{Memory}
@@ -16,8 +15,7 @@ pub use Rattle.mm_seal.specs.declared.cell.Cell.{Cell}
 pub use Rattle.mm_seal.specs.declared.cell.CellFault.{CellFault}
 pub use Rattle.mm_seal.specs.declared.cell.CellFault.TheVariants.{Blank, Cell as Unspelled}
 pub use Rattle.mm_platform.specs.Standing.{foreign_item, Item, item_values, own_item, register_after, Standing}
-pub use Rattle.mm_platform.specs.Steps.{beside, fault_at, Goes, is_made_at, items_cycled, ReadCell, will_answer}
-pub use Rattle.mm_platform.specs.Steps.{will_bring}
+pub use Rattle.mm_platform.specs.Steps.{beside, fault_at, Goes, is_made_at, items_cycled, ReadCell, will_answer, will_bring}
 pub use Rattle.mm_platform.specs.declared.fault.StepFault.{StepFault}
 pub use Rattle.mm_platform.specs.declared.plan.Meddle.{Meddle}
 pub use Rattle.mm_platform.specs.declared.plan.Stop.{Stop}
@@ -62,7 +60,7 @@ pub use Rattle.mm_flight.specs.declared.ask.AskCall.{AskCall}
 pub use Rattle.mm_run.specs.Folds.{after_stop, cause_of, closed_outcome, closing_reply, closing_then, course_of, first_digests}
 pub use Rattle.mm_run.specs.Folds.{first_issued, moves_then, Outcome, outcome_by, reads_only, reply_of, snapshots_of, uncalled, way_of}
 pub use Rattle.mm_run.specs.FoldsWords.{broken_reply, plan_of, stopped_reply}
-pub use Rattle.mm_run.specs.Held.{first_held, Follows, having_read, Held, outcome_in, Wants, world_of}
+pub use Rattle.mm_run.specs.Held.{first_held, Follows, Held, outcome_in, Wants, world_of}
 pub use Rattle.mm_run.proofs.Above.{count-made, grown, printed, sizes_of, world_few}
 pub use Rattle.mm_world.specs.Asks.{AsksAs, Came, ChecksAs, Lacks, quiet_as}
 pub use Rattle.mm_world.specs.Calls.{answered_call, broken_as, CalledAs, closes_at, is_cut, refused_call, RefusedAs, SettlesPlan, size_if}
