@@ -38,6 +38,7 @@ pub use Rattle.mm_model.specs.declared.answer.BatchAnswer.{BatchAnswer}
 pub use Rattle.mm_model.specs.declared.refusal.Refusal.{Refusal}
 pub use Rattle.mm_model.specs.declared.refusal.Refusal.TheVariants.{Long}
 pub use Rattle.mm_model.specs.declared.verdict.Verdict.{Verdict}
+pub use Rattle.mm_model.proofs.Above.{links}
 pub use Rattle.mm_call.specs.Calls.{AsksTo, breaks_off, Calls, Commits, EndsTo, goes_on, IsCallSoFar}
 pub use Rattle.mm_call.specs.Ended.{CallsTo, result_of}
 pub use Rattle.mm_call.specs.Leaving.{Blames, IsAccepted, IsAnswered, LeavesUntouched}

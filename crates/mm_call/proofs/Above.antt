@@ -3,28 +3,26 @@ pub use Rattle.mm_call.proofs.BasicLaw.{basic_calls_agree, basic_same, names_mad
 pub use Rattle.mm_call.proofs.Calling.{again_of, fresh_found, fresh_of, requests-push, said_last}
 pub use Rattle.mm_call.proofs.Checkpoints.{basic_checkpoint_same, basic_checkpoints_agree, opt_checkpoints_agree}
 pub use Rattle.mm_call.proofs.Checkpoints.{opt_checkpoints_agree_by_lists, read_moves}
-pub use Rattle.mm_call.proofs.Coming.{answered_at, asked_for, asked_idle, basic_asked, basic_comes, idle_again, idle_moves}
-pub use Rattle.mm_call.proofs.Coming.{opt_comes, unless_idle}
-pub use Rattle.mm_call.proofs.Committing.{BlamesFor, ends_fates, fate_of, Given, MakesAll, planned_broken, planned_done, reading_blamed}
-pub use Rattle.mm_call.proofs.Committing.{reading_tale, refused_result, steps_blamed, steps_give, Tale, tale_on}
+pub use Rattle.mm_call.proofs.Coming.{answered_at, asked_for, asked_idle, basic_asked, basic_comes, idle_again, idle_moves, opt_comes}
+pub use Rattle.mm_call.proofs.Coming.{unless_idle}
+pub use Rattle.mm_call.proofs.Committing.{BlamesFor, ends_fates, fate_of, Given, MakesAll, reading_blamed, reading_tale, refused_result}
+pub use Rattle.mm_call.proofs.Committing.{steps_blamed, steps_give, Tale, tale_on}
 pub use Rattle.mm_call.proofs.Completing.{Accepts, answered_result, AsFound, calls_from, calls_to, commits_blamed, course_by, each_call}
 pub use Rattle.mm_call.proofs.Completing.{ends_result, ends_untouched, given_all, GoesTo, is_memory, lacks_in, refused_reading, so_far}
 pub use Rattle.mm_call.proofs.Completing.{Told, told_on, told_reading}
-pub use Rattle.mm_call.proofs.Finding.{admitted_tells, Asking, each_at, found_same, found_with_tells, live_found, lives, not_lost, placed}
-pub use Rattle.mm_call.proofs.Finding.{right_at, unless_lost, weighed_tells}
+pub use Rattle.mm_call.proofs.Finding.{admitted_tells, each_at, found_with_tells, live_found, lives, not_lost, placed, right_at}
+pub use Rattle.mm_call.proofs.Finding.{unless_lost, weighed_tells}
 pub use Rattle.mm_call.proofs.Going.{finds, sees, stands_at, stands_for}
 pub use Rattle.mm_call.proofs.OptAlike.{Alike, alike_commit, alike_foreign, alike_still, clean_open, grown_by, issued_alike, names_after}
 pub use Rattle.mm_call.proofs.OptAlike.{names_alike, opened, same_closed}
-pub use Rattle.mm_call.proofs.OptHolding.{agrees_is, bare, bare_digests, counted_open, foreign_agrees, foreign_digests, foreign_fine}
-pub use Rattle.mm_call.proofs.OptHolding.{foreign_may, found_digests, holds_moved, holds_open, holds_shut, is_agrees, life_bare}
-pub use Rattle.mm_call.proofs.OptHolding.{listed_bare, opt_agrees_moved, power_brings, power_fine, power_may, sound_shut, within_items}
-pub use Rattle.mm_call.proofs.OptHolding.{within_of}
-pub use Rattle.mm_call.proofs.OptLaw.{opt_calls_agree, opt_calls_agree_by_lists, reset_messages, sound_foreign}
-pub use Rattle.mm_call.proofs.OptLeaves.{alike_call, answered_clean_as, call_goes_on, DigestMoves, GoesOn, Hands, hands, Left, left_reading}
-pub use Rattle.mm_call.proofs.OptLeaves.{Pushed, seen_closes}
-pub use Rattle.mm_call.proofs.OptShapes.{Brought, cut, foreign_messages, none_counted, opt_tied, past, reading, reads_only, reset, Shape}
-pub use Rattle.mm_call.proofs.OptShapes.{shape, two_reads}
+pub use Rattle.mm_call.proofs.OptHolding.{agrees_is, bare, counted_open, foreign_agrees, foreign_fine, foreign_may, holds_moved, holds_open}
+pub use Rattle.mm_call.proofs.OptHolding.{is_agrees, life_bare, listed_bare, opt_agrees_moved, power_brings, power_fine, power_may}
+pub use Rattle.mm_call.proofs.OptHolding.{sound_shut, within_items, within_of}
+pub use Rattle.mm_call.proofs.OptLaw.{opt_calls_agree, opt_calls_agree_by_lists, reset_messages}
+pub use Rattle.mm_call.proofs.OptLeaves.{alike_call, answered_clean_as, call_goes_on, DigestMoves, GoesOn, Hands, hands, Left, Pushed}
+pub use Rattle.mm_call.proofs.OptLeaves.{seen_closes}
+pub use Rattle.mm_call.proofs.OptShapes.{Brought, foreign_messages, opt_tied, reads_only, reset, Shape, shape, two_reads}
 pub use Rattle.mm_call.proofs.OptShown.{flag_kept, pushed_open, shown_back, shown_front, shown_shut}
-pub use Rattle.mm_call.proofs.OptWalks.{AllMay, AreOwn, ask_may, before, first_in, foreign_all, holds_made, may_of, names_foreign}
-pub use Rattle.mm_call.proofs.OptWalks.{own_asked, own_checked, path_is, Ready, ready_closing, sight, sight_is, step_brings, walk_fine}
+pub use Rattle.mm_call.proofs.OptWalks.{AllMay, AreOwn, ask_may, before, first_in, foreign_all, holds_made, may_of, own_asked, own_checked}
+pub use Rattle.mm_call.proofs.OptWalks.{path_is, Ready, ready_closing, sight, sight_is, walk_fine}
 pub use Rattle.mm_call.specs.TrailLaws.{foreign_made as brought_digests}

@@ -43,11 +43,10 @@ pub use Rattle.mm_schedule.specs.declared.header.Header.{Header}
 pub use Rattle.mm_schedule.specs.declared.reply.Reply.{Reply}
 pub use Rattle.mm_run.specs.Folds.{event_outcome, expected, first_digests, first_issued, Followed, followed, Outcome, replies_by_digests}
 pub use Rattle.mm_run.specs.Folds.{closing_reply, course_of, reply_of, way_of}
-pub use Rattle.mm_run.specs.Held.{world_of}
-pub use Rattle.mm_run.specs.HeldWords.{world_barrier, world_key}
+pub use Rattle.mm_run.specs.Held.{world_of, world_barrier, world_key}
 pub use Rattle.mm_run.specs.Premises.{AreGenuine, batches_of, event_messages, foreign_of, IsClearRun, IsGenuineEvent, IsGenuineRun}
 pub use Rattle.mm_run.specs.Premises.{messages_from, moves_of}
-pub use Rattle.mm_run.specs.PremisesWords.{AreApart, asked_batches, foreign_values, run_messages, ask_moves, asking_messages}
+pub use Rattle.mm_run.specs.Premises.{AreApart, asked_batches, foreign_values, run_messages, ask_moves, asking_messages}
 pub use Rattle.mm_run.proofs.Above.{goes_on, in_any_way, short_size}
 pub use Rattle.mm_expect.specs.Numbered.{messages_if, messages_where, numbered_event}
 pub use Rattle.mm_play.proofs.Above.{for_whole, not_ok, ok_same, outcome_of, plays_err, plays_ok}

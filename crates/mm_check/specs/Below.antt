@@ -24,8 +24,7 @@ pub use Rattle.mm_schedule.specs.declared.header.Header.{Header}
 pub use Rattle.mm_schedule.specs.declared.reply.Reply.{Reply}
 pub use Rattle.mm_run.specs.Folds.{Followed, event_outcome, expected, first_issued, replies_by_digests}
 pub use Rattle.mm_run.specs.Held.{world_of}
-pub use Rattle.mm_run.specs.Premises.{IsClearRun, IsGenuineEvent, IsGenuineRun, foreign_of}
-pub use Rattle.mm_run.specs.PremisesWords.{asked_batches, run_messages}
+pub use Rattle.mm_run.specs.Premises.{IsClearRun, IsGenuineEvent, IsGenuineRun, foreign_of, asked_batches, run_messages}
 pub use Rattle.mm_expect.specs.Numbered.{numbered_event}
 pub use Rattle.mm_expect.specs.Traced.{IsAfter}
 pub use Rattle.mm_replay.specs.Schedule.{Running, after_event, begun, most_kept, running_outcome}

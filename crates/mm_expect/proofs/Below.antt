@@ -69,10 +69,8 @@ pub use Rattle.mm_history.specs.Marks.{closed_marks, emptied, grown, linked_mark
 pub use Rattle.mm_history.specs.Naming.{IsDecided}
 pub use Rattle.mm_history.specs.declared.marks.Marks.{Marks}
 pub use Rattle.mm_run.specs.Folds.{after_stop, closing_then, course_of, event_outcome, expected, first_issued, Followed, followed}
-pub use Rattle.mm_run.specs.Folds.{moves_then, Outcome, reply_of, snapshots_of, way_of}
-pub use Rattle.mm_run.specs.FoldsWords.{broken_reply, plan_of, told_reply}
-pub use Rattle.mm_run.specs.Held.{world_of}
-pub use Rattle.mm_run.specs.HeldWords.{world_barrier, world_key}
+pub use Rattle.mm_run.specs.Folds.{moves_then, Outcome, reply_of, snapshots_of, way_of, broken_reply, plan_of, told_reply}
+pub use Rattle.mm_run.specs.Held.{world_of, world_barrier, world_key}
 pub use Rattle.mm_run.specs.Laws.{IsIssued}
 pub use Rattle.mm_run.specs.Offered.{offered_bytes}
 pub use Rattle.mm_run.specs.Premises.{IsGenuineEvent}

@@ -40,10 +40,8 @@ pub use Rattle.mm_history.specs.Marks.{marks_of}
 pub use Rattle.mm_history.specs.Naming.{IsDecided}
 pub use Rattle.mm_history.specs.declared.marks.Marks.{Marks}
 pub use Rattle.mm_run.specs.Folds.{Outcome, course_of, event_outcome, expected, first_issued, moves_then, reply_of, snapshots_of, way_of}
-pub use Rattle.mm_run.specs.FoldsWords.{plan_of}
-pub use Rattle.mm_run.specs.Held.{world_of}
-pub use Rattle.mm_run.specs.HeldWords.{world_barrier, world_key}
+pub use Rattle.mm_run.specs.Folds.{plan_of}
+pub use Rattle.mm_run.specs.Held.{world_of, world_barrier, world_key}
 pub use Rattle.mm_run.specs.Laws.{IsIssued}
 pub use Rattle.mm_run.specs.Offered.{offered_bytes}
-pub use Rattle.mm_run.specs.Premises.{IsGenuineEvent, event_messages, moves_of}
-pub use Rattle.mm_run.specs.PremisesWords.{IsGenuineOffer}
+pub use Rattle.mm_run.specs.Premises.{IsGenuineEvent, event_messages, moves_of, IsGenuineOffer}

@@ -21,7 +21,7 @@ impl Chronicle {
     ghost use Rattle.mm_model.specs.Standing.{issued_bytes};
     ghost use Rattle.mm_call.specs.Answers.{answer_on};
     ghost use Rattle.mm_call.specs.declared.ended.Ended.TheVariants.{Answered};
-    ghost use Rattle.mm_run.specs.HeldWords.{world_key};
+    ghost use Rattle.mm_run.specs.Held.{world_key};
     ghost use Rattle.mm_expect.specs.Recorded.{recorded_instance};
 
     // Where the snapshot of an answer stands.

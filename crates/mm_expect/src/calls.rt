@@ -22,9 +22,8 @@ impl Chronicle {
     ghost use Rattle.mm_call.specs.Courses.{planned, walk};
     ghost use Rattle.mm_call.specs.Checkpoints.{checkpointed};
     ghost use Rattle.mm_call.specs.Levels.{by_lists};
-    ghost use Rattle.mm_run.specs.Folds.{course_of};
-    ghost use Rattle.mm_run.specs.FoldsWords.{plan_of};
-    ghost use Rattle.mm_run.specs.HeldWords.{world_key};
+    ghost use Rattle.mm_run.specs.Folds.{course_of, plan_of};
+    ghost use Rattle.mm_run.specs.Held.{world_key};
     ghost use Rattle.mm_expect.specs.Recorded.{recorded_instance};
     ghost use Rattle.mm_expect.specs.Walking.{Walks};
     ghost use Rattle.mm_expect.specs.Calls.{Admits, CallsBy, GoesOnNew, ChangesBy};

@@ -53,7 +53,7 @@ impl Chronicle {
     ghost use Rattle.mm_platform.specs.StandingWords.{due};
     ghost use Rattle.mm_call.specs.Courses.{planned, walk, step_moves};
     ghost use Rattle.mm_call.specs.CoursesWords.{made_move};
-    ghost use Rattle.mm_run.specs.FoldsWords.{plan_of};
+    ghost use Rattle.mm_run.specs.Folds.{plan_of};
     ghost use Rattle.mm_expect.specs.Recorded.{Went};
     ghost use Rattle.mm_expect.specs.Walking.{move_of, step_as, steps_of, IsShortMove, IsShortStep, AreShort, Walks};
 

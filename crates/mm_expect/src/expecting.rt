@@ -8,7 +8,7 @@ ghost use Rattle.mm_call.specs.Ended.{is_broken};
 ghost use Rattle.mm_call.specs.Found.{right_content};
 ghost use Rattle.mm_schedule.specs.Events.{Ask, Checkpoint, Power, Extend, meddles_of, event_of};
 ghost use Rattle.mm_run.specs.Folds.{after_stop};
-ghost use Rattle.mm_run.specs.HeldWords.{world_key};
+ghost use Rattle.mm_run.specs.Held.{world_key};
 ghost use Rattle.mm_expect.specs.Coming.{WentByCall, WentByEvent, moves_if};
 ghost use Rattle.mm_expect.specs.Recorded.{Went, recorded_instance};
 
@@ -51,7 +51,7 @@ pub struct Expecting {
 
 impl Model for Expecting {
     ghost use Rattle.std.specs.Prelude.{◌≡◌};
-    ghost use Rattle.mm_run.specs.HeldWords.{world_key};
+    ghost use Rattle.mm_run.specs.Held.{world_key};
     ghost use Rattle.mm_expect.specs.Traced.{Traced};
 
     ghost Value = { Traced };

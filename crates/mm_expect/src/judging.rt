@@ -19,7 +19,7 @@ impl Chronicle {
     ghost use Rattle.mm_model.specs.Long.{is_long};
     ghost use Rattle.mm_call.specs.Found.{found_at};
     ghost use Rattle.mm_call.specs.Levels.{by_lists};
-    ghost use Rattle.mm_run.specs.HeldWords.{world_key};
+    ghost use Rattle.mm_run.specs.Held.{world_key};
     ghost use Rattle.mm_expect.specs.Recorded.{recorded_instance};
     ghost use Rattle.mm_expect.specs.Calls.{again_in, Admits};
 

@@ -6,7 +6,7 @@ ghost use Rattle.mm_seal.specs.Parts.{parts_of};
 ghost use Rattle.mm_model.specs.Standing.{IsGenuine};
 ghost use Rattle.mm_call.specs.Found.{right_content};
 ghost use Rattle.mm_schedule.specs.Events.{event_of};
-ghost use Rattle.mm_run.specs.HeldWords.{world_key};
+ghost use Rattle.mm_run.specs.Held.{world_key};
 ghost use Rattle.mm_history.specs.Naming.{IsDecided};
 ghost use Rattle.mm_expect.specs.Genuine.{EachOfferIsDecided, BasicIssuedAreGenuine, OptIssuedAreGenuine};
 ghost use Rattle.mm_expect.specs.Judged.{position_in, is_found, IsAmong, IsSaidAt, DecidesBytes, DecidesOffer, DecidesEvent};

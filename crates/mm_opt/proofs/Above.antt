@@ -3,5 +3,4 @@ pub use Rattle.mm_opt.proofs.Acting.{acts_at, closing_acts_at}
 pub use Rattle.mm_opt.proofs.Asked.{asked}
 pub use Rattle.mm_opt.proofs.Checking.{checks_on}
 pub use Rattle.mm_opt.proofs.Completeness.{found_right}
-pub use Rattle.mm_opt.proofs.Findings.{IsShaped, reads_shaped}
 pub use Rattle.mm_opt.proofs.Finishing.{calls_finished, finished_to}

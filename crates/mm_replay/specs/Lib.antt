@@ -4,4 +4,3 @@ pub mod Headline
 pub mod Counting
 pub mod Progress
 pub mod Replays
-pub mod TextWords

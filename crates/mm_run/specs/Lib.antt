@@ -7,6 +7,3 @@ pub mod Held
 pub mod Laws
 pub mod OneRun
 pub mod OneEvent
-pub mod HeldWords
-pub mod PremisesWords
-pub mod FoldsWords

@@ -52,8 +52,7 @@ pub use Rattle.mm_run.specs.Folds.{reads_only, uncalled, way_of}
 pub use Rattle.mm_run.specs.Laws.{IsIssued, one_ask}
 pub use Rattle.mm_run.specs.Offered.{offered_bytes}
 pub use Rattle.mm_run.specs.OneEvent.{EventsAgree, EventsKeepNames, IsSoundIn, Keeps}
-pub use Rattle.mm_run.specs.Premises.{batches_of, event_messages, foreign_of, moves_of}
-pub use Rattle.mm_run.specs.PremisesWords.{AreApartIn, run_messages}
+pub use Rattle.mm_run.specs.Premises.{batches_of, event_messages, foreign_of, moves_of, AreApartIn, run_messages}
 pub use Rattle.mm_run.proofs.Above.{basic_begins, opt_begins, anchor_nil, basic_events_agree, basic_events_keep_names, clear_within}
 pub use Rattle.mm_run.proofs.Above.{event_steps, opt_events_agree, opt_events_keep_names}
 pub use Rattle.mm_sides.specs.Both.{Both, digests_move, First, first_both, first_lists, instance_on, key_of, lists_move, Mover, Pair}

@@ -40,5 +40,4 @@ pub use Rattle.mm_schedule.specs.declared.reply.Way.{Way}
 pub use Rattle.mm_run.specs.Folds.{Outcome, after_stop, course_of, event_in_vain, event_outcome, first_digests, first_issued, way_of}
 pub use Rattle.mm_run.specs.Laws.{IsIssued}
 pub use Rattle.mm_run.specs.Offered.{offered_bytes}
-pub use Rattle.mm_run.specs.Premises.{IsGenuineEvent, batches_of, event_messages, foreign_of, moves_of}
-pub use Rattle.mm_run.specs.PremisesWords.{AreApartIn, IsGenuineOffer}
+pub use Rattle.mm_run.specs.Premises.{IsGenuineEvent, batches_of, event_messages, foreign_of, moves_of, AreApartIn, IsGenuineOffer}

@@ -3,7 +3,7 @@ use Rattle.std.specs.Prelude.{ℕ, ◌+◌, List, [], ◌∷◌, ◌++◌, lengt
 use Rattle.std.specs.Fmt.{decimal}
 use Rattle.std.specs.List.{flat_map}
 use Rattle.mm_schedule.specs.Replies.{IsPrintable}
-use Rattle.mm_replay.specs.TextWords.{text_of_replies}
+use Rattle.mm_replay.specs.Text.{text_of_replies}
 use Rattle.mm_slots.specs.declared.said.Said.{Said}
 use Rattle.mm_slots.specs.declared.said.Said.TheVariants.{Busy, Idle, Begun, Going, Replied}
 use Rattle.mm_slots.specs.Table.{Answer, PowerLost, Says, Row}

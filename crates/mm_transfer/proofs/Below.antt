@@ -60,9 +60,8 @@ pub use Rattle.mm_schedule.specs.declared.header.Header.{Header}
 pub use Rattle.mm_schedule.specs.declared.reply.Reply.{Reply}
 pub use Rattle.mm_schedule.proofs.Above.{promises-kept}
 pub use Rattle.mm_run.specs.Folds.{after_stop, asked_in_vain, course_of, event_in_vain, event_outcome, first_digests, Outcome, outcome_by}
-pub use Rattle.mm_run.specs.Folds.{reads_only, uncalled, way_of}
-pub use Rattle.mm_run.specs.FoldsWords.{broken_reply, plan_of}
-pub use Rattle.mm_run.specs.HeldWords.{world_barrier, world_key}
+pub use Rattle.mm_run.specs.Folds.{reads_only, uncalled, way_of, broken_reply, plan_of}
+pub use Rattle.mm_run.specs.Held.{world_barrier, world_key}
 pub use Rattle.mm_run.specs.Offered.{offered_bytes}
 pub use Rattle.mm_run.proofs.Above.{few_committed, issues_one, printable}
 pub use Rattle.mm_sides.specs.Both.{Both, digests_move, First, first_both, first_lists, instance_on, key_of, lists_move, Pair, Second, Side}

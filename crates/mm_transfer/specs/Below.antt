@@ -49,8 +49,7 @@ pub use Rattle.mm_schedule.specs.declared.event.Offer.TheVariants.{Flip, Last, N
 pub use Rattle.mm_schedule.specs.declared.header.Header.{Header}
 pub use Rattle.mm_schedule.specs.declared.reply.Reply.{Reply}
 pub use Rattle.mm_run.specs.Folds.{Outcome, cause_of, course_of, way_of}
-pub use Rattle.mm_run.specs.Held.{rising_from}
-pub use Rattle.mm_run.specs.HeldWords.{world_barrier, world_key}
+pub use Rattle.mm_run.specs.Held.{rising_from, world_barrier, world_key}
 pub use Rattle.mm_sides.specs.Both.{Both, First, Pair, Second, Side, Which, digests_move, first_both, first_lists, instance_on}
 pub use Rattle.mm_sides.specs.Folds.{Act, BothEvent, BothFollowed, BothOutcome, BothReply, Moves, Plain, both_by_digests, both_expected}
 pub use Rattle.mm_sides.specs.Folds.{both_followed, both_outcome, grown, is_moved, move_outcome, outcome_here, plain_on, stopped_moves}
@@ -65,7 +64,7 @@ pub use Rattle.mm_world.specs.Held.{digest_in, flag_in, value_in}
 pub use Rattle.mm_world.specs.Stands.{IsQuiet}
 pub use Rattle.mm_world.specs.declared.call.Called.{Called}
 pub use Rattle.mm_replay.specs.Schedule.{most_kept}
-pub use Rattle.mm_replay.specs.TextWords.{text_of_replies}
+pub use Rattle.mm_replay.specs.Text.{text_of_replies}
 pub use Rattle.mm_play.specs.Counting.{event_counts, header_counts}
 pub use Rattle.mm_play.specs.Events.{EventPlayer, event_answer as answer_by, header_answer as begins_by, is_over}
 pub use Rattle.mm_play.specs.Tells.{PlaysWhole}

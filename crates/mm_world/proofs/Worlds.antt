@@ -13,8 +13,7 @@ use Rattle.mm_seal.specs.FieldLaws.{take_front}
 use Rattle.mm_platform.specs.Memory.{new_platform}
 use Rattle.mm_schedule.specs.declared.header.Header.{Header}
 use Rattle.mm_schedule.specs.declared.event.Offer.{Offer}
-use Rattle.mm_run.specs.Held.{rising_from}
-use Rattle.mm_run.specs.HeldWords.{world_key, world_barrier}
+use Rattle.mm_run.specs.Held.{rising_from, world_key, world_barrier}
 use Rattle.mm_run.specs.Offered.{offered_bytes}
 use Rattle.mm_world.specs.declared.call.Called.{Called}
 use Rattle.mm_world.specs.Held.{digest_in, flag_in, value_in, digests_in, held_in, KeepsWorld}

@@ -21,8 +21,7 @@ use Rattle.mm_schedule.specs.declared.reply.Cause.{Cause}
 use Rattle.mm_schedule.specs.declared.reply.Cause.TheVariants as cause
 use Rattle.mm_schedule.specs.declared.reply.Reply.{Reply}
 use Rattle.mm_schedule.specs.declared.reply.Reply.TheVariants as reply
-use Rattle.mm_run.specs.Folds.{way_of, cause_of}
-use Rattle.mm_run.specs.FoldsWords.{told_reply, broken_reply, stopped_reply}
+use Rattle.mm_run.specs.Folds.{way_of, cause_of, told_reply, broken_reply, stopped_reply}
 use Rattle.mm_world.specs.declared.call.Called.{Called}
 
 -- a call that was refused
