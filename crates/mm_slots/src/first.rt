@@ -1,14 +1,17 @@
 //! The slots of a platform at first.
 
-ghost use Rattle.std.specs.Prelude.{◌<◌, ◌≤◌, IfOk, OnOk, length};
+ghost use Rattle.std.specs.Prelude.{◌≡◌, ◌<◌, ◌≤◌, IfOk, OnOk, length};
+ghost use Rattle.mm_seal.specs.Cell.{cell_spelling};
+ghost use Rattle.mm_model.specs.History.{first_history};
+ghost use Rattle.mm_model.specs.Standing.{cell_of, issued_bytes};
 ghost use Rattle.mm_slots.specs.First.{AddsSlot, AreFirst};
+ghost use Rattle.mm_slots.specs.Slot.{slot_instance};
 
 use crate::slot::Slot;
 use mm_base::{CELL_LENGTH, Memory};
 use mm_call::Provisioned;
 use mm_run::rising;
 use mm_schedule::Header;
-use mm_world::provisioned;
 use std::alloc::Global;
 
 /// The cells of a platform at first, and the slots over them.
@@ -18,7 +21,20 @@ pub struct FirstSlots {
     pub slots: Vec<Slot>,
 }
 
-// Adds the slot with this number. Its key is that of no other slot.
+// The first cell and snapshot of the slot with this number. Its key is that of no other slot.
+fn provisioned(alloc: Global, number: u8, header: &Header) -> Result<Provisioned, Memory>
+    requires { number < 16 }
+    ensures cell { IfOk result (λ made. made.cell
+        ≡ cell_spelling (cell_of (slot_instance header.now number) first_history)) }
+    ensures snapshot { IfOk result (λ made. made.snapshot
+        ≡ issued_bytes (slot_instance header.now number) first_history) }
+{
+    let key = rising(number);
+    let barrier = rising(128 + number);
+    mm_world::provisioned(alloc, header.variant, &header.module, &key, &barrier)
+}
+
+// Adds the slot with this number.
 fn add_slot(
     alloc: Global,
     number: u8,
@@ -31,13 +47,7 @@ fn add_slot(
 {
     first.cells.reserve(1)?;
     first.slots.reserve(1)?;
-    let Provisioned { cell, snapshot } = provisioned(
-        alloc,
-        header.variant,
-        &header.module,
-        &rising(number),
-        &rising(128 + number),
-    )?;
+    let Provisioned { cell, snapshot } = provisioned(alloc, number, header)?;
     let slot = Slot::new(alloc, number, *header, snapshot)?;
     first.cells.push_reserved(cell);
     first.slots.push_reserved(slot);
