@@ -40,7 +40,8 @@ ends_line bytes first others none is =
 
 -- what answers all lines of an input answers one at least
 abbrev pub IsBegun : (List (List ℕ) → List ℕ → Type 0) → Type 0
-IsBegun all = (lines : List (List ℕ)) (written : List ℕ) → all lines written → (first : List ℕ) × (others : List (List ℕ)) × (lines ≡ first ∷ others)
+IsBegun all =
+    (lines : List (List ℕ)) (written : List ℕ) → all lines written → (first : List ℕ) × (others : List (List ℕ)) × (lines ≡ first ∷ others)
 
 module _ {P : Type 0} (moves : P → List ℕ → Result (List ℕ × P) Refused) (closing : P → Option (List ℕ)) where
   outcome_is : (t u : Told P) → t ≡ u → t.outcome ≡ u.outcome

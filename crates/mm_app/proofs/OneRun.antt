@@ -110,7 +110,8 @@ module _ (lines : List (List ℕ)) (sent : List ℕ) (status : Status) (done res
   unbegun none undone went =
       subst (λ (ls : List (List ℕ)). IsUnbegun ls sent status) (sym (is ∙ ap (λ (ls : List (List ℕ)). ls ++ rest) none)) (record {
         undone = undone;
-        left = left_by status (length done) 0 rest (IsTooMuch header_at done) (λ r. ⊥) (ap length none) (λ much. let split = much.split in cc)
+        left = left_by status (length done) 0 rest (IsTooMuch header_at done) (λ r. ⊥) (ap length none)
+            (λ much. let split = much.split in cc)
             left;
         went = went;
       })

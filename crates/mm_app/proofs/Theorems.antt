@@ -14,7 +14,8 @@ headline_of old new status (inl does) =
     replays_one_run (answers_input (AnswersLines header_at) (AnswersAll header_at) (IsTooMuch header_at)
     (λ lines written told. (told.first, told.others, told.split)) does.played.plays does.played.ends does.stops.sends)
 headline_of old new status (inr lacks) =
-    replays_one_run (ended_input (AnswersLines header_at) (AnswersAll header_at) (IsTooMuch header_at) (inl (refl, refl)) old new status lacks)
+    replays_one_run
+    (ended_input (AnswersLines header_at) (AnswersAll header_at) (IsTooMuch header_at) (inl (refl, refl)) old new status lacks)
 
 pub interleaved_by : (old new : Outside) (status : Status) → DoesOrLacks Slots old new status
     → InterleavesRuns old.left new.left old.received new.received status

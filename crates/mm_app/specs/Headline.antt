@@ -39,7 +39,7 @@ abbrev pub StartsOver : (before issued rest : List (List ℕ)) → Type 0
 StartsOver before issued rest =
     (line : List ℕ) × (more : List (List ℕ)) × (rest ≡ line ∷ more) × IsOver before issued line
 
--- So it went out, where this text answers the lines, and with this closing line behind it all lines.
+-- So it went out, where this text answers the lines, and with the closing line behind it all lines.
 abbrev pub IsSent : Status → (rest : List (List ℕ)) → (text closing sent : List ℕ) → Type 0
 IsSent status rest text closing sent =
     WentOut (λ done written. written ≡ text) (λ done written. written ≡ text ++ closing) status []

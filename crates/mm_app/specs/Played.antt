@@ -1,5 +1,5 @@
--- What is out of a command that plays lines, its stop line among it: which lines were answered, which
--- are left, and what went out.
+-- What is out of a command that plays lines, its stop line among it: which lines were answered,
+-- which are left, and what went out.
 use Rattle.std.specs.Prelude.{◌≡◌, ℕ, ◌+◌, List, [], ◌∷◌, ◌++◌, length, Option, ◌⊎◌}
 use Rattle.std.specs.Io.KnownBytes.{Appends, Consumes, IsAtEnd}
 use Rattle.mm_base.specs.Input.{lines_of}

@@ -81,7 +81,8 @@ pub stands_next : (header : Header) (es : List Event) (e : Event) (old new : Dec
     → IsHeard (world_of header) (expected (world_of header) es) e heard → IsAfter header (es ++ e ∷ []) new.expecting
     → length new.expecting.issued ≤ length old.expecting.issued + 1
     → Lists (fold listed (numbered (world_of header) es) heard.messages.items) new.numbers
-    → new.lines.items ≡ old.lines.items ++ lines_of_reply heard.reply → new.forged ≡ first_then old.forged (not heard.is_genuine) (length es + 1)
+    → new.lines.items ≡ old.lines.items ++ lines_of_reply heard.reply
+    → new.forged ≡ first_then old.forged (not heard.is_genuine) (length es + 1)
     → StandsBehind header (es ++ e ∷ []) new
 stands_next header es e old new heard h hears after few lists lines forged =
     let i = world_of header in
@@ -90,7 +91,8 @@ stands_next header es e old new heard h hears after few lists lines forged =
       few = omega (arith, few, h.few, length-append es (e ∷ []));
       lists = subst (λ (l : List (List ℕ)). Lists l new.numbers)
           (ap (λ (l : List (List ℕ)). fold listed (numbered i es) l) hears.0.messages ∙ sym (numbered-push i es e)) lists;
-      lines = lines ∙ (λ j. h.lines j ++ lines_of_reply (hears.0.reply j)) ∙ sym (lines-push i (by_lists i) first_history (first_issued i) es e);
+      lines = lines ∙ (λ j. h.lines j ++ lines_of_reply (hears.0.reply j))
+          ∙ sym (lines-push i (by_lists i) first_history (first_issued i) es e);
       forged = subst (λ (o : Option ℕ). IsFirstForged i (es ++ e ∷ []) o) (sym forged)
           (forged-push i es e old.forged heard.is_genuine h.forged hears.1);
     }

@@ -11,7 +11,8 @@ use Rattle.mm_check.proofs.ClearLaws.{unshared, no_zero, apart_none}
 module _ (i : Instance) where
   -- behind these events this one isn't genuine
   abbrev IsForged : History → List (List ℕ) → List Event → Event → Type 0
-  IsForged y issued before e = (let f : Followed History = followed i (by_lists i) y issued before in IsGenuineEvent i f.state f.issued e) → ⊥
+  IsForged y issued before e =
+      (let f : Followed History = followed i (by_lists i) y issued before in IsGenuineEvent i f.state f.issued e) → ⊥
 
   not_genuine : (before : List Event) (e : Event) (after : List Event) (y : History) (issued : List (List ℕ))
       → AreGenuine i y issued (before ++ e ∷ after) → IsForged y issued before e → ⊥

@@ -89,7 +89,8 @@ finds-known : (f : List ℕ → Option ℕ) (ds : List (List ℕ)) (x : List ℕ
 finds-known f ds x n h is d = h d ∙ known_by (first_where (bytes_eq d) ds) (bytes_eq d x) (length ds + 1) n
     (λ t. sym (h d) ∙ ap f ((bytes_eq-Decides d x).0 t) ∙ is) ∙ sym (first_where-push (bytes_eq d) ds x)
 
-new_by : (found : Option ℕ) (same : Bool) (last : ℕ) → (same ≡ true → found ≡ None) → cond same (Some last) found ≡ first_then found same last
+new_by : (found : Option ℕ) (same : Bool) (last : ℕ) → (same ≡ true → found ≡ None)
+    → cond same (Some last) found ≡ first_then found same last
 new_by (Some k) true last h = let clash : Some k ≡ None = h refl in absurd (cc)
 new_by (Some k) false last h = refl
 new_by None true last h = refl

@@ -35,7 +35,8 @@ module _ (a : Recorded) (stop : Stop) (meddles : List Meddle) where
   went_by : (n : Recorded) (closing : Closing) {broken : Option StepFault} {steps : List Step} {ending : ghost_closing.Closing}
       → steps ≡ checkpoint_steps a.variant a.history.is_open lost → ending ≡ ghost_closing.closing_of a.variant a.history.is_open lost
       → Walks a n (walk fates 1 steps) broken
-      → closing_as closing ≡ ghost_closing_words.closed_by broken (closes (walk fates 1 steps).moves) ending → WentByCheckpoint a n all closing
+      → closing_as closing ≡ ghost_closing_words.closed_by broken (closes (walk fates 1 steps).moves) ending
+      → WentByCheckpoint a n all closing
   went_by n closing steps ends w tells = record {
     went = subst (λ (s : List Step). Went a n (walk fates 1 s).moves) steps w.went;
     ends = tells ∙ (λ j. ghost_closing_words.closed_by ((w.broken ∙ ap (λ (s : List Step). (walk fates 1 s).broken) steps) j)

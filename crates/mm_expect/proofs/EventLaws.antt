@@ -23,7 +23,8 @@ module _ (i : Instance) where
   still_few moves y none few = omega (arith, few, ap total_of (same_batches i moves y none))
 
   -- the reply that tells an answer
-  told_printable : IsLawful i.meaning → (y : History) (b : Batch) (again : Bool) → IsFew y → IsPrintable (told_reply (answer_on i y b again))
+  told_printable : IsLawful i.meaning → (y : History) (b : Batch) (again : Bool) → IsFew y
+      → IsPrintable (told_reply (answer_on i y b again))
   told_printable lawful y b again few = (
     All-drop (λ (o : List ℕ). length o ≤ longest_request) _ (outputs_from i.meaning i.meaning.first (requests_of y.batches))
         (short_outputs i.meaning lawful i.meaning.first (requests_of y.batches) lawful.begins),

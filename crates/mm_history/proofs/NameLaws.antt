@@ -48,7 +48,8 @@ module _ (i : Instance) (y : History) (named : List Batch) (a e : List ℕ) wher
       (λ (p : ((has_value (joined before) ≡ false) × (length named ≡ length (joined before)))
       × ((a ≡ anchor_after i before) × (e ≡ zero_bytes))). record { clean = p.0.0; counted = p.0.1; anchor = p.1.0; extension = p.1.1 })
       (λ (p : IsAt before). ((p.clean, p.counted), (p.anchor, p.extension)))
-      (Decides-and _ _ (Decides-and _ _ (not-true (has_value (joined before)), not_from_false (has_value (joined before))) (Decides-eqb (length named) (length (joined before))))
+      (Decides-and _ _ (Decides-and _ _ (not-true (has_value (joined before)), not_from_false (has_value (joined before)))
+      (Decides-eqb (length named) (length (joined before))))
       (Decides-and _ _ (bytes_eq-Decides a (anchor_after i before)) (bytes_eq-Decides e zero_bytes)))
 
   behind-Decides : (start : ℕ) (before : List (List Entry))

@@ -36,7 +36,8 @@ and_true false = refl
 not_own_with : (items : List Entry) (v : List ℕ) (current : List Batch) → are_own (items ++ Value v ∷ []) current ≡ false
 not_own_with [] v current = refl
 not_own_with (Own b ∷ items) v [] = refl
-not_own_with (Own b ∷ items) v (c ∷ current) = ap (λ x. same_batch b c && x) (not_own_with items v current) ∙ and_right (same_batch b c) false refl
+not_own_with (Own b ∷ items) v (c ∷ current) =
+    ap (λ x. same_batch b c && x) (not_own_with items v current) ∙ and_right (same_batch b c) false refl
 not_own_with (Value d ∷ items) v current = refl
 
 own_none : (current : List Batch) → are_own [] current ≡ is_empty current

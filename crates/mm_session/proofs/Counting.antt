@@ -147,7 +147,8 @@ rest_says result before after old new by q = record {
 
 -- the end of the lines
 module _ (variant : Variant) (meaning : Meaning) (from : Place) (after : Standing) (new : StoreStanding) (left : Option (List ℕ))
-    (taken sent : List ℕ) (result : Result Unit SessionFault) (l : ServesLines variant meaning 1 from after new left taken sent result) where
+    (taken sent : List ℕ) (result : Result Unit SessionFault)
+    (l : ServesLines variant meaning 1 from after new left taken sent result) where
   has_line : (line held : List ℕ) → BeginsWith l.more line held → 1 ≤ length (lines_of l.more)
   has_line line held b =
       let counted : length (lines_of l.more) ≡ length (line ∷ lines_of held) =

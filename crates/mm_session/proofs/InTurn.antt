@@ -115,7 +115,8 @@ module _ {all others : List (List ℕ)} {asked : List Batch} {i : Instance} {fin
   May y standing offer requests = Shows i.variant all others i y standing final ⊎ MindsNothing i y offer requests
 
   -- a call for the next request
-  module _ (y z : History) (old middle : Standing) (offer line : List ℕ) (rest : List (List ℕ)) (s : StandsIn all others asked i y z old offer)
+  module _ (y z : History) (old middle : Standing) (offer line : List ℕ) (rest : List (List ℕ))
+      (s : StandsIn all others asked i y z old offer)
       (f : AreAskedInTurn all asked i z offer (line ∷ rest)) (may : May y old offer (line ∷ rest)) where
     makes : (gives : Result BatchAnswer Refusal) → CallsOn i.variant i.meaning old middle offer (One line) gives
         → Makes all others asked i y old middle offer (pending_for line) gives

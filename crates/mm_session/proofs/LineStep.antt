@@ -158,7 +158,8 @@ module _ {all others : List (List ℕ)} {asked : List Batch} {i : Instance} {fin
   ready_first y slots (Some p) standing kept (Answered answer) lines f r m follow =
       let a = answers_of i y r.after p answer r.comes in
       ready_on (history_then i y (Some p)) (record { platform = standing; store = kept; last = Answered answer }) lines
-      (settled_by (Some p) (Answered answer) f r) (ap (λ (b : BatchAnswer). b.snapshot) a.1) (grown_then laws y r.after p a.0 m.1) m.0 follow
+      (settled_by (Some p) (Answered answer) f r) (ap (λ (b : BatchAnswer). b.snapshot) a.1) (grown_then laws y r.after p a.0 m.1) m.0
+      follow
 
   -- a call that was answered, with others behind it where lines follow
   pub between_called : (y : History) (old middle : Standing) (offer : List ℕ) (p : Pending) (call : Result Answer Refusal)

@@ -21,7 +21,8 @@ pub record IsPut (slots other : Slots) (position : ℕ) (bytes : List ℕ) : Typ
   pub next : slot_read other (2 + (position + 1) % 2) ≡ take longest_slot bytes
 
 -- a slot that wasn't written shows what it did
-unwritten : (slots : Slots) (bytes : List ℕ) (n m : ℕ) → n < 4 → m < 4 → (n ≡ m → ⊥) → slot_read (with_slot slots n bytes) m ≡ slot_read slots m
+unwritten : (slots : Slots) (bytes : List ℕ) (n m : ℕ) → n < 4 → m < 4 → (n ≡ m → ⊥)
+    → slot_read (with_slot slots n bytes) m ≡ slot_read slots m
 unwritten slots bytes n m small least unless = grind (arith, nat_tests, small, least, unless)
 
 pub put_next : (slots : Slots) (position : ℕ) (bytes : List ℕ) → IsPut slots (with_slot slots (2 + (position + 1) % 2) bytes) position bytes

@@ -1,4 +1,4 @@
--- A session is one run whatever the slots hold: each first part of what was told, and how it ends; and so where the cell was read before it.
+-- A session is one run whatever the slots hold: each first part of what was told, and how it ends; also where the cell was read before.
 use Rattle.mm_session.proofs.Below.{bare, idle_again, ◌≡◌, ◌≢◌, ◌∙◌, ℕ, Bool, true, false, List, [], ◌∷◌, ◌++◌, Option, None, Some, Result}
 use Rattle.mm_session.proofs.Below.{Ok, Err, IsSome, refl, sym, ap, subst, inl, inr, append_assoc, ◌⊎◌, append_cancel_left, StepFault}
 use Rattle.mm_session.proofs.Below.{Standing, Batch, One, Meaning, Instance, opt, History, requests_of, LostLife, life_of, StandsFor}

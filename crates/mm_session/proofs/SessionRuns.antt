@@ -100,8 +100,8 @@ module _ {all others : List (List ℕ)} {asked : List Batch} {i : Instance} (y :
       (rest_refuses result (life_of i.variant s.after) by) powered)
 
   -- what came ends it
-  stops_with : {final : Standing} (z : History) (waiting : Option Pending) (new : StoreStanding) (came : Result Resumed HostFault) (sent : List ℕ)
-      (fault : SessionFault) → RunsOver i.meaning (requests_of y.batches) told (requests_of z.batches)
+  stops_with : {final : Standing} (z : History) (waiting : Option Pending) (new : StoreStanding) (came : Result Resumed HostFault)
+      (sent : List ℕ) (fault : SessionFault) → RunsOver i.meaning (requests_of y.batches) told (requests_of z.batches)
       → (life_of i.variant y ≢ LostLife → life_of i.variant z ≢ LostLife) → CameTo all others asked i z waiting final new came
       → ((p : Pending) → waiting ≡ Some p → hand p.request) → SendsReply came sent (Err fault)
       → ContinuesTo all others asked i y final new told hand (Err fault)
@@ -161,7 +161,8 @@ module _ {all others : List (List ℕ)} {asked : List Batch} {i : Instance} {fin
 
   -- the recovery, by what a call for what waits comes to
   recovered_by : (More : History → Type 0) (after : Standing) (came : Result Resumed HostFault) → (after ≡ before → More y)
-      → ((p : Pending) (call : Result Answer Refusal) → waiting ≡ Some p → ((why : Refusal) → call ≡ Err why → came ≡ Err (refusal_fault why))
+      → ((p : Pending) (call : Result Answer Refusal) → waiting ≡ Some p
+      → ((why : Refusal) → call ≡ Err why → came ≡ Err (refusal_fault why))
       → Makes all others asked i y before after (slot_read slots (offer_slot p)) p (whole_in call)
       → (o : Met all others asked i y after (slot_read slots (offer_slot p)) p (whole_in call)) × More o.after)
       → Resumes i.variant i.meaning before after old s.store came
@@ -200,8 +201,8 @@ module _ {all others : List (List ℕ)} {asked : List Batch} {i : Instance} {fin
         ],
         inl (same_self i.variant y),
       ))
-      (λ p call e told m. rw e (between_called laws y before s.platform (slot_read slots (offer_slot p)) p call first (lines_of input) told m
-      (may_ask p e) reaches)) (rw is at s.resumes)
+      (λ p call e told m. rw e (between_called laws y before s.platform (slot_read slots (offer_slot p)) p call first (lines_of input) told
+      m (may_ask p e) reaches)) (rw is at s.resumes)
 
   -- what waited ends it
   at_once : new ≡ s.store → (e : StopsAtOnce s.begun s.taken s.sent result)

@@ -98,8 +98,8 @@ module _ (all others : List (List ℕ)) (asked : List Batch) (i : Instance) (y :
         IsRefusedFor i runs.after (offered_after offer told) hand why
 
   -- Where these requests are what is asked of: each first part of what was told that is among them
-  -- is one run; and where all that were made are among them, so the session ends. All that were made
-  -- are among what waited and the lines of the input, where that tells its bytes.
+  -- is one run; and where all that were made are among them, so the session ends. All that were
+  -- made are among what waited and the lines of the input, where that tells its bytes.
   pub record RunsOnce (slots : Slots) (waiting : Option Pending) (left : Option (List ℕ))
       (standing : Standing) (told : List Served) (hand : List ℕ → Type 0)
       (requests : List (List ℕ)) (result : Result Unit SessionFault) : Type 0 where

@@ -68,7 +68,8 @@ module _ {variant : Variant} {meaning : Meaning} {begun : Result Resumed HostFau
   told_in (inl stops) = []
   told_in (inr goes) = told_first waiting goes.first ++ goes.lines.calls
 
-  -- the request in hand where a session stopped: what waited, or the line after those that were told
+  -- the request in hand where a session stopped: what waited, or the line after those that were
+  -- told
   abbrev pub IsInHand : AfterResume variant meaning begun platform after store new left taken sent
       result → List ℕ → Type 0
   IsInHand (inl stops) request = (p : Pending) × (waiting ≡ Some p) × (p.request ≡ request)
@@ -94,8 +95,8 @@ pub record HasUntold (hand : List ℕ → Type 0) (result : Result Unit SessionF
   pub grown : after ≡ requests ++ request ∷ []
 
 module _ (all others : List (List ℕ)) (asked : List Batch) (i : Instance) (y : History) where
-  -- What is asked of a session on these lines: what is asked of a recovery, and that the lines are to
-  -- follow it.
+  -- What is asked of a session on these lines: what is asked of a recovery, and that the lines are
+  -- to follow it.
   pub record CanServe (slots : Slots) (standing : Standing) (kept : StoreStanding)
       (lines : List (List ℕ)) : Type 0 where
     pub can : CanRecover all others asked i y slots standing kept
@@ -116,8 +117,8 @@ module _ (all others : List (List ℕ)) (asked : List Batch) (i : Instance) (y :
     pub unspoiled : others ≡ [] → life_of i.variant after ≢ Spoiled
     pub powered : life_of i.variant y ≢ LostLife → life_of i.variant after ≢ LostLife
 
-  -- The slots fit that history too, so that the session may be gone on with. A refusal is a device's
-  -- fault, or tells how that history has ended.
+  -- The slots fit that history too, so that the session may be gone on with. A refusal is a
+  -- device's fault, or tells how that history has ended.
   pub record ContinuesTo (standing : Standing) (kept : StoreStanding) (told : List Served)
       (hand : List ℕ → Type 0) (result : Result Unit SessionFault) : Type 0 where
     pub runs : RunsTo standing told hand result

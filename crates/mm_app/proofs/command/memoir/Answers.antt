@@ -80,7 +80,8 @@ returns-in-Ok-clause-wrote g c =
     output_blamed c.in-Ok.command (told_before g it) (told_after g it) c.done.result c.done.ensures.does
 
 -- words that spell a command, but memory was wanting
-is_memory : (fault : WordsFault) → ((let r : Result Command WordsFault = Err fault in r ≡ Err words.Usage) → ⊥) → words_status fault ≡ Memory
+is_memory : (fault : WordsFault) → ((let r : Result Command WordsFault = Err fault in r ≡ Err words.Usage) → ⊥)
+    → words_status fault ≡ Memory
 is_memory words.Usage other = absurd (other refl)
 is_memory words.Memory other = refl
 
@@ -101,7 +102,8 @@ lacked g c command spells = inr (record {
 })
 
 pub returns-in-Err-clause-headline : goal.returns-in-Err-clause-headline
-returns-in-Err-clause-headline g c spells = headline_of _ _ _ (lacked g (goal.at.returns-in-Err-clause-headline g c).After-stopped Replay spells)
+returns-in-Err-clause-headline g c spells =
+    headline_of _ _ _ (lacked g (goal.at.returns-in-Err-clause-headline g c).After-stopped Replay spells)
 
 pub returns-in-Err-clause-interleaved : goal.returns-in-Err-clause-interleaved
 returns-in-Err-clause-interleaved g c spells =

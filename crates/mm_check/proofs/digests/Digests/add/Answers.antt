@@ -8,7 +8,8 @@ pub returns-clause-counts : goal.returns-clause-counts
 returns-clause-counts c = λ digests h. elim c.match-get.branch [
   | in-Some w ↦ counts-known digests c.args.self.now
       (record { firsts = c.match-get.self.firsts; count = _; shared = c.match-get.self.shared; zero = c.first_then-self.result })
-      c.args.digest.bytes w.in-Some.first.now h (record { count = refl; zero = rw (w.self-is, c.is_zero.ensures) at c.first_then-self.ensures })
+      c.args.digest.bytes w.in-Some.first.now h
+      (record { count = refl; zero = rw (w.self-is, c.is_zero.ensures) at c.first_then-self.ensures })
       (sym c.get.ensures.value ∙ ap option_copied w.in-Some.is) (ap (λ s. s.firsts) w.self-is)
       (ap (λ s. pair_of s.shared) w.self-is ∙ w.lower-self.ensures)
   | in-None+in_ok-put-in-None w ↦
