@@ -173,8 +173,7 @@ no_counting barrier closed is_open items batches none shut =
     rw (none, shut) (λ d b c e _. absurd (omega (arith, c.1)))
 
 pub basic_found_same : (meaning : Meaning) (key : List ℕ) (all : List (List ℕ)) (y : History) (d : Digests) (bytes : List ℕ) (b : Batch)
-    → Agrees (basic meaning key) y d → IsPlain y → Within (history_messages (basic meaning key) y) all
-    → Asking all (basic meaning key) y bytes b
+    → Agrees (basic meaning key) y d → IsPlain y → Within (history_messages (basic meaning key) y) all → Asking all (basic meaning key) y bytes b
     → found_at (basic meaning key) (by_digests (basic meaning key)) d b bytes
     ≡ found_at (basic meaning key) (by_lists (basic meaning key)) y b bytes
 basic_found_same meaning key all y d bytes b agrees plain listed asking =

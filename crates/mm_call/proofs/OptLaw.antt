@@ -131,8 +131,8 @@ module _ (meaning : Meaning) (key barrier : List ℕ) where
 
     -- Two reading steps inside a segment, and the steps that follow from what is found by lists and by digests, by the moves of
     -- those that follow from one of them: both find the same; or the walk was cut off before, whatever was found.
-    pub same_walks : (X E : Type 0) (third : X → List Step) (lists_end digests_end : X → Walked → E) (y : History) (d : Digests)
-        (c : Course) (lists digests x : X) → y.is_open ≡ true → Holds all others asked I y d → (digests ≡ lists → x ≡ lists)
+    pub same_walks : (X E : Type 0) (third : X → List Step) (lists_end digests_end : X → Walked → E) (y : History) (d : Digests) (c : Course)
+        (lists digests x : X) → y.is_open ≡ true → Holds all others asked I y d → (digests ≡ lists → x ≡ lists)
         → Counts true y (walk c.fates 1 (Reads ∷ Reads ∷ third x)).moves
         → (Holds all others asked I (sight y c) (all_made (by_digests I) d (before c))
         → (digests ≡ lists) × AreOwn (third lists) × Ready all others asked I c.fates 3 (third lists) (sight y c)
@@ -156,8 +156,7 @@ module _ (meaning : Meaning) (key barrier : List ℕ) where
               let counted = subst (λ z. Counts true y (walked_by z).moves) (k r.0) counts in
               rw r.0 (same_on E y d (walked_by lists) (lists_end lists (walked_by lists)) (digests_end lists (walked_by lists)) r.3
               (stands_after y d (walked_by lists).moves h
-              (walk_fine meaning key barrier all others asked c.fates (Reads ∷ Reads ∷ third lists) 1 y r.1 counted.1 (λ o p. r.2))
-              counted.0))
+              (walk_fine meaning key barrier all others asked c.fates (Reads ∷ Reads ∷ third lists) 1 y r.1 counted.1 (λ o p. r.2)) counted.0))
           | cut walked values fault is moves broken ↦
               let here = subst (Counts true y) moves (subst (λ (z : Walked). Counts true y z.moves) (is rest) counts) in
               let fine = foreign_all meaning key barrier all others asked values y

@@ -41,8 +41,7 @@ module _ (old : Standing) (P : Standing → Result Checkpointed CheckpointRefusa
     closed (Err fault) cell next one two new l w c = each.closes (Some fault) cell next one two new l w c.goes
 
     weighed : (found : Result (List ℕ) CheckpointRefusal) (cell : Cell) (one two new : Standing)
-        (result : Result Checkpointed CheckpointRefusal) → Looks old one (Ok (Open cell)) → Weighs cell one two found
-        → EndsClosing found two new result → P new result
+        (result : Result Checkpointed CheckpointRefusal) → Looks old one (Ok (Open cell)) → Weighs cell one two found → EndsClosing found two new result → P new result
     weighed (Err why) cell one two new result l w e = rw (e.0, e.1) (each.later_refuses why cell one two l w)
     weighed (Ok next) cell one two new result l w e = rw e.gives (closed e.written cell next one two new l w e.closes)
 

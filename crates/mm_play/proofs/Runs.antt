@@ -104,8 +104,7 @@ module _ {P : Type 0} (answer : P → List ℕ → Result (List ℕ × P) Refuse
   -- A run that answered these lines goes on with the rest of the input.
   pub run_from-joined : (player : P) (lines : List (List ℕ)) (rest sent : List ℕ) (last : P) → AllByRecursion IsUnbroken lines
       → run answer 1 player lines ≡ told sent (Ok last)
-      → run_of answer closing player (lines_joined lines ++ rest)
-      ≡ after_writing sent (run_from answer closing (1 + length lines) last rest)
+      → run_of answer closing player (lines_joined lines ++ rest) ≡ after_writing sent (run_from answer closing (1 + length lines) last rest)
   run_from-joined player lines rest sent last each went =
       let behind : 1 + length (lines ++ lines_of rest) ≡ 1 + length lines + length (lines_of rest) =
       omega (arith, length-append lines (lines_of rest)) in
@@ -167,5 +166,4 @@ pub run-more : {P : Type 0} (answer : P → List ℕ → Result (List ℕ × P) 
     (line sent reply : List ℕ) (last next : P) → run answer 1 player lines ≡ told sent (Ok last) → length line ≤ longest_line
     → answer last line ≡ Ok (reply, next) → run answer 1 player (lines ++ line ∷ []) ≡ told (sent ++ reply) (Ok next)
 run-more answer player lines line sent reply last next went short h =
-    rw (run-append answer 1 player lines (line ∷ []) sent last went, is_short short, h)
-    (ap (λ bytes. told (sent ++ bytes) (Ok next)) (append-nil reply))
+    rw (run-append answer 1 player lines (line ∷ []) sent last went, is_short short, h) (ap (λ bytes. told (sent ++ bytes) (Ok next)) (append-nil reply))
