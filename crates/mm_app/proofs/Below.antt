@@ -35,11 +35,11 @@ pub use Rattle.mm_words.specs.declared.command.Command.TheVariants.{Slots, Trans
 pub use Rattle.mm_words.proofs.Above.{one_command}
 pub use Rattle.mm_gen.specs.declared.fault.BulkFault.{BulkFault}
 pub use Rattle.mm_gen.specs.declared.summary.Summary.{Summary}
-pub use Rattle.mm_host.specs.Begins.{BlamesDevice, TellsUse}
-pub use Rattle.mm_host.specs.Init.{AfterLooking, AfterPuts, AfterTaking, Devices, devices, instance_from, SetsUp, TakesBytes, written_as}
-pub use Rattle.mm_host.specs.declared.init_fault.InitFault.{InitFault}
-pub use Rattle.mm_session.specs.declared.fault.SessionFault.{SessionFault}
-pub use Rattle.mm_session.proofs.Above.{runs_once_from}
+pub use Rattle.mm_recovery.specs.Begins.{BlamesDevice, TellsUse}
+pub use Rattle.mm_recovery.specs.Init.{AfterLooking, AfterPuts, AfterTaking, Devices, devices, instance_from, SetsUp, TakesBytes, written_as}
+pub use Rattle.mm_recovery.specs.declared.init_fault.InitFault.{InitFault}
+pub use Rattle.mm_host.specs.declared.fault.SessionFault.{SessionFault}
+pub use Rattle.mm_host.proofs.Above.{runs_once_from}
 pub use Rattle.mm_app.specs.Blame.{BlamesOutput, BlamesSource, source_faults, tells_platform_fault, tells_read_fault, tells_store_fault}
 pub use Rattle.mm_app.specs.Bulk.{bulk_told}
 pub use Rattle.mm_app.specs.Checkpoint.{checkpoint_told}

@@ -10,8 +10,8 @@ use Rattle.mm_app.proofs.Below.{session_status, init_told, status_of, GivesText,
 use Rattle.mm_app.proofs.Below.{Done, Memory, WriteFault, PlatformFault}
 use Rattle.mm_base.specs.declared.fault.WriteFault as write
 use Rattle.mm_call.specs.Leaving.{Blames}
-use Rattle.mm_session.specs.SessionBlame as session_blame
-use Rattle.mm_host.specs.declared.init_fault.InitFault.TheVariants as init
+use Rattle.mm_host.specs.SessionBlame as session_blame
+use Rattle.mm_recovery.specs.declared.init_fault.InitFault.TheVariants as init
 use Rattle.mm_platform.specs.declared.fault.StepFault.TheVariants.{Failed, Off}
 use Rattle.mm_platform.specs.Steps.{EndsBy, EndsCycle}
 use Rattle.mm_play.specs.Plays as plays

@@ -17,12 +17,12 @@ use Rattle.mm_base.specs.declared.fault.WriteFault as write
 use Rattle.mm_digest.specs.Messages.{zero_bytes}
 use Rattle.mm_digest.specs.declared.variant.Variant.TheVariants.{Basic, Opt}
 use Rattle.mm_base.specs.declared.replay_fault.ReplayFault.TheVariants as replay
-use Rattle.mm_host.specs.declared.fault.HostFault.TheVariants as host
-use Rattle.mm_session.specs.Continuing.{RefusesAs}
-use Rattle.mm_host.specs.InitFaults.{store_failed_as}
-use Rattle.mm_session.specs.SessionLines.{IsNoLines}
-use Rattle.mm_session.specs.declared.fault.SessionFault.TheVariants as session
-use Rattle.mm_host.specs.declared.init_fault.InitFault.TheVariants as init
+use Rattle.mm_recovery.specs.declared.fault.HostFault.TheVariants as host
+use Rattle.mm_host.specs.Continuing.{RefusesAs}
+use Rattle.mm_recovery.specs.InitFaults.{store_failed_as}
+use Rattle.mm_host.specs.SessionLines.{IsNoLines}
+use Rattle.mm_host.specs.declared.fault.SessionFault.TheVariants as session
+use Rattle.mm_recovery.specs.declared.init_fault.InitFault.TheVariants as init
 use Rattle.mm_model.specs.History.{first_history}
 use Rattle.mm_model.specs.InstanceWords.{basic}
 use Rattle.mm_model.specs.Life.{Live}

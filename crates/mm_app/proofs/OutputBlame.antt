@@ -7,9 +7,9 @@ use Rattle.mm_app.proofs.Below.{Outside, power_told, ServesIfFound, FindsInstanc
 use Rattle.mm_app.proofs.Below.{GivesText, TellsStop, StopsAs, Tells, status_by, Status, Memory, WriteFault}
 use Rattle.mm_base.specs.declared.fault.WriteFault as write
 use Rattle.mm_base.specs.declared.replay_fault.ReplayFault.TheVariants as fault
-use Rattle.mm_host.specs.declared.fault.HostFault.{HostFault}
-use Rattle.mm_session.specs.SessionBlame as session_blame
-use Rattle.mm_session.specs.declared.fault.SessionFault.TheVariants as session
+use Rattle.mm_recovery.specs.declared.fault.HostFault.{HostFault}
+use Rattle.mm_host.specs.SessionBlame as session_blame
+use Rattle.mm_host.specs.declared.fault.SessionFault.TheVariants as session
 use Rattle.mm_play.specs.Plays as plays
 use Rattle.mm_app.specs.Running.{session_at}
 use Rattle.mm_app.specs.declared.status.Status.TheVariants.{Done}

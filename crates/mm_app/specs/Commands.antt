@@ -5,8 +5,8 @@ use Rattle.mm_gen.specs.Schedules.{schedule_text}
 use Rattle.mm_words.specs.Commands.{SpellsCommand, help_text}
 use Rattle.mm_words.specs.declared.command.Command.{Command}
 use Rattle.mm_words.specs.declared.command.Command.TheVariants.{Init, Run, Checkpoint, Power, Replay, Check, Gen, Bulk, Slots, Receipts, Transfer, Help}
-use Rattle.mm_host.specs.Init.{devices}
-use Rattle.mm_receipts.specs.Reports.{ChecksHonestly}
+use Rattle.mm_recovery.specs.Init.{devices}
+use Rattle.mm_receipt.specs.Reports.{ChecksHonestly}
 use Rattle.mm_replay.specs.Replays.{Replays}
 use Rattle.mm_slots.specs.Plays.{PlaysSlots}
 use Rattle.mm_transfer.specs.Plays.{PlaysTransfer}

@@ -4,8 +4,8 @@ use Rattle.mm_base.specs.Input.{lines_of}
 use Rattle.mm_check.specs.Checking as checked
 use Rattle.mm_digest.specs.Messages.{zero_bytes}
 use Rattle.mm_digest.specs.declared.variant.Variant.TheVariants.{Opt}
-use Rattle.mm_session.specs.Continuing.{CanServe}
-use Rattle.mm_session.specs.SessionLines.{AreWithin}
+use Rattle.mm_host.specs.Continuing.{CanServe}
+use Rattle.mm_host.specs.SessionLines.{AreWithin}
 use Rattle.mm_module.specs.Batch.{Batch}
 use Rattle.mm_model.specs.History.{History}
 use Rattle.mm_model.specs.InstanceWords.{basic}
@@ -14,7 +14,7 @@ use Rattle.mm_modules.specs.declared.any.AnyModule.{AnyModule}
 use Rattle.mm_platform.specs.Standing.{Item, Standing, item_values, register_after}
 use Rattle.mm_play.specs.Play.{run_of}
 use Rattle.mm_play.specs.declared.player.Refused.{Refused}
-use Rattle.mm_receipts.specs.Checking.{first_checking, receipts_answer, receipts_closing}
+use Rattle.mm_receipt.specs.Checking.{first_checking, receipts_answer, receipts_closing}
 use Rattle.mm_replay.specs.Schedule as replayed
 use Rattle.mm_schedule.specs.Headers.{header_at}
 use Rattle.mm_seal.specs.Cell.{IsCell, blank_cell, cell_spelling}

@@ -1,15 +1,15 @@
 -- What the command `run` does.
 use Rattle.std.specs.Prelude.{◌≡◌, ℕ, List, Option, None, Some, Result, Ok, Err}
 use Rattle.mm_digest.specs.declared.variant.Variant.{Variant}
-use Rattle.mm_host.specs.declared.fault.HostFault.TheVariants as host
-use Rattle.mm_session.specs.AnySlots.{RunsOnceFrom}
-use Rattle.mm_session.specs.Continuing.{SessionContinues}
-use Rattle.mm_session.specs.SessionWrites.{SessionWrites}
-use Rattle.mm_session.specs.SessionBlame.{IsRefusalNamed, is_platform_fault, is_read_fault, is_store_fault, is_write_fault}
-use Rattle.mm_session.specs.SessionLines.{SparesLines}
-use Rattle.mm_session.specs.Sessions.{Sessions}
-use Rattle.mm_session.specs.declared.fault.SessionFault.{SessionFault}
-use Rattle.mm_session.specs.declared.fault.SessionFault.TheVariants as session
+use Rattle.mm_recovery.specs.declared.fault.HostFault.TheVariants as host
+use Rattle.mm_host.specs.AnySlots.{RunsOnceFrom}
+use Rattle.mm_host.specs.Continuing.{SessionContinues}
+use Rattle.mm_host.specs.SessionWrites.{SessionWrites}
+use Rattle.mm_host.specs.SessionBlame.{IsRefusalNamed, is_platform_fault, is_read_fault, is_store_fault, is_write_fault}
+use Rattle.mm_host.specs.SessionLines.{SparesLines}
+use Rattle.mm_host.specs.Sessions.{Sessions}
+use Rattle.mm_host.specs.declared.fault.SessionFault.{SessionFault}
+use Rattle.mm_host.specs.declared.fault.SessionFault.TheVariants as session
 use Rattle.mm_model.specs.declared.refusal.Refusal.{Refusal}
 use Rattle.mm_model.specs.declared.refusal.Refusal.TheVariants as refusal
 use Rattle.mm_modules.specs.Modules.{meaning_of, module_with}

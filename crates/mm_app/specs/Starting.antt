@@ -1,9 +1,9 @@
 -- What the command `init` does.
 use Rattle.std.specs.Prelude.{ℕ, List, codes, Option, Result, Ok, Err}
-use Rattle.mm_host.specs.Begins.{BlamesDevice, Leaves, TellsUse}
-use Rattle.mm_host.specs.Init.{Devices, Inits}
-use Rattle.mm_host.specs.declared.init_fault.InitFault.{InitFault}
-use Rattle.mm_host.specs.declared.init_fault.InitFault.TheVariants as init
+use Rattle.mm_recovery.specs.Begins.{BlamesDevice, Leaves, TellsUse}
+use Rattle.mm_recovery.specs.Init.{Devices, Inits}
+use Rattle.mm_recovery.specs.declared.init_fault.InitFault.{InitFault}
+use Rattle.mm_recovery.specs.declared.init_fault.InitFault.TheVariants as init
 use Rattle.mm_modules.specs.Modules.{meaning_of}
 use Rattle.mm_schedule.specs.declared.header.Header.{Header}
 use Rattle.mm_app.specs.Status.{line_of}

@@ -1,6 +1,6 @@
 //! The command `receipts`: an input's receipts are checked under a key.
 
-ghost use Rattle.mm_receipts.specs.Reports.{ChecksHonestly};
+ghost use Rattle.mm_receipt.specs.Reports.{ChecksHonestly};
 ghost use Rattle.mm_words.specs.declared.command.Command.TheVariants.{Receipts};
 ghost use Rattle.mm_app.specs.Answering.{PlaysAndStops};
 ghost use Rattle.mm_app.specs.Completeness.{CanBeAnswered};
@@ -9,7 +9,7 @@ ghost use Rattle.mm_app.specs.Status.{EndsUnrefused};
 use crate::status::Status;
 use crate::telling::answered;
 use mm_base::{Sink, Source};
-use mm_receipts::receipts;
+use mm_receipt::receipts;
 use std::alloc::Global;
 
 /// Checks the receipts that the input gives, and writes the stop line.

@@ -5,11 +5,11 @@ ghost use Rattle.mm_app.specs.Running.{LooksAtInstance, RunsInstance, SeesInstan
 use crate::status::Status;
 use crate::telling::stopped;
 use mm_base::{CELL_LENGTH, Sink, Source};
+use mm_host::session;
 use mm_modules::by_id;
 use mm_platform::Platform;
 use mm_schedule::Header;
 use mm_seal::{CellFault, read_cell};
-use mm_session::session;
 use mm_store::Store;
 use std::alloc::Global;
 

@@ -1,14 +1,14 @@
 //! The command `init`: an instance of a variant and a module is started on a blank platform.
 
-ghost use Rattle.mm_host.specs.Init.{devices};
+ghost use Rattle.mm_recovery.specs.Init.{devices};
 ghost use Rattle.mm_app.specs.Starting.{StartsInstance, init_told};
 ghost use Rattle.mm_app.specs.Telling.{Tells};
 
 use crate::status::Status;
 use crate::telling::{stopped, written};
 use mm_base::{Sink, Source};
-use mm_host::{InitFault, init};
 use mm_platform::Platform;
+use mm_recovery::{InitFault, init};
 use mm_schedule::Header;
 use mm_store::Store;
 use std::alloc::Global;

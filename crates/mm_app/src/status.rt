@@ -1,9 +1,9 @@
 //! How the program ends.
 
 use mm_base::ReplayFault;
-use mm_host::HostFault;
+use mm_host::SessionFault;
 use mm_model::Refusal;
-use mm_session::SessionFault;
+use mm_recovery::HostFault;
 use mm_words::WordsFault;
 
 /// How the program ends. Lines are numbered from 1.

@@ -1,11 +1,13 @@
 pub mod Above
 mod Below
-mod Askable
-mod Refusing
-mod Slots
-mod Meeting
-mod Recovering
-mod SettingUp
-mod Exits
-mod CellWriting
-mod OneCall
+mod Lines
+mod Turning
+mod Counting
+mod Putting
+mod Leading
+mod OptLeading
+mod CallsMade
+mod InTurn
+mod LineStep
+mod SessionRuns
+mod RunningOnce

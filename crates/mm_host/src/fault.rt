@@ -1,44 +1,28 @@
-//! How the host program's calls fail.
+//! How a session ends before its input does.
 
 ghost use Rattle.std.specs.Prelude.{◌≡◌};
-ghost use Rattle.mm_host.specs.Faults.{refusal_fault, store_fault_as};
+ghost use Rattle.mm_recovery.specs.declared.fault.HostFault.TheVariants.{Memory as memory};
+ghost use Rattle.mm_host.specs.declared.fault.SessionFault.TheVariants as session;
 
-use mm_model::Refusal;
-use mm_store::StoreFault;
+use mm_base::{Memory, ReplayFault};
+use mm_recovery::HostFault;
 use thiserror::Error;
 
-/// Why the host program can't go on.
+/// Why a session ended before its input did. Lines are numbered from 1.
 #[derive(Clone, Copy, Debug, PartialEq, Eq, Error)]
-pub enum HostFault {
-    /// Memory was wanting, in the store or in a call too.
-    #[error("out of memory")]
-    Memory,
-    /// The store failed.
-    #[error("the store failed")]
-    Store,
-    /// The call was refused: never as Memory or Long.
-    #[error("the call was refused")]
-    Refused(Refusal),
+pub enum SessionFault {
+    /// The host can't go on. Want of memory is told so, before the first line too.
+    #[error(transparent)]
+    Host(HostFault),
+    /// The input or the output failed; or a line has more than 4,096 bytes, or no LF, or is behind 1,000,000 others.
+    #[error(transparent)]
+    Lines(ReplayFault),
 }
 
-impl From<StoreFault> for HostFault {
-    ghost from_gives = { λ fault host. host ≡ store_fault_as fault };
+impl From<Memory> for SessionFault {
+    ghost from_gives = { λ _ fault. fault ≡ session.Host memory };
 
-    fn from(fault: StoreFault) -> HostFault {
-        match fault {
-            StoreFault::Memory => HostFault::Memory,
-            StoreFault::Failed => HostFault::Store,
-        }
-    }
-}
-
-impl From<Refusal> for HostFault {
-    ghost from_gives = { λ refusal host. host ≡ refusal_fault refusal };
-
-    fn from(refusal: Refusal) -> HostFault {
-        match refusal {
-            Refusal::Memory => HostFault::Memory,
-            _ => HostFault::Refused(refusal),
-        }
+    fn from(_memory: Memory) -> SessionFault {
+        SessionFault::Host(HostFault::Memory)
     }
 }

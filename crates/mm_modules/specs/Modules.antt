@@ -14,7 +14,7 @@ use Rattle.mm_limiter.specs.LimiterListing.{limiter_is_listed, limiter_listing}
 use Rattle.mm_limiter.specs.Table.{limiter}
 use Rattle.mm_quota.specs.Ids.{small_ledger, small_ledger_is_short}
 use Rattle.mm_quota.specs.LedgerListings.{ledger_is_listed, ledger_listing, quota_is_listed, quota_listing}
-use Rattle.mm_receipt.specs.ReceiptListing.{receipt_is_listed, receipt_listing}
+use Rattle.mm_receipted.specs.ReceiptListing.{receipt_is_listed, receipt_listing}
 use Rattle.mm_modules.specs.declared.any.AnyModule.{AnyModule}
 use Rattle.mm_modules.specs.declared.any.AnyModule.TheVariants.{Counter, Limiter, Quota, Ledger, Dispenser, ReceiptCounter, ReceiptLimiter, ReceiptQuota}
 

@@ -12,7 +12,7 @@ use mm_limiter::Limiter;
 use mm_listing::Listed;
 use mm_module::{Counter, Module, Stepped};
 use mm_quota::Accounts;
-use mm_receipt::Receipted;
+use mm_receipted::Receipted;
 use std::alloc::Global;
 
 /// A module, chosen at run time.

@@ -1,11 +1,10 @@
 -- The words and laws that the proofs of this crate take from specs/ and from the crates below.
-pub use Rattle.std.specs.Prelude.{◌⊎◌, IsTrue, Ok, slice_get}
-pub use Rattle.std.proofs.Common.{◌++◌, ◌+◌, ◌<◌, ◌^◌, ◌∙◌, ◌∷◌, ◌≡◌, ◌≢◌, ◌≤◌, [], ap, arith, Bool, drop, false, inl, inr, length}
-pub use Rattle.std.proofs.Common.{length-append, List, refl, rules, Some, subst, suc, sym, take, true, ℕ}
-pub use Rattle.mm_base.specs.Limits.{last_position, longest_request}
-pub use Rattle.mm_module.specs.Meaning.{Meaning, outputs_from}
-pub use Rattle.mm_module.specs.TableLaws.{is-true}
-pub use Rattle.mm_receipt.specs.ReceiptedLaws.{IsKept, kept_of-IsKept, kept_of-spelling_of, outcome_of-IsKept, SpellsKept, SpellsKept-from}
-pub use Rattle.mm_receipt.specs.Receipts.{digits_of, parts_by, receipt_of, receipt_parts, verified, verified_by}
-pub use Rattle.mm_receipt.specs.Table.{first_kept, is_front, outcome_of, receipt_state_in, receipted, ReceiptState, spelling_of}
-pub use Rattle.mm_receipt.specs.Views.{as_kept}
+pub use Rattle.std.proofs.Common.{◌++◌, ◌+◌, ◌==◌, ◌∙◌, ◌∷◌, ◌≡◌, ◌≤◌, [], ap, arith, Bool, cond, Err, false, length, List, nat_lt, None}
+pub use Rattle.std.proofs.Common.{Ok, Option, refl, Result, Some, subst, sym, true, ℕ}
+pub use Rattle.mm_receipted.proofs.Above.{no-clash, receipts-true}
+pub use Rattle.mm_play.specs.declared.player.Refused.{Refused}
+pub use Rattle.mm_play.proofs.Above.{first_answered, plays_err, tells, unrefused}
+pub use Rattle.mm_receipt.specs.Checking.{after_pair, against_pair, Checking, closing_at, first_by, first_checking, first_tally}
+pub use Rattle.mm_receipt.specs.Checking.{is_too_much, known_at, last_line, pair_at, pair_verdict, parted, receipt_verdict}
+pub use Rattle.mm_receipt.specs.Checking.{receipts_answer, receipts_closing, second_answer, settles, Tally, verdict_text, waits}
+pub use Rattle.mm_receipt.specs.declared.pair.Asked.{Asked}

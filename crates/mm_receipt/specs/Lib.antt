@@ -1,6 +1,5 @@
-pub mod Receipts
-pub mod Table
-pub mod Views
-pub mod ReceiptedLaws
-pub mod Tagged
-pub mod ReceiptListing
+pub mod Checking
+pub mod Tallies
+pub mod Counting
+pub mod Reports
+pub mod Honest

@@ -1,14 +1,9 @@
-//! What receipts prove of a run.
+//! What a check says of receipts that aren't forged.
 
-ghost use Rattle.mm_receipt.specs.Tagged.{ReceiptsAreTrue, ReceiptsDoNotClash};
+ghost use Rattle.mm_receipt.specs.Honest.{ChecksAreHonest};
 
-/// A receipt that `verify` accepts, and whose message was tagged in a run, tells the request at its position and what
-/// was said to it.
-pub fn receipts_are_true()
-    ensures { ReceiptsAreTrue }
-{}
-
-/// Two such receipts of one position are of one request and one output.
-pub fn receipts_do_not_clash()
-    ensures { ReceiptsDoNotClash }
+/// Where each output that `verify` accepts has its message among those that a run tagged under the key, no line is
+/// `clash`, and each good pair is the request that was run at its position and what was said to it.
+pub fn checks_are_honest()
+    ensures { ChecksAreHonest }
 {}

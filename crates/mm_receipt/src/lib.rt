@@ -1,10 +1,12 @@
-//! Receipts: what a module said to a request, at which position, under a key.
+//! The check of receipts, pair by pair: what the command `receipts KEY` does.
 #![tactic(auto)]
 
 pub mod laws;
-mod listed;
-mod receipt;
-mod receipted;
+mod pair;
+mod player;
+mod report;
+mod tally;
+mod text;
 
-pub use receipt::{NotReceipt, verify};
-pub use receipted::Receipted;
+pub use player::receipts;
+pub use report::ReceiptReport;

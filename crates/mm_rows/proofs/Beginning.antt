@@ -2,7 +2,7 @@
 use Rattle.mm_rows.proofs.Below.{ℕ, List, [], None, Some, Option, Result, take, refl, ap, subst, sym, lines_of, Basic, Batch, Meaning}
 use Rattle.mm_rows.proofs.Below.{Instance, basic, first_history, IsFirstStore, first_slots, CanRecover, IsAskedFor, Sessions, SessionFault}
 use Rattle.mm_rows.proofs.Below.{Cached, Sheets, Slots, Torn, TwoCell, kept_in_pages, two_cells, StartsInMemory}
-use Rattle.mm_session.specs.Continuing.{AreToFollow, SessionContinues, ContinuesTo, IsInHand, history_then, told_in}
+use Rattle.mm_host.specs.Continuing.{AreToFollow, SessionContinues, ContinuesTo, IsInHand, history_then, told_in}
 use Rattle.mm_store.specs.Pending.{Pending}
 use Rattle.mm_rows.specs.FirstSession.{BeginsAndServes, CanBegin}
 

@@ -14,9 +14,9 @@ pub use Rattle.mm_model.specs.InstanceWords.{basic, opt}
 pub use Rattle.mm_store.specs.Slots.{Slots}
 pub use Rattle.mm_pages.specs.Cached.{Cached}
 pub use Rattle.mm_pages.specs.Sheets.{Sheets}
-pub use Rattle.mm_host.specs.Begins.{Begins, first_slots, IsFirstStore, Leaves}
-pub use Rattle.mm_host.specs.Recovery.{CanRecover, IsAskedFor, Recovers}
-pub use Rattle.mm_session.specs.Sessions.{Sessions}
-pub use Rattle.mm_session.specs.declared.fault.SessionFault.{SessionFault}
+pub use Rattle.mm_recovery.specs.Begins.{Begins, first_slots, IsFirstStore, Leaves}
+pub use Rattle.mm_recovery.specs.Recovery.{CanRecover, IsAskedFor, Recovers}
+pub use Rattle.mm_host.specs.Sessions.{Sessions}
+pub use Rattle.mm_host.specs.declared.fault.SessionFault.{SessionFault}
 pub use Rattle.mm_rows.specs.Devices.{first_devices, kept_in_pages, two_cells}
 pub use Rattle.mm_rows.specs.Starting.{StartsInMemory}

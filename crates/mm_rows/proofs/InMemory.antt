@@ -4,9 +4,9 @@ use Rattle.mm_rows.proofs.Below.{Batch, Instance, History, Begins, Leaves, CanRe
 use Rattle.mm_rows.proofs.Below.{TwoCell, first_devices, kept_in_pages, two_cells, StartsInMemory}
 use Rattle.std.specs.Option.{option_map}
 use Rattle.mm_base.specs.Streams.{Supply}
-use Rattle.mm_host.specs.declared.fault.HostFault.{HostFault}
-use Rattle.mm_host.specs.declared.init_fault.InitFault.{InitFault}
-use Rattle.mm_host.specs.declared.resuming.Resumed.{Resumed}
+use Rattle.mm_recovery.specs.declared.fault.HostFault.{HostFault}
+use Rattle.mm_recovery.specs.declared.init_fault.InitFault.{InitFault}
+use Rattle.mm_recovery.specs.declared.resuming.Resumed.{Resumed}
 use Rattle.mm_store.specs.Unsynced.{Unsynced}
 use Rattle.mm_twocell.specs.Pairs.{picked}
 use Rattle.mm_rows.specs.Recovering.{CanRecoverInMemory, RecoversInMemory}

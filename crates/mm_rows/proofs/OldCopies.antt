@@ -1,7 +1,7 @@
 -- A session over an old copy of the pages is one run, as one over any slots is.
 use Rattle.mm_rows.proofs.Below.{ℕ, List, Some, Result, refl, lines_of, Variant, Basic, Opt, Batch, Meaning, Instance, basic, opt, History}
 use Rattle.mm_rows.proofs.Below.{Sessions, SessionFault, Cached, Sheets, Torn, TwoCell, kept_in_pages, two_cells}
-use Rattle.mm_session.specs.AnySlots.{MayStart, SessionRunsOnce, requests_with}
+use Rattle.mm_host.specs.AnySlots.{MayStart, SessionRunsOnce, requests_with}
 use Rattle.mm_rows.specs.OldCopy.{CanServeCopy, CopyRunsOnce, ServesCopy}
 
 may_start : (all others : List (List ℕ)) (asked : List Batch) (i : Instance) (y : History) (it : TwoCell Torn) (copy : Cached Sheets)

@@ -3,7 +3,7 @@
 use Rattle.std.specs.Prelude.{true, None, Some}
 use Rattle.std.specs.Option.{option_map}
 use Rattle.mm_base.specs.Streams.{Supply}
-use Rattle.mm_host.specs.Init.{Devices}
+use Rattle.mm_recovery.specs.Init.{Devices}
 use Rattle.mm_pages.specs.Cached.{Cached}
 use Rattle.mm_pages.specs.Sheets.{Sheets}
 use Rattle.mm_platform.specs.Standing.{Standing}

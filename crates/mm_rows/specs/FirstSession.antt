@@ -10,9 +10,9 @@ use Rattle.mm_model.specs.Instance.{Instance}
 use Rattle.mm_model.specs.InstanceWords.{basic}
 use Rattle.mm_model.specs.History.{first_history}
 use Rattle.mm_model.specs.Messages.{IsClear, AreNoGuards}
-use Rattle.mm_session.specs.Continuing.{AreToFollow, ContinuesTo, IsInHand, told_in}
-use Rattle.mm_session.specs.Sessions.{Sessions}
-use Rattle.mm_session.specs.declared.fault.SessionFault.{SessionFault}
+use Rattle.mm_host.specs.Continuing.{AreToFollow, ContinuesTo, IsInHand, told_in}
+use Rattle.mm_host.specs.Sessions.{Sessions}
+use Rattle.mm_host.specs.declared.fault.SessionFault.{SessionFault}
 use Rattle.mm_pages.specs.Cached.{Cached}
 use Rattle.mm_pages.specs.Sheets.{Sheets}
 use Rattle.mm_twocell.specs.Torn.{Torn}

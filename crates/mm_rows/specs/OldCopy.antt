@@ -16,12 +16,12 @@ use Rattle.mm_call.specs.Premises.{AreShown}
 use Rattle.mm_call.specs.Tied.{standing_items}
 use Rattle.mm_store.specs.Pending.{Pending}
 use Rattle.mm_store.specs.Slots.{Slots, slot_read}
-use Rattle.mm_session.specs.AnySlots.{AreAskedInTurn, AsksNothingNew, EndsRun, requests_with}
-use Rattle.mm_host.specs.Fitting.{first_offer}
-use Rattle.mm_session.specs.Continuing.{IsInHand, told_in}
-use Rattle.mm_session.specs.Sessions.{Sessions}
-use Rattle.mm_host.specs.Waiting.{IsWaiting}
-use Rattle.mm_session.specs.declared.fault.SessionFault.{SessionFault}
+use Rattle.mm_host.specs.AnySlots.{AreAskedInTurn, AsksNothingNew, EndsRun, requests_with}
+use Rattle.mm_recovery.specs.Fitting.{first_offer}
+use Rattle.mm_host.specs.Continuing.{IsInHand, told_in}
+use Rattle.mm_host.specs.Sessions.{Sessions}
+use Rattle.mm_recovery.specs.Waiting.{IsWaiting}
+use Rattle.mm_host.specs.declared.fault.SessionFault.{SessionFault}
 use Rattle.mm_pages.specs.Cached.{Cached}
 use Rattle.mm_pages.specs.Sheets.{Sheets}
 use Rattle.mm_twocell.specs.Torn.{Torn}

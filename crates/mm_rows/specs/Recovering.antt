@@ -13,10 +13,10 @@ use Rattle.mm_model.specs.Standing.{StandsFor}
 use Rattle.mm_call.specs.Asked.{IsWithin}
 use Rattle.mm_call.specs.Premises.{AreShown}
 use Rattle.mm_call.specs.Tied.{standing_items}
-use Rattle.mm_host.specs.declared.fault.HostFault.{HostFault}
-use Rattle.mm_host.specs.declared.resuming.Resumed.{Resumed}
-use Rattle.mm_host.specs.Fitting.{FitsHistory}
-use Rattle.mm_host.specs.Recovery.{AsksIdly, IsAskedFor, RecoversTo}
+use Rattle.mm_recovery.specs.declared.fault.HostFault.{HostFault}
+use Rattle.mm_recovery.specs.declared.resuming.Resumed.{Resumed}
+use Rattle.mm_recovery.specs.Fitting.{FitsHistory}
+use Rattle.mm_recovery.specs.Recovery.{AsksIdly, IsAskedFor, RecoversTo}
 use Rattle.mm_pages.specs.Cached.{Cached}
 use Rattle.mm_pages.specs.Sheets.{Sheets}
 use Rattle.mm_twocell.specs.Torn.{Torn}

@@ -3,8 +3,8 @@ use Rattle.std.specs.Prelude.{◌≡◌, ℕ, List, ◌++◌, length}
 use Rattle.mm_digest.specs.declared.variant.Variant.{Variant}
 use Rattle.mm_module.specs.Meaning.{Meaning}
 use Rattle.mm_model.specs.Standing.{StandsFor}
-use Rattle.mm_host.specs.Begins.{IsFirstStore, ShowsValues, first_on, first_slots}
-use Rattle.mm_host.specs.Init.{instance_from}
+use Rattle.mm_recovery.specs.Begins.{IsFirstStore, ShowsValues, first_on, first_slots}
+use Rattle.mm_recovery.specs.Init.{instance_from}
 use Rattle.mm_store.specs.Unsynced.{all_synced}
 use Rattle.mm_pages.specs.Cached.{Cached}
 use Rattle.mm_pages.specs.Sheets.{Sheets}

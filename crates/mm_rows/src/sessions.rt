@@ -1,11 +1,11 @@
 //! The host program over two cells and pages in memory.
 
 ghost use Rattle.std.specs.Prelude.{◌≡◌, ℕ, List, Some, IfOk, OnOk, length};
-ghost use Rattle.mm_session.specs.AnySlots.{SessionRunsOnce};
-ghost use Rattle.mm_session.specs.Continuing.{SessionContinues};
-ghost use Rattle.mm_host.specs.Begins.{Leaves};
-ghost use Rattle.mm_session.specs.Sessions.{Sessions};
-ghost use Rattle.mm_session.specs.SessionWrites.{SessionWrites};
+ghost use Rattle.mm_host.specs.AnySlots.{SessionRunsOnce};
+ghost use Rattle.mm_host.specs.Continuing.{SessionContinues};
+ghost use Rattle.mm_recovery.specs.Begins.{Leaves};
+ghost use Rattle.mm_host.specs.Sessions.{Sessions};
+ghost use Rattle.mm_host.specs.SessionWrites.{SessionWrites};
 ghost use Rattle.mm_rows.specs.Devices.{first_devices, kept_in_pages, two_cells};
 ghost use Rattle.mm_rows.specs.FirstSession.{BeginsAndServes};
 ghost use Rattle.mm_rows.specs.OldCopy.{ServesCopy};
@@ -14,10 +14,10 @@ ghost use Rattle.mm_rows.specs.Starting.{StartsInMemory};
 
 use mm_base::{MemSink, MemSource};
 use mm_digest::Variant;
-use mm_host::{HostFault, InitFault, Resumed, init, resume};
+use mm_host::{SessionFault, session};
 use mm_module::Module;
 use mm_pages::{MemPages, PageStore};
-use mm_session::{SessionFault, session};
+use mm_recovery::{HostFault, InitFault, Resumed, init, resume};
 use mm_twocell::{MemRaw, TwoCell};
 use std::alloc::Global;
 

@@ -2,13 +2,13 @@
 
 use mm_base::{Failed, LineFault, Memory, ReplayFault, WriteFault};
 use mm_gen::BulkFault;
-use mm_host::{HostFault, InitFault};
+use mm_host::SessionFault;
 use mm_model::Refusal;
 use mm_move::MoveRefusal;
 use mm_platform::StepFault;
+use mm_recovery::{HostFault, InitFault};
 use mm_schedule::EventFault;
 use mm_seal::{CellFault, OpenFault, PartsFault};
-use mm_session::SessionFault;
 use mm_store::StoreFault;
 use mm_words::WordsFault;
 use std::alloc::AllocError;

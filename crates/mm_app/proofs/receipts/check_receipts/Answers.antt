@@ -1,4 +1,4 @@
-use Rattle.mm_receipts.specs.Reports.{ChecksHonestly}
+use Rattle.mm_receipt.specs.Reports.{ChecksHonestly}
 use Rattle.mm_app.proofs.Stopping.{plays_and_stops}
 use Rattle.mm_app.proofs.receipts.check_receipts.Goals as goal
 

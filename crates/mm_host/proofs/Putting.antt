@@ -1,0 +1,178 @@
+-- What waits, and what fits, once the record of a next request was written, whole or torn.
+use Rattle.mm_host.proofs.Below.{◌≡◌, ◌∙◌, ◌+◌, ◌-◌, ◌%◌, ◌<◌, ◌≤◌, ℕ, List, take, Option, None, Some, refl, sym, ap, inl, inr, arith}
+use Rattle.mm_host.proofs.Below.{◌⊎◌, nat_tests, MayGrow, last_position, longest_request, Instance, History, total_of}
+use Rattle.mm_host.proofs.Below.{Pending, ReadsPending, pending_spelling, Slots, longest_slot, slot_read, with_slot, one_reading}
+use Rattle.mm_host.proofs.Below.{IsNotBeyond, waiting_position, FitsHistory, FitsBy, Holds, IsWaiting, later}
+use Rattle.std.proofs.lemmas.Bool.{cases_lt}
+use Rattle.mm_store.proofs.Above.{slot_in-with_slot}
+
+-- slots 2 and 3, in either order
+abbrev AreSides : ℕ → ℕ → Type 0
+AreSides kept other = ((kept ≡ 2) × (other ≡ 3)) ⊎ ((kept ≡ 3) × (other ≡ 2))
+
+-- the slot of a position's record, and that of the next
+sides : (n : ℕ) → AreSides (2 + n % 2) (2 + (n + 1) % 2)
+sides n = elim (cases_lt (n % 2) 1) [ inl h ↦ inl (omega arith, omega arith) | inr h ↦ inr (omega arith, omega arith) ]
+
+-- The slot of the next record was written: the other record is as before, and so are the snapshots.
+pub record IsPut (slots other : Slots) (position : ℕ) (bytes : List ℕ) : Type 0 where
+  pub snapshots : (n : ℕ) → slot_read other (n % 2) ≡ slot_read slots (n % 2)
+  pub here : slot_read other (2 + position % 2) ≡ slot_read slots (2 + position % 2)
+  pub next : slot_read other (2 + (position + 1) % 2) ≡ take longest_slot bytes
+
+-- a slot that wasn't written shows what it did
+unwritten : (slots : Slots) (bytes : List ℕ) (n m : ℕ) → n < 4 → m < 4 → (n ≡ m → ⊥)
+    → slot_read (with_slot slots n bytes) m ≡ slot_read slots m
+unwritten slots bytes n m small least unless = grind (arith, nat_tests, small, least, unless)
+
+pub put_next : (slots : Slots) (position : ℕ) (bytes : List ℕ) → IsPut slots (with_slot slots (2 + (position + 1) % 2) bytes) position bytes
+put_next slots position bytes = record {
+  snapshots = λ n. unwritten slots bytes (2 + (position + 1) % 2) (n % 2) (omega arith) (omega arith) (λ e. omega (arith, e));
+  here = unwritten slots bytes (2 + (position + 1) % 2) (2 + position % 2) (omega arith) (omega arith) (λ e. omega (arith, e));
+  next = ap (λ (x : List ℕ). take longest_slot x) (slot_in-with_slot slots (2 + (position + 1) % 2) bytes);
+}
+
+-- The later of two records is one of them, and of no earlier position than either.
+record IsLater (a b w : Option Pending) : Type 0 where
+  is : (w ≡ a) ⊎ (w ≡ b)
+  over_first : waiting_position a ≤ waiting_position w
+  over_second : waiting_position b ≤ waiting_position w
+
+later_swap : (a b w : Option Pending) → IsLater a b w → IsLater b a w
+later_swap a b w l =
+    record { is = elim l.is [ inl e ↦ inr e | inr e ↦ inl e ]; over_first = l.over_second; over_second = l.over_first }
+
+later_is : (a b : Option Pending) → IsLater a b (later a b)
+later_is None b = record { is = inr refl; over_first = omega arith; over_second = omega arith }
+later_is (Some p) None = record { is = inl refl; over_first = omega arith; over_second = omega arith }
+later_is (Some p) (Some q) = grind (arith, nat_tests)
+
+later_only : (a b w : Option Pending) → IsLater a b w → waiting_position a < waiting_position b → b ≡ w
+later_only a b w l h = elim l.is [ inl e ↦ absurd (omega (arith, h, l.over_second, ap waiting_position e)) | inr e ↦ sym e ]
+
+-- what waits, by the record of one slot and that of the other
+record Reads (slots : Slots) (kept other : ℕ) (w : Option Pending) : Type 0 where
+  here : Option Pending
+  there : Option Pending
+  reads_here : ReadsPending kept (slot_read slots kept) here
+  reads_there : ReadsPending other (slot_read slots other) there
+  later_of : IsLater here there w
+
+reads_of : (slots : Slots) (kept other : ℕ) (w : Option Pending) → AreSides kept other → IsWaiting (slot_read slots 2) (slot_read slots 3) w
+    → Reads slots kept other w
+reads_of slots kept other w (inl s) a = rw (s.0, s.1) (record {
+  here = a.in_two;
+  there = a.in_three;
+  reads_here = a.reads_two;
+  reads_there = a.reads_three;
+  later_of = rw a.is (later_is a.in_two a.in_three);
+})
+reads_of slots kept other w (inr s) a = rw (s.0, s.1) (record {
+  here = a.in_three;
+  there = a.in_two;
+  reads_here = a.reads_three;
+  reads_there = a.reads_two;
+  later_of = later_swap a.in_two a.in_three w
+      (rw a.is (later_is a.in_two a.in_three));
+})
+
+waits_of : (slots : Slots) (kept other : ℕ) (here : Option Pending) (next : Pending) → AreSides kept other
+    → ReadsPending kept (slot_read slots kept) here → ReadsPending other (slot_read slots other) (Some next)
+    → waiting_position here < next.position → IsWaiting (slot_read slots 2) (slot_read slots 3) (Some next)
+waits_of slots kept other here next (inl s) r t h = record {
+  in_two = here;
+  in_three = Some next;
+  reads_two = rw s.0 at r;
+  reads_three = rw s.1 at t;
+  is = later_only here (Some next) (later here (Some next)) (later_is here (Some next)) h;
+}
+waits_of slots kept other here next (inr s) r t h = record {
+  in_two = Some next;
+  in_three = here;
+  reads_two = rw s.1 at t;
+  reads_three = rw s.0 at r;
+  is = later_only here (Some next) (later (Some next) here)
+      (later_swap (Some next) here (later (Some next) here) (later_is (Some next) here)) h;
+}
+
+-- the record that was written whole waits
+
+pub record IsNext (position : ℕ) (next : Pending) (bytes : List ℕ) : Type 0 where
+  pub follows : next.position ≡ position + 1
+  pub most : next.position ≤ last_position
+  pub line : MayGrow longest_request next.request
+  pub spelled : take longest_slot bytes ≡ pending_spelling next
+
+pub waits_next : (slots other : Slots) (position : ℕ) (bytes : List ℕ) (w : Option Pending) (next : Pending)
+    → IsWaiting (slot_read slots 2) (slot_read slots 3) w → waiting_position w ≤ position → IsNext position next bytes
+    → IsPut slots other position bytes → IsWaiting (slot_read other 2) (slot_read other 3) (Some next)
+waits_next slots other position bytes w next a h n p =
+    let r = reads_of slots (2 + position % 2) (2 + (position + 1) % 2) w (sides position) a in
+    waits_of other (2 + position % 2) (2 + (position + 1) % 2) r.here next (sides position)
+    (rw p.here r.reads_here) (
+      record {
+        least = omega (arith, n.follows);
+        most = n.most;
+        line = n.line;
+        parity = ap (λ (m : ℕ). 2 + m % 2) (sym n.follows);
+      },
+      p.next ∙ n.spelled,
+    ) (omega (arith, r.later_of.over_first, h, n.follows))
+
+-- a torn record
+
+-- what isn't in this slot is of the other parity
+elsewhere : (slot other position : ℕ) (xs ys : List ℕ) (a b w : Option Pending) → ReadsPending slot xs a → ReadsPending other ys b
+    → other ≡ 2 + (position + 1) % 2 → (w ≡ a) ⊎ (w ≡ b) → waiting_position a ≤ waiting_position w
+    → (w ≡ a) ⊎ (waiting_position w % 2 ≡ (position + 1) % 2)
+elsewhere slot other position xs ys a b w v u n (inl e) h = inl e
+elsewhere slot other position xs ys None None w v u n (inr e) h = inl e
+elsewhere slot other position xs ys (Some q) None w v u n (inr e) h = absurd (omega (arith, v.0.least, h, ap waiting_position e))
+elsewhere slot other position xs ys a (Some q) w v u n (inr e) h = inr (omega (arith, n, u.0.parity, ap waiting_position e))
+
+-- Beside a record of this position, one of no later position than the next waits only as the next.
+torn : (slots other : Slots) (position : ℕ) (bytes : List ℕ) (w v : Option Pending) → IsWaiting (slot_read slots 2) (slot_read slots 3) w
+    → waiting_position w ≡ position → IsWaiting (slot_read other 2) (slot_read other 3) v → waiting_position v ≤ position + 1
+    → IsPut slots other position bytes → (v ≡ w) ⊎ (waiting_position v ≡ position + 1)
+torn slots other position bytes w v a at b few p =
+    let here : ℕ = 2 + position % 2 in
+    let there : ℕ = 2 + (position + 1) % 2 in
+    let r = reads_of slots here there w (sides position) a in
+    let t = reads_of other here there v (sides position) b in
+    let same : t.here ≡ r.here = one_reading here (slot_read slots here) t.here r.here
+    (rw p.here at t.reads_here) r.reads_here in
+    let kept : w ≡ r.here = elim (elsewhere here there position _ _ r.here r.there w r.reads_here r.reads_there refl r.later_of.is
+    r.later_of.over_first) [
+      | inl e ↦ e
+      | inr odd ↦ absurd (omega (arith, odd, at))
+    ] in
+    elim (elsewhere here there position _ _ t.here t.there v t.reads_here t.reads_there refl t.later_of.is t.later_of.over_first) [
+      | inl e ↦ inl (e ∙ same ∙ sym kept)
+      | inr odd ↦ inr (omega (arith, odd, few, at, t.later_of.over_first, ap waiting_position (same ∙ sym kept)))
+    ]
+
+-- and what fits
+
+fits_moved : (i : Instance) (y : History) (slots other : Slots) (position : ℕ) (bytes : List ℕ) (w : Option Pending)
+    → IsPut slots other position bytes → FitsBy i slots y w → FitsBy i other y w
+fits_moved i y slots other position bytes None p f = (f.0, rw (p.snapshots 0) f.1)
+fits_moved i y slots other position bytes (Some q) p f = (f.0, rw (p.snapshots (q.position - 1)) f.1)
+
+pub fits_next : (i : Instance) (y : History) (slots : Slots) (position : ℕ) (v : Option Pending) → waiting_position v ≡ position + 1
+    → position ≡ total_of y.batches → Holds i y (slot_read slots (position % 2)) position → FitsBy i slots y v
+fits_next i y slots position None e at h = absurd (omega (arith, e))
+fits_next i y slots position (Some q) e at h =
+    let before : position ≡ q.position - 1 = omega (arith, e) in
+    (inl (e ∙ ap (λ (n : ℕ). n + 1) at), rw before at h)
+
+pub torn_fits : (i : Instance) (y : History) (slots other : Slots) (position : ℕ) (bytes : List ℕ) (f : FitsHistory i slots y)
+    → waiting_position f.waiting ≡ position → position ≡ total_of y.batches → Holds i y (slot_read slots (position % 2)) position
+    → IsPut slots other position bytes → IsNotBeyond other (total_of y.batches + 1) → FitsHistory i other y
+torn_fits i y slots other position bytes f h at holds p n = record {
+  waiting = n.waiting;
+  is_waiting = n.is_waiting;
+  fits = elim (torn slots other position bytes f.waiting n.waiting f.is_waiting h n.is_waiting (omega (arith, n.most, at)) p) [
+    | inl e ↦ rw e (fits_moved i y slots other position bytes f.waiting p f.fits)
+    | inr e ↦ fits_next i y other position n.waiting e at (rw (p.snapshots position) holds)
+  ];
+}

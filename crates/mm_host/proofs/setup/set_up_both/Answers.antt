@@ -1,9 +1,0 @@
-use Rattle.mm_host.proofs.Below.{Err, refl, ap, sym, InitFault}
-use Rattle.mm_host.proofs.setup.set_up_both.Goals as goal
-
-pub returns-in-Err : goal.returns-in-Err
-returns-in-Err g c = record {
-  stored = Err c.in-Err.fault;
-  puts = rw (sym c.as_slice.ensures.value) c.in-Err.ensures;
-  goes = (refl, ap (λ (why : InitFault). Err why) c.from.ensures);
-}

@@ -1,8 +1,0 @@
-use Rattle.mm_host.proofs.Slots.{fitting_are_genuine, stays_genuine}
-use Rattle.mm_host.proofs.slot_laws.old_slots_stay_genuine.Goals as goal
-
-pub returns-clause-fitting : goal.returns-clause-fitting
-returns-clause-fitting c = fitting_are_genuine
-
-pub returns-clause-stays : goal.returns-clause-stays
-returns-clause-stays c = stays_genuine

@@ -1,0 +1,163 @@
+-- What a session comes to by lists alone, in either variant: its replies are those of one run of
+-- the module, and the slots that it leaves fit the history that the platform stands for.
+use Rattle.std.specs.Prelude.{◌≡◌, ◌≢◌, ◌+◌, ◌<◌, ◌≤◌, ℕ, List, [], ◌∷◌, ◌++◌, Option, None, Some, Result, Ok, Err, true, nat_eq}
+use Rattle.std.specs.Prelude.{if◌then◌else◌, ◌⊎◌}
+use Rattle.std.proofs.Common.{inl, inr}
+use Rattle.std.specs.List.{Contains}
+use Rattle.mm_host.specs.Below.{lines_of, last_position, WriteFault, Variant, Basic, Opt, Item, Standing, Batch, One, Meaning, History}
+use Rattle.mm_host.specs.Below.{Commit, first_history, moved, requests_of, total_of, Instance, basic, opt, Life, Spoiled, LostLife}
+use Rattle.mm_host.specs.Below.{life_of, Within, offer_messages, issued, StandsFor, Answer, IsWithin, AreShown, standing_items, StepsOn}
+use Rattle.mm_host.specs.Below.{Reply, Told, StoreStanding, Pending, Slots, slot_read, FitsHistory, AsksIdly, CanRecover, IsRefusedAs}
+use Rattle.mm_host.specs.Below.{MayHaveCommitted, IsWaiting, HostFault, Store, Refused, Resumed, Answered}
+use Rattle.mm_host.specs.declared.fault.SessionFault.{SessionFault}
+use Rattle.mm_host.specs.declared.fault.SessionFault.TheVariants.{Host, Lines}
+use Rattle.mm_host.specs.Sessions.{Served, AfterResume, BeginsWith, Sessions}
+
+-- What is asked of requests that are to follow a history, one after another: each is among those
+-- asked, the messages of a call that offers the snapshot of the end are in the list, and there is a
+-- position for it.
+abbrev pub AreToFollow : List (List ℕ) → List Batch → Instance → History → List (List ℕ) → Type 0
+AreToFollow all asked i y [] = Unit {0}
+AreToFollow all asked i y (line ∷ lines) =
+    Contains asked (One line) × Within (offer_messages i (issued i y).place (One line)) all
+    × (total_of y.batches < last_position)
+    × AreToFollow all asked i (moved i y (Commit (One line))) lines
+
+-- the history once what waits is answered, but for others' values; where nothing waits, nothing is
+-- committed
+abbrev pub history_then : Instance → History → Option Pending → History
+history_then i y None = first_history
+history_then i y (Some p) =
+    if nat_eq p.position (total_of y.batches) then y else moved i y (Commit (One p.request))
+
+-- the position of what waits, and 0 where nothing does
+abbrev pub waiting_position : Option Pending → ℕ
+waiting_position None = 0
+waiting_position (Some p) = p.position
+
+-- What waits says no later position than this. A write of a record that failed may leave any bytes:
+-- this asks that they aren't by chance a record of a later position.
+pub record IsNotBeyond (slots : Slots) (position : ℕ) : Type 0 where
+  pub waiting : Option Pending
+  pub is_waiting : IsWaiting (slot_read slots 2) (slot_read slots 3) waiting
+  pub most : waiting_position waiting ≤ position
+
+-- the reply that an answer is
+abbrev pub answer_reply : Answer → Reply
+answer_reply answer = Told answer.again answer.position (answer.output ∷ [])
+
+-- Requests are asked one after another, and these answers are the replies of one run of the module,
+-- from some requests to others.
+abbrev pub RunsOver : Meaning → List (List ℕ) → List Served → List (List ℕ) → Type 0
+RunsOver meaning requests [] after = after ≡ requests
+RunsOver meaning requests (c ∷ calls) after =
+    (between : List (List ℕ)) × StepsOn meaning requests (One c.line) (answer_reply c.answer)
+    between × RunsOver meaning between calls after
+
+-- what waited, with its answer
+abbrev pub told_first : Option Pending → Resumed → List Served
+told_first (Some p) (Answered answer) = record { line = p.request; answer = answer } ∷ []
+told_first _ _ = []
+
+module _ {variant : Variant} {meaning : Meaning} {begun : Result Resumed HostFault}
+    {platform after : Standing} {store new : StoreStanding} {left : Option (List ℕ)}
+    {taken sent : List ℕ} {result : Result Unit SessionFault} (waiting : Option Pending) where
+  -- the requests that a session told, each with its answer
+  abbrev pub told_in : AfterResume variant meaning begun platform after store new left taken sent
+      result → List Served
+  told_in (inl stops) = []
+  told_in (inr goes) = told_first waiting goes.first ++ goes.lines.calls
+
+  -- the request in hand where a session stopped: what waited, or the line after those that were
+  -- told
+  abbrev pub IsInHand : AfterResume variant meaning begun platform after store new left taken sent
+      result → List ℕ → Type 0
+  IsInHand (inl stops) request = (p : Pending) × (waiting ≡ Some p) × (p.request ≡ request)
+  IsInHand (inr goes) request = (held : List ℕ) × BeginsWith goes.lines.more request held
+
+-- A request may be committed and not told where memory, the store, a device or the output failed.
+abbrev pub MayBeUntold : {T : Type 0} → Result T SessionFault → Type 0
+MayBeUntold (Ok it) = ⊥
+MayBeUntold {T} (Err (Host fault)) = MayHaveCommitted {T = T} (Err fault)
+MayBeUntold (Err (Lines fault)) = fault ≡ WriteFault
+
+-- A refusal is a device's fault; or in Opt it tells how the history has ended.
+abbrev pub RefusesAs : {T : Type 0} → Result T SessionFault → Life → Type 0
+RefusesAs (Err (Host (Refused why))) how = IsRefusedAs why how
+RefusesAs _ _ = Unit {0}
+
+-- one request more than those told is committed, the one in hand
+pub record HasUntold (hand : List ℕ → Type 0) (result : Result Unit SessionFault)
+    (requests after : List (List ℕ)) : Type 0 where
+  pub request : List ℕ
+  pub in_hand : hand request
+  pub untold : MayBeUntold result
+  pub grown : after ≡ requests ++ request ∷ []
+
+module _ (all others : List (List ℕ)) (asked : List Batch) (i : Instance) (y : History) where
+  -- What is asked of a session on these lines: what is asked of a recovery, and that the lines are
+  -- to follow it.
+  pub record CanServe (slots : Slots) (standing : Standing) (kept : StoreStanding)
+      (lines : List (List ℕ)) : Type 0 where
+    pub can : CanRecover all others asked i y slots standing kept
+    pub follow : AreToFollow all asked i (history_then i y can.fits.waiting) lines
+
+  -- From a history: what was told is one run of the module behind the history's requests. The
+  -- platform stands for a history of that run's requests, or of those and the one in hand. It isn't
+  -- spoiled where no value of others counts, nor lost where it wasn't before.
+  pub record RunsTo (standing : Standing) (told : List Served) (hand : List ℕ → Type 0)
+      (result : Result Unit SessionFault) : Type 0 where
+    pub after : History
+    pub stands : StandsFor i standing after
+    pub within : IsWithin all others asked i after
+    pub requests : List (List ℕ)
+    pub run : RunsOver i.meaning (requests_of y.batches) told requests
+    pub committed : (requests_of after.batches ≡ requests)
+        ⊎ HasUntold hand result requests (requests_of after.batches)
+    pub unspoiled : others ≡ [] → life_of i.variant after ≢ Spoiled
+    pub powered : life_of i.variant y ≢ LostLife → life_of i.variant after ≢ LostLife
+
+  -- The slots fit that history too, so that the session may be gone on with. A refusal is a
+  -- device's fault, or tells how that history has ended.
+  pub record ContinuesTo (standing : Standing) (kept : StoreStanding) (told : List Served)
+      (hand : List ℕ → Type 0) (result : Result Unit SessionFault) : Type 0 where
+    pub runs : RunsTo standing told hand result
+    pub open runs use *
+    pub slots_after : Slots
+    pub honest : kept.is_honest ≡ true
+    pub slots_told : kept.slots ≡ Some slots_after
+    pub fits : IsNotBeyond slots_after (total_of runs.after.batches + 1) →
+        FitsHistory i slots_after runs.after
+    pub whole : result ≢ Err (Host Store) → FitsHistory i slots_after runs.after
+    pub refuses : RefusesAs result (life_of i.variant runs.after)
+
+-- Over an honest store and an input that tell what they hold: by whatever steps the session went,
+-- from every history. Over a platform of Basic under every key; over one of Opt under every key and
+-- barrier, where what others did is known by the items that the register shows at the session's end
+-- behind those that counted at its start, unless it asks idly and has no line.
+abbrev pub SessionContinues : Variant → Meaning → Standing → Standing → StoreStanding
+    → StoreStanding → Option (List ℕ) → Option (List ℕ)
+    → Option (List ℕ)
+    → Option (List ℕ) → Result Unit SessionFault → Type 0
+SessionContinues Basic meaning before after old new left left' received received' result =
+    (s : Sessions Basic meaning before after old new left left' received received' result)
+    (key : List ℕ) (y : History) (slots : Slots) (all others : List (List ℕ)) (asked : List Batch)
+    (input : List ℕ) →
+    left ≡ Some input → (can : CanServe all others asked (basic meaning key) y slots before old
+    (lines_of input)) →
+    ContinuesTo all others asked (basic meaning key) y after new
+    (told_in can.can.fits.waiting s.goes)
+    (IsInHand can.can.fits.waiting s.goes) result
+SessionContinues Opt meaning before after old new left left' received received' result =
+    (s : Sessions Opt meaning before after old new left left' received received' result)
+    (key barrier : List ℕ) (y : History) (slots : Slots) (all others : List (List ℕ))
+    (asked : List Batch) (input : List ℕ)
+    (items more : List Item) →
+    left ≡ Some input → (can : CanServe all others asked (opt meaning key barrier) y slots before
+    old (lines_of input)) →
+    before.items ≡ Some items → after.items ≡ Some (standing_items y.is_open items ++ more) →
+    ((AsksIdly (opt meaning key barrier) y slots can.can.fits.waiting × (lines_of input ≡ []) → ⊥) →
+    AreShown all others (opt meaning key barrier) y more) →
+    ContinuesTo all others asked (opt meaning key barrier) y after new
+    (told_in can.can.fits.waiting s.goes)
+    (IsInHand can.can.fits.waiting s.goes) result

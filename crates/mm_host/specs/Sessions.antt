@@ -1,0 +1,256 @@
+-- A session, by its steps: what it writes, the lines that it serves, and each turn.
+use Rattle.std.specs.Prelude.{◌≡◌, ◌≢◌, ℕ, List, [], ◌∷◌, ◌++◌, codes, Option, None, Some, Result, Ok, Err, ◌⊎◌, ◌+◌, ◌<◌, ◌≤◌, length}
+use Rattle.std.specs.Io.KnownBytes.{Appends, Consumes, IsAtEnd}
+use Rattle.mm_host.specs.Below.{lines_joined, longest_request, MayGrow, IsLong, WriteFault, ReadFault, LineLong, BadLine, TooMuch}
+use Rattle.mm_host.specs.Below.{Variant, Standing, Meaning, Answer, Refusal, cause_text, told_line, Cause, StoreStanding, IsFrontOf}
+use Rattle.mm_host.specs.Below.{AsksNext, Resumes, HostFault, Memory, Refused, Resumed, Answered}
+use Rattle.mm_host.specs.declared.fault.SessionFault.{SessionFault}
+use Rattle.mm_host.specs.declared.fault.SessionFault.TheVariants.{Host, Lines}
+use Rattle.mm_base.specs.declared.replay_fault.ReplayFault.TheVariants.{Memory}
+use Rattle.mm_model.specs.declared.refusal.Refusal.TheVariants as refusal
+use Rattle.mm_schedule.specs.declared.reply.Cause.TheVariants as cause
+
+-- What a session writes.
+
+-- the word of a refusal that is told
+abbrev pub told_cause : Refusal → Option Cause
+told_cause refusal.Form = Some cause.Form
+told_cause refusal.Kind = Some cause.Kind
+told_cause refusal.State = Some cause.State
+told_cause refusal.Tag = Some cause.Tag
+told_cause refusal.Stale = Some cause.Stale
+told_cause refusal.Full = Some cause.Full
+told_cause _ = None
+
+-- the line `no CAUSE`
+abbrev pub refusal_text : Option Cause → List ℕ
+refusal_text None = []
+refusal_text (Some why) = codes "no " ++ cause_text why ++ 10 ∷ []
+
+-- what is written for what a recovery or a line came to: the line of its answer, or of its refusal
+abbrev pub reply_text : Result Resumed HostFault → List ℕ
+reply_text (Ok (Answered answer)) = told_line answer.again answer.position answer.output
+reply_text (Err (Refused why)) = refusal_text (told_cause why)
+reply_text _ = []
+
+abbrev pub comes_as : Result Resumed HostFault → Result Resumed SessionFault
+comes_as (Ok resumed) = Ok resumed
+comes_as (Err fault) = Err (Host fault)
+
+-- All of the text went out, and what came is handed on; or the output failed, and a front of it
+-- went out.
+abbrev pub SendsReply : Result Resumed HostFault → List ℕ → Result Resumed SessionFault → Type 0
+SendsReply came sent result =
+    ((sent ≡ reply_text came) × (result ≡ comes_as came))
+    ⊎ ((result ≡ Err (Lines WriteFault)) × (reply_text came ≢ [])
+    × IsFrontOf sent (reply_text came))
+
+pub record TellsReply (came : Result Resumed HostFault) (received received' : Option (List ℕ))
+    (result : Result Resumed SessionFault) : Type 0 where
+  pub sent : List ℕ
+  pub appended : Appends received received' sent
+  pub says : SendsReply came sent result
+
+-- The lines that a session serves, one after another. Nothing is asked for these steps.
+
+-- where a session stands: its platform, its store, and what it came to last
+pub record Place : Type 0 where
+  pub platform : Standing
+  pub store : StoreStanding
+  pub last : Resumed
+
+-- a line, and the answer to it
+pub record Served : Type 0 where
+  pub line : List ℕ
+  pub answer : Answer
+
+-- the lines that were served, and what was written for them
+abbrev pub lines_served : List Served → List (List ℕ)
+lines_served [] = []
+lines_served (c ∷ calls) = c.line ∷ lines_served calls
+
+abbrev pub replies_to : List Served → List ℕ
+replies_to [] = []
+replies_to (c ∷ calls) =
+    told_line c.answer.again c.answer.position c.answer.output ++ replies_to calls
+
+-- the most lines
+abbrev pub most_lines : ℕ
+most_lines = 1000000
+
+-- Nothing more is asked or written.
+pub record IsAtRest (at : Place) (after : Standing) (new : StoreStanding) (sent : List ℕ) : Type 0
+  where
+    pub platform : after ≡ at.platform
+    pub store : new ≡ at.store
+    pub nothing : sent ≡ []
+
+-- The bytes begin with a line, its LF and what is held behind.
+pub record BeginsWith (bytes line held : List ℕ) : Type 0 where
+  pub cut : bytes ≡ line ++ 10 ∷ held
+  pub within : MayGrow longest_request line
+
+-- a session's end, as a turn answers it
+abbrev pub ended_as : Result Unit SessionFault → Result (Option Resumed) SessionFault
+ended_as (Ok _) = Ok None
+ended_as (Err fault) = Err fault
+
+-- What waited came to a fault, or its reply isn't written whole; no line is read.
+pub record StopsAtOnce (begun : Result Resumed HostFault) (taken sent : List ℕ)
+    (result : Result Unit SessionFault) : Type 0 where
+  pub fault : SessionFault
+  pub says : SendsReply begun sent (Err fault)
+  pub stops : result ≡ Err fault
+  pub nothing : taken ≡ []
+
+module _ (variant : Variant) (meaning : Meaning) where
+  -- The line is asked and answered, and the session goes on.
+  pub record ServesFirst (from : Place) (c : Served) (goes : Place → Type 0) : Type 0 where
+    pub within : MayGrow longest_request c.line
+    pub platform : Standing
+    pub store : StoreStanding
+    pub asks : AsksNext variant meaning from.platform platform from.store store from.last c.line
+        (Ok (Answered c.answer))
+    pub rest : goes (record { platform = platform; store = store; last = Answered c.answer })
+
+  -- These lines are asked one after another, each with the snapshot of the answer before, and
+  -- answered so.
+  abbrev pub Serves : Place → List Served → Place → Type 0
+  Serves from [] to = to ≡ from
+  Serves from (c ∷ calls) to = ServesFirst from c (λ next. Serves next calls to)
+
+  -- The line of this number is asked, and what comes is told.
+  pub record AsksAndTells (at : Place) (after : Standing) (new : StoreStanding)
+      (received received' : Option (List ℕ)) (line : List ℕ)
+      (result : Result Resumed SessionFault) : Type 0 where
+    pub came : Result Resumed HostFault
+    pub asks : AsksNext variant meaning at.platform after at.store new at.last line came
+    pub tells : TellsReply came received received' result
+
+  -- One turn, where the line of this number would be next: it is read and served, or the session
+  -- ends.
+  module _ (number : ℕ) (at : Place) (after : Standing) (new : StoreStanding) where
+    -- The line in hand is asked, and comes to a fault; or its reply isn't written whole.
+    pub record StopsInLine (more sent : List ℕ) (fault : SessionFault) : Type 0 where
+      pub line : List ℕ
+      pub held : List ℕ
+      pub begins : BeginsWith more line held
+      pub few : number ≤ most_lines
+      pub came : Result Resumed HostFault
+      pub asks : AsksNext variant meaning at.platform after at.store new at.last line came
+      pub says : SendsReply came sent (Err fault)
+
+    -- How the session stops; `more` was taken of the input behind the lines before this one.
+    abbrev pub Stops : Option (List ℕ) → List ℕ → List ℕ → SessionFault → Type 0
+    -- the source failed before the line's LF
+    Stops left more sent (Lines ReadFault) =
+        IsAtRest at after new sent × MayGrow longest_request more
+    -- the input ended within the line
+    Stops left more sent (Lines (BadLine line)) =
+        IsAtRest at after new sent × (line ≡ number) × MayGrow longest_request more
+        × (0 < length more) × IsAtEnd left
+    -- more bytes came than a line may have
+    Stops left more sent (Lines (LineLong line)) =
+        IsAtRest at after new sent × (line ≡ number) × IsLong longest_request more
+    -- the line is one too many
+    Stops left more sent (Lines TooMuch) =
+        IsAtRest at after new sent × (number ≡ most_lines + 1) × (line : List ℕ) × (held : List ℕ)
+        × BeginsWith more line held
+    -- the host alone wants memory
+    Stops left more sent (Lines Memory) = ⊥
+    -- the line was asked
+    Stops left more sent fault = StopsInLine more sent fault
+
+    -- The line was answered, and the answer told.
+    pub record ServesLine (bytes held sent : List ℕ) (next : Resumed) : Type 0 where
+      pub line : List ℕ
+      pub begins : BeginsWith bytes line held
+      pub few : number ≤ most_lines
+      pub answer : Answer
+      pub answered : next ≡ Answered answer
+      pub asks : AsksNext variant meaning at.platform after at.store new at.last line
+          (Ok (Answered answer))
+      pub told : sent ≡ reply_text (Ok (Answered answer))
+
+    -- How the turn went, by its answer: `bytes` are those held before and those taken, and `held`
+    -- those held after. None: the input ended behind a whole line.
+    abbrev pub ServedOn : Option (List ℕ) → List ℕ → List ℕ → List ℕ
+        → Result (Option Resumed) SessionFault → Type 0
+    ServedOn left bytes held sent (Ok (Some next)) = ServesLine bytes held sent next
+    ServedOn left bytes held sent (Ok None) =
+        IsAtRest at after new sent × (bytes ≡ []) × IsAtEnd left
+    ServedOn left bytes held sent (Err fault) = Stops left bytes sent fault
+
+    -- What was sent in a turn, and how it went.
+    pub record Turns (left : Option (List ℕ)) (bytes held : List ℕ)
+        (received received' : Option (List ℕ))
+        (result : Result (Option Resumed) SessionFault) : Type 0 where
+      pub sent : List ℕ
+      pub appended : Appends received received' sent
+      pub went : ServedOn left bytes held sent result
+
+    pub record ServesNext (left left' : Option (List ℕ)) (held held' : List ℕ)
+        (received received' : Option (List ℕ))
+        (result : Result (Option Resumed) SessionFault) : Type 0 where
+      pub taken : List ℕ
+      pub consumed : Consumes left left' taken
+      pub turns : Turns left' (held ++ taken) held' received received' result
+
+  -- Some lines are served from where the session stands, of which the first would have this number,
+  -- and there it ends; `bytes` were held before or taken.
+  pub record ServesLines (number : ℕ) (from : Place) (after : Standing) (new : StoreStanding)
+      (left : Option (List ℕ)) (bytes sent : List ℕ)
+      (result : Result Unit SessionFault) : Type 0 where
+    pub calls : List Served
+    pub few : length calls + number ≤ most_lines + 1
+    pub at : Place
+    pub serves : Serves from calls at
+    pub more : List ℕ
+    pub last : List ℕ
+    pub took : bytes ≡ lines_joined (lines_served calls) ++ more
+    pub wrote : sent ≡ replies_to calls ++ last
+    pub ends : ServedOn (length calls + number) at after new left more [] last (ended_as result)
+
+  -- The lines of an input are served, where some bytes are held; with what was taken and written
+  -- for them.
+  pub record ServesInput (number : ℕ) (from : Place) (after : Standing) (new : StoreStanding)
+      (left left' : Option (List ℕ)) (held : List ℕ) (received received' : Option (List ℕ))
+      (result : Result Unit SessionFault) : Type 0 where
+    pub taken : List ℕ
+    pub sent : List ℕ
+    pub consumed : Consumes left left' taken
+    pub appended : Appends received received' sent
+    pub lines : ServesLines number from after new left' (held ++ taken) sent result
+
+  -- What waited is told, and the lines are served.
+  pub record GoesOn (begun : Result Resumed HostFault) (platform after : Standing)
+      (store new : StoreStanding) (left : Option (List ℕ)) (taken sent : List ℕ)
+      (result : Result Unit SessionFault) : Type 0 where
+    pub first : Resumed
+    pub begins : begun ≡ Ok first
+    pub replies : List ℕ
+    pub wrote : sent ≡ reply_text begun ++ replies
+    pub lines : ServesLines 1 (record { platform = platform; store = store; last = first }) after
+        new left taken replies result
+
+  -- It stops at once, or it goes on, as what waited came to.
+  abbrev pub AfterResume : Result Resumed HostFault → Standing → Standing → StoreStanding
+      → StoreStanding → Option (List ℕ) → List ℕ → List ℕ → Result Unit SessionFault → Type 0
+  AfterResume begun platform after store new left taken sent result =
+      ((after ≡ platform) × (new ≡ store) × StopsAtOnce begun taken sent result)
+      ⊎ GoesOn begun platform after store new left taken sent result
+
+  -- A session: it goes on after a stop, and then answers each line of its input before it reads the
+  -- next. These bytes were taken of the input, and those written.
+  pub record Sessions (before after : Standing) (old new : StoreStanding)
+      (left left' received received' : Option (List ℕ))
+      (result : Result Unit SessionFault) : Type 0 where
+    pub taken : List ℕ
+    pub sent : List ℕ
+    pub consumed : Consumes left left' taken
+    pub appended : Appends received received' sent
+    pub begun : Result Resumed HostFault
+    pub platform : Standing
+    pub store : StoreStanding
+    pub resumes : Resumes variant meaning before platform old store begun
+    pub goes : AfterResume begun platform after store new left' taken sent result

@@ -1,0 +1,229 @@
+//! A session: the lines of an input, each asked and told, one after another.
+
+ghost use Rattle.std.specs.Prelude.{◌≡◌, ◌+◌, ◌≤◌, ℕ, false, List, [], Option, IfOk, IfSome};
+ghost use Rattle.mm_base.specs.Lines.{MayGrow};
+ghost use Rattle.mm_base.specs.Limits.{longest_request};
+ghost use Rattle.mm_play.specs.Plays.{IsBlamed};
+ghost use Rattle.mm_recovery.specs.Last.{IsSized};
+ghost use Rattle.mm_host.specs.AnySlots.{SessionRunsOnce};
+ghost use Rattle.mm_host.specs.Continuing.{SessionContinues};
+ghost use Rattle.mm_host.specs.SessionBlame.{IsRefusalNamed, is_platform_fault, is_read_fault, is_store_fault, is_write_fault};
+ghost use Rattle.mm_host.specs.SessionLines.{SparesLines};
+ghost use Rattle.mm_host.specs.SessionWrites.{SessionWrites};
+ghost use Rattle.mm_host.specs.Sessions.{Sessions, most_lines, AsksAndTells, BeginsWith, ServesInput, ServesNext, Turns};
+
+use crate::fault::SessionFault;
+use crate::telling::tell;
+use mm_base::{LONGEST_REQUEST, LineFault, LineReader, Read, ReplayFault, Sink, Source};
+use mm_digest::Variant;
+use mm_module::Module;
+use mm_platform::Platform;
+use mm_recovery::{Hosted, Resumed, ask_next, resume};
+use mm_store::Store;
+use std::alloc::Global;
+
+/// The most lines of a session.
+const MOST_LINES: u32 = 1_000_000;
+
+/// Where a session stands: the number of the line that is next, and what it came to last.
+#[derive(Drop)]
+struct Turn {
+    number: u32,
+    last: Resumed,
+}
+
+/// Goes on after a stop, and answers each line of the input before it reads the next.
+///
+/// Each line is a request of at most 4,096 bytes. Where the last answer has position p (0 at the start), the record of
+/// position p + 1 is written to slot 2 + (p + 1) mod 2; the line is asked with the last snapshot; the answer's snapshot
+/// is written to the slot of its position's parity; and the answer's line is written. A refusal ends the session; the
+/// line `no CAUSE` is written first where it is Form, Kind, State, Tag, Stale or Full.
+pub fn session<M: Module, P: Platform, T: Store, S: Source, K: Sink>(
+    alloc: Global,
+    variant: Variant,
+    module: &M,
+    platform: &mut P,
+    store: &mut T,
+    input: &mut S,
+    out: &mut K,
+) -> Result<(), SessionFault>
+    ensures sessions { Sessions variant (M.meaning «module».now) (P.standing platform.old)
+        (P.standing platform.new) (T.kept store.old) (T.kept store.new) (S.left input.old)
+        (S.left input.new) (K.received out.old) (K.received out.new) result }
+    ensures platform { IsBlamed (is_platform_fault result) (P.standing platform.old).faults
+        (P.standing platform.new).faults }
+    ensures store { IsBlamed (is_store_fault result) (T.kept store.old).faults
+        (T.kept store.new).faults }
+    ensures read { IsBlamed (is_read_fault result) (S.faults input.old) (S.faults input.new) }
+    ensures wrote { IsBlamed (is_write_fault result) (K.faults out.old) (K.faults out.new) }
+    ensures named { IsRefusalNamed result }
+    ensures lines { SparesLines (S.left input.old) result }
+    ensures continues { SessionContinues variant (M.meaning «module».now) (P.standing platform.old)
+        (P.standing platform.new) (T.kept store.old) (T.kept store.new) (S.left input.old)
+        (S.left input.new) (K.received out.old) (K.received out.new) result }
+    ensures once { SessionRunsOnce variant (M.meaning «module».now) (P.standing platform.old)
+        (P.standing platform.new) (T.kept store.old) (T.kept store.new) (S.left input.old)
+        (S.left input.new) (K.received out.old) (K.received out.new) result }
+    ensures writes { SessionWrites variant (M.meaning «module».now) (P.standing platform.old)
+        (P.standing platform.new) (T.kept store.old) (T.kept store.new) (S.left input.old)
+        (S.left input.new) (K.received out.old) (K.received out.new) result }
+{
+    let hosted = Hosted {
+        alloc,
+        variant,
+        module,
+    };
+    session_by_steps(&hosted, platform, store, input, out)
+}
+
+// Recovers, and serves the lines.
+fn session_by_steps<M: Module, P: Platform, T: Store, S: Source, K: Sink>(
+    hosted: &Hosted<M>,
+    platform: &mut P,
+    store: &mut T,
+    input: &mut S,
+    out: &mut K,
+) -> Result<(), SessionFault>
+    ensures sessions { Sessions hosted.now.variant (M.meaning hosted.now.«module».now)
+        (P.standing platform.old) (P.standing platform.new) (T.kept store.old) (T.kept store.new)
+        (S.left input.old) (S.left input.new) (K.received out.old) (K.received out.new) result }
+    ensures read { IsBlamed (is_read_fault result) (S.faults input.old) (S.faults input.new) }
+    ensures wrote { IsBlamed (is_write_fault result) (K.faults out.old) (K.faults out.new) }
+{
+    let reader = LineReader::new(hosted.alloc)?;
+    let begun = resume(hosted.alloc, hosted.variant, hosted.module, platform, store);
+    match tell(begun, out) {
+        Err(fault) => Err(fault),
+        Ok(first) => serve_lines(hosted, platform, store, input, out, reader, first),
+    }
+}
+
+// Serves each line of the input.
+fn serve_lines<M: Module, P: Platform, T: Store, S: Source, K: Sink>(
+    hosted: &Hosted<M>,
+    platform: &mut P,
+    store: &mut T,
+    input: &mut S,
+    out: &mut K,
+    mut reader: LineReader,
+    first: Resumed,
+) -> Result<(), SessionFault>
+    requires nothing { reader ≡ [] }
+    requires sized { IsSized first }
+    ensures serves { ServesInput hosted.now.variant (M.meaning hosted.now.«module».now) 1
+        (record { platform = P.standing platform.old; store = T.kept store.old; last = first })
+        (P.standing platform.new) (T.kept store.new) (S.left input.old) (S.left input.new) []
+        (K.received out.old) (K.received out.new) result }
+    ensures read { IsBlamed (is_read_fault result) (S.faults input.old) (S.faults input.new) }
+    ensures wrote { IsBlamed (is_write_fault result) (K.faults out.old) (K.faults out.new) }
+{
+    let mut turn = Turn {
+        number: 1,
+        last: first,
+    };
+    'lines: while let Some(next) = serve_next(
+        hosted,
+        platform,
+        store,
+        input,
+        out,
+        &mut reader,
+        &turn,
+    )? {
+        turn = Turn {
+            number: turn.number + 1,
+            last: next,
+        };
+    }
+    Ok(())
+}
+
+// Reads the line of this number and serves it. None where the input ends before it.
+fn serve_next<M: Module, P: Platform, T: Store, S: Source, K: Sink>(
+    hosted: &Hosted<M>,
+    platform: &mut P,
+    store: &mut T,
+    input: &mut S,
+    out: &mut K,
+    reader: &mut LineReader,
+    turn: &Turn,
+) -> Result<Option<Resumed>, SessionFault>
+    requires number { turn.now.number ≤ most_lines + 1 }
+    requires sized { IsSized turn.now.last }
+    ensures turns { ServesNext hosted.now.variant (M.meaning hosted.now.«module».now)
+        turn.now.number (record {
+          platform = P.standing platform.old;
+          store = T.kept store.old;
+          last = turn.now.last;
+        })
+        (P.standing platform.new) (T.kept store.new) (S.left input.old) (S.left input.new)
+        reader.old reader.new (K.received out.old) (K.received out.new) result }
+    ensures sized { IfOk result (λ next. IfSome next IsSized) }
+    ensures read { IsBlamed (is_read_fault result) (S.faults input.old) (S.faults input.new) }
+    ensures wrote { IsBlamed (is_write_fault result) (K.faults out.old) (K.faults out.new) }
+{
+    match reader.next(input, LONGEST_REQUEST) {
+        Ok(Read::Line(line)) => serve_line(hosted, platform, store, out, turn, line),
+        Ok(Read::Tail) => Err(SessionFault::Lines(ReplayFault::BadLine { line: turn.number })),
+        Ok(Read::End) => Ok(None),
+        Err(LineFault::ReadFault) => Err(SessionFault::Lines(ReplayFault::ReadFault)),
+        Err(LineFault::LineLong) => {
+            Err(SessionFault::Lines(ReplayFault::LineLong { line: turn.number }))
+        }
+    }
+}
+
+// Serves the line of this number, unless it is one too many.
+fn serve_line<M: Module, P: Platform, T: Store, K: Sink>(
+    hosted: &Hosted<M>,
+    platform: &mut P,
+    store: &mut T,
+    out: &mut K,
+    turn: &Turn,
+    line: &[u8],
+) -> Result<Option<Resumed>, SessionFault>
+    requires sized { IsSized turn.now.last }
+    requires line { MayGrow longest_request line.now }
+    ensures turns { (left : Option (List ℕ)) (bytes held : List ℕ) →
+        turn.now.number ≤ most_lines + 1 → BeginsWith bytes line.now held →
+        Turns hosted.now.variant (M.meaning hosted.now.«module».now) turn.now.number (record {
+          platform = P.standing platform.old;
+          store = T.kept store.old;
+          last = turn.now.last;
+        })
+        (P.standing platform.new) (T.kept store.new) left bytes held (K.received out.old)
+        (K.received out.new) result }
+    ensures sized { IfOk result (λ next. IfSome next IsSized) }
+    ensures unread { is_read_fault result ≡ false }
+    ensures wrote { IsBlamed (is_write_fault result) (K.faults out.old) (K.faults out.new) }
+{
+    if turn.number > MOST_LINES {
+        return Err(SessionFault::Lines(ReplayFault::TooMuch));
+    }
+    match ask_and_tell(hosted, platform, store, out, &turn.last, line) {
+        Ok(next) => Ok(Some(next)),
+        Err(fault) => Err(fault),
+    }
+}
+
+// Asks a line, and tells what came.
+fn ask_and_tell<M: Module, P: Platform, T: Store, K: Sink>(
+    hosted: &Hosted<M>,
+    platform: &mut P,
+    store: &mut T,
+    out: &mut K,
+    last: &Resumed,
+    line: &[u8],
+) -> Result<Resumed, SessionFault>
+    requires sized { IsSized last.now }
+    requires line { MayGrow longest_request line.now }
+    ensures asks { AsksAndTells hosted.now.variant (M.meaning hosted.now.«module».now)
+        (record { platform = P.standing platform.old; store = T.kept store.old; last = last.now })
+        (P.standing platform.new) (T.kept store.new) (K.received out.old) (K.received out.new)
+        line.now result }
+    ensures sized { IfOk result IsSized }
+    ensures wrote { IsBlamed (is_write_fault result) (K.faults out.old) (K.faults out.new) }
+{
+    let came = ask_next(hosted, platform, store, last, line);
+    tell(came, out)
+}

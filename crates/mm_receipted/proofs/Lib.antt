@@ -1,0 +1,4 @@
+pub mod Above
+mod Below
+mod StateLaws
+mod TaggedLaws

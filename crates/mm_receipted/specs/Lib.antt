@@ -1,0 +1,6 @@
+pub mod Receipts
+pub mod Table
+pub mod Views
+pub mod ReceiptedLaws
+pub mod Tagged
+pub mod ReceiptListing

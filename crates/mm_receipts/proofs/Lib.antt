@@ -1,3 +1,0 @@
-mod Below
-mod Playing
-mod HonestLaws

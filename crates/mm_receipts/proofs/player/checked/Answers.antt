@@ -1,8 +1,0 @@
-use Rattle.mm_receipts.proofs.Below.{ap, None, Tally, Checking}
-use Rattle.mm_receipts.proofs.Playing.{checks-err}
-use Rattle.mm_receipts.proofs.player.checked.Goals as goal
-
-pub returns-clause-checks : goal.returns-clause-checks
-returns-clause-checks g c =
-    let at_first : Tally → Checking = λ t. record { tally = t; asked = None } in
-    checks-err c.args.key.now (ap at_first c.new.ensures) c.play.ensures.plays c.in-Err.fault c.in-Err.is

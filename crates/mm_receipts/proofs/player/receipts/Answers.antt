@@ -1,9 +1,0 @@
-use Rattle.mm_receipts.proofs.Below.{unrefused}
-use Rattle.mm_receipts.proofs.Playing.{honestly}
-use Rattle.mm_receipts.proofs.player.receipts.Goals as goal
-
-pub returns-clause-complete : goal.returns-clause-complete
-returns-clause-complete g c = unrefused c.checked.ensures.checks.plays
-
-pub returns-clause-honest : goal.returns-clause-honest
-returns-clause-honest g c = honestly c.args.key.now c.checked.ensures.checks

@@ -1,0 +1,11 @@
+pub mod Above
+mod Below
+mod Askable
+mod Refusing
+mod Slots
+mod Meeting
+mod Recovering
+mod SettingUp
+mod Exits
+mod CellWriting
+mod OneCall

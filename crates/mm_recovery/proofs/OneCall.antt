@@ -1,0 +1,108 @@
+-- One call of either variant promises what the cores' whole calls do.
+use Rattle.mm_recovery.proofs.Below.{arith, ◌≡◌, ℕ, Bool, false, List, length, None, Result, Ok, Err, refl, sym, subst, Variant, Basic, Opt}
+use Rattle.mm_recovery.proofs.Below.{Standing, Meaning, IsLawful, Batch, One, IsFit, is_long, Answer, BatchAnswer, Refusal, Long, Verdict}
+use Rattle.mm_recovery.proofs.Below.{Ended, result_of, Blames, whole, whole_in, fault_in, weighed, EndsTo}
+use Rattle.mm_recovery.proofs.Below.{ends_result, Given, steps_give, acts_for, answer_in, basic_call, StepsBy, AskedIn, IsCall}
+use Rattle.std.specs.Prelude.{IfOk}
+use Rattle.mm_seal.specs.declared.snapshot.PartsFault.TheVariants.{Form, Kind}
+use Rattle.mm_basic.specs.declared.found.Found.{Found}
+use Rattle.mm_basic.specs.Seen.{Seen, NoCell, OtherCell, NoOffer, Both}
+use Rattle.mm_basic.specs.Order.{verdict_of}
+use Rattle.mm_basic.specs.Answers.{found_from, found_in}
+use Rattle.mm_basic.specs.Steps.{Reads}
+use Rattle.mm_opt.specs.declared.stage.Stage.TheVariants.{Begun}
+use Rattle.mm_flight.specs.declared.ask.AskCall.{AskCall}
+use Rattle.mm_flight.specs.Asks.{begun, FinishedAsk}
+use Rattle.mm_recovery.proofs.CellWriting.{basic_writes, opt_writes, or_all}
+use Rattle.mm_seal.specs.declared.cell.CellFault.TheVariants as cell_fault
+use Rattle.mm_basic.proofs.Above as in_basic
+use Rattle.mm_opt.proofs.Above as in_opt
+
+pub asked_in : (variant : Variant) (meaning : Meaning) → IsLawful meaning
+    → (old new : Standing) (offer : List ℕ) (b : Batch) (call : AskCall) (ended : Ended) (result : Result BatchAnswer Refusal)
+    → is_long b ≡ false → call ≡ begun variant
+    → FinishedAsk meaning call old new offer b ended → result ≡ result_of ended → AskedIn variant meaning old new offer b result
+asked_in Basic meaning lawful old new offer b call ended result short first finished is =
+    let f : FinishedAsk meaning (begun Basic) old new offer b ended = rw (sym first) finished in
+    rw is (in_basic.asked meaning lawful old new offer b (result_of ended)
+    (in_basic.calls_finished meaning None old new offer b ended (result_of ended) refl short f.finishes refl)
+    (λ _. (f.ends Basic refl).calls))
+asked_in Opt meaning lawful old new offer b call ended result short first finished is =
+    let f : FinishedAsk meaning (begun Opt) old new offer b ended = rw (sym first) finished in
+    rw is (in_opt.asked meaning lawful old new offer b (result_of ended)
+    (in_opt.calls_finished Begun meaning old new offer b ended (result_of ended) refl short f.finishes refl) f.faults)
+
+pub one_output : (variant : Variant) (meaning : Meaning) (old new : Standing) (offer request : List ℕ)
+    (result : Result BatchAnswer Refusal) → AskedIn variant meaning old new offer (One request) result
+    → IfOk result (λ answer. length answer.outputs ≡ 1)
+one_output Basic meaning old new offer request result a = in_basic.one_output request result a.fits
+one_output Opt meaning old new offer request result a = in_basic.one_output request result a.fits
+
+-- what holds of the answer to a batch of one
+of_whole : (result : Result Answer Refusal) (old new : Standing) (request : List ℕ)
+    → Blames (fault_in (whole_in result)) old.faults new.faults → IfOk (whole_in result) (λ all. IsFit (One request) all)
+    → Blames (fault_in result) old.faults new.faults × IfOk result (λ answer. IsFit (One request) (whole answer))
+of_whole result old new request b f = grind (arith, b, f)
+
+-- no call of Basic that isn't too long is refused as that
+abbrev IsShort : {A : Type 0} → Result A Refusal → Type 0
+IsShort (Err Long) = ⊥
+IsShort result = Unit {0}
+
+weighed_short : (spelled tagged : Bool) (verdict : Verdict) (fits : Bool) (next : List ℕ) (answer : Bool → BatchAnswer)
+    → IsShort (found_from (weighed spelled tagged verdict fits) next answer)
+weighed_short spelled tagged verdict fits next answer = grind arith
+
+found_short : (meaning : Meaning) (seen : Seen) (b : Batch) → IsShort (found_in meaning seen b)
+found_short meaning (NoCell cell_fault.Blank) b = tt
+found_short meaning (NoCell cell_fault.Cell) b = tt
+found_short meaning OtherCell b = tt
+found_short meaning (NoOffer Form) b = tt
+found_short meaning (NoOffer Kind) b = tt
+found_short meaning (Both cell offered) b =
+    weighed_short (meaning.is_spelled offered.content.state) _ (verdict_of cell offered b) _ _ _
+
+reads_short : (meaning : Meaning) (old new : Standing) (offer : List ℕ) (b : Batch) (found : Result Found Refusal)
+    → Reads meaning old new offer b found → IsShort found
+reads_short meaning old new offer b (Err Long) r =
+    let f = (r.finds refl).finds in
+    or_all (λ (x : Result Found Refusal). IsShort x) (found_in meaning f.seen b) (Err Long) (found_short meaning f.seen b) tt f.found_is
+reads_short meaning old new offer b found r = tt
+
+given_short : (ended : Ended) (answer : BatchAnswer) → Given answer ended → IsShort (result_of ended)
+given_short ended answer g = grind (arith, g)
+
+ends_short : (found : Result Found Refusal) (old new : Standing) (ended : Ended) → IsShort found
+    → EndsTo basic_call found old new ended → IsShort (result_of ended)
+ends_short (Err why) old new ended short ends =
+    ends_result basic_call (λ (s : Standing) (r : Result BatchAnswer Refusal). IsShort r) why old new ended ends short
+ends_short (Ok found) old new ended short ends =
+    given_short ended (answer_in found) (steps_give (acts_for found) (answer_in found) old new ended ends)
+
+-- one call of either variant
+pub is_call : (variant : Variant) (meaning : Meaning) (old new : Standing) (offer request : List ℕ) (result : Result Answer Refusal)
+    (gives : Result BatchAnswer Refusal) → gives ≡ whole_in result → is_long (One request) ≡ false
+    → AskedIn variant meaning old new offer (One request) gives → IsCall variant meaning old new offer request result
+is_call Basic meaning old new offer request result gives e short asked =
+    let a : AskedIn Basic meaning old new offer (One request) (whole_in result) = rw (sym e) asked in record {
+      goes = a.goes short;
+      untouched = a.untouched;
+      faults = (of_whole result old new request a.faults a.fits).0;
+      short = λ e.
+          let k = a.calls.asks short in
+          subst (λ (r : Result Answer Refusal). IsShort (whole_in r)) e
+          (subst (λ (r : Result BatchAnswer Refusal). IsShort r) (sym k.gives)
+          (ends_short k.asks.found k.asks.middle new k.ended
+          (reads_short meaning old k.asks.middle offer (One request) k.asks.found k.asks.reads) k.asks.ends));
+      fits = (of_whole result old new request a.faults a.fits).1;
+      counts = basic_writes old new result (a.steps short);
+    }
+is_call Opt meaning old new offer request result gives e short asked =
+    let a : AskedIn Opt meaning old new offer (One request) (whole_in result) = rw (sym e) asked in record {
+      goes = a.goes short;
+      untouched = a.untouched;
+      faults = (of_whole result old new request a.faults a.fits).0;
+      short = λ e. subst (λ (r : Result Answer Refusal). StepsBy (whole_in r) old new) e (a.steps short);
+      fits = (of_whole result old new request a.faults a.fits).1;
+      counts = opt_writes meaning old new offer (One request) result short a;
+    }

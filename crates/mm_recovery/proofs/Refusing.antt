@@ -1,0 +1,188 @@
+-- What a call for the request that waits makes of the history, and why it is refused.
+use Rattle.mm_recovery.proofs.Below.{◌≡◌, ℕ, ◌+◌, ◌-◌, ◌≤◌, true, false, List, [], ◌∷◌, ◌++◌, Result, Ok, refl, sym, ap, ◌∙◌, subst, arith, inl}
+use Rattle.mm_recovery.proofs.Below.{inr, ◌⊎◌, nat_eq, nat_tests, Batch, One, Content, Instance, History, total_of, IsRight, total-push}
+use Rattle.mm_recovery.proofs.Below.{BatchAnswer, Refusal, Comes, kept, grown, one_content, Pending, Holds, IsAwaited, Some, Answer, whole}
+use Rattle.mm_recovery.proofs.Below.{AnswersAt, Names, IsGenuine, Bool, ◌&&◌, map, Option, None, Err, if◌then◌else◌}
+use Rattle.mm_recovery.proofs.Below.{last_position, Variant, StepFault, Snapshot, tag_of, offered_of, PartsFault, Move, Foreign}
+use Rattle.mm_recovery.proofs.Below.{Life, life_of, is_lost, Reads, ask_steps, Memory, Lost, before_the_last}
+use Rattle.mm_recovery.proofs.Below.{ended_by, given_for, called, Course, End, Fate, Walked, walk, after_step, seen_in, seen_at}
+use Rattle.mm_recovery.proofs.Below.{reading_steps, Found, found_by_verdict, found_at, found_with, found_unless_wanting, is_fresh, by_lists}
+use Rattle.mm_recovery.proofs.Below.{all_made, admitted, same_batches, seen_none, fault_of, IsWaiting}
+use Rattle.mm_recovery.proofs.Below.{IsRefusedAs}
+use Rattle.mm_call.specs.Answers.{answer_on}
+use Rattle.std.proofs.lemmas.Bool.{le-leb}
+use Rattle.std.proofs.lemmas.Slice.Eq.{bytes_eq-Decides}
+use Rattle.mm_seal.specs.Parts.{parts_of}
+use Rattle.mm_seal.specs.SealLaws.{sealed_parts}
+use Rattle.mm_model.specs.Judge.{is_last, judged}
+
+pub one_more : (batches : List Batch) (request : List ℕ) → total_of (batches ++ One request ∷ []) ≡ total_of batches + 1
+one_more batches request = total-push batches (One request)
+
+pub awaited_least : (y : History) (p : Pending) → IsAwaited y p → 1 ≤ p.position
+awaited_least y p w = grind (arith, one_more, w)
+
+pub awaited_then : (y after : History) (p : Pending) → after.batches ≡ y.batches → IsAwaited y p → IsAwaited after p
+awaited_then y after p same w = rw same w
+
+-- what is held goes on to be, and is genuine
+pub holds_on : (i : Instance) (y z : History) → ((content : Content) → Names i y content → Names i z content)
+    → (bytes : List ℕ) (position : ℕ) → Holds i y bytes position → Holds i z bytes position
+holds_on i y z names bytes position h =
+    record { content = h.content; right = h.right; names = names h.content h.names; at = h.at }
+
+pub genuine_by : (i : Instance) (y : History) (bytes : List ℕ) (position : ℕ) → Holds i y bytes position → IsGenuine i y bytes
+genuine_by i y bytes position h =
+    λ content right. subst (λ (x : Content). Names i y x) (one_content i bytes h.content content h.right right) h.names
+
+pub eq_same : (n m : ℕ) → n ≡ m → nat_eq n m ≡ true
+eq_same n m e = grind (arith, nat_tests, e)
+
+eq_later : (n m : ℕ) → n ≡ m + 1 → nat_eq n m ≡ false
+eq_later n m e = grind (arith, nat_tests, e)
+
+pub grows : (i : Instance) (y : History) (p : Pending) (offer : List ℕ) (after : History) (gives : Result BatchAnswer Refusal)
+    → Comes i y offer (One p.request) after gives → (after.batches ≡ y.batches) ⊎ (after.batches ≡ y.batches ++ One p.request ∷ [])
+grows i y p offer after gives c = grind (arith, c)
+
+module _ (i : Instance) (y : History) (p : Pending) (offer : List ℕ) (after : History) (w : IsAwaited y p)
+    (h : Holds i y offer (p.position - 1)) where
+  -- the offer says one thing: the position before the request's
+  said : (content : Content) → IsRight i offer content → p.position - 1 ≡ content.position
+  said content right = sym (ap (λ (c : Content). c.position) (one_content i offer content h.content right h.right) ∙ h.at)
+
+  -- the request is awaited by what the call leaves
+  pub still_awaited : (gives : Result BatchAnswer Refusal) → Comes i y offer (One p.request) after gives → IsAwaited after p
+  still_awaited gives (kept same answers) = awaited_then y after p same w
+  still_awaited gives (grown content right at more answers) = inr (
+    omega (arith, said content right, at, awaited_least y p w, one_more y.batches p.request, ap total_of more),
+    record { front = y.batches; is = sym more },
+  )
+
+  told_at : (answer : Answer) → p.position ≡ total_of after.batches
+      → whole answer ≡ answer_on i after (One p.request) (nat_eq p.position (total_of y.batches))
+      → AnswersAt i y (Some p) after answer × (answer.position ≡ p.position)
+  told_at answer at is =
+      (record { p = p; waits = refl; position = at; answer_is = is }, ap (λ (b : BatchAnswer). b.position) is ∙ sym at)
+
+  -- and is answered at its position
+  pub answered_at : (answer : Answer) → Comes i y offer (One p.request) after (Ok (whole answer))
+      → AnswersAt i y (Some p) after answer × (answer.position ≡ p.position)
+  answered_at answer (kept same gives) =
+      let g = gives (whole answer) refl in
+      let here : p.position ≡ total_of y.batches =
+      omega (arith, said g.content g.right, g.position, awaited_least y p w, one_more g.ends.front p.request, ap total_of g.ends.is) in
+      told_at answer (here ∙ ap total_of (sym same))
+      (g.answer_is ∙ ap (answer_on i after (One p.request)) (sym (eq_same p.position (total_of y.batches) here)))
+  answered_at answer (grown content right at more gives) =
+      let next : p.position ≡ total_of y.batches + 1 = omega (arith, said content right, at, awaited_least y p w) in
+      told_at answer (omega (arith, next, one_more y.batches p.request, ap total_of more))
+      (gives (whole answer) refl ∙ ap (answer_on i after (One p.request)) (sym (eq_later p.position (total_of y.batches) next)))
+
+-- for want of memory, or as the history's life says
+abbrev pub MayRefuse : Refusal → Life → Type 0
+MayRefuse why life = (why ≡ Memory) ⊎ IsRefusedAs why life
+
+-- What is known of the offer when it is examined: it is right, and says the position before the awaited request's.
+pub record IsOffered (i : Instance) (s : History) (p : Pending) (offer : List ℕ) : Type 0 where
+  pub content : Content
+  pub right : IsRight i offer content
+  pub at : content.position ≡ p.position - 1
+  pub awaited : IsAwaited s p
+  pub most : p.position ≤ last_position
+
+pub offered_then : (i : Instance) (y s : History) (p : Pending) (offer : List ℕ) → s.batches ≡ y.batches → IsOffered i y p offer
+    → IsOffered i s p offer
+offered_then i y s p offer same o =
+    record { content = o.content; right = o.right; at = o.at; awaited = awaited_then y s p same o.awaited; most = o.most }
+
+-- a record that waits is one of those that were read, so its position is at most 2^48
+pub waiting_most : (two three : List ℕ) (waiting : Option Pending) (p : Pending) → IsWaiting two three waiting → waiting ≡ Some p
+    → p.position ≤ last_position
+waiting_most two three waiting p w e = grind (arith, w, e)
+
+-- the position is the last one, or the request is a repeat
+placed_by : (s : History) (p : Pending) (position : ℕ) → position ≡ p.position - 1 → IsAwaited s p → 1 ≤ p.position
+    → (nat_eq position (total_of s.batches) ≡ true)
+    ⊎ ((nat_eq (position + 1) (total_of s.batches) && is_last s.batches (One p.request)) ≡ true)
+placed_by s p position at (inl next) least = inl (eq_same position (total_of s.batches) (omega (arith, at, next)))
+placed_by s p position at (inr done) least =
+    let here : position ≡ total_of done.1.front =
+    omega (arith, at, done.0, least, one_more done.1.front p.request, ap total_of done.1.is) in
+    inr (rw here ((before_the_last s.batches done.1.front (One p.request ∷ []) (One p.request) (sym done.1.is)).1 done.1.is))
+
+-- so it is found, or refused as the life says
+abbrev AsLife : Life → Result Found Refusal → Type 0
+AsLife _ (Ok found) = Unit {0}
+AsLife life (Err why) = IsRefusedAs why life
+
+abbrev FindsAs : Life → Content → Result Bool Refusal → Type 0
+FindsAs life content examined = AsLife life (if is_lost life then Err Lost else found_with content examined)
+
+admitted_here : (life : Life) (content : Content) (here repeat : Bool) → (here ≡ true) ⊎ (repeat ≡ true)
+    → FindsAs life content (admitted (judged life here repeat) true)
+admitted_here ends content here repeat h = grind (arith, h)
+
+pub found_refused : (i : Instance) (s : History) (p : Pending) (offer : List ℕ) (o : IsOffered i s p offer) (why : Refusal)
+    → found_at i (by_lists i) s (One p.request) offer ≡ Err why → IsRefusedAs why (life_of i.variant s)
+found_refused i s p offer o why e =
+    let life : Life = life_of i.variant s in
+    let least : 1 ≤ p.position = awaited_least s p o.awaited in
+    let fits : o.content.position + 1 ≤ last_position = omega (arith, o.at, o.most, least) in
+    let parts : parts_of i.variant i.meaning.id offer ≡ Ok (offered_of i.key o.content) =
+    ap (λ (bytes : List ℕ). parts_of i.variant i.meaning.id bytes) o.right.sealed
+    ∙ sealed_parts i.key o.content i.variant i.meaning.id o.right.formed o.right.variant o.right.id in
+    subst (λ (found : Result Found Refusal). AsLife life found)
+    (ap (λ (x : Result Snapshot PartsFault). if is_lost life then Err Lost else found_by_verdict i (by_lists i) s (One p.request) x)
+    (sym parts) ∙ e)
+    (rw (
+      o.right.state,
+      (bytes_eq-Decides (tag_of i.key o.content) (tag_of i.key o.content)).1 refl,
+      le-leb (o.content.position + 1) last_position fits,
+    )
+    (admitted_here life o.content (nat_eq o.content.position (total_of s.batches))
+    (nat_eq (o.content.position + 1) (total_of s.batches) && is_last s.batches (One p.request))
+    (placed_by s p o.content.position o.at o.awaited least)))
+
+-- a refusal that hands on no device's fault is what was found, and no step failed
+ended_found : (i : Instance) (seen end : History) (b : Batch) (found : Result Found Refusal) (moves : List Move) (broken : Option StepFault)
+    (why : Refusal)
+    → given_for (ended_by (by_lists i) seen end b found moves broken) ≡ Err why → fault_of why ≡ None → (found ≡ Err why) × (broken ≡ None)
+ended_found i seen end b found moves broken why e none = grind (arith, e, none)
+
+-- where nothing was found, the call made its reading steps alone
+read_then : (values : List (List ℕ)) (ends : End) (rest : Walked) (seen : List Move) → (rest.broken ≡ None → rest.moves ≡ seen)
+    → (after_step Reads values ends rest).broken ≡ None → (after_step Reads values ends rest).moves ≡ map Foreign values ++ seen
+read_then values ends rest seen h e = grind (arith, h, e)
+
+read_alone : (variant : Variant) (fates : ℕ → Fate) (flag fresh : Bool) (b : Batch) → fresh ≡ false
+    → (walk fates 1 (ask_steps variant flag fresh b)).broken ≡ None
+    → (walk fates 1 (ask_steps variant flag fresh b)).moves ≡ seen_in fates (reading_steps variant) 1
+read_alone variant fates flag fresh b e whole = grind (arith, read_then, e, whole)
+
+-- memory may be wanting besides
+lacking_or : (found : Result Found Refusal) (lacks : Bool) (why : Refusal) → found_unless_wanting found lacks ≡ Err why
+    → (why ≡ Memory) ⊎ (found ≡ Err why)
+lacking_or found lacks why e = grind (arith, e)
+
+-- so such a call leaves what it saw, and is refused as the offer is there
+module _ (i : Instance) (y : History) (c : Course) (b : Batch) (offer : List ℕ) (why : Refusal)
+    (e : given_for (called i (by_lists i) y c offer b).ending ≡ Err why) (none : fault_of why ≡ None) where
+  left_seen : ((called i (by_lists i) y c offer b).state ≡ seen_at i (by_lists i) y c)
+      × (found_unless_wanting (found_at i (by_lists i) (seen_at i (by_lists i) y c) b offer) c.lacks ≡ Err why)
+  left_seen =
+      let seen : History = seen_at i (by_lists i) y c in
+      let found : Result Found Refusal = found_unless_wanting (found_at i (by_lists i) seen b offer) c.lacks in
+      let w : Walked = walk c.fates 1 (ask_steps i.variant y.is_open (is_fresh found) b) in
+      let f = ended_found i seen (all_made (by_lists i) y w.moves) b found w.moves w.broken why e none in
+      (ap (all_made (by_lists i) y) (read_alone i.variant c.fates y.is_open (is_fresh found) b (ap is_fresh f.0) f.1), f.0)
+
+  pub keeps_refused : (called i (by_lists i) y c offer b).state.batches ≡ y.batches
+  keeps_refused =
+      ap (λ (z : History). z.batches) left_seen.0
+      ∙ same_batches i (seen_in c.fates (reading_steps i.variant) 1) y (seen_none c.fates (reading_steps i.variant) 1)
+
+  pub judged_refused : (why ≡ Memory) ⊎ (found_at i (by_lists i) (called i (by_lists i) y c offer b).state b offer ≡ Err why)
+  judged_refused =
+      rw left_seen.0
+      (lacking_or (found_at i (by_lists i) (seen_at i (by_lists i) y c) b offer) c.lacks why left_seen.1)

@@ -1,0 +1,5 @@
+use Rattle.mm_recovery.proofs.Slots.{keeps_fitting}
+use Rattle.mm_recovery.proofs.slot_laws.slots_keep_fitting.Goals as goal
+
+pub returns : goal.returns
+returns c = keeps_fitting

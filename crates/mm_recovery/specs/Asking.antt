@@ -1,0 +1,24 @@
+-- One call of either variant.
+use Rattle.std.specs.Prelude.{◌≢◌, ℕ, List, Result, Err, IfOk}
+use Rattle.mm_recovery.specs.Below.{Variant, Basic, Opt, Standing, Batch, One, Meaning, IsFit, Answer, BatchAnswer, Refusal, Long, CallsOn}
+use Rattle.mm_recovery.specs.Below.{LeavesUntouched, Blames, whole, whole_in, fault_in, AskedInBasic, AskedInOpt}
+use Rattle.mm_recovery.specs.CellWrites.{CallWrites}
+
+-- what a whole call promises, in either core
+abbrev pub AskedIn : Variant → Meaning → Standing → Standing → List ℕ → Batch
+    → Result BatchAnswer Refusal → Type 0
+AskedIn Basic meaning old new offer b result = AskedInBasic meaning old new offer b result
+AskedIn Opt meaning old new offer b result = AskedInOpt meaning old new offer b result
+
+-- One call, for a request that isn't too long: it goes as a call of the variant does, from any
+-- history; its count of faults rose exactly where it tells of a device; its answer has its sizes;
+-- and it is to write the cell for a new request in Basic, in Opt for one that opens a segment.
+pub record IsCall (variant : Variant) (meaning : Meaning) (old new : Standing)
+    (offer request : List ℕ)
+    (result : Result Answer Refusal) : Type 0 where
+  pub goes : CallsOn variant meaning old new offer (One request) (whole_in result)
+  pub untouched : LeavesUntouched (whole_in result) old new
+  pub faults : Blames (fault_in result) old.faults new.faults
+  pub short : result ≢ Err Long
+  pub fits : IfOk result (λ answer. IsFit (One request) (whole answer))
+  pub counts : CallWrites variant result old new

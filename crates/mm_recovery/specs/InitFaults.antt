@@ -1,0 +1,9 @@
+-- How the faults of the devices are told by a first start.
+use Rattle.mm_recovery.specs.Below.{StoreFault}
+use Rattle.mm_store.specs.declared.fault.StoreFault.TheVariants as fault
+use Rattle.mm_recovery.specs.declared.init_fault.InitFault.{InitFault}
+use Rattle.mm_recovery.specs.declared.init_fault.InitFault.TheVariants.{Memory, Store}
+
+abbrev pub store_failed_as : StoreFault → InitFault
+store_failed_as fault.Memory = Memory
+store_failed_as fault.Failed = Store

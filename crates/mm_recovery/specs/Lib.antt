@@ -1,0 +1,15 @@
+pub mod Below
+pub mod Faults
+pub mod Waiting
+pub mod Asking
+pub mod Last
+pub mod Resumes
+pub mod Next
+pub mod Fitting
+pub mod Recovery
+pub mod Blame
+pub mod InitFaults
+pub mod Init
+pub mod Begins
+pub mod SlotLaws
+pub mod CellWrites

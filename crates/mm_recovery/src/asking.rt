@@ -1,0 +1,59 @@
+//! One call of either variant.
+
+ghost use Rattle.std.specs.Prelude.{◌≡◌, false, IfOk, length};
+ghost use Rattle.mm_module.specs.Batch.{One};
+ghost use Rattle.mm_model.specs.Long.{is_long};
+ghost use Rattle.mm_recovery.specs.Asking.{AskedIn, IsCall};
+
+use crate::hosted::Hosted;
+use mm_call::KeptKey;
+use mm_flight::AskCall;
+use mm_model::{Answer, BatchAnswer, Refusal};
+use mm_module::{Batch, Module};
+use mm_platform::Platform;
+
+/// Asks for one request, which isn't too long, offering a snapshot.
+pub fn ask<M: Module, P: Platform>(
+    hosted: &Hosted<M>,
+    platform: &mut P,
+    offer: &[u8],
+    request: &[u8],
+) -> Result<Answer, Refusal>
+    requires { is_long (One request.now) ≡ false }
+    ensures { IsCall hosted.now.variant (M.meaning hosted.now.«module».now)
+        (P.standing platform.old) (P.standing platform.new) offer.now request.now result }
+{
+    match call_one(hosted, platform, offer, request) {
+        Err(refusal) => Err(refusal),
+        Ok(answer) => Ok(answer.into_one()),
+    }
+}
+
+// The call, whose answer has one output.
+fn call_one<M: Module, P: Platform>(
+    hosted: &Hosted<M>,
+    platform: &mut P,
+    offer: &[u8],
+    request: &[u8],
+) -> Result<BatchAnswer, Refusal>
+    requires { is_long (One request.now) ≡ false }
+    ensures asked { AskedIn hosted.now.variant (M.meaning hosted.now.«module».now)
+        (P.standing platform.old) (P.standing platform.new) offer.now (One request.now) result }
+    ensures one { IfOk result (λ answer. length answer.outputs ≡ 1) }
+{
+    let batch = Batch::One(request);
+    match AskCall::begin(hosted.variant, batch) {
+        Ok(call) => {
+            call.finish(
+                hosted.alloc,
+                hosted.module,
+                platform,
+                offer,
+                batch,
+                &mut KeptKey::new(),
+            )
+            .result()
+        }
+        Err(_) => unreachable!(),
+    }
+}
