@@ -44,7 +44,7 @@ pub record IsNotBeyond (slots : Slots) (position : ℕ) : Type 0 where
 
 -- the reply that an answer is
 abbrev pub answer_reply : Answer → Reply
-answer_reply answer = Told answer.again answer.position (answer.output ∷ [])
+answer_reply answer = Told answer.again (answer.position - 1) (answer.output ∷ [])
 
 -- Requests are asked one after another, and these answers are the replies of one run of the module,
 -- from some requests to others.
