@@ -29,7 +29,7 @@ use Rattle.mm_host.proofs.Above.{basic_laws}
 use Rattle.mm_life.specs.Deeds.{Call, Calls, Checkpoints, Deed, DeedLeads, Extends, LosesPower}
 use Rattle.mm_life.specs.Laws.{BasicLifeIsOne}
 use Rattle.mm_life.specs.Premises.{AreUntagged, life_batches, life_messages}
-use Rattle.mm_life.specs.Stages.{IsLife, Stage, life_calls}
+use Rattle.mm_life.specs.Stages.{IsLife, Part, Stage, life_calls}
 use Rattle.mm_life.specs.Below.{Checkpointed, CheckpointRefusal}
 use Rattle.std.specs.Prelude.{Result}
 use Rattle.mm_life.proofs.Living.{AreSeen, IsNoCall, LifeLaws, Stays, lives}
@@ -79,23 +79,26 @@ module _ (meaning : Meaning) (lawful : IsLawful meaning) (key : List ℕ) (all o
 
   stays : (y : History) (old : Standing) (deed : Deed) (new : Standing) → IsNoCall deed → DeedLeads Basic meaning old deed new
       → StandsFor I old y → IsWithin all others asked I y → Stays all others asked I y new
-  stays y old (Calls c) new no f stands within = absurd no
-  stays y old (Extends values) new no f stands within = stays_same y old new f.0 stands within
-  stays y old LosesPower new no f stands within = stays_same y old new f.0 stands within
-  stays y old (Checkpoints said) new no f stands within = stays_checked y old new said f stands within
+  stays y old (Calls c) new quiet f stands within = absurd quiet
+  stays y old (Extends values) new quiet f stands within = stays_same y old new f.0 stands within
+  stays y old LosesPower new quiet f stands within = stays_same y old new f.0 stands within
+  stays y old (Checkpoints said) new quiet f stands within = stays_checked y old new said f stands within
 
 module _ (meaning : Meaning) (lawful : IsLawful meaning) (key : List ℕ) where
   abbrev B : Instance
   B = basic meaning key
 
-  basic_life : (all : List (List ℕ)) (asked : List Batch) → IsClear all → LifeLaws all [] asked B
+  -- nothing is asked of what the register shows
+  abbrev NothingSeen : Standing → Part → Standing → Type 0
+  NothingSeen old part new = Unit {0}
+
+  basic_life : (all : List (List ℕ)) (asked : List Batch) → IsClear all → LifeLaws all [] asked B NothingSeen
   basic_life all asked clear = record {
     laws = λ final. basic_laws meaning lawful key all [] asked final clear (none_foreign B.barrier asked);
     leads = λ old new offer request gives c d s. (_, (c.goes key key d s).stands);
-    IsSeen = λ old part new. Unit {0};
     shows = λ y old part final seen stands reaches leads. tt;
-    stays = λ y old deed new no seen f stands within.
-        stays meaning lawful key all [] asked clear y old deed new no f stands within;
+    stays = λ y old deed new quiet seen f stands within.
+        stays meaning lawful key all [] asked clear y old deed new quiet f stands within;
   }
 
   all_seen : (all : List (List ℕ)) (asked : List Batch) (clear : IsClear all) (start : Standing) (stages : List Stage)

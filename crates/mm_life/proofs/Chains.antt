@@ -82,15 +82,15 @@ module _ (variant : Variant) (meaning : Meaning) (before after : Standing) where
   begun_by (Err why) old new came g = failed g.0 refl why g.2
 
   -- it stops at once
-  at_once : (waiting : Option Pending) (offer : List ℕ) (calls : List Call) (begun : Result Resumed HostFault) (sent : List ℕ)
-      (fault : SessionFault) (result : Result Unit SessionFault) → SendsReply begun sent (Err fault) → result ≡ Err fault
-      → Begun variant meaning before after waiting offer calls begun
-      → Ends variant meaning before after offer (λ (request : List ℕ). (p : Pending) × (waiting ≡ Some p) × (p.request ≡ request))
+  at_once : (final : Standing) (waiting : Option Pending) (offer : List ℕ) (calls : List Call) (begun : Result Resumed HostFault)
+      (sent : List ℕ) (fault : SessionFault) (result : Result Unit SessionFault) → final ≡ after → SendsReply begun sent (Err fault)
+      → result ≡ Err fault → Begun variant meaning before after waiting offer calls begun
+      → Ends variant meaning before final offer (λ (request : List ℕ). (p : Pending) × (waiting ≡ Some p) × (p.request ≡ request))
       calls result
-  at_once waiting offer calls begun sent fault result says is (failed same none why e) = rests same none
-  at_once waiting offer calls begun sent fault result says is (starts same none waits e) = rests same none
-  at_once waiting offer calls begun sent fault result says is (repeats p some gives c called t) =
-      stops p.request (p, some, refl) gives c called begun t sent fault says is
+  at_once final waiting offer calls begun sent fault result ends says is (failed same none why e) = rests (ends ∙ same) none
+  at_once final waiting offer calls begun sent fault result ends says is (starts same none waits e) = rests (ends ∙ same) none
+  at_once final waiting offer calls begun sent fault result ends says is (repeats p some gives c called t) =
+      stops p.request (p, some, refl) gives (rw ends c) called begun t sent fault says is
 
   -- what waited was answered, or nothing did
   record FirstCalls (waiting : Option Pending) (offer : List ℕ) (first : Resumed) : Type 0 where
@@ -107,13 +107,16 @@ module _ (variant : Variant) (meaning : Meaning) (before after : Standing) where
       rw is (record { calls = λ lines at h. (after, c, h); offers = λ lines. refl })
   answered_first (Ok answer) p offer first c (inr t) = let clash : Ok first ≡ Err (store_fault_as t.0) = t.1 in absurd (cc)
 
-  first_by : (waiting : Option Pending) (offer : List ℕ) (calls : List Call) (first : Resumed)
-      → Begun variant meaning before after waiting offer calls (Ok first) → FirstCalls waiting offer first
-  first_by waiting offer calls first (failed same none why e) = let clash : Ok first ≡ Err (store_fault_as why) = e in absurd (cc)
-  first_by waiting offer calls first (starts same none waits e) =
-      let is : first ≡ Start offer = cc in
-      rw (waits, is) (record { calls = λ lines at h. rw same at h; offers = λ lines. refl })
-  first_by waiting offer calls first (repeats p some gives c called t) = rw some (answered_first gives p offer first c t)
+  first_by : (waiting : Option Pending) (offer : List ℕ) (calls : List Call) (first : Resumed) (came : Result Resumed HostFault)
+      → came ≡ Ok first → Begun variant meaning before after waiting offer calls came → FirstCalls waiting offer first
+  first_by waiting offer calls first came is (failed same none why e) =
+      let clash : Ok first ≡ Err (store_fault_as why) = sym is ∙ e in absurd (cc)
+  first_by waiting offer calls first came is (starts same none waits e) =
+      let both : Ok first ≡ Ok (Start offer) = sym is ∙ e in
+      let first_is : first ≡ Start offer = cc in
+      rw (waits, first_is) (record { calls = λ lines at h. rw same at h; offers = λ lines. refl })
+  first_by waiting offer calls first came is (repeats p some gives c called t) =
+      rw some (answered_first gives p offer first c (rw is at t))
 
 -- how the lines end
 module _ (variant : Variant) (meaning : Meaning) (number : ℕ) (at : Place) (after : Standing) (new : StoreStanding)
@@ -121,7 +124,7 @@ module _ (variant : Variant) (meaning : Meaning) (number : ℕ) (at : Place) (af
   abbrev InHand : List ℕ → Type 0
   InHand request = (held : List ℕ) × BeginsWith more request held
 
-  line_ends : {old : StoreStanding} (recorded : Result Unit StoreFault) (middle : StoreStanding) (line : List ℕ)
+  line_ends : (recorded : Result Unit StoreFault) (middle : StoreStanding) (line : List ℕ)
       (came : Result Resumed HostFault) (fault : SessionFault)
       (g : AfterRecord variant meaning at.platform after recorded middle new at.last line came) → InHand line
       → SendsReply came sent (Err fault)
@@ -164,13 +167,13 @@ module _ {variant : Variant} {meaning : Meaning} {before after : Standing} {old 
   chain_by (inl e) = record {
     at = before;
     calls = refl;
-    ends = rw e.0 (at_once variant meaning before s.platform waiting (first_bytes s) _ s.begun s.sent e.2.fault result e.2.says e.2.stops
-        began);
+    ends = at_once variant meaning before s.platform after waiting (first_bytes s) _ s.begun s.sent e.2.fault result e.0 e.2.says
+        e.2.stops began;
   }
   chain_by (inr g) =
       let l = g.lines in
       let from : Place = record { platform = s.platform; store = s.store; last = g.first } in
-      let f = first_by variant meaning before s.platform waiting (first_bytes s) _ g.first (rw g.begins at began) in
+      let f = first_by variant meaning before s.platform waiting (first_bytes s) _ g.first s.begun g.begins began in
       record {
         at = l.at.platform;
         calls = f.calls l.calls l.at.platform (served_calls variant meaning from l.at l.calls l.serves);

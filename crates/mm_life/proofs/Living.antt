@@ -42,10 +42,10 @@ IsNoCall _ = Unit {0}
 
 -- What a life takes from its variant: the laws of calls up to a part's end; what is asked of a part by what stands before and
 -- behind it; and so what the register shows there; and what other deeds leave.
-pub record LifeLaws (all others : List (List ℕ)) (asked : List Batch) (i : Instance) : Type 0 where
+pub record LifeLaws (all others : List (List ℕ)) (asked : List Batch) (i : Instance)
+    (IsSeen : Standing → Part → Standing → Type 0) : Type 0 where
   pub laws : (final : Standing) → Laws all others asked i final
   pub leads : CallsLead i
-  pub IsSeen : Standing → Part → Standing → Type 0
   pub shows : (y : History) (old : Standing) (part : Part) (final : Standing) → IsSeen old part final → StandsFor i old y
       → Reaches i.variant i old final → Leads i old final → Shows i.variant all others i y old final
   pub stays : (y : History) (old : Standing) (deed : Deed) (new : Standing) → IsNoCall deed → IsSeen old (Does deed) new
@@ -75,7 +75,8 @@ listed_right all asked i calls more a = record {
       (rw (map-append (λ (c : Call). One c.request) calls more) at a.batches);
 }
 
-module _ {all others : List (List ℕ)} {asked : List Batch} {i : Instance} (life : LifeLaws all others asked i) where
+module _ {all others : List (List ℕ)} {asked : List Batch} {i : Instance} {IsSeen : Standing → Part → Standing → Type 0}
+    (life : LifeLaws all others asked i IsSeen) where
   -- one part of a life
   abbrev PartLived : History → (old : Standing) (part : Part) (new : Standing) → PartLeads i.variant i.meaning old part new → Type 0
   PartLived y old part new f =
@@ -83,7 +84,7 @@ module _ {all others : List (List ℕ)} {asked : List Batch} {i : Instance} (lif
       (λ after. PartSteps i.variant i.meaning old part new f (requests_of y.batches) after)
 
   call_lives : (y : History) (old new : Standing) (c : Call) (f : IsCall i.variant i.meaning old new c.offer c.request c.gives)
-      → StandsFor i old y → IsWithin all others asked i y → life.IsSeen old (Does (Calls c)) new → IsFirstGenuine i y (c ∷ [])
+      → StandsFor i old y → IsWithin all others asked i y → IsSeen old (Does (Calls c)) new → IsFirstGenuine i y (c ∷ [])
       → AreListed all asked i (c ∷ []) → PartLived y old (Does (Calls c)) new f
   call_lives y old new c f stands within seen first listed =
       let laws = life.laws new in
@@ -116,7 +117,7 @@ module _ {all others : List (List ℕ)} {asked : List Batch} {i : Instance} (lif
   }
 
   part_lives : (y : History) (old : Standing) (part : Part) (new : Standing) (f : PartLeads i.variant i.meaning old part new)
-      → StandsFor i old y → IsWithin all others asked i y → life.IsSeen old part new
+      → StandsFor i old y → IsWithin all others asked i y → IsSeen old part new
       → IsFirstGenuine i y (part_calls i.variant i.meaning old part new f)
       → AreListed all asked i (part_calls i.variant i.meaning old part new f) → PartLived y old part new f
   part_lives y old (Holds p) new f stands within seen first listed =
@@ -133,7 +134,7 @@ module _ {all others : List (List ℕ)} {asked : List Batch} {i : Instance} (lif
   -- what is asked of each part by what stands before and behind it
   abbrev pub AreSeen : Standing → List Stage → Type 0
   AreSeen start [] = Unit {0}
-  AreSeen start (stage ∷ stages) = life.IsSeen start stage.part stage.after × AreSeen stage.after stages
+  AreSeen start (stage ∷ stages) = IsSeen start stage.part stage.after × AreSeen stage.after stages
 
   -- a life from a history
   pub record Lives (y : History) (issued : List (List ℕ)) (start : Standing) (stages : List Stage)

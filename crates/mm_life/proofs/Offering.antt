@@ -1,5 +1,5 @@
 -- What a session offers first is what its slots show.
-use Rattle.std.proofs.Common.{◌≡◌, ◌∙◌, ◌⊎◌, ℕ, List, [], ◌∷◌, ◌++◌, Option, None, Some, Result, Ok, Err, refl, sym, ap, inl, inr}
+use Rattle.std.proofs.Common.{◌≡◌, ◌∙◌, ◌⊎◌, ℕ, List, [], ◌∷◌, ◌++◌, Option, None, Some, Result, Ok, Err, refl, subst, inl, inr}
 use Rattle.mm_digest.specs.declared.variant.Variant.{Variant}
 use Rattle.mm_platform.specs.Standing.{Standing}
 use Rattle.mm_module.specs.Meaning.{Meaning}
@@ -82,6 +82,7 @@ offer_slots variant meaning before after old new left left' received received' r
         ++ untold_calls s goes)
         → IsFirstOffered (first_offer slots waiting) (told_calls (first_bytes s) (told_in (found_waiting s.resumes.waiting) goes)
         ++ untold_calls s goes)
-    by_offers goes (inl same) h = rw same at h
+    by_offers goes (inl same) h = subst (λ (bytes : List ℕ). IsFirstOffered bytes (told_calls (first_bytes s)
+        (told_in (found_waiting s.resumes.waiting) goes) ++ untold_calls s goes)) same h
     by_offers (inl stops) (inr none) h = rw none.0 tt
     by_offers (inr goes) (inr none) h = absurd (none.1 goes.first goes.begins)

@@ -190,25 +190,24 @@ module _ (meaning : Meaning) (key barrier : List ℕ) (all others : List (List �
 
   stays : (y : History) (old : Standing) (deed : Deed) (new : Standing) → IsNoCall deed → IsSeen all others old (Does deed) new
       → DeedLeads Opt meaning old deed new → StandsFor I old y → IsWithin all others asked I y → Stays all others asked I y new
-  stays y old (Calls c) new no seen f stands within = absurd no
-  stays y old (Extends values) new no seen f stands within = stays_extended y old new values f.0 f.1 seen stands within
-  stays y old LosesPower new no seen f stands within = stays_emptied y old new f.0 f.1 stands within
-  stays y old (Checkpoints said) new no seen f stands within = stays_checked y old new said f seen stands within
+  stays y old (Calls c) new quiet seen f stands within = absurd quiet
+  stays y old (Extends values) new quiet seen f stands within = stays_extended y old new values f.0 f.1 seen stands within
+  stays y old LosesPower new quiet seen f stands within = stays_emptied y old new f.0 f.1 stands within
+  stays y old (Checkpoints said) new quiet seen f stands within = stays_checked y old new said f seen stands within
 
 module _ (meaning : Meaning) (lawful : IsLawful meaning) (key barrier : List ℕ) where
   abbrev O : Instance
   O = opt meaning key barrier
 
   opt_life : (all others : List (List ℕ)) (asked : List Batch) → IsClear all → AreNoGuards barrier others asked
-      → LifeLaws all others asked O
+      → LifeLaws all others asked O (IsSeen all others)
   opt_life all others asked clear apart = record {
     laws = λ final. opt_laws meaning lawful key barrier all others asked final clear apart;
     leads = λ old new offer request gives c d s. (_, (c.goes key barrier d s).stands);
-    IsSeen = IsSeen all others;
     shows = λ y old part final seen stands reaches leads.
         shows_by meaning key barrier all others asked clear y old part final y.is_open refl seen stands reaches leads;
-    stays = λ y old deed new no seen f stands within.
-        stays meaning key barrier all others asked clear y old deed new no seen f stands within;
+    stays = λ y old deed new quiet seen f stands within.
+        stays meaning key barrier all others asked clear y old deed new quiet seen f stands within;
   }
 
   all_seen : (all others : List (List ℕ)) (asked : List Batch) (clear : IsClear all) (apart : AreNoGuards barrier others asked)

@@ -6,6 +6,7 @@ use Rattle.mm_platform.specs.declared.plan.Stop.TheVariants.{Quiet}
 use Rattle.mm_module.specs.Batch.{One}
 use Rattle.mm_module.specs.Meaning.{Meaning}
 use Rattle.mm_listing.specs.Tellings.{Telling}
+use Rattle.mm_modules.specs.Modules.{listing_of, meaning_of}
 use Rattle.mm_model.specs.declared.answer.Answer.{Answer}
 use Rattle.mm_model.specs.declared.refusal.Refusal.{Refusal}
 use Rattle.mm_schedule.specs.Events.{Ask, Event}
@@ -125,5 +126,6 @@ lives_tell tells variant meaning start stages f requests follows =
 
 pub lives_keep : RunsKeepPromises → LivesKeepPromises
 lives_keep keeps it variant start stages f requests follows =
-    let r = ran variant _ stages start f [] requests follows in
-    rw r.tells at (keeps it r.events r.replies requests r.runs)
+    let r = ran variant (meaning_of it) stages start f [] requests follows in
+    subst (λ (tellings : List Telling). (listing_of it).promise requests tellings) r.tells
+    (keeps it r.events r.replies requests r.runs)

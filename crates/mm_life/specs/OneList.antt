@@ -26,6 +26,15 @@ pub record SessionSteps (meaning : Meaning) (requests : List (List ℕ)) (told :
   pub run : RunsOver meaning requests told between
   pub committed : (after ≡ between) ⊎ HasUntold hand result between after
 
+-- the replies that are told of calls
+abbrev pub told_replies : List Served → List Reply
+told_replies [] = []
+told_replies (c ∷ calls) = answer_reply c.answer ∷ told_replies calls
+
+abbrev pub call_replies : Result Answer Refusal → List Reply
+call_replies (Ok answer) = answer_reply answer ∷ []
+call_replies (Err why) = []
+
 module _ (variant : Variant) (meaning : Meaning) where
   -- one part of a life: other deeds leave the list
   abbrev pub PartSteps : (old : Standing) (part : Part) (new : Standing)
@@ -45,15 +54,7 @@ module _ (variant : Variant) (meaning : Meaning) where
       × PartSteps start stage.part stage.after f.0 requests between
       × FollowsOn stage.after stages f.1 between after
 
-  -- the replies of a part, and of a life
-  abbrev pub told_replies : List Served → List Reply
-  told_replies [] = []
-  told_replies (c ∷ calls) = answer_reply c.answer ∷ told_replies calls
-
-  abbrev pub call_replies : Result Answer Refusal → List Reply
-  call_replies (Ok answer) = answer_reply answer ∷ []
-  call_replies (Err why) = []
-
+  -- the replies that are told in a part of a life, and in all of it
   abbrev pub part_replies : (old : Standing) (part : Part) (new : Standing)
       → PartLeads variant meaning old part new → List Reply
   part_replies old (Holds p) new s = told_replies (told_by s)

@@ -1,5 +1,6 @@
 -- The calls that a session made, one after another, by its steps; and what it told of them.
 use Rattle.std.specs.Prelude.{◌≡◌, ℕ, List, [], ◌∷◌, ◌++◌, Option, None, Some, Result, Ok, Err}
+use Rattle.std.proofs.Common.{inl, inr}
 use Rattle.mm_base.specs.declared.replay_fault.ReplayFault.TheVariants.{WriteFault}
 use Rattle.mm_life.specs.Below.{Variant, Standing, Meaning, StoreFault, StoreStanding, Pending, snapshot_at, AfterRecord, AsksNext}
 use Rattle.mm_life.specs.Below.{AfterFinding, AfterOffer, AsksAndKeeps, HostFault, Resumed, AfterResume, Place, Served, ServedOn}
