@@ -1,14 +1,13 @@
 -- Basic: a life is one whole.
-use Rattle.std.specs.List.{AllByRecursion, Contains}
-use Rattle.std.proofs.Common.{◌≡◌, ◌∙◌, ℕ, List, [], ◌∷◌, map, arith, refl, sym, ap, subst}
-use Rattle.mm_base.specs.Limits.{last_position}
+use Rattle.std.specs.List.{Contains}
+use Rattle.std.proofs.Common.{◌≡◌, ◌∙◌, ℕ, List, [], ◌∷◌, map, arith, refl, ap, subst}
 use Rattle.mm_digest.specs.Messages.{start_message}
 use Rattle.mm_digest.specs.declared.variant.Variant.TheVariants.{Basic}
 use Rattle.mm_seal.specs.Snapshot.{Content}
 use Rattle.mm_platform.specs.Standing.{Standing}
 use Rattle.mm_module.specs.Batch.{Batch}
 use Rattle.mm_module.specs.Meaning.{IsLawful, Meaning}
-use Rattle.mm_model.specs.History.{Foreign, History, Move, first_history, total_of}
+use Rattle.mm_model.specs.History.{Foreign, History, Move, first_history}
 use Rattle.mm_model.specs.Instance.{Instance}
 use Rattle.mm_model.specs.InstanceWords.{basic}
 use Rattle.mm_model.specs.ListLaws.{each_self}
@@ -28,12 +27,11 @@ use Rattle.mm_opt.specs.ChecksOn.{ChecksOn}
 use Rattle.mm_host.proofs.Above.{basic_laws}
 use Rattle.mm_life.specs.Deeds.{Call, Calls, Checkpoints, Deed, DeedLeads, Extends, LosesPower}
 use Rattle.mm_life.specs.Laws.{BasicLifeIsOne}
-use Rattle.mm_life.specs.Premises.{AreUntagged, life_batches, life_messages}
-use Rattle.mm_life.specs.Stages.{IsLife, Part, Stage, life_calls}
+use Rattle.mm_life.specs.Premises.{life_batches, life_messages}
+use Rattle.mm_life.specs.Stages.{Part, Stage, life_calls}
 use Rattle.mm_life.specs.Below.{Checkpointed, CheckpointRefusal}
 use Rattle.std.specs.Prelude.{Result}
 use Rattle.mm_life.proofs.Living.{AreSeen, IsNoCall, LifeLaws, Stays, lives}
-use Rattle.mm_life.proofs.OneCall.{AreListed}
 
 none_reset : (values : List (List ℕ)) → from_reset (map Foreign values) ≡ []
 none_reset [] = refl

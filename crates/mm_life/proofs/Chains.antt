@@ -1,5 +1,5 @@
 -- A session as its calls: those that it told, one after another; and at most one behind them that it didn't tell.
-use Rattle.std.proofs.Common.{◌≡◌, ◌∙◌, ℕ, List, [], ◌∷◌, ◌++◌, Option, None, Some, Result, Ok, Err, refl, sym, ap, inl, inr}
+use Rattle.std.proofs.Common.{◌≡◌, ◌∙◌, ℕ, List, [], ◌∷◌, ◌++◌, Option, None, Some, Result, Ok, Err, refl, sym, inl, inr}
 use Rattle.mm_base.specs.declared.replay_fault.ReplayFault.TheVariants as input
 use Rattle.mm_digest.specs.declared.variant.Variant.{Variant}
 use Rattle.mm_platform.specs.Standing.{Standing}
@@ -12,14 +12,14 @@ use Rattle.mm_store.specs.declared.fault.StoreFault.{StoreFault}
 use Rattle.mm_recovery.specs.Asking.{IsCall}
 use Rattle.mm_recovery.specs.Faults.{refusal_fault, store_fault_as}
 use Rattle.mm_recovery.specs.Last.{snapshot_at}
-use Rattle.mm_recovery.specs.Next.{AfterRecord, AsksNext}
-use Rattle.mm_recovery.specs.Resumes.{AfterFinding, AfterOffer, AsksAndKeeps, started}
+use Rattle.mm_recovery.specs.Next.{AfterRecord}
+use Rattle.mm_recovery.specs.Resumes.{AfterFinding, AfterOffer, started}
 use Rattle.mm_recovery.specs.declared.fault.HostFault.{HostFault}
 use Rattle.mm_recovery.specs.declared.resuming.Resumed.{Resumed}
 use Rattle.mm_recovery.specs.declared.resuming.Resumed.TheVariants.{Answered, Start}
 use Rattle.mm_host.specs.AnySlots.{offered_after}
 use Rattle.mm_host.specs.Continuing.{IsInHand, told_first, told_in}
-use Rattle.mm_host.specs.Sessions.{AfterResume, BeginsWith, GoesOn, IsAtRest, Place, SendsReply, Served, ServedOn, Sessions, StopsInLine}
+use Rattle.mm_host.specs.Sessions.{AfterResume, BeginsWith, Place, SendsReply, Served, ServedOn, Sessions, StopsInLine}
 use Rattle.mm_host.specs.Sessions.{ended_as}
 use Rattle.mm_host.specs.declared.fault.SessionFault.{SessionFault}
 use Rattle.mm_host.specs.declared.fault.SessionFault.TheVariants.{Host, Lines}

@@ -1,6 +1,6 @@
 -- A life, part after part, in either variant.
 use Rattle.std.specs.List.{AllByRecursion, Contains, flat_map}
-use Rattle.std.proofs.Common.{◌≡◌, ◌∙◌, ℕ, List, [], ◌∷◌, ◌++◌, Result, refl, sym, ap, subst, append_assoc}
+use Rattle.std.proofs.Common.{◌≡◌, ℕ, List, [], ◌∷◌, ◌++◌, refl, ap, append_assoc}
 use Rattle.std.proofs.lemmas.Grind.{flat_map-append}
 use Rattle.std.proofs.lemmas.List.{append-nil, map-append}
 use Rattle.mm_seal.specs.Snapshot.{Content}
@@ -10,9 +10,7 @@ use Rattle.mm_model.specs.History.{History, requests_of}
 use Rattle.mm_model.specs.Instance.{Instance}
 use Rattle.mm_model.specs.ListLaws.{each_append, each_left, each_right}
 use Rattle.mm_model.specs.Places.{Names}
-use Rattle.mm_model.specs.Standing.{IsGenuine, IsRight, StandsFor}
-use Rattle.mm_model.specs.declared.answer.Answer.{Answer}
-use Rattle.mm_model.specs.declared.refusal.Refusal.{Refusal}
+use Rattle.mm_model.specs.Standing.{IsGenuine, StandsFor}
 use Rattle.mm_call.specs.Asked.{IsWithin, right_messages}
 use Rattle.mm_call.specs.Found.{right_content}
 use Rattle.mm_call.specs.Leaving.{whole_in}
@@ -20,7 +18,7 @@ use Rattle.mm_recovery.specs.Asking.{IsCall}
 use Rattle.mm_call.proofs.Above.{each_at}
 use Rattle.mm_host.proofs.Above.{Laws, Reaches, Shows, pending_for}
 use Rattle.mm_life.specs.Deeds.{Call, Calls, Checkpoints, Deed, DeedLeads, Extends, LosesPower}
-use Rattle.mm_life.specs.OneList.{CallSteps, FollowsOn, IsLastJudged, PartSteps}
+use Rattle.mm_life.specs.OneList.{FollowsOn, IsLastJudged, PartSteps}
 use Rattle.mm_life.specs.Premises.{AreUntagged, IsFirstUntagged, issued_in, requests_asked, snapshots_of}
 use Rattle.mm_life.specs.SessionCalls.{InHandOf, first_bytes, told_by, untold_calls}
 use Rattle.mm_life.specs.Stages.{Does, Holds, IsLife, Part, PartLeads, Stage, end_of, latest_calls, life_calls, part_calls}
@@ -177,8 +175,7 @@ module _ {all others : List (List ℕ)} {asked : List Batch} {i : Instance} {IsS
       let named_then : AllByRecursion (IsGenuine i p.after) (issued ++ snapshots_of calls) =
       each_append (IsGenuine i p.after) issued (snapshots_of calls) (all_genuine i y p.after p.names issued named) p.issued in
       let r = lives stages p.after (issued ++ snapshots_of calls) stage.after f.1 p.stands p.within seen.1 named_then untagged.1
-      (listed_right all asked i calls more listed) in
-      (
+      (listed_right all asked i calls more listed) in (
         record {
           after = r.0.after;
           stands = r.0.stands;

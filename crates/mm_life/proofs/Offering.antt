@@ -1,5 +1,5 @@
 -- What a session offers first is what its slots show.
-use Rattle.std.proofs.Common.{◌≡◌, ◌∙◌, ◌⊎◌, ℕ, List, [], ◌∷◌, ◌++◌, Option, None, Some, Result, Ok, Err, refl, subst, inl, inr}
+use Rattle.std.proofs.Common.{◌≡◌, ◌⊎◌, ℕ, List, [], ◌∷◌, ◌++◌, Option, None, Some, Result, Ok, Err, refl, subst, inl, inr}
 use Rattle.mm_digest.specs.declared.variant.Variant.{Variant}
 use Rattle.mm_platform.specs.Standing.{Standing}
 use Rattle.mm_module.specs.Meaning.{Meaning}
@@ -17,8 +17,7 @@ use Rattle.mm_recovery.specs.declared.resuming.Resumed.{Resumed}
 use Rattle.mm_recovery.proofs.Above.{Saw, one_waiting, saw_two}
 use Rattle.mm_host.specs.AnySlots.{offered_after}
 use Rattle.mm_host.specs.Continuing.{told_in}
-use Rattle.mm_host.specs.Sessions.{AfterResume, Served, Sessions}
-use Rattle.mm_host.specs.declared.fault.SessionFault.{SessionFault}
+use Rattle.mm_host.specs.Sessions.{AfterResume, Served}
 use Rattle.mm_life.specs.Deeds.{Call}
 use Rattle.mm_life.specs.Laws.{SessionsOfferSlots}
 use Rattle.mm_life.specs.SessionCalls.{IsFirstOffered, bytes_of, first_bytes, first_calls, found_waiting, offered_calls, offered_first}

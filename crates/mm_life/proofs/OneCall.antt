@@ -1,7 +1,6 @@
 -- One call of a life, in either variant: where it leads from a history that the platform stands for.
-use Rattle.std.specs.Prelude.{IsSome}
 use Rattle.std.specs.List.{AllByRecursion, Contains}
-use Rattle.std.proofs.Common.{◌≡◌, ◌≤◌, ◌∙◌, ◌⊎◌, ℕ, List, [], ◌∷◌, ◌++◌, Option, None, Some, Result, Ok, Err, refl, sym, ap, subst, inl, inr}
+use Rattle.std.proofs.Common.{◌≡◌, ◌≤◌, ◌∙◌, ◌⊎◌, ℕ, List, [], ◌∷◌, ◌++◌, Option, None, Some, Result, Ok, Err, refl, ap, subst, inl, inr}
 use Rattle.mm_base.specs.Limits.{last_position}
 use Rattle.mm_seal.specs.Snapshot.{Content}
 use Rattle.mm_platform.specs.Standing.{Standing}
@@ -11,17 +10,15 @@ use Rattle.mm_model.specs.History.{History, requests_of, total_of}
 use Rattle.mm_model.specs.Instance.{Instance}
 use Rattle.mm_model.specs.Messages.{Within}
 use Rattle.mm_model.specs.Places.{Names}
-use Rattle.mm_model.specs.Standing.{IsGenuine, IsRight, StandsFor}
+use Rattle.mm_model.specs.Standing.{IsGenuine, StandsFor}
 use Rattle.mm_model.specs.declared.answer.Answer.{Answer}
 use Rattle.mm_model.specs.declared.answer.BatchAnswer.{BatchAnswer}
 use Rattle.mm_model.specs.declared.refusal.Refusal.{Refusal}
-use Rattle.mm_model.specs.declared.refusal.Refusal.TheVariants.{Memory}
 use Rattle.mm_call.specs.Asked.{IsWithin, right_messages}
 use Rattle.mm_call.specs.CallsOn.{CallsOn}
 use Rattle.mm_call.specs.Coming.{Comes, grown, kept}
-use Rattle.mm_call.specs.Found.{found_at, right_content}
+use Rattle.mm_call.specs.Found.{right_content}
 use Rattle.mm_call.specs.Leaving.{whole, whole_in}
-use Rattle.mm_call.specs.Levels.{by_lists}
 use Rattle.mm_call.specs.OfferLaws.{issued_once}
 use Rattle.mm_call.specs.Refusals.{fault_of}
 use Rattle.mm_call.proofs.Above.{answered_at, requests-push}
@@ -29,7 +26,7 @@ use Rattle.mm_schedule.specs.Machine.{StepsOn}
 use Rattle.mm_recovery.specs.Asking.{IsCall}
 use Rattle.mm_recovery.proofs.Above.{Met, grows}
 use Rattle.mm_host.specs.Continuing.{answer_reply}
-use Rattle.mm_host.proofs.Above.{Laws, Makes, Reaches, Shows, by_fault, pending_for, steps_again, steps_fresh}
+use Rattle.mm_host.proofs.Above.{Laws, Makes, by_fault, pending_for, steps_again, steps_fresh}
 use Rattle.mm_life.specs.Deeds.{Call}
 use Rattle.mm_life.specs.OneList.{CallSteps, IsLastJudged}
 use Rattle.mm_life.specs.Premises.{issued_in, requests_asked}
@@ -77,8 +74,8 @@ module _ {all others : List (List ℕ)} {asked : List Batch} {i : Instance} wher
         let at = answered_at i y m.after offer (One request) (whole answer) m.comes in
         let most : total_of m.after.batches ≤ last_position = rw at.0 at c.fits.most in
         λ content right. subst (λ (x : Content). Names i m.after x)
-            (issued_once i answer.snapshot m.after content (laws.formed m.after most) at.1 right)
-            (m.issues (whole answer) refl).names
+        (issued_once i answer.snapshot m.after content (laws.formed m.after most) at.1 right)
+        (m.issues (whole answer) refl).names
 
     pub issues_genuine : (old new : Standing) (offer request : List ℕ) (gives : Result Answer Refusal) (y : History)
         → IsCall i.variant i.meaning old new offer request gives

@@ -1,19 +1,17 @@
 -- Opt: a life is one whole.
-use Rattle.std.specs.List.{AllByRecursion, Contains, flat_map}
+use Rattle.std.specs.List.{AllByRecursion, Contains}
 use Rattle.std.specs.Option.{option_map, option_map_or}
 use Rattle.std.specs.Prelude.{Result}
-use Rattle.std.proofs.Common.{◌≡◌, ◌≢◌, ◌∙◌, ◌++◌, ℕ, Bool, true, false, List, [], ◌∷◌, Option, None, Some, map, fold, arith, refl, sym, ap, subst, inl, inr}
-use Rattle.mm_base.specs.Limits.{last_position}
-use Rattle.mm_digest.specs.Messages.{extended_message, extended_of, start_message}
+use Rattle.std.proofs.Common.{◌≡◌, ◌∙◌, ◌++◌, ℕ, Bool, true, false, List, [], ◌∷◌, Option, Some, map, fold, arith, refl, sym, ap, subst, inl}
+use Rattle.mm_digest.specs.Messages.{extended_of, start_message}
 use Rattle.mm_digest.specs.declared.variant.Variant.TheVariants.{Opt}
 use Rattle.mm_seal.specs.Snapshot.{Content}
-use Rattle.mm_platform.specs.Standing.{Item, Standing, foreign_item, item_values}
+use Rattle.mm_platform.specs.Standing.{Item, Standing, foreign_item}
 use Rattle.mm_platform.specs.Steps.{beside}
 use Rattle.mm_module.specs.Batch.{Batch}
 use Rattle.mm_module.specs.Meaning.{IsLawful, Meaning}
-use Rattle.mm_model.specs.Chains as chains
 use Rattle.mm_model.specs.FormLaws.{reads_zero}
-use Rattle.mm_model.specs.History.{Entry, Foreign, History, Move, Power, Value, first_history, moved, register_value_of}
+use Rattle.mm_model.specs.History.{Foreign, History, Power, Value, first_history, moved, register_value_of}
 use Rattle.mm_model.specs.Instance.{Instance}
 use Rattle.mm_model.specs.InstanceWords.{opt}
 use Rattle.mm_model.specs.ListLaws.{each_left, each_right, each_self}
@@ -21,10 +19,9 @@ use Rattle.mm_model.specs.Messages.{AreNoGuards, IsClear, Within}
 use Rattle.mm_model.specs.Moves.{Digests, digests_of}
 use Rattle.mm_model.specs.Places.{Names}
 use Rattle.mm_model.specs.Sound.{IsSound}
-use Rattle.mm_model.specs.Standing.{IsGenuine, StandsFor, cell_of, issued_bytes}
-use Rattle.mm_seal.specs.Cell.{cell_spelling}
+use Rattle.mm_model.specs.Standing.{IsGenuine, StandsFor, issued_bytes}
 use Rattle.mm_model.proofs.Above.{opt_issued}
-use Rattle.mm_call.specs.Asked.{IsWithin, counted_part, moves_messages}
+use Rattle.mm_call.specs.Asked.{IsWithin, moves_messages}
 use Rattle.mm_call.specs.Levels.{all_made, by_digests, by_lists}
 use Rattle.mm_call.specs.OfferLaws.{issued_once, opt_content}
 use Rattle.mm_call.specs.Premises.{AreShown}
@@ -40,13 +37,12 @@ use Rattle.mm_callers.proofs.Above.{check_goes_on, check_leaves}
 use Rattle.mm_host.proofs.Above.{Reaches, ShowsAt, foreign_of, messages_looked, opt_laws}
 use Rattle.mm_recovery.specs.Begins.{first_on}
 use Rattle.mm_life.specs.Below.{CheckpointRefusal, Checkpointed}
-use Rattle.mm_life.specs.Deeds.{Call, Calls, Checkpoints, Deed, DeedLeads, Extends, LosesPower}
+use Rattle.mm_life.specs.Deeds.{Calls, Checkpoints, Deed, DeedLeads, Extends, LosesPower}
 use Rattle.mm_life.specs.Laws.{OptLifeIsOne}
-use Rattle.mm_life.specs.Premises.{AreUntagged, call_messages, closing_messages, life_batches, life_messages, opt_messages, others_values}
+use Rattle.mm_life.specs.Premises.{closing_messages, life_batches, life_messages, opt_messages, others_values}
 use Rattle.mm_life.specs.Premises.{register_messages, shown_messages}
-use Rattle.mm_life.specs.Stages.{Does, IsLife, Part, Stage, life_calls}
+use Rattle.mm_life.specs.Stages.{Does, Part, Stage}
 use Rattle.mm_life.proofs.Living.{AreSeen, IsNoCall, LifeLaws, Stays, lives}
-use Rattle.mm_life.proofs.OneCall.{AreListed}
 use Rattle.mm_life.proofs.OptSeen.{IsSeen, items_told, seen_closing, seen_open, seen_shut}
 use Rattle.mm_life.proofs.Sessions.{Leads}
 
@@ -219,8 +215,7 @@ module _ (meaning : Meaning) (lawful : IsLawful meaning) (key barrier : List ℕ
       let shown : List (List ℕ) = shown_messages stage.after.items in
       let closing : List (List ℕ) = closing_messages stage.part start.cell stage.after.items in
       let rest : List (List ℕ) = register_messages stage.after stages in
-      let front = each_left (Contains all) (shown ++ closing) rest w in
-      (
+      let front = each_left (Contains all) (shown ++ closing) rest w in (
         record {
           registers = each_left (Contains all) shown closing front;
           values = each_left (Contains others) (option_map_or foreign_items stage.after.items []) (others_values stages) v;

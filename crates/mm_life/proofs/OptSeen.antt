@@ -1,28 +1,26 @@
 -- Opt: what the register shows behind a part of a life, and what is asked of it.
 use Rattle.std.specs.List.{AllByRecursion, Contains}
 use Rattle.std.specs.Option.{option_map, option_map_or}
-use Rattle.std.proofs.Common.{◌≡◌, ◌∙◌, ◌++◌, ℕ, true, false, List, [], ◌∷◌, Option, None, Some, length, take, drop, refl, sym, ap, subst}
+use Rattle.std.proofs.Common.{◌≡◌, ◌∙◌, ◌++◌, ℕ, true, false, List, [], ◌∷◌, Option, None, Some, refl, sym, ap}
 use Rattle.std.proofs.Common.{append_assoc}
 use Rattle.std.proofs.lemmas.List.{map-append, take_at}
 use Rattle.mm_digest.specs.Messages.{anchored_message, extended_message, zero_bytes}
-use Rattle.mm_digest.specs.declared.variant.Variant.TheVariants.{Opt}
 use Rattle.mm_seal.specs.Cell.{IsCell, cell_spelling}
 use Rattle.mm_seal.specs.declared.cell.Cell.{Cell}
 use Rattle.mm_platform.specs.Standing.{Item, Standing, item_values, register_after}
 use Rattle.mm_module.specs.Meaning.{Meaning}
 use Rattle.mm_model.specs.ChainLaws.{after-append}
-use Rattle.mm_model.specs.Chains.{after, register_of, trail}
+use Rattle.mm_model.specs.Chains.{after, register_of}
 use Rattle.mm_model.specs.DigestLaws.{register_folds}
 use Rattle.mm_model.specs.FormLaws.{reads_zero}
 use Rattle.mm_model.specs.History.{History, first_history, register_value_of}
-use Rattle.mm_model.specs.HistoryWords.{cell_digest_of}
 use Rattle.mm_model.specs.Instance.{Instance}
 use Rattle.mm_model.specs.InstanceWords.{opt}
 use Rattle.mm_model.specs.Messages.{Within}
-use Rattle.mm_model.specs.Standing.{StandsFor, cell_of, register_reads}
+use Rattle.mm_model.specs.Standing.{StandsFor, cell_of}
 use Rattle.mm_call.specs.Asked.{counted_part}
 use Rattle.mm_call.specs.Premises.{AreShown}
-use Rattle.mm_call.specs.Tied.{foreign_items, standing_items}
+use Rattle.mm_call.specs.Tied.{foreign_items}
 use Rattle.mm_call.proofs.Above.{counted_open, shown_back, shown_shut}
 use Rattle.mm_callers.specs.Closing.{MayClose}
 use Rattle.mm_life.specs.Premises.{closing_messages, closings, digest_in, shown_messages}

@@ -1,6 +1,6 @@
 -- A session of a life: its calls one after another, and how it ends, from a history that the platform stands for.
-use Rattle.std.specs.List.{AllByRecursion, Contains, flat_map}
-use Rattle.std.proofs.Common.{◌≡◌, ◌∙◌, ◌⊎◌, ℕ, List, [], ◌∷◌, ◌++◌, Result, Ok, Err, refl, sym, ap, subst, inl, inr}
+use Rattle.std.specs.List.{AllByRecursion, Contains}
+use Rattle.std.proofs.Common.{◌≡◌, ℕ, List, [], ◌∷◌, ◌++◌, Result, Ok, Err, refl, inl}
 use Rattle.std.proofs.lemmas.Grind.{flat_map-append}
 use Rattle.mm_seal.specs.Snapshot.{Content}
 use Rattle.mm_digest.specs.declared.variant.Variant.{Variant}
@@ -14,7 +14,6 @@ use Rattle.mm_model.specs.Messages.{Within}
 use Rattle.mm_model.specs.Moves.{Digests}
 use Rattle.mm_model.specs.Places.{Names}
 use Rattle.mm_model.specs.Standing.{IsGenuine, StandsFor}
-use Rattle.mm_model.specs.declared.answer.Answer.{Answer}
 use Rattle.mm_model.specs.declared.answer.BatchAnswer.{BatchAnswer}
 use Rattle.mm_model.specs.declared.refusal.Refusal.{Refusal}
 use Rattle.mm_call.specs.Asked.{IsWithin, right_messages}
@@ -22,18 +21,15 @@ use Rattle.mm_call.specs.CallsOn.{CallsOn}
 use Rattle.mm_call.specs.Found.{right_content}
 use Rattle.mm_call.specs.Leaving.{whole, whole_in}
 use Rattle.mm_call.specs.Standing.{StandsAt}
-use Rattle.mm_recovery.specs.Asking.{IsCall}
-use Rattle.mm_recovery.specs.declared.resuming.Resumed.{Resumed}
-use Rattle.mm_recovery.specs.declared.fault.HostFault.{HostFault}
-use Rattle.mm_recovery.proofs.Above.{Met, grows}
+use Rattle.mm_recovery.proofs.Above.{grows}
 use Rattle.mm_host.specs.AnySlots.{offered_after}
-use Rattle.mm_host.specs.Continuing.{HasUntold, RunsOver}
+use Rattle.mm_host.specs.Continuing.{RunsOver}
 use Rattle.mm_host.specs.Sessions.{Served}
 use Rattle.mm_host.specs.declared.fault.SessionFault.{SessionFault}
 use Rattle.mm_host.proofs.Above.{CallsInTurn, Laws, Reaches, Shows, calls_reach, line_committed, only_by, pending_for, reach_same}
 use Rattle.mm_life.specs.Deeds.{Call}
 use Rattle.mm_life.specs.OneList.{IsLastJudged, SessionSteps}
-use Rattle.mm_life.specs.Premises.{issued_in, requests_asked, snapshots_of}
+use Rattle.mm_life.specs.Premises.{issued_in, snapshots_of}
 use Rattle.mm_life.specs.SessionCalls.{IsFirstOffered, told_calls}
 use Rattle.mm_life.proofs.Chains.{Chain, Ends, call_of, rests, stops}
 use Rattle.mm_life.proofs.OneCall.{AreListed, all_genuine, answer_steps, issue_genuine, issues_genuine, makes_call, met_judged}

@@ -1,9 +1,9 @@
 -- What is asked of a life, all of it of bytes and of calls that were made.
-use Rattle.std.specs.Prelude.{ℕ, List, [], ◌∷◌, ◌++◌, drop, map, take, Option, None, Some, Result, Ok, Err}
+use Rattle.std.specs.Prelude.{ℕ, List, [], ◌∷◌, ◌++◌, drop, map, take, Option, Some, Result, Ok, Err}
 use Rattle.std.specs.List.{Contains, flat_map}
 use Rattle.std.specs.Option.{option_map_or}
-use Rattle.mm_life.specs.Below.{anchored_message, extended_message, start_message, zero_bytes, Variant, Content, Item, Standing}
-use Rattle.mm_life.specs.Below.{item_values, Batch, One, Meaning, after, Instance, register_trail, IsRight, right_messages}
+use Rattle.mm_life.specs.Below.{anchored_message, extended_message, start_message, zero_bytes, Content, Item, Standing}
+use Rattle.mm_life.specs.Below.{item_values, Batch, One, after, Instance, register_trail, IsRight, right_messages}
 use Rattle.mm_life.specs.Below.{right_content, foreign_items, Answer, Refusal}
 use Rattle.mm_life.specs.Deeds.{Call, Checkpoints}
 use Rattle.mm_life.specs.Stages.{Does, IsLife, Part, Stage, life_calls, part_calls}

@@ -5,7 +5,6 @@ use Rattle.mm_base.specs.declared.replay_fault.ReplayFault.TheVariants.{WriteFau
 use Rattle.mm_life.specs.Below.{Variant, Standing, Meaning, StoreFault, StoreStanding, Pending, snapshot_at, AfterRecord, AsksNext}
 use Rattle.mm_life.specs.Below.{AfterFinding, AfterOffer, AsksAndKeeps, HostFault, Resumed, AfterResume, Place, Served, ServedOn}
 use Rattle.mm_life.specs.Below.{Sessions, IsInHand, ended_as, told_in, SessionFault}
-use Rattle.mm_recovery.specs.Resumes.{Starts}
 use Rattle.mm_host.specs.declared.fault.SessionFault.TheVariants.{Host, Lines}
 use Rattle.mm_life.specs.Deeds.{Call}
 
