@@ -41,8 +41,8 @@ OptLifeIsOne =
     IsClear (opt_messages (opt meaning key barrier) start stages f) →
     AreNoGuards barrier (others_values stages)
     (life_batches (opt meaning key barrier) start stages f) →
-    AreUntagged (opt meaning key barrier) (issued_bytes (opt meaning key barrier) first_history ∷ [])
-    start stages f →
+    AreUntagged (opt meaning key barrier)
+    (issued_bytes (opt meaning key barrier) first_history ∷ []) start stages f →
     IsOneWhole (opt_messages (opt meaning key barrier) start stages f) (others_values stages)
     (life_batches (opt meaning key barrier) start stages f) (opt meaning key barrier)
     (issued_over (opt meaning key barrier) start stages f) start stages f
@@ -76,8 +76,8 @@ NextMayStart =
     IsUntagged i issued (first_offer slots waiting) →
     MayStart all others asked i whole.history slots (end_of start stages) kept
 
--- Each line that programs told over a life says what the module said when its request was run, once,
--- on the one list.
+-- Each line that was told over a life says what the module said when its request was run, once, on
+-- the one list.
 abbrev pub LivesTellWhatWasSaid : Type 0
 LivesTellWhatWasSaid =
     (variant : Variant) (meaning : Meaning) (start : Standing) (stages : List Stage)

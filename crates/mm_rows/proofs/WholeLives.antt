@@ -6,7 +6,6 @@ use Rattle.std.proofs.Common.{◌≡◌, ◌≤◌, ◌∙◌, ◌++◌, ℕ, Li
 use Rattle.std.proofs.lemmas.List.{append-nil, take_all}
 use Rattle.mm_digest.specs.declared.variant.Variant.{Variant}
 use Rattle.mm_digest.specs.declared.variant.Variant.TheVariants.{Basic, Opt}
-use Rattle.mm_seal.specs.Snapshot.{Content, sealed_of}
 use Rattle.mm_platform.specs.Standing.{Standing}
 use Rattle.mm_platform.specs.Steps.{Cycles, items_cycled}
 use Rattle.mm_platform.specs.declared.fault.StepFault.{StepFault}

@@ -1,5 +1,5 @@
--- What lives over devices in memory come to: a first start, and two sessions, the second over a copy
--- in the pages' place.
+-- What lives over devices in memory come to: a first start, and two sessions, the second over a
+-- copy in the pages' place.
 use Rattle.std.specs.Prelude.{◌≡◌, ℕ, List, [], ◌∷◌, ◌++◌, Option, Some, Result, length, take}
 use Rattle.mm_digest.specs.declared.variant.Variant.{Variant}
 use Rattle.mm_digest.specs.declared.variant.Variant.TheVariants.{Basic, Opt}
