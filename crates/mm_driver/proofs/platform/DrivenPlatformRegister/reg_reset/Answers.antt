@@ -1,0 +1,7 @@
+use Rattle.std.proofs.Common.{refl}
+use Rattle.mm_platform.specs.Steps.{ResetRegister}
+use Rattle.mm_files.proofs.Above.{goes_untold}
+use Rattle.mm_driver.proofs.platform.DrivenPlatformRegister.reg_reset.Goals as goal
+
+pub returns : goal.returns
+returns g c = goes_untold ResetRegister _ _ _ _ _ _ _ c.saturating_add-self.ensures refl refl c.told.ensures.counts c.told.ensures.failed
