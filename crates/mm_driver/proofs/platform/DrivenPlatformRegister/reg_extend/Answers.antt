@@ -5,5 +5,7 @@ use Rattle.mm_driver.proofs.platform.DrivenPlatformRegister.reg_extend.Goals as 
 
 pub returns : goal.returns
 returns g c =
-    goes_untold (ExtendRegister c.args.value.now.bytes) _ _ _ _ _ _ _ c.saturating_add-self.ensures refl refl c.told.ensures.counts
-    c.told.ensures.failed
+    let value = c.args.value.now.bytes in
+    let one = c.saturating_add-self.ensures in
+    let told = c.told.ensures in
+    goes_untold (ExtendRegister value) _ _ _ _ _ _ _ one refl refl told.counts told.failed
