@@ -64,7 +64,7 @@ long_enough secrets taken (Some rest) many c ended few =
     let none : length rest ≡ 0 = ap length (ended few) in
     absurd (omega arith)
 
-abbrev Shorts : Result (Unit {0}) InitFault → ℕ → Type 0
+abbrev pub Shorts : Result (Unit {0}) InitFault → ℕ → Type 0
 Shorts result got = result ≡ Err (init.Short got)
 
 written_whole : (written : Result (Unit {0}) StepFault) (result : Result (Unit {0}) InitFault) (got : ℕ) → result ≡ written_as written
@@ -80,7 +80,7 @@ put_whole : (cell : List ℕ) (before after : Standing) (stored : Result (Unit {
 put_whole cell before after (Ok done) result got a s = written_whole a.written result got a.gives s
 put_whole cell before after (Err why) result got a s = unstored_whole why result got a.1 s
 
-set_whole : (i : Instance) (before after : Standing) (old new : StoreStanding) (result : Result (Unit {0}) InitFault) (got : ℕ)
+pub set_whole : (i : Instance) (before after : Standing) (old new : StoreStanding) (result : Result (Unit {0}) InitFault) (got : ℕ)
     → SetsUp i before after old new result → Shorts result got → ⊥
 set_whole i before after old new result got up s = elim up [
   | inl none ↦ let e = none.2 in cc
@@ -143,7 +143,7 @@ is_open : (flag : Bool) (held cell : Cell) → (let r : Result Segment Checkpoin
 is_open flag held cell e = grind arith
 
 -- what is found in the register
-is_zero : (zero : Bool) (cell : Cell) (register : List ℕ) (why : CheckpointRefusal)
+pub is_zero : (zero : Bool) (cell : Cell) (register : List ℕ) (why : CheckpointRefusal)
     → (let r : Result (List ℕ) CheckpointRefusal = Err why in r ≡ closing_by zero cell register) → (zero ≡ true) × (why ≡ refusal.Lost)
 is_zero zero cell register why e = grind arith
 

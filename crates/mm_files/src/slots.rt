@@ -40,32 +40,58 @@ where
 
     /// The slot of this number below 4. It knows which files the others have open.
     pub fn get(&mut self, slot: u8) -> &mut Slot<'a, R> {
-        let others = [
-            self.first.claim(),
-            self.second.claim(),
-            self.third.claim(),
-            self.fourth.claim(),
-        ];
-        let slot = self.slot(slot);
-        slot.others = others;
-        slot
-    }
-
-    fn slot(&mut self, slot: u8) -> &mut Slot<'a, R> {
-        match slot {
+        let claims = Claims {
+            first: self.first.kept.identity(),
+            second: self.second.kept.identity(),
+            third: self.third.kept.identity(),
+            fourth: self.fourth.kept.identity(),
+        };
+        let slot = match slot {
             0 => &mut self.first,
             1 => &mut self.second,
             2 => &mut self.third,
             _ => &mut self.fourth,
-        }
+        };
+        slot.claims = claims;
+        slot
     }
 }
 
-/// Which file a slot has open, none where it has none.
+/// Which files the slots have open.
 #[derive(Clone, Copy)]
-struct Claim {
-    name: &'static str,
-    file: Option<Identity>,
+struct Claims {
+    first: Option<Identity>,
+    second: Option<Identity>,
+    third: Option<Identity>,
+    fourth: Option<Identity>,
+}
+
+impl Claims {
+    // None is open.
+    fn none() -> Claims {
+        Claims {
+            first: None,
+            second: None,
+            third: None,
+            fourth: None,
+        }
+    }
+
+    // The slot that has this file open.
+    fn name_of(&self, file: Identity) -> Option<&'static str> {
+        let file = Some(file);
+        if self.first == file {
+            Some("slot0")
+        } else if self.second == file {
+            Some("slot1")
+        } else if self.third == file {
+            Some("slot2")
+        } else if self.fourth == file {
+            Some("slot3")
+        } else {
+            None
+        }
+    }
 }
 
 /// The file of a slot. A page is written up to its last byte that isn't zero, and over all that the file has of it. So
@@ -84,7 +110,7 @@ pub struct Slot<'a, R: Files> {
     // The length that writes of pages gave it, none where it is that of its file.
     length: Option<u64>,
     // What all slots had open when this call began.
-    others: [Claim; 4],
+    claims: Claims,
 }
 
 impl<'a, R: Files> Slot<'a, R>
@@ -98,15 +124,7 @@ where
             name,
             kept: Kept::new(files, name),
             length: None,
-            others: [Claim { name, file: None }; 4],
-        }
-    }
-
-    // Which file it has open.
-    fn claim(&self) -> Claim {
-        Claim {
-            name: self.name,
-            file: self.kept.identity(),
+            claims: Claims::none(),
         }
     }
 
@@ -142,15 +160,13 @@ where
 
     // An error where another slot has the file open.
     fn refuse_claimed(&self, opened: &Opened<R::File>) -> Result<(), Reason> {
-        for claim in self.others {
-            if claim.name != self.name && claim.file == Some(opened.identity) {
-                return Err(Reason::Same {
-                    name: self.name,
-                    other: claim.name,
-                });
-            }
+        match self.claims.name_of(opened.identity) {
+            Some(other) if other != self.name => Err(Reason::Same {
+                name: self.name,
+                other,
+            }),
+            _ => Ok(()),
         }
-        Ok(())
     }
 
     /// How many bytes the slot has, none where its file is absent. What an earlier program wrote to it is on the disk

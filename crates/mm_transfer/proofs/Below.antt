@@ -70,7 +70,8 @@ pub use Rattle.mm_sides.specs.Folds.{accepting, affected_if, both_by_digests, bo
 pub use Rattle.mm_sides.specs.Folds.{BothFollowed, BothReply, brought_to, Denied, effect_if, effect_of, finding, grown, is_moved}
 pub use Rattle.mm_sides.specs.Folds.{is_written, move_ended, move_outcome, move_steps, moved_if, Moves, noted_if, plain_on, handed}
 pub use Rattle.mm_sides.specs.Folds.{refused_where, retiring, stopped_moves, told, unissued}
-pub use Rattle.mm_sides.specs.Laws.{history_now, IsOneFrom, OneIsLive, PairsAgreeThroughout, PairsGoOn, plain_events, plain_replies}
+pub use Rattle.mm_sides.specs.Both.{history_now}
+pub use Rattle.mm_sides.specs.Laws.{IsOneFrom, OneIsLive, PairsAgreeThroughout, PairsGoOn, plain_events, plain_replies}
 pub use Rattle.mm_sides.specs.Laws.{SidesRunAsOne}
 pub use Rattle.mm_sides.specs.Moves.{Accept, accepted_on, Command, entered_again, entered_as, FoundMove, Gone, Invite, invited_on, left_by}
 pub use Rattle.mm_sides.specs.Moves.{MoveCause, offered_to, Open, Refused, Retire, retired_on, stands_here, ticket_by, ticket_in}
