@@ -5,3 +5,4 @@ mod Turning
 mod Stands
 mod Telling
 mod Events
+mod Staging
