@@ -6,3 +6,8 @@ mod Stands
 mod Telling
 mod Events
 mod Staging
+mod Splitting
+mod Halting
+mod Eventing
+mod Headlines
+mod Stopped

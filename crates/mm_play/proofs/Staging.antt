@@ -1,6 +1,6 @@
 -- How a command over events refuses a line.
 use Rattle.std.specs.Prelude.{is_some}
-use Rattle.mm_play.proofs.Below.{◌≡◌, ◌∙◌, ℕ, Bool, true, false, List, Option, None, Some, Result, Err, refl, sym}
+use Rattle.mm_play.proofs.Below.{◌≡◌, ℕ, Bool, true, List, Option, None, Some, Err, refl}
 use Rattle.mm_play.specs.Progress.{IsRefusal, RepliesTo}
 use Rattle.mm_play.specs.Stage.{EventStage, Running, is_over}
 use Rattle.mm_play.specs.declared.player.Refused.TheVariants.{Bad, Much}

@@ -11,3 +11,6 @@ pub mod Stage
 pub mod StageLaws
 pub mod Progress
 pub mod Commands
+pub mod Headline
+pub mod Shown
+pub mod PlaysEvents

@@ -1,6 +1,6 @@
 -- A command over events, line by line: the lines of its heading, and then an event in each line,
 -- until one is too many.
-use Rattle.std.specs.Prelude.{◌≡◌, ℕ, ◌+◌, ◌-◌, ◌^◌, min, Bool, true, false, ◌||◌, nat_le, nat_lt, List, [], length, Option, None, Some, Result, Ok, Err, if◌then◌else◌}
+use Rattle.std.specs.Prelude.{◌≡◌, ℕ, ◌+◌, ◌-◌, ◌^◌, min, Bool, ◌||◌, nat_le, nat_lt, List, [], length, Option, None, Some, Result, Ok, Err, if◌then◌else◌}
 use Rattle.mm_base.specs.Limits.{most_events}
 use Rattle.mm_play.specs.Headed.{Headed, More, Begins}
 use Rattle.mm_play.specs.Kept.{most_kept}
@@ -16,6 +16,20 @@ pub record EventStage (R : Type 0) : Type 0 where
   pub events : R → ℕ
   pub kept : R → ℕ
   pub last : R → List ℕ
+
+-- How events are read, answered and gone on from, where `R` stands between two of them.
+pub record EventSteps (E R : Type 0) : Type 0 where
+  pub event_in : R → List ℕ → Option E
+  pub reply : R → E → List ℕ
+  pub after : R → E → R
+
+-- the answer to a line, by the event in it
+abbrev pub answer_by : {E R : Type 0} → EventSteps E R → R → Option E → Option (List ℕ × R)
+answer_by steps r None = None
+answer_by steps r (Some event) = Some (steps.reply r event, steps.after r event)
+
+abbrev pub answer_to : {E R : Type 0} → EventSteps E R → R → List ℕ → Option (List ℕ × R)
+answer_to steps r line = answer_by steps r (steps.event_in r line)
 
 -- What a heading does with its lines: where each leads, if it is one; and how many more there may
 -- be, at most.

@@ -1,12 +1,11 @@
 -- A command over events ends: each answered line leaves fewer.
-use Rattle.std.specs.Prelude.{◌≡◌, ℕ, ◌+◌, ◌-◌, ◌<◌, ◌^◌, Bool, true, false, nat_le, List, [], length, Option, None, Some, Result, Ok, Err, if◌then◌else◌}
-use Rattle.std.proofs.Common.{refl, sym, ap, subst, arith}
+use Rattle.std.specs.Prelude.{◌≡◌, ℕ, ◌+◌, ◌-◌, ◌<◌, ◌^◌, Bool, true, false, nat_le, List, [], Option, None, Some, Ok}
+use Rattle.std.proofs.Common.{refl, subst, arith}
 use Rattle.std.proofs.lemmas.Bool.Decides.{nat_tests}
 use Rattle.mm_base.specs.Limits.{most_events}
 use Rattle.mm_play.specs.Counting.{no_answer, same_next, left_or}
 use Rattle.mm_play.specs.Headed.{Headed, More, Begins}
 use Rattle.mm_play.specs.Stage.{EventStage, HeadStage, Running, running, LineStage, AtHeading, InEvents, is_over, event_answer, head_answer, line_answer, lines_left}
-use Rattle.mm_play.specs.declared.player.Refused.{Refused}
 use Rattle.mm_play.specs.declared.player.Refused.TheVariants.{Bad, Much}
 
 module _ {H R : Type 0} (heads : HeadStage H R) (s : EventStage R) where

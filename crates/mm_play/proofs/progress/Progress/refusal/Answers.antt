@@ -1,4 +1,3 @@
-use Rattle.std.proofs.Common.{◌∙◌}
 use Rattle.mm_play.proofs.Staging.{spelled}
 use Rattle.mm_play.proofs.progress.Progress.refusal.Goals as goal
 
