@@ -1,12 +1,25 @@
 -- A command over events ends: each answered line leaves fewer.
 use Rattle.std.specs.Prelude.{◌≡◌, ℕ, ◌+◌, ◌-◌, ◌<◌, ◌^◌, Bool, true, false, nat_le, List, [], Option, None, Some, Ok}
-use Rattle.std.proofs.Common.{refl, subst, arith}
+use Rattle.std.proofs.Common.{ap, refl, subst, arith}
 use Rattle.std.proofs.lemmas.Bool.Decides.{nat_tests}
 use Rattle.mm_base.specs.Limits.{most_events}
 use Rattle.mm_play.specs.Counting.{no_answer, same_next, left_or}
 use Rattle.mm_play.specs.Headed.{Headed, More, Begins}
 use Rattle.mm_play.specs.Stage.{EventStage, HeadStage, Running, running, LineStage, AtHeading, InEvents, is_over, event_answer, head_answer, line_answer, lines_left}
 use Rattle.mm_play.specs.declared.player.Refused.TheVariants.{Bad, Much}
+
+-- of two answers to a line that are one the stages behind it are one
+pub same_stage : {R : Type 0} (reply said : List ℕ) (stage next : R)
+    → (let x : Option (List ℕ × R) = Some (reply, stage) in x ≡ Some (said, next)) → stage ≡ next
+same_stage {R} reply said stage next h =
+    let same : (reply, stage) ≡ (said, next) = cc in ap (λ (p : List ℕ × R). p.1) same
+
+-- where one event more is within the limit
+pub few_left : {R : Type 0} (s : EventStage R) (r : Running R) (line : List ℕ)
+    → is_over s r line ≡ false → s.events r.stage < most_events
+few_left s r line h =
+    let few : nat_le most_events (s.events r.stage) ≡ false = left_or _ _ h in
+    grind (arith, nat_tests)
 
 module _ {H R : Type 0} (heads : HeadStage H R) (s : EventStage R) where
   head_left : (heading : H) (line : List ℕ) (found : Option (Headed H R)) (reply : List ℕ)

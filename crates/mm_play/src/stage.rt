@@ -3,6 +3,7 @@
 ghost use Rattle.std.specs.Prelude.{◌≡◌, ◌+◌, ◌≤◌, ◌<◌, ◌^◌, ℕ, List, Option, Some, is_some, length, IfOk};
 ghost use Rattle.mm_base.specs.Limits.{longest_line, most_events};
 ghost use Rattle.mm_play.specs.Headed.{More};
+ghost use Rattle.mm_play.specs.Kept.{most_kept};
 ghost use Rattle.mm_play.specs.Stage.{EventStage, HeadStage, PlaysEvent, TakesHead, within_64};
 
 use crate::player::ReplyFault;
@@ -31,6 +32,7 @@ pub trait Stage {
     fn play(&mut self, alloc: Global, line: &[u8]) -> Result<Bytes, ReplyFault>
         requires short { length line.now ≤ longest_line }
         requires few { plays.events self.old < most_events }
+        requires room { plays.kept self.old ≤ most_kept }
         ensures { PlaysEvent (plays.answer self.old line.now) self.old self.new result };
 
     /// What is written last.
