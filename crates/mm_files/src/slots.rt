@@ -2,14 +2,19 @@
 
 ghost use Rattle.std.specs.Prelude.{◌≤◌};
 
-use crate::disk::{Opened, sync_folder};
+use crate::disk::{Identity, Opened};
 use crate::kept::Kept;
-use std::io;
+use crate::place::{make_behind_links, refuse_same, sync_name};
+use crate::reason::Reason;
+use std::alloc::Global;
 use std::os::unix::fs::FileExt;
 use std::rt::Files;
 
 /// The bytes of a page.
 const PAGE: u64 = 256;
+
+/// A page behind the first.
+const LATER: u16 = 1;
 
 /// The files of the slots.
 #[derive(Drop)]
@@ -24,17 +29,29 @@ impl<'a, R: Files> Slots<'a, R>
 where
     R::File: FileExt,
 {
-    pub fn new(files: &'a R) -> Slots<'a, R> {
+    pub fn new(alloc: Global, files: &'a R) -> Slots<'a, R> {
         Slots {
-            first: Slot::new(files, "slot0"),
-            second: Slot::new(files, "slot1"),
-            third: Slot::new(files, "slot2"),
-            fourth: Slot::new(files, "slot3"),
+            first: Slot::new(alloc, files, "slot0"),
+            second: Slot::new(alloc, files, "slot1"),
+            third: Slot::new(alloc, files, "slot2"),
+            fourth: Slot::new(alloc, files, "slot3"),
         }
     }
 
-    /// The slot of this number below 4.
+    /// The slot of this number below 4. It knows which files the others have open.
     pub fn get(&mut self, slot: u8) -> &mut Slot<'a, R> {
+        let others = [
+            self.first.claim(),
+            self.second.claim(),
+            self.third.claim(),
+            self.fourth.claim(),
+        ];
+        let slot = self.slot(slot);
+        slot.others = others;
+        slot
+    }
+
+    fn slot(&mut self, slot: u8) -> &mut Slot<'a, R> {
         match slot {
             0 => &mut self.first,
             1 => &mut self.second,
@@ -44,39 +61,105 @@ where
     }
 }
 
+/// Which file a slot has open, none where it has none.
+#[derive(Clone, Copy)]
+struct Claim {
+    name: &'static str,
+    file: Option<Identity>,
+}
+
 /// The file of a slot. A page is written up to its last byte that isn't zero, and over all that the file has of it. So
 /// a slot has the bytes of its file, and behind them zero bytes up to the length that writes of pages gave it. `sync`
 /// lets the file have that length. What was opened is taken for unsynced until this program synced it.
 ///
 /// The file stays open. It is looked at where page 0 is read or written, and where its length is asked: so one that
-/// others put in its place is found by whoever reads or writes the slot from the front on.
+/// others put in its place is found by whoever reads or writes the slot from the front on. What was opened is neither
+/// read nor written where it is another of the program's files.
 #[derive(Drop)]
 pub struct Slot<'a, R: Files> {
+    alloc: Global,
     files: &'a R,
+    name: &'static str,
     kept: Kept<'a, R>,
     // The length that writes of pages gave it, none where it is that of its file.
     length: Option<u64>,
+    // What all slots had open when this call began.
+    others: [Claim; 4],
 }
 
 impl<'a, R: Files> Slot<'a, R>
 where
     R::File: FileExt,
 {
-    fn new(files: &'a R, name: &'static str) -> Slot<'a, R> {
+    fn new(alloc: Global, files: &'a R, name: &'static str) -> Slot<'a, R> {
         Slot {
+            alloc,
             files,
+            name,
             kept: Kept::new(files, name),
             length: None,
+            others: [Claim { name, file: None }; 4],
         }
+    }
+
+    // Which file it has open.
+    fn claim(&self) -> Claim {
+        Claim {
+            name: self.name,
+            file: self.kept.identity(),
+        }
+    }
+
+    // Takes the file, looked at for the first page. None where it is absent.
+    fn find(&mut self, page: u16) -> Result<Option<Opened<R::File>>, Reason> {
+        let found = match page {
+            0 => self.kept.look()?,
+            _ => self.kept.take()?,
+        };
+        match found {
+            Some(opened) => Ok(Some(self.alone(opened)?)),
+            None => Ok(None),
+        }
+    }
+
+    // Takes the file, looked at for the first page. Where it is absent an empty one is made.
+    fn find_or_make(&mut self, page: u16) -> Result<Opened<R::File>, Reason> {
+        match self.find(page)? {
+            Some(opened) => Ok(opened),
+            None => self.alone(make_behind_links(self.alloc, self.files, self.name)?),
+        }
+    }
+
+    // The file, where it is none of the program's others.
+    fn alone(&self, mut opened: Opened<R::File>) -> Result<Opened<R::File>, Reason> {
+        if !opened.is_alone {
+            refuse_same(self.files, &opened)?;
+            self.refuse_claimed(&opened)?;
+            opened.is_alone = true;
+        }
+        Ok(opened)
+    }
+
+    // An error where another slot has the file open.
+    fn refuse_claimed(&self, opened: &Opened<R::File>) -> Result<(), Reason> {
+        for claim in self.others {
+            if claim.name != self.name && claim.file == Some(opened.identity) {
+                return Err(Reason::Same {
+                    name: self.name,
+                    other: claim.name,
+                });
+            }
+        }
+        Ok(())
     }
 
     /// How many bytes the slot has, none where its file is absent. What an earlier program wrote to it is on the disk
     /// afterwards.
-    pub fn length(&mut self) -> io::Result<u32> {
+    pub fn length(&mut self) -> Result<u32, Reason> {
         if let Some(length) = self.length {
             return Ok(u32::try_from(length).unwrap_or(u32::MAX));
         }
-        let Some(opened) = self.kept.look()? else {
+        let Some(opened) = self.find(0)? else {
             return Ok(0);
         };
         let size = opened.size;
@@ -85,28 +168,21 @@ where
     }
 
     /// Reads a page. Bytes past the slot's end are zero.
-    pub fn read(&mut self, page: u16, into: &mut [u8; 256]) -> io::Result<()> {
+    pub fn read(&mut self, page: u16, into: &mut [u8; 256]) -> Result<(), Reason> {
         *into = [0; 256];
-        let found = match page {
-            0 => self.kept.look()?,
-            _ => self.kept.take()?,
-        };
-        if let Some(opened) = found {
+        if let Some(opened) = self.find(page)? {
             let start = start_of(page);
             let (front, _) = into.split_at_mut(part_of(opened.size, start));
-            opened.file.read_exact_at(front, start)?;
+            opened.read(start, front)?;
             self.kept.keep(opened);
         }
         Ok(())
     }
 
     /// Writes a page, in place. After an error the slot has the bytes of its file alone.
-    pub fn write(&mut self, page: u16, bytes: &[u8; 256]) -> io::Result<()> {
+    pub fn write(&mut self, page: u16, bytes: &[u8; 256]) -> Result<(), Reason> {
         let length = self.length.take().unwrap_or(0);
-        let mut opened = match page {
-            0 => self.kept.look_or_make()?,
-            _ => self.kept.take_or_make()?,
-        };
+        let mut opened = self.find_or_make(page)?;
         let start = start_of(page);
         let (front, _) = bytes.split_at(size_set(bytes).max(part_of(opened.size, start)));
         opened.write(start, front)?;
@@ -117,30 +193,30 @@ where
 
     /// Cuts the slot to this length, or fills it up to there with zero bytes. Its file is changed where it has another.
     /// After an error the slot has the bytes of its file alone.
-    pub fn set_length(&mut self, length: u64) -> io::Result<()> {
+    pub fn set_length(&mut self, length: u64) -> Result<(), Reason> {
         self.length = None;
-        let mut opened = self.kept.take_or_make()?;
+        let mut opened = self.find_or_make(LATER)?;
         opened.cut(length)?;
         self.kept.keep(opened);
         Ok(())
     }
 
     /// Lets the slot's bytes, in a file of their length, and its name be on the disk. An absent file stays so.
-    pub fn sync(&mut self) -> io::Result<()> {
+    pub fn sync(&mut self) -> Result<(), Reason> {
         if let Some(length) = self.length {
             self.set_length(length)?;
         }
-        match self.kept.take()? {
+        match self.find(LATER)? {
             Some(opened) => self.settle(opened),
             None => Ok(()),
         }
     }
 
     // Lets the file's bytes and its name be on the disk, where this program didn't yet.
-    fn settle(&mut self, mut opened: Opened<R::File>) -> io::Result<()> {
+    fn settle(&mut self, mut opened: Opened<R::File>) -> Result<(), Reason> {
         opened.sync()?;
         if !opened.is_listed {
-            sync_folder(self.files)?;
+            sync_name(self.alloc, self.files, self.name)?;
             opened.is_listed = true;
         }
         self.kept.keep(opened);

@@ -16,7 +16,7 @@ ghost use Rattle.mm_gen.specs.Sums.{SumsUp};
 use crate::breaks::first_line;
 use crate::counts::Counts;
 use crate::fault::BulkFault;
-use crate::schedule::generate;
+use crate::schedule::gen_;
 use crate::summary::Summary;
 use mm_base::Bytes;
 use mm_digest::Digest;
@@ -53,7 +53,7 @@ fn run_schedule(
     ensures limit { IsLimited (is_over (begun header.now) (schedule_lines number count header.now))
         result }
 {
-    let schedule = generate(alloc, number, count, header)?;
+    let schedule = gen_(alloc, number, count, header)?;
     let mut rest = behind_header(schedule.as_slice());
     let mut progress = Progress::new(alloc, header)?;
     let mut counts = Counts::none();

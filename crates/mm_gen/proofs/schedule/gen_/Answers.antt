@@ -1,6 +1,6 @@
 use Rattle.mm_gen.proofs.Below.{◌≡◌, ◌∙◌, ◌+◌, ap, ChaCha}
 use Rattle.mm_gen.proofs.Going.{goes_on}
-use Rattle.mm_gen.proofs.schedule.generate.Goals as goal
+use Rattle.mm_gen.proofs.schedule.gen_.Goals as goal
 
 pub turns-preserved : goal.turns-preserved
 turns-preserved c =
