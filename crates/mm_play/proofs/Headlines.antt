@@ -149,7 +149,7 @@ module _ {G H E S R : Type 0} (p : EventPlayer G H E S) (heads : HeadStage G R) 
 
   module _ (Holds : H → List E → (List E → S) → Type 0) (holds : (header : H) (events : List E) → Holds header events (shown header)) where
     -- what is told where no events have begun, and where they have
-    abbrev unbegun : (lines : List (List ℕ)) (written : List ℕ) (last : P) → StillHeading p.start lines written last → IsUnbegun p Holds lines
+    abbrev unbegun : (lines : List (List ℕ)) (written : List ℕ) (last : P) → StillHeading p.start lines written last → IsUnbegun p lines
     unbegun lines written last h = record { at = h.to; leads = h.leads }
 
     -- one too many behind the first events, in numbers
@@ -196,7 +196,7 @@ module _ {G H E S R : Type 0} (p : EventPlayer G H E S) (heads : HeadStage G R) 
     -- how it ended, where these lines were answered
     module _ (left : Option (List ℕ)) (after stop sent : List ℕ) {T : Type 0} (result : Result T ReplayFault) (done : List (List ℕ)) where
       abbrev Continues : Type 0
-      Continues = ((it : IsUnbegun p Holds done)
+      Continues = ((it : IsUnbegun p done)
           × IsLeft left after (length done) (λ line. p.head it.at line ≡ None) (λ line. ⊥) result
           × WentOut after [] None stop sent result)
           ⊎ ((it : AreAnswered p Holds done)

@@ -42,25 +42,27 @@ IsOver before kept line = (most_events ≤ length before)
 
 -- By how it ended, what of the bytes taken is left behind so many answered lines. `IsNone` says that
 -- a line is none to be answered, `IsMuch` that it is one too many.
-module _ (left : Option (List ℕ)) (behind : List ℕ) (answered : ℕ)
-    (IsNone IsMuch : List ℕ → Type 0) where
-  abbrev pub IsLeft : {T : Type 0} → Result T ReplayFault → Type 0
-  -- nothing, and the input is at its end
-  IsLeft (Ok _) = IsAtEnd left × (behind ≡ [])
-  -- less than a line, and no more than a line may have
-  IsLeft (Err ReadFault) = IsUnbroken behind × (length behind ≤ longest_line)
-  -- whatever there may be
-  IsLeft (Err WriteFault) = Unit {0}
-  IsLeft (Err Memory) = Unit {0}
-  -- first the line of this number, which is none to be answered; or the input ends before its LF
-  IsLeft (Err (BadLine number)) = (number ≡ answered + 1)
-      × (((line : List ℕ) × IsNextLine line behind × IsNone line)
-      ⊎ (IsAtEnd left × IsUnbroken behind))
-  -- first the line of this number, which is too long
-  IsLeft (Err (LineLong number)) = (number ≡ answered + 1) × (long : List ℕ) × (more : List ℕ)
-      × (behind ≡ long ++ more) × IsUnbroken long × (longest_line < length long)
-  -- first a line that is one too many
-  IsLeft (Err TooMuch) = (line : List ℕ) × IsNextLine line behind × IsMuch line
+abbrev pub IsLeft : {T : Type 0} → (left : Option (List ℕ)) (behind : List ℕ) (answered : ℕ)
+    (IsNone IsMuch : List ℕ → Type 0) → Result T ReplayFault → Type 0
+-- nothing, and the input is at its end
+IsLeft left behind answered IsNone IsMuch (Ok _) = IsAtEnd left × (behind ≡ [])
+-- less than a line, and no more than a line may have
+IsLeft left behind answered IsNone IsMuch (Err ReadFault) =
+    IsUnbroken behind × (length behind ≤ longest_line)
+-- whatever there may be
+IsLeft left behind answered IsNone IsMuch (Err WriteFault) = Unit {0}
+IsLeft left behind answered IsNone IsMuch (Err Memory) = Unit {0}
+-- first the line of this number, which is none to be answered; or the input ends before its LF
+IsLeft left behind answered IsNone IsMuch (Err (BadLine number)) = (number ≡ answered + 1)
+    × (((line : List ℕ) × IsNextLine line behind × IsNone line)
+    ⊎ (IsAtEnd left × IsUnbroken behind))
+-- first the line of this number, which is too long
+IsLeft left behind answered IsNone IsMuch (Err (LineLong number)) = (number ≡ answered + 1)
+    × (long : List ℕ) × (more : List ℕ) × (behind ≡ long ++ more) × IsUnbroken long
+    × (longest_line < length long)
+-- first a line that is one too many
+IsLeft left behind answered IsNone IsMuch (Err TooMuch) =
+    (line : List ℕ) × IsNextLine line behind × IsMuch line
 
 -- By how it ended, what went out, where this text answers the lines, and `last` is what is written
 -- last, if the input may end behind them. `stop` is what is written where a play stopped.
@@ -76,46 +78,47 @@ WentOut behind text last stop sent (Err WriteFault) = IsFrontOf sent text
 WentOut behind text last stop sent (Err _) =
     (stopped : List ℕ) × IsFrontOf stopped stop × (sent ≡ text ++ stopped)
 
-module _ {G H E S : Type 0} (p : EventPlayer G H E S)
-    (Holds : H → List E → (List E → S) → Type 0) where
-  -- The lines are some of a heading that isn't whole.
-  pub record IsUnbegun (lines : List (List ℕ)) : Type 0 where
+-- The lines are some of a heading that isn't whole.
+pub record IsUnbegun {G H E S : Type 0} (p : EventPlayer G H E S) (lines : List (List ℕ)) : Type 0
+  where
     pub at : G
     pub leads : Lead p.head p.start lines (More at)
 
-  -- The lines name a header, and an event in each behind it; none of these is one too many. And
-  -- what is shown of the events, and of each first part of them, holds.
-  pub record AreAnswered (lines : List (List ℕ)) : Type 0 where
-    pub heads : List (List ℕ)
-    pub others : List (List ℕ)
-    pub header : H
-    pub events : List E
-    pub shown : List E → S
-    pub split : lines ≡ heads ++ others
-    pub headed : Lead p.head p.start heads (Begins header)
-    pub read : map (p.event_in header) others ≡ map Some events
-    pub within : (before : List (List ℕ)) (line : List ℕ) (after : List (List ℕ))
-        (front : List E) → others ≡ before ++ line ∷ after
-        → map (p.event_in header) before ≡ map Some front
-        → IsOver before (p.kept (shown front)) line → ⊥
-    pub holds : Holds header events shown
+-- The lines name a header, and an event in each behind it; none of these is one too many. And what
+-- is shown of the events, and of each first part of them, holds.
+pub record AreAnswered {G H E S : Type 0} (p : EventPlayer G H E S)
+    (Holds : H → List E → (List E → S) → Type 0) (lines : List (List ℕ)) : Type 0 where
+  pub heads : List (List ℕ)
+  pub others : List (List ℕ)
+  pub header : H
+  pub events : List E
+  pub shown : List E → S
+  pub split : lines ≡ heads ++ others
+  pub headed : Lead p.head p.start heads (Begins header)
+  pub read : map (p.event_in header) others ≡ map Some events
+  pub within : (before : List (List ℕ)) (line : List ℕ) (after : List (List ℕ)) (front : List E)
+      → others ≡ before ++ line ∷ after → map (p.event_in header) before ≡ map Some front
+      → IsOver before (p.kept (shown front)) line → ⊥
+  pub holds : Holds header events shown
 
-  -- A play of this input, which ended so: the first lines of what was taken were answered.
-  pub record TellsEvents (left left' received received' : Option (List ℕ)) (stop : List ℕ)
-      {T : Type 0} (result : Result T ReplayFault) : Type 0 where
-    pub taken : List ℕ
-    pub sent : List ℕ
-    pub consumed : Consumes left left' taken
-    pub appended : Appends received received' sent
-    pub done : List (List ℕ)
-    pub behind : List ℕ
-    pub split : taken ≡ lines_joined done ++ behind
-    pub short : AllByRecursion (λ line. IsUnbroken line × (length line ≤ longest_line)) done
-    pub continues : ((it : IsUnbegun done)
-        × IsLeft left' behind (length done) (λ line. p.head it.at line ≡ None) (λ line. ⊥) result
-        × WentOut behind [] None stop sent result)
-        ⊎ ((it : AreAnswered done)
-        × IsLeft left' behind (length done) (λ line. p.event_in it.header line ≡ None)
-        (λ line. IsOver it.others (p.kept (it.shown it.events)) line) result
-        × WentOut behind (p.text it.events (it.shown it.events))
-        (Some (p.last (it.shown it.events))) stop sent result)
+-- A play of an input that ended so: the first lines of what was taken were answered, none of them
+-- too long; and by the end it says what is left, and what went out.
+pub record TellsEvents {G H E S T : Type 0} (p : EventPlayer G H E S)
+    (Holds : H → List E → (List E → S) → Type 0) (left left' received received' : Option (List ℕ))
+    (stop : List ℕ) (result : Result T ReplayFault) : Type 0 where
+  pub taken : List ℕ
+  pub sent : List ℕ
+  pub consumed : Consumes left left' taken
+  pub appended : Appends received received' sent
+  pub done : List (List ℕ)
+  pub behind : List ℕ
+  pub split : taken ≡ lines_joined done ++ behind
+  pub short : AllByRecursion (λ line. IsUnbroken line × (length line ≤ longest_line)) done
+  pub continues : ((it : IsUnbegun p done)
+      × IsLeft left' behind (length done) (λ line. p.head it.at line ≡ None) (λ line. ⊥) result
+      × WentOut behind [] None stop sent result)
+      ⊎ ((it : AreAnswered p Holds done)
+      × IsLeft left' behind (length done) (λ line. p.event_in it.header line ≡ None)
+      (λ line. IsOver it.others (p.kept (it.shown it.events)) line) result
+      × WentOut behind (p.text it.events (it.shown it.events))
+      (Some (p.last (it.shown it.events))) stop sent result)
