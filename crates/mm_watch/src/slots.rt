@@ -7,18 +7,22 @@
 
 use crate::line::{Asked, byte_in, done, read_line};
 use crate::mount::Mount;
-use mm_base::Failed;
+use mm_base::{Failed, Memory};
 use mm_files::FilePages;
 use mm_pages::PageDevice;
 use std::io;
 
 /// Plays these lines over the slots' files.
 pub fn keep_over(mount: &Mount<'_>, lines: &str) -> io::Result<()> {
-    let mut pages = FilePages::new(mount.0.alloc(), mount);
-    keep_lines(mount, &mut pages, lines)
+    mount.0.tell_asked("new")?;
+    match FilePages::new(mount.0.alloc(), mount) {
+        Ok(mut pages) => keep_lines(mount, &mut pages, lines),
+        Err(Memory) => mount.0.tell_answer(None),
+    }
 }
 
 fn keep_lines<D: PageDevice>(mount: &Mount<'_>, pages: &mut D, lines: &str) -> io::Result<()> {
+    mount.0.tell_answer(Some(0))?;
     for line in lines.lines() {
         mount.0.tell_asked(line)?;
         let answer = answer(mount, pages, &read_line(line));
