@@ -39,7 +39,18 @@ fn with_words(rt: &HostRuntime, texts: &[String]) -> io::Result<Status> {
 }
 
 fn with_store(rt: &HostRuntime, words: &[&str]) -> io::Result<Status> {
-    match PageStore::new(rt.alloc(), FilePages::new(rt.alloc(), rt)) {
+    match FilePages::new(rt.alloc(), rt) {
+        Ok(pages) => with_pages(rt, words, pages),
+        Err(_) => Err(io::Error::from(ErrorKind::OutOfMemory)),
+    }
+}
+
+fn with_pages(
+    rt: &HostRuntime,
+    words: &[&str],
+    pages: FilePages<'_, HostRuntime>,
+) -> io::Result<Status> {
+    match PageStore::new(rt.alloc(), pages) {
         Ok(mut store) => Ok(with_platform(rt, words, &mut store)),
         Err(_) => Err(io::Error::from(ErrorKind::OutOfMemory)),
     }

@@ -4,8 +4,9 @@ ghost use Rattle.std.specs.Prelude.{◌≤◌};
 
 use crate::disk::{Identity, Opened};
 use crate::kept::Kept;
-use crate::place::{make_behind_links, refuse_same, sync_name};
+use crate::place::{Place, refuse_same};
 use crate::reason::Reason;
+use mm_base::Memory;
 use std::alloc::Global;
 use std::os::unix::fs::FileExt;
 use std::rt::Files;
@@ -29,13 +30,18 @@ impl<'a, R: Files> Slots<'a, R>
 where
     R::File: FileExt,
 {
-    pub fn new(alloc: Global, files: &'a R) -> Slots<'a, R> {
-        Slots {
-            first: Slot::new(alloc, files, "slot0"),
-            second: Slot::new(alloc, files, "slot1"),
-            third: Slot::new(alloc, files, "slot2"),
-            fourth: Slot::new(alloc, files, "slot3"),
-        }
+    /// The slots, whose links are followed now.
+    pub fn new(alloc: Global, files: &'a R) -> Result<Slots<'a, R>, Memory> {
+        let first = Slot::new(alloc, files, "slot0")?;
+        let second = Slot::new(alloc, files, "slot1")?;
+        let third = Slot::new(alloc, files, "slot2")?;
+        let fourth = Slot::new(alloc, files, "slot3")?;
+        Ok(Slots {
+            first,
+            second,
+            third,
+            fourth,
+        })
     }
 
     /// The slot of this number below 4. It knows which files the others have open.
@@ -103,9 +109,9 @@ impl Claims {
 /// read nor written where it is another of the program's files.
 #[derive(Drop)]
 pub struct Slot<'a, R: Files> {
-    alloc: Global,
     files: &'a R,
     name: &'static str,
+    place: Place,
     kept: Kept<'a, R>,
     // The length that writes of pages gave it, none where it is that of its file.
     length: Option<u64>,
@@ -117,15 +123,16 @@ impl<'a, R: Files> Slot<'a, R>
 where
     R::File: FileExt,
 {
-    fn new(alloc: Global, files: &'a R, name: &'static str) -> Slot<'a, R> {
-        Slot {
-            alloc,
+    fn new(alloc: Global, files: &'a R, name: &'static str) -> Result<Slot<'a, R>, Memory> {
+        let place = Place::of(alloc, files, name)?;
+        Ok(Slot {
             files,
             name,
+            place,
             kept: Kept::new(files, name),
             length: None,
             claims: Claims::none(),
-        }
+        })
     }
 
     // Takes the file, looked at for the first page. None where it is absent.
@@ -144,7 +151,7 @@ where
     fn find_or_make(&mut self, page: u16) -> Result<Opened<R::File>, Reason> {
         match self.find(page)? {
             Some(opened) => Ok(opened),
-            None => self.alone(make_behind_links(self.alloc, self.files, self.name)?),
+            None => self.alone(self.place.make(self.files)?),
         }
     }
 
@@ -232,7 +239,7 @@ where
     fn settle(&mut self, mut opened: Opened<R::File>) -> Result<(), Reason> {
         opened.sync()?;
         if !opened.is_listed {
-            sync_name(self.alloc, self.files, self.name)?;
+            self.place.sync_name(self.files)?;
             opened.is_listed = true;
         }
         self.kept.keep(opened);
