@@ -23,8 +23,8 @@ impl Slot {
         ensures ok { IfOk result (Comes platform.new self.old self.new
             (acted (instance_in self.old) (slot_in platform.old self.old)
             (Action.Extend value.now))) }
-        ensures err { OnErr result (Lacks (Action.Extend value.now) platform.old platform.new self.old
-            self.new) }
+        ensures err { OnErr result
+            (Lacks (Action.Extend value.now) platform.old platform.new self.old self.new) }
     {
         match &self.flight {
             None => self.extend_now(platform, value),
@@ -39,8 +39,8 @@ impl Slot {
         ensures ok { IfOk result (Comes platform.new self.old self.new
             (acted (instance_in self.old) (slot_in platform.old self.old)
             (Action.Extend value.now))) }
-        ensures err { OnErr result (Lacks (Action.Extend value.now) platform.old platform.new self.old
-            self.new) }
+        ensures err { OnErr result
+            (Lacks (Action.Extend value.now) platform.old platform.new self.old self.new) }
     {
         platform.foreign(value)?;
         self.register = *platform.register();
@@ -54,8 +54,8 @@ impl Slot {
         ensures ok { IfOk result (Comes platform.new self.old self.new
             (acted (instance_in self.old) (slot_in platform.old self.old)
             (Action.Extend value.now))) }
-        ensures err { OnErr result (Lacks (Action.Extend value.now) platform.old platform.new self.old
-            self.new) }
+        ensures err { OnErr result
+            (Lacks (Action.Extend value.now) platform.old platform.new self.old self.new) }
     {
         platform.meddle_next(value)?;
         Ok(Said::Replied(Reply::Extended))

@@ -165,7 +165,8 @@ fn follow_action(
         → Answers events (At slot action) platform.old.slots platform.new.slots slots.old slots.new
         text) }
     ensures err { OnErr result ((events : ℕ) → AllFit events platform.old.slots slots.old
-        → LacksEvent events (At slot action) platform.old.slots platform.new.slots slots.old slots.new) }
+        → LacksEvent events (At slot action) platform.old.slots platform.new.slots slots.old
+        slots.new) }
 {
     match act(alloc, platform, slots, usize::from(slot), action) {
         Err(memory) => Err(memory),

@@ -136,8 +136,8 @@ impl Slot {
         ensures ok { IfOk result (Comes platform.now self.old self.new
             (acted (instance_in self.old) (slot_in platform.now self.old)
             (Action.Begin offer request))) }
-        ensures err { OnErr result (Lacks (Action.Begin offer request) platform.now platform.now
-            self.old self.new) }
+        ensures err { OnErr result
+            (Lacks (Action.Begin offer request) platform.now platform.now self.old self.new) }
     {
         if self.flight.is_some() {
             return Ok(Said::Busy);

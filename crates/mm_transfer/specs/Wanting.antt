@@ -12,9 +12,10 @@ having_read i steps meddles stop side = record side {
 
 abbrev pub MayHaveRead : Instance → List Step → List Meddle → Stop → Side Digests → Side Digests
     → Type 0
-MayHaveRead i steps meddles stop old new = (new ≡ old) ⊎ (new ≡ having_read i steps meddles stop old)
+MayHaveRead i steps meddles stop old new =
+    (new ≡ old) ⊎ (new ≡ having_read i steps meddles stop old)
 
--- a call that asks: where the module isn't, none makes a step and then wants memory
+-- a call that asks: where the module isn't, it wants no memory behind a step
 abbrev pub AskWants : Instance → Role → List Meddle → Stop → Side Digests → Side Digests → Type 0
 AskWants i Live meddles stop old new = MayHaveRead i (reading_steps i.variant) meddles stop old new
 AskWants i role meddles stop old new = new ≡ old

@@ -6,7 +6,7 @@ pub invariant_of-self : goal.invariant_of-self
 invariant_of-self c =
     let now = c.args.self.now in
     let w = c.in_err-reply.ensures.wants in
-    let s = counts_same (pair_of now.sides.header) (side_event_of c.args.event.now) now.sides.both c.event-reply.new.self.both w.both in
+    let s = counts_same (pair_of now.sides.header) (side_event_of c.args.event.now) now.sides.both c.event.new.self.both w.both in
     record {
       few = now.few;
       short = now.short;
