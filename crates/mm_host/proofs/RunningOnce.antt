@@ -17,7 +17,7 @@ use Rattle.mm_model.specs.declared.refusal.Refusal.TheVariants as refusal
 use Rattle.mm_store.specs.declared.fault.StoreFault.TheVariants as fault
 use Rattle.mm_recovery.specs.declared.fault.HostFault.TheVariants as host
 use Rattle.mm_host.proofs.Leading.{Laws, Reaches, basic_laws}
-use Rattle.mm_host.proofs.CallsMade.{CallsInTurn, Ends, among_input, calls_split, chain_of, rests, stops}
+use Rattle.mm_host.proofs.CallsMade.{Ends, among_input, calls_split, chain_of, rests, stops}
 use Rattle.mm_host.proofs.InTurn.{AfterTurns, May, MindsNothing, StandsIn, calls_reach, ends_reach, met_last, pending_for, turns}
 use Rattle.mm_host.proofs.InTurn.{chain_reaches}
 use Rattle.mm_host.proofs.SessionRuns.{line_committed, runs_to}
@@ -28,6 +28,7 @@ use Rattle.mm_model.specs.Chains as chains
 use Rattle.mm_model.specs.History.{joined}
 use Rattle.mm_call.specs.TrailLaws.{foreign_made, foreign_values, reads_beside, reads_of, with_register}
 use Rattle.mm_host.proofs.OptLeading.{opt_laws}
+use Rattle.mm_host.specs.Refusing.{CallsInTurn}
 
 -- what came of the request in hand
 
@@ -53,7 +54,7 @@ only_by (Ok answer) came (inl t) still = inr (rw t tt)
 only_by (Ok answer) came (inr t) still = inr (rw t.1 (store_may t.0))
 
 -- a refusal that is told is the call's, and isn't want of memory
-call_refused : (call : Result Answer Refusal) (came : Result Resumed HostFault) (why : Refusal) → TellsCall call came
+pub call_refused : (call : Result Answer Refusal) (came : Result Resumed HostFault) (why : Refusal) → TellsCall call came
     → came ≡ Err (host.Refused why) → (call ≡ Err why) × (why ≡ refusal.Memory → ⊥)
 call_refused (Err w) came why t e =
     let told : Err (refusal_fault w) ≡ Err (host.Refused why) = sym t ∙ e in
