@@ -28,10 +28,11 @@ use Rattle.mm_host.proofs.Above.{basic_laws}
 use Rattle.mm_life.specs.Deeds.{Call, Calls, Checkpoints, Deed, DeedLeads, Extends, LosesPower}
 use Rattle.mm_life.specs.Laws.{BasicLifeIsOne}
 use Rattle.mm_life.specs.Premises.{life_batches, life_messages}
+use Rattle.mm_life.specs.Staying.{BasicDeedsStay, IsNoCall, Stays}
 use Rattle.mm_life.specs.Stages.{Part, Stage, life_calls}
 use Rattle.mm_life.specs.Below.{Checkpointed, CheckpointRefusal}
 use Rattle.std.specs.Prelude.{Result}
-use Rattle.mm_life.proofs.Living.{AreSeen, IsNoCall, LifeLaws, Stays, lives}
+use Rattle.mm_life.proofs.Living.{AreSeen, LifeLaws, lives}
 
 none_reset : (values : List (List ℕ)) → from_reset (map Foreign values) ≡ []
 none_reset [] = refl
@@ -41,8 +42,7 @@ none_reset (v ∷ values) = none_reset values
 none_foreign : (barrier : List ℕ) (asked : List Batch) → AreNoGuards barrier [] asked
 none_foreign barrier asked d b among batches = absurd (omega (arith, among.1))
 
-module _ (meaning : Meaning) (lawful : IsLawful meaning) (key : List ℕ) (all others : List (List ℕ)) (asked : List Batch)
-    (clear : IsClear all) where
+module _ (meaning : Meaning) (key : List ℕ) (all others : List (List ℕ)) (asked : List Batch) (clear : IsClear all) where
   abbrev I : Instance
   I = basic meaning key
 
@@ -96,7 +96,7 @@ module _ (meaning : Meaning) (lawful : IsLawful meaning) (key : List ℕ) where
     leads = λ old new offer request gives c d s. (_, (c.goes key key d s).stands);
     shows = λ y old part final seen stands reaches leads. tt;
     stays = λ y old deed new quiet seen f stands within.
-        stays meaning lawful key all [] asked clear y old deed new quiet f stands within;
+        stays meaning key all [] asked clear y old deed new quiet f stands within;
   }
 
   all_seen : (all : List (List ℕ)) (asked : List Batch) (clear : IsClear all) (start : Standing) (stages : List Stage)
@@ -116,6 +116,10 @@ module _ (meaning : Meaning) (lawful : IsLawful meaning) (key : List ℕ) where
       → IsWithin all [] asked B first_history
   first_within all asked started =
       record { sound = record { closed = refl; shut = refl }; outside = tt; listed = (started, tt); batches = tt }
+
+pub basic_deeds_stay : BasicDeedsStay
+basic_deeds_stay meaning key all others asked y old deed new clear quiet f stands within =
+    stays meaning key all others asked clear y old deed new quiet f stands within
 
 pub basic_is_one : BasicLifeIsOne
 unfolding basic_life

@@ -8,3 +8,4 @@ mod NextStart
 mod Offering
 mod OptSeen
 mod OptLife
+mod DoingLaws

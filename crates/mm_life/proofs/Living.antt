@@ -21,22 +21,11 @@ use Rattle.mm_life.specs.Deeds.{Call, Calls, Checkpoints, Deed, DeedLeads, Exten
 use Rattle.mm_life.specs.OneList.{FollowsOn, IsLastJudged, PartSteps}
 use Rattle.mm_life.specs.Premises.{AreUntagged, IsFirstUntagged, issued_in, requests_asked, snapshots_of}
 use Rattle.mm_life.specs.SessionCalls.{InHandOf, first_bytes, told_by, untold_calls}
+use Rattle.mm_life.specs.Staying.{IsNoCall, Stays}
 use Rattle.mm_life.specs.Stages.{Does, Holds, IsLife, Part, PartLeads, Stage, end_of, latest_calls, life_calls, part_calls}
 use Rattle.mm_life.proofs.Chains.{session_chain}
 use Rattle.mm_life.proofs.OneCall.{AreListed, all_genuine, issues_genuine, makes_call, met_judged, met_steps}
 use Rattle.mm_life.proofs.Sessions.{CallsLead, IsFirstGenuine, Leads, Lived, chain_lives}
-
--- a deed that is no call leaves the batches, and what is named
-pub record Stays (all others : List (List ℕ)) (asked : List Batch) (i : Instance) (y : History) (new : Standing) : Type 0 where
-  pub after : History
-  pub stands : StandsFor i new after
-  pub within : IsWithin all others asked i after
-  pub batches : after.batches ≡ y.batches
-  pub names : (content : Content) → Names i y content → Names i after content
-
-abbrev pub IsNoCall : Deed → Type 0
-IsNoCall (Calls c) = ⊥
-IsNoCall _ = Unit {0}
 
 -- What a life takes from its variant: the laws of calls up to a part's end; what is asked of a part by what stands before and
 -- behind it; and so what the register shows there; and what other deeds leave.

@@ -41,9 +41,10 @@ use Rattle.mm_life.specs.Deeds.{Calls, Checkpoints, Deed, DeedLeads, Extends, Lo
 use Rattle.mm_life.specs.Laws.{OptLifeIsOne}
 use Rattle.mm_life.specs.Premises.{closing_messages, life_batches, life_messages, opt_messages, others_values}
 use Rattle.mm_life.specs.Premises.{register_messages, shown_messages}
+use Rattle.mm_life.specs.Staying.{IsNoCall, IsSeen, OptDeedsStay, Stays}
 use Rattle.mm_life.specs.Stages.{Does, Part, Stage}
-use Rattle.mm_life.proofs.Living.{AreSeen, IsNoCall, LifeLaws, Stays, lives}
-use Rattle.mm_life.proofs.OptSeen.{IsSeen, items_told, seen_closing, seen_open, seen_shut}
+use Rattle.mm_life.proofs.Living.{AreSeen, LifeLaws, lives}
+use Rattle.mm_life.proofs.OptSeen.{items_told, seen_closing, seen_open, seen_shut}
 use Rattle.mm_life.proofs.Sessions.{Leads}
 
 module _ (meaning : Meaning) (key barrier : List ℕ) (all others : List (List ℕ)) (asked : List Batch) (clear : IsClear all) where
@@ -246,6 +247,10 @@ module _ (meaning : Meaning) (lawful : IsLawful meaning) (key barrier : List ℕ
       (issued_once O (issued_bytes O first_history) (first_on values) content
       (opt_content meaning lawful key barrier (first_on values) (omega arith)) refl right)
       (opt_issued meaning key barrier (first_on values) (first_sound values) refl)
+
+pub opt_deeds_stay : OptDeedsStay
+opt_deeds_stay meaning key barrier all others asked y old deed new clear quiet seen f stands within =
+    stays meaning key barrier all others asked clear y old deed new quiet seen f stands within
 
 pub opt_is_one : OptLifeIsOne
 unfolding opt_life

@@ -24,13 +24,8 @@ use Rattle.mm_call.specs.Tied.{foreign_items}
 use Rattle.mm_call.proofs.Above.{counted_open, shown_back, shown_shut}
 use Rattle.mm_callers.specs.Closing.{MayClose}
 use Rattle.mm_life.specs.Premises.{closing_messages, closings, digest_in, shown_messages}
+use Rattle.mm_life.specs.Staying.{IsSeen}
 use Rattle.mm_life.specs.Stages.{Part}
-
--- What is asked of a part of a life: what the register shows behind it, and of a checkpoint the messages by which it may close.
-pub record IsSeen (all others : List (List ℕ)) (old : Standing) (part : Part) (final : Standing) : Type 0 where
-  pub registers : Within (shown_messages final.items) all
-  pub values : AllByRecursion (Contains others) (option_map_or foreign_items final.items [])
-  pub closings : Within (closing_messages part old.cell final.items) all
 
 -- an empty register's value
 register_none : (i : Instance) → register_value_of i (counted_part first_history) ≡ zero_bytes

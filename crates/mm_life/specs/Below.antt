@@ -5,6 +5,7 @@ pub use Rattle.mm_digest.specs.declared.variant.Variant.TheVariants.{Basic, Opt}
 pub use Rattle.mm_seal.specs.Snapshot.{Content}
 pub use Rattle.mm_platform.specs.Standing.{Item, Standing, item_values}
 pub use Rattle.mm_platform.specs.Steps.{beside}
+pub use Rattle.mm_platform.specs.declared.fault.StepFault.{StepFault}
 pub use Rattle.mm_module.specs.Batch.{Batch, One}
 pub use Rattle.mm_module.specs.Meaning.{IsLawful, Meaning}
 pub use Rattle.mm_listing.specs.Tellings.{AreSaid}
@@ -14,7 +15,8 @@ pub use Rattle.mm_model.specs.Chains.{after}
 pub use Rattle.mm_model.specs.History.{History, first_history, requests_of}
 pub use Rattle.mm_model.specs.Instance.{Instance}
 pub use Rattle.mm_model.specs.InstanceWords.{basic, opt}
-pub use Rattle.mm_model.specs.Messages.{AreNoGuards, IsClear, register_trail}
+pub use Rattle.mm_model.specs.Messages.{AreNoGuards, IsClear, Within, register_trail}
+pub use Rattle.mm_model.specs.Places.{Names}
 pub use Rattle.mm_model.specs.Standing.{IsGenuine, IsRight, StandsFor, issued_bytes}
 pub use Rattle.mm_model.specs.declared.answer.Answer.{Answer}
 pub use Rattle.mm_model.specs.declared.refusal.Refusal.{Refusal}

@@ -1,9 +1,10 @@
 -- The laws of a life.
-use Rattle.std.specs.Prelude.{◌≡◌, ℕ, List, [], ◌∷◌, Option, Some, Result}
+use Rattle.std.specs.Prelude.{◌≡◌, ℕ, List, [], ◌∷◌, Option, Some, Result, ◌⊎◌}
 use Rattle.mm_life.specs.Below.{Variant, Basic, Opt, Standing, IsLawful, Meaning, AreSaid, AnyModule, meaning_of, first_history, basic}
 use Rattle.mm_life.specs.Below.{AreNoGuards, IsClear, StandsFor, issued_bytes, Promises, tellings_in, Instance, opt, Batch, first_on}
 use Rattle.mm_life.specs.Below.{StoreStanding, Pending, Slots, slot_read, first_offer, IsWaiting, MayStart, SessionFault, Sessions}
 use Rattle.mm_life.specs.SessionCalls.{IsFirstOffered, session_calls}
+use Rattle.mm_life.specs.Deeds.{Call}
 use Rattle.mm_life.specs.OneList.{FollowsOn, IsOneWhole, life_replies}
 use Rattle.mm_life.specs.Premises.{AreUntagged, IsUntagged, life_batches, life_messages, opt_messages, others_values, snapshots_of}
 use Rattle.mm_life.specs.Stages.{IsLife, Stage, end_of, life_calls}
@@ -40,21 +41,27 @@ OptLifeIsOne =
     IsClear (opt_messages (opt meaning key barrier) start stages f) →
     AreNoGuards barrier (others_values stages)
     (life_batches (opt meaning key barrier) start stages f) →
-    AreUntagged (opt meaning key barrier) (issued_bytes (opt meaning key barrier) first_history ∷ [])
-    start stages f →
+    AreUntagged (opt meaning key barrier)
+    (issued_bytes (opt meaning key barrier) first_history ∷ []) start stages f →
     IsOneWhole (opt_messages (opt meaning key barrier) start stages f) (others_values stages)
     (life_batches (opt meaning key barrier) start stages f) (opt meaning key barrier)
     (issued_over (opt meaning key barrier) start stages f) start stages f
 
--- What a session offers first is what its slots show, where its store tells them.
+-- What waits in these slots was found, and the first of the calls offers what they show for it.
+pub record OffersSlots (slots : Slots) (calls : List Call) : Type 0 where
+  pub waiting : Option Pending
+  pub is_waiting : IsWaiting (slot_read slots 2) (slot_read slots 3) waiting
+  pub offered : IsFirstOffered (first_offer slots waiting) calls
+
+-- What a session offers first is what its slots show, where its store tells them; or it made no
+-- call.
 abbrev pub SessionsOfferSlots : Type 0
 SessionsOfferSlots =
     (variant : Variant) (meaning : Meaning) (before after : Standing) (old new : StoreStanding)
     (left left' received received' : Option (List ℕ)) (result : Result Unit SessionFault)
     (s : Sessions variant meaning before after old new left left' received received' result)
-    (slots : Slots) (waiting : Option Pending) →
-    old.slots ≡ Some slots → IsWaiting (slot_read slots 2) (slot_read slots 3) waiting →
-    IsFirstOffered (first_offer slots waiting) (session_calls s)
+    (slots : Slots) →
+    old.slots ≡ Some slots → (session_calls s ≡ []) ⊎ OffersSlots slots (session_calls s)
 
 -- Behind a life a session may start over any slots, where what they offer first was issued in this
 -- life, if it is right: so it is one run from the life's history on.
@@ -69,8 +76,8 @@ NextMayStart =
     IsUntagged i issued (first_offer slots waiting) →
     MayStart all others asked i whole.history slots (end_of start stages) kept
 
--- Each line that programs told over a life says what the module said when its request was run, once,
--- on the one list.
+-- Each line that was told over a life says what the module said when its request was run, once, on
+-- the one list.
 abbrev pub LivesTellWhatWasSaid : Type 0
 LivesTellWhatWasSaid =
     (variant : Variant) (meaning : Meaning) (start : Standing) (stages : List Stage)

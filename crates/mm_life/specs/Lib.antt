@@ -5,3 +5,5 @@ pub mod Stages
 pub mod OneList
 pub mod Premises
 pub mod Laws
+pub mod Staying
+pub mod Doing

@@ -1,5 +1,7 @@
 //! Laws of a life, each the contract of a function that does nothing, or calls what it needs.
 
+ghost use Rattle.mm_life.specs.Doing.{CyclesAreDeeds, ReadsAreDeeds};
+ghost use Rattle.mm_life.specs.Staying.{BasicDeedsStay, OptDeedsStay};
 ghost use Rattle.mm_life.specs.Laws.{BasicLifeIsOne, LivesKeepPromises, LivesTellWhatWasSaid, NextMayStart, OptLifeIsOne, SessionsOfferSlots};
 
 use mm_schedule::laws::{runs_keep_promises, tells_what_was_said};
@@ -24,6 +26,19 @@ pub fn sessions_offer_slots()
 /// Behind any life the next session may start, from the life's history on.
 pub fn next_may_start()
     ensures { NextMayStart }
+{}
+
+/// What a deed that is no call leaves: an extension of the register by others, a loss of power, a checkpoint. The platform
+/// stands for a history with the same requests.
+pub fn deeds_stay()
+    ensures basic { BasicDeedsStay }
+    ensures opt { OptDeedsStay }
+{}
+
+/// A read of the cell, and a loss of power that was called for, are deeds.
+pub fn device_calls_are_deeds()
+    ensures reads { ReadsAreDeeds }
+    ensures cycles { CyclesAreDeeds }
 {}
 
 /// Each line that programs told over a life says what the module said when its request was run.

@@ -5,6 +5,6 @@
 mod laws;
 
 pub use laws::{
-    basic_life_is_one, lives_keep_promises, lives_tell_what_was_said, next_may_start,
-    opt_life_is_one, sessions_offer_slots,
+    basic_life_is_one, deeds_stay, device_calls_are_deeds, lives_keep_promises,
+    lives_tell_what_was_said, next_may_start, opt_life_is_one, sessions_offer_slots,
 };
