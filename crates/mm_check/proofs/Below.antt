@@ -52,7 +52,7 @@ pub use Rattle.mm_run.proofs.Above.{goes_on, in_any_way, short_size}
 pub use Rattle.mm_evidence.proofs.Above.{any_in, any_some, event_apart, event_or, genuine_or, names_by}
 pub use Rattle.mm_expect.specs.Numbered.{messages_if, messages_where, numbered_event}
 pub use Rattle.mm_play.proofs.Above.{for_whole, not_ok, ok_same, outcome_of, plays_err, plays_ok}
-pub use Rattle.mm_replay.specs.Schedule.{after_event, is_too_much, replaying, Running, running_outcome}
+pub use Rattle.mm_replay.specs.Schedule.{after_event, is_too_much, replay_stage, Running, running_outcome, stage_of}
 pub use Rattle.mm_check.specs.Checking.{after_compared, AtHeader, check_answer, check_closing, CheckStage, Compared, first_compared}
 pub use Rattle.mm_check.specs.Checking.{first_read, headed, InEvents, InReplies, is_line, Read, read_line, with_event}
 pub use Rattle.mm_check.specs.Deciding.{IsFirstForged, premise_by, StandsBehind}

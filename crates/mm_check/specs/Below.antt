@@ -29,7 +29,8 @@ pub use Rattle.mm_run.specs.Premises.{IsClearRun, IsGenuineEvent, IsGenuineRun, 
 pub use Rattle.mm_evidence.specs.Evidence.{event_offer, HasEvidence, IsForged}
 pub use Rattle.mm_expect.specs.Numbered.{numbered_event}
 pub use Rattle.mm_expect.specs.Traced.{IsAfter}
-pub use Rattle.mm_replay.specs.Schedule.{Running, after_event, begun, most_kept, running_outcome}
+pub use Rattle.mm_play.specs.Kept.{most_kept}
+pub use Rattle.mm_replay.specs.Schedule.{Running, after_event, first_running, running_outcome}
 pub use Rattle.mm_play.specs.Counting.{Taken, begins_fewer, few_events, no_answer, same_answer, taken}
 pub use Rattle.mm_play.specs.Events.{EventPlayer, event_answer, header_answer}
 pub use Rattle.mm_play.specs.Play.{Told, run, run_of}

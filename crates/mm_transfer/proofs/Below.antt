@@ -1,6 +1,6 @@
 -- The words and laws that the proofs of this crate take from specs/ and from the crates below.
 pub use Rattle.std.specs.List.{list_any, sum_by}
-pub use Rattle.std.specs.Prelude.{◌&&◌, ◌==◌, ◌||◌, ◌≢◌, ◌⊎◌, codes, IfOk, if◌then◌else◌, is_some, MatchResult, not, OnOk, option_to_list}
+pub use Rattle.std.specs.Prelude.{◌&&◌, ◌==◌, ◌||◌, ◌≢◌, ◌⊎◌, codes, IfOk, if◌then◌else◌, is_some, MatchResult, not, OnErr, OnOk, option_to_list}
 pub use Rattle.std.specs.Str.{bytes_eq}
 pub use Rattle.std.proofs.Common.{◌++◌, ◌+◌, ◌<◌, ◌^◌, ◌∙◌, ◌∷◌, ◌≡◌, ◌≤◌, [], ap, append_assoc, arith, Bool, Err, false, get_or, inl, inr}
 pub use Rattle.std.proofs.Common.{IsErr, length, length-append, List, map, None, Ok, Option, refl, Result, Some, subst, sym, true, ℕ}
