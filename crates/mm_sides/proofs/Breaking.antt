@@ -1,25 +1,25 @@
 -- A run of both sides meets the premises or gives evidence, and never both.
-use Rattle.mm_sides.proofs.Below.{ℕ, ◌≡◌, ◌∙◌, ◌&&◌, ◌++◌, ◌∷◌, Bool, true, false, List, [], Option, None, Some, Result, Ok, Err, inl, inr}
+use Rattle.mm_sides.proofs.Below.{ℕ, ◌≡◌, ◌&&◌, ◌++◌, ◌∷◌, Bool, false, List, [], Option, None, Some, Result, Ok, Err, inl, inr}
 use Rattle.mm_sides.proofs.Below.{refl, sym, ap, subst, Contains, bytes_eq, bytes_eq-Decides, nat_eq, Variant, Basic, Opt, Batch, Content}
-use Rattle.mm_sides.proofs.Below.{Meaning, History, Instance, IsClear, AreNoGuards, Refusal, TicketContent, Event, offered_bytes}
+use Rattle.mm_sides.proofs.Below.{History, Instance, Refusal, TicketContent, Event, offered_bytes}
 use Rattle.mm_sides.proofs.Below.{Role, Live, Retired, Waiting, Blank, Effect, Invites, Leaves, Enters, Notes, no_notes}
-use Rattle.mm_sides.proofs.Below.{First, Second, Which, key_of, Pair, instance_on, Side, Both, turned, lists_move, first_lists, history_now}
-use Rattle.mm_sides.proofs.Below.{Command, Invite, Retire, Accept, ticket_in, Act, Plain, Moves, BothEvent, both_outcome, both_followed}
-use Rattle.mm_sides.proofs.Below.{BothFollowed, noted_if, IsGenuineTo, IsGenuineHere, IsGenuineIn, AreGenuineFrom, IsNew}
-use Rattle.mm_sides.proofs.Below.{IsOurs, IsOursOffered, IsOursFor, IsOursIn, AreFreshFrom, both_messages, both_others, both_batches, AreApartIn}
+use Rattle.mm_sides.proofs.Below.{First, Which, key_of, Pair, instance_on, Side, Both, lists_move, first_lists, history_now}
+use Rattle.mm_sides.proofs.Below.{Invite, Retire, Accept, ticket_in, Act, Plain, Moves, BothEvent, both_outcome, both_followed}
+use Rattle.mm_sides.proofs.Below.{noted_if, IsGenuineTo, IsGenuineHere, IsGenuineIn, AreGenuineFrom, IsNew}
+use Rattle.mm_sides.proofs.Below.{IsOurs, IsOursOffered, IsOursIn, AreFreshFrom, both_messages, both_others, both_batches, AreApartIn}
 use Rattle.std.proofs.Common.{◌⊎◌}
 use Rattle.std.specs.Bool.{Decides}
-use Rattle.std.proofs.lemmas.Bool.Decides.{Decides-and, Decides-eqb, Decides-like}
+use Rattle.std.proofs.lemmas.Bool.Decides.{Decides-and, Decides-eqb}
 use Rattle.mm_seal.specs.declared.snapshot.Place.{Place}
 use Rattle.mm_seal.specs.declared.snapshot.Place.TheVariants.{Basic as InBasic, Opt as InOpt}
 use Rattle.mm_digest.specs.declared.digest.Digest.{Digest}
 use Rattle.mm_model.specs.Places.{Names}
 use Rattle.mm_history.specs.Naming.{BasicNamesAreDecided, is_named, IsDecided, OptNamesAreDecided}
-use Rattle.mm_evidence.specs.Evidence.{event_offer, HasGuard, IsForged}
+use Rattle.mm_evidence.specs.Evidence.{HasGuard}
 use Rattle.mm_evidence.proofs.Above.{event_apart, event_or, found_or_none, guard_or, messages_or, names_by, offer_apart, offer_or}
 use Rattle.mm_sides.specs.Both.{facing}
-use Rattle.mm_sides.specs.Evidence.{breach, collision, forged, guarded, HasBreach, HasPairEvidence, invited, IsBreach, IsDecidedPair, IsForeign}
-use Rattle.mm_sides.specs.Evidence.{IsForeignFor, IsForeignIn, IsForeignOffered, IsForgedCommand, IsForgedHere, IsForgedPlain, IsForgedTo}
+use Rattle.mm_sides.specs.Evidence.{breach, collision, forged, guarded, HasPairEvidence, invited, IsBreach, IsForeign}
+use Rattle.mm_sides.specs.Evidence.{IsForeignIn, IsForeignOffered, IsForgedHere, IsForgedPlain, IsForgedTo}
 use Rattle.mm_sides.specs.Evidence.{IsInvitedAgain, notes_after, PairsAreDecided, ticket, zero_digest}
 use Rattle.mm_sides.specs.Premises.{IsClearPair, IsFreshPair, IsGenuinePair, IsGenuinePlain}
 
@@ -262,6 +262,7 @@ pairs_decided basic opt pair events = record {
   where
     i : Instance
     i = instance_on pair First
+
     named : (which : Which) (y : History) (content : Content)
         → IsDecided (is_named (instance_on pair which) y content) (Names (instance_on pair which) y content)
     named which = names_by basic opt pair.variant pair.meaning (key_of pair which) pair.barrier
