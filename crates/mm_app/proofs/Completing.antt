@@ -41,7 +41,11 @@ use Rattle.mm_seal.specs.Cell.{IsCell, blank_cell, cell_spelling}
 use Rattle.mm_seal.specs.declared.cell.Cell.{Cell}
 use Rattle.mm_seal.specs.CellLaws.{reads_cell-same}
 use Rattle.mm_store.specs.declared.fault.StoreFault.{StoreFault}
-use Rattle.mm_app.specs.Completeness.{CanRun, CanServe, in_basic, in_opt}
+use Rattle.mm_app.proofs.Below.{Bulk, bulk_told, BulkFault, Summary}
+use Rattle.mm_app.specs.Completeness.{CanRun, CanServe, in_basic, in_opt, IsReplayable}
+use Rattle.mm_gen.specs.Replayed.{IsReplayed, replay_of}
+use Rattle.mm_gen.specs.declared.fault.BulkFault.TheVariants as bulk
+use Rattle.mm_words.specs.declared.command.Generated.{Generated}
 use Rattle.mm_app.proofs.Blame.{end_of}
 
 -- what was told
@@ -58,6 +62,13 @@ told_ends (Err end) received received' writes writes' status t h = subst IsDoneO
 
 power_ends : (fault : Option StepFault) → IsDoneOrFailed (end_of (power_told fault))
 power_ends fault = grind arith
+
+-- `bulk`
+
+bulk_ends : (it : Generated) (answer : Result Summary BulkFault) → IsReplayable it → IsReplayed (replay_of it.number it.count it.header) answer
+    → IsDoneOrFailed (end_of (bulk_told it.count answer))
+bulk_ends it (Err bulk.TooMuch) can r = let clash : Ok can.0 ≡ Err replay.TooMuch = sym can.1 ∙ r in absurd (cc)
+bulk_ends it _ can r = tt
 
 -- `init`: with 64 bytes the source isn't too short
 
@@ -274,6 +285,9 @@ does_end Run old new status can d = run_ends old new status d.middle d.looks.fau
 does_end Checkpoint old new status can d =
     told_ends (checkpoint_told d.answer) old.received new.received old.writes new.writes status d.tells
     (closing_ends old new d.answer can d.closes)
+does_end (Bulk it) old new status can d =
+    told_ends (bulk_told it.count d.1.answer) old.received new.received old.writes new.writes status d.1.tells
+    (bulk_ends it d.1.answer can d.1.replayed)
 does_end Power old new status can d =
     told_ends (power_told d.fault) old.received new.received old.writes new.writes status d.tells (power_ends d.fault)
 does_end (Gen it) old new status can d = written_ends d.given.result status d.given.ends

@@ -9,6 +9,7 @@ use Rattle.mm_digest.specs.declared.variant.Variant.{Variant}
 use Rattle.mm_digest.specs.declared.variant.Variant.TheVariants.{Basic, Opt}
 use Rattle.mm_host.specs.AnySlots.{AreAskedInTurn, AsksNothingNew, requests_with}
 use Rattle.mm_host.specs.Honest.{HasRoom, MayGoOn}
+use Rattle.mm_gen.specs.Replayed.{replay_of}
 use Rattle.mm_host.specs.SessionLines.{AreWithin}
 use Rattle.mm_module.specs.Batch.{Batch}
 use Rattle.mm_model.specs.History.{History}
@@ -30,7 +31,8 @@ use Rattle.mm_slots.specs.Stage as slotted
 use Rattle.mm_store.specs.Slots as kept
 use Rattle.mm_transfer.specs.Stage as moved
 use Rattle.mm_words.specs.declared.command.Command.{Command}
-use Rattle.mm_words.specs.declared.command.Command.TheVariants.{Init, Run, Checkpoint, Power, Gen, Help, Replay, Check, Slots, Receipts, Transfer}
+use Rattle.mm_words.specs.declared.command.Generated.{Generated}
+use Rattle.mm_words.specs.declared.command.Command.TheVariants.{Init, Run, Checkpoint, Power, Gen, Bulk, Help, Replay, Check, Slots, Receipts, Transfer}
 use Rattle.mm_app.specs.Outside.{Outside}
 use Rattle.mm_app.specs.declared.status.Status.{Status}
 use Rattle.mm_app.specs.declared.status.Status.TheVariants.{Done, ReadFault, WriteFault, Memory, PlatformFault, StoreFault}
@@ -112,6 +114,11 @@ pub data CanRun (old new : Outside) : Type 0 where
   in_opt : (it : AnyModule) (key barrier : List ℕ)
       → CanServe (opt (meaning_of it) key barrier) old new → CanRun old new
 
+-- For a run in bulk: the replay of the text that its number makes comes to its end.
+abbrev pub IsReplayable : Generated → Type 0
+IsReplayable it =
+    (next : replayed.ReplayStage) × ((replay_of it.number it.count it.header).outcome ≡ Ok next)
+
 -- What is asked, by the command. Of those that play lines see below.
 abbrev pub CanBeDone : Command → (old new : Outside) → Type 0
 CanBeDone (Init header) old new = CanStart old
@@ -119,6 +126,7 @@ CanBeDone Run old new = CanRun old new
 CanBeDone Checkpoint old new = CanClose old new
 CanBeDone Power old new = Unit {0}
 CanBeDone (Gen it) old new = Unit {0}
+CanBeDone (Bulk it) old new = IsReplayable it
 CanBeDone Help old new = Unit {0}
 CanBeDone _ old new = ⊥
 

@@ -5,8 +5,10 @@ use Rattle.mm_call.specs.Found.{found_at}
 use Rattle.mm_call.specs.Leaving.{IsUntouched}
 use Rattle.mm_call.specs.Levels.{by_digests}
 use Rattle.mm_call.specs.Standing.{StandsAt, instance_by}
+use Rattle.mm_base.specs.declared.replay_fault.ReplayFault.TheVariants as replay
 use Rattle.mm_digest.specs.Messages.{zero_bytes}
 use Rattle.mm_digest.specs.declared.variant.Variant.TheVariants.{Basic, Opt}
+use Rattle.mm_gen.specs.Replayed.{replay_of}
 use Rattle.mm_host.specs.AnySlots.{AreFirstOf, offered_after, requests_with}
 use Rattle.mm_host.specs.Refusing.{CallsInTurn, IsOfOffer}
 use Rattle.mm_host.specs.Sessions.{Served, lines_served}
@@ -25,10 +27,12 @@ use Rattle.mm_store.specs.Kept.{StoreStanding}
 use Rattle.mm_store.specs.Pending.{Pending}
 use Rattle.mm_store.specs.Slots.{Slots, slot_read}
 use Rattle.mm_words.specs.declared.command.Command.{Command}
-use Rattle.mm_words.specs.declared.command.Command.TheVariants.{Init, Run, Checkpoint}
+use Rattle.mm_words.specs.Commands.{SpellsCommand}
+use Rattle.mm_words.specs.declared.command.Command.TheVariants.{Init, Run, Bulk, Checkpoint}
+use Rattle.mm_words.specs.declared.command.Generated.{Generated}
 use Rattle.mm_app.specs.Commands.{SpellSome}
 use Rattle.mm_app.specs.declared.status.Status.{Status}
-use Rattle.mm_app.specs.declared.status.Status.TheVariants.{ReadFault, WriteFault, Memory, PlatformFault, StoreFault, Blank, Already, Cell, Lost, Refused, Short, Kind}
+use Rattle.mm_app.specs.declared.status.Status.TheVariants.{ReadFault, WriteFault, Memory, PlatformFault, StoreFault, Blank, Already, Cell, Lost, Refused, TooMuch, Short, Kind}
 
 -- memory was wanting, or an object that was handed in failed
 abbrev pub EndsByFault : Status → Type 0
@@ -170,3 +174,10 @@ TellsRefusal words before after kept left status =
     IsWaiting (slot_read slots 2) (slot_read slots 3) waiting → left ≡ Some input →
     RefusesNext cell before after (first_offer slots waiting)
     (requests_with waiting (lines_of input)) why)
+
+-- A run in bulk is too much exactly where the replay of the text that its number makes is.
+abbrev pub TellsMuch : List (List ℕ) → Status → Type 0
+TellsMuch words status =
+    (it : Generated) → SpellsCommand (Bulk it) words →
+    IsExactlyWhere ((replay_of it.number it.count it.header).outcome ≡ Err replay.TooMuch) TooMuch
+    status

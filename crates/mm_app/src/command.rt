@@ -9,7 +9,7 @@ ghost use Rattle.mm_app.specs.Blame.{BlamesOutput, BlamesSource, tells_platform_
 ghost use Rattle.mm_app.specs.Commands.{DoesOrLacks, ReadsInput, SpellNo, SpellNone, TakesEntropy, UsesPlatform, UsesStore};
 ghost use Rattle.mm_app.specs.Completeness.{CanBeAnswered, CanBeDone, IsDoneOrFailed};
 ghost use Rattle.mm_app.specs.Headline.{ReplaysOneRun};
-ghost use Rattle.mm_app.specs.Holding.{TellsAlready, TellsBlank, TellsCell, TellsKind, TellsLost, TellsRefusal, TellsShort};
+ghost use Rattle.mm_app.specs.Holding.{TellsAlready, TellsBlank, TellsCell, TellsKind, TellsLost, TellsMuch, TellsRefusal, TellsShort};
 ghost use Rattle.mm_app.specs.Outside.{outside};
 ghost use Rattle.mm_app.specs.Slots.{InterleavesRuns};
 ghost use Rattle.mm_app.specs.Status.{EndsUnrefused};
@@ -155,6 +155,7 @@ pub fn memoir<P: Platform, T: Store, S: Source, E: Source, K: Sink>(
         (P.standing platform.new) result }
     ensures refused { TellsRefusal (map (λ s. s.now) words.now) (P.standing platform.old)
         (P.standing platform.new) (T.kept store.old) (S.left input.old) result }
+    ensures much { TellsMuch (map (λ s. s.now) words.now) result }
 
     // A command leaves the objects that it doesn't use as they were.
     ensures platform { SpellNo UsesPlatform (map (λ s. s.now) words.now)

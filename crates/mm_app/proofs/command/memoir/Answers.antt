@@ -4,11 +4,12 @@ use Rattle.mm_words.specs.declared.fault.WordsFault.{WordsFault}
 use Rattle.mm_words.specs.declared.fault.WordsFault.TheVariants as words
 use Rattle.mm_app.specs.Status.{words_status}
 use Rattle.mm_words.specs.Commands.{SpellsCommand}
+use Rattle.mm_app.proofs.Below.{Bulk}
 use Rattle.mm_app.proofs.Blame.{Blamed, Frames, blamed}
 use Rattle.mm_app.proofs.OutputBlame.{output_blamed}
 use Rattle.mm_app.proofs.Completing.{may_be_done}
 use Rattle.mm_app.proofs.Holding.{Holding, spelled, spelled_where, unheld, unspelled, unspelled_where}
-use Rattle.mm_app.proofs.HoldingAll.{holding}
+use Rattle.mm_app.proofs.HoldingAll.{holding, much}
 use Rattle.mm_app.specs.Holding.{CantRead, FindsBasic, MayBeLost, NeedsInstance, RunsShort, StartsOne}
 use Rattle.mm_app.specs.declared.status.Status.TheVariants.{Already, Blank, Cell, Kind, Lost, Refused, Short}
 use Rattle.mm_seal.specs.Cell.{blank_cell}
@@ -132,6 +133,11 @@ returns-in-Ok-clause-refused g c cell items why told shown is =
     let r = (holds g it).refused cell items why told shown is in
     ((c.in-Ok.command, (r.0, c.in-Ok.ensures.ok)), (r.1, r.2))
 
+pub returns-in-Ok-clause-much : goal.returns-in-Ok-clause-much
+returns-in-Ok-clause-much g c it spells =
+    let here = (goal.at.returns-in-Ok-clause-much g c).After-done in
+    much it (told_before g here) (told_after g here) c.done.result (did g here (Bulk it) spells)
+
 -- words that spell a command, but memory was wanting
 is_memory : (fault : WordsFault) → ((let r : Result Command WordsFault = Err fault in r ≡ Err words.Usage) → ⊥)
     → words_status fault ≡ Memory
@@ -207,3 +213,7 @@ pub returns-in-Err-clause-refused : goal.returns-in-Err-clause-refused
 returns-in-Err-clause-refused g c cell items why told shown is =
     let it = (goal.at.returns-in-Err-clause-refused g c).After-stopped in
     absurd (unheld _ c.in-Err.fault c.stopped.result c.in-Err.ensures.usage (stopped_as g it) (Refused why) refl is)
+
+pub returns-in-Err-clause-much : goal.returns-in-Err-clause-much
+returns-in-Err-clause-much g c it spells =
+    much it _ _ _ (lacked g (goal.at.returns-in-Err-clause-much g c).After-stopped (Bulk it) spells)
