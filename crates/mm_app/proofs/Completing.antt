@@ -200,21 +200,21 @@ closing_ends old new answer can c =
 header_is : (v : Variant) (it : AnyModule) → header_found v (module_with (meaning_of it).id) ≡ Ok (record { variant = v; «module» = it })
 header_is v it = ap (header_found v) (any_is_found it).by_id
 
-refused_ends : (why : Refusal) (life : Life) → life ≢ LostLife → life ≢ Spoiled
-    → RefusesAs {T = Unit {0}} (Err (session.Host (host.Refused why))) life
+refused_ends : (why : Refusal) (how : Life) → how ≢ LostLife → how ≢ Spoiled
+    → RefusesAs {T = Unit {0}} (Err (session.Host (host.Refused why))) how
     → IsDoneOrFailed (session_status (Err (session.Host (host.Refused why))))
-refused_ends (refused.Device fault) life powered pure r = tt
-refused_ends refused.Lost life powered pure r = absurd (powered r)
-refused_ends refused.Stale life powered pure r = absurd (pure r)
-refused_ends _ life powered pure r = absurd r
+refused_ends (refused.Device fault) how powered pure r = tt
+refused_ends refused.Lost how powered pure r = absurd (powered r)
+refused_ends refused.Stale how powered pure r = absurd (pure r)
+refused_ends _ how powered pure r = absurd r
 
-session_ends : (answer : Result (Unit {0}) SessionFault) (life : Life) → life ≢ LostLife → life ≢ Spoiled → IsNoLines answer
-    → RefusesAs answer life → IsDoneOrFailed (session_status answer)
-session_ends (Err (session.Host (host.Refused why))) life powered pure lines r = refused_ends why life powered pure r
-session_ends (Err (session.Lines (replay.LineLong line))) life powered pure lines r = absurd lines
-session_ends (Err (session.Lines (replay.BadLine line))) life powered pure lines r = absurd lines
-session_ends (Err (session.Lines replay.TooMuch)) life powered pure lines r = absurd lines
-session_ends _ life powered pure lines r = tt
+session_ends : (answer : Result (Unit {0}) SessionFault) (how : Life) → how ≢ LostLife → how ≢ Spoiled → IsNoLines answer
+    → RefusesAs answer how → IsDoneOrFailed (session_status answer)
+session_ends (Err (session.Host (host.Refused why))) how powered pure lines r = refused_ends why how powered pure r
+session_ends (Err (session.Lines (replay.LineLong line))) how powered pure lines r = absurd lines
+session_ends (Err (session.Lines (replay.BadLine line))) how powered pure lines r = absurd lines
+session_ends (Err (session.Lines replay.TooMuch)) how powered pure lines r = absurd lines
+session_ends _ how powered pure lines r = tt
 
 module _ (old new : Outside) (status : Status) (middle : Standing) where
   abbrev Serves : Result Header Status → Type 0

@@ -82,7 +82,7 @@ reads_items : (items : Option (List Item)) (register : List ℕ)
     → option_map (λ xs. register_after (item_values xs)) items ≡ Some register
     → (xs : List Item) × (items ≡ Some xs) × (register_after (item_values xs) ≡ register)
 reads_items None register e = absurd (cc)
-reads_items (Some xs) register e = (xs, (refl, cc))
+reads_items (Some xs) register e = (xs, refl, cc)
 
 -- What a session's status tells.
 
@@ -94,17 +94,17 @@ held_refusal : (answer : Result (Unit {0}) SessionFault) (end : Status) → sess
 held_refusal (Ok done) end e held = let clash : true ≡ false = sym held ∙ ap tells_held (sym e) in absurd (cc)
 held_refusal (Err (session.Host host.Memory)) end e held = let clash : true ≡ false = sym held ∙ ap tells_held (sym e) in absurd (cc)
 held_refusal (Err (session.Host host.Store)) end e held = let clash : true ≡ false = sym held ∙ ap tells_held (sym e) in absurd (cc)
-held_refusal (Err (session.Host (host.Refused why))) end e held = (why, (refl, e))
+held_refusal (Err (session.Host (host.Refused why))) end e held = (why, refl, e)
 held_refusal (Err (session.Lines fault)) end e held =
     let clash : true ≡ false = sym held ∙ ap tells_held (sym e) ∙ lines_unheld fault in absurd (cc)
 
 by_offer : {A : Type 0} (why : Refusal) → tells_held (refused_at why) ≡ true → IsSome (fault_of why) ⊎ A → A
 by_offer why held (inr a) = a
 by_offer (refusal.Device fault) held (inl some) = absurd (cc)
-by_offer _ held (inl some) = absurd some
+by_offer _ held (inl some) = absurd (cc)
 
 -- the statuses of a refused offer
-is_offer : Status → Bool
+abbrev is_offer : Status → Bool
 is_offer Lost = true
 is_offer (Refused why) = true
 is_offer _ = false
@@ -124,7 +124,7 @@ may_lose (Refused why) m = inr (why, refl)
 may_lose _ m = absurd m
 
 -- the statuses of `run`
-is_run : Status → Bool
+abbrev is_run : Status → Bool
 is_run Already = false
 is_run Kind = false
 is_run (Short got) = false
@@ -257,6 +257,12 @@ module _ (old new : Outside) (status : Status) (middle : Standing) (cell : List 
       let why_is : r.why ≡ refusal.Lost = cc in
       let clash : Lost ≡ Refused why = ap refused_at (sym why_is) ∙ r.told_as in absurd (cc)
 
+  -- it is of an offer
+  offered : (why : Refusal) → status ≡ Refused why → IsOfOffer why
+  offered why is =
+      let r = somehow (Refused why) is refl in
+      subst IsOfOffer (refused_why r.why why r.told_as) (refused_as_offer i r.digests (One r.request) _ r.why r.judged)
+
   -- what was refused
   refused_run : (why : Refusal) → status ≡ Refused why → IsRefusedRun old new cell why
   refused_run why is = λ slots waiting input slots_told w left.
@@ -338,9 +344,8 @@ module _ (old new : Outside) (status : Status) (middle : Standing) (cell : List 
           };
           refused = λ why is. (
             refl,
-            (let r = somehow old new status middle cell held it spells e goes told items shown s (Refused why) is refl in
-                subst IsOfOffer (refused_why r.why why r.told_as) (refused_as_offer (instance_of held it) r.digests (One r.request) _ r.why r.judged),
-            refused_run old new status middle cell held it spells e goes told items shown s why is),
+            offered old new status middle cell held it spells e goes told items shown s why is,
+            refused_run old new status middle cell held it spells e goes told items shown s why is,
           );
         }
 
