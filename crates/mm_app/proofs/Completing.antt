@@ -65,7 +65,8 @@ power_ends fault = grind arith
 
 -- `bulk`
 
-bulk_ends : (it : Generated) (answer : Result Summary BulkFault) → IsReplayable it → IsReplayed (replay_of it.number it.count it.header) answer
+bulk_ends : (it : Generated) (answer : Result Summary BulkFault) → IsReplayable it
+    → IsReplayed (replay_of it.number it.count it.header) answer
     → IsDoneOrFailed (end_of (bulk_told it.count answer))
 bulk_ends it (Err bulk.TooMuch) can r = let clash : Ok can.0 ≡ Err replay.TooMuch = sym can.1 ∙ r in absurd (cc)
 bulk_ends it _ can r = tt

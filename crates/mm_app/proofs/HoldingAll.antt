@@ -40,7 +40,8 @@ does_hold Power old new status d =
     quiet_holding Power old new status (told_quiet (power_told d.fault) _ _ _ _ status d.tells (power_quiet d.fault)) (λ h. h) (λ h. h)
     (λ cell h. h) (λ cell h. h) (λ h. h)
 does_hold (Bulk it) old new status d =
-    quiet_holding (Bulk it) old new status (told_quiet (bulk_told it.count d.1.answer) _ _ _ _ status d.1.tells (bulk_quiet it.count d.1.answer))
+    quiet_holding (Bulk it) old new status
+    (told_quiet (bulk_told it.count d.1.answer) _ _ _ _ status d.1.tells (bulk_quiet it.count d.1.answer))
     (λ h. h) (λ h. h) (λ cell h. h) (λ cell h. h) (λ h. h)
 does_hold (Gen it) old new status d =
     quiet_holding (Gen it) old new status (text_quiet d.given.result status d.given.ends) (λ h. h) (λ h. h) (λ cell h. h) (λ cell h. h)
@@ -63,7 +64,8 @@ does_hold Transfer old new status d =
     quiet_holding Transfer old new status (played_quiet d.played.answer status d.played.ends) (λ h. h) (λ h. h) (λ cell h. h) (λ cell h. h)
     (λ h. h)
 
-pub holding : (command : Command) (old new : Outside) (status : Status) → DoesOrLacks command old new status → Holding command old new status
+pub holding : (command : Command) (old new : Outside) (status : Status) → DoesOrLacks command old new status
+    → Holding command old new status
 holding command old new status (inl d) = does_hold command old new status d
 holding command old new status (inr e) = fault_holding command old new status (subst EndsByFault (sym e.stops.ends) tt)
 

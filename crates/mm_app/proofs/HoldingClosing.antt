@@ -100,7 +100,11 @@ looked_read : (cell : List ℕ) (old middle : Standing) (found : Result Segment 
 looked_read cell old middle (Err (refusal.Device fault)) same l not = absurd (not fault refl)
 looked_read cell old middle _ same l not =
     let f = l.finds refl in
-    record { read = f.sees.read; reads = subst (λ (b : List ℕ). ReadsCell b f.sees.read) (f.told cell same) f.sees.reads; found_is = f.sees.found_is }
+    record {
+      read = f.sees.read;
+      reads = subst (λ (b : List ℕ). ReadsCell b f.sees.read) (f.told cell same) f.sees.reads;
+      found_is = f.sees.found_is;
+    }
 
 -- whether a segment is open, and of what
 by_segment : (variant : Variant) (flag : Bool) (held : Held) (found : Result Segment CheckpointRefusal)
@@ -249,13 +253,15 @@ module _ (old new : Outside) (status : Status) (answer : Result Checkpointed Che
       blank = exactly_here (so Blank told) (tt, subst (ReadsCell cell) is r);
       unread = apart Cell Blank refl told (λ k. absurd (cc)) (λ h. h.0 (subst (ReadsCell cell) is r));
       kind = apart Kind Blank refl told (λ k. absurd (cc)) (λ h. reads_apart read (Ok h.0) r (λ k. absurd (cc)) h.1);
-      lost = λ shown. apart Lost Blank refl told (λ k. absurd (cc)) (λ h. reads_apart read (Ok h.1.held) r (λ k. absurd (cc)) (lost_held h.1 here));
+      lost = λ shown. apart Lost Blank refl told (λ k. absurd (cc))
+          (λ h. reads_apart read (Ok h.1.held) r (λ k. absurd (cc)) (lost_held h.1 here));
     }
     at_end read r (at_none is told here) = record {
       blank = apart Blank Cell refl told (λ k. absurd (cc)) (λ h. (subst (ReadsCell cell) is r).0 h.1);
       unread = exactly_here (so Cell told) (subst (ReadsCell cell) is r);
       kind = apart Kind Cell refl told (λ k. absurd (cc)) (λ h. reads_apart read (Ok h.0) r (λ k. absurd (cc)) h.1);
-      lost = λ shown. apart Lost Cell refl told (λ k. absurd (cc)) (λ h. reads_apart read (Ok h.1.held) r (λ k. absurd (cc)) (lost_held h.1 here));
+      lost = λ shown. apart Lost Cell refl told (λ k. absurd (cc))
+          (λ h. reads_apart read (Ok h.1.held) r (λ k. absurd (cc)) (lost_held h.1 here));
     }
     at_end read r (at_basic held is v told here) = record {
       blank = apart Blank Kind refl told (λ k. absurd (cc)) (λ h. reads_apart read (Err unheld.Blank) r (λ k. absurd (cc)) h.1);
@@ -282,17 +288,20 @@ module _ (old new : Outside) (status : Status) (answer : Result Checkpointed Che
           unread = apart Cell Lost refl told (λ k. absurd (cc)) (λ h. reads_apart read (Err unheld.Cell) r (λ k. absurd (cc)) h);
           kind = apart Kind Lost refl told (λ k. absurd (cc)) (not_basic read r held is v);
           lost = λ shown.
-              let it = shown e in exactly_here (so Lost told) (tt, record {
-                held = held;
-                cell = cell;
-                told = here;
-                spells = subst (ReadsCell cell) is r;
-                variant = v;
-                is_open = flag;
-                items = it.0;
-                shown = it.1;
-                zero = zero it.0 it.1;
-              });
+              let it = shown e in exactly_here (so Lost told) (
+                tt,
+                record {
+                  held = held;
+                  cell = cell;
+                  told = here;
+                  spells = subst (ReadsCell cell) is r;
+                  variant = v;
+                  is_open = flag;
+                  items = it.0;
+                  shown = it.1;
+                  zero = zero it.0 it.1;
+                },
+              );
         }
     at_end read r (at_done held register is v e there) = record {
       blank = apart_ok Blank refl said.Done e (λ h. reads_apart read (Err unheld.Blank) r (λ k. absurd (cc)) h.1);
@@ -320,7 +329,8 @@ read_of old new status answer t cell same middle (Err (refusal.Device fault)) l 
 read_of old new status answer t cell same middle found l c =
     let r = looked_read cell old.standing middle found same l (λ fault is. let it = l.finds in absurd (cc)) in
     at_end old new status answer t cell same r.read r.reads
-    (ended old new status answer t cell same r.read (subst (λ (f : Result Segment CheckpointRefusal). Closed cell new.standing answer f) r.found_is c))
+    (ended old new status answer t cell same r.read
+    (subst (λ (f : Result Segment CheckpointRefusal). Closed cell new.standing answer f) r.found_is c))
 
 pub checkpoint_holding : (old new : Outside) (status : Status) → Does Checkpoint old new status → Holding Checkpoint old new status
 checkpoint_holding old new status d =

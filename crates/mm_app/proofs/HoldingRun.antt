@@ -251,7 +251,8 @@ module _ (old new : Outside) (status : Status) (middle : Standing) (cell : List 
       let register : register_after (item_values h.items) ≡ r.digests.register = cc in
       let zero : bytes_eq r.digests.register zero_bytes ≡ true =
       (bytes_eq-Decides r.digests.register zero_bytes).1 (sym register ∙ h.zero) in
-      let found_lost = shown_lost i r.digests (One r.request) (offered_after (some_chain ran).offer (told_in (some_chain ran).waiting ran.goes))
+      let found_lost = shown_lost i r.digests (One r.request)
+      (offered_after (some_chain ran).offer (told_in (some_chain ran).waiting ran.goes))
       (ap (λ (f : Bool). f && bytes_eq r.digests.register zero_bytes) flag ∙ zero) in
       let errors : Err r.why ≡ Err refusal.Lost = sym r.judged ∙ found_lost in
       let why_is : r.why ≡ refusal.Lost = cc in
@@ -336,7 +337,10 @@ module _ (old new : Outside) (status : Status) (middle : Standing) (cell : List 
           blank = nowhere (never_told Blank refl refl) (λ h. held_unlike held spells h.1);
           unread = nowhere (never_told Cell refl refl) (λ h. let none = h.1 held spells in absurd (cc));
           lost = record {
-            only = λ is. (subst (MayBeLost Run) (sym is) tt, lost_at old new status middle cell held it spells e goes told items shown s is);
+            only = λ is. (
+              subst (MayBeLost Run) (sym is) tt,
+              lost_at old new status middle cell held it spells e goes told items shown s is,
+            );
             always = λ h. elim (may_lose status h.0) [
               | inl is ↦ inl is
               | inr r ↦ absurd (lost_alone old new status middle cell held it spells e goes told items shown s r.0 r.1 h.1)
@@ -380,10 +384,10 @@ module _ (old new : Outside) (status : Status) (middle : Standing) where
       let sees = f.2 in
       let unlike = unlike_run (ends_run sees.read found sees.found_is g) in
       let at : (cell : List ℕ) (items : List Item) → old.standing.cell ≡ Some cell → old.standing.items ≡ Some items
-          → AtRun old new status cell = λ (cell : List ℕ) (items : List Item) told shown.
-          read_run old new status middle cell goes told items shown sees.read
-          (subst (λ (b : List ℕ). ReadsCell b sees.read) (f.1 cell told) sees.reads)
-          (subst (λ (r : Result Header Status). Goes_on old new status middle cell r) sees.found_is g) in
+      → AtRun old new status cell = λ (cell : List ℕ) (items : List Item) told shown.
+      read_run old new status middle cell goes told items shown sees.read
+      (subst (λ (b : List ℕ). ReadsCell b sees.read) (f.1 cell told) sees.reads)
+      (subst (λ (r : Result Header Status). Goes_on old new status middle cell r) sees.found_is g) in
       record {
         blank = λ cell items told shown. (at cell items told shown).blank;
         already = λ cell told. nowhere (unlike Already refl) (λ h. h.0);

@@ -139,7 +139,8 @@ module _ {all others : List (List ℕ)} {asked : List Batch} {i : Instance} {fin
     }
 
     -- one that was answered
-    pub met_between : (answer : Answer) → Reaches i.variant i middle final → IsCall i.variant i.meaning old middle offer p.request (Ok answer)
+    pub met_between : (answer : Answer) → Reaches i.variant i middle final
+        → IsCall i.variant i.meaning old middle offer p.request (Ok answer)
         → (m : Met all others asked i y middle offer p (Ok (whole answer))) × May m.after middle answer.snapshot rest
     met_between answer reaches c =
         let o = met_on laws y old offer p may middle (whole answer) (makes (Ok (whole answer)) c.goes) reaches in
@@ -200,7 +201,8 @@ module _ {all others : List (List ℕ)} {asked : List Batch} {i : Instance} {fin
   turns y z old at offer (c ∷ calls) rest s may f h reaches =
       let then_is : History = answered_to i z offer c.line in
       let lines : List (List ℕ) = lines_served calls ++ rest in
-      let m = met_between y z old h.0 offer (pending_for c.line) lines s f may c.answer (calls_reach c.answer.snapshot h.0 at calls h.2 reaches) h.1 in
+      let m = met_between y z old h.0 offer (pending_for c.line) lines s f may c.answer
+      (calls_reach c.answer.snapshot h.0 at calls h.2 reaches) h.1 in
       let t = stepped_by y z old h.0 offer (pending_for c.line) c.answer s h.1.fits m.0 m.0.comes in
       let r = turns m.0.after then_is h.0 at c.answer.snapshot calls rest t.here m.1
       (rw t.next f.2) h.2 reaches in

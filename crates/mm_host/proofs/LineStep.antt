@@ -142,8 +142,8 @@ module _ {all others : List (List ℕ)} {asked : List Batch} {i : Instance} {fin
   offer_then z slots (Some p) = issued_bytes i (waiting_then z slots (Some p))
 
   -- where a session stands once what waits is answered
-  pub ready_first : (y z : History) (slots : Slots) (waiting : Option Pending) (standing : Standing) (kept : StoreStanding) (first : Resumed)
-      (lines : List (List ℕ)) (f : FitsBy i slots y waiting)
+  pub ready_first : (y z : History) (slots : Slots) (waiting : Option Pending) (standing : Standing) (kept : StoreStanding)
+      (first : Resumed) (lines : List (List ℕ)) (f : FitsBy i slots y waiting)
       (r : RecoversTo all others asked i y slots waiting standing kept (Ok first))
       → IsBetween (waiting_then z slots waiting) standing (offer_then z slots waiting) lines r.after
       → AreAskedInTurn all asked i z (first_offer slots waiting) (requests_with waiting lines)

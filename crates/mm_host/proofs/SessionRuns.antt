@@ -164,9 +164,11 @@ module _ {all others : List (List ℕ)} {asked : List Batch} {i : Instance} {fin
       → AreAmong (told_in waiting goes) (IsInHand waiting goes) requests → (rest : List (List ℕ)) × (requests ≡ p.request ∷ rest)
   waits_first p e (inl stops) a = let f = a.in_hand p.request (p, e, refl) in (f.0, sym f.1)
   waits_first p e (inr g) a =
-      let lines : List (List ℕ) = lines_served g.lines.calls ++ a.served.0 in
-      (lines, sym a.served.1 ∙ first_told s slots waiting slots_told w g a.served.0
-      ∙ ap (λ (v : Option Pending). requests_with v lines) e)
+      let lines : List (List ℕ) = lines_served g.lines.calls ++ a.served.0 in (
+        lines,
+        sym a.served.1 ∙ first_told s slots waiting slots_told w g a.served.0
+            ∙ ap (λ (v : Option Pending). requests_with v lines) e,
+      )
 
   -- where that is asked
   record AsksFirst (p : Pending) (rest : List (List ℕ)) : Type 0 where
@@ -276,8 +278,8 @@ module _ {all others : List (List ℕ)} {asked : List Batch} {i : Instance} {fin
       let ready = ready_first laws y z slots waiting s.platform s.store g.first lines fits r.0 r.1
       (subst (λ (rs : List (List ℕ)). AreAskedInTurn all asked i z (first_offer slots waiting) rs) all_lines follow)
       (subst (λ (rs : List (List ℕ)). total_of y.batches + length rs ≤ last_position) all_lines room) in
-      let c = lines_come laws (waiting_then laws z slots waiting) from l.at l.calls rest (settled_by waiting g.first fits r.0) ready l.serves
-      (ends_reach laws (lines_chain l).ends) in
+      let c = lines_come laws (waiting_then laws z slots waiting) from l.at l.calls rest (settled_by waiting g.first fits r.0) ready
+      l.serves (ends_reach laws (lines_chain l).ends) in
       let run : RunsOver i.meaning (requests_of y.batches) told (requests_of c.settled.after.batches) =
       RunsOver-append i.meaning (requests_of y.batches) (requests_of r.0.after.batches) (requests_of c.settled.after.batches)
       (told_first waiting g.first) l.calls (went_first waiting g.first fits r.0).run c.run in

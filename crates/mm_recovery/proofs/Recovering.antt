@@ -264,7 +264,8 @@ module _ (More : History → Type 0) (variant : Variant) (all others : List (Lis
       (r.slots ∙ t) g.goes
 
   start_exit : (zero : Result (List ℕ) StoreFault) (old new : StoreStanding)
-      → (can.fits.waiting ≡ None → after ≡ before → More y) → can.fits.waiting ≡ None → after ≡ before → old.slots ≡ Some slots → old.is_honest ≡ true → ReadsSlot 0 old new zero → Came new (started zero)
+      → (can.fits.waiting ≡ None → after ≡ before → More y) → can.fits.waiting ≡ None → after ≡ before
+      → old.slots ≡ Some slots → old.is_honest ≡ true → ReadsSlot 0 old new zero → Came new (started zero)
   start_exit (Ok bytes) old new m e s t h r =
       let f : FitsBy i slots y None = subst (λ (w : Option Pending). FitsBy i slots y w) e can.fits.fits in
       still new (Ok (Start bytes)) s (r.slots ∙ t) (r.honest ∙ h) (sym (r.gives slots t)) (rw (r.gives slots t) f.1)
@@ -277,7 +278,8 @@ module _ (More : History → Type 0) (variant : Variant) (all others : List (Lis
 
   found_exit : (waiting : Result (Option Pending) StoreFault) (middle new : StoreStanding) (result : Result Resumed HostFault)
       → (can.fits.waiting ≡ None → after ≡ before → More y)
-      → LeadsOn More all others asked variant i y slots can.fits.waiting before after result → Saw slots first middle waiting → AfterFinding variant i.meaning before after waiting middle new result → Came new result
+      → LeadsOn More all others asked variant i y slots can.fits.waiting before after result → Saw slots first middle waiting
+      → AfterFinding variant i.meaning before after waiting middle new result → Came new result
   found_exit (Err why) middle new result m leads s g = failed_exit why middle new result s.told (s.honest ∙ can.honest) g
   found_exit (Ok None) middle new result m leads s g =
       rw g.1.gives

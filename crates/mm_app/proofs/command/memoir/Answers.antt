@@ -201,7 +201,8 @@ returns-in-Err-clause-kind g c cell told =
 pub returns-in-Err-clause-short : goal.returns-in-Err-clause-short
 returns-in-Err-clause-short g c cell secrets got told left =
     let it = (goal.at.returns-in-Err-clause-short g c).After-stopped in
-    unspelled_where _ it.in-Err.fault it.stopped.result it.in-Err.ensures.usage (stopped_as g it) {Is = RunsShort cell secrets} (Short got) refl
+    unspelled_where _ it.in-Err.fault it.stopped.result it.in-Err.ensures.usage (stopped_as g it)
+    {Is = RunsShort cell secrets} (Short got) refl
 
 pub returns-in-Err-clause-lost : goal.returns-in-Err-clause-lost
 returns-in-Err-clause-lost g c cell items told shown =
