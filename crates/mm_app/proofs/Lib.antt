@@ -5,8 +5,8 @@ mod Completing
 mod Ended
 mod Ending
 mod Fronts
-mod OneRun
 mod Played
+mod Headlines
 mod Sending
 mod Stopping
 mod Theorems

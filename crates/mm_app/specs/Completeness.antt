@@ -139,8 +139,7 @@ AnswersToEnd {P} answer closing first left = (bytes : List ℕ) × (next : P) ×
 -- The input of a command that plays lines is within the grammar and the limits.
 abbrev pub CanBeAnswered : Command → (left : Option (List ℕ)) → Type 0
 CanBeAnswered Replay left =
-    AnswersToEnd (replayed.schedule_answer header_at) replayed.schedule_closing replayed.AtHeader
-    left
+    AnswersToEnd replayed.schedule_answer replayed.schedule_closing replayed.at_header left
 CanBeAnswered Check left =
     AnswersToEnd (checked.check_answer header_at) checked.check_closing checked.AtHeader left
 CanBeAnswered Slots left =

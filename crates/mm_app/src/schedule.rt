@@ -8,7 +8,7 @@ ghost use Rattle.mm_app.specs.Telling.{StopsAs, WritesText};
 use crate::status::Status;
 use crate::telling::{stopped, written};
 use mm_base::Sink;
-use mm_gen::generate;
+use mm_gen::gen_;
 use mm_words::Generated;
 use std::alloc::Global;
 
@@ -20,7 +20,7 @@ pub fn write_schedule<K: Sink>(alloc: Global, it: &Generated, out: &mut K) -> St
         ⊎ StopsAs Status.Memory (K.received out.old) (K.received out.new) (K.faults out.old)
         (K.faults out.new) result }
 {
-    match generate(alloc, it.number, it.count, &it.header) {
+    match gen_(alloc, it.number, it.count, &it.header) {
         Ok(text) => written(text.as_slice(), out),
         Err(_) => stopped(Status::Memory, out),
     }

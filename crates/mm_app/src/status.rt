@@ -1,9 +1,8 @@
 //! How the program ends.
 
 use mm_base::ReplayFault;
-use mm_host::SessionFault;
+use mm_host::{HostFault, SessionFault};
 use mm_model::Refusal;
-use mm_recovery::HostFault;
 use mm_words::WordsFault;
 
 /// How the program ends. Lines are numbered from 1.

@@ -194,9 +194,9 @@ numbered_few i events =
 
 -- the lines of its reply
 
-told_length : (again : Bool) (position : ℕ) (outputs : List (List ℕ)) → length (told_lines again position outputs) ≡ length outputs
-told_length again position [] = refl
-told_length again position (o ∷ outputs) = omega (arith, told_length again position outputs)
+told_length : (again : Bool) (before : ℕ) (outputs : List (List ℕ)) → length (told_lines again before outputs) ≡ length outputs
+told_length again before [] = refl
+told_length again before (o ∷ outputs) = omega (arith, told_length again (before + 1) outputs)
 
 last_few : (i : Instance) (y : History) (n : ℕ) → length (last_outputs i.meaning y n) ≤ n
 last_few i y n =
@@ -218,7 +218,7 @@ ended_few i seen y how b (Ok it) moves None h =
       arith,
       h,
       last_few i y (size_of b),
-      told_length it.again (total_of y.batches) (last_outputs i.meaning y (size_of b)),
+      told_length it.again (total_of y.batches - length (last_outputs i.meaning y (size_of b))) (last_outputs i.meaning y (size_of b)),
     )
 
 called_few : (i : Instance) (y : History) (how : Way) (c : Course) (bytes : List ℕ) (b : Batch) → size_of b ≤ most_members

@@ -12,6 +12,8 @@ mod platform;
 #[cfg(test)]
 mod record;
 #[cfg(test)]
+mod slots;
+#[cfg(test)]
 mod store;
 #[cfg(test)]
 mod twocell;

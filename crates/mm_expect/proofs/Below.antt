@@ -2,8 +2,8 @@
 pub use Rattle.std.specs.List.{AllByRecursion, list_any}
 pub use Rattle.std.specs.Prelude.{◌==◌, ◌||◌, IfOk, if◌then◌else◌, IsTrue, nat_eq, nat_le, option_map, option_to_list, slice_get}
 pub use Rattle.std.specs.Str.{bytes_eq}
-pub use Rattle.std.proofs.Common.{◌&&◌, ◌++◌, ◌+◌, ◌<◌, ◌∙◌, ◌∷◌, ◌≡◌, ◌≤◌, [], ap, append_assoc, arith, Bool, cond, Err, false, filter}
-pub use Rattle.std.proofs.Common.{get_or, length, List, map, None, Ok, Option, refl, Result, Some, subst, suc, sym, take, true, zero, ℕ}
+pub use Rattle.std.proofs.Common.{◌&&◌, ◌++◌, ◌+◌, ◌-◌, ◌<◌, ◌∙◌, ◌∷◌, ◌≡◌, ◌≤◌, [], ap, append_assoc, arith, Bool, cond, Err, false, filter}
+pub use Rattle.std.proofs.Common.{get_or, length, length-drop, List, map, None, Ok, Option, refl, Result, Some, subst, suc, sym, take, true, zero, ℕ}
 pub use Rattle.std.proofs.lemmas.Bool.Decides.{Decides-eqb}
 pub use Rattle.std.proofs.lemmas.List.{append-nil, map-append, same_from_push}
 pub use Rattle.std.proofs.lemmas.List.Elements.{filter_more}
@@ -25,7 +25,7 @@ pub use Rattle.mm_platform.specs.declared.plan.Stop.TheVariants.{Fail}
 pub use Rattle.mm_module.specs.Batch.{Batch, members_of, normal, size_of}
 pub use Rattle.mm_module.specs.Batches.{batch_of}
 pub use Rattle.mm_module.specs.Meaning.{IsLawful, Meaning, outputs_from, state_after}
-pub use Rattle.mm_module.specs.RunLaws.{state_after-append, state_after-is_spelled, state_from-is_spelled}
+pub use Rattle.mm_module.specs.RunLaws.{length-outputs_from, state_after-append, state_after-is_spelled, state_from-is_spelled}
 pub use Rattle.mm_modules.specs.Modules.{meaning_of}
 pub use Rattle.mm_modules.specs.ModulesLaws.{any_is_lawful}
 pub use Rattle.mm_modules.specs.declared.any.AnyModule.{AnyModule}

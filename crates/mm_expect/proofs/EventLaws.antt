@@ -7,7 +7,7 @@ use Rattle.mm_expect.proofs.Below.{commits, Found, found_at, found_unless_wantin
 use Rattle.mm_expect.proofs.Below.{same_batches, more_batches, Commits, nothing, batch, call_commits, checkpoint_none, fresh_found, again_of}
 use Rattle.mm_expect.proofs.Below.{Event, IsPrintable, course_of, way_of, reply_of, moves_then, closing_then, told_reply, broken_reply}
 use Rattle.mm_expect.proofs.Below.{event_outcome, followed, first_issued, expected, in_any_way, then_all, closing_all, short_outputs}
-use Rattle.mm_expect.proofs.Below.{printed_closing, Admits, sym, ◌∙◌}
+use Rattle.mm_expect.proofs.Below.{printed_closing, Admits, sym, ◌∙◌, ◌-◌, size_of, length-drop, length-outputs_from}
 use Rattle.std.proofs.lemmas.List.Elements.{All-drop}
 use Rattle.mm_call.specs.Checkpoints.{Checkpointed, checkpointed}
 use Rattle.mm_schedule.specs.declared.reply.Way.{Way}
@@ -25,10 +25,10 @@ module _ (i : Instance) where
   -- the reply that tells an answer
   told_printable : IsLawful i.meaning → (y : History) (b : Batch) (again : Bool) → IsFew y
       → IsPrintable (told_reply (answer_on i y b again))
-  told_printable lawful y b again few = (
+  told_printable lawful y b again few = let all = outputs_from i.meaning i.meaning.first (requests_of y.batches) in (
     All-drop (λ (o : List ℕ). length o ≤ longest_request) _ (outputs_from i.meaning i.meaning.first (requests_of y.batches))
         (short_outputs i.meaning lawful i.meaning.first (requests_of y.batches) lawful.begins),
-    few,
+    omega (arith, few, length-drop (total_of y.batches - size_of b) all, length-outputs_from i.meaning i.meaning.first (requests_of y.batches)),
   )
 
   broken_printable : (way : Way) (commit : Bool) (position : ℕ) → IsPrintable (broken_reply way (kept_at commit position))

@@ -32,10 +32,11 @@ fn told(answer: BatchAnswer) -> Said
         outputs,
         snapshot,
     } = answer;
+    let size = outputs.len() as u64;
     Said {
         reply: Reply::Told {
             again,
-            position,
+            before: position.saturating_sub(size),
             outputs,
         },
         snapshot: Some(snapshot),

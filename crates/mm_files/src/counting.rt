@@ -1,22 +1,30 @@
-//! How an error of the file system is counted.
+//! How an error of the file system is counted, and its reason kept.
 
-ghost use Rattle.std.specs.Prelude.{◌≡◌, Ok, IsErr, MatchResult};
+ghost use Rattle.std.specs.Prelude.{◌≡◌, Ok, Some, IsErr, MatchResult};
 ghost use Rattle.mm_base.specs.Faults.{counted, CountsFaults};
 
+use crate::reason::Reason;
 use mm_base::Failed;
-use std::io;
 
-/// An outcome whose error is told as `Failed` and counted once.
-pub fn counted<T>(faults: &mut u64, outcome: io::Result<T>) -> Result<T, Failed>
+/// An outcome whose error is told as `Failed`, counted once, and kept as the last reason.
+pub fn counted<T>(
+    faults: &mut u64,
+    last: &mut Option<Reason>,
+    outcome: Result<T, Reason>,
+) -> Result<T, Failed>
     ensures told { MatchResult outcome
         (λ value. (result ≡ Ok value) × (faults.new ≡ faults.old))
         (λ _. IsErr result × (faults.new ≡ counted faults.old)) }
+    ensures keeps { MatchResult outcome
+        (λ _. last.new ≡ last.old)
+        (λ reason. last.new ≡ Some reason) }
     ensures counts { CountsFaults faults.old faults.new result }
 {
     match outcome {
         Ok(value) => Ok(value),
-        Err(_) => {
+        Err(reason) => {
             *faults = faults.saturating_add(1);
+            *last = Some(reason);
             Err(Failed)
         }
     }

@@ -1,8 +1,10 @@
 //! The files `nv` and `register`.
 
-use crate::disk::{Opened, replace, sync_folder, within};
+use crate::disk::{Opened, replace};
 use crate::kept::Kept;
 use crate::lock::Lock;
+use crate::place::sync_folder;
+use crate::reason::{HERE, Reason, named};
 use mm_digest::{Digest, extended, zero};
 use std::fs::{self, OpenFile};
 use std::io::{self, ErrorKind};
@@ -43,15 +45,15 @@ where
 
     // Locks the folder, where that isn't done, and lets what an earlier program left of both files, and their names, be
     // on the disk.
-    fn enter(&mut self) -> io::Result<()> {
+    fn enter(&mut self) -> Result<(), Reason> {
         if self.lock.is_some() {
             return Ok(());
         }
-        let folder = fs::open(self.files, ".")?;
-        folder.lock_alone()?;
+        let folder = named(HERE, fs::open(self.files, "."))?;
+        locked(folder.lock_alone())?;
         let nv = synced(&mut self.nv)?;
         let register = synced(&mut self.register)?;
-        folder.sync_all()?;
+        named(HERE, folder.sync_all())?;
         keep_listed(&mut self.nv, nv);
         keep_listed(&mut self.register, register);
         self.lock = Some(folder);
@@ -60,7 +62,7 @@ where
 
     /// The bytes of `nv`. Those past its end are zero, and all where it is absent. They are read with the selector, and
     /// the next read has these.
-    pub fn nv(&mut self, at: u16) -> io::Result<[u8; WHOLE]> {
+    pub fn nv(&mut self, at: u16) -> Result<[u8; WHOLE], Reason> {
         let seen = self.seen.take();
         if at == SELECTOR {
             let bytes = self.read_nv()?;
@@ -74,24 +76,24 @@ where
     }
 
     // Reads `nv`.
-    fn read_nv(&mut self) -> io::Result<[u8; WHOLE]> {
+    fn read_nv(&mut self) -> Result<[u8; WHOLE], Reason> {
         self.enter()?;
         let mut bytes = [0; WHOLE];
         if let Some(mut opened) = self.nv.look()? {
-            let size = within(opened.size, WHOLE as u64)?;
+            let size = opened.size_within(WHOLE as u64)?;
             self.settle(&mut opened)?;
-            opened.file.read_exact_at(&mut bytes[..size as usize], 0)?;
+            opened.read(0, &mut bytes[..size as usize])?;
             self.nv.keep(opened);
         }
         Ok(bytes)
     }
 
     /// Writes these bytes of `nv` from `at` on, in place.
-    pub fn put_nv(&mut self, at: u16, bytes: &[u8]) -> io::Result<()> {
+    pub fn put_nv(&mut self, at: u16, bytes: &[u8]) -> Result<(), Reason> {
         self.seen = None;
         self.enter()?;
         let mut opened = self.nv.look_or_make()?;
-        let _ = within(opened.size, WHOLE as u64)?;
+        let _ = opened.size_within(WHOLE as u64)?;
         opened.write(u64::from(at), bytes)?;
         self.settle(&mut opened)?;
         self.nv.keep(opened);
@@ -99,29 +101,33 @@ where
     }
 
     /// The register's value, zero where the file is absent.
-    pub fn register(&mut self) -> io::Result<Digest> {
+    pub fn register(&mut self) -> Result<Digest, Reason> {
         self.enter()?;
         let found = self.register.look()?;
         self.value_of(found)
     }
 
     // The value in the register's file.
-    fn value_of(&mut self, found: Option<Opened<R::File>>) -> io::Result<Digest> {
+    fn value_of(&mut self, found: Option<Opened<R::File>>) -> Result<Digest, Reason> {
         let Some(mut opened) = found else {
             return Ok(zero());
         };
         if opened.size != 32 {
-            return Err(io::Error::from(ErrorKind::InvalidData));
+            return Err(Reason::Length {
+                name: opened.name,
+                size: opened.size,
+                wanted: 32,
+            });
         }
         self.settle(&mut opened)?;
         let mut bytes = [0; 32];
-        opened.file.read_exact_at(&mut bytes, 0)?;
+        opened.read(0, &mut bytes)?;
         self.register.keep(opened);
         Ok(Digest { bytes })
     }
 
     /// Puts this value in place of the register's, whatever the file has.
-    pub fn put_register(&mut self, value: &Digest) -> io::Result<()> {
+    pub fn put_register(&mut self, value: &Digest) -> Result<(), Reason> {
         self.enter()?;
         self.register.close();
         let mut opened = replace(self.files, "register.new", "register", &value.bytes)?;
@@ -131,7 +137,7 @@ where
     }
 
     /// Extends the register by a value. The file isn't looked at for that where it is open.
-    pub fn extend_register(&mut self, value: &Digest) -> io::Result<()> {
+    pub fn extend_register(&mut self, value: &Digest) -> Result<(), Reason> {
         self.enter()?;
         let found = self.register.take()?;
         let old = self.value_of(found)?;
@@ -139,7 +145,7 @@ where
     }
 
     // Lets a file's bytes and its name be on the disk, where this program didn't yet.
-    fn settle(&self, opened: &mut Opened<R::File>) -> io::Result<()> {
+    fn settle(&self, opened: &mut Opened<R::File>) -> Result<(), Reason> {
         opened.sync()?;
         if !opened.is_listed {
             self.sync_names()?;
@@ -149,16 +155,24 @@ where
     }
 
     // Lets the names be on the disk.
-    fn sync_names(&self) -> io::Result<()> {
+    fn sync_names(&self) -> Result<(), Reason> {
         match &self.lock {
-            Some(folder) => folder.sync_all(),
-            None => sync_folder(self.files),
+            Some(folder) => named(HERE, folder.sync_all()),
+            None => named(HERE, sync_folder(self.files, ".")),
         }
     }
 }
 
+// What came of the try to lock the current directory.
+fn locked(outcome: io::Result<()>) -> Result<(), Reason> {
+    match outcome {
+        Err(error) if error.kind() == ErrorKind::WouldBlock => Err(Reason::InUse),
+        outcome => named(HERE, outcome),
+    }
+}
+
 // Opens a file, and lets its bytes be on the disk.
-fn synced<R: Files>(kept: &mut Kept<'_, R>) -> io::Result<Option<Opened<R::File>>>
+fn synced<R: Files>(kept: &mut Kept<'_, R>) -> Result<Option<Opened<R::File>>, Reason>
 where
     R::File: FileExt,
 {

@@ -1,9 +1,10 @@
 //! A file of the current directory that stays open.
 
-use crate::disk::{Opened, open_or_make, open_there};
+use crate::disk::{Identity, Opened, open_or_make, open_there};
+use crate::reason::Reason;
+use std::fs;
 use std::os::unix::fs::FileExt;
 use std::rt::Files;
-use std::{fs, io};
 
 /// The file of a name, which stays open from the first call on. It is taken out for what is done to it, and kept again
 /// behind that: so it is closed where something failed, and what follows opens it anew. Where it is looked at, and
@@ -28,8 +29,16 @@ where
         }
     }
 
+    /// Which file is open.
+    pub fn identity(&self) -> Option<Identity> {
+        match &self.opened {
+            Some(opened) => Some(opened.identity),
+            None => None,
+        }
+    }
+
     /// Takes the file, looked at. None where it is absent.
-    pub fn look(&mut self) -> io::Result<Option<Opened<R::File>>> {
+    pub fn look(&mut self) -> Result<Option<Opened<R::File>>, Reason> {
         match self.take_named() {
             Some(opened) => Ok(Some(opened)),
             None => open_there(self.files, self.name),
@@ -37,7 +46,7 @@ where
     }
 
     /// Takes the file, looked at. Where it is absent an empty one is made.
-    pub fn look_or_make(&mut self) -> io::Result<Opened<R::File>> {
+    pub fn look_or_make(&mut self) -> Result<Opened<R::File>, Reason> {
         match self.take_named() {
             Some(opened) => Ok(opened),
             None => open_or_make(self.files, self.name),
@@ -45,18 +54,10 @@ where
     }
 
     /// Takes the file as it is open, or else looked at. None where it is absent.
-    pub fn take(&mut self) -> io::Result<Option<Opened<R::File>>> {
+    pub fn take(&mut self) -> Result<Option<Opened<R::File>>, Reason> {
         match self.opened.take() {
             Some(opened) => Ok(Some(opened)),
             None => open_there(self.files, self.name),
-        }
-    }
-
-    /// Takes the file as it is open, or else looked at. Where it is absent an empty one is made.
-    pub fn take_or_make(&mut self) -> io::Result<Opened<R::File>> {
-        match self.opened.take() {
-            Some(opened) => Ok(opened),
-            None => open_or_make(self.files, self.name),
         }
     }
 
@@ -74,7 +75,7 @@ where
     fn take_named(&mut self) -> Option<Opened<R::File>> {
         let mut opened = self.opened.take()?;
         match fs::metadata(self.files, self.name) {
-            Ok(there) if opened.is_at(&there) => {
+            Ok(there) if Identity::of(&there) == opened.identity => {
                 opened.size = there.len();
                 Some(opened)
             }

@@ -1,5 +1,6 @@
-//! The platform, the store's pages and the entropy over files of the current directory. They tell no content: what they
-//! do to the files is trusted, and each counts its errors.
+//! The platform, the store's pages and the entropy over files of the current directory, and the program's input and
+//! output. Those over files tell no content: what they do to the files is trusted. Each counts its errors, and keeps the
+//! reason of the last.
 #![tactic(auto)]
 
 mod counting;
@@ -8,11 +9,16 @@ mod folder;
 mod kept;
 mod lock;
 mod pages;
+mod place;
 mod platform;
+mod reason;
 mod slots;
 mod source;
+mod streams;
 
 pub use lock::Lock;
 pub use pages::FilePages;
 pub use platform::FilePlatform;
+pub use reason::Reason;
 pub use source::FileSource;
+pub use streams::{StdSink, StdSource};

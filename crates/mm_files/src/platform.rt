@@ -1,16 +1,16 @@
 //! A platform over files.
 
-ghost use Rattle.std.specs.Prelude.{◌≡◌, IfErr};
+ghost use Rattle.std.specs.Prelude.{◌≡◌, None, Some, IfErr, MatchResult};
 ghost use Rattle.mm_base.specs.Faults.{CountsFaults};
 ghost use Rattle.mm_files.specs.Untold.{none_are, untold};
 
 use crate::counting::counted;
 use crate::folder::Folder;
 use crate::lock::Lock;
+use crate::reason::Reason;
 use mm_base::Memory;
 use mm_digest::{Digest, zero};
 use mm_platform::{Device, RawNv, Register, StepFault};
-use std::io;
 use std::os::unix::fs::FileExt;
 use std::rt::Files;
 
@@ -24,6 +24,7 @@ pub struct FilePlatform<'a, R: Files> {
     steps: u64,
     cycles: u64,
     faults: u64,
+    last: Option<Reason>,
 }
 
 impl<'a, R: Files> FilePlatform<'a, R>
@@ -35,22 +36,38 @@ where
         ensures steps { result.steps ≡ 0 }
         ensures cycles { result.cycles ≡ 0 }
         ensures faults { result.faults ≡ 0 }
+        ensures reason { result.last ≡ None }
     {
         FilePlatform {
             folder: Folder::new(files),
             steps: 0,
             cycles: 0,
             faults: 0,
+            last: None,
         }
+    }
+
+    /// Why the last call that failed did. None where none has.
+    pub fn last_reason(&self) -> Option<Reason>
+        ensures { result ≡ self.now.last }
+    {
+        self.last
     }
 }
 
-// An outcome whose error is told as `Failed` and counted once.
-fn told<T>(faults: &mut u64, outcome: io::Result<T>) -> Result<T, StepFault>
+// An outcome whose error is told as `Failed`, counted once, and kept as the last reason.
+fn told<T>(
+    faults: &mut u64,
+    last: &mut Option<Reason>,
+    outcome: Result<T, Reason>,
+) -> Result<T, StepFault>
     ensures counts { CountsFaults faults.old faults.new result }
     ensures failed { IfErr result (λ fault. fault ≡ StepFault.Failed) }
+    ensures keeps { MatchResult outcome
+        (λ _. last.new ≡ last.old)
+        (λ reason. last.new ≡ Some reason) }
 {
-    match counted(faults, outcome) {
+    match counted(faults, last, outcome) {
         Ok(value) => Ok(value),
         Err(_) => Err(StepFault::Failed),
     }
@@ -69,7 +86,7 @@ where
 {
     fn raw_read(&mut self, at: u16, into: &mut [u8]) -> Result<(), StepFault> {
         let outcome = self.folder.nv(at);
-        let bytes = told(&mut self.faults, outcome)?;
+        let bytes = told(&mut self.faults, &mut self.last, outcome)?;
         let start = usize::from(at);
         into.copy_from_slice(&bytes[start..start + into.len()]);
         Ok(())
@@ -77,13 +94,13 @@ where
 
     fn raw_write(&mut self, at: u16, bytes: &[u8]) -> Result<(), StepFault> {
         let outcome = self.folder.put_nv(at, bytes);
-        told(&mut self.faults, outcome)
+        told(&mut self.faults, &mut self.last, outcome)
     }
 
     fn raw_cycle(&mut self) -> Result<(), StepFault> {
         self.cycles = self.cycles.saturating_add(1);
         let outcome = self.folder.put_register(&zero());
-        told(&mut self.faults, outcome)
+        told(&mut self.faults, &mut self.last, outcome)
     }
 
     ghost is_whole = { λ _ bytes told. none_are 209 bytes told };
@@ -100,18 +117,18 @@ where
     fn reg_read(&mut self) -> Result<Digest, StepFault> {
         self.steps = self.steps.saturating_add(1);
         let outcome = self.folder.register();
-        told(&mut self.faults, outcome)
+        told(&mut self.faults, &mut self.last, outcome)
     }
 
     fn reg_reset(&mut self) -> Result<(), StepFault> {
         self.steps = self.steps.saturating_add(1);
         let outcome = self.folder.put_register(&zero());
-        told(&mut self.faults, outcome)
+        told(&mut self.faults, &mut self.last, outcome)
     }
 
     fn reg_extend(&mut self, value: &Digest) -> Result<(), StepFault> {
         self.steps = self.steps.saturating_add(1);
         let outcome = self.folder.extend_register(value);
-        told(&mut self.faults, outcome)
+        told(&mut self.faults, &mut self.last, outcome)
     }
 }

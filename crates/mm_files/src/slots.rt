@@ -2,14 +2,20 @@
 
 ghost use Rattle.std.specs.Prelude.{◌≤◌};
 
-use crate::disk::{Opened, sync_folder};
+use crate::disk::{Identity, Opened};
 use crate::kept::Kept;
-use std::io;
+use crate::place::{Place, refuse_same};
+use crate::reason::Reason;
+use mm_base::Memory;
+use std::alloc::Global;
 use std::os::unix::fs::FileExt;
 use std::rt::Files;
 
 /// The bytes of a page.
 const PAGE: u64 = 256;
+
+/// A page behind the first.
+const LATER: u16 = 1;
 
 /// The files of the slots.
 #[derive(Drop)]
@@ -24,22 +30,72 @@ impl<'a, R: Files> Slots<'a, R>
 where
     R::File: FileExt,
 {
-    pub fn new(files: &'a R) -> Slots<'a, R> {
-        Slots {
-            first: Slot::new(files, "slot0"),
-            second: Slot::new(files, "slot1"),
-            third: Slot::new(files, "slot2"),
-            fourth: Slot::new(files, "slot3"),
-        }
+    /// The slots, whose links are followed now.
+    pub fn new(alloc: Global, files: &'a R) -> Result<Slots<'a, R>, Memory> {
+        let first = Slot::new(alloc, files, "slot0")?;
+        let second = Slot::new(alloc, files, "slot1")?;
+        let third = Slot::new(alloc, files, "slot2")?;
+        let fourth = Slot::new(alloc, files, "slot3")?;
+        Ok(Slots {
+            first,
+            second,
+            third,
+            fourth,
+        })
     }
 
-    /// The slot of this number below 4.
+    /// The slot of this number below 4. It knows which files the others have open.
     pub fn get(&mut self, slot: u8) -> &mut Slot<'a, R> {
-        match slot {
+        let claims = Claims {
+            first: self.first.kept.identity(),
+            second: self.second.kept.identity(),
+            third: self.third.kept.identity(),
+            fourth: self.fourth.kept.identity(),
+        };
+        let slot = match slot {
             0 => &mut self.first,
             1 => &mut self.second,
             2 => &mut self.third,
             _ => &mut self.fourth,
+        };
+        slot.claims = claims;
+        slot
+    }
+}
+
+/// Which files the slots have open.
+#[derive(Clone, Copy)]
+struct Claims {
+    first: Option<Identity>,
+    second: Option<Identity>,
+    third: Option<Identity>,
+    fourth: Option<Identity>,
+}
+
+impl Claims {
+    // None is open.
+    fn none() -> Claims {
+        Claims {
+            first: None,
+            second: None,
+            third: None,
+            fourth: None,
+        }
+    }
+
+    // The slot that has this file open.
+    fn name_of(&self, file: Identity) -> Option<&'static str> {
+        let file = Some(file);
+        if self.first == file {
+            Some("slot0")
+        } else if self.second == file {
+            Some("slot1")
+        } else if self.third == file {
+            Some("slot2")
+        } else if self.fourth == file {
+            Some("slot3")
+        } else {
+            None
         }
     }
 }
@@ -49,34 +105,84 @@ where
 /// lets the file have that length. What was opened is taken for unsynced until this program synced it.
 ///
 /// The file stays open. It is looked at where page 0 is read or written, and where its length is asked: so one that
-/// others put in its place is found by whoever reads or writes the slot from the front on.
+/// others put in its place is found by whoever reads or writes the slot from the front on. What was opened is neither
+/// read nor written where it is another of the program's files.
 #[derive(Drop)]
 pub struct Slot<'a, R: Files> {
     files: &'a R,
+    name: &'static str,
+    place: Place,
     kept: Kept<'a, R>,
     // The length that writes of pages gave it, none where it is that of its file.
     length: Option<u64>,
+    // What all slots had open when this call began.
+    claims: Claims,
 }
 
 impl<'a, R: Files> Slot<'a, R>
 where
     R::File: FileExt,
 {
-    fn new(files: &'a R, name: &'static str) -> Slot<'a, R> {
-        Slot {
+    fn new(alloc: Global, files: &'a R, name: &'static str) -> Result<Slot<'a, R>, Memory> {
+        let place = Place::of(alloc, files, name)?;
+        Ok(Slot {
             files,
+            name,
+            place,
             kept: Kept::new(files, name),
             length: None,
+            claims: Claims::none(),
+        })
+    }
+
+    // Takes the file, looked at for the first page. None where it is absent.
+    fn find(&mut self, page: u16) -> Result<Option<Opened<R::File>>, Reason> {
+        let found = match page {
+            0 => self.kept.look()?,
+            _ => self.kept.take()?,
+        };
+        match found {
+            Some(opened) => Ok(Some(self.alone(opened)?)),
+            None => Ok(None),
+        }
+    }
+
+    // Takes the file, looked at for the first page. Where it is absent an empty one is made.
+    fn find_or_make(&mut self, page: u16) -> Result<Opened<R::File>, Reason> {
+        match self.find(page)? {
+            Some(opened) => Ok(opened),
+            None => self.alone(self.place.make(self.files)?),
+        }
+    }
+
+    // The file, where it is none of the program's others.
+    fn alone(&self, mut opened: Opened<R::File>) -> Result<Opened<R::File>, Reason> {
+        if !opened.is_alone {
+            refuse_same(self.files, &opened)?;
+            self.refuse_claimed(&opened)?;
+            opened.is_alone = true;
+        }
+        Ok(opened)
+    }
+
+    // An error where another slot has the file open.
+    fn refuse_claimed(&self, opened: &Opened<R::File>) -> Result<(), Reason> {
+        match self.claims.name_of(opened.identity) {
+            Some(other) if other != self.name => Err(Reason::Same {
+                name: self.name,
+                other,
+            }),
+            _ => Ok(()),
         }
     }
 
     /// How many bytes the slot has, none where its file is absent. What an earlier program wrote to it is on the disk
     /// afterwards.
-    pub fn length(&mut self) -> io::Result<u32> {
+    pub fn length(&mut self) -> Result<u32, Reason> {
         if let Some(length) = self.length {
             return Ok(u32::try_from(length).unwrap_or(u32::MAX));
         }
-        let Some(opened) = self.kept.look()? else {
+        let Some(opened) = self.find(0)? else {
             return Ok(0);
         };
         let size = opened.size;
@@ -85,28 +191,21 @@ where
     }
 
     /// Reads a page. Bytes past the slot's end are zero.
-    pub fn read(&mut self, page: u16, into: &mut [u8; 256]) -> io::Result<()> {
+    pub fn read(&mut self, page: u16, into: &mut [u8; 256]) -> Result<(), Reason> {
         *into = [0; 256];
-        let found = match page {
-            0 => self.kept.look()?,
-            _ => self.kept.take()?,
-        };
-        if let Some(opened) = found {
+        if let Some(opened) = self.find(page)? {
             let start = start_of(page);
             let (front, _) = into.split_at_mut(part_of(opened.size, start));
-            opened.file.read_exact_at(front, start)?;
+            opened.read(start, front)?;
             self.kept.keep(opened);
         }
         Ok(())
     }
 
     /// Writes a page, in place. After an error the slot has the bytes of its file alone.
-    pub fn write(&mut self, page: u16, bytes: &[u8; 256]) -> io::Result<()> {
+    pub fn write(&mut self, page: u16, bytes: &[u8; 256]) -> Result<(), Reason> {
         let length = self.length.take().unwrap_or(0);
-        let mut opened = match page {
-            0 => self.kept.look_or_make()?,
-            _ => self.kept.take_or_make()?,
-        };
+        let mut opened = self.find_or_make(page)?;
         let start = start_of(page);
         let (front, _) = bytes.split_at(size_set(bytes).max(part_of(opened.size, start)));
         opened.write(start, front)?;
@@ -117,30 +216,30 @@ where
 
     /// Cuts the slot to this length, or fills it up to there with zero bytes. Its file is changed where it has another.
     /// After an error the slot has the bytes of its file alone.
-    pub fn set_length(&mut self, length: u64) -> io::Result<()> {
+    pub fn set_length(&mut self, length: u64) -> Result<(), Reason> {
         self.length = None;
-        let mut opened = self.kept.take_or_make()?;
+        let mut opened = self.find_or_make(LATER)?;
         opened.cut(length)?;
         self.kept.keep(opened);
         Ok(())
     }
 
     /// Lets the slot's bytes, in a file of their length, and its name be on the disk. An absent file stays so.
-    pub fn sync(&mut self) -> io::Result<()> {
+    pub fn sync(&mut self) -> Result<(), Reason> {
         if let Some(length) = self.length {
             self.set_length(length)?;
         }
-        match self.kept.take()? {
+        match self.find(LATER)? {
             Some(opened) => self.settle(opened),
             None => Ok(()),
         }
     }
 
     // Lets the file's bytes and its name be on the disk, where this program didn't yet.
-    fn settle(&mut self, mut opened: Opened<R::File>) -> io::Result<()> {
+    fn settle(&mut self, mut opened: Opened<R::File>) -> Result<(), Reason> {
         opened.sync()?;
         if !opened.is_listed {
-            sync_folder(self.files)?;
+            self.place.sync_name(self.files)?;
             opened.is_listed = true;
         }
         self.kept.keep(opened);

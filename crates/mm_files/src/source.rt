@@ -3,9 +3,10 @@
 ghost use Rattle.std.specs.Prelude.{◌≡◌, ◌≤◌, None, IfOk, length};
 
 use crate::counting::counted;
+use crate::reason::{Reason, named};
 use mm_base::{Failed, Source};
 use std::fs;
-use std::io::{self, ErrorKind, Read};
+use std::io::Read;
 use std::os::unix::fs::FileTypeExt;
 use std::rt::Files;
 
@@ -13,43 +14,55 @@ use std::rt::Files;
 #[derive(Drop)]
 pub struct FileSource<'a, R: Files> {
     files: &'a R,
-    name: &'a str,
+    name: &'static str,
     file: Option<R::File>,
     faults: u64,
+    last: Option<Reason>,
 }
 
 impl<'a, R: Files> FileSource<'a, R> {
     /// A source over the file of this name, which is opened at the first call. Where there is none, or a FIFO or a
     /// folder is in its place, that call fails.
-    pub fn new(files: &'a R, name: &'a str) -> FileSource<'a, R>
-        ensures { result.faults ≡ 0 }
+    pub fn new(files: &'a R, name: &'static str) -> FileSource<'a, R>
+        ensures faults { result.faults ≡ 0 }
+        ensures reason { result.last ≡ None }
     {
         FileSource {
             files,
             name,
             file: None,
             faults: 0,
+            last: None,
         }
+    }
+
+    /// Why the last call that failed did. None where none has.
+    pub fn last_reason(&self) -> Option<Reason>
+        ensures { result ≡ self.now.last }
+    {
+        self.last
     }
 
     // Opens the file, which may be one that can't be written. A FIFO isn't opened, since that would wait.
-    fn open(&self) -> io::Result<R::File> {
-        if fs::metadata(self.files, self.name)?.file_type().is_fifo() {
-            return Err(io::Error::from(ErrorKind::InvalidInput));
+    fn open(&self) -> Result<R::File, Reason> {
+        let name = self.name;
+        let there = named(name, fs::metadata(self.files, name))?;
+        if there.file_type().is_fifo() {
+            return Err(Reason::NoFile { name });
         }
-        fs::open(self.files, self.name)
+        named(name, fs::open(self.files, name))
     }
 
     // Reads the next bytes.
-    fn read(&mut self, buf: &mut [u8]) -> io::Result<usize>
+    fn read(&mut self, buf: &mut [u8]) -> Result<usize, Reason>
         ensures within { IfOk result (λ count. count ≤ length buf.new) }
         ensures faults { self.new.faults ≡ self.old.faults }
     {
         if let Some(file) = &mut self.file {
-            return file.read(buf);
+            return named(self.name, file.read(buf));
         }
         let mut file = self.open()?;
-        let count = file.read(buf)?;
+        let count = named(self.name, file.read(buf))?;
         self.file = Some(file);
         Ok(count)
     }
@@ -62,6 +75,6 @@ impl<R: Files> Source for FileSource<'_, R> {
 
     fn take(&mut self, buf: &mut [u8]) -> Result<usize, Failed> {
         let outcome = self.read(buf);
-        counted(&mut self.faults, outcome)
+        counted(&mut self.faults, &mut self.last, outcome)
     }
 }

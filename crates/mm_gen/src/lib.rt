@@ -15,5 +15,5 @@ mod words;
 pub use counts::Counts;
 pub use fault::BulkFault;
 pub use run::bulk;
-pub use schedule::generate;
+pub use schedule::gen_;
 pub use summary::{Summary, summary_text};

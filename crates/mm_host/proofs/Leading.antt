@@ -10,6 +10,7 @@ use Rattle.mm_host.proofs.Below.{one_more, ◌≢◌, ◌||◌, AllByRecursion, 
 use Rattle.mm_host.proofs.Below.{life_of, counting, values_in, IsOutside, AreItems, has_value-append, InBasic, InOpt, summary_of, basic}
 use Rattle.mm_host.proofs.Below.{IsPlaceOf, digest_of, total-nil, basic_met, basic_content}
 use Rattle.mm_model.specs.History.{joined}
+use Rattle.mm_host.proofs.Below.{◌-◌, length, length-append}
 use Rattle.mm_schedule.specs.Machine.{IsTold}
 use Rattle.mm_seal.specs.declared.snapshot.Place.{Place}
 
@@ -127,12 +128,13 @@ module _ {all others : List (List ℕ)} {asked : List Batch} {i : Instance} {fin
 
 told_at : (i : Instance) (after : History) (front : List Batch) (request : List ℕ) (answer : Answer) (again : Bool)
     → whole answer ≡ answer_on i after (One request) again → after.batches ≡ front ++ One request ∷ []
-    → IsTold i.meaning (requests_of front) (One request) answer.position (answer.output ∷ []) (requests_of after.batches)
+    → IsTold i.meaning (requests_of front) (One request) (answer.position - 1) (answer.output ∷ []) (requests_of after.batches)
 told_at i after front request answer again e more =
-    record {
-      counted = ap (λ (a : BatchAnswer). a.position) e;
+    let grown = ap requests_of more ∙ requests-push front (One request) in
+    let all = ap length grown ∙ length-append (requests_of front) (request ∷ []) in record {
+      counted = omega (arith, ap (λ (a : BatchAnswer). a.position) e, all);
       said = ap (λ (a : BatchAnswer). a.outputs) e ∙ said_last i.meaning after.batches front (One request) more;
-      grown = ap requests_of more ∙ requests-push front (One request);
+      grown = grown;
     }
 
 pub steps_fresh : (i : Instance) (y after : History) (request : List ℕ) (answer : Answer)

@@ -42,7 +42,7 @@ store_may : (why : StoreFault) → MayHaveCommitted {T = Resumed} (Err (store_fa
 store_may fault.Memory = tt
 store_may fault.Failed = tt
 
-only_by : {A : Type 0} (call : Result Answer Refusal) (came : Result Resumed HostFault) → TellsCall call came
+pub only_by : {A : Type 0} (call : Result Answer Refusal) (came : Result Resumed HostFault) → TellsCall call came
     → ((why : Refusal) → whole_in call ≡ Err why → fault_of why ≡ None → A) → A ⊎ MayHaveCommitted came
 only_by (Err why) came t still = elim (by_fault why (fault_of why) refl (still why refl)) [
   | inl some ↦ inr (rw t
@@ -177,7 +177,7 @@ minds_nothing meaning key barrier y z offer (request ∷ next ∷ requests) e k 
 
 -- what others put into the register meanwhile
 
-foreign_of : (values : List (List ℕ)) → foreign_items (map foreign_item values) ≡ values
+pub foreign_of : (values : List (List ℕ)) → foreign_items (map foreign_item values) ≡ values
 foreign_of [] = refl
 foreign_of (v ∷ values) = ap (λ (vs : List (List ℕ)). v ∷ vs) (foreign_of values)
 
@@ -195,13 +195,13 @@ module _ (meaning : Meaning) (key barrier : List ℕ) where
   register_pushed y v =
       ap (λ (d : Digests). d.register) (opt_digests meaning key barrier y (Foreign v) (foreign_may i y y.is_open v))
 
-  register_looked : (values : List (List ℕ)) (y : History)
+  pub register_looked : (values : List (List ℕ)) (y : History)
       → register_value_of i (all_made (by_lists i) y (map Foreign values)) ≡ after extended_message (register_value_of i y) values
   register_looked [] y = refl
   register_looked (v ∷ values) y =
       register_looked values (moved i y (Foreign v)) ∙ ap (λ (s : List ℕ). after extended_message s values) (register_pushed y v)
 
-  messages_looked : (values : List (List ℕ)) (y : History)
+  pub messages_looked : (values : List (List ℕ)) (y : History)
       → moves_messages i y (map Foreign values) ≡ trail extended_message (register_value_of i y) values
   messages_looked [] y = refl
   messages_looked (v ∷ values) y =

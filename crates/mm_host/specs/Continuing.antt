@@ -1,6 +1,6 @@
 -- What a session comes to by lists alone, in either variant: its replies are those of one run of
 -- the module, and the slots that it leaves fit the history that the platform stands for.
-use Rattle.std.specs.Prelude.{◌≡◌, ◌≢◌, ◌+◌, ◌<◌, ◌≤◌, ℕ, List, [], ◌∷◌, ◌++◌, Option, None, Some, Result, Ok, Err, true, nat_eq}
+use Rattle.std.specs.Prelude.{◌≡◌, ◌≢◌, ◌+◌, ◌-◌, ◌<◌, ◌≤◌, ℕ, List, [], ◌∷◌, ◌++◌, Option, None, Some, Result, Ok, Err, true, nat_eq}
 use Rattle.std.specs.Prelude.{if◌then◌else◌, ◌⊎◌}
 use Rattle.std.proofs.Common.{inl, inr}
 use Rattle.std.specs.List.{Contains}
@@ -27,7 +27,7 @@ pub record IsNotBeyond (slots : Slots) (position : ℕ) : Type 0 where
 
 -- the reply that an answer is
 abbrev pub answer_reply : Answer → Reply
-answer_reply answer = Told answer.again answer.position (answer.output ∷ [])
+answer_reply answer = Told answer.again (answer.position - 1) (answer.output ∷ [])
 
 -- Requests are asked one after another, and these answers are the replies of one run of the module,
 -- from some requests to others.

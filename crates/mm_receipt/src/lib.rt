@@ -1,4 +1,5 @@
-//! The check of receipts, pair by pair: what the command `receipts KEY` does.
+//! Receipts and their check: `verify` of mm_receipted for one, and `receipts` pair by pair, as the command `receipts KEY`
+//! does.
 #![tactic(auto)]
 
 pub mod laws;
@@ -8,5 +9,6 @@ mod report;
 mod tally;
 mod text;
 
+pub use mm_receipted::{NotReceipt, Receipted, verify};
 pub use player::receipts;
 pub use report::ReceiptReport;

@@ -9,13 +9,16 @@ ghost use Rattle.mm_receipted.specs.Receipts.{is_lower_digit, receipt_front, dig
 use mm_base::{Bytes, Memory, bytes_of_u32, bytes_of_u64};
 use mm_digest::{Digest, HmacKey};
 use std::alloc::Global;
+use thiserror::Error;
 
 /// Why an output is no receipt.
-#[derive(Clone, Copy, Debug, PartialEq, Eq)]
+#[derive(Clone, Copy, Debug, PartialEq, Eq, Error)]
 pub enum NotReceipt {
     /// It doesn't begin with 64 lower-case hexadecimal digits and a space.
+    #[error("the output has no tag in front")]
     Form,
     /// The digits aren't the tag.
+    #[error("the output's tag is wrong")]
     Tag,
 }
 

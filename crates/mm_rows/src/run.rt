@@ -24,9 +24,14 @@ pub fn command<P: Platform, T: Store, S: Source, K: Sink>(
     memoir(alloc, words, platform, store, input, &mut entropy, out).code()
 }
 
-/// Replays an input over a blank platform and an empty store, and answers the exit status.
-pub fn replay<S: Source, K: Sink>(alloc: Global, input: &mut S, out: &mut K) -> u8 {
+/// Does what a word says over a blank platform and an empty store, and answers the exit status.
+pub fn play<S: Source, K: Sink>(alloc: Global, word: &str, input: &mut S, out: &mut K) -> u8 {
     let mut platform = MemPlatform::new(alloc, &[0; 104]);
     let mut store = MemStore::new(alloc);
-    command(alloc, &["replay"], &mut platform, &mut store, input, out)
+    command(alloc, &[word], &mut platform, &mut store, input, out)
+}
+
+/// Replays an input, and answers the exit status.
+pub fn replay<S: Source, K: Sink>(alloc: Global, input: &mut S, out: &mut K) -> u8 {
+    play(alloc, "replay", input, out)
 }

@@ -14,10 +14,9 @@ ghost use Rattle.mm_rows.specs.Starting.{StartsInMemory};
 
 use mm_base::{MemSink, MemSource};
 use mm_digest::Variant;
-use mm_host::{SessionFault, session};
+use mm_host::{HostFault, InitFault, Resumed, SessionFault, init, resume, session};
 use mm_module::Module;
 use mm_pages::{MemPages, PageStore};
-use mm_recovery::{HostFault, InitFault, Resumed, init, resume};
 use mm_twocell::{MemRaw, TwoCell};
 use std::alloc::Global;
 

@@ -29,7 +29,7 @@ pub use Rattle.mm_module.specs.BatchLaws.{members_of-normal}
 pub use Rattle.mm_module.specs.CounterLaws.{counter_is_lawful}
 pub use Rattle.mm_module.specs.CounterTable.{counter}
 pub use Rattle.mm_module.specs.Meaning.{IsLawful, Meaning, outputs_from, state_after}
-pub use Rattle.mm_module.specs.RunLaws.{state_after-is_spelled}
+pub use Rattle.mm_module.specs.RunLaws.{length-outputs_from, state_after-is_spelled}
 pub use Rattle.mm_model.specs.Chains.{guard, guard_message, link_message}
 pub use Rattle.mm_model.specs.EndLaws.{first_outside, first_sound}
 pub use Rattle.mm_model.specs.FormLaws.{reads_zero}

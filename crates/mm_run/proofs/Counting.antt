@@ -4,7 +4,7 @@ use Rattle.mm_run.proofs.Below.{found_with_tells, unless_lost, bytes_eq, tag_of,
 use Rattle.mm_run.proofs.Below.{◌≡◌, ℕ, ◌+◌, ◌≤◌, Bool, true, false, List, [], ◌∷◌, ◌++◌, length, IsTrue, Option, None, Some, Result, Ok}
 use Rattle.mm_run.proofs.Below.{Err, refl, sym, ap, subst, arith, length-append, All, nat_tests}
 use Rattle.mm_run.proofs.Below.{All-nil, All-cons, last_position, longest_request, most_members, Variant, Basic, Opt, Meaning, IsLawful}
-use Rattle.mm_run.proofs.Below.{outputs_from, Batch, members_of, size_of, normal, members_of-normal}
+use Rattle.mm_run.proofs.Below.{outputs_from, length-outputs_from, Batch, members_of, size_of, normal, members_of-normal}
 use Rattle.mm_run.proofs.Below.{StepFault, PartsFault, Form, Kind, parts_of, Content, Snapshot}
 use Rattle.mm_run.proofs.Below.{Instance, Move, Commit, is_long, Digests, made, committing}
 use Rattle.mm_run.proofs.Below.{ask_steps, Refusal, examined, by_digests, all_made, Found}
@@ -120,7 +120,8 @@ printed_ended : (i : Instance) → IsLawful i.meaning
     → IsPrintable (reply_of how (ended_by (by_digests i) seen s b found moves broken))
 printed_ended i lawful seen s how b (Err why) moves None h = tt
 printed_ended i lawful seen s how b (Ok it) moves None h =
-    let a = h it refl in (short_outputs i.meaning lawful it.offered.state (members_of b) a.spelled, a.fits)
+    let a = h it refl in let fits = a.fits in let size = length-outputs_from i.meaning it.offered.state (members_of b) in
+    (short_outputs i.meaning lawful it.offered.state (members_of b) a.spelled, omega (arith, size, fits))
 printed_ended i lawful seen s how b found moves (Some fault) h = printed_broken (commits moves) _
   where
     printed_broken : (kept : Bool) (position : ℕ) → IsPrintable (broken_reply how (kept_at kept position))

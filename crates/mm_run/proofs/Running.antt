@@ -1,7 +1,8 @@
 -- What is expected is a run of the machine, in each variant.
-use Rattle.mm_run.proofs.Below.{ℕ, ◌≡◌, ◌+◌, Bool, true, false, ◌&&◌, List, [], ◌∷◌, ◌++◌, length, Option, None, Some, Result, Ok, Err}
+use Rattle.mm_run.proofs.Below.{ℕ, ◌≡◌, ◌+◌, ◌-◌, Bool, true, false, ◌&&◌, List, [], ◌∷◌, ◌++◌, length, Option, None, Some, Result, Ok, Err}
 use Rattle.mm_run.proofs.Below.{refl, sym, ap, ◌∙◌, subst, nat_eq, bytes_eq, and_parts, Meaning, state_after, outputs_from}
-use Rattle.mm_run.proofs.Below.{Batch, members_of, size_of, normal, members_of-normal, PartsFault, Form, Kind}
+use Rattle.mm_run.proofs.Below.{Batch, members_of, size_of, normal, members_of-normal, length-outputs_from, length-append, arith}
+use Rattle.mm_run.proofs.Below.{PartsFault, Form, Kind}
 use Rattle.mm_run.proofs.Below.{Snapshot, tag_of, parts_of, StepFault, Meddle, Stop, Instance, History, Move}
 use Rattle.mm_run.proofs.Below.{requests_of, total_of, first_history, Life, Live, life_of, is_lost, is_last, judged, judge}
 use Rattle.mm_run.proofs.Below.{ask_steps, Refusal, admitted, examined, by_lists, all_made, Found, found_by_verdict, found_at}
@@ -53,12 +54,17 @@ broken_steps meaning requests after b how fault false position same grown = same
 
 -- what is told of a batch with which a history ends
 told_last : (i : Instance) (y : History) (front : List Batch) (b : Batch) (again : Bool) → y.batches ≡ front ++ b ∷ []
-    → IsTold i.meaning (requests_of front) b (total_of y.batches) (answer_on i y b again).outputs (requests_of y.batches)
-told_last i y front b again e = record {
-  counted = refl;
-  said = said_last i.meaning y.batches front b e;
-  grown = ap requests_of e ∙ requests-push front b;
-}
+    → (let a = answer_on i y b again in
+    IsTold i.meaning (requests_of front) b (total_of y.batches - length a.outputs) a.outputs (requests_of y.batches))
+told_last i y front b again e =
+    let said = said_last i.meaning y.batches front b e in
+    let size = ap length said ∙ length-outputs_from i.meaning (state_after i.meaning (requests_of front)) (members_of b) in
+    let grown = ap requests_of e ∙ requests-push front b in
+    let all = ap length grown ∙ length-append (requests_of front) (members_of b) in record {
+      counted = omega (arith, size, all);
+      said = said;
+      grown = grown;
+    }
 
 ended_steps : (i : Instance) (y seen : History) (how : Way) (b : Batch)
     (walked : Walked) (broken : Option StepFault) (found : Result Found Refusal) → walked.broken ≡ broken
@@ -80,7 +86,8 @@ ended_steps i y seen how b walked None (Ok f) e (nothing none unless) repeat =
     end.batches))
     (sym again) (
       requests_of ends.front,
-      subst (IsTold i.meaning (requests_of ends.front) b (total_of end.batches) (answer_on i end b true).outputs) (ap requests_of same)
+      subst (IsTold i.meaning (requests_of ends.front) b (total_of end.batches - length (answer_on i end b true).outputs)
+          (answer_on i end b true).outputs) (ap requests_of same)
           (told_last i end ends.front b true (same ∙ ends.is)),
       ap requests_of same,
     )
@@ -111,8 +118,8 @@ called_steps i y issued meddles stop bytes b =
     (λ f is again. subst P same (repeats_at i seen b bytes f (unlacked lists c.lacks f is) again)))
 
 -- a step depends on the requests of its batch alone
-members_told : (meaning : Meaning) (requests after : List (List ℕ)) (b c : Batch) (position : ℕ) (outputs : List (List ℕ))
-    → members_of b ≡ members_of c → IsTold meaning requests b position outputs after → IsTold meaning requests c position outputs after
+members_told : (meaning : Meaning) (requests after : List (List ℕ)) (b c : Batch) (before : ℕ) (outputs : List (List ℕ))
+    → members_of b ≡ members_of c → IsTold meaning requests b before outputs after → IsTold meaning requests c before outputs after
 members_told meaning requests after b c position outputs e s = record {
   counted = s.counted;
   said = s.said ∙ ap (λ v. outputs_from meaning (state_after meaning requests) v) e;

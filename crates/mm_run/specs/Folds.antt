@@ -1,5 +1,5 @@
 -- A schedule followed by a level: each event's reply, and what stands after it.
-use Rattle.std.specs.Prelude.{ℕ, ◌+◌, Bool, false, List, [], ◌∷◌, ◌++◌, Option, None, Some, Err, if◌then◌else◌}
+use Rattle.std.specs.Prelude.{ℕ, ◌+◌, ◌-◌, Bool, false, List, [], ◌∷◌, ◌++◌, length, Option, None, Some, Err, if◌then◌else◌}
 use Rattle.std.specs.Option.{option_map_or}
 use Rattle.mm_run.specs.Below.{zero_bytes, start_of, Plan, BatchAnswer, Meddle, Stop, Cut, Drop, Batch, One, normal, History, Move, Foreign}
 use Rattle.mm_run.specs.Below.{PowerMove, first_history, Instance, is_long, Digests, issued_bytes, Reads, Refusal, Ending, Answers, Refuses}
@@ -54,7 +54,8 @@ cause_of why = cause.Long
 
 -- the reply that tells an answer
 abbrev pub told_reply : BatchAnswer → Reply
-told_reply answer = reply.Told answer.again answer.position answer.outputs
+told_reply answer =
+    reply.Told answer.again (answer.position - length answer.outputs) answer.outputs
 
 -- a call that was broken off: with the position after its batch, if that was committed
 abbrev pub broken_reply : Way → Option ℕ → Reply

@@ -31,7 +31,7 @@ pub use Rattle.mm_schedule.specs.Replies.{lines_of_reply, told_lines}
 pub use Rattle.mm_schedule.specs.RepliesWords.{told_line}
 pub use Rattle.mm_schedule.specs.Spelling.{asks, SpellsBytes, SpellsEvent, SpellsMeddles, SpellsNumber, SpellsOffer, SpellsPrefix}
 pub use Rattle.mm_schedule.specs.Spelling.{SpellsStep, SpellsStop, SpellsValue}
-pub use Rattle.mm_schedule.specs.Tellings.{tellings_in, tellings_of, tellings_to, TellsWhatWasSaid}
+pub use Rattle.mm_schedule.specs.Tellings.{tellings_from, tellings_in, tellings_of, TellsWhatWasSaid}
 pub use Rattle.mm_schedule.specs.Texts.{behind}
 pub use Rattle.mm_schedule.specs.Words.{◌>>=◌, after_prefix, bytes_at, word_at}
 pub use Rattle.mm_schedule.specs.declared.event.Offer.{Offer}

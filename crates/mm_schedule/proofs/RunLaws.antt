@@ -5,16 +5,16 @@ use Rattle.mm_schedule.specs.Events as events
 
 -- what a step adds to the requests
 abbrev pub added : events.Event → Reply → List (List ℕ)
-added (events.Ask meddles stop offer batch) (Told false position outputs) = members_of batch
+added (events.Ask meddles stop offer batch) (Told false before outputs) = members_of batch
 added (events.Ask meddles stop offer batch) (Kept way position) = members_of batch
 added _ _ = []
 
 pub step-grows : (meaning : Meaning) (requests : List (List ℕ)) (event : events.Event) (reply : Reply) (after : List (List ℕ))
     → Steps meaning requests event reply after → after ≡ requests ++ added event reply
-step-grows meaning requests (events.Ask meddles stop offer batch) (Told false position outputs) after s = s.grown
-step-grows meaning requests (events.Ask meddles stop offer batch) (Told true position outputs) after s = s.2 ∙ sym (append-nil requests)
+step-grows meaning requests (events.Ask meddles stop offer batch) (Told false before outputs) after s = s.grown
+step-grows meaning requests (events.Ask meddles stop offer batch) (Told true before outputs) after s = s.2 ∙ sym (append-nil requests)
 step-grows meaning requests (events.Ask meddles stop offer batch) (Kept way position) after s = s.0
-step-grows meaning requests _ (Told again position outputs) after s = absurd s
+step-grows meaning requests _ (Told again before outputs) after s = absurd s
 step-grows meaning requests _ (Kept way position) after s = absurd s
 step-grows meaning requests (events.Ask meddles stop offer batch) _ after s = s ∙ sym (append-nil requests)
 step-grows meaning requests _ _ after s = s ∙ sym (append-nil requests)

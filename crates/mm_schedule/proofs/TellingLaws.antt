@@ -1,8 +1,8 @@
 -- Replies tell what was said: a run only grows its requests, and a batch's outputs stand behind those before it.
-use Rattle.mm_schedule.proofs.Below.{◌-◌, arith, subst, length-append, Some, IsTold}
+use Rattle.mm_schedule.proofs.Below.{IsTold}
 use Rattle.mm_schedule.proofs.Below.{◌≡◌, ℕ, ◌+◌, true, false, List, [], ◌∷◌, ◌++◌, length, drop, refl, sym, ◌∙◌, ap, append_assoc}
 use Rattle.mm_schedule.proofs.Below.{append-nil, slice_get, AllByRecursion, Batch, members_of, Meaning, state_after, outputs_from, Reply}
-use Rattle.mm_schedule.proofs.Below.{Told, Runs, Steps, tellings_to}
+use Rattle.mm_schedule.proofs.Below.{Told, Runs, Steps, tellings_from}
 use Rattle.mm_schedule.proofs.Below.{tellings_of, tellings_in, TellsWhatWasSaid}
 use Rattle.mm_module.specs.RunLaws.{outputs_from-append, length-outputs_from}
 use Rattle.mm_listing.specs.Tellings.{Telling, WasSaid}
@@ -19,14 +19,13 @@ all-append P [] ys one two = two
 all-append P (x ∷ xs) ys one two = (one.0, all-append P xs ys one.1 two)
 
 -- outputs that stand behind so many of all outputs are told as they were said
-tellings-inside : (all outputs rest : List (List ℕ)) (before position : ℕ) → position ≡ before + length outputs
-    → drop before all ≡ outputs ++ rest → AllByRecursion (WasSaid all) (tellings_to position outputs)
-tellings-inside all [] rest before position ends is = tt
-tellings-inside all (output ∷ outputs) rest before position ends is =
-    let here : position - length (output ∷ outputs) ≡ before = omega arith in (
-      subst (λ n. slice_get all n ≡ Some output) (sym here) (slice_get-drop all before ∙ ap (λ (l : List (List ℕ)). slice_get l 0) is),
-      tellings-inside all outputs rest (before + 1) position (omega arith) (drop-next all before ∙ ap (λ (l : List (List ℕ)). drop 1 l) is),
-    )
+tellings-inside : (all outputs rest : List (List ℕ)) (before : ℕ) → drop before all ≡ outputs ++ rest
+    → AllByRecursion (WasSaid all) (tellings_from before outputs)
+tellings-inside all [] rest before is = tt
+tellings-inside all (output ∷ outputs) rest before is = (
+  slice_get-drop all before ∙ ap (λ (l : List (List ℕ)). slice_get l 0) is,
+  tellings-inside all outputs rest (before + 1) (drop-next all before ∙ ap (λ (l : List (List ℕ)). drop 1 l) is),
+)
 
 -- how a list grew
 abbrev Grows : List (List ℕ) → List (List ℕ) → Type 0
@@ -43,26 +42,18 @@ module _ (meaning : Meaning) where
       ∙ append_assoc (outputs_from meaning meaning.first earlier) (outputs_from meaning (state_after meaning earlier) members)
       (outputs_from meaning (state_after meaning (earlier ++ members)) more)
 
-  batch-said : (earlier : List (List ℕ)) (batch : Batch) (position : ℕ) (outputs between more after : List (List ℕ))
-      → IsTold meaning earlier batch position outputs between → after ≡ between ++ more
-      → AllByRecursion (WasSaid (outputs_from meaning meaning.first after)) (tellings_to position outputs)
-  batch-said earlier batch position outputs between more after told is =
+  batch-said : (earlier : List (List ℕ)) (batch : Batch) (before : ℕ) (outputs between more after : List (List ℕ))
+      → IsTold meaning earlier batch before outputs between → after ≡ between ++ more
+      → AllByRecursion (WasSaid (outputs_from meaning meaning.first after)) (tellings_from before outputs)
+  batch-said earlier batch before outputs between more after told is =
       let members = members_of batch in let front = outputs_from meaning meaning.first earlier in
       let rest = outputs_from meaning (state_after meaning (earlier ++ members)) more in
       let all : outputs_from meaning meaning.first after ≡ front ++ (outputs ++ rest) = ap (λ (l : List (List ℕ)). outputs_from meaning
       meaning.first l) (is ∙ ap (λ (l : List (List ℕ)). l ++ more) told.grown) ∙ outputs-parts earlier members more
       ∙ ap (λ (l : List (List ℕ)). front ++ (l ++ rest)) (sym told.said) in
-      let at : position ≡ length front + length outputs = omega (
-        arith,
-        told.counted,
-        ap (λ (l : List (List ℕ)). length l) told.grown,
-        length-append earlier members,
-        ap (λ (l : List (List ℕ)). length l) told.said,
-        length-outputs_from meaning (state_after meaning earlier) members,
-        length-outputs_from meaning meaning.first earlier,
-      ) in
-      tellings-inside (outputs_from meaning meaning.first after) outputs rest (length front) position at
-      (ap (λ (l : List (List ℕ)). drop (length front) l) all ∙ drop-length front (outputs ++ rest))
+      let at : before ≡ length front = told.counted ∙ sym (length-outputs_from meaning meaning.first earlier) in
+      tellings-inside (outputs_from meaning meaning.first after) outputs rest before (ap (λ (l : List (List ℕ)). drop before l) all
+      ∙ ap (λ n. drop n (front ++ (outputs ++ rest))) at ∙ drop-length front (outputs ++ rest))
 
   run-grows : (requests : List (List ℕ)) (es : List events.Event) (replies : List Reply) (after : List (List ℕ))
       → Runs meaning requests es replies after → Grows requests after
@@ -77,11 +68,11 @@ module _ (meaning : Meaning) where
 step-tells : (meaning : Meaning) (requests : List (List ℕ)) (event : events.Event) (reply : Reply) (between more after : List (List ℕ))
     → Steps meaning requests event reply between → after ≡ between ++ more
     → AllByRecursion (WasSaid (outputs_from meaning meaning.first after)) (tellings_of reply)
-step-tells meaning requests (events.Ask meddles stop offer batch) (Told false position outputs) between more after s is =
-    batch-said meaning requests batch position outputs between more after s is
-step-tells meaning requests (events.Ask meddles stop offer batch) (Told true position outputs) between more after s is =
-    batch-said meaning s.0 batch position outputs requests more after s.1 (is ∙ ap (λ (l : List (List ℕ)). l ++ more) s.2)
-step-tells meaning requests _ (Told again position said) between more after s is = absurd s
+step-tells meaning requests (events.Ask meddles stop offer batch) (Told false before outputs) between more after s is =
+    batch-said meaning requests batch before outputs between more after s is
+step-tells meaning requests (events.Ask meddles stop offer batch) (Told true before outputs) between more after s is =
+    batch-said meaning s.0 batch before outputs requests more after s.1 (is ∙ ap (λ (l : List (List ℕ)). l ++ more) s.2)
+step-tells meaning requests _ (Told again before said) between more after s is = absurd s
 step-tells meaning requests _ _ between more after s is = tt
 
 run-tells : (meaning : Meaning) (requests : List (List ℕ)) (es : List events.Event) (replies : List Reply) (after : List (List ℕ))

@@ -7,11 +7,11 @@ use Rattle.mm_schedule.specs.declared.reply.Reply.{Reply}
 use Rattle.mm_schedule.specs.declared.reply.Reply.TheVariants.{Told, No, Kept, Nothing, Closed, Checkpointed, Power, Extended}
 use Rattle.mm_schedule.specs.Events as events
 
--- The batch is run behind these requests, and told: with the position behind it, and with what the
--- module says to each of its requests.
-pub record IsTold (meaning : Meaning) (requests : List (List ℕ)) (batch : Batch) (position : ℕ)
+-- The batch is run behind these requests, and told: with their number, and with what the module
+-- says to each of its own.
+pub record IsTold (meaning : Meaning) (requests : List (List ℕ)) (batch : Batch) (before : ℕ)
     (outputs after : List (List ℕ)) : Type 0 where
-  pub counted : position ≡ length after
+  pub counted : before ≡ length requests
   pub said : outputs ≡ outputs_from meaning (state_after meaning requests) (members_of batch)
   pub grown : after ≡ requests ++ members_of batch
 
@@ -19,10 +19,10 @@ pub record IsTold (meaning : Meaning) (requests : List (List ℕ)) (batch : Batc
 -- and so is one that is kept, with the position behind it. A batch that is told again ends the
 -- requests, and is told as it was the first time.
 abbrev pub StepsOn : Meaning → List (List ℕ) → Batch → Reply → List (List ℕ) → Type 0
-StepsOn meaning requests batch (Told false position outputs) after =
-    IsTold meaning requests batch position outputs after
-StepsOn meaning requests batch (Told true position outputs) after =
-    (earlier : List (List ℕ)) × IsTold meaning earlier batch position outputs requests
+StepsOn meaning requests batch (Told false before outputs) after =
+    IsTold meaning requests batch before outputs after
+StepsOn meaning requests batch (Told true before outputs) after =
+    (earlier : List (List ℕ)) × IsTold meaning earlier batch before outputs requests
     × (after ≡ requests)
 StepsOn meaning requests batch (Kept way position) after =
     (after ≡ requests ++ members_of batch) × (position ≡ length after)
@@ -35,7 +35,7 @@ StepsOn meaning requests batch Extended after = after ≡ requests
 
 -- one step where no batch is asked: none is told or kept, and nothing is run
 abbrev pub AsksNone : List (List ℕ) → Reply → List (List ℕ) → Type 0
-AsksNone requests (Told again position outputs) after = ⊥
+AsksNone requests (Told again before outputs) after = ⊥
 AsksNone requests (Kept way position) after = ⊥
 AsksNone requests (No cause) after = after ≡ requests
 AsksNone requests (Nothing way) after = after ≡ requests

@@ -1,5 +1,5 @@
 -- The lines that answer events.
-use Rattle.std.specs.Prelude.{ℕ, ◌-◌, Bool, List, [], ◌∷◌, ◌++◌, ◌≤◌, All, length, if◌then◌else◌, codes}
+use Rattle.std.specs.Prelude.{ℕ, ◌+◌, Bool, List, [], ◌∷◌, ◌++◌, ◌≤◌, All, length, if◌then◌else◌, codes}
 use Rattle.std.specs.Fmt.{decimal}
 use Rattle.mm_base.specs.Limits.{last_position, longest_request}
 use Rattle.mm_schedule.specs.declared.reply.Cause.{Cause}
@@ -30,18 +30,18 @@ way_text Cut = codes "cut"
 way_text Drop = codes "drop"
 way_text Fault = codes "fault"
 
--- the lines of a batch, the last with this position: whether it is told again, the position, the
--- output
+-- the lines of a batch, the first with the position after this one: whether it is told again, the
+-- position, the output
 abbrev pub told_lines : Bool → ℕ → List (List ℕ) → List (List ℕ)
-told_lines again position [] = []
-told_lines again position (output ∷ outputs) =
-    ((if again then codes "again " else codes "ok ") ++ decimal (position - length outputs)
+told_lines again before [] = []
+told_lines again before (output ∷ outputs) =
+    ((if again then codes "again " else codes "ok ") ++ decimal (before + 1)
     ++ 32 ∷ [] ++ output ++ 10 ∷ [])
-    ∷ told_lines again position outputs
+    ∷ told_lines again (before + 1) outputs
 
 -- the lines of a reply, each with its LF
 abbrev pub lines_of_reply : Reply → List (List ℕ)
-lines_of_reply (Told again position outputs) = told_lines again position outputs
+lines_of_reply (Told again before outputs) = told_lines again before outputs
 lines_of_reply (No cause) = (codes "no " ++ cause_text cause ++ 10 ∷ []) ∷ []
 lines_of_reply (Kept way position) =
     (way_text way ++ codes " kept " ++ decimal position ++ 10 ∷ []) ∷ []
@@ -58,9 +58,9 @@ end_line committed issued =
 
 -- what a reply has to meet to be printed: short outputs, and positions of at most 2^48
 abbrev pub IsPrintable : Reply → Type 0
-IsPrintable (Told again position outputs) =
+IsPrintable (Told again before outputs) =
     (All (λ (output : List ℕ). length output ≤ longest_request) outputs)
-    × (position ≤ last_position)
+    × (before + length outputs ≤ last_position)
 IsPrintable (No cause) = Unit {0}
 IsPrintable (Kept way position) = Unit {0}
 IsPrintable (Nothing way) = Unit {0}

@@ -1,5 +1,5 @@
 -- What replies tell of the requests of a run, each by the requests before it.
-use Rattle.std.specs.Prelude.{ℕ, ◌-◌, List, [], ◌∷◌, ◌++◌, length}
+use Rattle.std.specs.Prelude.{ℕ, ◌+◌, List, [], ◌∷◌, ◌++◌}
 use Rattle.std.specs.List.{AllByRecursion}
 use Rattle.mm_module.specs.Meaning.{Meaning, outputs_from}
 use Rattle.mm_listing.specs.Tellings.{Telling, WasSaid}
@@ -8,16 +8,15 @@ use Rattle.mm_schedule.specs.declared.reply.Reply.TheVariants.{Told, No, Kept, N
 use Rattle.mm_schedule.specs.Events.{Event}
 use Rattle.mm_schedule.specs.Machine.{Runs}
 
--- the lines of a batch that ends at this position
-abbrev pub tellings_to : ℕ → List (List ℕ) → List Telling
-tellings_to position [] = []
-tellings_to position (output ∷ outputs) =
-    record { before = position - length (output ∷ outputs); output = output }
-    ∷ tellings_to position outputs
+-- the lines of a batch that comes behind so many requests
+abbrev pub tellings_from : ℕ → List (List ℕ) → List Telling
+tellings_from before [] = []
+tellings_from before (output ∷ outputs) =
+    record { before = before; output = output } ∷ tellings_from (before + 1) outputs
 
 -- the lines of a reply
 abbrev pub tellings_of : Reply → List Telling
-tellings_of (Told again position outputs) = tellings_to position outputs
+tellings_of (Told again before outputs) = tellings_from before outputs
 tellings_of (No cause) = []
 tellings_of (Kept way position) = []
 tellings_of (Nothing way) = []

@@ -1,6 +1,6 @@
 //! Replies as lines.
 
-ghost use Rattle.std.specs.Prelude.{◌≡◌, ◌+◌, ◌-◌, ◌<◌, ◌≤◌, ◌++◌, [], ◌∷◌, Some, codes, length, take, slice_get};
+ghost use Rattle.std.specs.Prelude.{◌≡◌, ◌+◌, ◌<◌, ◌≤◌, ◌++◌, [], ◌∷◌, Some, codes, length, take, slice_get};
 ghost use Rattle.std.specs.Fmt.{decimal};
 ghost use Rattle.mm_base.specs.Limits.{longest_request};
 ghost use Rattle.mm_schedule.specs.Replies.{IsPrintable, lines_of_reply, way_text};
@@ -29,17 +29,10 @@ pub fn print_line(reply: &Reply, index: usize, into: &mut [u8; 4200]) -> usize
     match reply {
         Reply::Told {
             again,
-            position,
+            before,
             outputs,
         } => match outputs.get(index) {
-            Some(output) => {
-                print_told(
-                    *again,
-                    position_at(*position, outputs.len(), index),
-                    output,
-                    into,
-                )
-            }
+            Some(output) => print_told(*again, *before + index as u64 + 1, output, into),
             None => unreachable!(),
         },
         Reply::No(cause) => print_words(b"no ", cause.text(), into),
@@ -87,13 +80,6 @@ pub fn print_told(again: bool, position: u64, output: &[u8], into: &mut [u8; 420
     let at = put(into, at, b" ");
     let at = put(into, at, output);
     put(into, at, b"\n")
-}
-
-/// The position of the request with this index, of so many that end at this position.
-pub(crate) fn position_at(position: u64, requests: usize, index: usize) -> u64
-    ensures { result ≡ position - (requests - (index + 1)) }
-{
-    position.saturating_sub(requests.saturating_sub(index).saturating_sub(1) as u64)
 }
 
 /// The word of a request that is told, for the first time or again.

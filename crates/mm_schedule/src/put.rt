@@ -5,7 +5,7 @@ ghost use Rattle.std.specs.Fmt.{decimal};
 ghost use Rattle.mm_schedule.specs.Replies.{end_line, IsPrintable, lines_of_reply, way_text};
 ghost use Rattle.mm_schedule.specs.RepliesWords.{told_line};
 
-use crate::print::{position_at, told_word};
+use crate::print::told_word;
 use crate::reply::{Reply, Way};
 use mm_base::{Bytes, Memory, put_decimal};
 
@@ -21,17 +21,10 @@ pub fn put_line(reply: &Reply, index: usize, into: &mut Bytes) -> Result<(), Mem
     match reply {
         Reply::Told {
             again,
-            position,
+            before,
             outputs,
         } => match outputs.get(index) {
-            Some(output) => {
-                put_told(
-                    *again,
-                    position_at(*position, outputs.len(), index),
-                    output,
-                    into,
-                )
-            }
+            Some(output) => put_told(*again, *before + index as u64 + 1, output, into),
             None => unreachable!(),
         },
         Reply::No(cause) => put_words(b"no ", cause.text(), into),

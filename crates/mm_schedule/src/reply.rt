@@ -48,10 +48,10 @@ pub enum Cause {
 /// The answer to an event.
 #[derive(Debug, Drop)]
 pub enum Reply {
-    /// A batch was committed, or repeated: its outputs, and the position after it.
+    /// A batch was committed, or repeated: its outputs, and the position before it.
     Told {
         again: bool,
-        position: u64,
+        before: u64,
         outputs: Outputs,
     },
     /// The call was refused.

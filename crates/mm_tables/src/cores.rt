@@ -237,6 +237,14 @@ fn ask_alone(host: &mut Host, row: &Row<'_>) -> Result<(), Memory> {
     keep_one(host, came)
 }
 
+// The request of a row; `longer` stands for one that is too long.
+fn request_in(text: &str) -> Batch<'_> {
+    match text {
+        "longer" => batch_of(text),
+        _ => Batch::One(text.as_bytes()),
+    }
+}
+
 // The same step by step, with the digits of the steps.
 fn ask_by_steps(host: &mut Host, row: &Row<'_>) -> Result<(), Memory> {
     let Some(offer) = host.snapshots.get(row.number) else {
@@ -249,7 +257,7 @@ fn ask_by_steps(host: &mut Host, row: &Row<'_>) -> Result<(), Memory> {
         host.variant,
         &mut host.platform,
         offer.as_slice(),
-        Batch::One(row.text.as_bytes()),
+        request_in(row.text),
     );
     put_decimal(&mut host.said, steps)?;
     host.said.push(b' ')?;

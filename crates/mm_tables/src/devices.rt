@@ -31,6 +31,54 @@ pub fn alone(notes: &mut Notes, word: &str, setup: &Setup, content: &[u8]) -> Re
     run(notes, &[word], setup, content, &mut platform, &mut store)
 }
 
+// A store in memory of which this call fails, counted from 1, and leaves other bytes; none where it is 0.
+fn stopping_store(alloc: Global, call: u64) -> Result<MemStore, Memory> {
+    let mut store = MemStore::new(alloc);
+    store.stop_at(call, b"torn")?;
+    Ok(store)
+}
+
+/// Plays a scene over a platform and a store in memory of which this call fails, from 1.
+pub fn over_stopped(notes: &mut Notes, text: &str, scene: &str, row: &str) -> Result<bool, Memory> {
+    let call = read_decimal(text.as_bytes()).unwrap_or(0);
+    let mut store = stopping_store(notes.alloc, call)?;
+    let mut old = MemStore::new(notes.alloc);
+    let mut platform = MemPlatform::new(notes.alloc, &[0; 104]);
+    plays(notes, scene, row, &mut platform, &mut store, &mut old)
+}
+
+// Sets the slots of a store to those of another, as a host may that isn't honest.
+fn set_slots(store: &mut MemStore, old: &MemStore) -> Result<(), Memory> {
+    for slot in 0..4 {
+        store.set_slot(slot, old.slot(slot))?;
+    }
+    Ok(())
+}
+
+// Plays a scene up to where the slots are set, and from there on.
+fn plays_around(
+    notes: &mut Notes,
+    scene: &str,
+    platform: &mut MemPlatform,
+    store: &mut MemStore,
+    old: &mut MemStore,
+) -> Result<bool, Memory> {
+    let (before, behind) = scene.split_once("\n$ set\n$ ").unwrap_or((scene, ""));
+    if !plays(notes, before, "", platform, store, old)? {
+        return Ok(false);
+    }
+    set_slots(store, old)?;
+    plays(notes, behind, "", platform, store, old)
+}
+
+/// Plays a scene over a platform and a store in memory. At `set` the host sets the slots to those that were put by.
+pub fn over_set(notes: &mut Notes, scene: &str) -> Result<bool, Memory> {
+    let mut platform = MemPlatform::new(notes.alloc, &[0; 104]);
+    let mut store = MemStore::new(notes.alloc);
+    let mut old = MemStore::new(notes.alloc);
+    plays_around(notes, scene, &mut platform, &mut store, &mut old)
+}
+
 // An empty store of pages.
 fn pages(alloc: Global) -> Result<PageStore<MemPages>, Memory> {
     PageStore::new(alloc, MemPages::new(alloc)?)

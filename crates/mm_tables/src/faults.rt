@@ -2,14 +2,14 @@
 
 use mm_base::{Failed, LineFault, Memory, ReplayFault, WriteFault};
 use mm_gen::BulkFault;
-use mm_host::SessionFault;
+use mm_host::{HostFault, InitFault, SessionFault};
 use mm_model::Refusal;
-use mm_move::MoveRefusal;
 use mm_platform::StepFault;
-use mm_recovery::{HostFault, InitFault};
+use mm_receipt::NotReceipt;
 use mm_schedule::EventFault;
 use mm_seal::{CellFault, OpenFault, PartsFault};
 use mm_store::StoreFault;
+use mm_transfer::MoveRefusal;
 use mm_words::WordsFault;
 use std::alloc::AllocError;
 use std::fmt::Display;
@@ -49,8 +49,17 @@ fn put_bytes(text: &mut String) -> Result<(), AllocError> {
 fn put_steps(text: &mut String) -> Result<(), AllocError> {
     put(text, &StepFault::Failed)?;
     put(text, &StepFault::Off)?;
+    put(text, &NotReceipt::Form)?;
+    put(text, &NotReceipt::Tag)
+}
+
+fn put_moves(text: &mut String) -> Result<(), AllocError> {
     put(text, &MoveRefusal::Core(Refusal::Blank))?;
-    put(text, &MoveRefusal::Open)
+    put(text, &MoveRefusal::Already)?;
+    put(text, &MoveRefusal::Open)?;
+    put(text, &MoveRefusal::Gone)?;
+    put(text, &MoveRefusal::Nonce)?;
+    put(text, &MoveRefusal::Barrier)
 }
 
 fn put_refusals(text: &mut String) -> Result<(), AllocError> {
@@ -117,6 +126,7 @@ pub fn put_faults(text: &mut String) -> Result<(), AllocError> {
     put_replays(text)?;
     put_bytes(text)?;
     put_steps(text)?;
+    put_moves(text)?;
     put_refusals(text)?;
     put_offers(text)?;
     put_lower(text)?;

@@ -2,7 +2,9 @@
 
 use crate::broken::play_broken;
 use crate::cores::play_core;
-use crate::devices::{over_counted, over_failing, over_memory, over_pages, over_stopping};
+use crate::devices::{
+    over_counted, over_failing, over_memory, over_pages, over_set, over_stopped, over_stopping,
+};
 use crate::lines::range_in;
 use crate::notes::Notes;
 use crate::steps::over_slot;
@@ -34,6 +36,8 @@ fn plays_over(
         "unknown" => over_memory(notes, &unknown_cell(), scene, row),
         "pages" => over_pages(notes, scene, row),
         "stopping" => over_stopping(notes, text, scene, row),
+        "stopped" => over_stopped(notes, text, scene, row),
+        "set" => over_set(notes, scene),
         "failing" => over_failing(notes, text, scene, row),
         "counted" => over_counted(notes, scene, row),
         "slot" => over_slot(notes, scene, row),

@@ -16,6 +16,7 @@ mod sides;
 mod whole;
 
 pub use event::{Act, Command, SideEvent, Which};
+pub use mm_move::{Accepted, Invited, Link, MoveRefusal, accept, invite, retire};
 pub use progress::Progress;
 pub use put::{put_answer, put_end};
 pub use read::{read_first, read_side_event};

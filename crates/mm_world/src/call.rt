@@ -58,7 +58,7 @@ impl Called {
         Called {
             reply: Reply::Told {
                 again,
-                position,
+                before: position.saturating_sub(size),
                 outputs,
             },
             snapshot: Some(snapshot),

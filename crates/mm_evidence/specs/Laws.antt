@@ -1,0 +1,51 @@
+-- The laws of evidence.
+use Rattle.std.specs.Prelude.{◌≡◌, ◌⊎◌, ℕ, List, [], ◌∷◌, ◌++◌, Some}
+use Rattle.std.specs.List.{Contains}
+use Rattle.mm_evidence.specs.Below.{Instance, Event, Offer, Flip, Raw}
+use Rattle.mm_evidence.specs.Below.{expected, replies_by_digests, IsOneRun}
+use Rattle.mm_evidence.specs.Below.{IsClearRun, IsGenuineRun, offered_bytes}
+use Rattle.mm_evidence.specs.Evidence.{HasEvidence, IsForged, IsUnbroken, RunsUntil}
+
+-- A run meets the premises, or gives evidence; and never both.
+pub record IsDecidedRun (i : Instance) (events : List Event) : Type 0 where
+  pub decided : (IsClearRun i events × IsGenuineRun i events) ⊎ HasEvidence i events
+  pub apart : IsClearRun i events → IsGenuineRun i events → HasEvidence i events → ⊥
+
+-- The replies to the events, as they are by digests, are one run of the module.
+abbrev pub RepliesAreOneRun : Instance → List Event → Type 0
+RepliesAreOneRun i events =
+    let it = replies_by_digests i events in
+    IsOneRun i events it.replies it.state.count it.issued
+
+-- The events before the first one that gives evidence are these alone; if there are any, they meet
+-- the premises; and so many first ones as meet them are among these.
+pub record IsLongest (i : Instance) (events front : List Event) : Type 0 where
+  pub alone : (other : List Event) → IsUnbroken i events other → other ≡ front
+  pub meets : (first : List Event) (event : Event) (later : List Event)
+      → front ≡ first ++ event ∷ later
+      → IsClearRun i (first ++ event ∷ []) × IsGenuineRun i (first ++ event ∷ [])
+  pub longest : (first later : List Event) → events ≡ first ++ later → IsClearRun i first
+      → IsGenuineRun i first → (more : List Event) × (front ≡ first ++ more)
+
+-- Of every schedule the replies are those of one run, up to the first event that gives evidence.
+abbrev pub IsOneRunOrEvidence : Instance → List Event → Type 0
+IsOneRunOrEvidence i events = RunsUntil i events (RepliesAreOneRun i)
+
+abbrev pub FrontsAreLongest : Instance → List Event → Type 0
+FrontsAreLongest i events =
+    (front : List Event) → IsUnbroken i events front → IsLongest i events front
+
+-- the offer has bytes of its own, or changes those of an issued snapshot
+abbrev pub IsMadeUp : Offer → Type 0
+IsMadeUp (Raw bytes) = Unit {0}
+IsMadeUp (Flip number byte) = Unit {0}
+IsMadeUp offer = ⊥
+
+-- What is forged is none of the snapshots issued, whichever event offers it: its offer is one of
+-- bytes of its own, or of a changed snapshot.
+pub record ForgedAreNew (i : Instance) (events : List Event) : Type 0 where
+  pub unissued : (offered : List ℕ) → IsForged i (expected i events).state (Some offered)
+      → Contains (expected i events).issued offered → ⊥
+  pub made_up : (offer : Offer)
+      → IsForged i (expected i events).state (offered_bytes (expected i events).issued offer)
+      → IsMadeUp offer
