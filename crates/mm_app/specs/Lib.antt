@@ -6,7 +6,6 @@ pub mod Commands
 pub mod Completeness
 pub mod Headline
 pub mod Outside
-pub mod Played
 pub mod Power
 pub mod Running
 pub mod Slots

@@ -1,12 +1,12 @@
 use Rattle.mm_slots.proofs.Below.{◌∙◌, ◌-◌, ◌^◌, ℕ, List, length, sym, ap, subst, arith, CodeSlot, IsInside}
 use Rattle.mm_slots.proofs.Rowing.{all_more}
 use Rattle.mm_slots.proofs.Progressing.{sized}
-use Rattle.mm_slots.proofs.progress.Progress.play.Goals as goal
+use Rattle.mm_slots.proofs.stage.SlotsStage.follow.Goals as goal
 
 pub follow-requires-clause-inside : goal.follow-requires-clause-inside
 follow-requires-clause-inside c =
     let p = c.self.inside in
-    let size = sized c.args.self.now p.platform.slots p.slots.items p.events p.read c.self.view_is c.self.invariant.fit in
+    let size = sized c.args.self.now p.platform.slots p.slots.items p.events c.self.view_is c.self.invariant.fit in
     subst (λ (n : ℕ). IsInside n c.args.event)
     (size ∙ sym (ap (λ (x : List CodeSlot). length x) c.as_mut_slice.ensures.value)) c.requires.inside
 

@@ -1,7 +1,7 @@
 use Rattle.mm_slots.proofs.Below.{◌∙◌, ℕ, List, length, map, ap, arith, new_platform, Slots}
 use Rattle.mm_slots.proofs.Starting.{sizes}
 use Rattle.mm_slots.proofs.Progressing.{keeps_first, runs_first}
-use Rattle.mm_slots.proofs.progress.Progress.new.Goals as goal
+use Rattle.mm_slots.proofs.stage.SlotsStage.new.Goals as goal
 
 pub new-requires-clause-some : goal.new-requires-clause-some
 new-requires-clause-some c =

@@ -2,7 +2,7 @@ use Rattle.mm_slots.proofs.Below.{◌≡◌, ◌∙◌, ◌++◌, List, ℕ, ap,
 use Rattle.mm_slots.proofs.Below.{ends_from}
 use Rattle.mm_slots.proofs.Rowing.{all_more}
 use Rattle.mm_slots.proofs.Totalling.{are_counted, ends_are}
-use Rattle.mm_slots.proofs.progress.Progress.put_last_lines.Goals as goal
+use Rattle.mm_slots.proofs.stage.SlotsStage.put_last_lines.Goals as goal
 
 pub put_ends-requires-clause-counted : goal.put_ends-requires-clause-counted
 put_ends-requires-clause-counted c =
