@@ -6,7 +6,7 @@ use Rattle.mm_play.specs.declared.player.ReplyFault.{ReplyFault}
 use Rattle.mm_play.specs.declared.player.ReplyFault.TheVariants as fault
 use Rattle.mm_schedule.specs.declared.header.Header.{Header}
 use Rattle.mm_slots.specs.Stage.{Opening, AtFirst, AtHeads, Running, are_to_come, begun}
-use Rattle.mm_slots.specs.declared.opening.Heads.{Heads}
+use Rattle.mm_slots.specs.declared.heads.Heads.{Heads}
 
 abbrev pub opening_in : Option Heads → Opening
 opening_in None = AtFirst

@@ -5,6 +5,8 @@
 mod event;
 mod first;
 mod flight;
+mod heading;
+mod heads;
 mod laws;
 mod opening;
 mod outside;
@@ -21,8 +23,9 @@ mod whole;
 
 pub use event::{Action, Breaking, SlotEvent};
 pub use flight::{Asking, Closing, Flight};
+pub use heads::Heads;
 pub use laws::{slots_are_alone, slots_run, slots_tell_replies};
-pub use opening::{Heads, Opening};
+pub use opening::Opening;
 pub use platform::SlotPlatform;
 pub use put::{put_answer, put_power, put_slot_end};
 pub use read::{read_first, read_slot_event};

@@ -1,6 +1,6 @@
 use Rattle.std.proofs.Common.{◌∙◌, sym}
 use Rattle.mm_slots.proofs.Telling.{few_slots}
-use Rattle.mm_slots.proofs.opening.first_heads.Goals as goal
+use Rattle.mm_slots.proofs.heading.first_heads.Goals as goal
 
 pub invariant_of-result-clause-fewer : goal.invariant_of-result-clause-fewer
 invariant_of-result-clause-fewer c =
