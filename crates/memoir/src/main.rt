@@ -1,8 +1,11 @@
-//! The program: its words, its input and output, the files of the current directory, and its exit status.
+//! The program: its words, its input and output, the files of the current directory, its exit status, and why it stopped.
 #![tactic(auto)]
 
-use mm_app::{Status, StdSink, StdSource, memoir};
-use mm_files::{FilePages, FilePlatform, FileSource};
+mod reasons;
+
+use crate::reasons::{Reasons, say};
+use mm_app::{Status, memoir};
+use mm_files::{FilePages, FilePlatform, FileSource, StdSink, StdSource};
 use mm_pages::PageStore;
 use mm_twocell::TwoCell;
 use std::io::ErrorKind;
@@ -36,7 +39,18 @@ fn with_words(rt: &HostRuntime, texts: &[String]) -> io::Result<Status> {
 }
 
 fn with_store(rt: &HostRuntime, words: &[&str]) -> io::Result<Status> {
-    match PageStore::new(rt.alloc(), FilePages::new(rt)) {
+    match FilePages::new(rt.alloc(), rt) {
+        Ok(pages) => with_pages(rt, words, pages),
+        Err(_) => Err(io::Error::from(ErrorKind::OutOfMemory)),
+    }
+}
+
+fn with_pages(
+    rt: &HostRuntime,
+    words: &[&str],
+    pages: FilePages<'_, HostRuntime>,
+) -> io::Result<Status> {
+    match PageStore::new(rt.alloc(), pages) {
         Ok(mut store) => Ok(with_platform(rt, words, &mut store)),
         Err(_) => Err(io::Error::from(ErrorKind::OutOfMemory)),
     }
@@ -56,15 +70,27 @@ fn with_streams(
     platform: &mut TwoCell<FilePlatform<'_, HostRuntime>>,
     store: &mut PageStore<FilePages<'_, HostRuntime>>,
 ) -> Status {
-    memoir(
+    let mut input = StdSource::new(rt.reader());
+    let mut entropy = FileSource::new(rt, "entropy");
+    let mut out = StdSink::new(io::writer(rt));
+    let status = memoir(
         rt.alloc(),
         words,
         platform,
         store,
-        &mut StdSource::new(rt.reader()),
-        &mut FileSource::new(rt, "entropy"),
-        &mut StdSink::new(io::writer(rt)),
-    )
+        &mut input,
+        &mut entropy,
+        &mut out,
+    );
+    let reasons = Reasons {
+        platform: platform.raw().last_reason(),
+        store: store.device().last_reason(),
+        input: input.last_reason(),
+        entropy: entropy.last_reason(),
+        output: out.last_reason(),
+    };
+    say(rt, words, status, &reasons);
+    status
 }
 
 fn main(rt: HostRuntime) -> ExitCode {
@@ -72,6 +98,7 @@ fn main(rt: HostRuntime) -> ExitCode {
         Ok(status) => ExitCode::from(status.code()),
         Err(_) => {
             let _ = print!(rt; "stop memory\n");
+            let _ = eprint!(rt; "out of memory\n");
             ExitCode::from(Status::Memory.code())
         }
     }

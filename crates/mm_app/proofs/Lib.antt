@@ -8,3 +8,8 @@ mod Sending
 mod Stopping
 mod Theorems
 mod RunningOnce
+mod Holding
+mod HoldingStart
+mod HoldingClosing
+mod HoldingRun
+mod HoldingAll

@@ -15,10 +15,8 @@ mod slots;
 mod start;
 mod status;
 mod stop;
-mod streams;
 mod telling;
 mod transfer;
 
 pub use command::memoir;
 pub use status::Status;
-pub use streams::{StdSink, StdSource};

@@ -9,6 +9,7 @@ pub use Rattle.mm_digest.specs.declared.digest.Digest.{Digest}
 pub use Rattle.mm_digest.specs.declared.variant.Variant.{Variant}
 pub use Rattle.mm_digest.specs.declared.variant.Variant.TheVariants.{Basic, Opt}
 pub use Rattle.mm_module.specs.Batch.{Batch, normal}
+pub use Rattle.mm_model.specs.Chains.{guard}
 pub use Rattle.mm_model.specs.ChainsWords.{own_values}
 pub use Rattle.mm_model.specs.History.{History, first_history, total_of}
 pub use Rattle.mm_model.specs.Instance.{Instance}
@@ -25,6 +26,7 @@ pub use Rattle.mm_schedule.specs.declared.reply.Reply.{Reply}
 pub use Rattle.mm_run.specs.Folds.{Followed, event_outcome, expected, first_issued, replies_by_digests}
 pub use Rattle.mm_run.specs.Held.{world_of}
 pub use Rattle.mm_run.specs.Premises.{IsClearRun, IsGenuineEvent, IsGenuineRun, foreign_of, asked_batches, run_messages}
+pub use Rattle.mm_evidence.specs.Evidence.{event_offer, HasEvidence, IsForged}
 pub use Rattle.mm_expect.specs.Numbered.{numbered_event}
 pub use Rattle.mm_expect.specs.Traced.{IsAfter}
 pub use Rattle.mm_play.specs.Kept.{most_kept}

@@ -113,33 +113,35 @@ module _ (i : Instance) (named : (y : History) (content : Content) → IsDecided
   offer_or y None = inr tt
   offer_or y (Some bytes) = by_content y bytes (right_content i bytes) refl
 
-  event_or : (y : History) (issued : List (List ℕ)) (event : Event)
+  pub event_or : (y : History) (issued : List (List ℕ)) (event : Event)
       → IsForged i y (event_offer issued event) ⊎ IsGenuineEvent i y issued event
   event_or y issued (Ask meddles stop offer b) = offer_or y (event_offer issued (Ask meddles stop offer b))
   event_or y issued (Checkpoint meddles stop) = inr tt
   event_or y issued Power = inr tt
   event_or y issued (Extend value) = inr tt
 
-  -- one of these events offers what is forged
-  record ForgesFrom (y : History) (issued : List (List ℕ)) (events : List Event) : Type 0 where
-    before : List Event
-    event : Event
-    later : List Event
-    split : events ≡ before ++ event ∷ later
-    forged : (let f : Followed History = followed i (by_lists i) y issued before in IsForged i f.state (event_offer f.issued event))
+  -- one of these events is the first that offers what is forged
+  pub record ForgesFrom (y : History) (issued : List (List ℕ)) (events : List Event) : Type 0 where
+    pub before : List Event
+    pub event : Event
+    pub later : List Event
+    pub split : events ≡ before ++ event ∷ later
+    pub genuine : AreGenuine i y issued before
+    pub forged : (let f : Followed History = followed i (by_lists i) y issued before in IsForged i f.state (event_offer f.issued event))
 
-  genuine_or : (events : List Event) (y : History) (issued : List (List ℕ)) → ForgesFrom y issued events ⊎ AreGenuine i y issued events
+  pub genuine_or : (events : List Event) (y : History) (issued : List (List ℕ)) → ForgesFrom y issued events ⊎ AreGenuine i y issued events
   genuine_or [] y issued = inr tt
   genuine_or (event ∷ events) y issued =
       let o = event_outcome i (by_lists i) y issued event in
       elim (event_or y issued event) [
-        | inl here ↦ inl (record { before = []; event = event; later = events; split = refl; forged = here })
+        | inl here ↦ inl (record { before = []; event = event; later = events; split = refl; genuine = tt; forged = here })
         | inr fine ↦ elim (genuine_or events o.state o.issued) [
           | inl f ↦ inl (record {
             before = event ∷ f.before;
             event = f.event;
             later = f.later;
             split = ap (λ (es : List Event). event ∷ es) f.split;
+            genuine = (fine, f.genuine);
             forged = f.forged;
           })
           | inr rest ↦ inr (fine, rest)
@@ -162,7 +164,7 @@ module _ (i : Instance) where
   offer_apart y offered f genuine =
       let at : IsGenuineOffer i y (Some f.bytes) = subst (IsGenuineOffer i y) f.offers genuine in f.unnamed (at f.content f.right)
 
-  event_apart : (y : History) (issued : List (List ℕ)) (event : Event) → IsForged i y (event_offer issued event)
+  pub event_apart : (y : History) (issued : List (List ℕ)) (event : Event) → IsForged i y (event_offer issued event)
       → IsGenuineEvent i y issued event → ⊥
   event_apart y issued (Ask meddles stop offer b) f genuine = offer_apart y (event_offer issued (Ask meddles stop offer b)) f genuine
   event_apart y issued (Checkpoint meddles stop) f genuine = let clash : None ≡ Some f.bytes = f.offers in cc
@@ -184,13 +186,15 @@ module _ (i : Instance) where
   both_apart events clear genuine (forgery f) = genuine_apart f.before f.event f.later first_history (first_issued i)
       (subst (λ (es : List Event). AreGenuine i first_history (first_issued i) es) f.split genuine) f.forged
 
+-- names are decided in either variant
+pub names_by : BasicNamesAreDecided → OptNamesAreDecided → (variant : Variant) (meaning : Meaning) (key barrier : List ℕ)
+    → (let i = instance_by variant meaning key barrier in
+    (y : History) (content : Content) → IsDecided (is_named i y content) (Names i y content))
+names_by basic opt Basic meaning key barrier = basic meaning key
+names_by basic opt Opt meaning key barrier = opt meaning key barrier
+
 pub decided_run : BasicNamesAreDecided → OptNamesAreDecided → (variant : Variant) (meaning : Meaning) (key barrier : List ℕ)
     (events : List Event) → IsDecidedRun (instance_by variant meaning key barrier) events
-decided_run basic opt Basic meaning key barrier events = record {
-  decided = decided_or (instance_by Basic meaning key barrier) (basic meaning key) events;
-  apart = both_apart (instance_by Basic meaning key barrier) events;
-}
-decided_run basic opt Opt meaning key barrier events = record {
-  decided = decided_or (instance_by Opt meaning key barrier) (opt meaning key barrier) events;
-  apart = both_apart (instance_by Opt meaning key barrier) events;
-}
+decided_run basic opt variant meaning key barrier events =
+    let i = instance_by variant meaning key barrier in
+    record { decided = decided_or i (names_by basic opt variant meaning key barrier) events; apart = both_apart i events }

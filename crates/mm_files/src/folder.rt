@@ -4,7 +4,7 @@ use crate::disk::{Opened, replace};
 use crate::kept::Kept;
 use crate::lock::Lock;
 use crate::place::sync_folder;
-use crate::reason::{Reason, named};
+use crate::reason::{HERE, Reason, named};
 use mm_digest::{Digest, extended, zero};
 use std::fs::{self, OpenFile};
 use std::io::{self, ErrorKind};
@@ -16,9 +16,6 @@ const WHOLE: usize = 209;
 
 /// Where the selector is.
 const SELECTOR: u16 = 208;
-
-/// What the current directory is called.
-const HERE: &str = "the current directory";
 
 /// The current directory, which is locked from the first call on. What is read of it was synced by this program, whoever
 /// wrote it: a program that was stopped may have left bytes that the system shows and the disk hasn't.

@@ -1,12 +1,12 @@
 //! Pages over files.
 
-ghost use Rattle.std.specs.Prelude.{◌≡◌, None};
+ghost use Rattle.std.specs.Prelude.{◌≡◌, None, IfOk};
 ghost use Rattle.mm_files.specs.Untold.{untold_pages};
 
 use crate::counting::counted;
 use crate::reason::Reason;
 use crate::slots::Slots;
-use mm_base::Failed;
+use mm_base::{Failed, Memory};
 use mm_pages::PageDevice;
 use std::alloc::Global;
 use std::os::unix::fs::FileExt;
@@ -29,22 +29,23 @@ impl<'a, R: Files> FilePages<'a, R>
 where
     R::File: FileExt,
 {
-    /// The pages of these files. None is opened before the first call.
-    pub fn new(alloc: Global, files: &'a R) -> FilePages<'a, R>
-        ensures faults { result.faults ≡ 0 }
-        ensures reads { result.page_reads ≡ 0 }
-        ensures writes { result.page_writes ≡ 0 }
-        ensures lengths { result.length_writes ≡ 0 }
-        ensures reason { result.last ≡ None }
+    /// The pages of these files. Links are followed now; no file is opened before the first call.
+    pub fn new(alloc: Global, files: &'a R) -> Result<FilePages<'a, R>, Memory>
+        ensures faults { IfOk result (λ pages. pages.faults ≡ 0) }
+        ensures reads { IfOk result (λ pages. pages.page_reads ≡ 0) }
+        ensures writes { IfOk result (λ pages. pages.page_writes ≡ 0) }
+        ensures lengths { IfOk result (λ pages. pages.length_writes ≡ 0) }
+        ensures reason { IfOk result (λ pages. pages.last ≡ None) }
     {
-        FilePages {
-            slots: Slots::new(alloc, files),
+        let slots = Slots::new(alloc, files)?;
+        Ok(FilePages {
+            slots,
             faults: 0,
             page_reads: 0,
             page_writes: 0,
             length_writes: 0,
             last: None,
-        }
+        })
     }
 
     /// Why the last call that failed did. None where none has.

@@ -1,7 +1,8 @@
 //! Where the file of a slot itself stands, behind links, and whether it is one of its own.
 
 use crate::disk::{Identity, Opened, make};
-use crate::reason::{Reason, named};
+use crate::reason::{HERE, Reason, named};
+use mm_base::Memory;
 use std::alloc::Global;
 use std::fs::{self, OpenFile};
 use std::io::{self, ErrorKind};
@@ -23,81 +24,115 @@ const NAMES: [&str; 7] = [
     "slot3",
 ];
 
+/// Where the file of a slot stands: the path to which the links of its name led when the program began, whether a file was
+/// there or not.
+#[derive(Drop)]
+pub struct Place {
+    name: &'static str,
+    path: PathBuf,
+    // Why the links couldn't be followed.
+    failed: Option<Reason>,
+}
+
+impl Place {
+    /// That of this name.
+    pub fn of<R: Files>(alloc: Global, files: &R, name: &'static str) -> Result<Place, Memory> {
+        match path_behind(alloc, files, name) {
+            Ok(path) => Ok(Place {
+                name,
+                path,
+                failed: None,
+            }),
+            Err(error) if error.kind() == ErrorKind::OutOfMemory => Err(Memory),
+            Err(error) => Ok(Place {
+                name,
+                path: PathBuf::new(alloc),
+                failed: Some(Reason::System { name, error }),
+            }),
+        }
+    }
+
+    // An error where it isn't known.
+    fn known(&self) -> Result<(), Reason> {
+        match self.failed {
+            Some(reason) => Err(reason),
+            None => Ok(()),
+        }
+    }
+
+    // The folder of the path.
+    fn folder(&self) -> &str {
+        match self.path.parent() {
+            Some(folder) if !folder.as_os_str().is_empty() => folder.as_os_str(),
+            _ => ".",
+        }
+    }
+
+    /// Lets the name of the file be on the disk, in the folder where the file itself stands. Where a link leads there the
+    /// link's name is, too.
+    pub fn sync_name<R: Files>(&self, files: &R) -> Result<(), Reason> {
+        self.known()?;
+        let name = self.name;
+        if let Err(error) = sync_folder(files, self.folder()) {
+            return Err(Reason::Folder { name, error });
+        }
+        if self.path.as_str() != name {
+            return named(HERE, sync_folder(files, "."));
+        }
+        Ok(())
+    }
+
+    /// Makes the file, which is absent. An error where the place is that of another of the program's files.
+    pub fn make<R: Files>(&self, files: &R) -> Result<Opened<R::File>, Reason>
+    where
+        R::File: FileExt,
+    {
+        self.known()?;
+        let name = self.name;
+        if let Some(other) = self.other_name()
+            && named(name, is_current(files, self.folder()))?
+        {
+            return Err(Reason::Same { name, other });
+        }
+        make(files, name, self.path.as_str())
+    }
+
+    // Which of the other files has the name that the path ends in.
+    fn other_name(&self) -> Option<&'static str> {
+        let last = self.path.file_name()?;
+        for other in NAMES {
+            if other != self.name && other == last {
+                return Some(other);
+            }
+        }
+        None
+    }
+}
+
 // Whether nothing is at a path, or no link.
 fn is_no_link(error: &io::Error) -> bool {
     matches!(error.kind(), ErrorKind::NotFound | ErrorKind::InvalidInput)
 }
 
-// The path to which the links of a name lead, whether a file is there or not. It is the name where it is no link.
-fn place_of<R: Files>(alloc: Global, files: &R, name: &str) -> io::Result<PathBuf> {
-    let mut place = PathBuf::from_str(alloc, name)?;
+// The path to which the links of a name lead. It is the name where it is no link.
+fn path_behind<R: Files>(alloc: Global, files: &R, name: &str) -> io::Result<PathBuf> {
+    let mut path = PathBuf::from_str(alloc, name)?;
     for _ in 0..MOST_LINKS {
-        match files.read_link(alloc, place.as_str()) {
+        match files.read_link(alloc, path.as_str()) {
             Ok(target) => {
-                let _ = place.pop();
-                place.push(target)?;
+                let _ = path.pop();
+                path.push(target)?;
             }
-            Err(error) if is_no_link(&error) => return Ok(place),
+            Err(error) if is_no_link(&error) => return Ok(path),
             Err(error) => return Err(error),
         }
     }
     Err(io::Error::from(ErrorKind::FilesystemLoop))
 }
 
-// The folder of a path.
-fn folder_of(place: &PathBuf) -> &str {
-    match place.parent() {
-        Some(folder) if !folder.as_os_str().is_empty() => folder.as_os_str(),
-        _ => ".",
-    }
-}
-
 /// Lets the names of a folder's files be on the disk.
 pub fn sync_folder<R: Files>(files: &R, path: &str) -> io::Result<()> {
     fs::open(files, path)?.sync_all()
-}
-
-/// Lets the name of a slot's file be on the disk, in the folder where the file itself stands. Where a link leads there
-/// the link's name is, too.
-pub fn sync_name<R: Files>(alloc: Global, files: &R, name: &'static str) -> Result<(), Reason> {
-    let place = named(name, place_of(alloc, files, name))?;
-    if let Err(error) = sync_folder(files, folder_of(&place)) {
-        return Err(Reason::Folder { name, error });
-    }
-    if place.as_str() != name {
-        return named("the current directory", sync_folder(files, "."));
-    }
-    Ok(())
-}
-
-/// Makes the file of a slot, which is absent, where its links lead to. An error where that is the place of another of the
-/// program's files.
-pub fn make_behind_links<R: Files>(
-    alloc: Global,
-    files: &R,
-    name: &'static str,
-) -> Result<Opened<R::File>, Reason>
-where
-    R::File: FileExt,
-{
-    let place = named(name, place_of(alloc, files, name))?;
-    if let Some(other) = other_name_at(&place, name)
-        && named(name, is_current(files, folder_of(&place)))?
-    {
-        return Err(Reason::Same { name, other });
-    }
-    make(files, name, place.as_str())
-}
-
-// Which of the other files has the name that a path ends in.
-fn other_name_at(place: &PathBuf, name: &str) -> Option<&'static str> {
-    let last = place.file_name()?;
-    for other in NAMES {
-        if other != name && other == last {
-            return Some(other);
-        }
-    }
-    None
 }
 
 // Whether a folder is the current directory.

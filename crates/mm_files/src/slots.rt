@@ -4,8 +4,9 @@ ghost use Rattle.std.specs.Prelude.{◌≤◌};
 
 use crate::disk::{Identity, Opened};
 use crate::kept::Kept;
-use crate::place::{make_behind_links, refuse_same, sync_name};
+use crate::place::{Place, refuse_same};
 use crate::reason::Reason;
+use mm_base::Memory;
 use std::alloc::Global;
 use std::os::unix::fs::FileExt;
 use std::rt::Files;
@@ -29,43 +30,74 @@ impl<'a, R: Files> Slots<'a, R>
 where
     R::File: FileExt,
 {
-    pub fn new(alloc: Global, files: &'a R) -> Slots<'a, R> {
-        Slots {
-            first: Slot::new(alloc, files, "slot0"),
-            second: Slot::new(alloc, files, "slot1"),
-            third: Slot::new(alloc, files, "slot2"),
-            fourth: Slot::new(alloc, files, "slot3"),
-        }
+    /// The slots, whose links are followed now.
+    pub fn new(alloc: Global, files: &'a R) -> Result<Slots<'a, R>, Memory> {
+        let first = Slot::new(alloc, files, "slot0")?;
+        let second = Slot::new(alloc, files, "slot1")?;
+        let third = Slot::new(alloc, files, "slot2")?;
+        let fourth = Slot::new(alloc, files, "slot3")?;
+        Ok(Slots {
+            first,
+            second,
+            third,
+            fourth,
+        })
     }
 
     /// The slot of this number below 4. It knows which files the others have open.
     pub fn get(&mut self, slot: u8) -> &mut Slot<'a, R> {
-        let others = [
-            self.first.claim(),
-            self.second.claim(),
-            self.third.claim(),
-            self.fourth.claim(),
-        ];
-        let slot = self.slot(slot);
-        slot.others = others;
-        slot
-    }
-
-    fn slot(&mut self, slot: u8) -> &mut Slot<'a, R> {
-        match slot {
+        let claims = Claims {
+            first: self.first.kept.identity(),
+            second: self.second.kept.identity(),
+            third: self.third.kept.identity(),
+            fourth: self.fourth.kept.identity(),
+        };
+        let slot = match slot {
             0 => &mut self.first,
             1 => &mut self.second,
             2 => &mut self.third,
             _ => &mut self.fourth,
-        }
+        };
+        slot.claims = claims;
+        slot
     }
 }
 
-/// Which file a slot has open, none where it has none.
+/// Which files the slots have open.
 #[derive(Clone, Copy)]
-struct Claim {
-    name: &'static str,
-    file: Option<Identity>,
+struct Claims {
+    first: Option<Identity>,
+    second: Option<Identity>,
+    third: Option<Identity>,
+    fourth: Option<Identity>,
+}
+
+impl Claims {
+    // None is open.
+    fn none() -> Claims {
+        Claims {
+            first: None,
+            second: None,
+            third: None,
+            fourth: None,
+        }
+    }
+
+    // The slot that has this file open.
+    fn name_of(&self, file: Identity) -> Option<&'static str> {
+        let file = Some(file);
+        if self.first == file {
+            Some("slot0")
+        } else if self.second == file {
+            Some("slot1")
+        } else if self.third == file {
+            Some("slot2")
+        } else if self.fourth == file {
+            Some("slot3")
+        } else {
+            None
+        }
+    }
 }
 
 /// The file of a slot. A page is written up to its last byte that isn't zero, and over all that the file has of it. So
@@ -77,37 +109,30 @@ struct Claim {
 /// read nor written where it is another of the program's files.
 #[derive(Drop)]
 pub struct Slot<'a, R: Files> {
-    alloc: Global,
     files: &'a R,
     name: &'static str,
+    place: Place,
     kept: Kept<'a, R>,
     // The length that writes of pages gave it, none where it is that of its file.
     length: Option<u64>,
     // What all slots had open when this call began.
-    others: [Claim; 4],
+    claims: Claims,
 }
 
 impl<'a, R: Files> Slot<'a, R>
 where
     R::File: FileExt,
 {
-    fn new(alloc: Global, files: &'a R, name: &'static str) -> Slot<'a, R> {
-        Slot {
-            alloc,
+    fn new(alloc: Global, files: &'a R, name: &'static str) -> Result<Slot<'a, R>, Memory> {
+        let place = Place::of(alloc, files, name)?;
+        Ok(Slot {
             files,
             name,
+            place,
             kept: Kept::new(files, name),
             length: None,
-            others: [Claim { name, file: None }; 4],
-        }
-    }
-
-    // Which file it has open.
-    fn claim(&self) -> Claim {
-        Claim {
-            name: self.name,
-            file: self.kept.identity(),
-        }
+            claims: Claims::none(),
+        })
     }
 
     // Takes the file, looked at for the first page. None where it is absent.
@@ -126,7 +151,7 @@ where
     fn find_or_make(&mut self, page: u16) -> Result<Opened<R::File>, Reason> {
         match self.find(page)? {
             Some(opened) => Ok(opened),
-            None => self.alone(make_behind_links(self.alloc, self.files, self.name)?),
+            None => self.alone(self.place.make(self.files)?),
         }
     }
 
@@ -142,15 +167,13 @@ where
 
     // An error where another slot has the file open.
     fn refuse_claimed(&self, opened: &Opened<R::File>) -> Result<(), Reason> {
-        for claim in self.others {
-            if claim.name != self.name && claim.file == Some(opened.identity) {
-                return Err(Reason::Same {
-                    name: self.name,
-                    other: claim.name,
-                });
-            }
+        match self.claims.name_of(opened.identity) {
+            Some(other) if other != self.name => Err(Reason::Same {
+                name: self.name,
+                other,
+            }),
+            _ => Ok(()),
         }
-        Ok(())
     }
 
     /// How many bytes the slot has, none where its file is absent. What an earlier program wrote to it is on the disk
@@ -216,7 +239,7 @@ where
     fn settle(&mut self, mut opened: Opened<R::File>) -> Result<(), Reason> {
         opened.sync()?;
         if !opened.is_listed {
-            sync_name(self.alloc, self.files, self.name)?;
+            self.place.sync_name(self.files)?;
             opened.is_listed = true;
         }
         self.kept.keep(opened);

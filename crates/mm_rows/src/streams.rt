@@ -4,8 +4,8 @@
 ghost use Rattle.std.specs.Prelude.{None};
 
 use crate::run::{command, replay};
-use mm_app::{StdSink, StdSource};
 use mm_base::{Failed, MemSink, MemSource, Memory, Sink, Source};
+use mm_files::{StdSink, StdSource};
 use mm_platform::MemPlatform;
 use mm_store::MemStore;
 use std::alloc::Global;

@@ -27,7 +27,7 @@ pub fn sides_run_as_one()
 {}
 
 /// A schedule of both sides is told by digests as by lists, where no two messages of the run share a digest, no value of
-/// others is the guard of a batch, each right offer names a position of its side's history, and nonces and tickets are
+/// others is the guard of a batch, each right offer names a position of the one history, and nonces and tickets are
 /// fresh.
 pub fn both_sides_agree()
     ensures { PairsAgreeThroughout }

@@ -6,6 +6,7 @@ use std::alloc::Allocator;
 use std::fs::{File, Metadata, OpenFile, OpenOptions};
 use std::io::{self, ErrorKind, Read, Seek, SeekFrom, Write};
 use std::os::unix::fs::FileExt;
+use std::path::PathBuf;
 use std::rt::Files;
 
 /// The file system that the adapters see.
@@ -38,6 +39,11 @@ impl<'a> Files for Mount<'a> {
 
     fn symlink_metadata(&self, _path: &str) -> io::Result<Metadata> {
         Err(io::Error::from(ErrorKind::Unsupported))
+    }
+
+    fn read_link<B: Allocator>(&self, alloc: B, path: &str) -> io::Result<PathBuf<B>> {
+        self.0.meet("link", path)?;
+        self.0.read_link(alloc, path)
     }
 
     fn copy(&self, _from: &str, _to: &str) -> io::Result<u64> {
@@ -77,6 +83,11 @@ fn name_of(path: &str) -> &'static str {
         "slot1" => "slot1",
         "slot2" => "slot2",
         "slot3" => "slot3",
+        "other" => "other",
+        "other/slot0" => "other/slot0",
+        "other/slot1" => "other/slot1",
+        "other/slot2" => "other/slot2",
+        "other/slot3" => "other/slot3",
         _ => "another",
     }
 }

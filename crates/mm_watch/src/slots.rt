@@ -1,22 +1,28 @@
 //! Calls on the four slots, each with a slot and up to two numbers. `page S P N` writes page P with N bytes 7 in front,
 //! `byte S P I` reads byte I of page P, `length S`, `set S N` and `sync S` are the calls of these names, `fail K` lets
 //! the K-th call on files fail. Others let the file have N bytes 5 by `fill S N`, put another one of N in its place by
-//! `swap S N`, a device by `device S`, and nothing by `remove S`.
+//! `swap S N`, a device by `device S`, and nothing by `remove S`; a link to `other/slotS` by `link S`, where `behind S N` puts
+//! a file of N bytes; and by `same S T` and `second S T` a link to a file, and that file by another name: slot T below 4,
+//! `nv` for 4, `register` for 5, `register.new` for 6.
 
 use crate::line::{Asked, byte_in, done, read_line};
 use crate::mount::Mount;
-use mm_base::Failed;
+use mm_base::{Failed, Memory};
 use mm_files::FilePages;
 use mm_pages::PageDevice;
 use std::io;
 
 /// Plays these lines over the slots' files.
 pub fn keep_over(mount: &Mount<'_>, lines: &str) -> io::Result<()> {
-    let mut pages = FilePages::new(mount);
-    keep_lines(mount, &mut pages, lines)
+    mount.0.tell_asked("new")?;
+    match FilePages::new(mount.0.alloc(), mount) {
+        Ok(mut pages) => keep_lines(mount, &mut pages, lines),
+        Err(Memory) => mount.0.tell_answer(None),
+    }
 }
 
 fn keep_lines<D: PageDevice>(mount: &Mount<'_>, pages: &mut D, lines: &str) -> io::Result<()> {
+    mount.0.tell_answer(Some(0))?;
     for line in lines.lines() {
         mount.0.tell_asked(line)?;
         let answer = answer(mount, pages, &read_line(line));
@@ -81,15 +87,39 @@ fn meddle(mount: &Mount<'_>, asked: &Asked<'_>) -> Option<u64> {
         "swap" => done(mount.0.swap(name, asked.second)),
         "device" => done(mount.0.put_device(name)),
         "remove" => done(mount.0.remove(name)),
-        _ => Some(mount.0.fail_at(asked.first)),
+        "fail" => Some(mount.0.fail_at(asked.first)),
+        _ => link(mount, asked),
     }
 }
 
-fn name_of(slot: u16) -> &'static str {
-    match slot {
+// What others do by links.
+fn link(mount: &Mount<'_>, asked: &Asked<'_>) -> Option<u64> {
+    let name = name_of(asked.first);
+    match asked.word {
+        "link" => done(mount.0.put_link(name, name_behind(asked.first))),
+        "behind" => done(mount.0.put(name_behind(asked.first), asked.second)),
+        "second" => done(mount.0.put_second(name, name_of(asked.second))),
+        _ => done(mount.0.put_link(name, name_of(asked.second))),
+    }
+}
+
+fn name_of(number: u16) -> &'static str {
+    match number {
         0 => "slot0",
         1 => "slot1",
         2 => "slot2",
-        _ => "slot3",
+        3 => "slot3",
+        4 => "nv",
+        5 => "register",
+        _ => "register.new",
+    }
+}
+
+fn name_behind(slot: u16) -> &'static str {
+    match slot {
+        0 => "other/slot0",
+        1 => "other/slot1",
+        2 => "other/slot2",
+        _ => "other/slot3",
     }
 }

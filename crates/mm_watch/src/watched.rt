@@ -1,12 +1,16 @@
 //! A folder of its own, where the calls on files are told.
 
+use std::alloc::{Allocator, Global};
 use std::cell::Cell;
 use std::fs::{self, File, Metadata, OpenOptions};
 use std::io::{self, ErrorKind};
 use std::os::unix::fs::symlink;
+use std::path::PathBuf;
 use std::process;
+use std::rt::Files;
 
-/// A folder below `/tmp`. Each call on its files is written as it comes, and the one with a given number fails.
+/// A folder below `/tmp`, with a folder `other` in it. Each call on its files is written as it comes, and the one with a given
+/// number fails.
 #[derive(Drop)]
 pub struct Watched<'r> {
     rt: &'r HostRuntime,
@@ -33,7 +37,14 @@ impl<'r> Watched<'r> {
 
     fn make(&self) -> io::Result<()> {
         let path = self.path("")?;
-        fs::create_dir(self.rt, path.as_str())
+        fs::create_dir(self.rt, path.as_str())?;
+        let other = self.path("other")?;
+        fs::create_dir(self.rt, other.as_str())
+    }
+
+    /// Where the adapters' memory comes from.
+    pub fn alloc(&self) -> Global {
+        self.rt.alloc()
     }
 
     fn path(&self, name: &str) -> io::Result<String> {
@@ -105,6 +116,27 @@ impl<'r> Watched<'r> {
         self.remove(name)?;
         let path = self.path(name)?;
         symlink(self.rt, "/dev/null", path.as_str())
+    }
+
+    /// Puts a link to a file in another's place, whether it is there or not.
+    pub fn put_link(&self, name: &str, target: &str) -> io::Result<()> {
+        let path = self.path(name)?;
+        let _ = fs::remove_file(self.rt, path.as_str());
+        symlink(self.rt, target, path.as_str())
+    }
+
+    /// Gives a file a second name, in another's place.
+    pub fn put_second(&self, name: &str, file: &str) -> io::Result<()> {
+        let path = self.path(name)?;
+        let file = self.path(file)?;
+        let _ = fs::remove_file(self.rt, path.as_str());
+        fs::hard_link(self.rt, file.as_str(), path.as_str())
+    }
+
+    /// What a link says.
+    pub fn read_link<B: Allocator>(&self, alloc: B, name: &str) -> io::Result<PathBuf<B>> {
+        let path = self.path(name)?;
+        self.rt.read_link(alloc, path.as_str())
     }
 
     /// Opens a file of the folder.
