@@ -89,8 +89,8 @@ pair_by : (x : List ℕ) (ms : List (List ℕ)) (first second : ℕ) (found : Op
     → shared_with found (shared_in (message_digests ms)) ≡ Some (first, second) → IsPair (x ∷ ms) first second
 pair_by x ms first second (Some n) is later e =
     let f = found_first (λ m. bytes_eq (sha256 x) (sha256 m)) ms n is in
-    let same : (1, n + 1) ≡ (first, second) = cc in
-    let one : 1 ≡ first = ap (λ (q : ℕ × ℕ). q.0) same in
+    let same : ◌≡◌ {A = ℕ × ℕ} (1, n + 1) (first, second) = cc in
+    let one : ◌≡◌ {A = ℕ} 1 first = ap (λ (q : ℕ × ℕ). q.0) same in
     let two : n + 1 ≡ second = ap (λ (q : ℕ × ℕ). q.1) same in
     record {
       before = [];
@@ -259,15 +259,18 @@ module _ (i : Instance) (named : (y : History) (content : Content) → IsDecided
   -- the first event that isn't genuine, if there is one
   first_forged : (events : List Event) → (first : Option ℕ) × IsFirstForged i events first
   first_forged events = elim (genuine_or i named events first_history (first_issued i)) [
-    | inl f ↦ (Some (length f.before + 1), record {
-      before = f.before;
-      event = f.event;
-      after = f.later;
-      split = f.split;
-      place = refl;
-      genuine = f.genuine;
-      forged = λ genuine. event_apart i (expected i f.before).state (expected i f.before).issued f.event f.forged genuine;
-    })
+    | inl f ↦ (
+      Some (length f.before + 1),
+      record {
+        before = f.before;
+        event = f.event;
+        after = f.later;
+        split = f.split;
+        place = refl;
+        genuine = f.genuine;
+        forged = λ genuine. event_apart i (expected i f.before).state (expected i f.before).issued f.event f.forged genuine;
+      },
+    )
     | inr genuine ↦ (None, genuine)
   ]
 

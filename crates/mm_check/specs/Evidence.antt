@@ -1,5 +1,5 @@
--- What is told of the premises as evidence that one holds in hand, by the numbers of messages and of
--- events.
+-- What is told of the premises, as evidence that one holds in hand, by the numbers of messages and
+-- of events.
 use Rattle.std.specs.Prelude.{◌≡◌, ◌≢◌, ℕ, ◌+◌, List, ◌∷◌, ◌++◌, length, ◌⊎◌}
 use Rattle.std.specs.List.{Contains}
 use Rattle.mm_check.specs.Below.{sha256, zero_bytes, Opt, Batch, guard, Instance, Event, expected, foreign_of}

@@ -1,4 +1,5 @@
 -- A run meets the premises or gives evidence, and never both.
+use Rattle.mm_evidence.proofs.Below.{IsClear}
 use Rattle.mm_evidence.proofs.Below.{◌≡◌, ◌≢◌, ◌∙◌, ◌&&◌, ◌⊎◌, ◌++◌, ◌∷◌, ap, Bool, true, false, List, [], ℕ, Option, None, Some, inl, inr}
 use Rattle.mm_evidence.proofs.Below.{refl, sym, subst, Ok, not, Decides, Decides-and, Decides-not, Contains, bytes_eq, bytes_eq-Decides}
 use Rattle.mm_evidence.proofs.Below.{sha256, zero_bytes, Variant, Basic, Opt, parts_of, sealed_parts, Content, offered_of, tag_of, Batch}
@@ -51,7 +52,7 @@ zero_or ms = elim (found_or_none (λ m. bytes_eq (sha256 m) zero_bytes) ms) [
 
 -- the values of others
 
-guard_or : (barrier : List ℕ) (values : List (List ℕ)) (batches : List Batch)
+pub guard_or : (barrier : List ℕ) (values : List (List ℕ)) (batches : List Batch)
     → HasGuard barrier values batches ⊎ AreNoGuards barrier values batches
 guard_or barrier values batches = elim (pair_or_none (λ v b. bytes_eq v (guard barrier b)) values batches) [
   | inl f ↦ inl (record {
@@ -72,15 +73,19 @@ apart_or Opt i events = elim (guard_or i.barrier (foreign_values events) (asked_
   | inr none ↦ inr (λ is. none)
 ]
 
+pub messages_or : (ms : List (List ℕ)) → (HasCollision ms ⊎ HasZero ms) ⊎ IsClear ms
+messages_or ms = elim (collision_or ms) [
+  | inl c ↦ inl (inl c)
+  | inr apart ↦ elim (zero_or ms) [ inl z ↦ inl (inr z) | inr nonzero ↦ inr (record { apart = apart; nonzero = nonzero }) ]
+]
+
 clear_or : (i : Instance) (events : List Event) → HasEvidence i events ⊎ IsClearRun i events
-clear_or i events = elim (collision_or (run_messages i events)) [
-  | inl c ↦ inl (collision c)
-  | inr apart ↦ elim (zero_or (run_messages i events)) [
-    | inl z ↦ inl (zero_digest z)
-    | inr nonzero ↦ elim (apart_or i.variant i events) [
-      | inl g ↦ inl (guarded g.0 g.1)
-      | inr none ↦ inr (record { clear = record { apart = apart; nonzero = nonzero }; apart = none })
-    ]
+clear_or i events = elim (messages_or (run_messages i events)) [
+  | inl (inl c) ↦ inl (collision c)
+  | inl (inr z) ↦ inl (zero_digest z)
+  | inr clear ↦ elim (apart_or i.variant i events) [
+    | inl g ↦ inl (guarded g.0 g.1)
+    | inr none ↦ inr (record { clear = clear; apart = none })
   ]
 ]
 
@@ -109,7 +114,7 @@ module _ (i : Instance) (named : (y : History) (content : Content) → IsDecided
       by_name y bytes content (right_of i bytes (parts_of i.variant i.meaning.id bytes) refl content e) (is_named i y content)
       (named y content)
 
-  offer_or : (y : History) (offered : Option (List ℕ)) → IsForged i y offered ⊎ IsGenuineOffer i y offered
+  pub offer_or : (y : History) (offered : Option (List ℕ)) → IsForged i y offered ⊎ IsGenuineOffer i y offered
   offer_or y None = inr tt
   offer_or y (Some bytes) = by_content y bytes (right_content i bytes) refl
 
@@ -160,7 +165,7 @@ module _ (i : Instance) (named : (y : History) (content : Content) → IsDecided
 -- never both
 
 module _ (i : Instance) where
-  offer_apart : (y : History) (offered : Option (List ℕ)) → IsForged i y offered → IsGenuineOffer i y offered → ⊥
+  pub offer_apart : (y : History) (offered : Option (List ℕ)) → IsForged i y offered → IsGenuineOffer i y offered → ⊥
   offer_apart y offered f genuine =
       let at : IsGenuineOffer i y (Some f.bytes) = subst (IsGenuineOffer i y) f.offers genuine in f.unnamed (at f.content f.right)
 

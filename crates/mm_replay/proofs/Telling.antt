@@ -17,6 +17,8 @@ use Rattle.mm_run.specs.Folds.{event_outcome, first_digests, first_issued}
 use Rattle.mm_run.specs.Held.{world_key, world_barrier}
 use Rattle.mm_run.specs.OneRun.{IsOneRun, FrontsAreOneRun}
 use Rattle.mm_call.specs.Levels.{Level}
+use Rattle.mm_evidence.proofs.Above.{none_is_one, runs_until}
+use Rattle.mm_evidence.specs.Laws.{IsDecidedRun}
 use Rattle.mm_call.specs.Standing.{instance_by}
 use Rattle.mm_replay.specs.Text.{text_of_replies, texts_of}
 use Rattle.mm_replay.specs.Headline.{AreOneRun, IsByDigests, IsPromisedRun, replayed, Shown, shown_by_digests}
@@ -51,9 +53,15 @@ promised_run variant «module» key barrier events shown one = record {
       (subst (λ m. Runs m [] events shown.replies one.requests) (meaning_by variant (meaning_of «module») key barrier) one.runs);
 }
 
--- the law of whole runs gives the headline
-pub by_digests_so : FrontsRun → (header : Header) (events : List Event) → IsByDigests header events (shown_by_digests header)
-by_digests_so law header events = record {
+-- each run meets the premises or gives evidence
+abbrev pub RunsAreDecided : Type 0
+RunsAreDecided = (variant : Variant) (meaning : Meaning) (key barrier : List ℕ) (events : List Event)
+    → IsDecidedRun (instance_by variant meaning key barrier) events
+
+-- the laws of whole runs give the headline
+pub by_digests_so : FrontsRun → RunsAreDecided → (header : Header) (events : List Event)
+    → IsByDigests header events (shown_by_digests header)
+by_digests_so law decided header events = record {
   exact = λ front. refl;
   headline = record {
     each = one_each (world_of header) (by_digests (world_of header)) events (first_digests (world_of header)) (first_issued (world_of header));
@@ -64,6 +72,14 @@ by_digests_so law header events = record {
         first_replies front (replies_by_digests i events).replies it.replies
         (followed i (by_digests i) it.state it.issued later).replies (ap (λ (f : Followed Digests). f.replies) own.0)
         (one_each i (by_digests i) front (first_digests i) (first_issued i));
+    unless_evidence =
+        let i : Instance = world_of header in
+        let known = decided header.variant (meaning_of header.«module») world_key world_barrier in
+        runs_until i known events (λ front. IsPromisedRun header front (shown_by_digests header front))
+        (promised_run header [] (shown_by_digests header []) (none_is_one i known))
+        (λ front later is clear genuine.
+        let own = law header.variant (meaning_of header.«module») world_key world_barrier events front later is in
+        promised_run header front (shown_by_digests header front) (own.1 clear genuine));
     one_run = λ front later is clear genuine.
         let own = law header.variant (meaning_of header.«module») world_key world_barrier events front later is in
         promised_run header.variant header.«module» world_key world_barrier front (shown_by_digests header front) (own.1 clear genuine);

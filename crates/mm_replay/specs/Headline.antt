@@ -14,6 +14,7 @@ use Rattle.mm_schedule.specs.declared.reply.Reply.{Reply}
 use Rattle.mm_run.specs.Folds.{replies_by_digests}
 use Rattle.mm_run.specs.Held.{world_of}
 use Rattle.mm_run.specs.OneRun.{IsOneRun}
+use Rattle.mm_evidence.specs.Evidence.{RunsUntil}
 use Rattle.mm_run.specs.Premises.{IsClearRun, IsGenuineRun}
 use Rattle.mm_play.specs.Headed.{Begins}
 use Rattle.mm_play.specs.Headline.{EventPlayer}
@@ -47,13 +48,17 @@ pub record IsPromisedRun (i : Instance) («module» : AnyModule) (events : List 
   pub promised : Promises «module» run.requests shown.replies
 
 -- The headline. Each event has one reply, and the first events have the first ones. And each first
--- part of the events is one run, where no two different messages of it share a digest, no digest is
--- zero, no value that others extend the register by is the guard of a batch, and no tag is forged.
+-- part of the events is one run, up to the first event at which one holds evidence in hand: two
+-- different messages of the run with one digest, a message with digest zero, a value of others that
+-- is the guard of a batch, or an offer that is forged. So it is of each first part that meets the
+-- premises.
 pub record AreOneRun (header : Header) (events : List Event) (shown : List Event → Shown) : Type 0
   where
     pub each : length (shown events).replies ≡ length events
     pub first : (front later : List Event) → events ≡ front ++ later
         → (shown front).replies ≡ take (length front) (shown events).replies
+    pub unless_evidence : RunsUntil (world_of header) events
+        (λ front. IsPromisedRun header front (shown front))
     pub one_run : (front later : List Event) → events ≡ front ++ later
         → IsClearRun (world_of header) front → IsGenuineRun (world_of header) front
         → IsPromisedRun (world_of header) header.«module» front (shown front)

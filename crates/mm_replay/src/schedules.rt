@@ -10,6 +10,7 @@ use crate::heading::HeaderLine;
 use crate::replaying::Replaying;
 use crate::report::Report;
 use mm_base::{ReplayFault, Sink, Source};
+use mm_evidence::premises_or_evidence;
 use mm_play::{LinePlayer, play};
 use mm_run::fronts_are_one_run;
 use std::alloc::Global;
@@ -49,6 +50,7 @@ pub fn replay<S: Source, K: Sink>(
         → IsUnrefused result }
 {
     fronts_are_one_run();
+    premises_or_evidence();
     let mut player: LinePlayer<HeaderLine, Replaying> = LinePlayer::new(HeaderLine {});
     match play(alloc, &mut player, input, out) {
         Ok(()) => Ok(report_of(&player)),

@@ -16,3 +16,4 @@ mod BothAgree
 mod SideNames
 mod SideIssues
 mod OneMove
+mod Breaking
