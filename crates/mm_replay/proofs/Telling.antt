@@ -75,11 +75,12 @@ by_digests_so law decided header events = record {
     unless_evidence =
         let i : Instance = world_of header in
         let known = decided header.variant (meaning_of header.«module») world_key world_barrier in
-        runs_until i known events (λ front. IsPromisedRun header front (shown_by_digests header front))
-        (promised_run header [] (shown_by_digests header []) (none_is_one i known))
+        runs_until i known events (λ front. IsPromisedRun i header.«module» front (shown_by_digests header front))
+        (promised_run header.variant header.«module» world_key world_barrier [] (shown_by_digests header []) (none_is_one i known))
         (λ front later is clear genuine.
         let own = law header.variant (meaning_of header.«module») world_key world_barrier events front later is in
-        promised_run header front (shown_by_digests header front) (own.1 clear genuine));
+        promised_run header.variant header.«module» world_key world_barrier front (shown_by_digests header front)
+        (own.1 clear genuine));
     one_run = λ front later is clear genuine.
         let own = law header.variant (meaning_of header.«module») world_key world_barrier events front later is in
         promised_run header.variant header.«module» world_key world_barrier front (shown_by_digests header front) (own.1 clear genuine);

@@ -58,7 +58,7 @@ pub record AreOneRun (header : Header) (events : List Event) (shown : List Event
     pub first : (front later : List Event) → events ≡ front ++ later
         → (shown front).replies ≡ take (length front) (shown events).replies
     pub unless_evidence : RunsUntil (world_of header) events
-        (λ front. IsPromisedRun header front (shown front))
+        (λ front. IsPromisedRun (world_of header) header.«module» front (shown front))
     pub one_run : (front later : List Event) → events ≡ front ++ later
         → IsClearRun (world_of header) front → IsGenuineRun (world_of header) front
         → IsPromisedRun (world_of header) header.«module» front (shown front)
