@@ -37,6 +37,11 @@ use Rattle.mm_seal.specs.Cell.{IsCell, blank_cell, cell_spelling}
 use Rattle.mm_seal.specs.declared.cell.Cell.{Cell}
 use Rattle.mm_seal.specs.CellLaws.{reads_cell-same}
 use Rattle.mm_store.specs.declared.fault.StoreFault.{StoreFault}
+use Rattle.mm_app.proofs.Below.{Bulk, bulk_told, BulkFault, Summary}
+use Rattle.mm_app.specs.Completeness.{IsReplayable}
+use Rattle.mm_gen.specs.Replayed.{IsReplayed, replay_of}
+use Rattle.mm_gen.specs.declared.fault.BulkFault.TheVariants as bulk
+use Rattle.mm_words.specs.declared.command.Generated.{Generated}
 use Rattle.mm_app.proofs.Blame.{end_of}
 
 -- what was told
@@ -54,6 +59,13 @@ told_ends (Err end) received received' writes writes' status t h = subst IsDoneO
 power_ends : (fault : Option StepFault) → IsDoneOrFailed (end_of (power_told fault))
 power_ends fault = grind arith
 
+-- `bulk`
+
+bulk_ends : (it : Generated) (answer : Result Summary BulkFault) → IsReplayable it → IsReplayed (replay_of it.number it.count it.header) answer
+    → IsDoneOrFailed (end_of (bulk_told it.count answer))
+bulk_ends it (Err bulk.TooMuch) can r = let clash : Ok can.0 ≡ Err replay.TooMuch = sym can.1 ∙ r in absurd (cc)
+bulk_ends it _ can r = tt
+
 -- `init`: with 64 bytes the source isn't too short
 
 long_enough : (secrets taken : List ℕ) (left : Option (List ℕ)) → 64 ≤ length secrets → Consumes (Some secrets) left taken
@@ -64,7 +76,7 @@ long_enough secrets taken (Some rest) many c ended few =
     let none : length rest ≡ 0 = ap length (ended few) in
     absurd (omega arith)
 
-abbrev Shorts : Result (Unit {0}) InitFault → ℕ → Type 0
+abbrev pub Shorts : Result (Unit {0}) InitFault → ℕ → Type 0
 Shorts result got = result ≡ Err (init.Short got)
 
 written_whole : (written : Result (Unit {0}) StepFault) (result : Result (Unit {0}) InitFault) (got : ℕ) → result ≡ written_as written
@@ -80,7 +92,7 @@ put_whole : (cell : List ℕ) (before after : Standing) (stored : Result (Unit {
 put_whole cell before after (Ok done) result got a s = written_whole a.written result got a.gives s
 put_whole cell before after (Err why) result got a s = unstored_whole why result got a.1 s
 
-set_whole : (i : Instance) (before after : Standing) (old new : StoreStanding) (result : Result (Unit {0}) InitFault) (got : ℕ)
+pub set_whole : (i : Instance) (before after : Standing) (old new : StoreStanding) (result : Result (Unit {0}) InitFault) (got : ℕ)
     → SetsUp i before after old new result → Shorts result got → ⊥
 set_whole i before after old new result got up s = elim up [
   | inl none ↦ let e = none.2 in cc
@@ -143,7 +155,7 @@ is_open : (flag : Bool) (held cell : Cell) → (let r : Result Segment Checkpoin
 is_open flag held cell e = grind arith
 
 -- what is found in the register
-is_zero : (zero : Bool) (cell : Cell) (register : List ℕ) (why : CheckpointRefusal)
+pub is_zero : (zero : Bool) (cell : Cell) (register : List ℕ) (why : CheckpointRefusal)
     → (let r : Result (List ℕ) CheckpointRefusal = Err why in r ≡ closing_by zero cell register) → (zero ≡ true) × (why ≡ refusal.Lost)
 is_zero zero cell register why e = grind arith
 
@@ -255,6 +267,9 @@ does_end Run old new status can d = found_ends old new status d.middle d.looks.f
 does_end Checkpoint old new status can d =
     told_ends (checkpoint_told d.answer) old.received new.received old.writes new.writes status d.tells
     (closing_ends old new d.answer can d.closes)
+does_end (Bulk it) old new status can d =
+    told_ends (bulk_told it.count d.1.answer) old.received new.received old.writes new.writes status d.1.tells
+    (bulk_ends it d.1.answer can d.1.replayed)
 does_end Power old new status can d =
     told_ends (power_told d.fault) old.received new.received old.writes new.writes status d.tells (power_ends d.fault)
 does_end (Gen it) old new status can d = written_ends d.given.result status d.given.ends

@@ -5,9 +5,14 @@ mod Completing
 mod Ended
 mod Ending
 mod Fronts
-mod OneRun
 mod Played
+mod Headlines
 mod Sending
 mod Stopping
 mod Theorems
 mod RunningOnce
+mod Holding
+mod HoldingStart
+mod HoldingClosing
+mod HoldingRun
+mod HoldingAll

@@ -1,21 +1,20 @@
 -- The theorems of the commands `replay`, `slots` and `transfer`, by what the command did.
-use Rattle.mm_app.proofs.Below.{refl, inl, inr, Replay, Slots, Transfer, DoesOrLacks, Outside, Status, header_at, AnswersAll, AnswersLines, IsTooMuch}
+use Rattle.mm_app.proofs.Below.{refl, inl, inr, Replay, Slots, Transfer, DoesOrLacks, Outside, Status}
 use Rattle.mm_slots.specs.Headline as slots
 use Rattle.mm_transfer.specs.Headline as transfer
 use Rattle.mm_app.specs.Headline.{ReplaysOneRun}
 use Rattle.mm_app.specs.Slots.{InterleavesRuns}
 use Rattle.mm_app.specs.Transfer.{MovesOneRun}
-use Rattle.mm_app.proofs.OneRun.{replays_one_run}
+use Rattle.mm_replay.specs.Headline.{AreOneRun, IsByDigests, replayed}
+use Rattle.mm_app.proofs.Headlines.{lacked_by, told_by}
 use Rattle.mm_app.proofs.Played.{answers_input, ended_input}
 
 pub headline_of : (old new : Outside) (status : Status) → DoesOrLacks Replay old new status
     → ReplaysOneRun old.left new.left old.received new.received status
 headline_of old new status (inl does) =
-    replays_one_run (answers_input (AnswersLines header_at) (AnswersAll header_at) (IsTooMuch header_at)
-    (λ lines written told. (told.first, told.others, told.split)) does.played.plays does.played.ends does.stops.sends)
+    told_by replayed IsByDigests AreOneRun (λ header events shown it. it.headline) does.played.plays.tells does.played.ends does.stops.sends
 headline_of old new status (inr lacks) =
-    replays_one_run
-    (ended_input (AnswersLines header_at) (AnswersAll header_at) (IsTooMuch header_at) (inl (refl, refl)) old new status lacks)
+    lacked_by replayed IsByDigests AreOneRun (λ header events shown it. it.headline) old new status lacks
 
 pub interleaved_by : (old new : Outside) (status : Status) → DoesOrLacks Slots old new status
     → InterleavesRuns old.left new.left old.received new.received status

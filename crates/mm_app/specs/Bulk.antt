@@ -8,7 +8,7 @@ use Rattle.mm_gen.specs.Summaries.{bulk_text}
 use Rattle.mm_gen.specs.declared.fault.BulkFault.{BulkFault}
 use Rattle.mm_gen.specs.declared.fault.BulkFault.TheVariants as fault
 use Rattle.mm_gen.specs.declared.summary.Summary.{Summary}
-use Rattle.mm_replay.specs.Schedule.{begun}
+use Rattle.mm_replay.specs.Schedule.{first_running}
 use Rattle.mm_words.specs.declared.command.Generated.{Generated}
 use Rattle.mm_app.specs.Telling.{Tells}
 use Rattle.mm_app.specs.declared.status.Status.{Status}
@@ -26,7 +26,7 @@ pub record RunsInBulk (it : Generated) (received received' : Option (List ℕ)) 
     (status : Status) : Type 0 where
   pub answer : Result Summary BulkFault
   pub sums : IfOk answer (SumsUp it.header (schedule_lines it.number it.count it.header))
-  pub limit : IsLimited (is_over (begun it.header) (schedule_lines it.number it.count it.header))
+  pub limit : IsLimited (is_over (first_running it.header) (schedule_lines it.number it.count it.header))
       answer
   pub replayed : IsReplayed (replay_of it.number it.count it.header) answer
   pub tells : Tells (bulk_told it.count answer) received received' writes writes' status

@@ -63,6 +63,10 @@ DoesOrLacks command old new status = Does command old new status ⊎ EndsAtOnce 
 abbrev pub SpellNo : (Command → Type 0) → List (List ℕ) → Type 0
 SpellNo Is words = (command : Command) → Is command → SpellsCommand command words → ⊥
 
+-- they spell such a one
+abbrev pub SpellSome : (Command → Type 0) → List (List ℕ) → Type 0
+SpellSome Is words = (command : Command) × Is command × SpellsCommand command words
+
 -- they spell none at all
 abbrev pub SpellNone : List (List ℕ) → Type 0
 SpellNone words = (command : Command) → SpellsCommand command words → ⊥

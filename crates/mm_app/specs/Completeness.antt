@@ -4,6 +4,7 @@ use Rattle.mm_base.specs.Input.{lines_of}
 use Rattle.mm_check.specs.Checking as checked
 use Rattle.mm_digest.specs.Messages.{zero_bytes}
 use Rattle.mm_digest.specs.declared.variant.Variant.TheVariants.{Opt}
+use Rattle.mm_gen.specs.Replayed.{replay_of}
 use Rattle.mm_host.specs.Continuing.{CanServe}
 use Rattle.mm_host.specs.SessionLines.{AreWithin}
 use Rattle.mm_module.specs.Batch.{Batch}
@@ -23,7 +24,8 @@ use Rattle.mm_slots.specs.Stage as slotted
 use Rattle.mm_store.specs.Slots as kept
 use Rattle.mm_transfer.specs.Stage as moved
 use Rattle.mm_words.specs.declared.command.Command.{Command}
-use Rattle.mm_words.specs.declared.command.Command.TheVariants.{Init, Run, Checkpoint, Power, Gen, Help, Replay, Check, Slots, Receipts, Transfer}
+use Rattle.mm_words.specs.declared.command.Generated.{Generated}
+use Rattle.mm_words.specs.declared.command.Command.TheVariants.{Init, Run, Checkpoint, Power, Gen, Bulk, Help, Replay, Check, Slots, Receipts, Transfer}
 use Rattle.mm_app.specs.Outside.{Outside}
 use Rattle.mm_app.specs.declared.status.Status.{Status}
 use Rattle.mm_app.specs.declared.status.Status.TheVariants.{Done, ReadFault, WriteFault, Memory, PlatformFault, StoreFault}
@@ -76,6 +78,11 @@ pub record CanRun (old : Outside) : Type 0 where
   pub serves : CanServe all others asked (basic (meaning_of it) key) y slots old.standing old.kept
       (lines_of input)
 
+-- For a run in bulk: the replay of the text that its number makes comes to its end.
+abbrev pub IsReplayable : Generated → Type 0
+IsReplayable it =
+    (next : replayed.ReplayStage) × ((replay_of it.number it.count it.header).outcome ≡ Ok next)
+
 -- What is asked, by the command. Of those that play lines see below.
 abbrev pub CanBeDone : Command → (old new : Outside) → Type 0
 CanBeDone (Init header) old new = CanStart old
@@ -83,6 +90,7 @@ CanBeDone Run old new = CanRun old
 CanBeDone Checkpoint old new = CanClose old new
 CanBeDone Power old new = Unit {0}
 CanBeDone (Gen it) old new = Unit {0}
+CanBeDone (Bulk it) old new = IsReplayable it
 CanBeDone Help old new = Unit {0}
 CanBeDone _ old new = ⊥
 
@@ -95,8 +103,7 @@ AnswersToEnd {P} answer closing first left = (bytes : List ℕ) × (next : P) ×
 -- The input of a command that plays lines is within the grammar and the limits.
 abbrev pub CanBeAnswered : Command → (left : Option (List ℕ)) → Type 0
 CanBeAnswered Replay left =
-    AnswersToEnd (replayed.schedule_answer header_at) replayed.schedule_closing replayed.AtHeader
-    left
+    AnswersToEnd replayed.schedule_answer replayed.schedule_closing replayed.at_header left
 CanBeAnswered Check left =
     AnswersToEnd (checked.check_answer header_at) checked.check_closing checked.AtHeader left
 CanBeAnswered Slots left =

@@ -5,6 +5,7 @@ pub mod Checkpoint
 pub mod Commands
 pub mod Completeness
 pub mod Headline
+pub mod Holding
 pub mod Outside
 pub mod Played
 pub mod Power

@@ -9,6 +9,7 @@ ghost use Rattle.mm_app.specs.Blame.{BlamesOutput, BlamesSource, tells_platform_
 ghost use Rattle.mm_app.specs.Commands.{DoesOrLacks, ReadsInput, SpellNo, SpellNone, TakesEntropy, UsesPlatform, UsesStore};
 ghost use Rattle.mm_app.specs.Completeness.{CanBeAnswered, CanBeDone, IsDoneOrFailed};
 ghost use Rattle.mm_app.specs.Headline.{ReplaysOneRun};
+ghost use Rattle.mm_app.specs.Holding.{TellsAlready, TellsBlank, TellsCell, TellsKind, TellsLost, TellsMuch, TellsRefusal, TellsShort};
 ghost use Rattle.mm_app.specs.Outside.{outside};
 ghost use Rattle.mm_app.specs.Slots.{InterleavesRuns};
 ghost use Rattle.mm_app.specs.Status.{EndsUnrefused};
@@ -141,6 +142,20 @@ pub fn memoir<P: Platform, T: Store, S: Source, E: Source, K: Sink>(
     ensures none { SpellNone (map (λ s. s.now) words.now)
         → IsRefused (K.received out.old) (K.received out.new) (K.faults out.old) (K.faults out.new)
         result }
+
+    // What a device held is told exactly where it held that, but for want of memory and faults: of the platform's cell,
+    // of the entropy, of the register, of what the store offers.
+    ensures blank { TellsBlank (map (λ s. s.now) words.now) (P.standing platform.old) result }
+    ensures already { TellsAlready (map (λ s. s.now) words.now) (P.standing platform.old) result }
+    ensures cell { TellsCell (map (λ s. s.now) words.now) (P.standing platform.old) result }
+    ensures kind { TellsKind (map (λ s. s.now) words.now) (P.standing platform.old) result }
+    ensures short { TellsShort (map (λ s. s.now) words.now) (P.standing platform.old)
+        (E.left entropy.old) result }
+    ensures lost { TellsLost (map (λ s. s.now) words.now) (P.standing platform.old)
+        (P.standing platform.new) result }
+    ensures refused { TellsRefusal (map (λ s. s.now) words.now) (P.standing platform.old)
+        (P.standing platform.new) (T.kept store.old) (S.left input.old) result }
+    ensures much { TellsMuch (map (λ s. s.now) words.now) result }
 
     // A command leaves the objects that it doesn't use as they were.
     ensures platform { SpellNo UsesPlatform (map (λ s. s.now) words.now)

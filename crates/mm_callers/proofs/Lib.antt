@@ -1,3 +1,4 @@
+pub mod Above
 mod Below
 mod Leaving
 mod BasicCalls

@@ -36,6 +36,7 @@ pub use Rattle.mm_model.specs.Messages.{AreNoGuards, IsClear, form_messages, mov
 pub use Rattle.mm_model.specs.MessagesWords.{move_messages}
 pub use Rattle.mm_call.specs.Asked.{moves_messages, right_messages}
 pub use Rattle.mm_call.specs.Levels.{by_digests, by_lists, all_made}
+pub use Rattle.mm_call.specs.Standing.{instance_by}
 pub use Rattle.mm_schedule.specs.Events.{Event, event_of, Ask, Checkpoint, meddles_of}
 pub use Rattle.mm_schedule.specs.Replies.{end_line, lines_of_reply, told_lines}
 pub use Rattle.mm_schedule.specs.declared.event.Event.{Event as CodeEvent}
@@ -48,9 +49,10 @@ pub use Rattle.mm_run.specs.Premises.{AreGenuine, batches_of, event_messages, fo
 pub use Rattle.mm_run.specs.Premises.{messages_from, moves_of}
 pub use Rattle.mm_run.specs.Premises.{AreApart, asked_batches, foreign_values, run_messages, ask_moves, asking_messages}
 pub use Rattle.mm_run.proofs.Above.{goes_on, in_any_way, short_size}
+pub use Rattle.mm_evidence.proofs.Above.{any_in, any_some, event_apart, event_or, genuine_or, names_by}
 pub use Rattle.mm_expect.specs.Numbered.{messages_if, messages_where, numbered_event}
 pub use Rattle.mm_play.proofs.Above.{for_whole, not_ok, ok_same, outcome_of, plays_err, plays_ok}
-pub use Rattle.mm_replay.specs.Schedule.{after_event, is_too_much, replaying, Running, running_outcome}
+pub use Rattle.mm_replay.specs.Schedule.{after_event, is_too_much, replay_stage, Running, running_outcome, stage_of}
 pub use Rattle.mm_check.specs.Checking.{after_compared, AtHeader, check_answer, check_closing, CheckStage, Compared, first_compared}
 pub use Rattle.mm_check.specs.Checking.{first_read, headed, InEvents, InReplies, is_line, Read, read_line, with_event}
 pub use Rattle.mm_check.specs.Deciding.{IsFirstForged, premise_by, StandsBehind}
@@ -59,6 +61,7 @@ pub use Rattle.mm_check.specs.Listing.{both_more, first_then, first_where, is_ze
 pub use Rattle.mm_check.specs.Listing.{zero_in}
 pub use Rattle.mm_check.specs.Lists.{CountsDigests, has_message, Lists, pair_of}
 pub use Rattle.mm_check.specs.Numbering.{Decides, expected_lines, is_secured, IsForgedAt, lines_of_all, numbered, numbered_from, secured_in}
+pub use Rattle.mm_check.specs.Numbering.{PremiseIsFixed}
 pub use Rattle.mm_check.specs.Verdicts.{agreement_of, AreVerdicts, AreVerdictsOn, Concludes, difference_from, end_difference}
 pub use Rattle.mm_check.specs.Verdicts.{first_difference, is_found, run_lines, RunsBehind}
 pub use Rattle.mm_check.specs.declared.verdicts.Premise.{Premise}

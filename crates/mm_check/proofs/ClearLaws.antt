@@ -16,12 +16,13 @@ use Rattle.std.proofs.lemmas.List.Elements.{All-contains, All-from_recursion}
 use Rattle.std.proofs.lemmas.List.Folds.{Any-from_list_any}
 use Rattle.std.proofs.lemmas.Map.Keys.{IsDistinct-head, IsDistinct-push, IsDistinct-tail}
 use Rattle.std.proofs.lemmas.Map.Views.{Contains-from_any}
+use Rattle.mm_check.proofs.Below.{any_in, any_some}
 use Rattle.mm_check.proofs.SetLaws.{or_swap}
 
 none_in : (m : List ℕ) → Contains [] m → ⊥
 none_in m h = let few = h.1 in absurd (omega arith)
 
-first_in : {A : Type 0} (x : A) (xs : List A) → Contains (x ∷ xs) x
+pub first_in : {A : Type 0} (x : A) (xs : List A) → Contains (x ∷ xs) x
 first_in x xs = Contains-append_left (x ∷ []) xs x (Contains-push [] x)
 
 -- an element is the first or among the others
@@ -31,15 +32,7 @@ cons_cases x xs m h = elim (Contains-append_cases (x ∷ []) xs m h) [
   | inr b ↦ inr b
 ]
 
--- a list passes a test where an element does
-
-any_in : {A : Type 0} (p : A → Bool) (xs : List A) (x : A) → Contains xs x → p x ≡ true → list_any p xs ≡ true
-any_in p xs x h e = list_any_at p xs h.0 x h.1 (ap p h.2 ∙ e)
-
-any_some : {A : Type 0} (p : A → Bool) (xs : List A) → list_any p xs ≡ true → (x : A) × Contains xs x × (p x ≡ true)
-any_some p xs h = let f = Any-from_list_any p xs h in (f.1, (f.0, f.2, f.3), f.4)
-
-any_map : {A B : Type 0} (p : B → Bool) (f : A → B) (xs : List A) → list_any p (map f xs) ≡ list_any (λ x. p (f x)) xs
+pub any_map : {A B : Type 0} (p : B → Bool) (f : A → B) (xs : List A) → list_any p (map f xs) ≡ list_any (λ x. p (f x)) xs
 any_map p f [] = refl
 any_map p f (x ∷ xs) = ap (λ (b : Bool). p (f x) || b) (any_map p f xs)
 
@@ -122,7 +115,7 @@ listed_once : (seen : List (List ℕ)) (x : List ℕ) (has : Bool) → list_any 
 listed_once seen x true e once = once
 listed_once seen x false e once = IsDistinct-push nat_list_eq_equiv seen x once e
 
-all_once : (ms seen : List (List ℕ)) → IsDistinct bytes_eq seen → IsDistinct bytes_eq (fold listed seen ms)
+pub all_once : (ms seen : List (List ℕ)) → IsDistinct bytes_eq seen → IsDistinct bytes_eq (fold listed seen ms)
 all_once [] seen once = once
 all_once (x ∷ ms) seen once = all_once ms (listed seen x) (listed_once seen x (list_any (bytes_eq x) seen) refl once)
 
@@ -141,7 +134,7 @@ clear_none (x ∷ ms) once clear =
 abbrev Same : List (List ℕ) → List (List ℕ) → Type 0
 Same xs ys = (m : List ℕ) → list_any (bytes_eq m) xs ≡ list_any (bytes_eq m) ys
 
-same_in : (xs ys : List (List ℕ)) → Same xs ys → (m : List ℕ) → Contains xs m → Contains ys m
+pub same_in : (xs ys : List (List ℕ)) → Same xs ys → (m : List ℕ) → Contains xs m → Contains ys m
 same_in xs ys same m h =
     Contains-from_any (λ a b. (bytes_eq-Decides a b).0) m ys (sym (same m) ∙ any_in (bytes_eq m) xs m h (same_digest m m refl))
 
@@ -205,7 +198,7 @@ events_same i (event ∷ events) y issued m =
     (same_append asks asks (messages_where false i y moves ++ messages_where true i y moves) (moves_messages i y moves) (λ n. refl)
     (moves_same i moves y)) (events_same i events o.state o.issued) m
 
-run_same : (i : Instance) (events : List Event) → Same (numbered i events) (run_messages i events)
+pub run_same : (i : Instance) (events : List Event) → Same (numbered i events) (run_messages i events)
 run_same i events m =
     let start = start_message i.variant i.meaning.id in
     all_same (numbered_from i first_history (first_issued i) events) (start ∷ []) m

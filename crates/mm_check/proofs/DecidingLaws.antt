@@ -108,7 +108,7 @@ secured_told : (variant : Variant) (i : Instance) (es : List Event) (n : ℕ) �
 secured_told Basic i es n is = absurd (cc)
 secured_told Opt i es n is = (refl, is)
 
-decided_by : (i : Instance) (es : List Event) (pair : Option (ℕ × ℕ)) (zero secured forged : Option ℕ)
+pub decided_by : (i : Instance) (es : List Event) (pair : Option (ℕ × ℕ)) (zero secured forged : Option ℕ)
     → pair ≡ shared_in (message_digests (numbered i es)) → zero ≡ zero_in (message_digests (numbered i es))
     → secured ≡ secured_by i.variant i.barrier es → IsFirstForged i es forged → Decides i es (premise_by pair zero secured forged)
 decided_by i es (Some pair) zero secured forged p z s f = sym p

@@ -5,6 +5,7 @@ mod GuardLaws
 mod ClearLaws
 mod FewLaws
 mod DecidingLaws
+mod EvidenceLaws
 mod ComparingLaws
 mod CheckingLaws
 mod RunLaws

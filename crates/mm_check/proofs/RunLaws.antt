@@ -2,11 +2,12 @@
 use Rattle.mm_check.proofs.Below.{◌≡◌, ◌∙◌, ℕ, false, List, [], ◌∷◌, ◌++◌, sym, ap, subst, arith, append-nil, length-append}
 use Rattle.mm_check.proofs.Below.{flat_map-append, map-append, Header, CodeEvent, Event, event_of, lines_of_reply, Reply, by_digests}
 use Rattle.mm_check.proofs.Below.{Outcome, Followed, event_outcome, first_issued, first_digests, replies_by_digests, world_of, goes_on}
-use Rattle.mm_check.proofs.Below.{Running, is_too_much, replaying, running_outcome, after_event, events_of, lines_of_all, RunsBehind, ◌<◌}
+use Rattle.mm_check.proofs.Below.{Running, is_too_much, replay_stage, stage_of, running_outcome, after_event, events_of, lines_of_all, RunsBehind, ◌<◌}
 use Rattle.mm_check.proofs.Below.{length, expected_lines, followed, Instance}
 use Rattle.mm_model.specs.Moves.{Digests}
 use Rattle.mm_call.specs.Levels.{Level}
-use Rattle.mm_play.specs.Counting.{few_events}
+use Rattle.mm_play.specs.Stage.{running}
+use Rattle.mm_play.specs.StageLaws.{few_left}
 use Rattle.mm_check.proofs.FewLaws.{expected_few}
 
 outcome_same : (header : Header) (r : Running) (f : Followed Digests) (event : Event) → r.header ≡ header → r.digests ≡ f.state
@@ -45,7 +46,7 @@ is_run_next header {r} events {longer} {told} {more} line event h room said is g
       lines = lines ∙ (λ j. h.lines j ++ lines_of_reply ((said ∙ ap (λ (x : Outcome Digests). x.reply) same) j))
           ∙ sym (lines-push i (by_digests i) (first_digests i) (first_issued i) (events_of events) e);
       count = omega (arith, h.count, length-append (events_of events) (e ∷ []));
-      few = omega (arith, few_events replaying r line room);
+      few = omega (arith, few_left replay_stage (running (stage_of r) r.read) line room);
     } in
     subst (λ (x : Running). RunsBehind header x (events_of longer) more) (sym is)
     (subst (λ (es : List Event). RunsBehind header (after_event r line e) es more) (sym all) behind)

@@ -9,6 +9,7 @@ pub use Rattle.mm_digest.specs.declared.digest.Digest.{Digest}
 pub use Rattle.mm_digest.specs.declared.variant.Variant.{Variant}
 pub use Rattle.mm_digest.specs.declared.variant.Variant.TheVariants.{Basic, Opt}
 pub use Rattle.mm_module.specs.Batch.{Batch, normal}
+pub use Rattle.mm_model.specs.Chains.{guard}
 pub use Rattle.mm_model.specs.ChainsWords.{own_values}
 pub use Rattle.mm_model.specs.History.{History, first_history, total_of}
 pub use Rattle.mm_model.specs.Instance.{Instance}
@@ -25,9 +26,11 @@ pub use Rattle.mm_schedule.specs.declared.reply.Reply.{Reply}
 pub use Rattle.mm_run.specs.Folds.{Followed, event_outcome, expected, first_issued, replies_by_digests}
 pub use Rattle.mm_run.specs.Held.{world_of}
 pub use Rattle.mm_run.specs.Premises.{IsClearRun, IsGenuineEvent, IsGenuineRun, foreign_of, asked_batches, run_messages}
+pub use Rattle.mm_evidence.specs.Evidence.{event_offer, HasEvidence, IsForged}
 pub use Rattle.mm_expect.specs.Numbered.{numbered_event}
 pub use Rattle.mm_expect.specs.Traced.{IsAfter}
-pub use Rattle.mm_replay.specs.Schedule.{Running, after_event, begun, most_kept, running_outcome}
+pub use Rattle.mm_play.specs.Kept.{most_kept}
+pub use Rattle.mm_replay.specs.Schedule.{Running, after_event, first_running, running_outcome}
 pub use Rattle.mm_play.specs.Counting.{Taken, begins_fewer, few_events, no_answer, same_answer, taken}
 pub use Rattle.mm_play.specs.Events.{EventPlayer, event_answer, header_answer}
 pub use Rattle.mm_play.specs.Play.{Told, run, run_of}

@@ -4,7 +4,7 @@ use Rattle.std.specs.Prelude.{ℕ, ◌+◌, ◌-◌, Bool, false, nat_le, not, L
 use Rattle.std.specs.Prelude.{Err, if◌then◌else◌}
 use Rattle.std.specs.List.{slice_get, sum_by}
 use Rattle.std.specs.Str.{bytes_eq}
-use Rattle.mm_check.specs.Below.{most_events, Event, event_at, lines_of_reply, Header, world_of, Running, begun, most_kept, running_outcome}
+use Rattle.mm_check.specs.Below.{most_events, Event, event_at, lines_of_reply, Header, world_of, Running, first_running, most_kept, running_outcome}
 use Rattle.mm_check.specs.Below.{after_event, EventPlayer, event_answer, header_answer, Refused, Much}
 use Rattle.mm_check.specs.Listing.{first_then}
 use Rattle.mm_check.specs.Numbering.{expected_lines}
@@ -26,7 +26,7 @@ pub record Read : Type 0 where
   pub told : List (List ℕ)
 
 abbrev pub first_read : Header → Read
-first_read header = record { header = header; running = begun header; events = []; told = [] }
+first_read header = record { header = header; running = first_running header; events = []; told = [] }
 
 abbrev pub with_event : Read → List ℕ → Event → Read
 with_event r line event = record {

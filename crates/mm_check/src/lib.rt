@@ -18,5 +18,5 @@ mod texts;
 mod verdicts;
 
 pub use checking::check;
-pub use laws::premise_is_fixed;
+pub use laws::{premise_is_evidence, premise_is_fixed};
 pub use verdicts::{Agreement, Premise, Verdicts};

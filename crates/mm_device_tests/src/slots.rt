@@ -1,32 +1,27 @@
-//! A platform with slots, of what no clause says: that memory suffices.
+//! A platform with several slots finds memory for others' values, and for one's own.
 
-use mm_base::Memory;
-use mm_digest::{Digest, extended, zero};
+ghost use Rattle.std.specs.Prelude.{◌<◌, length};
+
+use mm_base::CELL_LENGTH;
+use mm_digest::Digest;
 use mm_platform::Register;
 use mm_slots::SlotPlatform;
-use std::alloc::Global;
 use std::test::Fail;
 
-const VALUE: Digest = Digest { bytes: [7; 32] };
-
-// A platform with two slots, both blank.
-fn two_slots(alloc: Global) -> Result<SlotPlatform, Memory> {
-    SlotPlatform::new(alloc, &[[0; 104], [0; 104]])
-}
-
-// Whether others extend the register of slot 1, room is made in it, and slot 0 stays as it was.
-fn is_extended(platform: &mut SlotPlatform) -> Result<bool, Memory> {
-    platform.foreign(1, &VALUE)?;
-    let first = platform.reg_read();
-    platform.select(1);
+// The slot with this number is selected; others extend its register, and then it does itself.
+fn extend_twice(platform: &mut SlotPlatform, slot: usize, value: &Digest) -> Result<(), Fail>
+    requires { slot < length platform.old.slots }
+{
+    platform.select(slot);
+    platform.foreign(slot, value)?;
     platform.reg_ready()?;
-    let second = platform.reg_read();
-    Ok(first == Ok(zero()) && second == Ok(extended(&zero(), &VALUE)))
+    platform.reg_extend(value)?;
+    Ok(())
 }
 
 #[test]
-fn others_extend_a_slot_and_room_is_made_in_it(rt: HostRuntime) -> Result<(), Fail> {
-    let mut platform = two_slots(rt.alloc())?;
-    assert!(&rt; is_extended(&mut platform)?);
-    Ok(())
+fn a_slot_is_extended_by_others_and_by_itself(rt: HostRuntime) -> Result<(), Fail> {
+    let cells = [[0; CELL_LENGTH], [1; CELL_LENGTH]];
+    let mut platform = SlotPlatform::new(rt.alloc(), &cells)?;
+    extend_twice(&mut platform, 1, &Digest { bytes: [7; 32] })
 }

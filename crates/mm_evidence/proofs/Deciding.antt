@@ -1,4 +1,5 @@
 -- A run meets the premises or gives evidence, and never both.
+use Rattle.mm_evidence.proofs.Below.{IsClear}
 use Rattle.mm_evidence.proofs.Below.{◌≡◌, ◌≢◌, ◌∙◌, ◌&&◌, ◌⊎◌, ◌++◌, ◌∷◌, ap, Bool, true, false, List, [], ℕ, Option, None, Some, inl, inr}
 use Rattle.mm_evidence.proofs.Below.{refl, sym, subst, Ok, not, Decides, Decides-and, Decides-not, Contains, bytes_eq, bytes_eq-Decides}
 use Rattle.mm_evidence.proofs.Below.{sha256, zero_bytes, Variant, Basic, Opt, parts_of, sealed_parts, Content, offered_of, tag_of, Batch}
@@ -51,7 +52,7 @@ zero_or ms = elim (found_or_none (λ m. bytes_eq (sha256 m) zero_bytes) ms) [
 
 -- the values of others
 
-guard_or : (barrier : List ℕ) (values : List (List ℕ)) (batches : List Batch)
+pub guard_or : (barrier : List ℕ) (values : List (List ℕ)) (batches : List Batch)
     → HasGuard barrier values batches ⊎ AreNoGuards barrier values batches
 guard_or barrier values batches = elim (pair_or_none (λ v b. bytes_eq v (guard barrier b)) values batches) [
   | inl f ↦ inl (record {
@@ -72,15 +73,19 @@ apart_or Opt i events = elim (guard_or i.barrier (foreign_values events) (asked_
   | inr none ↦ inr (λ is. none)
 ]
 
+pub messages_or : (ms : List (List ℕ)) → (HasCollision ms ⊎ HasZero ms) ⊎ IsClear ms
+messages_or ms = elim (collision_or ms) [
+  | inl c ↦ inl (inl c)
+  | inr apart ↦ elim (zero_or ms) [ inl z ↦ inl (inr z) | inr nonzero ↦ inr (record { apart = apart; nonzero = nonzero }) ]
+]
+
 clear_or : (i : Instance) (events : List Event) → HasEvidence i events ⊎ IsClearRun i events
-clear_or i events = elim (collision_or (run_messages i events)) [
-  | inl c ↦ inl (collision c)
-  | inr apart ↦ elim (zero_or (run_messages i events)) [
-    | inl z ↦ inl (zero_digest z)
-    | inr nonzero ↦ elim (apart_or i.variant i events) [
-      | inl g ↦ inl (guarded g.0 g.1)
-      | inr none ↦ inr (record { clear = record { apart = apart; nonzero = nonzero }; apart = none })
-    ]
+clear_or i events = elim (messages_or (run_messages i events)) [
+  | inl (inl c) ↦ inl (collision c)
+  | inl (inr z) ↦ inl (zero_digest z)
+  | inr clear ↦ elim (apart_or i.variant i events) [
+    | inl g ↦ inl (guarded g.0 g.1)
+    | inr none ↦ inr (record { clear = clear; apart = none })
   ]
 ]
 
@@ -109,37 +114,39 @@ module _ (i : Instance) (named : (y : History) (content : Content) → IsDecided
       by_name y bytes content (right_of i bytes (parts_of i.variant i.meaning.id bytes) refl content e) (is_named i y content)
       (named y content)
 
-  offer_or : (y : History) (offered : Option (List ℕ)) → IsForged i y offered ⊎ IsGenuineOffer i y offered
+  pub offer_or : (y : History) (offered : Option (List ℕ)) → IsForged i y offered ⊎ IsGenuineOffer i y offered
   offer_or y None = inr tt
   offer_or y (Some bytes) = by_content y bytes (right_content i bytes) refl
 
-  event_or : (y : History) (issued : List (List ℕ)) (event : Event)
+  pub event_or : (y : History) (issued : List (List ℕ)) (event : Event)
       → IsForged i y (event_offer issued event) ⊎ IsGenuineEvent i y issued event
   event_or y issued (Ask meddles stop offer b) = offer_or y (event_offer issued (Ask meddles stop offer b))
   event_or y issued (Checkpoint meddles stop) = inr tt
   event_or y issued Power = inr tt
   event_or y issued (Extend value) = inr tt
 
-  -- one of these events offers what is forged
-  record ForgesFrom (y : History) (issued : List (List ℕ)) (events : List Event) : Type 0 where
-    before : List Event
-    event : Event
-    later : List Event
-    split : events ≡ before ++ event ∷ later
-    forged : (let f : Followed History = followed i (by_lists i) y issued before in IsForged i f.state (event_offer f.issued event))
+  -- one of these events is the first that offers what is forged
+  pub record ForgesFrom (y : History) (issued : List (List ℕ)) (events : List Event) : Type 0 where
+    pub before : List Event
+    pub event : Event
+    pub later : List Event
+    pub split : events ≡ before ++ event ∷ later
+    pub genuine : AreGenuine i y issued before
+    pub forged : (let f : Followed History = followed i (by_lists i) y issued before in IsForged i f.state (event_offer f.issued event))
 
-  genuine_or : (events : List Event) (y : History) (issued : List (List ℕ)) → ForgesFrom y issued events ⊎ AreGenuine i y issued events
+  pub genuine_or : (events : List Event) (y : History) (issued : List (List ℕ)) → ForgesFrom y issued events ⊎ AreGenuine i y issued events
   genuine_or [] y issued = inr tt
   genuine_or (event ∷ events) y issued =
       let o = event_outcome i (by_lists i) y issued event in
       elim (event_or y issued event) [
-        | inl here ↦ inl (record { before = []; event = event; later = events; split = refl; forged = here })
+        | inl here ↦ inl (record { before = []; event = event; later = events; split = refl; genuine = tt; forged = here })
         | inr fine ↦ elim (genuine_or events o.state o.issued) [
           | inl f ↦ inl (record {
             before = event ∷ f.before;
             event = f.event;
             later = f.later;
             split = ap (λ (es : List Event). event ∷ es) f.split;
+            genuine = (fine, f.genuine);
             forged = f.forged;
           })
           | inr rest ↦ inr (fine, rest)
@@ -158,11 +165,11 @@ module _ (i : Instance) (named : (y : History) (content : Content) → IsDecided
 -- never both
 
 module _ (i : Instance) where
-  offer_apart : (y : History) (offered : Option (List ℕ)) → IsForged i y offered → IsGenuineOffer i y offered → ⊥
+  pub offer_apart : (y : History) (offered : Option (List ℕ)) → IsForged i y offered → IsGenuineOffer i y offered → ⊥
   offer_apart y offered f genuine =
       let at : IsGenuineOffer i y (Some f.bytes) = subst (IsGenuineOffer i y) f.offers genuine in f.unnamed (at f.content f.right)
 
-  event_apart : (y : History) (issued : List (List ℕ)) (event : Event) → IsForged i y (event_offer issued event)
+  pub event_apart : (y : History) (issued : List (List ℕ)) (event : Event) → IsForged i y (event_offer issued event)
       → IsGenuineEvent i y issued event → ⊥
   event_apart y issued (Ask meddles stop offer b) f genuine = offer_apart y (event_offer issued (Ask meddles stop offer b)) f genuine
   event_apart y issued (Checkpoint meddles stop) f genuine = let clash : None ≡ Some f.bytes = f.offers in cc
@@ -184,13 +191,15 @@ module _ (i : Instance) where
   both_apart events clear genuine (forgery f) = genuine_apart f.before f.event f.later first_history (first_issued i)
       (subst (λ (es : List Event). AreGenuine i first_history (first_issued i) es) f.split genuine) f.forged
 
+-- names are decided in either variant
+pub names_by : BasicNamesAreDecided → OptNamesAreDecided → (variant : Variant) (meaning : Meaning) (key barrier : List ℕ)
+    → (let i = instance_by variant meaning key barrier in
+    (y : History) (content : Content) → IsDecided (is_named i y content) (Names i y content))
+names_by basic opt Basic meaning key barrier = basic meaning key
+names_by basic opt Opt meaning key barrier = opt meaning key barrier
+
 pub decided_run : BasicNamesAreDecided → OptNamesAreDecided → (variant : Variant) (meaning : Meaning) (key barrier : List ℕ)
     (events : List Event) → IsDecidedRun (instance_by variant meaning key barrier) events
-decided_run basic opt Basic meaning key barrier events = record {
-  decided = decided_or (instance_by Basic meaning key barrier) (basic meaning key) events;
-  apart = both_apart (instance_by Basic meaning key barrier) events;
-}
-decided_run basic opt Opt meaning key barrier events = record {
-  decided = decided_or (instance_by Opt meaning key barrier) (opt meaning key barrier) events;
-  apart = both_apart (instance_by Opt meaning key barrier) events;
-}
+decided_run basic opt variant meaning key barrier events =
+    let i = instance_by variant meaning key barrier in
+    record { decided = decided_or i (names_by basic opt variant meaning key barrier) events; apart = both_apart i events }

@@ -127,7 +127,7 @@ module _ (i : Instance) (decided : (events : List Event) → IsDecidedRun i even
     }
 
   -- no event at all is one run
-  none_is_one : RepliesAreOneRun i []
+  pub none_is_one : RepliesAreOneRun i []
   none_is_one = record { requests = []; runs = refl; judged = refl; count = refl; shown = refl }
 
   pub one_run_or : (events : List Event) → FrontsAreOneRun i events → IsOneRunOrEvidence i events

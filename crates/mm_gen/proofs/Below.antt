@@ -26,7 +26,7 @@ pub use Rattle.mm_schedule.proofs.Above.{header-read, spelled_is_read}
 pub use Rattle.mm_run.specs.Folds.{Followed, followed, replies_by_digests}
 pub use Rattle.mm_run.specs.Held.{world_of}
 pub use Rattle.mm_replay.specs.Progress.{running}
-pub use Rattle.mm_replay.specs.Schedule.{after_event, AtHeader, begun, InEvents, is_too_much, ReplayStage, Running, running_outcome}
+pub use Rattle.mm_replay.specs.Schedule.{after_event, among, at_header, first_running, is_too_much, ReplayStage, Running, running_outcome}
 pub use Rattle.mm_replay.specs.Schedule.{schedule_answer, schedule_closing}
 pub use Rattle.mm_replay.specs.Text.{text_of_replies, texts_of}
 pub use Rattle.mm_gen.specs.Laws.{IsEventLine, IsSchedule}

@@ -3,7 +3,7 @@ use Rattle.mm_gen.proofs.Below.{◌≡◌, ◌∙◌, ◌≤◌, ◌+◌, ℕ, B
 use Rattle.mm_gen.proofs.Below.{sym, ap, arith, lit≤, IfOk, AllByRecursion, nat_tests, recursion_from_All, longest_line}
 use Rattle.mm_gen.proofs.Below.{most_events, Variant, Basic, Opt, name_of, any_is_found, Header, Event, event_at, header_at, header_text}
 use Rattle.mm_gen.proofs.Below.{variant_text, header-read, spelled_is_read, IsEventLine, schedule_lines, replies_by_digests}
-use Rattle.mm_gen.proofs.Below.{world_of, Running, ReplayStage, AtHeader, InEvents, after_event, begun, is_too_much, running_outcome}
+use Rattle.mm_gen.proofs.Below.{world_of, Running, ReplayStage, among, at_header, after_event, first_running, is_too_much, running_outcome}
 use Rattle.mm_gen.proofs.Below.{schedule_answer, schedule_closing, texts_of, text_of_replies, IsLimited, is_over, SumsUp, BulkFault, Memory}
 use Rattle.mm_gen.proofs.Below.{TooMuch, Summary}
 use Rattle.std.proofs.Common.{nat_lt, length-append}
@@ -18,7 +18,7 @@ use Rattle.mm_gen.proofs.Tallying.{events_of, events_read, left_of}
 
 -- the replay of event lines, of which the first has this number
 abbrev lines_run : ℕ → Running → List (List ℕ) → Told ReplayStage
-lines_run number r lines = run (schedule_answer header_at) number (InEvents r) lines
+lines_run number r lines = run schedule_answer number (among r) lines
 
 fits : (line : List ℕ) → length line ≤ longest_line → nat_lt longest_line (length line) ≡ false
 fits line short = grind (arith, nat_tests)
@@ -32,7 +32,7 @@ goes number r line more event short is room = rw (fits line short, is, room) ref
 -- all these lines are answered
 record AreAnswered (number : ℕ) (r : Running) (lines : List (List ℕ)) (events : List Event) : Type 0 where
   last : Running
-  ran : lines_run number r lines ≡ told (texts_of (left_of r events).replies) (Ok (InEvents last))
+  ran : lines_run number r lines ≡ told (texts_of (left_of r events).replies) (Ok (among last))
   digests : last.digests ≡ (left_of r events).state
   issued : last.issued ≡ (left_of r events).issued
 
@@ -88,7 +88,7 @@ module _ (header : Header) where
         (any_is_found header.module).short,
       )
 
-  headed : (lines : List (List ℕ)) → run (schedule_answer header_at) 1 AtHeader (header_text header ∷ lines) ≡ lines_run 2 (begun header)
+  headed : (lines : List (List ℕ)) → run schedule_answer 1 at_header (header_text header ∷ lines) ≡ lines_run 2 (first_running header)
       lines
   headed lines = rw (fits (header_text header) header_short, header-read (header_text header) header refl) refl
 
@@ -99,24 +99,24 @@ abbrev ends : Header → List (List ℕ) → ReplayStage → Told ReplayStage
 ends header lines = ended schedule_closing (1 + length (header_text header ∷ lines)) []
 
 module _ (number count : ℕ) where
-  whole : (header : Header) → count ≤ most_events → replay_of number count header ≡ and_then (lines_run 2 (begun header)
+  whole : (header : Header) → count ≤ most_events → replay_of number count header ≡ and_then (lines_run 2 (first_running header)
       (schedule_lines number count header)) (ends header (schedule_lines number count header))
   whole header few =
       let is = is_schedule number count header few in rw (is.lines, is.ends, headed header (schedule_lines number count header)) refl
 
   -- the event lines, with what their replay comes to
   lines_come : (header : Header) (few : count ≤ most_events) (over : Bool)
-      → is_over (begun header) (schedule_lines number count header) ≡ over
+      → is_over (first_running header) (schedule_lines number count header) ≡ over
       → (let lines : List (List ℕ) = schedule_lines number count header in
       let are = recursion_from_All IsEventLine lines (is_schedule number count header few).events in
-      ComesTo 2 (begun header) lines (events_of lines are) over)
+      ComesTo 2 (first_running header) lines (events_of lines are) over)
   lines_come header few over is =
       let lines : List (List ℕ) = schedule_lines number count header in
       let are = recursion_from_All IsEventLine lines (is_schedule number count header few).events in
-      subst (ComesTo 2 (begun header) lines (events_of lines are)) is (comes_to lines are 2 (begun header))
+      subst (ComesTo 2 (first_running header) lines (events_of lines are)) is (comes_to lines are 2 (first_running header))
 
   replayed_ok : (header : Header) (summary : Summary) → count ≤ most_events → SumsUp header (schedule_lines number count header) summary
-      → is_over (begun header) (schedule_lines number count header) ≡ false → IsReplayed (replay_of number count header) (Ok summary)
+      → is_over (first_running header) (schedule_lines number count header) ≡ false → IsReplayed (replay_of number count header) (Ok summary)
   replayed_ok header summary few sums over =
       let lines : List (List ℕ) = schedule_lines number count header in
       let are = recursion_from_All IsEventLine lines (is_schedule number count header few).events in
@@ -126,14 +126,14 @@ module _ (number count : ℕ) where
         ap (λ (it : Summary). it.replies.bytes)
             (sums.told ∙ ap (λ (es : List Event). bulk_summary (replies_by_digests (world_of header) es)) same)
             ∙ rw (ran, a.digests, a.issued) refl,
-        InEvents a.last,
+        among a.last,
         ap (λ (t : Told ReplayStage). t.outcome) ran,
       )
 
   -- what a run of a schedule comes to is what a replay of its text does
   pub replayed : (header : Header) (result : Result Summary BulkFault) → count ≤ most_events
       → IfOk result (SumsUp header (schedule_lines number count header))
-      → IsLimited (is_over (begun header) (schedule_lines number count header)) result → IsReplayed (replay_of number count header) result
+      → IsLimited (is_over (first_running header) (schedule_lines number count header)) result → IsReplayed (replay_of number count header) result
   replayed header (Ok summary) few sums limit = replayed_ok header summary few sums limit
   replayed header (Err TooMuch) few sums limit =
       let stopped = lines_come header few true limit in

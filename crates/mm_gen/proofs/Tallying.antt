@@ -4,7 +4,7 @@ use Rattle.mm_gen.proofs.Below.{arith, append_assoc, append-nil, Option, None, i
 use Rattle.mm_gen.proofs.Below.{position_or_len, ne_eqb, nat_tests, length-append, recursion_from_All, sha256, IsUnbroken, lines_joined}
 use Rattle.mm_gen.proofs.Below.{longest_line, most_events, Header, Event, event_at, header_text, end_line, spelled_is_read, IsEventLine}
 use Rattle.mm_gen.proofs.Below.{schedule_lines, schedule_text, Followed, followed, replies_by_digests, world_of, Running, after_event}
-use Rattle.mm_gen.proofs.Below.{begun, is_too_much, running_outcome, texts_of, text_of_replies, IsLimited, is_over, is_break, SumsUp}
+use Rattle.mm_gen.proofs.Below.{first_running, is_too_much, running_outcome, texts_of, text_of_replies, IsLimited, is_over, is_break, SumsUp}
 use Rattle.mm_gen.proofs.Below.{BulkFault, Memory, TooMuch, Summary}
 use Rattle.std.specs.Prelude.{Some, Err}
 use Rattle.std.proofs.Math.Seq.{take-append_seam, drop-append-add}
@@ -71,7 +71,7 @@ record GoingWith (lines : List (List ℕ)) (rest : List ℕ) (r : Running) (coun
   bytes : rest ≡ lines_joined left
   whole : map event_at lines ≡ map Some all
   few : total counts + length left ≤ most_events
-  over : is_over r left ≡ is_over (begun r.header) lines
+  over : is_over r left ≡ is_over (first_running r.header) lines
   rests : Rests r counts text (left_of r (events_of left are)) (replies_by_digests (world_of r.header) all)
 
 pub record Going (lines : List (List ℕ)) (rest : List ℕ) (r : Running) (counts : Counts) (text : List ℕ) : Type 0 where
@@ -95,7 +95,7 @@ pub record Next (lines : List (List ℕ)) (rest : List ℕ) (r : Running) (count
   pub short : length line ≤ longest_line
   pub known : is_some (event_at line) ≡ true
   pub room : total counts < most_events
-  pub over : is_too_much r line ≡ true → is_over (begun r.header) lines ≡ true
+  pub over : is_too_much r line ≡ true → is_over (first_running r.header) lines ≡ true
   pub on : (reply : Reply) (new : Running) → RunsLine r new line reply
       → Going lines behind new (counted_reply counts reply) (text ++ text_of_replies reply)
 
@@ -171,7 +171,7 @@ module _ (lines : List (List ℕ)) where
 
   ended_at : (left : List (List ℕ)) (are : AllByRecursion IsEventLine left) (rest : List ℕ) (r : Running) (counts : Counts)
       (text : List ℕ) → GoingWith lines rest r counts text left are → line_at rest ≡ None
-      → (is_over (begun r.header) lines ≡ false) × SumsUp r.header lines (so_far r counts text)
+      → (is_over (first_running r.header) lines ≡ false) × SumsUp r.header lines (so_far r counts text)
   ended_at [] are rest r counts text going none =
       let rests = going.rests in
       let written : text ≡ texts_of (replies_by_digests (world_of r.header) going.all).replies = sym (append-nil text) ∙ rests.replies in
@@ -184,17 +184,17 @@ module _ (lines : List (List ℕ)) where
 
   -- no line was one too many
   pub within : (rest : List ℕ) (r : Running) (counts : Counts) (text : List ℕ) (header : Header) → Going lines rest r counts text
-      → r.header ≡ header → line_at rest ≡ None → is_over (begun header) lines ≡ false
+      → r.header ≡ header → line_at rest ≡ None → is_over (first_running header) lines ≡ false
   within rest r counts text header going same none =
-      subst (λ (h : Header). is_over (begun h) lines ≡ false) same
+      subst (λ (h : Header). is_over (first_running h) lines ≡ false) same
       (ended_at going.left going.are rest r counts text going.stands none).0
 
   -- a line was one too many, or memory was wanting
   pub stops : (rest : List ℕ) (r : Running) (counts : Counts) (text line behind : List ℕ) (header : Header) (fault : BulkFault)
       → Next lines rest r counts text line behind → r.header ≡ header → (fault ≡ TooMuch → is_too_much r line ≡ true)
-      → IsLimited (is_over (begun header) lines) (Err fault)
+      → IsLimited (is_over (first_running header) lines) (Err fault)
   stops rest r counts text line behind header TooMuch step same limit =
-      subst (λ (h : Header). is_over (begun h) lines ≡ true) same (step.over (limit refl))
+      subst (λ (h : Header). is_over (first_running h) lines ≡ true) same (step.over (limit refl))
   stops rest r counts text line behind header Memory step same limit = tt
 
   -- a summary by its parts
@@ -219,7 +219,7 @@ behind_first number count header =
     line_again (header_text header) (lines_joined (schedule_lines number count header)) (header-unbroken header)
 
 pub starts : (number count : ℕ) (header : Header) (rest : List ℕ) (r : Running) (counts : Counts) (text : List ℕ) → count ≤ most_events
-    → rest ≡ lines_joined (schedule_lines number count header) → r ≡ begun header → counts ≡ no_counts → text ≡ []
+    → rest ≡ lines_joined (schedule_lines number count header) → r ≡ first_running header → counts ≡ no_counts → text ≡ []
     → Going (schedule_lines number count header) rest r counts text
 starts number count header rest r counts text few one two three four =
     let is = is_schedule number count header few in let lines : List (List ℕ) = schedule_lines number count header in

@@ -3,10 +3,9 @@ use Rattle.std.specs.Prelude.{◌≡◌, ℕ, Result, Ok, Err}
 use Rattle.sha2.specs.Sha256.{sha256}
 use Rattle.mm_base.specs.declared.replay_fault.ReplayFault.TheVariants as fault
 use Rattle.mm_schedule.specs.declared.header.Header.{Header}
-use Rattle.mm_schedule.specs.Headers.{header_at}
 use Rattle.mm_gen.specs.Schedules.{schedule_text}
 use Rattle.mm_play.specs.Play.{Told, run_of}
-use Rattle.mm_replay.specs.Schedule.{ReplayStage, AtHeader, schedule_answer, schedule_closing}
+use Rattle.mm_replay.specs.Schedule.{ReplayStage, at_header, schedule_answer, schedule_closing}
 use Rattle.mm_gen.specs.declared.fault.BulkFault.{BulkFault}
 use Rattle.mm_gen.specs.declared.fault.BulkFault.TheVariants.{Memory, TooMuch}
 use Rattle.mm_gen.specs.declared.summary.Summary.{Summary}
@@ -14,7 +13,7 @@ use Rattle.mm_gen.specs.declared.summary.Summary.{Summary}
 -- a replay of the text of a generated schedule
 abbrev pub replay_of : ℕ → ℕ → Header → Told ReplayStage
 replay_of number count header =
-    run_of (schedule_answer header_at) schedule_closing AtHeader (schedule_text number count header)
+    run_of schedule_answer schedule_closing at_header (schedule_text number count header)
 
 -- The replay comes to its end, and the digest is that of all bytes that it writes; or it is too
 -- much too.

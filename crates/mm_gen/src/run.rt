@@ -7,7 +7,7 @@ ghost use Rattle.mm_schedule.specs.Grammar.{event_at};
 ghost use Rattle.mm_schedule.specs.Replies.{IsPrintable};
 ghost use Rattle.mm_gen.specs.Schedules.{schedule_lines};
 ghost use Rattle.mm_replay.specs.Progress.{running};
-ghost use Rattle.mm_replay.specs.Schedule.{begun, is_too_much};
+ghost use Rattle.mm_replay.specs.Schedule.{first_running, is_too_much};
 ghost use Rattle.mm_gen.specs.Limits.{IsLimited, RunsLine, is_over};
 ghost use Rattle.mm_gen.specs.LineBreaks.{line_at};
 ghost use Rattle.mm_gen.specs.Replayed.{IsReplayed, replay_of};
@@ -34,7 +34,7 @@ use std::alloc::Global;
 pub fn bulk(alloc: Global, number: u64, count: u32, header: &Header) -> Result<Summary, BulkFault>
     requires count { count ≤ most_events }
     ensures sums { IfOk result (SumsUp header.now (schedule_lines number count header.now)) }
-    ensures limit { IsLimited (is_over (begun header.now) (schedule_lines number count header.now))
+    ensures limit { IsLimited (is_over (first_running header.now) (schedule_lines number count header.now))
         result }
     ensures replayed { IsReplayed (replay_of number count header.now) result }
 {
@@ -50,7 +50,7 @@ fn run_schedule(
 ) -> Result<Summary, BulkFault>
     requires count { count ≤ most_events }
     ensures sums { IfOk result (SumsUp header.now (schedule_lines number count header.now)) }
-    ensures limit { IsLimited (is_over (begun header.now) (schedule_lines number count header.now))
+    ensures limit { IsLimited (is_over (first_running header.now) (schedule_lines number count header.now))
         result }
 {
     let schedule = gen_(alloc, number, count, header)?;

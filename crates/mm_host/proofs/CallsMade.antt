@@ -11,13 +11,7 @@ use Rattle.mm_recovery.specs.declared.fault.HostFault.TheVariants as host
 use Rattle.mm_host.specs.Sessions.{ServesLines}
 use Rattle.mm_host.proofs.Lines.{answered_call, asks, by_end, by_told, IsRead, line_tries, lines_in, never_refused, TellsCall}
 use Rattle.mm_host.proofs.Lines.{tried_answer, next_line, read_of, tells_call, Tries}
-
--- Calls that were answered, one after another, each with the snapshot of the answer before.
-abbrev pub CallsInTurn : Variant → Meaning → List ℕ → Standing → List Served → Standing → Type 0
-CallsInTurn variant meaning offer before [] after = after ≡ before
-CallsInTurn variant meaning offer before (c ∷ calls) after =
-    (middle : Standing) × IsCall variant meaning before middle offer c.line (Ok c.answer)
-    × CallsInTurn variant meaning c.answer.snapshot middle calls after
+use Rattle.mm_host.specs.Refusing.{CallsInTurn}
 
 -- How a session ends behind its calls: it rests, and isn't refused; or a request in hand is tried, and what comes ends it.
 pub data Ends (variant : Variant) (meaning : Meaning) (at final : Standing) (offer : List ℕ) (hand : List ℕ → Type 0)
@@ -34,15 +28,14 @@ pub record Chain (variant : Variant) (meaning : Meaning) (offer : List ℕ) (bef
   pub calls : CallsInTurn variant meaning offer before told at
   pub ends : Ends variant meaning at final (offered_after offer told) hand result
 
--- What a start came to: nothing was asked, as memory was wanting or the store failed; nothing waits, and it begins with the first slot;
--- or a call was made for what waits.
-data Begun (variant : Variant) (meaning : Meaning) (before after : Standing) (slots : Slots) (waiting : Option Pending)
+-- What a start came to: nothing was asked, as memory was wanting or the store failed; nothing waits, and it begins with these bytes;
+-- or a call that offers them was made for what waits.
+pub data Begun (variant : Variant) (meaning : Meaning) (before after : Standing) (offer : List ℕ) (waiting : Option Pending)
     (came : Result Resumed HostFault) : Type 0 where
-  failed : after ≡ before → (why : StoreFault) → came ≡ Err (store_fault_as why) → Begun variant meaning before after slots waiting came
-  starts : after ≡ before → waiting ≡ None → came ≡ Ok (Start (slot_read slots 0)) → Begun variant meaning before after slots waiting came
-  repeats : (p : Pending) → waiting ≡ Some p → (call : Result Answer Refusal)
-      → IsCall variant meaning before after (slot_read slots (offer_slot p)) p.request call → TellsCall call came
-      → Begun variant meaning before after slots waiting came
+  failed : after ≡ before → (why : StoreFault) → came ≡ Err (store_fault_as why) → Begun variant meaning before after offer waiting came
+  starts : after ≡ before → waiting ≡ None → came ≡ Ok (Start offer) → Begun variant meaning before after offer waiting came
+  repeats : (p : Pending) → waiting ≡ Some p → (call : Result Answer Refusal) → IsCall variant meaning before after offer p.request call
+      → TellsCall call came → Begun variant meaning before after offer waiting came
 
 module _ (variant : Variant) (meaning : Meaning) where
   pub served_calls : (from to : Place) (calls : List Served) → Serves variant meaning from calls to
@@ -86,46 +79,72 @@ module _ {variant : Variant} {meaning : Meaning} {from : Place} {after : Standin
         (λ by r. rests r.platform (λ why e. rw e at by)));
   }
 
-module _ (variant : Variant) (meaning : Meaning) (before after : Standing) (slots : Slots) where
-  -- how a start came to it
-  begun_start : (zero : Result (List ℕ) StoreFault) (came : Result Resumed HostFault) (old new : StoreStanding) → after ≡ before
-      → old.slots ≡ Some slots → ReadsSlot 0 old new zero → came ≡ started zero → Begun variant meaning before after slots None came
-  begun_start (Ok bytes) came old new same told r e = starts same refl (e ∙ ap (λ (b : List ℕ). Ok (Start b)) (r.gives slots told))
-  begun_start (Err why) came old new same told r e = failed same why e
+module _ (variant : Variant) (meaning : Meaning) (before after : Standing) where
+  -- how a start came to it, over a store that tells its slots
+  module _ (slots : Slots) where
+    begun_start : (zero : Result (List ℕ) StoreFault) (came : Result Resumed HostFault) (old new : StoreStanding) → after ≡ before
+        → old.slots ≡ Some slots → ReadsSlot 0 old new zero → came ≡ started zero
+        → Begun variant meaning before after (first_offer slots None) None came
+    begun_start (Ok bytes) came old new same told r e = starts same refl (e ∙ ap (λ (b : List ℕ). Ok (Start b)) (r.gives slots told))
+    begun_start (Err why) came old new same told r e = failed same why e
 
-  begun_repeat : (offer : Result (List ℕ) StoreFault) (came : Result Resumed HostFault) (old middle new : StoreStanding) (p : Pending)
-      → old.slots ≡ Some slots → ReadsSlot (offer_slot p) old middle offer
-      → AfterOffer variant meaning before after offer middle new p came → Begun variant meaning before after slots (Some p) came
-  begun_repeat (Err why) came old middle new p told r g = failed g.0 why g.2
-  begun_repeat (Ok bytes) came old middle new p told r g =
-      repeats p refl g.asked (rw (r.gives slots told) at g.asks) (tells_call g.asked middle new came g.goes)
+    begun_repeat : (offer : Result (List ℕ) StoreFault) (came : Result Resumed HostFault) (old middle new : StoreStanding) (p : Pending)
+        → old.slots ≡ Some slots → ReadsSlot (offer_slot p) old middle offer
+        → AfterOffer variant meaning before after offer middle new p came
+        → Begun variant meaning before after (first_offer slots (Some p)) (Some p) came
+    begun_repeat (Err why) came old middle new p told r g = failed g.0 why g.2
+    begun_repeat (Ok bytes) came old middle new p told r g =
+        repeats p refl g.asked (rw (r.gives slots told) at g.asks) (tells_call g.asked middle new came g.goes)
 
-  begun_found : (found : Result (Option Pending) StoreFault) (came : Result Resumed HostFault) (waiting : Option Pending)
-      (first middle new : StoreStanding) → IsWaiting (slot_read slots 2) (slot_read slots 3) waiting → Saw slots first middle found
-      → AfterFinding variant meaning before after found middle new came → Begun variant meaning before after slots waiting came
-  begun_found (Err why) came waiting first middle new w s g = failed g.0 why g.2
-  begun_found (Ok found) came waiting first middle new w s g =
-      rw (one_waiting (slot_read slots 2) (slot_read slots 3) waiting found w (s.waiting found refl)) (by_found found g)
-    where
-      by_found : (found : Option Pending) → AfterFinding variant meaning before after (Ok found) middle new came
-          → Begun variant meaning before after slots found came
-      by_found None g = begun_start g.1.zero came middle new g.0 s.told g.1.reads g.1.gives
-      by_found (Some p) g = begun_repeat g.offer came middle g.middle new p s.told g.reads g.goes
+    begun_found : (found : Result (Option Pending) StoreFault) (came : Result Resumed HostFault) (waiting : Option Pending)
+        (first middle new : StoreStanding) → IsWaiting (slot_read slots 2) (slot_read slots 3) waiting → Saw slots first middle found
+        → AfterFinding variant meaning before after found middle new came
+        → Begun variant meaning before after (first_offer slots waiting) waiting came
+    begun_found (Err why) came waiting first middle new w s g = failed g.0 why g.2
+    begun_found (Ok found) came waiting first middle new w s g =
+        rw (one_waiting (slot_read slots 2) (slot_read slots 3) waiting found w (s.waiting found refl)) (by_found found g)
+      where
+        by_found : (found : Option Pending) → AfterFinding variant meaning before after (Ok found) middle new came
+            → Begun variant meaning before after (first_offer slots found) found came
+        by_found None g = begun_start g.1.zero came middle new g.0 s.told g.1.reads g.1.gives
+        by_found (Some p) g = begun_repeat g.offer came middle g.middle new p s.told g.reads g.goes
 
+  -- and over any store: with some bytes
+  abbrev pub BegunSomehow : Result Resumed HostFault → Type 0
+  BegunSomehow came = (offer : List ℕ) × (waiting : Option Pending) × Begun variant meaning before after offer waiting came
+
+  begun_by_zero : (zero : Result (List ℕ) StoreFault) (came : Result Resumed HostFault) → after ≡ before → came ≡ started zero
+      → BegunSomehow came
+  begun_by_zero (Ok bytes) came same e = (bytes, None, starts same refl e)
+  begun_by_zero (Err why) came same e = ([], None, failed same why e)
+
+  begun_by_offer : (offer : Result (List ℕ) StoreFault) (came : Result Resumed HostFault) (middle new : StoreStanding) (p : Pending)
+      → AfterOffer variant meaning before after offer middle new p came → BegunSomehow came
+  begun_by_offer (Err why) came middle new p g = ([], None, failed g.0 why g.2)
+  begun_by_offer (Ok bytes) came middle new p g =
+      (bytes, Some p, repeats p refl g.asked g.asks (tells_call g.asked middle new came g.goes))
+
+  begun_somehow : (found : Result (Option Pending) StoreFault) (came : Result Resumed HostFault) (middle new : StoreStanding)
+      → AfterFinding variant meaning before after found middle new came → BegunSomehow came
+  begun_somehow (Err why) came middle new g = ([], None, failed g.0 why g.2)
+  begun_somehow (Ok None) came middle new g = begun_by_zero g.1.zero came g.0 g.1.gives
+  begun_somehow (Ok (Some p)) came middle new g = begun_by_offer g.offer came g.middle new p g.goes
+
+module _ (variant : Variant) (meaning : Meaning) (before after : Standing) (offer : List ℕ) where
   -- what waited was answered, or nothing did
   record FirstCalls (waiting : Option Pending) (first : Resumed) : Type 0 where
     calls : (lines : List Served) (at : Standing) → CallsInTurn variant meaning (snapshot_at first) after lines at
-        → CallsInTurn variant meaning (first_offer slots waiting) before (told_first waiting first ++ lines) at
+        → CallsInTurn variant meaning offer before (told_first waiting first ++ lines) at
     offers : (lines : List Served)
-        → offered_after (first_offer slots waiting) (told_first waiting first ++ lines) ≡ offered_after (snapshot_at first) lines
+        → offered_after offer (told_first waiting first ++ lines) ≡ offered_after (snapshot_at first) lines
     told : (lines : List Served) (rest : List (List ℕ))
         → lines_served (told_first waiting first ++ lines) ++ rest ≡ requests_with waiting (lines_served lines ++ rest)
 
-  first_calls : (waiting : Option Pending) (first : Resumed) → Begun variant meaning before after slots waiting (Ok first)
+  first_calls : (waiting : Option Pending) (first : Resumed) → Begun variant meaning before after offer waiting (Ok first)
       → FirstCalls waiting first
   first_calls waiting first (failed same why e) = let clash : Ok first ≡ Err (store_fault_as why) = e in absurd (cc)
   first_calls waiting first (starts same none e) =
-      let is : first ≡ Start (slot_read slots 0) = cc in
+      let is : first ≡ Start offer = cc in
       rw (none, is) (record { calls = λ lines at h. rw same at h; offers = λ lines. refl; told = λ lines rest. refl })
   first_calls waiting first (repeats p some call c t) =
       let a = tried_answer first (asks call c t) in
@@ -133,8 +152,8 @@ module _ (variant : Variant) (meaning : Meaning) (before after : Standing) (slot
 
   -- it stops at once
   at_once : (waiting : Option Pending) (begun : Result Resumed HostFault) (taken sent : List ℕ) (result : Result Unit SessionFault)
-      → StopsAtOnce begun taken sent result → Begun variant meaning before after slots waiting begun
-      → Ends variant meaning before after (first_offer slots waiting)
+      → StopsAtOnce begun taken sent result → Begun variant meaning before after offer waiting begun
+      → Ends variant meaning before after offer
       (λ (request : List ℕ). (p : Pending) × (waiting ≡ Some p) × (p.request ≡ request)) result
   at_once waiting begun taken sent result s (failed same why e) =
       rests same (λ (refusal : Refusal) (r : result ≡ Err (Host (host.Refused refusal))).
@@ -144,66 +163,82 @@ module _ (variant : Variant) (meaning : Meaning) (before after : Standing) (slot
       rests same (λ refusal r. by_told (λ (f : SessionFault). ⊥) begun sent s.fault s.says (λ (why : HostFault) (w : begun ≡ Err why). cc)
       (λ n. n (ap reply_text e)))
   at_once waiting begun taken sent result s (repeats p some call c t) =
-      stops p.request (p, some, refl) begun (rw some (asks call c t)) sent s.fault s.says s.stops
+      stops p.request (p, some, refl) begun (asks call c t) sent s.fault s.says s.stops
 
--- a session over a store that tells its slots
 module _ {variant : Variant} {meaning : Meaning} {before after : Standing} {old new : StoreStanding}
     {left left' received received' : Option (List ℕ)} {result : Result Unit SessionFault}
-    (s : Sessions variant meaning before after old new left left' received received' result) (slots : Slots) (waiting : Option Pending)
-    (slots_told : old.slots ≡ Some slots) (w : IsWaiting (slot_read slots 2) (slot_read slots 3) waiting) where
-  begun_by : Begun variant meaning before s.platform slots waiting s.begun
-  begun_by =
+    (s : Sessions variant meaning before after old new left left' received received' result) where
+  -- a session that began so
+  module _ (offer : List ℕ) (waiting : Option Pending) (begun_by : Begun variant meaning before s.platform offer waiting s.begun) where
+    first_by : (first : Resumed) → s.begun ≡ Ok first → FirstCalls variant meaning before s.platform offer waiting first
+    first_by first e =
+        first_calls variant meaning before s.platform offer waiting first
+        (rw e at begun_by)
+
+    chain_by : (goes : AfterResume variant meaning s.begun s.platform after s.store new left' s.taken s.sent result)
+        → Chain variant meaning offer before after (told_in waiting goes) (IsInHand waiting goes) result
+    chain_by (inl e) = record {
+      at = before;
+      calls = refl;
+      ends = at_once variant meaning before after offer waiting s.begun s.taken s.sent result e.2
+          (rw e.0 begun_by);
+    }
+    chain_by (inr g) =
+        let l = lines_chain g.lines in
+        let f = first_by g.first g.begins in
+        record {
+          at = l.at;
+          calls = f.calls g.lines.calls l.at l.calls;
+          ends = rw (f.offers g.lines.calls) l.ends;
+        }
+
+    among_by : (input : List ℕ) → IsRead input s.taken left'
+        → (goes : AfterResume variant meaning s.begun s.platform after s.store new left' s.taken s.sent result)
+        → AreAmong (told_in waiting goes) (IsInHand waiting goes) (requests_with waiting (lines_of input))
+    among_by input read (inl e) = record {
+      served = (requests_with waiting (lines_of input), refl);
+      in_hand = λ request h. rw h.1 (lines_of input, ap (λ (r : List ℕ). r ∷ lines_of input) (sym h.2));
+    }
+    among_by input read (inr g) =
+        let l = g.lines in
+        let told : List Served = told_first waiting g.first in
+        let all_lines : lines_served (told ++ l.calls) ++ lines_of (l.more ++ read.rest) ≡ requests_with waiting (lines_of input) =
+        (first_by g.first g.begins).told l.calls (lines_of (l.more ++ read.rest)) ∙ ap (requests_with waiting) (sym (lines_in l read)) in
+        record {
+          served = (lines_of (l.more ++ read.rest), all_lines);
+          in_hand = λ request h. (
+            lines_of (h.0 ++ read.rest),
+            append_assoc (lines_served (told ++ l.calls)) (request ∷ []) (lines_of (h.0 ++ read.rest))
+                ∙ ap (λ (x : List (List ℕ)). lines_served (told ++ l.calls) ++ x) (sym (next_line l.more read.rest request h.0 h.1))
+                ∙ all_lines,
+          );
+        }
+
+  -- over a store that tells its slots
+  module _ (slots : Slots) (waiting : Option Pending) (slots_told : old.slots ≡ Some slots)
+      (w : IsWaiting (slot_read slots 2) (slot_read slots 3) waiting) where
+    begun_told : Begun variant meaning before s.platform (first_offer slots waiting) waiting s.begun
+    begun_told =
+        let r = s.resumes in
+        begun_found variant meaning before s.platform slots r.waiting s.begun waiting old r.middle s.store w
+        (saw_two slots r.finds.two old r.finds.middle r.middle r.waiting slots_told r.finds.reads r.finds.goes) r.goes
+
+    pub chain_of : Chain variant meaning (first_offer slots waiting) before after (told_in waiting s.goes) (IsInHand waiting s.goes) result
+    chain_of = chain_by (first_offer slots waiting) waiting begun_told s.goes
+
+    pub among_input : (input : List ℕ) → left ≡ Some input
+        → AreAmong (told_in waiting s.goes) (IsInHand waiting s.goes) (requests_with waiting (lines_of input))
+    among_input input e =
+        among_by (first_offer slots waiting) waiting begun_told input (read_of left left' input s.taken e s.consumed) s.goes
+
+  -- and over any store
+  pub record SomeChain : Type 0 where
+    pub offer : List ℕ
+    pub waiting : Option Pending
+    pub chain : Chain variant meaning offer before after (told_in waiting s.goes) (IsInHand waiting s.goes) result
+
+  pub some_chain : SomeChain
+  some_chain =
       let r = s.resumes in
-      begun_found variant meaning before s.platform slots r.waiting s.begun waiting old r.middle s.store w
-      (saw_two slots r.finds.two old r.finds.middle r.middle r.waiting slots_told r.finds.reads r.finds.goes) r.goes
-
-  first_by : (first : Resumed) → s.begun ≡ Ok first → FirstCalls variant meaning before s.platform slots waiting first
-  first_by first e =
-      first_calls variant meaning before s.platform slots waiting first
-      (rw e at begun_by)
-
-  chain_by : (goes : AfterResume variant meaning s.begun s.platform after s.store new left' s.taken s.sent result)
-      → Chain variant meaning (first_offer slots waiting) before after (told_in waiting goes) (IsInHand waiting goes) result
-  chain_by (inl e) = record {
-    at = before;
-    calls = refl;
-    ends = at_once variant meaning before after slots waiting s.begun s.taken s.sent result e.2
-        (rw e.0 begun_by);
-  }
-  chain_by (inr g) =
-      let l = lines_chain g.lines in
-      let f = first_by g.first g.begins in
-      record {
-        at = l.at;
-        calls = f.calls g.lines.calls l.at l.calls;
-        ends = rw (f.offers g.lines.calls) l.ends;
-      }
-
-  pub chain_of : Chain variant meaning (first_offer slots waiting) before after (told_in waiting s.goes) (IsInHand waiting s.goes) result
-  chain_of = chain_by s.goes
-
-  among_by : (input : List ℕ) → IsRead input s.taken left'
-      → (goes : AfterResume variant meaning s.begun s.platform after s.store new left' s.taken s.sent result)
-      → AreAmong (told_in waiting goes) (IsInHand waiting goes) (requests_with waiting (lines_of input))
-  among_by input read (inl e) = record {
-    served = (requests_with waiting (lines_of input), refl);
-    in_hand = λ request h. rw h.1 (lines_of input, ap (λ (r : List ℕ). r ∷ lines_of input) (sym h.2));
-  }
-  among_by input read (inr g) =
-      let l = g.lines in
-      let told : List Served = told_first waiting g.first in
-      let all_lines : lines_served (told ++ l.calls) ++ lines_of (l.more ++ read.rest) ≡ requests_with waiting (lines_of input) =
-      (first_by g.first g.begins).told l.calls (lines_of (l.more ++ read.rest)) ∙ ap (requests_with waiting) (sym (lines_in l read)) in
-      record {
-        served = (lines_of (l.more ++ read.rest), all_lines);
-        in_hand = λ request h. (
-          lines_of (h.0 ++ read.rest),
-          append_assoc (lines_served (told ++ l.calls)) (request ∷ []) (lines_of (h.0 ++ read.rest))
-              ∙ ap (λ (x : List (List ℕ)). lines_served (told ++ l.calls) ++ x) (sym (next_line l.more read.rest request h.0 h.1))
-              ∙ all_lines,
-        );
-      }
-
-  pub among_input : (input : List ℕ) → left ≡ Some input
-      → AreAmong (told_in waiting s.goes) (IsInHand waiting s.goes) (requests_with waiting (lines_of input))
-  among_input input e = among_by input (read_of left left' input s.taken e s.consumed) s.goes
+      let b = begun_somehow variant meaning before s.platform r.waiting s.begun r.middle s.store r.goes in
+      record { offer = b.0; waiting = b.1; chain = chain_by b.0 b.1 b.2 s.goes }

@@ -9,10 +9,11 @@ use Rattle.mm_host.proofs.Below.{one_more, IsGrownBy, IsSame, Met, holds_issued,
 use Rattle.std.proofs.lemmas.Slice.Eq.{bytes_eq-Decides}
 use Rattle.mm_model.specs.Fit.{IsFit}
 use Rattle.mm_call.specs.Coming.{Comes, kept, grown}
-use Rattle.mm_host.proofs.CallsMade.{CallsInTurn, Chain, Ends, rests, stops}
+use Rattle.mm_host.proofs.CallsMade.{Chain, Ends, rests, stops}
 use Rattle.mm_host.proofs.Leading.{grown_more, Laws, Makes, met_end, met_on, push_batches, reach_same, reach_then, Reaches, Shows}
 use Rattle.mm_host.proofs.Leading.{steps_again, steps_fresh}
 use Rattle.mm_host.proofs.Lines.{asks, fails}
+use Rattle.mm_host.specs.Refusing.{CallsInTurn}
 
 -- what a right offer says
 said_of : (i : Instance) (bytes : List ℕ) (content : Content) → IsRight i bytes content → right_content i bytes ≡ Some content

@@ -11,3 +11,4 @@ mod InTurn
 mod LineStep
 mod SessionRuns
 mod RunningOnce
+mod ByDigests

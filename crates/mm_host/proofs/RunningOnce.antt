@@ -17,7 +17,7 @@ use Rattle.mm_model.specs.declared.refusal.Refusal.TheVariants as refusal
 use Rattle.mm_store.specs.declared.fault.StoreFault.TheVariants as fault
 use Rattle.mm_recovery.specs.declared.fault.HostFault.TheVariants as host
 use Rattle.mm_host.proofs.Leading.{Laws, Reaches, basic_laws}
-use Rattle.mm_host.proofs.CallsMade.{CallsInTurn, Ends, among_input, calls_split, chain_of, rests, stops}
+use Rattle.mm_host.proofs.CallsMade.{Ends, among_input, calls_split, chain_of, rests, stops}
 use Rattle.mm_host.proofs.InTurn.{AfterTurns, May, MindsNothing, StandsIn, calls_reach, ends_reach, met_last, pending_for, turns}
 use Rattle.mm_host.proofs.InTurn.{chain_reaches}
 use Rattle.mm_host.proofs.SessionRuns.{line_committed, runs_to}
@@ -28,10 +28,11 @@ use Rattle.mm_model.specs.Chains as chains
 use Rattle.mm_model.specs.History.{joined}
 use Rattle.mm_call.specs.TrailLaws.{foreign_made, foreign_values, reads_beside, reads_of, with_register}
 use Rattle.mm_host.proofs.OptLeading.{opt_laws}
+use Rattle.mm_host.specs.Refusing.{CallsInTurn}
 
 -- what came of the request in hand
 
-by_fault : {A : Type 0} (why : Refusal) (broken : Option StepFault) → fault_of why ≡ broken → (fault_of why ≡ None → A)
+pub by_fault : {A : Type 0} (why : Refusal) (broken : Option StepFault) → fault_of why ≡ broken → (fault_of why ≡ None → A)
     → IsSome (fault_of why) ⊎ A
 by_fault why None e h = inr (h e)
 by_fault why (Some broken) e h = inl (rw e refl)
@@ -41,7 +42,7 @@ store_may : (why : StoreFault) → MayHaveCommitted {T = Resumed} (Err (store_fa
 store_may fault.Memory = tt
 store_may fault.Failed = tt
 
-only_by : {A : Type 0} (call : Result Answer Refusal) (came : Result Resumed HostFault) → TellsCall call came
+pub only_by : {A : Type 0} (call : Result Answer Refusal) (came : Result Resumed HostFault) → TellsCall call came
     → ((why : Refusal) → whole_in call ≡ Err why → fault_of why ≡ None → A) → A ⊎ MayHaveCommitted came
 only_by (Err why) came t still = elim (by_fault why (fault_of why) refl (still why refl)) [
   | inl some ↦ inr (rw t
@@ -53,7 +54,7 @@ only_by (Ok answer) came (inl t) still = inr (rw t tt)
 only_by (Ok answer) came (inr t) still = inr (rw t.1 (store_may t.0))
 
 -- a refusal that is told is the call's, and isn't want of memory
-call_refused : (call : Result Answer Refusal) (came : Result Resumed HostFault) (why : Refusal) → TellsCall call came
+pub call_refused : (call : Result Answer Refusal) (came : Result Resumed HostFault) (why : Refusal) → TellsCall call came
     → came ≡ Err (host.Refused why) → (call ≡ Err why) × (why ≡ refusal.Memory → ⊥)
 call_refused (Err w) came why t e =
     let told : Err (refusal_fault w) ≡ Err (host.Refused why) = sym t ∙ e in
@@ -176,7 +177,7 @@ minds_nothing meaning key barrier y z offer (request ∷ next ∷ requests) e k 
 
 -- what others put into the register meanwhile
 
-foreign_of : (values : List (List ℕ)) → foreign_items (map foreign_item values) ≡ values
+pub foreign_of : (values : List (List ℕ)) → foreign_items (map foreign_item values) ≡ values
 foreign_of [] = refl
 foreign_of (v ∷ values) = ap (λ (vs : List (List ℕ)). v ∷ vs) (foreign_of values)
 
@@ -194,13 +195,13 @@ module _ (meaning : Meaning) (key barrier : List ℕ) where
   register_pushed y v =
       ap (λ (d : Digests). d.register) (opt_digests meaning key barrier y (Foreign v) (foreign_may i y y.is_open v))
 
-  register_looked : (values : List (List ℕ)) (y : History)
+  pub register_looked : (values : List (List ℕ)) (y : History)
       → register_value_of i (all_made (by_lists i) y (map Foreign values)) ≡ after extended_message (register_value_of i y) values
   register_looked [] y = refl
   register_looked (v ∷ values) y =
       register_looked values (moved i y (Foreign v)) ∙ ap (λ (s : List ℕ). after extended_message s values) (register_pushed y v)
 
-  messages_looked : (values : List (List ℕ)) (y : History)
+  pub messages_looked : (values : List (List ℕ)) (y : History)
       → moves_messages i y (map Foreign values) ≡ trail extended_message (register_value_of i y) values
   messages_looked [] y = refl
   messages_looked (v ∷ values) y =

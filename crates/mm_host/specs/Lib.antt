@@ -5,3 +5,4 @@ pub mod Continuing
 pub mod SessionLines
 pub mod SessionWrites
 pub mod AnySlots
+pub mod Refusing

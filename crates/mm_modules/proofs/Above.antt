@@ -1,2 +1,2 @@
 -- What crates above may cite of these proofs: the other files can be read and changed by this crate alone.
-pub use Rattle.mm_modules.proofs.Finding.{name_spelled}
+pub use Rattle.mm_modules.proofs.Finding.{id_spelled, name_spelled}

@@ -31,7 +31,7 @@ module _ {P : Type 0} (answer : P → List ℕ → Result (List ℕ × P) Refuse
           let whole = rw (← said) at f.whole in (header, is, rw whole ran)
 
 -- the bytes of one more line
-sums_more : (line : List ℕ) (lines : List (List ℕ)) → sum_by length (line ∷ lines) ≡ length line + sum_by length lines
+pub sums_more : (line : List ℕ) (lines : List (List ℕ)) → sum_by length (line ∷ lines) ≡ length line + sum_by length lines
 sums_more line lines =
     let one : sum_by length (line ∷ []) ≡ length line = omega arith in
     let both : sum_by length (line ∷ lines) ≡ sum_by length (line ∷ []) + sum_by length lines = sum_by-append length (line ∷ []) lines in
@@ -45,15 +45,15 @@ ends_with among closing ends is r next last stands h =
     let same : Some last ≡ Some (ends r) = sym h ∙ ap closing stands ∙ is r in cc
 
 -- no line is behind the last
-no_line : (before : List (List ℕ)) (line : List ℕ) (after : List (List ℕ)) → [] ≡ before ++ line ∷ after → ⊥
+pub no_line : (before : List (List ℕ)) (line : List ℕ) (after : List (List ℕ)) → [] ≡ before ++ line ∷ after → ⊥
 no_line [] line after h = cc
 no_line (first ∷ before) line after h = cc
 
 -- whether an event is one too many, in numbers
-over_of : (done most size room : ℕ) → (nat_le most done || nat_lt room size) ≡ true → (most ≤ done) ⊎ (room < size)
+pub over_of : (done most size room : ℕ) → (nat_le most done || nat_lt room size) ≡ true → (most ≤ done) ⊎ (room < size)
 over_of done most size room h = grind (arith, nat_tests)
 
-not_over : (done most size room : ℕ) → (nat_le most done || nat_lt room size) ≡ false → (most ≤ done) ⊎ (room < size) → ⊥
+pub not_over : (done most size room : ℕ) → (nat_le most done || nat_lt room size) ≡ false → (most ≤ done) ⊎ (room < size) → ⊥
 not_over done most size room h over = grind (arith, nat_tests)
 
 module _ {E R P : Type 0} (p : EventPlayer E R P) (answer : P → List ℕ → Result (List ℕ × P) Refused) (takes : TakesEvents p answer) where

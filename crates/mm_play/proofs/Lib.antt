@@ -5,3 +5,9 @@ mod Turning
 mod Stands
 mod Telling
 mod Events
+mod Staging
+mod Splitting
+mod Halting
+mod Eventing
+mod Headlines
+mod Stopped

@@ -5,3 +5,12 @@ pub mod Turns
 pub mod Tells
 pub mod Counting
 pub mod Events
+pub mod Headed
+pub mod Kept
+pub mod Stage
+pub mod StageLaws
+pub mod Progress
+pub mod Commands
+pub mod Headline
+pub mod Shown
+pub mod PlaysEvents

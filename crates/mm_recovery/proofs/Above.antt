@@ -1,7 +1,7 @@
 -- What crates above may cite of these proofs: the other files can be read and changed by this crate alone.
 pub use Rattle.mm_call.specs.OfferLaws.{basic_content}
 pub use Rattle.mm_recovery.proofs.Askable.{length-pending_spelling}
-pub use Rattle.mm_recovery.proofs.Refusing.{grows, one_more}
+pub use Rattle.mm_recovery.proofs.Refusing.{grows, judged_refused, one_more}
 pub use Rattle.mm_recovery.proofs.CellWriting.{AnsweredWrites, both_writes, counted_most, joined, leads_rest, rests}
 pub use Rattle.mm_recovery.proofs.Exits.{answered_writes, by_refusal, CameWrites, new_most, next_came, next_told, resumes_came, resumes_told}
 pub use Rattle.mm_recovery.proofs.Exits.{Told}

@@ -148,7 +148,7 @@ module _ (all others : List (List ℕ)) (asked : List Batch) (i : Instance) (y :
         names = names;
         comes = comes;
         only = λ why e none. keeps_refused i y c (One p.request) offer why e none;
-        judged = λ why e none. judged_refused i y c (One p.request) offer why e none;
+        judged = λ why e none. judged_refused (by_lists i) i y c (One p.request) offer why e none;
         issues = issues;
         grown = grown;
         powered = powered;

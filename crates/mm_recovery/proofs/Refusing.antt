@@ -7,6 +7,7 @@ use Rattle.mm_recovery.proofs.Below.{last_position, Variant, StepFault, Snapshot
 use Rattle.mm_recovery.proofs.Below.{Life, life_of, is_lost, Reads, ask_steps, Memory, Lost, before_the_last}
 use Rattle.mm_recovery.proofs.Below.{ended_by, given_for, called, Course, End, Fate, Walked, walk, after_step, seen_in, seen_at}
 use Rattle.mm_recovery.proofs.Below.{reading_steps, Found, found_by_verdict, found_at, found_with, found_unless_wanting, is_fresh, by_lists}
+use Rattle.mm_call.specs.Levels.{Level}
 use Rattle.mm_recovery.proofs.Below.{all_made, admitted, same_batches, seen_none, fault_of, IsWaiting}
 use Rattle.mm_recovery.proofs.Below.{IsRefusedAs}
 use Rattle.mm_call.specs.Answers.{answer_on}
@@ -145,10 +146,10 @@ found_refused i s p offer o why e =
     (placed_by s p o.content.position o.at o.awaited least)))
 
 -- a refusal that hands on no device's fault is what was found, and no step failed
-ended_found : (i : Instance) (seen end : History) (b : Batch) (found : Result Found Refusal) (moves : List Move) (broken : Option StepFault)
-    (why : Refusal)
-    → given_for (ended_by (by_lists i) seen end b found moves broken) ≡ Err why → fault_of why ≡ None → (found ≡ Err why) × (broken ≡ None)
-ended_found i seen end b found moves broken why e none = grind (arith, e, none)
+ended_found : {S : Type 0} (level : Level S) (seen end : S) (b : Batch) (found : Result Found Refusal) (moves : List Move)
+    (broken : Option StepFault) (why : Refusal) → given_for (ended_by level seen end b found moves broken) ≡ Err why
+    → fault_of why ≡ None → (found ≡ Err why) × (broken ≡ None)
+ended_found level seen end b found moves broken why e none = grind (arith, e, none)
 
 -- where nothing was found, the call made its reading steps alone
 read_then : (values : List (List ℕ)) (ends : End) (rest : Walked) (seen : List Move) → (rest.broken ≡ None → rest.moves ≡ seen)
@@ -165,24 +166,27 @@ lacking_or : (found : Result Found Refusal) (lacks : Bool) (why : Refusal) → f
     → (why ≡ Memory) ⊎ (found ≡ Err why)
 lacking_or found lacks why e = grind (arith, e)
 
--- so such a call leaves what it saw, and is refused as the offer is there
-module _ (i : Instance) (y : History) (c : Course) (b : Batch) (offer : List ℕ) (why : Refusal)
-    (e : given_for (called i (by_lists i) y c offer b).ending ≡ Err why) (none : fault_of why ≡ None) where
-  left_seen : ((called i (by_lists i) y c offer b).state ≡ seen_at i (by_lists i) y c)
-      × (found_unless_wanting (found_at i (by_lists i) (seen_at i (by_lists i) y c) b offer) c.lacks ≡ Err why)
+-- so such a call leaves what it saw, and is refused as the offer is there, by either level
+module _ {S : Type 0} (level : Level S) (i : Instance) (s : S) (c : Course) (b : Batch) (offer : List ℕ) (why : Refusal)
+    (e : given_for (called i level s c offer b).ending ≡ Err why) (none : fault_of why ≡ None) where
+  left_seen : ((called i level s c offer b).state ≡ seen_at i level s c)
+      × (found_unless_wanting (found_at i level (seen_at i level s c) b offer) c.lacks ≡ Err why)
   left_seen =
-      let seen : History = seen_at i (by_lists i) y c in
-      let found : Result Found Refusal = found_unless_wanting (found_at i (by_lists i) seen b offer) c.lacks in
-      let w : Walked = walk c.fates 1 (ask_steps i.variant y.is_open (is_fresh found) b) in
-      let f = ended_found i seen (all_made (by_lists i) y w.moves) b found w.moves w.broken why e none in
-      (ap (all_made (by_lists i) y) (read_alone i.variant c.fates y.is_open (is_fresh found) b (ap is_fresh f.0) f.1), f.0)
+      let seen : S = seen_at i level s c in
+      let found : Result Found Refusal = found_unless_wanting (found_at i level seen b offer) c.lacks in
+      let flag : Bool = level.is_open s in
+      let w : Walked = walk c.fates 1 (ask_steps i.variant flag (is_fresh found) b) in
+      let f = ended_found level seen (all_made level s w.moves) b found w.moves w.broken why e none in
+      (ap (all_made level s) (read_alone i.variant c.fates flag (is_fresh found) b (ap is_fresh f.0) f.1), f.0)
 
-  pub keeps_refused : (called i (by_lists i) y c offer b).state.batches ≡ y.batches
-  keeps_refused =
-      ap (λ (z : History). z.batches) left_seen.0
-      ∙ same_batches i (seen_in c.fates (reading_steps i.variant) 1) y (seen_none c.fates (reading_steps i.variant) 1)
-
-  pub judged_refused : (why ≡ Memory) ⊎ (found_at i (by_lists i) (called i (by_lists i) y c offer b).state b offer ≡ Err why)
+  pub judged_refused : (why ≡ Memory) ⊎ (found_at i level (called i level s c offer b).state b offer ≡ Err why)
   judged_refused =
       rw left_seen.0
-      (lacking_or (found_at i (by_lists i) (seen_at i (by_lists i) y c) b offer) c.lacks why left_seen.1)
+      (lacking_or (found_at i level (seen_at i level s c) b offer) c.lacks why left_seen.1)
+
+pub keeps_refused : (i : Instance) (y : History) (c : Course) (b : Batch) (offer : List ℕ) (why : Refusal)
+    → given_for (called i (by_lists i) y c offer b).ending ≡ Err why → fault_of why ≡ None
+    → (called i (by_lists i) y c offer b).state.batches ≡ y.batches
+keeps_refused i y c b offer why e none =
+    ap (λ (z : History). z.batches) (left_seen (by_lists i) i y c b offer why e none).0
+    ∙ same_batches i (seen_in c.fates (reading_steps i.variant) 1) y (seen_none c.fates (reading_steps i.variant) 1)

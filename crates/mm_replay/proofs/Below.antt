@@ -18,6 +18,5 @@ pub use Rattle.mm_run.specs.Held.{Follows, having_read, Held, instance_of, Wants
 pub use Rattle.mm_run.specs.OneEvent.{Issues}
 pub use Rattle.mm_run.proofs.Above.{issues, meaning_by}
 pub use Rattle.mm_world.proofs.Above.{count_none}
-pub use Rattle.mm_play.proofs.Above.{along, answered_headed, finished_headed, Means, much_headed, plays_err, unrefused, whole_err, whole_ok}
-pub use Rattle.mm_replay.specs.Schedule.{after_event, AtHeader, begun, replaying, ReplayStage, Running, running_outcome, schedule_answer}
-pub use Rattle.mm_replay.specs.Schedule.{schedule_closing}
+pub use Rattle.mm_play.proofs.Above.{events_err, events_ok, plays_err, unrefused}
+pub use Rattle.std.specs.Option.{option_map}

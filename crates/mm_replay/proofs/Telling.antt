@@ -1,131 +1,122 @@
--- From a run over lines to what the whole schedule is answered.
-use Rattle.mm_replay.proofs.Below.{◌≡◌, ◌∙◌, ℕ, List, [], ◌++◌, length, map, Option, Some, refl, ap, subst, sym, append-nil, arith, inl}
-use Rattle.mm_replay.proofs.Below.{inr, sum_by, Header, Digests, Means, along, answered_headed, finished_headed, much_headed, Event}
-use Rattle.mm_replay.proofs.Below.{end_line, Reply, promises-kept, Followed, followed, replies_by_digests, world_of, by_digests, Running}
-use Rattle.mm_replay.proofs.Below.{begun, replaying, running_outcome, ReplayStage, AtHeader, schedule_answer, schedule_closing}
-use Rattle.mm_replay.proofs.Below.{meaning_by}
+-- A replay shows of events what is told of a whole replay.
+use Rattle.mm_replay.proofs.Below.{◌≡◌, ◌∙◌, ℕ, suc, List, [], ◌∷◌, ◌++◌, length, Option, None, Some, refl, ap, subst, sym, Header, Digests}
+use Rattle.mm_replay.proofs.Below.{Event, end_line, Reply, promises-kept, Followed, followed, replies_by_digests, world_of, by_digests, sum_by}
+use Rattle.mm_replay.proofs.Below.{meaning_by, option_map}
+use Rattle.std.specs.Prelude.{take}
+use Rattle.std.proofs.Math.Seq.{take-append_seam}
 use Rattle.mm_digest.specs.declared.variant.Variant.{Variant}
+use Rattle.mm_model.specs.Instance.{Instance}
 use Rattle.mm_module.specs.Meaning.{Meaning}
 use Rattle.mm_modules.specs.Modules.{meaning_of}
-use Rattle.mm_play.specs.Events.{TakesEvents, behind, replies, NoneIsOver, AreHeaded}
-use Rattle.mm_schedule.specs.Grammar.{event_at}
+use Rattle.mm_play.specs.Headed.{Headed, Begins}
+use Rattle.mm_play.specs.Shown.{behind, begun_by, replies, Shows}
+use Rattle.mm_schedule.specs.Headers.{header_at}
 use Rattle.mm_schedule.specs.Machine.{Runs}
+use Rattle.mm_run.specs.Folds.{event_outcome, first_digests, first_issued}
 use Rattle.mm_run.specs.Held.{world_key, world_barrier}
 use Rattle.mm_run.specs.OneRun.{IsOneRun, FrontsAreOneRun}
+use Rattle.mm_call.specs.Levels.{Level}
+use Rattle.mm_evidence.proofs.Above.{none_is_one, runs_until}
+use Rattle.mm_evidence.specs.Laws.{IsDecidedRun}
 use Rattle.mm_call.specs.Standing.{instance_by}
 use Rattle.mm_replay.specs.Text.{text_of_replies, texts_of}
-use Rattle.mm_replay.specs.Headline.{IsContinuous, IsPromisedRun, IsWithinLimits, AnswersEvents, AnswersLines, AnswersAll, IsTooMuch}
-use Rattle.mm_replay.specs.Headline.{unended}
+use Rattle.mm_replay.specs.Headline.{AreOneRun, IsByDigests, IsPromisedRun, replayed, Shown, shown_by_digests}
+use Rattle.mm_replay.specs.Schedule.{begun, outcome_of, replay_heads, replay_stage, Replayed, replaying}
+use Rattle.mm_replay.specs.declared.heading.HeaderLine.{HeaderLine}
 
 -- each first part of the events is one run, in either variant
-abbrev FrontsRun : Type 0
+abbrev pub FrontsRun : Type 0
 FrontsRun = (variant : Variant) (meaning : Meaning) (key barrier : List ℕ) (events : List Event)
     → FrontsAreOneRun (instance_by variant meaning key barrier) events
 
+-- a reply comes to each event
+one_each : {S : Type 0} (i : Instance) (level : Level S) (events : List Event) (s : S) (issued : List (List ℕ))
+    → length (followed i level s issued events).replies ≡ length events
+one_each i level [] s issued = refl
+one_each i level (event ∷ events) s issued =
+    let o = event_outcome i level s issued event in ap suc (one_each i level events o.state o.issued)
+
+-- the replies to the first events are the first replies
+first_replies : (front : List Event) (all it later : List Reply) → all ≡ it ++ later → length it ≡ length front
+    → it ≡ take (length front) all
+first_replies front all it later is size =
+    sym (ap (λ n. take n all) (sym size) ∙ ap (λ (rs : List Reply). take (length it) rs) is ∙ take-append_seam it later)
+
 -- the module's promises hold of one run
-promised_run : (header : Header) (events : List Event) (replies : List Reply) (committed : ℕ) (issued : List (List ℕ))
-    → IsOneRun (world_of header) events replies committed issued → IsPromisedRun header events replies committed issued
-promised_run header events replies committed issued one = record {
+promised_run : (header : Header) (events : List Event) (shown : Shown)
+    → IsOneRun (world_of header) events shown.replies shown.committed shown.issued → IsPromisedRun header events shown
+promised_run header events shown one = record {
   run = one;
-  promised = promises-kept header.«module» events replies one.requests
-      (subst (λ m. Runs m [] events replies one.requests) (meaning_by header.variant (meaning_of header.«module») world_key
+  promised = promises-kept header.«module» events shown.replies one.requests
+      (subst (λ m. Runs m [] events shown.replies one.requests) (meaning_by header.variant (meaning_of header.«module») world_key
       world_barrier) one.runs);
 }
 
--- the law of whole runs gives the headline
-continuous : FrontsRun → (header : Header) (events : List Event) → IsContinuous header events
-continuous law header events front rest is =
-    let own = law header.variant (meaning_of header.«module») world_key world_barrier events front rest is in (
-      own.0,
-      λ clear genuine. promised_run header front _ _ _ (own.1 clear genuine),
-    )
+-- each run meets the premises or gives evidence
+abbrev pub RunsAreDecided : Type 0
+RunsAreDecided = (variant : Variant) (meaning : Meaning) (key barrier : List ℕ) (events : List Event)
+    → IsDecidedRun (instance_by variant meaning key barrier) events
 
-abbrev followed_in : Running → List Event → Followed Digests
-followed_in r events = followed (world_of r.header) (by_digests (world_of r.header)) r.digests r.issued events
+-- the laws of whole runs give the headline
+pub by_digests_so : FrontsRun → RunsAreDecided → (header : Header) (events : List Event)
+    → IsByDigests header events (shown_by_digests header)
+by_digests_so law decided header events = record {
+  exact = λ front. refl;
+  headline = record {
+    each = one_each (world_of header) (by_digests (world_of header)) events (first_digests (world_of header)) (first_issued (world_of header));
+    first = λ front later is.
+        let i = world_of header in
+        let it : Followed Digests = replies_by_digests i front in
+        let own = law header.variant (meaning_of header.«module») world_key world_barrier events front later is in
+        first_replies front (replies_by_digests i events).replies it.replies
+        (followed i (by_digests i) it.state it.issued later).replies (ap (λ (f : Followed Digests). f.replies) own.0)
+        (one_each i (by_digests i) front (first_digests i) (first_issued i));
+    unless_evidence =
+        let i : Instance = world_of header in
+        let known = decided header.variant (meaning_of header.«module») world_key world_barrier in
+        runs_until i known events (λ front. IsPromisedRun header front (shown_by_digests header front))
+        (promised_run header [] (shown_by_digests header []) (none_is_one i known))
+        (λ front later is clear genuine.
+        let own = law header.variant (meaning_of header.«module») world_key world_barrier events front later is in
+        promised_run header front (shown_by_digests header front) (own.1 clear genuine));
+    one_run = λ front later is clear genuine.
+        let own = law header.variant (meaning_of header.«module») world_key world_barrier events front later is in
+        promised_run header front (shown_by_digests header front) (own.1 clear genuine);
+  };
+}
 
 -- what stands behind events, and what was written
-record Follows (r : Running) (lines : List (List ℕ)) (events : List Event) : Type 0 where
-  state : (behind replaying r lines events).digests ≡ (followed_in r events).state
-  issued : (behind replaying r lines events).issued ≡ (followed_in r events).issued
-  sent : replies replaying r lines events ≡ texts_of (followed_in r events).replies
+abbrev followed_in : Replayed → List Event → Followed Digests
+followed_in r events = followed (world_of r.header) (by_digests (world_of r.header)) r.digests r.issued events
 
-module _ (heading : List ℕ → Option Header) where
-  takes : TakesEvents replaying (schedule_answer heading)
-  takes = record {
-    answers = λ r line. refl;
-    reads = λ r line event. refl;
-    counts = λ r line event. refl;
-    sums = λ r line event. refl;
-  }
+state_behind : (events : List Event) (r : Replayed) → (behind replaying r events).digests ≡ (followed_in r events).state
+state_behind [] r = refl
+state_behind (event ∷ events) r = state_behind events (replaying.after r event)
 
-  follows : (r : Running) (lines : List (List ℕ)) (events : List Event) → map event_at lines ≡ map Some events → Follows r lines events
-  follows =
-      along replaying (schedule_answer heading) takes event_at Follows (λ r. record { state = refl; issued = refl; sent = refl })
-      (λ r line lines event events f. record {
-        state = f.state;
-        issued = f.issued;
-        sent = ap (λ (text : List ℕ). text_of_replies (running_outcome r event).reply ++ text) f.sent;
-      })
+issued_behind : (events : List Event) (r : Replayed) → (behind replaying r events).issued ≡ (followed_in r events).issued
+issued_behind [] r = refl
+issued_behind (event ∷ events) r = issued_behind events (replaying.after r event)
 
-  -- the limits, from the header on
-  within_limits : (header : Header) (others : List (List ℕ)) → NoneIsOver replaying (begun header) others → IsWithinLimits header others
-  within_limits header others within before line after events split read over =
-      let kept = ap (sum_by length) (follows (begun header) before events read).issued in
-      within before line after events split read (elim over [ inl h ↦ inl (omega (arith, h)) | inr h ↦ inr (omega (arith, h, kept)) ])
+texts_behind : (events : List Event) (r : Replayed) → texts_of (followed_in r events).replies ≡ replies replaying r events
+texts_behind [] r = refl
+texts_behind (event ∷ events) r =
+    ap (λ (text : List ℕ). text_of_replies (outcome_of r event).reply ++ text) (texts_behind events (replaying.after r event))
 
-  module _ (law : FrontsRun) where
-    -- these lines were answered: what was written, and what any last line adds
-    answers_events : (lines : List (List ℕ)) (said written : List ℕ) (p : ReplayStage) (last : ℕ → ℕ → List ℕ)
-        (h : AreHeaded replaying heading begun lines said p)
-        → (let r = behind replaying (begun h.header) h.others h.answers.events in written ≡ said ++ last r.digests.count (length r.issued))
-        → AnswersEvents heading lines written last
-    answers_events lines said written p last h whole =
-        let a = h.answers in
-        let f = follows (begun h.header) h.others a.events a.read in
-        let it : Followed Digests = replies_by_digests (world_of h.header) a.events in
-        let stands = behind replaying (begun h.header) h.others a.events in
-        record {
-          first = h.first;
-          others = h.others;
-          header = h.header;
-          events = a.events;
-          split = h.split;
-          headed = h.headed;
-          read = a.read;
-          told = whole ∙ ap (λ (w : List ℕ). w ++ last stands.digests.count (length stands.issued)) (a.sent ∙ f.sent)
-              ∙ ap (λ (d : Digests). texts_of it.replies ++ last d.count (length stands.issued)) f.state
-              ∙ ap (λ (issued : List (List ℕ)). texts_of it.replies ++ last it.state.count (length issued)) f.issued;
-          within = within_limits h.header h.others a.within;
-          headline = continuous law h.header a.events;
-        }
+leads_so : (found : Option Header) → (let x : Option (Headed HeaderLine Replayed) = option_map (λ header. Begins (begun header)) found in
+    x ≡ begun_by begun (option_map (λ header. Begins header) found))
+leads_so None = refl
+leads_so (Some header) = refl
 
-    -- what the answers to the lines of a schedule mean
-    pub means : Means (schedule_answer heading) schedule_closing AtHeader (AnswersLines heading) (AnswersAll heading) (IsTooMuch heading)
-    means = record {
-      lines = λ lines written a.
-          elim (answered_headed replaying (schedule_answer heading) takes heading begun AtHeader (λ line. refl) lines written a) [
-            | inl none ↦ inl none
-            | inr h ↦ inr (answers_events lines written written a.0 unended h (sym (append-nil written)))
-          ];
-      whole = λ lines written f.
-          let h = finished_headed replaying (schedule_answer heading) takes heading begun AtHeader (λ line. refl) schedule_closing
-          (λ r. end_line r.digests.count (length r.issued)) refl (λ r. refl) lines written f in
-          answers_events lines f.said written f.next end_line h.0 h.1;
-      turn = λ done rest m.
-          let much = much_headed replaying (schedule_answer heading) takes heading begun AtHeader (λ line. refl) done rest m in
-          let h = much.headed in
-          let kept = ap (sum_by length) (follows (begun h.header) h.others h.answers.events h.answers.read).issued in
-          record {
-            first = h.first;
-            others = h.others;
-            header = h.header;
-            events = h.answers.events;
-            line = much.line;
-            more = much.more;
-            split = h.split;
-            headed = h.headed;
-            read = h.answers.read;
-            follows = much.follows;
-            over = elim much.over [ inl many ↦ inl (omega (arith, many)) | inr large ↦ inr (omega (arith, large, kept)) ];
-          };
-    }
+pub shows : Shows replayed replay_heads replay_stage replaying begun shown_by_digests
+shows = record {
+  takes = record { answers = λ r line. refl; reads = λ r event. refl; counts = λ r event. refl };
+  leads = λ at line. leads_so (header_at line);
+  reads = λ header. refl;
+  first = λ header. refl;
+  text = λ header events. texts_behind events (begun header);
+  last = λ header events.
+      ap (λ (d : Digests). end_line d.count (length (followed_in (begun header) events).issued)) (sym (state_behind events (begun header)))
+      ∙ ap (λ (xs : List (List ℕ)). end_line (behind replaying (begun header) events).digests.count (length xs))
+      (sym (issued_behind events (begun header)));
+  kept = λ header events. ap (λ (xs : List (List ℕ)). sum_by length xs) (sym (issued_behind events (begun header)));
+}

@@ -1,6 +1,7 @@
 pub mod Text
 pub mod Schedule
+pub mod ScheduleLaws
+pub mod Replaying
 pub mod Headline
-pub mod Counting
 pub mod Progress
 pub mod Replays

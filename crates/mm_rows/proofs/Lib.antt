@@ -2,3 +2,4 @@ mod Below
 mod InMemory
 mod Beginning
 mod OldCopies
+mod WholeLives

@@ -3,3 +3,4 @@ pub mod Recovering
 pub mod Starting
 pub mod FirstSession
 pub mod OldCopy
+pub mod Lives

@@ -4,9 +4,13 @@
 #![tactic(auto)]
 
 mod calls;
+mod lives;
 mod sessions;
 
 pub use calls::{ask_basic, ask_opt, close_segment};
+pub use lives::{
+    Checkpoint, TwoSessions, Unlived, live_checkpointed, live_on_copy, live_without_power,
+};
 pub use sessions::{go_on, serve, serve_copy, start, start_and_serve};
 
 #[cfg(test)]

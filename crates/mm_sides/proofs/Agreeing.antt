@@ -15,7 +15,9 @@ use Rattle.mm_sides.proofs.InOrder.{not_dead, invites_none, leaves_live}
 use Rattle.mm_sides.proofs.OneHistory.{live_history, away_history, affected_history}
 use Rattle.mm_sides.proofs.OneLive.{IsOrdered}
 use Rattle.mm_sides.proofs.Rests.{names_cross, alike_names, issued_cross, within_cross, cell_cross, digest_rests, says_again, rests_listed, flag_shut, sound_in, issued_here, here_tells, end_of}
-use Rattle.mm_sides.proofs.Twins.{Twin, twin, IsNamed, Kept, Goes, each_goes, brought_kept, plain_goes}
+use Rattle.mm_sides.proofs.Behind.{alike_rests_in, behind_later, IsBehind, rests_in, RestsIn, went_alike, went_here}
+use Rattle.mm_sides.proofs.Twins.{Twin, twin, IsNamed, Kept, Goes, each_goes, brought_kept, now_within, plain_goes}
+use Rattle.mm_sides.proofs.WentOn.{WentOn}
 use Rattle.mm_sides.proofs.SameFound.{named_of, finding_same}
 
 module _ (variant : Variant) (meaning : Meaning) (key key' barrier : List ℕ) (all others : List (List ℕ)) (asked : List Batch)
@@ -31,7 +33,7 @@ module _ (variant : Variant) (meaning : Meaning) (key key' barrier : List ℕ) (
 
   -- what an effect that is made tells of the history where the first side was brought to
   abbrev Makes : History → Option Effect → Type 0
-  Makes z (Some (Leaves ticket)) = (z.is_open ≡ false) × Names me z ticket.content × (ticket.content ≡ issued me z)
+  Makes z (Some (Leaves ticket)) = (z.is_open ≡ false) × Names me z ticket.content × (ticket.content ≡ issued me z) × RestsIn me.variant z
   Makes z effect = Unit {0}
 
   -- what by digests says where the module stands once it has entered
@@ -62,6 +64,9 @@ module _ (variant : Variant) (meaning : Meaning) (key key' barrier : List ℕ) (
           order = affected_order lists_move l notes effect k.order fine;
           named = subst (λ y. AllByRecursion (IsNamed all me y) notes.retired) (sym (affected_history l notes effect k.order fine)) k.named;
           last = λ gone left ticket is. k.last (invites_none l.first.role nonce fine.0) left ticket is;
+          this_behind = tt;
+          other_behind = subst (IsBehind l.second.role them.variant l.second.at) (sym (affected_history l notes effect k.order fine))
+              k.other_behind;
         };
         entering = tt;
       }
@@ -90,6 +95,10 @@ module _ (variant : Variant) (meaning : Meaning) (key key' barrier : List ℕ) (
               (each_append (IsNamed all me (history_now l)) notes.retired (ticket ∷ []) k.named
               (subst (λ w. IsNamed all me w ticket) (sym now) own, tt));
           last = λ gone left other is. ap (λ (t : TicketContent). t.content) (pushed_last notes.retired ticket other is) ∙ made.2;
+          this_behind = subst (λ w. WentOn y w × RestsIn me.variant y) (sym (affected_history l notes effect k.order fine ∙ now))
+              (went_here y, made.3);
+          other_behind = subst (IsBehind l.second.role them.variant l.second.at) (sym (affected_history l notes effect k.order fine))
+              k.other_behind;
         };
         entering = tt;
       }
@@ -127,6 +136,9 @@ module _ (variant : Variant) (meaning : Meaning) (key key' barrier : List ℕ) (
           named = each_goes (IsNamed all me l.away) (IsNamed all me z)
               (λ t h. (names_cross variant meaning key key barrier l.away own.items t.content h.0, h.1)) notes.retired away_named;
           last = λ gone left other at. not_dead gone;
+          this_behind = tt;
+          other_behind = behind_later l.second.role them.variant l.second.at l.away z (went_alike l.away z (record { is = refl }))
+              (subst (IsBehind l.second.role them.variant l.second.at) (away_history l alone.not_here alone.not_there) k.other_behind);
         };
         entering = says_again variant meaning key barrier z
             (digests_move.enters x.first x.away ticket.content) ticket.content k.left.shut digest
@@ -221,6 +233,8 @@ module _ (variant : Variant) (meaning : Meaning) (key key' barrier : List ℕ) (
           alike_names variant meaning key barrier y z b.alike ticket.content (subst (Names me y) (sym left.says)
               (issued_here variant meaning key barrier y (sound_in variant meaning key barrier y k.within.sound) live)),
           left.says ∙ same_issued y z b.alike,
+          alike_rests_in me.variant y z b.alike
+              (rests_in variant meaning key barrier y (sound_in variant meaning key barrier y k.within.sound) live left.shut),
         )
     makes_by again moved effect fits = tt
 
@@ -298,7 +312,7 @@ module _ (variant : Variant) (meaning : Meaning) (key key' barrier : List ℕ) (
   pub here_goes : (pair : Pair) (l : Both History History) (x : Twin) (notes : Notes) (act : Act) → Kept all others asked me them l x notes
       → IsOrdered l.first.role l.second.role notes (outcome_here lists_move pair me l act)
       → AllByRecursion (Contains others) (others_in act) → AllByRecursion (Contains asked) (batches_in act)
-      → Within (messages_here pair me l act) all → IsGenuineHere me l.first act → IsOursIn pair l.tickets notes act
+      → Within (messages_here pair me l act) all → IsGenuineHere me l act → IsOursIn pair l.tickets notes act
       → Goes all others asked me them notes (outcome_here lists_move pair me l act) (outcome_here digests_move pair me (twin l x) act)
   here_goes pair l x notes (Plain event) k s outside batches listed genuine ours =
       plain_goes variant meaning key key' barrier all others asked clear apart l x notes l.first.role event k outside batches listed genuine
@@ -310,5 +324,6 @@ module _ (variant : Variant) (meaning : Meaning) (key key' barrier : List ℕ) (
       (moves_messages me l.first.at (found_moves meddles stop found)) listed in
       subst (λ (f : Option (Result FoundMove MoveCause)). Goes all others asked me them notes
       (moved_if lists_move pair me l meddles stop command found) (moved_if digests_move pair me (twin l x) meddles stop command f))
-      (sym (finding_same variant meaning key barrier all others asked clear apart pair them l x notes command k genuine ours front))
+      (sym (finding_same variant meaning key barrier all others asked clear apart pair them l x notes command k
+      (now_within variant meaning key key' barrier all others asked clear apart l x notes k) genuine ours front))
       (moved_goes pair l x notes meddles stop command found k s (finding_fits lists_move pair me notes l command ours) outside back)

@@ -56,12 +56,12 @@ pub use Rattle.mm_run.specs.Premises.{batches_of, event_messages, foreign_of, mo
 pub use Rattle.mm_run.proofs.Above.{basic_begins, opt_begins, anchor_nil, basic_events_agree, basic_events_keep_names, clear_within}
 pub use Rattle.mm_run.proofs.Above.{event_steps, opt_events_agree, opt_events_keep_names}
 pub use Rattle.mm_sides.specs.Both.{Both, digests_move, First, first_both, first_lists, instance_on, key_of, lists_move, Mover, Pair}
-pub use Rattle.mm_sides.specs.Both.{Second, Side, turned, Which}
+pub use Rattle.mm_sides.specs.Both.{Second, Side, turned, Which, history_at, history_now}
 pub use Rattle.mm_sides.specs.Folds.{accepting, Act, affected_if, both_expected, both_followed, both_outcome, BothEvent, BothFollowed}
 pub use Rattle.mm_sides.specs.Folds.{BothOutcome, BothReply, brought_to, effect_if, effect_of, Entered, finding, handed, Invited, is_moved}
 pub use Rattle.mm_sides.specs.Folds.{Left, move_ended, move_steps, moved_by, moved_if, Moves, noted_if, outcome_here, Plain, plain_outcome}
 pub use Rattle.mm_sides.specs.Folds.{refused_where, retiring, Said, stopped_moves, told, unissued}
-pub use Rattle.mm_sides.specs.Laws.{both_continued, counters, EntersAlone, history_at, history_now, IsOneFrom, MovesOnce, one_move}
+pub use Rattle.mm_sides.specs.Laws.{both_continued, counters, EntersAlone, IsOneFrom, MovesOnce, one_move}
 pub use Rattle.mm_sides.specs.Laws.{OneIsLive, PairsAgree, PairsAgreeThroughout, PairsGoOn, plain_events, plain_in, plain_replies}
 pub use Rattle.mm_sides.specs.Laws.{plain_reply, SidesIssueNames, SidesRunAsOne, SnapshotsName}
 pub use Rattle.mm_sides.specs.Moves.{Accept, accepted_on, Already, Command, entered_again, entered_as, FoundMove, Gone, Invite, invited_on}

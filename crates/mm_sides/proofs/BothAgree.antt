@@ -105,6 +105,8 @@ pairs_agree pair events clear genuine fresh =
       order = roles_begin;
       named = tt;
       last = λ gone left ticket is. absurd (cc);
+      this_behind = tt;
+      other_behind = tt;
     }) (each_self [] others) (each_self [] asked) self.1 genuine fresh
 
 follow_on : {S A : Type 0} (mover : Mover S A) (pair : Pair) (es fs : List BothEvent) (both : Both S A)

@@ -3,6 +3,8 @@ mod Below
 mod InOrder
 mod Found
 mod Outer
+mod WentOn
+mod Behind
 mod OneHistory
 mod OneLive
 mod OneRun
@@ -14,3 +16,4 @@ mod BothAgree
 mod SideNames
 mod SideIssues
 mod OneMove
+mod Breaking

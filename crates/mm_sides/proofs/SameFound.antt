@@ -9,7 +9,10 @@ use Rattle.mm_sides.proofs.Below.{MoveCause, Refused, Open, Gone, FoundMove, sta
 use Rattle.mm_sides.proofs.Below.{ticket_in, entered_again, accepted_on, retiring, accepting, finding, closing_of, offer_closing}
 use Rattle.mm_sides.proofs.Below.{command_messages, IsGenuineTo, IsGenuineCommand, IsOurs, IsOursOffered, IsOursFor}
 use Rattle.mm_call.specs.OfferLaws.{right_is, is_right}
-use Rattle.mm_sides.proofs.Rests.{says_again, here_tells, end_of, open_same, here_same}
+use Rattle.mm_sides.proofs.Behind.{end_behind, IsBehind, RestsIn, there_same}
+use Rattle.mm_sides.proofs.Rests.{says_again, here_tells, end_of, IsAtEnd, open_same, here_same}
+use Rattle.mm_sides.proofs.WentOn.{WentOn}
+use Rattle.mm_sides.proofs.Below.{history_now, IsWithin, nat_eq, total_of}
 use Rattle.mm_sides.proofs.Found.{stands_by}
 use Rattle.mm_sides.proofs.OneHistory.{live_history}
 use Rattle.mm_sides.proofs.Twins.{Twin, twin, IsShut, IsNamed, Kept}
@@ -52,11 +55,31 @@ module _ (variant : Variant) (meaning : Meaning) (key barrier : List ℕ) (all o
   left_same y d again nonce c (Ok fresh) says =
       ap (λ (t : Content). Ok (record { again = again; effect = Leaves (record { nonce = nonce; content = t }) })) (says fresh refl)
 
-  offered_same : (y : History) (d : Digests) (again : Bool) (nonce bytes : List ℕ) (parts : Result Snapshot PartsFault)
+  -- what names a position of the history now is found by digests as by lists; and at its last position it says what is there
+  record Finds (y now : History) (d : Digests) : Type 0 where
+    same : (c : Content) → Within (place_messages c.place) all → Names me now c
+        → stands_here (by_digests me) d c ≡ stands_here (by_lists me) y c
+    at_end : (c : Content) → Names me now c → nat_eq c.position (total_of y.batches) ≡ true → IsAtEnd me y c
+
+  finds_here : (y : History) (d : Digests) → Keeps all others asked me y d → y.is_open ≡ false → Finds y y d
+  finds_here y d k shut = record {
+    same = λ c listed n. here_same variant meaning key barrier all others asked clear apart y d c k.within k.agrees shut listed n;
+    at_end = λ c n last. end_of me y c n last;
+  }
+
+  finds_behind : (y now : History) (d : Digests) → Keeps all others asked me y d → y.is_open ≡ false → WentOn y now
+      → RestsIn me.variant y → IsWithin all others asked me now → Finds y now d
+  finds_behind y now d k shut on rests within = record {
+    same = λ c listed n. there_same variant meaning key barrier all others asked clear y now d c on rests within k.agrees shut listed n;
+    at_end = λ c n last. end_behind me y now c on n last;
+  }
+
+  -- an offer that names a position of the history now, by what that tells of where the side stands
+  offered_same : (y now : History) (d : Digests) (again : Bool) (nonce bytes : List ℕ) (parts : Result Snapshot PartsFault)
       → parts_of me.variant me.meaning.id bytes ≡ parts → Keeps all others asked me y d → y.is_open ≡ false
-      → IsGenuine me y bytes → Within (closing_of (right_content me bytes)) all
+      → IsGenuine me now bytes → Within (closing_of (right_content me bytes)) all → Finds y now d
       → offered_to digests_move me d again nonce parts ≡ offered_to lists_move me y again nonce parts
-  offered_same y d again nonce bytes (Ok snapshot) e k shut genuine listed =
+  offered_same y now d again nonce bytes (Ok snapshot) e k shut genuine listed finds =
       let c : Content = snapshot.content in
       let s : Bool = me.meaning.is_spelled c.state in
       let t : Bool = bytes_eq snapshot.tag (tag_of me.key c) in
@@ -64,39 +87,44 @@ module _ (variant : Variant) (meaning : Meaning) (key barrier : List ℕ) (all o
       let there : Bool = stands_here (by_digests me) d c in
       let same : weighed s t (verdict_here there) true ≡ weighed s t (verdict_here here) true =
       weighed_alike s t (verdict_here there) (verdict_here here) true
-      (λ spelled tagged. let n = right_named y bytes snapshot genuine listed e spelled tagged in
-      ap verdict_here (here_same variant meaning key barrier all others asked clear apart y d c k.within k.agrees shut n.1 n.0)) in
+      (λ spelled tagged. let n = right_named now bytes snapshot genuine listed e spelled tagged in
+      ap verdict_here (finds.same c n.1 n.0)) in
       ap (left_by digests_move me d again nonce c) same ∙ left_same y d again nonce c (weighed s t (verdict_here here) true)
       (λ fresh f. let a = weighed_only s t (verdict_here here) true fresh f in
-      let n = right_named y bytes snapshot genuine listed e a.spelled a.tagged in
+      let n = right_named now bytes snapshot genuine listed e a.spelled a.tagged in
       let h = here_tells me y c (stands_by here fresh a.verdict) in
-      let z = end_of me y c n.0 h.last in
+      let z = finds.at_end c n.0 h.last in
       says_again variant meaning key barrier y d c shut k.agrees.digest z.position z.state)
-  offered_same y d again nonce bytes (Err Form) e k shut genuine listed = refl
-  offered_same y d again nonce bytes (Err Kind) e k shut genuine listed = refl
+  offered_same y now d again nonce bytes (Err Form) e k shut genuine listed finds = refl
+  offered_same y now d again nonce bytes (Err Kind) e k shut genuine listed finds = refl
 
   -- a retirement
-  retired_same : (role : Role) (y : History) (d : Digests) (nonce bytes : List ℕ) → Keeps all others asked me y d → IsShut role y
-      → IsGenuineTo role me y (Some bytes) → Within (closing_of (right_content me bytes)) all
+  retired_same : (role : Role) (y now : History) (d : Digests) (nonce bytes : List ℕ) → Keeps all others asked me y d → IsShut role y
+      → IsBehind role me.variant y now → (is_live role ≡ true → now ≡ y) → IsWithin all others asked me now
+      → IsGenuineTo role me now (Some bytes) → Within (closing_of (right_content me bytes)) all
       → retired_on digests_move me role d nonce bytes ≡ retired_on lists_move me role y nonce bytes
-  retired_same Live y d nonce bytes k shut genuine listed =
+  retired_same Live y now d nonce bytes k shut behind here within genuine listed =
       let parts = parts_of me.variant me.meaning.id bytes in
       let rest : Result FoundMove MoveCause = offered_to digests_move me d false nonce parts in
       ap (λ f. if f then Err Open else rest) (open_same variant meaning key barrier y d k.agrees k.within.sound)
       ∙ if_both y.is_open (Err Open) rest (offered_to lists_move me y false nonce parts)
-      (λ e. offered_same y d false nonce bytes parts refl k e genuine listed)
-  retired_same (Retired left) y d nonce bytes k shut genuine listed =
+      (λ e. offered_same y y d false nonce bytes parts refl k e (subst (λ w. IsGenuine me w bytes) (here refl) genuine) listed
+      (finds_here y d k e))
+  retired_same (Retired left) y now d nonce bytes k shut behind here within genuine listed =
       let parts = parts_of me.variant me.meaning.id bytes in
       if_first (bytes_eq left nonce) (offered_to digests_move me d true nonce parts) (offered_to lists_move me y true nonce parts)
-      (Err Gone) (λ e. offered_same y d true nonce bytes parts refl k shut genuine listed)
-  retired_same role y d nonce bytes k shut genuine listed = refl
+      (Err Gone) (λ e. offered_same y now d true nonce bytes parts refl k shut genuine listed
+      (finds_behind y now d k shut behind.0 behind.1 within))
+  retired_same role y now d nonce bytes k shut behind here within genuine listed = refl
 
-  retiring_same : (side : Side History) (d : Digests) (nonce : List ℕ) (bytes : Option (List ℕ)) → Keeps all others asked me side.at d
-      → IsShut side.role side.at → IsGenuineTo side.role me side.at bytes → Within (offer_closing me bytes) all → retiring digests_move me
+  retiring_same : (side : Side History) (now : History) (d : Digests) (nonce : List ℕ) (bytes : Option (List ℕ))
+      → Keeps all others asked me side.at d → IsShut side.role side.at → IsBehind side.role me.variant side.at now
+      → (is_live side.role ≡ true → now ≡ side.at) → IsWithin all others asked me now → IsGenuineTo side.role me now bytes
+      → Within (offer_closing me bytes) all → retiring digests_move me
       (record { role = side.role; at = d; issued = side.issued }) nonce bytes ≡ retiring lists_move me side nonce bytes
-  retiring_same side d nonce None k shut genuine listed = refl
-  retiring_same side d nonce (Some bytes) k shut genuine listed =
-      ap Some (retired_same side.role side.at d nonce bytes k shut genuine listed)
+  retiring_same side now d nonce None k shut behind here within genuine listed = refl
+  retiring_same side now d nonce (Some bytes) k shut behind here within genuine listed =
+      ap Some (retired_same side.role side.at now d nonce bytes k shut behind here within genuine listed)
 
   -- an acceptance: on a live side, of a ticket that names its history
   again_same : (y : History) (d : Digests) (read : Result TicketContent Refusal) → Keeps all others asked me y d
@@ -142,10 +170,12 @@ module _ (variant : Variant) (meaning : Meaning) (key barrier : List ℕ) (all o
 
   pub finding_same : (pair : Pair) (j : Instance) (l : Both History History) (x : Twin) (notes : Notes) (command : Command)
       → Kept all others asked me j l x notes
-      → IsGenuineCommand me l.first command → IsOursFor pair l.tickets notes command → Within (command_messages me l.first command) all
+      → IsWithin all others asked me (history_now l) → IsGenuineCommand me l command → IsOursFor pair l.tickets notes command
+      → Within (command_messages me l.first command) all
       → finding digests_move pair me (twin l x) command ≡ finding lists_move pair me l command
-  finding_same pair j l x notes (Invite nonce) k genuine ours listed = refl
-  finding_same pair j l x notes (Retire nonce offer) k genuine ours listed =
-      retiring_same l.first x.first nonce (offered_bytes l.first.issued offer) k.this.keeps k.this.shut genuine listed
-  finding_same pair j l x notes (Accept offer) k genuine ours listed =
+  finding_same pair j l x notes (Invite nonce) k within genuine ours listed = refl
+  finding_same pair j l x notes (Retire nonce offer) k within genuine ours listed =
+      retiring_same l.first (history_now l) x.first nonce (offered_bytes l.first.issued offer) k.this.keeps k.this.shut k.this_behind
+      (live_history l) within genuine listed
+  finding_same pair j l x notes (Accept offer) k within genuine ours listed =
       accepting_same pair j l x notes (offered_bytes l.tickets offer) k ours

@@ -1,4 +1,5 @@
 -- Both sides by digests beside both sides by lists: what holds of them before and after each event.
+use Rattle.mm_sides.proofs.Below.{Basic, Bool, Opt, true}
 use Rattle.mm_sides.proofs.Below.{ℕ, ◌≡◌, false, List, [], ◌∷◌, sym, ◌∙◌, subst, ◌+◌, ◌-◌, None, AllByRecursion, Contains}
 use Rattle.mm_sides.proofs.Below.{Variant, Batch, Meaning, Instance, History, total_of, Within, IsClear, Digests, Names, issued}
 use Rattle.mm_sides.proofs.Below.{place_messages, IsWithin, moves_messages, instance_by, TicketContent, Keeps, Role, Live}
@@ -9,6 +10,7 @@ use Rattle.mm_sides.proofs.Below.{event_messages, moves_of, AreApartIn, refused_
 use Rattle.mm_sides.proofs.InOrder.{roles_swap, not_dead}
 use Rattle.mm_sides.proofs.OneHistory.{turned_history, alike_at}
 use Rattle.mm_sides.proofs.Rests.{names_cross, alike_names, issued_cross, within_cross, sound_in}
+use Rattle.mm_sides.proofs.Behind.{behind_alike, behind_later, IsBehind, went_alike, went_event}
 use Rattle.mm_sides.proofs.Outer.{in_vain, IsAlike, same_open, events_agree, events_keep_names, vain_same}
 
 -- what by digests is apart from lists: roles, snapshots, tickets and the count of requests are the same
@@ -58,6 +60,8 @@ pub record KeptAt (all others : List (List ℕ)) (asked : List Batch) (i j : Ins
   pub named : AllByRecursion (IsNamed all i (history_at (is_live role) (is_live role') y z away)) notes.retired
   pub last : is_live role ≡ false → is_live role' ≡ false → (ticket : TicketContent) → IsLastTicket notes.retired ticket
       → ticket.content ≡ issued i away
+  pub this_behind : IsBehind role i.variant y (history_at (is_live role) (is_live role') y z away)
+  pub other_behind : IsBehind role' j.variant z (history_at (is_live role) (is_live role') y z away)
 
 -- what holds of both sides, whatever they issued
 abbrev pub Kept : List (List ℕ) → List (List ℕ) → List Batch → Instance → Instance → Both History History → Twin → Notes → Type 0
@@ -97,7 +101,18 @@ turned_kept variant meaning key key' barrier all others asked l x notes k =
           (λ t h. (names_cross variant meaning key key' barrier (history_now l) (history_now l).items t.content h.0, h.1)) notes.retired
           k.named);
       last = λ gone left ticket is. k.last left gone ticket is ∙ issued_cross variant meaning key key' barrier l.away l.away.items;
+      this_behind = subst (IsBehind l.second.role j.variant l.second.at) (sym (turned_history l notes k.order)) k.other_behind;
+      other_behind = subst (IsBehind l.first.role i.variant l.first.at) (sym (turned_history l notes k.order)) k.this_behind;
     }
+
+-- what is asked of a history doesn't look at the key
+within_other : (variant : Variant) (meaning : Meaning) (key key' barrier : List ℕ) (all others : List (List ℕ)) (asked : List Batch)
+    (y : History) → IsWithin all others asked (instance_by variant meaning key' barrier) y
+    → IsWithin all others asked (instance_by variant meaning key barrier) y
+within_other Basic meaning key key' barrier all others asked y w =
+    record { sound = w.sound; outside = w.outside; listed = w.listed; batches = w.batches }
+within_other Opt meaning key key' barrier all others asked y w =
+    record { sound = w.sound; outside = w.outside; listed = w.listed; batches = w.batches }
 
 -- An event of a schedule on the first side comes by digests to what it comes to by lists.
 
@@ -129,6 +144,14 @@ module _ (variant : Variant) (meaning : Meaning) (key key' barrier : List ℕ) (
             (IsNamed all me (history_at (is_live l.first.role) (is_live l.second.role) z l.second.at l.away))
             (λ t h. (alike_names variant meaning key barrier _ _ now t.content h.0, h.1)) notes.retired k.named;
         last = k.last;
+        this_behind =
+            let then_now = history_at (is_live l.first.role) (is_live l.second.role) z l.second.at l.away in
+            behind_later l.first.role me.variant z (history_now l) then_now (went_alike (history_now l) then_now now)
+            (behind_alike l.first.role me.variant l.first.at z (history_now l) alike k.this_behind);
+        other_behind =
+            let then_now = history_at (is_live l.first.role) (is_live l.second.role) z l.second.at l.away in
+            behind_later l.second.role them.variant l.second.at (history_now l) then_now (went_alike (history_now l) then_now now)
+            k.other_behind;
       }
 
   -- an event of a schedule, by the role of its side
@@ -140,7 +163,7 @@ module _ (variant : Variant) (meaning : Meaning) (key key' barrier : List ℕ) (
     live_goes : (event : Event) → Kept all others asked me them (standing Live) x notes
         → AllByRecursion (Contains others) (foreign_of event)
         → AllByRecursion (Contains asked) (batches_of event) → Within (plain_messages me Live (standing Live).first event) all
-        → IsGenuineHere me (standing Live).first (Plain event)
+        → IsGenuineHere me (standing Live) (Plain event)
         → Goes all others asked me them notes (plain_outcome lists_move me (standing Live) event)
         (plain_outcome digests_move me (twin (standing Live) x) event)
     live_goes event k outside batches listed genuine =
@@ -175,6 +198,9 @@ module _ (variant : Variant) (meaning : Meaning) (key key' barrier : List ℕ) (
             named = each_goes (IsNamed all me l.first.at) (IsNamed all me ol.state) (λ t h.
                 (n.names t.content h.0, h.1)) notes.retired k.named;
             last = λ gone left ticket is. not_dead gone;
+            this_behind = tt;
+            other_behind = behind_later l.second.role them.variant l.second.at l.first.at ol.state
+                (went_event me l.first.at l.first.issued event) k.other_behind;
           };
         }
 
@@ -216,8 +242,20 @@ module _ (variant : Variant) (meaning : Meaning) (key key' barrier : List ℕ) (
     pub plain_goes : (role : Role) (event : Event) → Kept all others asked me them (standing role) x notes
         → AllByRecursion (Contains others) (foreign_of event)
         → AllByRecursion (Contains asked) (batches_of event) → Within (plain_messages me role (standing role).first event) all
-        → IsGenuineHere me (standing role).first (Plain event)
+        → IsGenuineHere me (standing role) (Plain event)
         → Goes all others asked me them notes (plain_outcome lists_move me (standing role) event)
         (plain_outcome digests_move me (twin (standing role) x) event)
     plain_goes Live event k outside batches listed genuine = live_goes event k outside batches listed genuine
     plain_goes role event k outside batches listed genuine = vain_goes role (refused_where role) event k outside listed
+
+  -- the history now is within the lists
+  pub now_within : (l : Both History History) (x : Twin) (notes : Notes) → Kept all others asked me them l x notes
+      → IsWithin all others asked me (history_now l)
+  now_within l x notes k = within_at (is_live l.first.role) (is_live l.second.role) k.this.keeps.within
+      (within_other variant meaning key key' barrier all others asked l.second.at k.other.keeps.within) k.left.within
+    where
+      within_at : (a b : Bool) → IsWithin all others asked me l.first.at → IsWithin all others asked me l.second.at
+          → IsWithin all others asked me l.away → IsWithin all others asked me (history_at a b l.first.at l.second.at l.away)
+      within_at true b this other left = this
+      within_at false true this other left = other
+      within_at false false this other left = left

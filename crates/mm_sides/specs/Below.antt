@@ -1,6 +1,7 @@
 -- The words that the definitions of this crate take from the crates below.
 pub use Rattle.mm_digest.specs.Messages.{start_message}
 pub use Rattle.mm_digest.specs.declared.variant.Variant.{Variant}
+pub use Rattle.mm_digest.specs.declared.variant.Variant.TheVariants.{Opt}
 pub use Rattle.mm_seal.specs.Parts.{parts_of}
 pub use Rattle.mm_seal.specs.Snapshot.{Content, Snapshot, sealed_of, tag_of}
 pub use Rattle.mm_seal.specs.declared.snapshot.PartsFault.{PartsFault}
@@ -41,3 +42,4 @@ pub use Rattle.mm_run.specs.Folds.{Outcome, after_stop, course_of, event_in_vain
 pub use Rattle.mm_run.specs.Laws.{IsIssued}
 pub use Rattle.mm_run.specs.Offered.{offered_bytes}
 pub use Rattle.mm_run.specs.Premises.{IsGenuineEvent, batches_of, event_messages, foreign_of, moves_of, AreApartIn, IsGenuineOffer}
+pub use Rattle.mm_evidence.specs.Evidence.{event_offer, HasCollision, HasGuard, HasZero, IsForged}

@@ -1,9 +1,9 @@
 -- Two sides that share a link, what stands on each, and two ways to follow them: by lists and by
 -- digests.
-use Rattle.std.specs.Prelude.{ℕ, false, List, []}
+use Rattle.std.specs.Prelude.{ℕ, Bool, true, false, List, []}
 use Rattle.mm_sides.specs.Below.{Variant, Content, Meaning, History, first_history, Instance, Digests, issued, digest_of, Level, by_lists}
 use Rattle.mm_sides.specs.Below.{by_digests, instance_by, summary_in, place_at, first_issued, first_digests}
-use Rattle.mm_sides.specs.Roles.{Role, Blank, Live}
+use Rattle.mm_sides.specs.Roles.{Role, Blank, Live, is_live}
 
 -- the first side or the second
 pub data Which : Type 0 where
@@ -47,6 +47,17 @@ pub record Both (S A : Type 0) : Type 0 where
 -- the same with the sides exchanged
 abbrev pub turned : {S A : Type 0} → Both S A → Both S A
 turned both = record both { first = both.second; second = both.first }
+
+-- the one history: that of the live side, or where the module left
+abbrev pub history_at : (first_lives second_lives : Bool) → (first second away : History) → History
+history_at true second_lives first second away = first
+history_at false true first second away = second
+history_at false false first second away = away
+
+abbrev pub history_now : Both History History → History
+history_now both =
+    history_at (is_live both.first.role) (is_live both.second.role) both.first.at both.second.at
+    both.away
 
 -- with this side as the first
 abbrev pub facing : {S A : Type 0} → Which → Both S A → Both S A

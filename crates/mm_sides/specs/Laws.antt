@@ -1,10 +1,10 @@
 -- The laws of two sides.
-use Rattle.std.specs.Prelude.{◌≡◌, ℕ, Bool, true, false, List, [], ◌∷◌, ◌++◌, length, Option, Some}
+use Rattle.std.specs.Prelude.{◌≡◌, ℕ, List, [], ◌∷◌, ◌++◌, length, Option, Some}
 use Rattle.std.specs.List.{AllByRecursion}
 use Rattle.mm_sides.specs.Below.{Variant, Quiet, counter, History, requests_of, Digests, Agrees, Event, Runs, Last, Reply, IsIssued}
-use Rattle.mm_sides.specs.Roles.{Live, Retired, Effect, Enters, is_live, Notes, no_notes}
+use Rattle.mm_sides.specs.Roles.{Live, Retired, Effect, Enters, Notes, no_notes}
 use Rattle.mm_sides.specs.Order.{EntersLast, AtMostOne}
-use Rattle.mm_sides.specs.Both.{Which, First, Second, Pair, instance_on, Side, Both, lists_move, digests_move, first_lists}
+use Rattle.mm_sides.specs.Both.{Which, First, Second, Pair, instance_on, Side, Both, history_now, lists_move, digests_move, first_lists}
 use Rattle.mm_sides.specs.Moves.{Invite, Retire, Accept}
 use Rattle.mm_sides.specs.Folds.{Act, Plain, Moves, BothEvent, BothReply, Said, both_outcome, BothFollowed, both_followed, both_expected, both_by_digests, noted_if}
 use Rattle.mm_sides.specs.Premises.{IsClearPair, IsGenuinePair, IsFreshPair}
@@ -71,17 +71,6 @@ plain_reply reply = []
 abbrev pub plain_replies : List BothReply → List Reply
 plain_replies [] = []
 plain_replies (reply ∷ replies) = plain_reply reply ++ plain_replies replies
-
--- the one history: that of the live side, or where the module left
-abbrev pub history_at : (first_lives second_lives : Bool) → (first second away : History) → History
-history_at true second_lives first second away = first
-history_at false true first second away = second
-history_at false false first second away = away
-
-abbrev pub history_now : Both History History → History
-history_now both =
-    history_at (is_live both.first.role) (is_live both.second.role) both.first.at both.second.at
-    both.away
 
 -- The replies to both sides' calls are those of one run of the machine, and as many requests were
 -- committed.

@@ -6,3 +6,4 @@ pub mod Moves
 pub mod Folds
 pub mod Premises
 pub mod Laws
+pub mod Evidence

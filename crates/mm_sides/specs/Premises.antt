@@ -7,7 +7,7 @@ use Rattle.mm_sides.specs.Below.{place_messages, Step, Reads, Refusal, moves_mes
 use Rattle.mm_sides.specs.Below.{Checkpoint, Power, Extend, course_of, offered_bytes, moves_of, event_messages, foreign_of, batches_of}
 use Rattle.mm_sides.specs.Below.{IsGenuineEvent, AreApartIn, IsGenuineOffer}
 use Rattle.mm_sides.specs.Roles.{Role, Live, Retired, Effect, Invites, Notes, no_notes}
-use Rattle.mm_sides.specs.Both.{First, Pair, instance_on, Side, Both, facing, lists_move, first_lists}
+use Rattle.mm_sides.specs.Both.{First, Pair, instance_on, Side, Both, facing, history_now, lists_move, first_lists}
 use Rattle.mm_sides.specs.Moves.{Command, Retire, Accept, FoundMove, MoveCause, ticket_in}
 use Rattle.mm_sides.specs.Folds.{Act, Plain, Moves, BothEvent, move_steps, finding, both_outcome, noted_if}
 
@@ -103,28 +103,28 @@ pub record IsClearPair (pair : Pair) (events : List BothEvent) : Type 0 where
       (both_others events) (both_batches events)
 
 -- What is asked of an offer: where the module is, and where it has left, a right one names a
--- position of the history that the side has. So nobody else sealed it.
+-- position of the one history. So nobody else sealed it.
 abbrev pub IsGenuineTo : Role → Instance → History → Option (List ℕ) → Type 0
-IsGenuineTo Live i y bytes = IsGenuineOffer i y bytes
-IsGenuineTo (Retired nonce) i y bytes = IsGenuineOffer i y bytes
-IsGenuineTo role i y bytes = Unit {0}
+IsGenuineTo Live i now bytes = IsGenuineOffer i now bytes
+IsGenuineTo (Retired nonce) i now bytes = IsGenuineOffer i now bytes
+IsGenuineTo role i now bytes = Unit {0}
 
 abbrev pub IsGenuinePlain : Role → Instance → Side History → Event → Type 0
 IsGenuinePlain Live i side event = IsGenuineEvent i side.at side.issued event
 IsGenuinePlain role i side event = Unit {0}
 
-abbrev pub IsGenuineCommand : Instance → Side History → Command → Type 0
-IsGenuineCommand i side (Retire nonce offer) =
-    IsGenuineTo side.role i side.at (offered_bytes side.issued offer)
-IsGenuineCommand i side command = Unit {0}
+abbrev pub IsGenuineCommand : Instance → Both History History → Command → Type 0
+IsGenuineCommand i both (Retire nonce offer) =
+    IsGenuineTo both.first.role i (history_now both) (offered_bytes both.first.issued offer)
+IsGenuineCommand i both command = Unit {0}
 
-abbrev pub IsGenuineHere : Instance → Side History → Act → Type 0
-IsGenuineHere i side (Plain event) = IsGenuinePlain side.role i side event
-IsGenuineHere i side (Moves meddles stop command) = IsGenuineCommand i side command
+abbrev pub IsGenuineHere : Instance → Both History History → Act → Type 0
+IsGenuineHere i both (Plain event) = IsGenuinePlain both.first.role i both.first event
+IsGenuineHere i both (Moves meddles stop command) = IsGenuineCommand i both command
 
 abbrev pub IsGenuineIn : Pair → Both History History → BothEvent → Type 0
 IsGenuineIn pair both event =
-    IsGenuineHere (instance_on pair event.which) (facing event.which both).first event.act
+    IsGenuineHere (instance_on pair event.which) (facing event.which both) event.act
 
 abbrev pub AreGenuineFrom : Pair → Both History History → List BothEvent → Type 0
 AreGenuineFrom pair both [] = Unit {0}

@@ -1,8 +1,10 @@
 //! The laws of two sides, each the contract of a function that does nothing.
 
 ghost use Rattle.mm_sides.specs.Order.{RolesBegin, RolesSwap, RolesGoOn, RolesEnterLast, RolesAreOne};
+ghost use Rattle.mm_sides.specs.Evidence.{PairsAreDecided};
 ghost use Rattle.mm_sides.specs.Laws.{PairsAgreeThroughout, OneIsLive, SidesRunAsOne, PairsGoOn, SidesIssueNames, PremisesAreMet};
 
+use mm_history::names_are_decided;
 use mm_run::premises_are_met;
 
 /// The roles of two sides alone, where each nonce is invited once and each accepted ticket is one that the module left
@@ -27,7 +29,7 @@ pub fn sides_run_as_one()
 {}
 
 /// A schedule of both sides is told by digests as by lists, where no two messages of the run share a digest, no value of
-/// others is the guard of a batch, each right offer names a position of its side's history, and nonces and tickets are
+/// others is the guard of a batch, each right offer names a position of the one history, and nonces and tickets are
 /// fresh.
 pub fn both_sides_agree()
     ensures { PairsAgreeThroughout }
@@ -51,4 +53,12 @@ pub fn a_move_meets_the_premises()
     ensures { PremisesAreMet }
 {
     premises_are_met();
+}
+
+/// A run of both sides meets the premises, or one holds evidence in hand, and never both: as of one platform, or a nonce that
+/// was invited twice, or a ticket with a right tag that the module didn't leave by.
+pub fn pairs_are_decided()
+    ensures { PairsAreDecided }
+{
+    names_are_decided();
 }

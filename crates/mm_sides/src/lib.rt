@@ -6,6 +6,6 @@
 mod laws;
 
 pub use laws::{
-    a_move_meets_the_premises, both_go_on, both_sides_agree, one_side_is_live, roles_stay_in_order,
-    sides_issue_names, sides_run_as_one,
+    a_move_meets_the_premises, both_go_on, both_sides_agree, one_side_is_live, pairs_are_decided,
+    roles_stay_in_order, sides_issue_names, sides_run_as_one,
 };

@@ -44,7 +44,7 @@ pub use Rattle.mm_run.specs.Folds.{course_of, expected, first_digests, Followed,
 pub use Rattle.mm_run.specs.Held.{rising_from}
 pub use Rattle.mm_run.specs.Offered.{offered_bytes}
 pub use Rattle.mm_run.proofs.Above.{few_committed, printable}
-pub use Rattle.mm_world.specs.Asks.{Came, Lacks, quiet_as}
+pub use Rattle.mm_world.specs.Asks.{Came, quiet_as}
 pub use Rattle.mm_world.specs.Held.{digest_in, flag_in, value_in}
 pub use Rattle.mm_world.specs.Stands.{IsQuiet, Stands}
 pub use Rattle.mm_world.specs.declared.call.Called.{Called}
@@ -60,7 +60,7 @@ pub use Rattle.mm_slots.specs.Answers.{answer_text, answers_text, end_lines, IsS
 pub use Rattle.mm_slots.specs.First.{AddsSlot, AreFirst, IsFirst}
 pub use Rattle.mm_slots.specs.Grammar.{action_at, event_at}
 pub use Rattle.mm_slots.specs.Held.{call_in, Comes, digests_in, EndsCall, Fits, FitsCall, FitsFlight, flight_in, flown, GoesOn, HasRegister}
-pub use Rattle.mm_slots.specs.Held.{instance_in, IsNewSlot, KeepsSlot, Loses as Lost, slot_in, Wants, within_64}
+pub use Rattle.mm_slots.specs.Held.{instance_in, IsNewSlot, KeepsSlot, Lacks, Loses as Lost, slot_in, within_64}
 pub use Rattle.mm_slots.specs.Laws.{SlotRuns, SlotsAreAlone, SlotsRun}
 pub use Rattle.mm_slots.specs.Plays.{Reports}
 pub use Rattle.mm_slots.specs.Rows.{ActsAt, AllFit, FitsWithin, Follows, IsInside, KeepsAll, LosesAll, LosesAt, LosesIf, LosesUnless}

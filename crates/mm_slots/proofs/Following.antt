@@ -3,6 +3,8 @@ use Rattle.mm_slots.proofs.Below.{◌≡◌, ◌∙◌, ◌+◌, ◌≤◌, ◌<
 use Rattle.mm_slots.proofs.Below.{refl, sym, ap, arith, option_map_or, ne_eqb, Standing, new_platform, Action, Power, At, Said, CodeSlot}
 use Rattle.mm_slots.proofs.Below.{slot_in, Acts, Loses, Row, is_cut, cuts_all, met_in, rows_in, AllFit, ActsAt, LosesIf, LosesAll}
 use Rattle.mm_slots.proofs.Below.{others_lose, only_at, Follows, Tells}
+use Rattle.std.proofs.Common.{inr}
+use Rattle.mm_slots.specs.Rows.{LacksEvent}
 use Rattle.mm_slots.proofs.Rowing.{touches_as, touches_then, touches_none, rows_length, all_more, same_length, get_row}
 
 -- where no slot has the number, all lose their power
@@ -42,6 +44,11 @@ tells events number what cuts first second last slots0 slots1 slots2 said is a l
       says = a.says;
       sayable = a.sayable;
     }
+
+-- an event that was followed, where memory was wanting for its answer
+pub untold : (events number : ℕ) (what : Action) (first last : List Standing) (slots0 slots2 : List CodeSlot) (said : Said)
+    → Tells events number what first last slots0 slots2 said → LacksEvent events (At number what) first last slots0 slots2
+untold events number what first last slots0 slots2 said t = record { fit = t.follows.fit; wants = inr t.follows.rows }
 
 -- whether it is a cut is told by the slot
 pub cuts_at : (events number : ℕ) (what : Action) (standings : List Standing) (slots : List CodeSlot) (dc : CodeSlot) (cuts : Bool)

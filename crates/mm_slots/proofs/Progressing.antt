@@ -5,7 +5,7 @@ use Rattle.mm_slots.proofs.Below.{new_platform, Header, ◌>>=◌, number_at, wo
 use Rattle.mm_slots.proofs.Below.{action_at, within_64, rows_in, AllFit, KeepsAll, IsInside, Follows, Running, kept_in, is_too_much}
 use Rattle.mm_slots.proofs.Below.{after_line, Row, bytes_in}
 use Rattle.std.specs.Str.{bytes_eq}
-use Rattle.mm_replay.specs.Schedule.{most_kept}
+use Rattle.mm_play.specs.Kept.{most_kept}
 use Rattle.mm_slots.specs.Grammar.{event_at, index_at}
 use Rattle.mm_slots.specs.Stage.{begun}
 use Rattle.mm_slots.proofs.Alone.{bound}

@@ -4,7 +4,8 @@ use Rattle.mm_slots.proofs.Below.{slice_set, Option, Some, refl, sym, ap, append
 use Rattle.mm_slots.proofs.Below.{ne_eqb, eqb-true, nat_tests, if◌then◌else◌, Standing, CodeSlot, option_map_or, Action, Said, instance_in}
 use Rattle.mm_slots.proofs.Below.{slot_in, GoesOn, Comes, Lost, Slot, Turned, Met, Acts, Loses, acted, unpowered, Row, instance_of}
 use Rattle.mm_slots.proofs.Below.{row_after, by_place, row_in, rows_in, FitsWithin, AllFit, ActsAt, LosesAt, LosesUnless, LosesAll, Touches}
-use Rattle.mm_slots.proofs.Below.{others_lose, touched, only_at}
+use Rattle.mm_slots.proofs.Below.{others_lose, touched, only_at, Lacks}
+use Rattle.mm_slots.specs.Rows.{LacksAt}
 use Rattle.std.specs.Prelude.{Ok, Err}
 use Rattle.std.specs.Prelude.{nat_lt}
 use Rattle.mm_slots.proofs.Alone.{folded_more}
@@ -137,6 +138,35 @@ pub lacks_at : (events number : ℕ) (standings : List Standing) (slots : List C
 lacks_at events number standings slots new slot' ds dc few fit g =
     set_fit events (events + 1) number standings slots new slot' (omega arith) fit
     (few_on events (get_or standings number ds) new (get_or slots number dc) slot' (fit_at events number standings slots ds dc few fit) g)
+
+set_row : (n : ℕ) (standings : List Standing) (slots : List CodeSlot) (s : Standing) (c : CodeSlot) → n < length standings
+    → n < length slots → rows_in (slice_set standings n s) (slice_set slots n c) ≡ slice_set (rows_in standings slots) n (row_in s c)
+set_row n [] slots s c few few' = absurd (omega (arith, few))
+set_row n (x ∷ standings) [] s c few few' = absurd (omega (arith, few'))
+set_row zero (x ∷ standings) (y ∷ slots) s c few few' = refl
+set_row (suc n) (x ∷ standings) (y ∷ slots) s c few few' =
+    ap (λ (rows : List Row). row_in x y ∷ rows) (set_row n standings slots s c (omega (arith, few)) (omega (arith, few')))
+
+pub lacks_row : (events number : ℕ) (what : Action) (standings : List Standing) (slots : List CodeSlot) (new : Standing) (slot' : CodeSlot)
+    (ds : Standing) (dc : CodeSlot) → number < length slots → AllFit events standings slots
+    → Lacks what (get_or standings number ds) new (get_or slots number dc) slot'
+    → LacksAt events number what standings (slice_set standings number new) slots (slice_set slots number slot')
+lacks_row events number what standings slots new slot' ds dc few fit l =
+    let s = get_or standings number ds in
+    let slot = get_or slots number dc in
+    let there : number < length standings = omega (arith, few, same_length events standings slots fit) in
+    record {
+      fit = lacks_at events number standings slots new slot' ds dc few fit l.goes;
+      wants = record {
+        row = row_in s slot;
+        slot = slot_in new slot';
+        was = get_row number standings slots ds dc there few;
+        wants = l.stands;
+        now = set_row number standings slots new slot' there few
+            ∙ ap (slice_set (rows_in standings slots) number)
+            (row_on new slot slot' (slot_in s slot) (slot_in new slot') l.goes refl);
+      };
+    }
 
 -- something happened in the slot with this number
 pub acts_at : (events number : ℕ) (what : Action) (standings : List Standing) (slots : List CodeSlot) (new : Standing) (slot' : CodeSlot)

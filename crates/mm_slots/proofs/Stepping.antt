@@ -1,26 +1,28 @@
 -- The call in flight of a slot: its next step, a step that breaks it off, a value that comes, a loss of power.
 use Rattle.mm_slots.proofs.Below.{◌≡◌, ◌∙◌, ◌+◌, ◌^◌, ◌<◌, ℕ, Bool, true, false, cond, List, [], ◌∷◌, ◌++◌, map, None, Some, Ok, Err}
-use Rattle.mm_slots.proofs.Below.{refl, sym, ap, subst, ◌⊎◌, inl, inr, One, meaning_of, Meddle, Stop, Quiet, Plan, Standing}
+use Rattle.mm_slots.proofs.Below.{refl, sym, ap, subst, One, meaning_of, Meddle, Stop, Quiet, Plan, Standing}
 use Rattle.mm_slots.proofs.Below.{next_plan, cell_spelling, Instance, Move, Foreign, Digests, made, by_digests, all_made, cell_at}
-use Rattle.mm_slots.proofs.Below.{course_of, rising_from, ask_number, plan_by, Called, Lacks, quiet_as, Reply, Stands, is_nothing}
+use Rattle.mm_slots.proofs.Below.{course_of, rising_from, ask_number, plan_by, Called, quiet_as, Reply, Stands, is_nothing}
 use Rattle.mm_slots.proofs.Below.{stop_behind, StepsAs, BreaksAs, StepsClosingAs, BreaksClosingAs, Asking}
 use Rattle.mm_slots.proofs.Below.{Closing, CodeFlight, Said, Going, CodeSlot, Turned, outcome_in, plays, merely, flying, so_far, stepped}
-use Rattle.mm_slots.proofs.Below.{event_by, stop_at, digests_in, slot_in, call_in, instance_in, Fits, Wants, Comes, flown}
+use Rattle.mm_slots.proofs.Below.{event_by, stop_at, digests_in, slot_in, call_in, instance_in, Fits, Lacks, Comes, flown, flight_in}
 use Rattle.mm_slots.proofs.Below.{HasRegister, EndsCall, count_none}
 use Rattle.mm_base.specs.declared.fault.Memory.{Memory}
 use Rattle.mm_seal.specs.declared.cell.Cell.{Cell}
 use Rattle.mm_model.specs.Steps.{Step}
 use Rattle.mm_call.specs.Courses.{Fate, seen_in}
-use Rattle.mm_call.specs.Called.{seen_at, reading_steps}
+use Rattle.mm_call.specs.Called.{reading_steps}
 use Rattle.mm_opt.specs.declared.stage.CheckpointStage.{CheckpointStage}
 use Rattle.mm_opt.specs.Checkpoints.{closing_number_of}
 use Rattle.mm_flight.specs.declared.ask.AskCall.{AskCall}
+use Rattle.mm_world.specs.Asks.{HasRead}
 use Rattle.mm_world.specs.Calls.{stopped_step}
 use Rattle.mm_steps.specs.declared.asks.Stepped.TheVariants as asks
 use Rattle.mm_steps.specs.declared.closings.SteppedClosing.TheVariants as closings
 use Rattle.std.specs.Prelude.{vec_capacity}
 use Rattle.mm_steps.specs.Stopping.{IsInFlight}
 use Rattle.mm_slots.specs.Held.{left_of, MayGoOn}
+use Rattle.mm_slots.specs.declared.event.Action.TheVariants as action
 use Rattle.mm_slots.specs.declared.event.Breaking.{Breaking}
 use Rattle.mm_slots.specs.declared.event.Breaking.TheVariants as breaking
 use Rattle.mm_slots.specs.declared.flight.Flight.TheVariants as code
@@ -168,59 +170,32 @@ seen_cell : (i : Instance) (fates : ℕ → Fate) (steps : List Step) (n : ℕ) 
 seen_cell i fates [] n d = refl
 seen_cell i fates (step ∷ steps) n d = brought_cell i (fates n).brings (seen_in fates steps (n + 1)) d (seen_cell i fates steps (n + 1))
 
--- where the platform stands then: as it stood, or behind the reading steps
-record HasRead (i : Instance) (d : Digests) (meddles : List Meddle) (stop : Stop) (old new : Standing) : Type 0 where
-  at : Digests
-  stands : Stands i new at
-  counts : at.count ≡ d.count
-  cell : new.cell ≡ old.cell
-  which : (at ≡ d) ⊎ (at ≡ seen_at i (by_digests i) d (course_of stop meddles))
-
-has_read : (i : Instance) (d : Digests) (meddles : List Meddle) (stop : Stop) (old new : Standing) → Stands i old d
-    → Lacks i d meddles stop old new → HasRead i d meddles stop old new
-has_read i d meddles stop old new s l =
-    let fates = (course_of stop meddles).fates in
-    let steps = reading_steps i.variant in
-    elim l.called [
-      | inl e ↦ record {
-        at = d;
-        stands = subst (λ (x : Standing). Stands i x d) (sym e) s;
-        counts = refl;
-        cell = ap (λ (x : Standing). x.cell) e;
-        which = inl refl;
-      }
-      | inr e ↦ record {
-        at = seen_at i (by_digests i) d (course_of stop meddles);
-        stands = e.0;
-        counts = count_none i (seen_in fates steps 1) d (seen_none fates steps 1);
-        cell = e.0.at.cell ∙ ap (λ (x : Cell). Some (cell_spelling x)) (seen_cell i fates steps 1 d) ∙ sym s.at.cell;
-        which = inr refl;
-      }
-    ]
-
 -- want of memory: the call is over, and nothing was done but that it has read
 pub ask_lacks : (slot slot' : CodeSlot) (asking : Asking) (old new : Standing) (memory : Memory)
     → Fits old (flown slot (code.Asks asking))
     → StepsAs (meaning_of slot.header.«module») asking.call old new asking.bytes (One asking.request) (Err memory)
     → slot'.header ≡ slot.header → slot'.number ≡ slot.number → slot'.committed ≡ slot.committed → slot'.flight ≡ None
     → slot'.kept ≡ slot.kept → slot'.issued.items ≡ slot.issued.items → HasRegister new slot'
-    → Wants old new (flown slot (code.Asks asking)) slot'
+    → Lacks action.Step old new (flown slot (code.Asks asking)) slot'
 ask_lacks slot slot' asking old new memory fits steps h n c none k issued r =
     let f = call_of old slot (code.Asks asking) fits in
     let i = instance_in slot in
     let d = digests_in old (flown slot (code.Asks asking)) in
     let p = next_plan old in
-    let l : Lacks i d p.meddles (stop_behind (p.at + 1)) f.from new =
+    let fates = (course_of (stop_behind (p.at + 1)) p.meddles).fates in
+    let reads = reading_steps i.variant in
+    let seen : Digests = all_made (by_digests i) d (seen_in fates reads 1) in
+    let l : HasRead i d p.meddles (stop_behind (p.at + 1)) f.from new =
     steps slot.header.variant (rising_from slot.number) (rising_from (128 + slot.number)) d f.from slot.issued.items p.meddles (p.at + 1)
     asking.offer f.flies f.may.offered in
-    let seen = has_read i d p.meddles (stop_behind (p.at + 1)) f.from new f.flies.stands l in
-    let rest = rests new (flown slot (code.Asks asking)) slot' seen.at h n c none k issued r fits.kept seen.counts seen.stands l.quiet in
+    let count : seen.count ≡ d.count = count_none i (seen_in fates reads 1) d (seen_none fates reads 1) in
+    let rest = rests new (flown slot (code.Asks asking)) slot' seen h n c none k issued r fits.kept count l.stands l.quiet in
     record {
       goes = rest.0;
-      cell = seen.cell ∙ sym f.flies.flies.cell;
-      stands = elim seen.which [ inl e ↦ inl (rest.1 ∙ e) | inr e ↦ inr (rest.1 ∙ e) ];
+      stands = λ j. record { digests = rest.1 j; issued = issued j; flight = ap (flight_in (next_plan new)) none j };
+      cell = l.stands.at.cell ∙ ap (λ (x : Cell). Some (cell_spelling x)) (seen_cell i fates reads 1 d) ∙ sym f.flies.stands.at.cell
+          ∙ sym f.flies.flies.cell;
       committed = c;
-      issued = issued;
     }
 
 -- the key that a slot keeps is told by nothing

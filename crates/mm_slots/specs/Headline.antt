@@ -6,7 +6,7 @@ use Rattle.mm_schedule.specs.declared.header.Header.{Header}
 use Rattle.mm_schedule.specs.Headers.{head_at}
 use Rattle.mm_schedule.specs.Promises.{Promises}
 use Rattle.mm_run.specs.Premises.{IsClearRun, IsGenuineRun}
-use Rattle.mm_replay.specs.Schedule.{most_kept}
+use Rattle.mm_play.specs.Kept.{most_kept}
 use Rattle.mm_slots.specs.declared.event.SlotEvent.{SlotEvent}
 use Rattle.mm_slots.specs.Answers.{answers_text, end_lines}
 use Rattle.mm_slots.specs.Grammar.{first_at, event_at}

@@ -1,6 +1,6 @@
 -- A slot in code, over the platform in it.
 use Rattle.std.specs.Prelude.{◌≡◌, ◌≤◌, ◌<◌, ◌+◌, ◌-◌, ◌^◌, ℕ, false, List, [], ◌∷◌, ◌++◌, length, min, Option, None, Some}
-use Rattle.std.specs.Prelude.{option_to_list, vec_capacity, ◌⊎◌}
+use Rattle.std.specs.Prelude.{option_to_list, vec_capacity}
 use Rattle.std.specs.List.{sum_by}
 use Rattle.mm_base.specs.Limits.{most_members}
 use Rattle.mm_digest.specs.Messages.{zero_bytes}
@@ -28,7 +28,8 @@ use Rattle.mm_slots.specs.declared.slot.Slot.{Slot as CodeSlot}
 use Rattle.mm_slots.specs.Answers.{IsSayable}
 use Rattle.mm_slots.specs.declared.said.Said.TheVariants.{Replied}
 use Rattle.mm_slots.specs.Lengths.{length_if}
-use Rattle.mm_slots.specs.Slot.{Slot, Flight, Call, Asks, Closes, Turned, having_read, slot_instance, unpowered}
+use Rattle.mm_slots.specs.declared.event.Action.{Action}
+use Rattle.mm_slots.specs.Slot.{Slot, Flight, Call, Asks, Closes, Turned, Wants, slot_instance, unpowered}
 
 -- what a call in flight asks
 abbrev pub call_in : CodeFlight → Call
@@ -136,16 +137,12 @@ pub record GoesOn (new : Standing) (slot slot' : CodeSlot) : Type 0 where
   pub few : slot'.committed ≤ slot.committed + most_members
   pub short : length slot'.issued.items ≤ length slot.issued.items + 1
 
--- Memory was wanting: the same slot, over which nothing was committed and no snapshot issued; the
--- call in flight may have made its reading steps.
-pub record Wants (old new : Standing) (slot slot' : CodeSlot) : Type 0 where
+-- Memory was wanting for what happened in the slot, which can go on.
+pub record Lacks (what : Action) (old new : Standing) (slot slot' : CodeSlot) : Type 0 where
   pub goes : GoesOn new slot slot'
+  pub stands : Wants (instance_in slot) what (slot_in old slot) (slot_in new slot')
   pub cell : new.cell ≡ old.cell
-  pub stands : (digests_in new slot' ≡ digests_in old slot)
-      ⊎ (digests_in new slot' ≡ having_read (instance_in slot) (digests_in old slot)
-      (slot_in old slot).flight)
   pub committed : slot'.committed ≡ slot.committed
-  pub issued : slot'.issued.items ≡ slot.issued.items
 
 -- Something happened in the slot that comes to this, and this was said.
 pub record Comes (new : Standing) (slot slot' : CodeSlot) (it : Turned) (said : Said) : Type 0 where

@@ -10,7 +10,7 @@ use Rattle.mm_slots.specs.declared.slot.Slot.{Slot as CodeSlot}
 use Rattle.mm_slots.specs.Answers.{IsSayable, answers_text}
 use Rattle.mm_slots.specs.Held.{slot_in, Fits}
 use Rattle.mm_slots.specs.Slot.{Met, Acts, Loses}
-use Rattle.mm_slots.specs.Table.{Row, row_after, by_place, met_in, said_at, answers_to}
+use Rattle.mm_slots.specs.Table.{Row, row_after, WantsAt, EventWants, by_place, met_in, said_at, answers_to}
 
 abbrev pub row_in : Standing → CodeSlot → Row
 row_in standing slot =
@@ -117,3 +117,15 @@ pub record Answers (events : ℕ) (event : SlotEvent) (standings standings' : Li
     (text : List ℕ) : Type 0 where
   pub follows : Follows events event standings standings' slots slots'
   pub answers : text ≡ answers_text (answers_to (rows_in standings slots) event)
+
+-- memory was wanting for what happened in the slot with this number, and all slots can go on
+pub record LacksAt (events number : ℕ) (what : Action) (standings standings' : List Standing)
+    (slots slots' : List CodeSlot) : Type 0 where
+  pub fit : AllFit (events + 1) standings' slots'
+  pub wants : WantsAt number what (rows_in standings slots) (rows_in standings' slots')
+
+-- memory was wanting for the event, and all slots can go on
+pub record LacksEvent (events : ℕ) (event : SlotEvent) (standings standings' : List Standing)
+    (slots slots' : List CodeSlot) : Type 0 where
+  pub fit : AllFit (events + 1) standings' slots'
+  pub wants : EventWants event (rows_in standings slots) (rows_in standings' slots')

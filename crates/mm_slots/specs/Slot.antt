@@ -1,6 +1,6 @@
 -- One slot of a platform, followed event by event. What a call in flight comes to is what the call
 -- comes to in one go.
-use Rattle.std.specs.Prelude.{ℕ, ◌+◌, List, [], ◌∷◌, ◌++◌, Option, None, Some, if◌then◌else◌}
+use Rattle.std.specs.Prelude.{◌≡◌, ℕ, ◌+◌, List, [], ◌∷◌, ◌++◌, Option, None, Some, if◌then◌else◌}
 use Rattle.mm_module.specs.Batch.{Batch, One}
 use Rattle.mm_modules.specs.Modules.{meaning_of}
 use Rattle.mm_platform.specs.declared.plan.Meddle.{Meddle}
@@ -99,12 +99,6 @@ begun i slot offer batch (Some bytes) =
 abbrev pub so_far : Flight → Event
 so_far flight = event_by flight.call flight.meddles (stop_behind flight.next)
 
--- the digests once the reading steps of the call in flight are made, if there is one
-abbrev pub having_read : Instance → Digests → Option Flight → Digests
-having_read i d None = d
-having_read i d (Some flight) =
-    seen_at i (by_digests i) d (course_of (stop_behind flight.next) flight.meddles)
-
 -- the call makes its next step, and goes on, or is over
 abbrev pub stepped : Instance → Slot → Flight → Turned
 stepped i slot flight =
@@ -141,6 +135,32 @@ acted_by i slot (Some flight) (action.Extend value) =
 
 abbrev pub acted : Instance → Slot → Action → Turned
 acted i slot what = acted_by i slot slot.flight what
+
+-- a call in flight that asks has made its reading steps, and is over
+abbrev pub having_read : Instance → Slot → Flight → Slot
+having_read i slot flight = record slot {
+  digests =
+      seen_at i (by_digests i) slot.digests (course_of (stop_behind flight.next) flight.meddles);
+  flight = None;
+}
+
+-- Memory was wanting for a step: the call in flight asks, and is over, with nothing done but its
+-- reading steps.
+abbrev pub StepWants : Instance → Flight → Call → Slot → Slot → Type 0
+StepWants i flight (Asks offer batch) old new = new ≡ having_read i old flight
+StepWants i flight Closes old new = ⊥
+
+abbrev pub FlightWants : Instance → Option Flight → Slot → Slot → Type 0
+FlightWants i None old new = ⊥
+FlightWants i (Some flight) old new = StepWants i flight flight.call old new
+
+-- Memory was wanting for what happened in a slot: nothing has changed, but where that was a step. A
+-- checkpoint, and what breaks a call off, want none.
+abbrev pub Wants : Instance → Action → Slot → Slot → Type 0
+Wants i (action.Begin offer request) old new = new ≡ old
+Wants i (action.Extend value) old new = new ≡ old
+Wants i action.Step old new = FlightWants i old.flight old new
+Wants i what old new = ⊥
 
 -- Power is lost and comes back. A call in flight is over, and has changed nothing.
 abbrev pub unpowered : Instance → Slot → Turned

@@ -1,5 +1,6 @@
 -- The slots of one platform.
-use Rattle.std.specs.Prelude.{ℕ, ◌+◌, ◌==◌, Bool, true, false, List, [], ◌∷◌, ◌++◌, map, Option, Some, slice_get, if◌then◌else◌}
+use Rattle.std.specs.Prelude.{◌≡◌, ℕ, ◌+◌, ◌==◌, Bool, true, false, List, [], ◌∷◌, ◌++◌, map, Option, Some, slice_get}
+use Rattle.std.specs.Prelude.{slice_set, ◌⊎◌, if◌then◌else◌}
 use Rattle.std.specs.Option.{option_map_or}
 use Rattle.mm_model.specs.Instance.{Instance}
 use Rattle.mm_schedule.specs.declared.header.Header.{Header}
@@ -9,7 +10,7 @@ use Rattle.mm_slots.specs.declared.event.Breaking.TheVariants as breaking
 use Rattle.mm_slots.specs.declared.event.SlotEvent.{SlotEvent}
 use Rattle.mm_slots.specs.declared.event.SlotEvent.TheVariants.{Power, At}
 use Rattle.mm_slots.specs.declared.said.Said.{Said}
-use Rattle.mm_slots.specs.Slot.{Slot, Flight, Met, Acts, Loses, acted, folded, slot_instance, first_slot}
+use Rattle.mm_slots.specs.Slot.{Slot, Flight, Wants, Met, Acts, Loses, acted, folded, slot_instance, first_slot}
 
 -- a slot, its number, and the header of the module in it
 pub record Row : Type 0 where
@@ -52,6 +53,21 @@ after_event rows event = by_place (λ number row. row_after row (met_in number r
 abbrev pub after_events : List Row → List SlotEvent → List Row
 after_events rows [] = rows
 after_events rows (event ∷ events) = after_events (after_event rows event) events
+
+-- Memory was wanting for what happened in the slot with this number. All others are as they were.
+pub record WantsAt (number : ℕ) (what : Action) (old new : List Row) : Type 0 where
+  pub row : Row
+  pub slot : Slot
+  pub was : slice_get old number ≡ Some row
+  pub wants : Wants (instance_of row) what row.slot slot
+  pub now : new ≡ slice_set old number (record row { slot = slot })
+
+-- Memory was wanting for an event: for what happens there, or, once that has happened, for the
+-- answer.
+abbrev pub EventWants : SlotEvent → List Row → List Row → Type 0
+EventWants Power old new = new ≡ after_event old Power
+EventWants (At number what) old new =
+    WantsAt number what old new ⊎ (new ≡ after_event old (At number what))
 
 -- what is answered: that power was lost, or what is said for the slot with this number
 pub data Answer : Type 0 where

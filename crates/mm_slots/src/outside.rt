@@ -10,7 +10,7 @@ use mm_schedule::Reply;
 
 impl Slot {
     ghost use Rattle.std.specs.Prelude.{◌≡◌, None, IfOk, OnErr, IsSome};
-    ghost use Rattle.mm_slots.specs.Held.{instance_in, slot_in, Fits, Wants, Comes, Loses};
+    ghost use Rattle.mm_slots.specs.Held.{instance_in, slot_in, Fits, Lacks, Comes, Loses};
     ghost use Rattle.mm_slots.specs.Slot.{acted};
 
     /// Others extend the register: now, or just before the next step of the call in flight.
@@ -23,7 +23,8 @@ impl Slot {
         ensures ok { IfOk result (Comes platform.new self.old self.new
             (acted (instance_in self.old) (slot_in platform.old self.old)
             (Action.Extend value.now))) }
-        ensures err { OnErr result (Wants platform.old platform.new self.old self.new) }
+        ensures err { OnErr result
+            (Lacks (Action.Extend value.now) platform.old platform.new self.old self.new) }
     {
         match &self.flight {
             None => self.extend_now(platform, value),
@@ -38,7 +39,8 @@ impl Slot {
         ensures ok { IfOk result (Comes platform.new self.old self.new
             (acted (instance_in self.old) (slot_in platform.old self.old)
             (Action.Extend value.now))) }
-        ensures err { OnErr result (Wants platform.old platform.new self.old self.new) }
+        ensures err { OnErr result
+            (Lacks (Action.Extend value.now) platform.old platform.new self.old self.new) }
     {
         platform.foreign(value)?;
         self.register = *platform.register();
@@ -52,7 +54,8 @@ impl Slot {
         ensures ok { IfOk result (Comes platform.new self.old self.new
             (acted (instance_in self.old) (slot_in platform.old self.old)
             (Action.Extend value.now))) }
-        ensures err { OnErr result (Wants platform.old platform.new self.old self.new) }
+        ensures err { OnErr result
+            (Lacks (Action.Extend value.now) platform.old platform.new self.old self.new) }
     {
         platform.meddle_next(value)?;
         Ok(Said::Replied(Reply::Extended))

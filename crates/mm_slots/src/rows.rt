@@ -2,7 +2,7 @@
 
 ghost use Rattle.std.specs.Prelude.{◌≡◌, ◌+◌, ◌-◌, ◌<◌, ◌^◌, ℕ, IfOk, OnErr, length};
 ghost use Rattle.mm_slots.specs.declared.event.SlotEvent.TheVariants.{Power, At};
-ghost use Rattle.mm_slots.specs.Rows.{AllFit, ActsAt, LosesAt, LosesUnless, LosesAll, LosesIf, IsInside, Follows, Tells, Answers};
+ghost use Rattle.mm_slots.specs.Rows.{AllFit, ActsAt, LosesAt, LosesUnless, LosesAll, LosesIf, IsInside, Follows, Tells, Answers, LacksAt, LacksEvent};
 
 use crate::event::{Action, SlotEvent};
 use crate::platform::SlotPlatform;
@@ -12,7 +12,8 @@ use crate::slot::Slot;
 use mm_base::{Bytes, Memory};
 use std::alloc::Global;
 
-/// Lets something happen in the slot with this number. After want of memory all slots can go on.
+/// Lets something happen in the slot with this number. After want of memory the others are as they were, and all can go
+/// on.
 pub fn act_at(
     alloc: Global,
     platform: &mut SlotPlatform,
@@ -25,7 +26,7 @@ pub fn act_at(
     ensures ok { IfOk result (λ said. (events : ℕ) → AllFit events platform.old.slots slots.old
         → ActsAt events number action platform.old.slots platform.new.slots slots.old slots.new said) }
     ensures err { OnErr result ((events : ℕ) → AllFit events platform.old.slots slots.old
-        → AllFit (events + 1) platform.new.slots slots.new) }
+        → LacksAt events number action platform.old.slots platform.new.slots slots.old slots.new) }
 {
     let slot = &mut slots[number];
     slot.act(alloc, platform.slot(number), action)
@@ -87,7 +88,7 @@ pub fn lose_power(platform: &mut SlotPlatform, slots: &mut [Slot])
 }
 
 /// Lets something happen in the slot with this number; where that cuts a call, all other slots lose their power. After
-/// want of memory all slots can go on.
+/// want of memory the others are as they were, and all can go on.
 pub fn act(
     alloc: Global,
     platform: &mut SlotPlatform,
@@ -100,7 +101,7 @@ pub fn act(
     ensures ok { IfOk result (λ said. (events : ℕ) → AllFit events platform.old.slots slots.old
         → Tells events number action platform.old.slots platform.new.slots slots.old slots.new said) }
     ensures err { OnErr result ((events : ℕ) → AllFit events platform.old.slots slots.old
-        → AllFit (events + 1) platform.new.slots slots.new) }
+        → LacksAt events number action platform.old.slots platform.new.slots slots.old slots.new) }
 {
     let is_cut = slots[number].is_cut(&action);
     match act_at(alloc, platform, slots, number, action) {
@@ -112,7 +113,7 @@ pub fn act(
     }
 }
 
-/// Follows an event, and answers it as text. After want of memory all slots can go on.
+/// Follows an event, and answers it as text. After want of memory, which may be the answer's, all slots can go on.
 pub fn follow(
     alloc: Global,
     platform: &mut SlotPlatform,
@@ -124,7 +125,7 @@ pub fn follow(
     ensures ok { IfOk result (λ text. (events : ℕ) → AllFit events platform.old.slots slots.old
         → Answers events event platform.old.slots platform.new.slots slots.old slots.new text) }
     ensures err { OnErr result ((events : ℕ) → AllFit events platform.old.slots slots.old
-        → AllFit (events + 1) platform.new.slots slots.new) }
+        → LacksEvent events event platform.old.slots platform.new.slots slots.old slots.new) }
 {
     match event {
         SlotEvent::Power => follow_power(alloc, platform, slots),
@@ -141,7 +142,7 @@ fn follow_power(
     ensures ok { IfOk result (λ text. (events : ℕ) → AllFit events platform.old.slots slots.old
         → Answers events Power platform.old.slots platform.new.slots slots.old slots.new text) }
     ensures err { OnErr result ((events : ℕ) → AllFit events platform.old.slots slots.old
-        → AllFit (events + 1) platform.new.slots slots.new) }
+        → LacksEvent events Power platform.old.slots platform.new.slots slots.old slots.new) }
 {
     lose_power(platform, slots);
     let mut text = Bytes::new(alloc);
@@ -164,7 +165,8 @@ fn follow_action(
         → Answers events (At slot action) platform.old.slots platform.new.slots slots.old slots.new
         text) }
     ensures err { OnErr result ((events : ℕ) → AllFit events platform.old.slots slots.old
-        → AllFit (events + 1) platform.new.slots slots.new) }
+        → LacksEvent events (At slot action) platform.old.slots platform.new.slots slots.old
+        slots.new) }
 {
     match act(alloc, platform, slots, usize::from(slot), action) {
         Err(memory) => Err(memory),

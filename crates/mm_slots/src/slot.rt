@@ -77,7 +77,7 @@ impl Slot {
     ghost use Rattle.std.specs.Prelude.{◌≡◌, ◌+◌, ◌++◌, ◌<◌, ◌^◌, None, IfOk, OnErr, Some, IsSome, option_to_list, vec_len, vec_capacity};
     ghost use Rattle.mm_platform.specs.Standing.{Standing};
     ghost use Rattle.mm_run.specs.Offered.{offered_bytes};
-    ghost use Rattle.mm_slots.specs.Held.{instance_in, slot_in, Fits, Wants, Comes, flown, EndsCall, KeepsSlot, IsNewSlot, within_64};
+    ghost use Rattle.mm_slots.specs.Held.{instance_in, slot_in, Fits, Lacks, Comes, flown, EndsCall, KeepsSlot, IsNewSlot, within_64};
     ghost use Rattle.mm_slots.specs.Lengths.{length_if};
     ghost use Rattle.mm_slots.specs.Slot.{acted};
     ghost use Rattle.mm_slots.specs.Table.{is_cut};
@@ -101,8 +101,8 @@ impl Slot {
         })
     }
 
-    /// Lets something happen in the slot, which is over this platform. After want of memory the slot can go on: nothing was
-    /// committed, and no snapshot was issued. A call in flight is over then if it was its step that wanted memory.
+    /// Lets something happen in the slot, which is over this platform. After want of memory nothing has changed, but that a
+    /// call in flight is over whose step it was, with nothing done but its reading steps.
     pub fn act(
         &mut self,
         alloc: Global,
@@ -113,7 +113,7 @@ impl Slot {
         requires few { self.old.committed < 2 ^ 63 }
         ensures ok { IfOk result (Comes platform.new self.old self.new
             (acted (instance_in self.old) (slot_in platform.old self.old) action)) }
-        ensures err { OnErr result (Wants platform.old platform.new self.old self.new) }
+        ensures err { OnErr result (Lacks action platform.old platform.new self.old self.new) }
     {
         match action {
             Action::Begin { offer, request } => self.begin(alloc, platform, offer, request),
@@ -136,7 +136,8 @@ impl Slot {
         ensures ok { IfOk result (Comes platform.now self.old self.new
             (acted (instance_in self.old) (slot_in platform.now self.old)
             (Action.Begin offer request))) }
-        ensures err { OnErr result (Wants platform.now platform.now self.old self.new) }
+        ensures err { OnErr result
+            (Lacks (Action.Begin offer request) platform.now platform.now self.old self.new) }
     {
         if self.flight.is_some() {
             return Ok(Said::Busy);
@@ -200,7 +201,7 @@ impl Slot {
         requires few { self.old.committed < 2 ^ 63 }
         ensures ok { IfOk result (Comes platform.new self.old self.new
             (acted (instance_in self.old) (slot_in platform.old self.old) Action.Step)) }
-        ensures err { OnErr result (Wants platform.old platform.new self.old self.new) }
+        ensures err { OnErr result (Lacks Action.Step platform.old platform.new self.old self.new) }
     {
         match self.flight.take() {
             None => Ok(Said::Idle),
@@ -223,7 +224,8 @@ impl Slot {
             (acted (instance_in self.old) (slot_in platform.old (flown self.old (Flight.Asks asking)))
             Action.Step)) }
         ensures err { OnErr result
-            (Wants platform.old platform.new (flown self.old (Flight.Asks asking)) self.new) }
+            (Lacks Action.Step platform.old platform.new (flown self.old (Flight.Asks asking))
+            self.new) }
     {
         let Asking {
             call,

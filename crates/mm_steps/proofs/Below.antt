@@ -27,7 +27,7 @@ pub use Rattle.mm_flight.proofs.Above.{AlwaysFails, ask_act, ask_answers, ask_be
 pub use Rattle.mm_flight.proofs.Above.{ask_refuses, ask_replanned, ask_then, begins, begun_may_ask, closing_done, closing_fails}
 pub use Rattle.mm_flight.proofs.Above.{closing_faultless, closing_moves, closing_refused, closing_replanned, closing_then, counted_few}
 pub use Rattle.mm_flight.proofs.Above.{few_steps, goes_on, may_ask_stopped, meddled, replans, Replans, takes_in}
-pub use Rattle.mm_world.specs.Asks.{Came, Lacks, quiet_as}
+pub use Rattle.mm_world.specs.Asks.{Came, HasRead, quiet_as}
 pub use Rattle.mm_world.specs.Calls.{broken_as, CalledAs, closes_at, RefusedAs, SettlesPlan, stopped_step, stops_in, told_closing}
 pub use Rattle.mm_world.proofs.Above.{asks_planned, checks_planned}
 pub use Rattle.mm_steps.specs.Asking.{asked_so, asks_rest, asks_whole, AsksInFlight, EndsAs, MayStepOn, over_in, SteppedTo}

@@ -5,7 +5,7 @@ use Rattle.mm_steps.proofs.Below.{Fail, Standing, stopping, quiet_plan, step_mad
 use Rattle.mm_steps.proofs.Below.{AskCall, ask_number, AskTurns, TurnMayAsk, AskFinishes, AdvancedAsk, plan_by, under, AlwaysFails, ask_act}
 use Rattle.mm_steps.proofs.Below.{ask_replanned, ask_moves, ask_then, ask_answers, ask_refuses, ask_fails, ask_faultless, ask_breaks}
 use Rattle.mm_steps.proofs.Below.{few_steps, goes_on, broken_as, stopped_step, RefusedAs, CalledAs}
-use Rattle.mm_steps.proofs.Below.{SettlesPlan, Came, Lacks, asks_planned, BreaksNext, is_nothing, stop_behind, asks_whole, asks_rest}
+use Rattle.mm_steps.proofs.Below.{SettlesPlan, Came, HasRead, asks_planned, BreaksNext, is_nothing, stop_behind, asks_whole, asks_rest}
 use Rattle.mm_steps.proofs.Below.{AsksInFlight, asked_so, SteppedTo, MayStepOn, over_in, EndsAs}
 use Rattle.mm_base.specs.declared.fault.Memory.{Memory}
 use Rattle.mm_model.specs.Long.{is_long}
@@ -36,7 +36,7 @@ abbrev Comes : Instance → Digests → List (List ℕ) → List Meddle → Stop
     → Type 0
 Comes i d issued meddles stop bytes b from new result =
     MatchResult result (Came i (asked i (by_digests i) d issued meddles stop (Some bytes) b) d.count issued from new)
-    (λ _. Lacks i d meddles stop from new)
+    (λ _. HasRead i d meddles stop from new)
 
 comes : (variant : Variant) (meaning : Meaning) (key barrier : List ℕ) (d : Digests) (from : Standing) (call : AskCall) (now : Standing)
     (meddles : List Meddle) (next : ℕ) (bytes : List ℕ) (b : Batch) → (f : AsksInFlight variant meaning key barrier d from call now meddles

@@ -22,7 +22,7 @@ use Rattle.mm_flight.specs.declared.ask.AskCall.{AskCall}
 use Rattle.mm_flight.specs.Asks.{ask_number, MayAsk, AskFinishes}
 use Rattle.mm_world.specs.declared.call.Called.{Called}
 use Rattle.mm_world.specs.Calls.{stopped_step, CalledAs, SettlesPlan}
-use Rattle.mm_world.specs.Asks.{Came, Lacks}
+use Rattle.mm_world.specs.Asks.{Came, HasRead}
 use Rattle.mm_steps.specs.declared.asks.Stepped.{Stepped}
 use Rattle.mm_steps.specs.declared.asks.Stepped.TheVariants.{Going, Over}
 use Rattle.mm_steps.specs.Stopping.{CallLeft, IsInFlight, is_nothing, stop_behind}
@@ -58,7 +58,7 @@ asked_so i d issued meddles stop offer b =
 
 -- What the next step of a call in flight came to: it goes on, where it has come to nothing so far;
 -- or it is over, and came to what its event says. Where memory was wanting, the reading steps were
--- made.
+-- made, and nothing else.
 abbrev pub SteppedTo : Variant → Meaning → (key barrier : List ℕ) → Digests → Standing
     → List (List ℕ) → List Meddle → ℕ → Offer
     → List ℕ → Batch → Standing → Result Stepped Memory → Type 0
@@ -74,7 +74,7 @@ SteppedTo variant meaning key barrier d from issued meddles next offer bytes b n
     × (is_nothing (asked_so (instance_by variant meaning key barrier) d issued meddles
     (stop_behind next) offer b).reply ≡ false)
 SteppedTo variant meaning key barrier d from issued meddles next offer bytes b new (Err memory) =
-    Lacks (instance_by variant meaning key barrier) d meddles (stop_behind next) from new
+    HasRead (instance_by variant meaning key barrier) d meddles (stop_behind next) from new
 
 -- the next step of a call in flight, from wherever it was begun, whatever was issued there, and by
 -- each offer of its bytes

@@ -89,7 +89,7 @@ pub accepted_done : (pair : Pair) (which : Which) (offer : Offer) (stop : Stop) 
     → old.platform.cell ≡ Some cell → SameSide old mid → EnteredAs live between.away stop came mid new result → FitsSide pair which old
     → FitsBetween between
     → MatchResult result (CommandDone pair which old new between between (commanded pair which old between meddles stop (Accept offer)))
-    (λ _. CommandLacks pair which old new between between)
+    (λ _. CommandLacks pair which meddles stop old new between between)
 accepted_done pair which offer stop meddles old mid new between live cell came result named lives holds s entered fits counted =
     let i = instance_on pair which in
     let role = role_in old.platform.cell in

@@ -1,6 +1,6 @@
 -- What happens on a side is what happens on both.
 use Rattle.mm_transfer.proofs.Below.{◌≡◌, ◌∙◌, ◌^◌, ◌<◌, ℕ, List, length, Option, None, Some, Result, Ok, Err, refl, sym, ap, subst, arith}
-use Rattle.mm_transfer.proofs.Below.{MatchResult, IfOk, OnOk, sum_by, Memory, StepFault, Meddle, Stop, Instance, Digests, walk, course_of}
+use Rattle.mm_transfer.proofs.Below.{MatchResult, IfOk, OnOk, OnErr, sum_by, Memory, StepFault, Meddle, Stop, Instance, Digests, walk, course_of}
 use Rattle.mm_transfer.proofs.Below.{meddles_of, Header, Which, First, Second, Pair, instance_on, Side, Both, turned, digests_move, Moves}
 use Rattle.mm_transfer.proofs.Below.{BothEvent, affected_if, brought_to, effect_of, finding, move_ended, move_outcome, move_steps, moved_if}
 use Rattle.mm_transfer.proofs.Below.{Command, Accept, FoundMove, MoveCause, Effect, Invites, Between, MoveReply, CodeSide}
@@ -16,6 +16,7 @@ use Rattle.mm_transfer.specs.declared.event.Which.{Which as CodeWhich}
 use Rattle.mm_transfer.specs.declared.event.Which.TheVariants as which
 use Rattle.mm_transfer.specs.Acting.{acted, AreWithin, ActDone, ActLacks, Acts}
 use Rattle.mm_transfer.specs.Sides.{BothHeld, held_in, outcome_in}
+use Rattle.mm_transfer.specs.Wanting.{Wants}
 
 -- no move is answered as an event of a schedule is
 told_sayable : (pair : Pair) (i : Instance) (both : Both Digests ℕ) (stop : Stop) (found : FoundMove) (effect : Effect)
@@ -66,10 +67,12 @@ done_acts pair which meddles stop command old new was now committed said w d =
       tickets = d.tickets;
     }
 
-lacks_acts : (pair : Pair) (which : Which) (old new : CodeSide) (was now : Between) (committed : ℕ) → FitsBetween was
-    → AreWithin old was committed → CommandLacks pair which old new was now → ActLacks pair which old new was now committed committed
-lacks_acts pair which old new was now committed f w l =
-    let position : new.position ≡ old.position = ap (λ (s : Side Digests). s.at.count) l.side in
+lacks_acts : (pair : Pair) (which : Which) (meddles : List Meddle) (stop : Stop) (command : Command) (old new : CodeSide)
+    (was now : Between) (committed : ℕ) → FitsBetween was → AreWithin old was committed
+    → CommandLacks pair which meddles stop old new was now
+    → ActLacks pair which (Moves meddles stop command) old new was now committed committed
+lacks_acts pair which meddles stop command old new was now committed f w l =
+    let position = l.position in
     let away = l.away in
     let less = w.position in
     let less_away = w.away in
@@ -90,7 +93,7 @@ command_acts : (pair : Pair) (which : Which) (meddles : List Meddle) (stop : Sto
 command_acts pair which meddles stop command old new was now committed (Ok said) c =
     λ f b w few. done_acts pair which meddles stop command old new was now committed said w (c f b)
 command_acts pair which meddles stop command old new was now committed (Err fault) c =
-    λ f b w few. lacks_acts pair which old new was now committed b w (c f b)
+    λ f b w few. lacks_acts pair which meddles stop command old new was now committed b w (c f b)
 
 pub moves_acts : (pair : Pair) (which : Which) (act : CodeAct) (meddles : Meddles) (listed : List Meddle) (stop : Stop)
     (command : CodeCommand) (old new : CodeSide) (was now : Between) (committed : ℕ) (result : Result MoveReply Memory)
@@ -107,30 +110,58 @@ moves_acts pair which act meddles listed stop command old new was now committed 
 pub record Comes (held : BothHeld) (event : BothEvent) (new : Both Digests ℕ) (result : Result MoveReply Memory) : Type 0 where
   pub reply : IfOk result (λ reply. reply ≡ reply_said (outcome_in held event).reply)
   pub after : OnOk result (new ≡ (outcome_in held event).both)
+  pub wants : OnErr result (Wants (pair_of held.header) event held.both new)
 
 first_comes : (header : Header) (first first' second : CodeSide) (between between' : Between) (committed committed' : ℕ) (act : Act)
     (result : Result MoveReply Memory) → MatchResult result
     (ActDone (pair_of header) First first first' between between' committed committed'
     (acted (pair_of header) First first between committed act))
-    (λ fault. ActLacks (pair_of header) First first first' between between' committed committed')
+    (λ fault. ActLacks (pair_of header) First act first first' between between' committed committed')
     → Comes (held_in header first second between committed) (record { which = First; act = act })
     (both_with first' between' (side_in second) committed') result
 first_comes header first first' second between between' committed committed' act (Ok said) d =
-    record { reply = d.says (side_in second); after = d.both (side_in second) }
-first_comes header first first' second between between' committed committed' act (Err fault) d = record { reply = tt; after = tt }
+    record { reply = d.says (side_in second); after = d.both (side_in second); wants = tt }
+first_comes header first first' second between between' committed committed' act (Err fault) d = record {
+  reply = tt;
+  after = tt;
+  wants = record {
+    here = d.side;
+    rest = λ j. record {
+      first = side_in first';
+      second = side_in second;
+      away = d.away j;
+      tickets = d.tickets j;
+      committed = d.same j;
+    };
+  };
+}
 
 second_comes : (header : Header) (first second second' : CodeSide) (between between' : Between) (committed committed' : ℕ) (act : Act)
     (result : Result MoveReply Memory) → MatchResult result
     (ActDone (pair_of header) Second second second' between between' committed committed'
     (acted (pair_of header) Second second between committed act))
-    (λ fault. ActLacks (pair_of header) Second second second' between between' committed committed')
+    (λ fault. ActLacks (pair_of header) Second act second second' between between' committed committed')
     → Comes (held_in header first second between committed) (record { which = Second; act = act })
     (both_with first between' (side_in second') committed') result
 second_comes header first second second' between between' committed committed' act (Ok said) d = record {
   reply = d.says (side_in first);
   after = ap (λ (both : Both Digests ℕ). turned both) (d.both (side_in first));
+  wants = tt;
 }
-second_comes header first second second' between between' committed committed' act (Err fault) d = record { reply = tt; after = tt }
+second_comes header first second second' between between' committed committed' act (Err fault) d = record {
+  reply = tt;
+  after = tt;
+  wants = record {
+    here = d.side;
+    rest = λ j. record {
+      first = side_in second';
+      second = side_in first;
+      away = d.away j;
+      tickets = d.tickets j;
+      committed = d.same j;
+    };
+  };
+}
 
 -- an event on either side, as the code has followed it
 pub event_first : (old : Inside) (held : BothHeld) (event : SideEvent) (new : Both Digests ℕ) (here : CodeSide) (between : Between)

@@ -1,6 +1,6 @@
 -- The words and laws that the proofs of this crate take from specs/ and from the crates below.
 pub use Rattle.std.specs.List.{list_any, sum_by}
-pub use Rattle.std.specs.Prelude.{◌&&◌, ◌==◌, ◌||◌, ◌≢◌, ◌⊎◌, codes, IfOk, if◌then◌else◌, is_some, MatchResult, not, OnOk, option_to_list}
+pub use Rattle.std.specs.Prelude.{◌&&◌, ◌==◌, ◌||◌, ◌≢◌, ◌⊎◌, codes, IfOk, if◌then◌else◌, is_some, MatchResult, not, OnErr, OnOk, option_to_list}
 pub use Rattle.std.specs.Str.{bytes_eq}
 pub use Rattle.std.proofs.Common.{◌++◌, ◌+◌, ◌<◌, ◌^◌, ◌∙◌, ◌∷◌, ◌≡◌, ◌≤◌, [], ap, append_assoc, arith, Bool, Err, false, get_or, inl, inr}
 pub use Rattle.std.proofs.Common.{IsErr, length, length-append, List, map, None, Ok, Option, refl, Result, Some, subst, sym, true, ℕ}
@@ -70,7 +70,8 @@ pub use Rattle.mm_sides.specs.Folds.{accepting, affected_if, both_by_digests, bo
 pub use Rattle.mm_sides.specs.Folds.{BothFollowed, BothReply, brought_to, Denied, effect_if, effect_of, finding, grown, is_moved}
 pub use Rattle.mm_sides.specs.Folds.{is_written, move_ended, move_outcome, move_steps, moved_if, Moves, noted_if, plain_on, handed}
 pub use Rattle.mm_sides.specs.Folds.{refused_where, retiring, stopped_moves, told, unissued}
-pub use Rattle.mm_sides.specs.Laws.{history_now, IsOneFrom, OneIsLive, PairsAgreeThroughout, PairsGoOn, plain_events, plain_replies}
+pub use Rattle.mm_sides.specs.Both.{history_now}
+pub use Rattle.mm_sides.specs.Laws.{IsOneFrom, OneIsLive, PairsAgreeThroughout, PairsGoOn, plain_events, plain_replies}
 pub use Rattle.mm_sides.specs.Laws.{SidesRunAsOne}
 pub use Rattle.mm_sides.specs.Moves.{Accept, accepted_on, Command, entered_again, entered_as, FoundMove, Gone, Invite, invited_on, left_by}
 pub use Rattle.mm_sides.specs.Moves.{MoveCause, offered_to, Open, Refused, Retire, retired_on, stands_here, ticket_by, ticket_in}

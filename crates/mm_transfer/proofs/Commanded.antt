@@ -6,12 +6,14 @@ use Rattle.mm_transfer.proofs.Below.{IsQuiet, Link, Ready, MoveRefusal, Role, Ef
 use Rattle.mm_transfer.proofs.Below.{MoveCause, FoundMove, Command, Denied, move_steps, effect_if, effect_of, brought_to, affected_if}
 use Rattle.mm_transfer.proofs.Below.{finding, moved_if, move_ended, unissued, role_after, Between, MoveReply, CodeSide, RefusedAs, Tried}
 use Rattle.mm_transfer.proofs.Below.{both_with, commanded, FitsBetween, CommandDone, CommandLacks, has_moved, role_in, at_by, at_in, side_in}
+use Rattle.mm_transfer.proofs.Below.{Reads, [], ◌∷◌, ◌⊎◌, seen_in, all_made, by_digests}
 use Rattle.mm_transfer.proofs.Below.{within_64, FitsSide, WantsMemory, MovesPlanned, moves_at, reply_said, refusal_of}
 use Rattle.mm_model.specs.declared.refusal.Refusal.TheVariants as core
 use Rattle.mm_move.specs.declared.refusal.MoveRefusal.TheVariants as refusal
 use Rattle.mm_transfer.specs.declared.reply.MoveReply.TheVariants as reply
 use Rattle.mm_transfer.proofs.Commanding.{said_cause, never_moved, CameAs, Knows, KnowsOf, Came, made_if, MovedBy, moved_by, role_then, at_then, away_then, both_of, affected_is, within_then, FitsThen, brought_then, side_then}
 use Rattle.mm_transfer.proofs.SideStands.{KeepsFor, same_keeps, side_stays}
+use Rattle.mm_transfer.proofs.SideEvents.{seen_digests}
 
 -- the effect that was made, whether the move was whole or broken off
 
@@ -166,7 +168,7 @@ pub move_done : {A : Type 0} (gives : FoundMove → A → Type 0) (pair : Pair) 
     → ((it : FoundMove) → Knows gives role d it → KeepsFor (role_after it.effect) new.digest.bytes (at_then was.away d (Some it.effect)))
     → ((other : Side Digests) (committed : ℕ) → finding digests_move pair i (both_with old was other committed) command ≡ Some found)
     → MatchResult result (CommandDone pair which old new was now (commanded pair which old was meddles stop command))
-    (λ _. CommandLacks pair which old new was now))
+    (λ _. CommandLacks pair which meddles stop old new was now))
 move_done gives pair which stop meddles command found old new was now came result fits c t keeps next finds =
     let i = instance_on pair which in
     let role = role_in old.platform.cell in
@@ -215,23 +217,38 @@ pub err_match : (P : MoveReply → Type 0) (Q : Type 0) (result : Result MoveRep
 err_match P Q (Ok said) is q = absurd (cc)
 err_match P Q (Err memory) is q = q
 
+-- the register has the value that it had, or that it has once the first step is made
+abbrev IsReached : Instance → Digests → List Meddle → Stop → List ℕ → Type 0
+IsReached i d meddles stop value =
+    (value ≡ d.register)
+    ⊎ (value ≡ (all_made (by_digests i) d (seen_in (course_of stop meddles).fates (Reads ∷ []) 1)).register)
+
 -- a side whose cell is as it was
-lacks_side : (pair : Pair) (which : Which) (old new : CodeSide) (was now : Between) (value : List ℕ) → FitsSide pair which old
+lacks_side : (pair : Pair) (which : Which) (stop : Stop) (meddles : List Meddle) (old new : CodeSide) (was now : Between) (value : List ℕ)
+    → IsReached (instance_on pair which) (at_in old) meddles stop value → FitsSide pair which old
     → new.platform.cell ≡ old.platform.cell → register_reads new.platform ≡ Some value → IsQuiet new.platform
     → new.position ≡ old.position → KeepsFor (role_in old.platform.cell) new.digest.bytes (at_in old)
     → new.issued.items ≡ old.issued.items → new.kept ≡ old.kept → now.tickets.items ≡ was.tickets.items → now.kept ≡ was.kept
-    → now.away ≡ was.away → CommandLacks pair which old new was now
-lacks_side pair which old new was now value fits cell register quiet position keeps issued kept tickets counted away =
+    → now.away ≡ was.away → CommandLacks pair which meddles stop old new was now
+lacks_side pair which stop meddles old new was now value reached fits cell register quiet position keeps issued kept tickets counted away =
+    let i = instance_on pair which in
     let d = at_in old in
     let is = side_stays pair which old new value fits cell register quiet position keeps
     (subst (λ (x : List (List ℕ)). new.kept ≡ within_64 (sum_by length x)) (sym issued) (kept ∙ fits.kept)) in
+    let side = λ (seen : Digests) (e : record d { register = value } ≡ seen).
+    let at = is.at_is ∙ e in
+    let whole : side_in new ≡ record (side_in old) { at = seen } =
+    (λ j. record { role = is.role_is j; at = at j; issued = issued j }) in whole in
     record {
       fits = is.fits;
-      side = λ j. record {
-        role = is.role_is j;
-        at = (is.at_is ∙ ap (λ x. record d { register = x }) (sym (ap (λ (x : Digests). x.register) is.at_is))) j;
-        issued = issued j;
-      };
+      side = elim reached [
+        | inl e ↦ inl (side d (λ j. record d { register = e j }))
+        | inr e ↦
+            let fates = (course_of stop meddles).fates in
+            let seen : Digests = all_made (by_digests i) d (seen_in fates (Reads ∷ []) 1) in
+            inr (side seen ((λ j. record d { register = e j }) ∙ sym (seen_digests i d fates (Reads ∷ []) 1)))
+      ];
+      position = position;
       tickets = tickets;
       kept = counted;
       away = away;
@@ -242,12 +259,14 @@ pub lacks_done : {A : Type 0} (pair : Pair) (which : Which) (stop : Stop) (meddl
     → WantsMemory (instance_on pair which) (at_in old) stop meddles from to came → from.cell ≡ old.platform.cell → new.platform ≡ to
     → new.position ≡ old.position → KeepsFor (role_in old.platform.cell) new.digest.bytes (at_in old)
     → new.issued.items ≡ old.issued.items → new.kept ≡ old.kept → now.tickets.items ≡ was.tickets.items → now.kept ≡ was.kept
-    → now.away ≡ was.away → CommandLacks pair which old new was now
+    → now.away ≡ was.away → CommandLacks pair which meddles stop old new was now
 lacks_done pair which stop meddles old new was now from to came fits w cell platform position keeps issued kept tickets counted away =
-    elim w.register [ inl e ↦ reads _ e | inr e ↦ reads _ e ]
+    elim w.register [ inl e ↦ reads _ (inl refl) e | inr e ↦ reads _ (inr refl) e ]
   where
-    reads : (value : List ℕ) → register_reads to ≡ Some value → CommandLacks pair which old new was now
-    reads value e = lacks_side pair which old new was now value fits (ap (λ (s : Standing). s.cell) platform ∙ w.cell ∙ cell)
+    reads : (value : List ℕ) → IsReached (instance_on pair which) (at_in old) meddles stop value → register_reads to ≡ Some value
+        → CommandLacks pair which meddles stop old new was now
+    reads value reached e = lacks_side pair which stop meddles old new was now value reached fits
+        (ap (λ (s : Standing). s.cell) platform ∙ w.cell ∙ cell)
         (ap register_reads platform ∙ e) (subst IsQuiet (sym platform) w.quiet) position keeps issued kept tickets counted away
 
 -- nothing happened to a side, but to its platform
@@ -263,10 +282,11 @@ pub record SameBetween (was now : Between) : Type 0 where
   pub kept : now.kept ≡ was.kept
   pub away : now.away ≡ was.away
 
-pub still_lacks : (pair : Pair) (which : Which) (old new : CodeSide) (was now : Between) → FitsSide pair which old
-    → new.platform ≡ old.platform → SameSide old new → SameBetween was now → CommandLacks pair which old new was now
-still_lacks pair which old new was now fits platform s b =
-    lacks_side pair which old new was now (at_in old).register fits (ap (λ (x : Standing). x.cell) platform)
+pub still_lacks : (pair : Pair) (which : Which) (stop : Stop) (meddles : List Meddle) (old new : CodeSide) (was now : Between)
+    → FitsSide pair which old → new.platform ≡ old.platform → SameSide old new → SameBetween was now
+    → CommandLacks pair which meddles stop old new was now
+still_lacks pair which stop meddles old new was now fits platform s b =
+    lacks_side pair which stop meddles old new was now (at_in old).register (inl refl) fits (ap (λ (x : Standing). x.cell) platform)
     (ap register_reads platform ∙ fits.stands.register) (subst IsQuiet (sym platform) fits.quiet) s.position (same_keeps old new s.digest)
     s.issued s.kept b.tickets b.kept b.away
 
@@ -285,7 +305,7 @@ unissued_done pair which stop meddles command said old new was now fits counted 
       issued = s.issued j;
     } in
     record {
-      fits = (still_lacks pair which old new was now fits platform s b).fits;
+      fits = (still_lacks pair which stop meddles old new was now fits platform s b).fits;
       between = subst (λ (x : List (List ℕ)). now.kept ≡ within_64 (sum_by length x)) (sym b.tickets) (b.kept ∙ counted);
       both = λ other committed.
           (λ j. record { first = same j; second = other; away = b.away j; tickets = b.tickets j; committed = committed })

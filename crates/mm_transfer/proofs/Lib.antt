@@ -7,6 +7,7 @@ mod Matching
 mod Planning
 mod Commanding
 mod Acting
+mod Wanting
 mod Commanded
 mod Retiring
 mod Accepting

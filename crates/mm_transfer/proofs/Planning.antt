@@ -275,10 +275,8 @@ module _ {A : Type 0} (i : Instance) (d : Digests) (stop : Stop) (meddles : List
     says = e;
     cell = settles.cell ∙ s.cell;
     register =
-        inr (subst (λ f. register_reads new ≡ Some
-        (all_made (by_digests i) d (one_step (due 1 meddles) (end_of f (is_made_at stop 1))).moves).register) s.fault_is
-        (settled_by i (all_made (by_digests i) d (map Foreign (due 1 meddles))) stop None mid new s.register settles
-        ∙ ap (λ (ms : List Move). Some (all_made (by_digests i) d ms).register) (sym (append-nil (map Foreign (due 1 meddles))))));
+        inr (settled_by i (all_made (by_digests i) d (map Foreign (due 1 meddles))) stop None mid new s.register settles
+        ∙ ap (λ (ms : List Move). Some (all_made (by_digests i) d ms).register) (sym (append-nil (map Foreign (due 1 meddles)))));
     quiet = quiet_by stop None mid new s.stays settles;
   }
 

@@ -65,7 +65,7 @@ pub invited_done : (pair : Pair) (which : Which) (nonce : List ℕ) (stop : Stop
     (moved_of bytes)) stop meddles mid.platform new.platform came → SameSide mid new → InvitedAs stop came result → FitsSide pair which old
     → FitsBetween between
     → MatchResult result (CommandDone pair which old new between between (commanded pair which old between meddles stop (Invite nonce)))
-    (λ _. CommandLacks pair which old new between between)
+    (λ _. CommandLacks pair which meddles stop old new between between)
 invited_done pair which nonce stop meddles old mid new between came result size k planned s says fits counted =
     let i = instance_on pair which in
     let role = role_in old.platform.cell in
@@ -159,7 +159,7 @@ pub retired_done : (pair : Pair) (which : Which) (nonce : List ℕ) (offer : Off
     → old.platform.cell ≡ Some cell → SameSide old new → SameBetween was mid → LeftAs live old.position stop came mid now result
     → FitsSide pair which old → FitsBetween was
     → MatchResult result (CommandDone pair which old new was now (commanded pair which old was meddles stop (Retire nonce offer)))
-    (λ _. CommandLacks pair which old new was now)
+    (λ _. CommandLacks pair which meddles stop old new was now)
 retired_done pair which nonce offer stop meddles old new was mid now live cell came result size named lives holds s b left fits counted =
     let i = instance_on pair which in
     let role = role_in old.platform.cell in

@@ -11,7 +11,6 @@ use Rattle.mm_transfer.proofs.Below.{None, if◌then◌else◌, One, Move, Commi
 use Rattle.mm_transfer.proofs.Below.{Done, Fails, Fate, after_step, commits, called_by, Power, Extend, way_of, after_stop, uncalled}
 use Rattle.mm_transfer.proofs.Below.{reads_only, asked_in_vain, outcome_by, broken_reply, any_value, AreOuter, IsOuter, foreign_outer}
 use Rattle.mm_transfer.proofs.Below.{stop_outer}
-use Rattle.mm_world.specs.Asks as asks
 use Rattle.mm_schedule.specs.declared.reply.Reply.TheVariants as reply
 use Rattle.mm_schedule.specs.declared.reply.Cause.TheVariants as cause
 use Rattle.mm_base.specs.Limits.{most_members}
@@ -21,6 +20,8 @@ use Rattle.mm_world.specs.Asks.{Came, AsksAs, ChecksAs, quiet_as}
 use Rattle.mm_transfer.proofs.SideStands.{meaning_by, live_stands, stands_live, same_keeps, side_is, side_stays, kept_more, Stays, stays_same, fault_where, vain_reads}
 use Rattle.mm_model.specs.ListLaws.{each_append}
 use Rattle.mm_model.specs.Long.{is_long}
+use Rattle.mm_transfer.specs.OneSide.{GoesOn}
+use Rattle.mm_transfer.specs.Wanting.{AskWants}
 use Rattle.mm_call.specs.CalledWords.{kept_at}
 use Rattle.mm_schedule.specs.declared.reply.Way.{Way}
 
@@ -248,60 +249,63 @@ asked_comes header which old mid new lent meddles stop offer b it said bound dig
 
 -- want of memory
 
-live_stays : (i : Instance) (d : Digests) (meddles : List Meddle) (stop : Stop) (old new : Standing) → Stands i old d → IsQuiet old
-    → asks.Lacks i d meddles stop old new → Stays old new
-live_stays i d meddles stop old new s q l = elim l.called [
-  | inl e ↦ stays_same old new d.register s.register q e
-  | inr e ↦
-      let seen = all_made (by_digests i) d (seen_in (course_of stop meddles).fates (reading_steps i.variant) 1) in
-      let there : Stands i new seen = e.0 in
-      let is : IsRegister d seen = seen_digests i d (course_of stop meddles).fates (reading_steps i.variant) 1 in
-      record {
-        value = seen.register;
-        cell = there.at.cell ∙ ap (λ (x : Digests). Some (cell_spelling (cell_at i x))) is ∙ sym s.at.cell;
-        register = there.register;
-        quiet = l.quiet;
-      }
-]
+-- the side goes on, and nothing has changed but its register's value
+abbrev GoesReading : Pair → Which → CodeSide → CodeSide → List ℕ → Type 0
+GoesReading pair which old new value =
+    GoesOn pair which old new × (side_in new ≡ record (side_in old) { at = record (at_in old) { register = value } })
 
-lacks_by : (pair : Pair) (which : Which) (role : Role) (d : Digests) (old new : Standing) (issued : List (List ℕ)) (meddles : List Meddle)
-    (stop : Stop) (bytes : Option (List ℕ)) (b : Batch) (memory : Memory) → StandsAs pair which role old d → IsQuiet old
-    → AsksPlanned pair.variant pair.meaning old new issued meddles stop bytes b (Err memory) → Stays old new
-lacks_by pair which Live d old new issued meddles stop bytes b memory s q asks =
-    let l = stands_live pair which old d s in
-    live_stays (instance_on pair which) d meddles stop old new l q (asks.own (key_of pair which) pair.barrier d l q)
-lacks_by pair which role d old new issued meddles stop bytes b memory s q asks =
-    stays_same old new d.register s.register q (asks.vain (instance_on pair which) d (Err (fault_where role)) (refused_where role)
-    (vain_reads pair which role old d refl s q) refl)
-
-lacks_as : (pair : Pair) (which : Which) (old new : CodeSide) → FitsSide pair which old → Stays old.platform new.platform
-    → new.digest ≡ old.digest
-    → new.issued.items ≡ old.issued.items → new.kept ≡ old.kept → new.position ≡ old.position → Lacks pair which old new
-lacks_as pair which old new f s digest issued kept position =
+goes_reading : (pair : Pair) (which : Which) (old new : CodeSide) (value : List ℕ) → FitsSide pair which old → new.digest ≡ old.digest
+    → new.issued.items ≡ old.issued.items → new.kept ≡ old.kept → new.position ≡ old.position → Stays old.platform new.platform value
+    → GoesReading pair which old new value
+goes_reading pair which old new value f digest issued kept position s =
     let sum : new.kept ≡ within_64 (sum_by length new.issued.items) =
     subst (λ (x : List (List ℕ)). new.kept ≡ within_64 (sum_by length x)) (sym issued) (kept ∙ f.kept) in
-    record {
-      goes = record {
-        fits = (side_stays pair which old new s.value f s.cell s.register s.quiet position (same_keeps old new digest) sum).fits;
+    let is = side_stays pair which old new value f s.cell s.register s.quiet position (same_keeps old new digest) sum in (
+      record {
+        fits = is.fits;
         few = omega (arith, position);
         one = subst (λ (x : List (List ℕ)). length x ≤ length old.issued.items + 1) (sym issued) (omega arith);
-      };
-      cell = s.cell;
-      digest = digest;
-      issued = issued;
-      kept = kept;
-      position = position;
-    }
+      },
+      λ j. record { role = is.role_is j; at = is.at_is j; issued = issued j },
+    )
+
+ask_wants : (pair : Pair) (which : Which) (role : Role) (old new : CodeSide) (lent : List (List ℕ)) (meddles : List Meddle) (stop : Stop)
+    (bytes : Option (List ℕ)) (b : Batch) (memory : Memory) → StandsAs pair which role old.platform (at_in old) → IsQuiet old.platform
+    → AsksPlanned pair.variant pair.meaning old.platform new.platform lent meddles stop bytes b (Err memory)
+    → ((value : List ℕ) → Stays old.platform new.platform value → GoesReading pair which old new value)
+    → GoesOn pair which old new × AskWants (instance_on pair which) role meddles stop (side_in old) (side_in new)
+ask_wants pair which Live old new lent meddles stop bytes b memory s q asks stays =
+    let i = instance_on pair which in
+    let d = at_in old in
+    let l = stands_live pair which old.platform d s in
+    elim (asks.own (key_of pair which) pair.barrier d l q) [
+      | inl e ↦ let k = stays d.register (stays_same old.platform new.platform d.register s.register q e) in (k.0, inl k.1)
+      | inr e ↦
+          let fates = (course_of stop meddles).fates in
+          let seen : Digests = all_made (by_digests i) d (seen_in fates (reading_steps i.variant) 1) in
+          let is : IsRegister d seen = seen_digests i d fates (reading_steps i.variant) 1 in
+          let k = stays seen.register (record {
+            cell = e.stands.at.cell ∙ ap (λ (x : Digests). Some (cell_spelling (cell_at i x))) is ∙ sym l.at.cell;
+            register = e.stands.register;
+            quiet = e.quiet;
+          }) in
+          (k.0, inr (k.1 ∙ ap (λ (x : Digests). record (side_in old) { at = x }) (sym is)))
+    ]
+ask_wants pair which role old new lent meddles stop bytes b memory s q asks stays =
+    let d = at_in old in
+    stays d.register (stays_same old.platform new.platform d.register s.register q (asks.vain (instance_on pair which) d
+    (Err (fault_where role)) (refused_where role) (vain_reads pair which role old.platform d refl s q) refl))
 
 pub asked_lacks : (header : Header) (which : Which) (old new : CodeSide) (lent : List (List ℕ)) (meddles : List Meddle) (stop : Stop)
     (offer : Offer) (b : Batch) (memory : Memory) → new.digest ≡ old.digest → new.kept ≡ old.kept → new.position ≡ old.position
     → new.issued.items ≡ old.issued.items → lent ≡ new.issued.items
     → AsksPlanned header.variant (meaning_of header.«module») old.platform new.platform lent meddles stop (offered_bytes lent offer) b
-    (Err memory) → FitsSide (pair_of header) which old → Lacks (pair_of header) which old new
+    (Err memory) → FitsSide (pair_of header) which old → Lacks (pair_of header) which (Ask meddles stop offer b) old new
 asked_lacks header which old new lent meddles stop offer b memory digest kept position issued same asks f =
-    lacks_as (pair_of header) which old new f
-    (lacks_by (pair_of header) which (role_in old.platform.cell) (at_in old) old.platform new.platform lent meddles stop
-    (offered_bytes lent offer) b memory f.stands f.quiet asks) digest issued kept position
+    let pair = pair_of header in
+    let k = ask_wants pair which (role_in old.platform.cell) old new lent meddles stop (offered_bytes lent offer) b memory f.stands f.quiet
+    asks (λ value s. goes_reading pair which old new value f digest issued kept position s) in
+    record { goes = k.0; stands = k.1; digest = digest; position = position }
 
 -- a checkpoint
 
@@ -337,7 +341,7 @@ pub checked : (header : Header) (which : Which) (old new : CodeSide) (meddles : 
     → new.digest ≡ old.digest → new.kept ≡ old.kept → new.position ≡ old.position → new.issued.items ≡ old.issued.items
     → ChecksPlanned old.platform new.platform old.issued.items meddles stop result → FitsSide (pair_of header) which old
     → MatchResult result (Comes (pair_of header) which old new (outcome_on (pair_of header) which old (Checkpoint meddles stop)))
-    (λ _. Lacks (pair_of header) which old new)
+    (λ _. Lacks (pair_of header) which (Checkpoint meddles stop) old new)
 checked header which old new meddles stop (Ok said) bound digest kept position issued checks f =
     let pair = pair_of header in
     comes_as header which (role_in old.platform.cell) old new (Checkpoint meddles stop) (quiet_as said) refl f bound
@@ -345,9 +349,9 @@ checked header which old new meddles stop (Ok said) bound digest kept position i
     f.quiet checks) (ended_quiet pair which old new said f bound digest kept position issued)
 checked header which old new meddles stop (Err memory) bound digest kept position issued checks f =
     let pair = pair_of header in
-    let role = role_in old.platform.cell in
-    let same = checks_want pair which role (at_in old) old.platform new.platform old.issued.items meddles stop memory f.stands f.quiet
-    checks in
-    lacks_as pair which old new f (stays_same old.platform new.platform
-    (at_in old).register f.stands.register f.quiet same) digest issued kept
-    position
+    let d = at_in old in
+    let same = checks_want pair which (role_in old.platform.cell) d old.platform new.platform old.issued.items meddles stop memory f.stands
+    f.quiet checks in
+    let k = goes_reading pair which old new d.register f digest issued kept position
+    (stays_same old.platform new.platform d.register f.stands.register f.quiet same) in
+    record { goes = k.0; stands = k.1; digest = digest; position = position }

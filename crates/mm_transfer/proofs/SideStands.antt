@@ -228,16 +228,16 @@ kept_more kept kept' issued issued' snapshot is more e =
     subst (λ (x : List (List ℕ)). kept' ≡ within_64 (sum_by length x)) (sym more)
     (let sum = sum_more issued snapshot in omega (arith, is, e, sum))
 
--- the cell is as it was, and the platform is quiet
-pub record Stays (old new : Standing) : Type 0 where
-  pub value : List ℕ
+-- the cell is as it was, the register has this value, and the platform is quiet
+pub record Stays (old new : Standing) (value : List ℕ) : Type 0 where
   pub cell : new.cell ≡ old.cell
   pub register : register_reads new ≡ Some value
   pub quiet : IsQuiet new
 
-pub stays_same : (old new : Standing) (value : List ℕ) → register_reads old ≡ Some value → IsQuiet old → new ≡ old → Stays old new
+pub stays_same : (old new : Standing) (value : List ℕ) → register_reads old ≡ Some value → IsQuiet old → new ≡ old
+    → Stays old new value
 stays_same old new value r q e =
-    subst (λ (s : Standing). Stays old s) (sym e) (record { value = value; cell = refl; register = r; quiet = q })
+    subst (λ (s : Standing). Stays old s value) (sym e) (record { cell = refl; register = r; quiet = q })
 
 -- a cell where the module isn't reads as none
 

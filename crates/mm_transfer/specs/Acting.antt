@@ -6,8 +6,9 @@ use Rattle.mm_transfer.specs.declared.between.Between.{Between}
 use Rattle.mm_transfer.specs.declared.reply.MoveReply.{MoveReply}
 use Rattle.mm_transfer.specs.declared.side.Side.{Side as CodeSide}
 use Rattle.mm_transfer.specs.Between.{both_with, FitsBetween}
-use Rattle.mm_transfer.specs.OneSide.{side_in, FitsSide, SameButRegister}
+use Rattle.mm_transfer.specs.OneSide.{side_in, FitsSide}
 use Rattle.mm_transfer.specs.Replies.{reply_said, IsSayable}
+use Rattle.mm_transfer.specs.Wanting.{ActWants}
 
 -- what happens on a side comes to this, whatever the other is
 abbrev pub acted : Pair → Which → CodeSide → Between → ℕ → Act → Side Digests
@@ -37,13 +38,13 @@ pub record ActDone (pair : Pair) (which : Which) (old new : CodeSide) (was now :
   pub issued : length new.issued.items ≤ length old.issued.items + 1
   pub tickets : length now.tickets.items ≤ length was.tickets.items + 1
 
--- Memory was wanting: nothing has changed, but that the register may have another value.
-pub record ActLacks (pair : Pair) (which : Which) (old new : CodeSide) (was now : Between)
-    (before after : ℕ) : Type 0 where
+-- Memory was wanting for what happened on the side, and nothing beside it has changed.
+pub record ActLacks (pair : Pair) (which : Which) (act : Act) (old new : CodeSide)
+    (was now : Between) (before after : ℕ) : Type 0 where
   pub fits : FitsSide pair which new
   pub between : FitsBetween now
   pub within : AreWithin new now after
-  pub side : SameButRegister (side_in old) (side_in new)
+  pub side : ActWants (instance_on pair which) act (side_in old) (side_in new)
   pub away : now.away ≡ was.away
   pub tickets : now.tickets.items ≡ was.tickets.items
   pub same : after ≡ before
@@ -55,4 +56,4 @@ Acts pair which act old new was now before after result =
     FitsSide pair which old → FitsBetween was → AreWithin old was before → before < 2 ^ 63
     → MatchResult result
     (ActDone pair which old new was now before after (acted pair which old was before act))
-    (λ _. ActLacks pair which old new was now before after)
+    (λ _. ActLacks pair which act old new was now before after)

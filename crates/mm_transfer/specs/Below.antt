@@ -22,7 +22,8 @@ pub use Rattle.mm_model.specs.Standing.{register_reads}
 pub use Rattle.mm_model.specs.Steps.{Reads, Step}
 pub use Rattle.mm_model.specs.declared.refusal.Refusal.{Refusal}
 pub use Rattle.mm_model.specs.declared.refusal.Refusal.TheVariants.{Device}
-pub use Rattle.mm_call.specs.Courses.{Walked, walk}
+pub use Rattle.mm_call.specs.Called.{reading_steps}
+pub use Rattle.mm_call.specs.Courses.{Walked, seen_in, walk}
 pub use Rattle.mm_call.specs.Levels.{all_made, by_digests}
 pub use Rattle.mm_call.specs.Standing.{cell_at}
 pub use Rattle.mm_move.specs.Cells.{moved_of, retired_spelling, waiting_spelling}
@@ -50,7 +51,7 @@ pub use Rattle.mm_schedule.specs.declared.header.Header.{Header}
 pub use Rattle.mm_schedule.specs.declared.reply.Reply.{Reply}
 pub use Rattle.mm_run.specs.Folds.{Outcome, cause_of, course_of, way_of}
 pub use Rattle.mm_run.specs.Held.{rising_from, world_barrier, world_key}
-pub use Rattle.mm_sides.specs.Both.{Both, First, Pair, Second, Side, Which, digests_move, first_both, first_lists, instance_on}
+pub use Rattle.mm_sides.specs.Both.{Both, First, Pair, Second, Side, Which, digests_move, facing, first_both, first_lists, instance_on}
 pub use Rattle.mm_sides.specs.Folds.{Act, BothEvent, BothFollowed, BothOutcome, BothReply, Moves, Plain, both_by_digests, both_expected}
 pub use Rattle.mm_sides.specs.Folds.{both_followed, both_outcome, grown, is_moved, move_outcome, outcome_here, plain_on, stopped_moves}
 pub use Rattle.mm_sides.specs.Laws.{IsOneFrom, both_continued, plain_events, plain_replies}
@@ -63,7 +64,7 @@ pub use Rattle.mm_world.specs.Calls.{stopped_step, takes_effect}
 pub use Rattle.mm_world.specs.Held.{digest_in, flag_in, value_in}
 pub use Rattle.mm_world.specs.Stands.{IsQuiet}
 pub use Rattle.mm_world.specs.declared.call.Called.{Called}
-pub use Rattle.mm_replay.specs.Schedule.{most_kept}
+pub use Rattle.mm_play.specs.Kept.{most_kept}
 pub use Rattle.mm_replay.specs.Text.{text_of_replies}
 pub use Rattle.mm_play.specs.Counting.{event_counts, header_counts}
 pub use Rattle.mm_play.specs.Events.{EventPlayer, event_answer as answer_by, header_answer as begins_by, is_over}

@@ -2,7 +2,7 @@
 use Rattle.std.specs.Prelude.{◌≡◌, ◌≤◌, ◌+◌, ◌&&◌, ℕ, Bool, not, List, [], ◌∷◌, ◌++◌, length, Option, None, Some, Result, Ok, Err, IsErr}
 use Rattle.std.specs.Prelude.{MatchResult, is_some, if◌then◌else◌}
 use Rattle.std.specs.List.{sum_by}
-use Rattle.mm_transfer.specs.Below.{Memory, Standing, Meddle, Stop, Digests, Refusal, move_fault_of, Accepted, Ready, MoveRefusal, cause_of}
+use Rattle.mm_transfer.specs.Below.{Memory, Standing, Meddle, Stop, Digests, Reads, Refusal, move_fault_of, Accepted, Ready, MoveRefusal, cause_of}
 use Rattle.mm_transfer.specs.Below.{way_of, Which, Pair, instance_on, Side, Both, digests_move, BothOutcome, move_outcome, Command}
 use Rattle.mm_model.specs.declared.refusal.Refusal.TheVariants as core
 use Rattle.mm_move.specs.declared.refusal.MoveRefusal.TheVariants as refusal
@@ -14,6 +14,7 @@ use Rattle.mm_transfer.specs.declared.side.Side.{Side as CodeSide}
 use Rattle.mm_transfer.specs.OneSide.{side_in, at_in, within_64, FitsSide}
 use Rattle.mm_transfer.specs.Planned.{MovesPlanned, moves_at}
 use Rattle.mm_transfer.specs.Replies.{reply_said}
+use Rattle.mm_transfer.specs.Wanting.{MayHaveRead}
 
 -- what is told of a move that was refused, or broken off; want of memory is the caller's
 abbrev pub RefusedFor : Stop → Refusal → Result MoveReply Memory → Type 0
@@ -146,11 +147,12 @@ pub record CommandDone (pair : Pair) (which : Which) (old new : CodeSide) (was n
       → (new.position ≤ most) × (now.away ≤ most)
 
 -- Memory was wanting: nothing has changed, but that the first step may have been made.
-pub record CommandLacks (pair : Pair) (which : Which) (old new : CodeSide)
-    (was now : Between) : Type 0 where
+pub record CommandLacks (pair : Pair) (which : Which) (meddles : List Meddle) (stop : Stop)
+    (old new : CodeSide) (was now : Between) : Type 0 where
   pub fits : FitsSide pair which new
-  pub side : side_in new ≡ record (side_in old)
-      { at = record (at_in old) { register = (at_in new).register } }
+  pub side : MayHaveRead (instance_on pair which) (Reads ∷ []) meddles stop (side_in old)
+      (side_in new)
+  pub position : new.position ≡ old.position
   pub tickets : now.tickets.items ≡ was.tickets.items
   pub kept : now.kept ≡ was.kept
   pub away : now.away ≡ was.away
@@ -162,4 +164,4 @@ Commands pair which meddles stop command old new was now result =
     FitsSide pair which old → FitsBetween was
     → MatchResult result
     (CommandDone pair which old new was now (commanded pair which old was meddles stop command))
-    (λ _. CommandLacks pair which old new was now)
+    (λ _. CommandLacks pair which meddles stop old new was now)

@@ -3,6 +3,7 @@ pub mod Pairs
 pub mod Events
 pub mod Replies
 pub mod Lengths
+pub mod Wanting
 pub mod OneSide
 pub mod OneProof
 pub mod Grammar

@@ -11,10 +11,7 @@ use Rattle.mm_transfer.specs.declared.side.Side.{Side as CodeSide}
 use Rattle.mm_transfer.specs.Pairs.{pair_of}
 use Rattle.mm_transfer.specs.RoleCells.{cell_of_role, FitsCell}
 use Rattle.mm_transfer.specs.Lengths.{length_if}
-
--- nothing of a side has changed, but that its register may have another value
-abbrev pub SameButRegister : Side Digests → Side Digests → Type 0
-SameButRegister old new = new ≡ record old { at = record old.at { register = new.at.register } }
+use Rattle.mm_transfer.specs.Wanting.{PlainWants}
 
 -- what both sides share
 abbrev pub link_of : Pair → Link
@@ -108,13 +105,11 @@ pub record EndsCall (it : Called) (old new : CodeSide) (said : Reply) : Type 0 w
   pub position : new.position ≡ within_64 (old.position + it.committed)
   pub says : said ≡ it.reply
 
--- Memory was wanting: nothing has changed, but that a call may have made its reading steps.
-pub record Lacks (pair : Pair) (which : Which) (old new : CodeSide) : Type 0 where
+-- Memory was wanting for an event of a schedule, and the side can go on.
+pub record Lacks (pair : Pair) (which : Which) (event : Event) (old new : CodeSide) : Type 0 where
   pub goes : GoesOn pair which old new
-  pub cell : new.platform.cell ≡ old.platform.cell
+  pub stands : PlainWants (instance_on pair which) event (side_in old) (side_in new)
   pub digest : new.digest ≡ old.digest
-  pub issued : new.issued.items ≡ old.issued.items
-  pub kept : new.kept ≡ old.kept
   pub position : new.position ≡ old.position
 
 -- what an event of a schedule comes to on a side
@@ -128,7 +123,7 @@ abbrev pub Follows : Header → Event → CodeSide → CodeSide → Result Reply
 Follows header event old new result =
     (which : Which) → FitsSide (pair_of header) which old → MatchResult result
     (Comes (pair_of header) which old new (outcome_on (pair_of header) which old event))
-    (λ _. Lacks (pair_of header) which old new)
+    (λ _. Lacks (pair_of header) which event old new)
 
 -- a side over a new platform with this cell, on which nothing was issued
 pub record IsBare (header : Header) (cell : List ℕ) (side : CodeSide) : Type 0 where

@@ -1,6 +1,6 @@
 -- A move over a platform in memory, under the plan of an event.
 use Rattle.std.specs.Prelude.{◌≡◌, ◌==◌, ◌&&◌, ℕ, Bool, true, false, List, [], ◌∷◌, Option, None, Some, Result, Ok, Err, ◌⊎◌}
-use Rattle.mm_transfer.specs.Below.{Standing, StepFault, Meddle, Stop, Instance, Digests, register_reads, Step, Reads, Device, Walked, walk}
+use Rattle.mm_transfer.specs.Below.{Standing, StepFault, Meddle, Stop, Instance, Digests, register_reads, Step, Reads, Device, Walked, seen_in, walk}
 use Rattle.mm_transfer.specs.Below.{by_digests, all_made, Ready, MoveRefusal, Core, course_of, is_moved, stopped_moves, takes_effect}
 use Rattle.mm_transfer.specs.Below.{stopped_step, IsQuiet}
 use Rattle.mm_model.specs.declared.refusal.Refusal.TheVariants.{Memory}
@@ -60,8 +60,7 @@ pub record WantsMemory {A : Type 0} (i : Instance) (d : Digests) (stop : Stop)
   pub cell : new.cell ≡ old.cell
   pub register : (register_reads new ≡ Some d.register)
       ⊎ (register_reads new ≡ Some
-      (all_made (by_digests i) d
-      (walk (course_of stop meddles).fates 1 (Reads ∷ [])).moves).register)
+      (all_made (by_digests i) d (seen_in (course_of stop meddles).fates (Reads ∷ []) 1)).register)
   pub quiet : IsQuiet new
 
 -- A move by what it finds, over a quiet platform that tells its cell and its register.

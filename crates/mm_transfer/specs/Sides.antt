@@ -4,8 +4,9 @@ use Rattle.mm_transfer.specs.Below.{most_members, Digests, Header, Both, digests
 use Rattle.mm_transfer.specs.declared.between.Between.{Between}
 use Rattle.mm_transfer.specs.declared.side.Side.{Side as CodeSide}
 use Rattle.mm_transfer.specs.Between.{both_with}
-use Rattle.mm_transfer.specs.OneSide.{side_in, SameButRegister}
+use Rattle.mm_transfer.specs.OneSide.{side_in}
 use Rattle.mm_transfer.specs.Pairs.{pair_of}
+use Rattle.mm_transfer.specs.Wanting.{Wants}
 
 -- the header, and what stands on both sides by digests
 pub record BothHeld : Type 0 where
@@ -35,14 +36,10 @@ pub record GrowsByOne (old new : BothHeld) : Type 0 where
   pub second : length new.both.second.issued ≤ length old.both.second.issued + 1
   pub tickets : length new.both.tickets ≤ length old.both.tickets + 1
 
--- Nothing has changed, but that the registers may have other values.
-pub record Stays (old new : BothHeld) : Type 0 where
+-- memory was wanting for an event
+pub record HeldWants (event : BothEvent) (old new : BothHeld) : Type 0 where
   pub header : new.header ≡ old.header
-  pub first : SameButRegister old.both.first new.both.first
-  pub second : SameButRegister old.both.second new.both.second
-  pub away : new.both.away ≡ old.both.away
-  pub tickets : new.both.tickets ≡ old.both.tickets
-  pub committed : new.both.committed ≡ old.both.committed
+  pub both : Wants (pair_of old.header) event old.both new.both
 
 -- both sides in code, with what passes between them, and how many requests were committed
 abbrev pub held_in : Header → CodeSide → CodeSide → Between → ℕ → BothHeld

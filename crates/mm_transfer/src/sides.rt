@@ -111,7 +111,7 @@ impl Sides {
     ghost use Rattle.std.specs.Prelude.{IfOk, OnErr, OnOk};
     ghost use Rattle.mm_transfer.specs.Events.{side_event_of};
     ghost use Rattle.mm_transfer.specs.Replies.{reply_said, IsSayable};
-    ghost use Rattle.mm_transfer.specs.Sides.{first_held, outcome_in, HasRoom, GrowsByOne, Stays};
+    ghost use Rattle.mm_transfer.specs.Sides.{first_held, outcome_in, HasRoom, GrowsByOne, HeldWants};
     ghost use Rattle.mm_transfer.specs.Stage.{kept_in};
     ghost use Rattle.mm_sides.specs.Both.{facing};
 
@@ -128,8 +128,8 @@ impl Sides {
         })
     }
 
-    /// Follows one event, and answers it. After want of memory nothing has changed, but that a call may have made its
-    /// reading steps.
+    /// Follows one event, and answers it. After want of memory nothing has changed, but that a call or a move on the event's
+    /// side may have made its reading steps.
     pub fn event(&mut self, alloc: Global, event: &SideEvent) -> Result<MoveReply, Memory>
         requires { HasRoom self.old }
         ensures reply { IfOk result
@@ -137,7 +137,7 @@ impl Sides {
         ensures sayable { IfOk result IsSayable }
         ensures after { OnOk result (self.new.both ≡ (outcome_in self.old (side_event_of event.now)).both) }
         ensures grows { OnOk result (GrowsByOne self.old self.new) }
-        ensures stays { OnErr result (Stays self.old self.new) }
+        ensures wants { OnErr result (HeldWants (side_event_of event.now) self.old self.new) }
     {
         let Sides {
             header,

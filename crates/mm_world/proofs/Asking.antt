@@ -261,7 +261,7 @@ lacks_or_same i d fates true bytes b =
 
 -- a call that is refused has made its reading steps, and no others
 
-pub record HasRead (i : Instance) (d : Digests) (fates : ℕ → Fate) (o : Called Digests) : Type 0 where
+pub record ReadsAlone (i : Instance) (d : Digests) (fates : ℕ → Fate) (o : Called Digests) : Type 0 where
   pub state : o.state ≡ all_made (by_digests i) d (seen_in fates (reading_steps i.variant) 1)
   pub steps : o.steps ≡ length (reading_steps i.variant)
   pub writes : o.writes ≡ 0
@@ -275,7 +275,7 @@ unbroken i d seen s b _ why moves _ e = cc
 
 pub refused_read : (i : Instance) (d seen : Digests) (b : Batch) (fates : ℕ → Fate) (found : Result Found Refusal) (why : Refusal)
     → (let o = call_of i d seen b found (walk fates 1 (ask_steps i.variant d.flag (is_fresh found) b)) in o.ending ≡ Refuses why
-    → HasRead i d fates o)
+    → ReadsAlone i d fates o)
 refused_read i d seen b fates found why e =
     let w = walk fates 1 (ask_steps i.variant d.flag (is_fresh found) b) in
     let u = unbroken i d seen (all_made (by_digests i) d w.moves) b found why w.moves w.broken e in

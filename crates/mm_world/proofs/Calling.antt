@@ -6,13 +6,15 @@ use Rattle.mm_world.proofs.Below.{Ended, Answered, Refused, Broken, by_digests, 
 use Rattle.mm_world.proofs.Below.{End, Done, Fails, Fate, Course, walk, planned, seen_in, Ending, Answers, Refuses, Breaks, Called, called}
 use Rattle.mm_world.proofs.Below.{ended_by, seen_at, reading_steps, instance_by, StandsAt, counted_by, result_of, kept_by, KeepsAs}
 use Rattle.mm_world.proofs.Below.{is_broken, StaysOn, CallsTo, way_of, course_of, cause_of, outcome_by, uncalled, plan_of, broken_reply}
-use Rattle.mm_world.proofs.Below.{Stands, refused_call, answered_call, broken_as, takes_effect, size_if, RefusedAs, CalledAs, SettlesPlan}
-use Rattle.mm_world.proofs.Below.{Came, Lacks, AsksAs, call_commits, ◌&&◌, ◌++◌, reply_of, snapshots_of, moves_then, is_cut, [], ◌∷◌, map}
+use Rattle.mm_world.proofs.Below.{Stands, IsQuiet, refused_call, answered_call, broken_as, takes_effect, size_if, RefusedAs, CalledAs, SettlesPlan}
+use Rattle.mm_world.proofs.Below.{Came, HasRead, AsksAs, call_commits, ◌&&◌, ◌++◌, reply_of, snapshots_of, moves_then, is_cut, [], ◌∷◌, map}
 use Rattle.mm_world.proofs.Below.{append-nil, ◌==◌, Basic, Opt, fault_at, is_made_at, Foreign, Close, Reads, Writes, checkpoint_steps, Said}
 use Rattle.mm_world.proofs.Below.{CheckpointRefusal, closing_told, ChecksBy, ChecksOn, Walked, after_step, closes, end_of, made_move}
 use Rattle.mm_world.proofs.Below.{closes-foreign, closes_first, checkpoint_none, closing_reply, closing_then, closed_outcome, stopped_reply}
 use Rattle.mm_world.proofs.Below.{closes_at, told_closing, stops_in, ChecksAs, quiet_as, reads_of}
+use Rattle.std.specs.Prelude.{◌⊎◌}
 use Rattle.mm_module.specs.BatchLaws.{members_of-normal}
+use Rattle.mm_run.specs.Folds.{asked}
 use Rattle.mm_call.specs.CallsOn.{GoesBy}
 use Rattle.mm_world.proofs.Asking.{committed_by, counted_end, stopped_at, breaks_at, refuses, same, lacks_or_same, refused_read, told_ok}
 use Rattle.mm_world.proofs.Asking.{told_err, breaks, stands_settled, on_settled, Tells, came_register, power_if, power_count, moves_power}
@@ -66,7 +68,7 @@ module _ (i : Instance) (d : Digests) (stop : Stop) (meddles : List Meddle) (byt
   Comes it = Came i (outcome_by (by_digests i) stop issued (on (course_of stop meddles))) d.count issued old new it
 
   abbrev Ends : Result code.Called Memory → Type 0
-  Ends result = MatchResult result Comes (λ _. Lacks i d meddles stop old new)
+  Ends result = MatchResult result Comes (λ _. HasRead i d meddles stop old new)
 
   abbrev OverAs : Ended → Type 0
   OverAs ended = Over i d stop meddles bytes b old mid new ended
@@ -122,7 +124,7 @@ module _ (i : Instance) (d : Digests) (stop : Stop) (meddles : List Meddle) (byt
 
   -- want of memory
   lacks_call : (ended : Ended) (r : OverAs ended) → is_broken ended ≡ false → (on r.course).ending ≡ Refuses refusal.Memory
-      → Lacks i d meddles stop old new
+      → HasRead i d meddles stop old new
   lacks_call ended r unbroken e =
       let c = r.course in let o = on c in let seen = seen_at i (by_digests i) d c in
       let found = found_unless_wanting (found_at i (by_digests i) seen b bytes) c.lacks in
@@ -134,9 +136,10 @@ module _ (i : Instance) (d : Digests) (stop : Stop) (meddles : List Meddle) (byt
       settles.cell settles.items in
       let to : o.state ≡ seen_at i (by_digests i) d (course_of stop meddles) =
       h.state ∙ ap (λ x. all_made (by_digests i) d (seen_in x (reading_steps i.variant) 1)) (λ j. λ n. r.fates n j) in record {
+        stands = subst (Stands i new) to stands;
         quiet = record { is_on = on_settled stop false mid new stays settles.is_on; plan = settles.plan };
+        steps = settles.steps ∙ r.goes.steps ∙ ap (λ n. counted_by n old.steps) h.steps;
         writes = settles.writes ∙ r.goes.writes ∙ ap (λ n. counted_by n old.writes) h.writes;
-        called = inr (subst (Stands i new) to stands, settles.steps ∙ r.goes.steps ∙ ap (λ n. counted_by n old.steps) h.steps);
       }
 
   ends_why : (why : Refusal) (result : Result code.Called Memory) → OverAs (Refused why) → RefusedAs why result → Ends result
@@ -162,14 +165,22 @@ module _ (i : Instance) (d : Digests) (stop : Stop) (meddles : List Meddle) (byt
         committed = ap (λ m. size_if m size) (sym made) ∙ ap (size_if kept) n;
       }))
 
-module _ (variant : Variant) where
-  -- a call that isn't too long, over a planned platform
-  pub asks_planned : (meaning : Meaning) (old mid new : Standing) (meddles : List Meddle) (stop : Stop) (bytes : List ℕ) (b : Batch)
-      (size : ℕ) (ended : Ended) (result : Result code.Called Memory) → is_long b ≡ false → size ≡ size_of b
-      → CallsTo variant meaning (record old { plan = Some (plan_of stop meddles) }) mid bytes b ended
-      → SettlesPlan stop (is_broken ended) mid new → CalledAs stop size ended result → (issued : List (List ℕ))
-      → AsksAs variant meaning old new issued meddles stop (Some bytes) b result
-  asks_planned meaning old mid new meddles stop bytes b size ended result short n calls settles told issued = λ key barrier d s q.
+-- where memory was wanting nothing may have happened at all
+or_read : (P : code.Called → Type 0) (Q R : Type 0) (result : Result code.Called Memory) → MatchResult result P (λ _. R)
+    → MatchResult result P (λ _. Q ⊎ R)
+or_read P Q R (Ok it) h = h
+or_read P Q R (Err memory) h = inr h
+
+module _ (variant : Variant) (meaning : Meaning) (old mid new : Standing) (meddles : List Meddle) (stop : Stop) (bytes : List ℕ) (b : Batch)
+    (size : ℕ) (ended : Ended) (result : Result code.Called Memory) (short : is_long b ≡ false) (n : size ≡ size_of b)
+    (calls : CallsTo variant meaning (record old { plan = Some (plan_of stop meddles) }) mid bytes b ended)
+    (settles : SettlesPlan stop (is_broken ended) mid new) (told : CalledAs stop size ended result) (issued : List (List ℕ)) where
+  -- a call that isn't too long, over a planned platform: where memory is wanting it has read
+  pub asks_planned : (key barrier : List ℕ) (d : Digests) → (let i = instance_by variant meaning key barrier in
+      Stands i old d → IsQuiet old → MatchResult result
+      (Came i (asked i (by_digests i) d issued meddles stop (Some bytes) b) d.count issued old new)
+      (λ _. HasRead i d meddles stop old new))
+  asks_planned key barrier d s q =
       let i = instance_by variant meaning key barrier in
       let at : Standing = record old { plan = Some (plan_of stop meddles) } in
       let planned_stands : StandsAt i at d = record { spells = s.at.spells; cell = s.at.cell; reads = s.at.reads } in
@@ -184,10 +195,16 @@ module _ (variant : Variant) where
         stays = stays.0;
       } in
       subst (λ x. MatchResult result (Came i (if x then uncalled d issued (reply.No cause.Long) else outcome_by (by_digests i) stop issued
-      (called i (by_digests i) d (course_of stop meddles) bytes (normal b))) d.count issued old new) (λ _. Lacks i d meddles stop old
+      (called i (by_digests i) d (course_of stop meddles) bytes (normal b))) d.count issued old new) (λ _. HasRead i d meddles stop old
       new)) (sym short)
       (ends_all i d stop meddles bytes (normal b) old mid new issued size ended result r (n ∙ ap (λ xs. length xs)
       (sym (members_of-normal b))) told)
+
+  pub asks_as : AsksAs variant meaning old new issued meddles stop (Some bytes) b result
+  asks_as = λ key barrier d s q.
+      let i = instance_by variant meaning key barrier in
+      or_read (λ it. Came i (asked i (by_digests i) d issued meddles stop (Some bytes) b) d.count issued old new it) (new ≡ old)
+      (HasRead i d meddles stop old new) result (asks_planned key barrier d s q)
 
 -- whether the segment was closed
 

@@ -21,7 +21,7 @@ use Rattle.mm_platform.specs.StandingWords.{due}
 use Rattle.mm_opt.specs.Closed.{ClosedInOpt}
 use Rattle.mm_world.proofs.Asking.{stopped_at}
 use Rattle.mm_world.proofs.Asking.{settled_reads, stop_power, on_settled, power_if}
-use Rattle.mm_world.proofs.Calling.{asks_planned}
+use Rattle.mm_world.proofs.Calling.{asks_as}
 use Rattle.mm_world.proofs.Calling.{checks_planned}
 use Rattle.mm_model.specs.declared.refusal.Refusal.TheVariants as refusal
 use Rattle.mm_basic.specs.Seen as seen
@@ -360,7 +360,7 @@ module _ (variant : Variant) (meaning : Meaning) (old planned_at mid new : Stand
   asks_either broken n planned finished breaks settles =
       let there = subst (λ (s : Standing). FinishedAsk meaning call s mid offer b ended) planned finished in
       let settled = subst (λ x. SettlesPlan stop x mid new) breaks settles in record {
-        own = asks_planned variant meaning old mid new meddles stop offer b size ended result short n (there.ends variant is) settled told
+        own = asks_as variant meaning old mid new meddles stop offer b size ended result short n (there.ends variant is) settled told
             issued;
         vain = asks_in_vain there settled;
       }

@@ -112,25 +112,26 @@ module _ (h : Header) (old new : Standing) (issued : List (List ℕ)) (committed
         → Wants (Ask meddles stop offer b) world (held_in h new issued' committed)
     wants_ask memory asks i =
         let c = course_of stop meddles in
-        let l : Lacks (world_of h) d meddles stop old new = asks world_key world_barrier d s.stands s.quiet in let w = l.writes in
-        subst (λ (w : Held). Wants (Ask meddles stop offer b) w (held_in h new issued' committed)) is (elim l.called [
+        let l : Lacks (world_of h) d meddles stop old new = asks world_key world_barrier d s.stands s.quiet in
+        subst (λ (w : Held). Wants (Ask meddles stop offer b) w (held_in h new issued' committed)) is (elim l [
           | inl e ↦ inl (λ j. held_in h (e j) (i j) committed)
           | inr e ↦
               let seen = seen_at (world_of h) (by_digests (world_of h)) d c in
               let n : seen.count ≡ committed = count_none (world_of h) (seen_in c.fates (reading_steps (world_of h).variant) 1) d
               (seen_none c.fates (reading_steps (world_of h).variant) 1) in
-              let there : digests_in new committed ≡ seen = digests_are (world_of h) seen new committed e.0
+              let there : digests_in new committed ≡ seen = digests_are (world_of h) seen new committed e.stands
               ∙ (λ j. record seen { count = sym n j }) in
-              let steps = e.1 in
+              let steps = e.steps in
+              let w = e.writes in
               inr (λ j. record { header = h; digests = there j; issued = i j; steps = steps j; writes = w j })
         ])
 
     pub settled_lacking : (memory : Memory) → Asks lent (Err memory) → issued' ≡ issued → Holds issued' committed
     settled_lacking memory asks i =
         let l : Lacks (world_of h) d meddles stop old new = asks world_key world_barrier d s.stands s.quiet in
-        subst (λ (x : List (List ℕ)). Holds x committed) (sym i) (elim l.called [
+        subst (λ (x : List (List ℕ)). Holds x committed) (sym i) (elim l [
           | inl e ↦ subst (λ (x : Standing). KeepsWorld h x issued committed) (sym e) s
-          | inr e ↦ settles h new _ issued committed e.0 l.quiet s.few s.fits
+          | inr e ↦ settles h new _ issued committed e.stands e.quiet s.few s.fits
         ])
 
   -- a checkpoint

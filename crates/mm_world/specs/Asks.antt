@@ -29,14 +29,17 @@ pub record Came (i : Instance) (o : Outcome Digests) (count : ℕ) (issued : Lis
   pub steps : new.steps ≡ counted_by o.steps old.steps
   pub writes : new.writes ≡ counted_by o.writes old.writes
 
--- Memory was wanting: nothing has changed, but that the reading steps may have been made.
-pub record Lacks (i : Instance) (d : Digests) (meddles : List Meddle) (stop : Stop)
+-- The call has made its reading steps, and nothing else.
+pub record HasRead (i : Instance) (d : Digests) (meddles : List Meddle) (stop : Stop)
     (old new : Standing) : Type 0 where
+  pub stands : Stands i new (seen_at i (by_digests i) d (course_of stop meddles))
   pub quiet : IsQuiet new
+  pub steps : new.steps ≡ counted_by (length (reading_steps i.variant)) old.steps
   pub writes : new.writes ≡ old.writes
-  pub called : (new ≡ old)
-      ⊎ (Stands i new (seen_at i (by_digests i) d (course_of stop meddles))
-      × (new.steps ≡ counted_by (length (reading_steps i.variant)) old.steps))
+
+-- Memory was wanting: nothing has changed, but that the reading steps may have been made.
+abbrev pub Lacks : Instance → Digests → List Meddle → Stop → Standing → Standing → Type 0
+Lacks i d meddles stop old new = (new ≡ old) ⊎ HasRead i d meddles stop old new
 
 -- the batch is asked of these bytes, if any are offered, over a quiet platform
 abbrev pub AsksAs : Variant → Meaning → Standing → Standing → List (List ℕ) → List Meddle → Stop

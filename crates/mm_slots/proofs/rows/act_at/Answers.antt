@@ -1,6 +1,7 @@
-use Rattle.mm_slots.proofs.Below.{ℕ, [], ◌+◌, ◌-◌, ◌^◌, get_or, slice_set, arith, new_platform, Wants}
+use Rattle.mm_slots.proofs.Below.{ℕ, [], ◌+◌, ◌-◌, ◌^◌, get_or, slice_set, arith, new_platform, Lacks}
 use Rattle.mm_slots.proofs.Below.{Comes, instance_in, slot_in, AllFit, ActsAt, acted}
-use Rattle.mm_slots.proofs.Rowing.{same_length, fit_at, acts_at, lacks_at, on_ok, on_err}
+use Rattle.mm_slots.proofs.Rowing.{same_length, fit_at, acts_at, lacks_row, on_ok, on_err}
+use Rattle.mm_slots.specs.Rows.{LacksAt}
 use Rattle.mm_slots.proofs.rows.act_at.Goals as goal
 
 pub slot-requires : goal.slot-requires
@@ -34,10 +35,12 @@ returns-clause-ok c =
 pub returns-clause-err : goal.returns-clause-err
 returns-clause-err c =
     let slot = get_or c.args.slots.now c.args.number c.index-slots-number.result in
-    on_err c.act.result (Wants c.slot.result.now c.act.new.platform slot c.act.new.self)
+    on_err c.act.result (Lacks c.args.action c.slot.result.now c.act.new.platform slot c.act.new.self)
     ((events : ℕ) → AllFit events c.args.platform.now.slots c.args.slots.now
-    → AllFit (events + 1) (slice_set c.args.platform.now.slots c.args.number c.act.new.platform)
-    (slice_set c.args.slots.now c.args.number c.act.new.self))
-    (λ w events fit. lacks_at events c.args.number c.args.platform.now.slots c.args.slots.now c.act.new.platform c.act.new.self
-    (new_platform [])
-    c.index-slots-number.result c.requires.inside fit w.goes) c.act.ensures.err
+    → LacksAt events c.args.number c.args.action c.args.platform.now.slots
+    (slice_set c.args.platform.now.slots c.args.number c.act.new.platform)
+    c.args.slots.now (slice_set c.args.slots.now c.args.number c.act.new.self))
+    (λ l events fit. lacks_row events c.args.number c.args.action c.args.platform.now.slots c.args.slots.now c.act.new.platform
+    c.act.new.self (new_platform [])
+    c.index-slots-number.result c.requires.inside fit
+    (rw c.slot.ensures.value at l)) c.act.ensures.err

@@ -6,7 +6,8 @@ use Rattle.mm_transfer.proofs.commands.accept.Goals as goal
 pub returns-in-Err : goal.returns-in-Err
 returns-in-Err c = λ which fits counted.
     let pair = pair_of c.args.header.now in
-    still_lacks pair which c.args.here.now _ c.args.between.now _ fits (c.in-Err.ensures (link_of pair) refl)
+    still_lacks pair which c.args.course.now.stop c.args.course.now.meddles.now c.args.here.now _ c.args.between.now _ fits
+    (c.in-Err.ensures (link_of pair) refl)
     (record { digest = refl; issued = c.reserve.ensures.items; kept = refl; position = refl })
     (record { tickets = refl; kept = refl; away = refl })
 

@@ -1,5 +1,7 @@
-use Rattle.mm_transfer.proofs.Below.{ℕ, ap, Digests, Both, Inside, both_with, side_event_of, side_in}
+use Rattle.mm_transfer.proofs.Below.{◌≡◌, ◌∙◌, ℕ, ap, Digests, Both, Inside, both_with, side_event_of, side_in}
 use Rattle.mm_transfer.proofs.Acting.{Comes, event_first, event_second}
+use Rattle.mm_transfer.proofs.Wanting.{held_wants}
+use Rattle.mm_transfer.specs.Sides.{BothHeld}
 use Rattle.mm_transfer.proofs.sides.Sides.event.Goals as goal
 use Rattle.mm_transfer.proofs.sides.Sides.event.Goals.{in-First, in-Second}
 
@@ -23,3 +25,14 @@ returns-clause-reply c = (comes c).reply
 
 pub returns-clause-after : goal.returns-clause-after
 returns-clause-after c = (comes c).after
+
+header_is : (c : goal.Joined-event) → c.match-event.self-inside.header ≡ c.args.self.now.header
+header_is c = elim c.match-event.branch [
+  | in-First w ↦ ap (λ (s : Inside). s.header) w.self-inside-is ∙ ap (λ (h : BothHeld). h.header) c.self.view_is
+  | in-Second w ↦ ap (λ (s : Inside). s.header) w.self-inside-is ∙ ap (λ (h : BothHeld). h.header) c.self.view_is
+]
+
+pub returns-clause-wants : goal.returns-clause-wants
+returns-clause-wants c =
+    held_wants c.args.self.now (side_event_of c.args.event.now) c.match-event.self-inside.header (both_in c.match-event.self-inside)
+    c.match-event.result (header_is c) (comes c).wants

@@ -1,0 +1,46 @@
+-- The calls that a session makes, whatever the slots hold; and why it is refused, by the digests at
+-- which its platform stands then.
+use Rattle.std.specs.Prelude.{◌≡◌, ℕ, List, [], ◌∷◌, IsSome, Result, Ok, Err, ◌⊎◌}
+use Rattle.mm_host.specs.Below.{Variant, Standing, Meaning, One, Instance, Refusal, found_at, fault_of, Refused}
+use Rattle.mm_recovery.specs.Asking.{IsCall}
+use Rattle.mm_host.specs.Sessions.{Served}
+use Rattle.mm_model.specs.Moves.{Digests}
+use Rattle.mm_call.specs.Levels.{by_digests}
+use Rattle.mm_call.specs.Standing.{StandsAt}
+use Rattle.mm_model.specs.declared.refusal.Refusal.TheVariants as refusal
+use Rattle.mm_host.specs.declared.fault.SessionFault.{SessionFault}
+use Rattle.mm_host.specs.declared.fault.SessionFault.TheVariants.{Host}
+
+-- Calls that were answered, one after another, each with the snapshot of the answer before.
+abbrev pub CallsInTurn : Variant → Meaning → List ℕ → Standing → List Served → Standing → Type 0
+CallsInTurn variant meaning offer before [] after = after ≡ before
+CallsInTurn variant meaning offer before (c ∷ calls) after =
+    (middle : Standing) × IsCall variant meaning before middle offer c.line (Ok c.answer)
+    × CallsInTurn variant meaning c.answer.snapshot middle calls after
+
+-- the refusals that an offer may come to
+abbrev pub IsOfOffer : Refusal → Type 0
+IsOfOffer refusal.Lost = Unit {0}
+IsOfOffer refusal.Form = Unit {0}
+IsOfOffer refusal.Kind = Unit {0}
+IsOfOffer refusal.State = Unit {0}
+IsOfOffer refusal.Tag = Unit {0}
+IsOfOffer refusal.Stale = Unit {0}
+IsOfOffer refusal.Full = Unit {0}
+IsOfOffer _ = ⊥
+
+-- The request in hand was refused: by a device's fault; or so as this offer is at these digests.
+pub record IsRefusedBy (i : Instance) (d : Digests) (offer : List ℕ) (hand : List ℕ → Type 0)
+    (why : Refusal) : Type 0 where
+  pub request : List ℕ
+  pub in_hand : hand request
+  pub judged : IsSome (fault_of why)
+      ⊎ (found_at i (by_digests i) d (One request) offer ≡ Err why)
+
+-- When a session is over, its platform stands at digests; and a refusal is by them.
+pub record EndsAt (i : Instance) (standing : Standing) (offer : List ℕ) (hand : List ℕ → Type 0)
+    (result : Result Unit SessionFault) : Type 0 where
+  pub digests : Digests
+  pub stands : StandsAt i standing digests
+  pub refuses : (why : Refusal) → result ≡ Err (Host (Refused why)) →
+      IsRefusedBy i digests offer hand why

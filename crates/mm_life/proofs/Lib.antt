@@ -1,0 +1,11 @@
+mod Chains
+mod OneCall
+mod Sessions
+mod Living
+mod BasicLife
+mod Tellings
+mod NextStart
+mod Offering
+mod OptSeen
+mod OptLife
+mod DoingLaws

@@ -1,0 +1,176 @@
+-- A life, part after part, in either variant.
+use Rattle.std.specs.List.{AllByRecursion, Contains, flat_map}
+use Rattle.std.proofs.Common.{◌≡◌, ℕ, List, [], ◌∷◌, ◌++◌, refl, ap, append_assoc}
+use Rattle.std.proofs.lemmas.Grind.{flat_map-append}
+use Rattle.std.proofs.lemmas.List.{append-nil, map-append}
+use Rattle.mm_platform.specs.Standing.{Standing}
+use Rattle.mm_module.specs.Batch.{Batch, One}
+use Rattle.mm_model.specs.History.{History, requests_of}
+use Rattle.mm_model.specs.Instance.{Instance}
+use Rattle.mm_model.specs.ListLaws.{each_append, each_left, each_right}
+use Rattle.mm_model.specs.Standing.{IsGenuine, StandsFor}
+use Rattle.mm_call.specs.Asked.{IsWithin, right_messages}
+use Rattle.mm_call.specs.Found.{right_content}
+use Rattle.mm_call.specs.Leaving.{whole_in}
+use Rattle.mm_recovery.specs.Asking.{IsCall}
+use Rattle.mm_call.proofs.Above.{each_at}
+use Rattle.mm_host.proofs.Above.{Laws, Reaches, Shows, pending_for}
+use Rattle.mm_life.specs.Deeds.{Call, Calls, Checkpoints, Deed, DeedLeads, Extends, LosesPower}
+use Rattle.mm_life.specs.OneList.{FollowsOn, IsLastJudged, PartSteps}
+use Rattle.mm_life.specs.Premises.{AreUntagged, IsFirstUntagged, issued_in, requests_asked, snapshots_of}
+use Rattle.mm_life.specs.SessionCalls.{InHandOf, first_bytes, told_by, untold_calls}
+use Rattle.mm_life.specs.Staying.{IsNoCall, Stays}
+use Rattle.mm_life.specs.Stages.{Does, Holds, IsLife, Part, PartLeads, Stage, end_of, latest_calls, life_calls, part_calls}
+use Rattle.mm_life.proofs.Chains.{session_chain}
+use Rattle.mm_life.proofs.OneCall.{AreListed, all_genuine, issues_genuine, makes_call, met_judged, met_steps}
+use Rattle.mm_life.proofs.Sessions.{CallsLead, IsFirstGenuine, Leads, Lived, chain_lives}
+
+-- What a life takes from its variant: the laws of calls up to a part's end; what is asked of a part by what stands before and
+-- behind it; and so what the register shows there; and what other deeds leave.
+pub record LifeLaws (all others : List (List ℕ)) (asked : List Batch) (i : Instance)
+    (IsSeen : Standing → Part → Standing → Type 0) : Type 0 where
+  pub laws : (final : Standing) → Laws all others asked i final
+  pub leads : CallsLead i
+  pub shows : (y : History) (old : Standing) (part : Part) (final : Standing) → IsSeen old part final → StandsFor i old y
+      → Reaches i.variant i old final → Leads i old final → Shows i.variant all others i y old final
+  pub stays : (y : History) (old : Standing) (deed : Deed) (new : Standing) → IsNoCall deed → IsSeen old (Does deed) new
+      → DeedLeads i.variant i.meaning old deed new → StandsFor i old y → IsWithin all others asked i y → Stays all others asked i y new
+
+-- nobody else made a tag, so what is offered first is genuine
+first_genuine : (i : Instance) (y : History) (issued : List (List ℕ)) (calls : List Call) → AllByRecursion (IsGenuine i y) issued
+    → IsFirstUntagged i issued calls → IsFirstGenuine i y calls
+first_genuine i y issued [] g u = tt
+first_genuine i y issued (c ∷ calls) g u = λ content right. each_at (IsGenuine i y) issued c.offer g (u content right) content right
+
+listed_left : (all : List (List ℕ)) (asked : List Batch) (i : Instance) (calls more : List Call) → AreListed all asked i (calls ++ more)
+    → AreListed all asked i calls
+listed_left all asked i calls more a = record {
+  messages = each_left (Contains all) _ _ (rw (flat_map-append (λ (c : Call). right_messages i (One c.request) (right_content i c.offer))
+      calls more) at a.messages);
+  batches = each_left (Contains asked) _ _ (rw (map-append (λ (c : Call). One c.request) calls more) at a.batches);
+}
+
+listed_right : (all : List (List ℕ)) (asked : List Batch) (i : Instance) (calls more : List Call) → AreListed all asked i (calls ++ more)
+    → AreListed all asked i more
+listed_right all asked i calls more a = record {
+  messages = each_right (Contains all)
+      (flat_map (λ (c : Call). right_messages i (One c.request) (right_content i c.offer)) calls) _
+      (rw (flat_map-append (λ (c : Call). right_messages i (One c.request) (right_content i c.offer)) calls more) at a.messages);
+  batches = each_right (Contains asked) (requests_asked calls) _
+      (rw (map-append (λ (c : Call). One c.request) calls more) at a.batches);
+}
+
+module _ {all others : List (List ℕ)} {asked : List Batch} {i : Instance} {IsSeen : Standing → Part → Standing → Type 0}
+    (life : LifeLaws all others asked i IsSeen) where
+  -- one part of a life
+  abbrev PartLived : History → (old : Standing) (part : Part) (new : Standing) → PartLeads i.variant i.meaning old part new → Type 0
+  PartLived y old part new f =
+      Lived (life.laws new) y new (part_calls i.variant i.meaning old part new f)
+      (λ after. PartSteps i.variant i.meaning old part new f (requests_of y.batches) after)
+
+  call_lives : (y : History) (old new : Standing) (c : Call) (f : IsCall i.variant i.meaning old new c.offer c.request c.gives)
+      → StandsFor i old y → IsWithin all others asked i y → IsSeen old (Does (Calls c)) new → IsFirstGenuine i y (c ∷ [])
+      → AreListed all asked i (c ∷ []) → PartLived y old (Does (Calls c)) new f
+  call_lives y old new c f stands within seen first listed =
+      let laws = life.laws new in
+      let m = laws.met_last y old c.offer (pending_for c.request) (whole_in c.gives)
+      (makes_call laws old new c.offer c.request y (whole_in c.gives) f.goes stands within first listed.batches.0
+      (each_left (Contains all) (right_messages i (One c.request) (right_content i c.offer)) [] listed.messages))
+      (life.shows y old (Does (Calls c)) new seen stands (laws.reach old new c.offer c.request (whole_in c.gives) f.goes)
+      (life.leads old new c.offer c.request (whole_in c.gives) f.goes)) in
+      record {
+        after = m.after;
+        stands = m.stands;
+        within = m.within;
+        names = m.names;
+        issued = each_append (IsGenuine i m.after) (issued_in c.gives) []
+            (issues_genuine laws old new c.offer c.request c.gives y f m) tt;
+        steps = met_steps y new c.offer c.request c.gives m;
+        judged = met_judged y new c.offer c.request c.gives m;
+      }
+
+  stays_lives : (y : History) (new : Standing) → Stays all others asked i y new
+      → Lived (life.laws new) y new [] (λ after. after ≡ requests_of y.batches)
+  stays_lives y new s = record {
+    after = s.after;
+    stands = s.stands;
+    within = s.within;
+    names = s.names;
+    issued = tt;
+    steps = ap requests_of s.batches;
+    judged = tt;
+  }
+
+  part_lives : (y : History) (old : Standing) (part : Part) (new : Standing) (f : PartLeads i.variant i.meaning old part new)
+      → StandsFor i old y → IsWithin all others asked i y → IsSeen old part new
+      → IsFirstGenuine i y (part_calls i.variant i.meaning old part new f)
+      → AreListed all asked i (part_calls i.variant i.meaning old part new f) → PartLived y old part new f
+  part_lives y old (Holds p) new f stands within seen first listed =
+      chain_lives (life.laws new) y old (first_bytes f) (told_by f) (InHandOf f) (untold_calls f f.goes) p.result (session_chain f) stands
+      within first listed life.leads (λ reaches leads. life.shows y old (Holds p) new seen stands reaches leads)
+  part_lives y old (Does (Calls c)) new f stands within seen first listed = call_lives y old new c f stands within seen first listed
+  part_lives y old (Does (Extends values)) new f stands within seen first listed =
+      stays_lives y new (life.stays y old (Extends values) new tt seen f stands within)
+  part_lives y old (Does LosesPower) new f stands within seen first listed =
+      stays_lives y new (life.stays y old LosesPower new tt seen f stands within)
+  part_lives y old (Does (Checkpoints said)) new f stands within seen first listed =
+      stays_lives y new (life.stays y old (Checkpoints said) new tt seen f stands within)
+
+  -- what is asked of each part by what stands before and behind it
+  abbrev pub AreSeen : Standing → List Stage → Type 0
+  AreSeen start [] = Unit {0}
+  AreSeen start (stage ∷ stages) = IsSeen start stage.part stage.after × AreSeen stage.after stages
+
+  -- a life from a history
+  pub record Lives (y : History) (issued : List (List ℕ)) (start : Standing) (stages : List Stage)
+      (f : IsLife i.variant i.meaning start stages) : Type 0 where
+    pub after : History
+    pub stands : StandsFor i (end_of start stages) after
+    pub within : IsWithin all others asked i after
+    pub named : AllByRecursion (IsGenuine i after) (issued ++ snapshots_of (life_calls i.variant i.meaning start stages f))
+    pub follows : FollowsOn i.variant i.meaning start stages f (requests_of y.batches) (requests_of after.batches)
+    pub judged : IsLastJudged i after (latest_calls i.variant i.meaning start stages f)
+
+  judged_last : (start : Standing) (stage : Stage) (stages : List Stage) (f : IsLife i.variant i.meaning start (stage ∷ stages))
+      (y z : History) → (stages ≡ [] → z ≡ y) → IsLastJudged i y (part_calls i.variant i.meaning start stage.part stage.after f.0)
+      → IsLastJudged i z (latest_calls i.variant i.meaning stage.after stages f.1)
+      → IsLastJudged i z (latest_calls i.variant i.meaning start (stage ∷ stages) f)
+  judged_last start stage [] f y z same here later = rw (same refl) here
+  judged_last start stage (next ∷ stages) f y z same here later = later
+
+  pub lives : (stages : List Stage) (y : History) (issued : List (List ℕ)) (start : Standing)
+      (f : IsLife i.variant i.meaning start stages) → StandsFor i start y → IsWithin all others asked i y → AreSeen start stages
+      → AllByRecursion (IsGenuine i y) issued → AreUntagged i issued start stages f
+      → AreListed all asked i (life_calls i.variant i.meaning start stages f)
+      → (l : Lives y issued start stages f) × (stages ≡ [] → l.after ≡ y)
+  lives [] y issued start f stands within seen named untagged listed = (
+    record {
+      after = y;
+      stands = stands;
+      within = within;
+      named = rw (append-nil issued) named;
+      follows = refl;
+      judged = tt;
+    },
+    λ e. refl,
+  )
+  lives (stage ∷ stages) y issued start f stands within seen named untagged listed =
+      let calls : List Call = part_calls i.variant i.meaning start stage.part stage.after f.0 in
+      let more : List Call = life_calls i.variant i.meaning stage.after stages f.1 in
+      let p = part_lives y start stage.part stage.after f.0 stands within seen.0 (first_genuine i y issued calls named untagged.0)
+      (listed_left all asked i calls more listed) in
+      let named_then : AllByRecursion (IsGenuine i p.after) (issued ++ snapshots_of calls) =
+      each_append (IsGenuine i p.after) issued (snapshots_of calls) (all_genuine i y p.after p.names issued named) p.issued in
+      let r = lives stages p.after (issued ++ snapshots_of calls) stage.after f.1 p.stands p.within seen.1 named_then untagged.1
+      (listed_right all asked i calls more listed) in (
+        record {
+          after = r.0.after;
+          stands = r.0.stands;
+          within = r.0.within;
+          named = rw (flat_map-append (λ (c : Call). issued_in c.gives) calls more)
+              (rw (append_assoc issued (snapshots_of calls) (snapshots_of more)) at r.0.named);
+          follows = (requests_of p.after.batches, p.steps, r.0.follows);
+          judged = judged_last start stage stages f p.after r.0.after r.1 p.judged r.0.judged;
+        },
+        λ e. absurd (cc),
+      )

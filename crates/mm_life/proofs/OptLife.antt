@@ -1,0 +1,280 @@
+-- Opt: a life is one whole.
+use Rattle.std.specs.List.{AllByRecursion, Contains}
+use Rattle.std.specs.Option.{option_map, option_map_or}
+use Rattle.std.specs.Prelude.{Result}
+use Rattle.std.proofs.Common.{◌≡◌, ◌∙◌, ◌++◌, ℕ, Bool, true, false, List, [], ◌∷◌, Option, Some, map, fold, arith, refl, sym, ap, subst, inl}
+use Rattle.mm_digest.specs.Messages.{extended_of, start_message}
+use Rattle.mm_digest.specs.declared.variant.Variant.TheVariants.{Opt}
+use Rattle.mm_seal.specs.Snapshot.{Content}
+use Rattle.mm_platform.specs.Standing.{Item, Standing, foreign_item}
+use Rattle.mm_platform.specs.Steps.{beside}
+use Rattle.mm_module.specs.Batch.{Batch}
+use Rattle.mm_module.specs.Meaning.{IsLawful, Meaning}
+use Rattle.mm_model.specs.FormLaws.{reads_zero}
+use Rattle.mm_model.specs.History.{Foreign, History, Power, Value, first_history, moved, register_value_of}
+use Rattle.mm_model.specs.Instance.{Instance}
+use Rattle.mm_model.specs.InstanceWords.{opt}
+use Rattle.mm_model.specs.ListLaws.{each_left, each_right, each_self}
+use Rattle.mm_model.specs.Messages.{AreNoGuards, IsClear, Within}
+use Rattle.mm_model.specs.Moves.{Digests, digests_of}
+use Rattle.mm_model.specs.Places.{Names}
+use Rattle.mm_model.specs.Sound.{IsSound}
+use Rattle.mm_model.specs.Standing.{IsGenuine, StandsFor, issued_bytes}
+use Rattle.mm_model.proofs.Above.{opt_issued}
+use Rattle.mm_call.specs.Asked.{IsWithin, moves_messages}
+use Rattle.mm_call.specs.Levels.{all_made, by_digests, by_lists}
+use Rattle.mm_call.specs.OfferLaws.{issued_once, opt_content}
+use Rattle.mm_call.specs.Premises.{AreShown}
+use Rattle.mm_call.specs.Standing.{StandsAt}
+use Rattle.mm_call.specs.Tied.{foreign_items, standing_items}
+use Rattle.mm_call.specs.TrailLaws.{foreign_made, foreign_values, reads_beside, reads_of, with_register}
+use Rattle.mm_call.specs.WalkLaws.{taking, taking_is}
+use Rattle.mm_call.proofs.Above.{agrees_is, bare, counted_open, foreign_agrees, foreign_all, holds_made, holds_moved, holds_open, is_agrees}
+use Rattle.mm_call.proofs.Above.{names_alike, power_fine, stands_at, stands_for, within_items, within_of}
+use Rattle.mm_opt.specs.ChecksOn.{ChecksOn}
+use Rattle.mm_callers.specs.Closing.{MayClose}
+use Rattle.mm_callers.proofs.Above.{check_goes_on, check_leaves}
+use Rattle.mm_host.proofs.Above.{Reaches, ShowsAt, foreign_of, messages_looked, opt_laws}
+use Rattle.mm_recovery.specs.Begins.{first_on}
+use Rattle.mm_life.specs.Below.{CheckpointRefusal, Checkpointed}
+use Rattle.mm_life.specs.Deeds.{Calls, Checkpoints, Deed, DeedLeads, Extends, LosesPower}
+use Rattle.mm_life.specs.Laws.{OptLifeIsOne}
+use Rattle.mm_life.specs.Premises.{closing_messages, life_batches, life_messages, opt_messages, others_values}
+use Rattle.mm_life.specs.Premises.{register_messages, shown_messages}
+use Rattle.mm_life.specs.Staying.{IsNoCall, IsSeen, OptDeedsStay, Stays}
+use Rattle.mm_life.specs.Stages.{Does, Part, Stage}
+use Rattle.mm_life.proofs.Living.{AreSeen, LifeLaws, lives}
+use Rattle.mm_life.proofs.OptSeen.{items_told, seen_closing, seen_open, seen_shut}
+use Rattle.mm_life.proofs.Sessions.{Leads}
+
+module _ (meaning : Meaning) (key barrier : List ℕ) (all others : List (List ℕ)) (asked : List Batch) (clear : IsClear all) where
+  abbrev I : Instance
+  I = opt meaning key barrier
+
+  -- what the register shows behind calls
+  shows_by : (y : History) (old : Standing) (part : Part) (final : Standing) (flag : Bool) → y.is_open ≡ flag
+      → IsSeen all others old part final → StandsFor I old y → Reaches Opt I old final → Leads I old final
+      → ShowsAt all others I y old final
+  shows_by y old part final true e seen stands reaches leads =
+      let told = items_told meaning key barrier old.items (register_value_of I y) stands.register in
+      let r = reaches (digests_of I y) (stands_at I old y stands) e told.0 told.1 in
+      record {
+        items = told.0;
+        known = told.1;
+        more = r.more;
+        ends = r.shows ∙ ap (λ (flag : Bool). Some (standing_items flag told.0 ++ r.more)) (sym e);
+        shown_are = seen_open meaning key barrier all others y old part final seen stands told.0 r.more told.1 e r.shows;
+      }
+  shows_by y old part final false e seen stands reaches leads =
+      let told = items_told meaning key barrier old.items (register_value_of I y) stands.register in
+      let l = leads (digests_of I y) (stands_at I old y stands) in
+      let ends = items_told meaning key barrier final.items l.0.register l.1.reads in
+      record {
+        items = told.0;
+        known = told.1;
+        more = ends.0;
+        ends = ends.1 ∙ ap (λ (flag : Bool). Some (standing_items flag told.0 ++ ends.0)) (sym e);
+        shown_are = seen_shut meaning key barrier all others y old part final seen stands ends.0 e ends.1;
+      }
+
+  -- others extend the register
+  module _ (y : History) (old new : Standing) (values : List (List ℕ)) (cell : new.cell ≡ old.cell)
+      (beside_is : new.items ≡ beside values old.items) (seen : IsSeen all others old (Does (Extends values)) new)
+      (stands : StandsFor I old y) (within : IsWithin all others asked I y) where
+    abbrev z : History
+    z = taking y values
+
+    stands_taking : StandsFor I new z
+    stands_taking =
+        let d : Digests = digests_of I y in
+        let at = stands_at I old y stands in
+        let read : StandsAt I new (with_register d (fold extended_of d.register values)) = record {
+          spells = at.spells;
+          cell = cell ∙ at.cell;
+          reads = ap (λ (xs : Option (List Item)). reads_of xs) beside_is ∙ reads_beside old.items values d.register at.reads;
+        } in
+        let is : with_register d (fold extended_of d.register values) ≡ digests_of I z =
+        sym (foreign_made I d values)
+        ∙ agrees_is I (all_made (by_lists I) y (map Foreign values)) (all_made (by_digests I) d (map Foreign values))
+        (foreign_agrees meaning key barrier values y d (is_agrees I y d refl))
+        ∙ ap (digests_of I) (taking_is I values y) in
+        stands_for I new z (rw is at read)
+
+    within_taking : (flag : Bool) → y.is_open ≡ flag → IsWithin all others asked I z
+    within_taking false e = within_items meaning key barrier all others asked y (y.items ++ map Value values) e within
+    within_taking true e =
+        let d : Digests = digests_of I y in
+        let told = items_told meaning key barrier old.items (register_value_of I y) stands.register in
+        let a : AreShown all others I y (map foreign_item values) =
+        seen_open meaning key barrier all others y old (Does (Extends values)) new seen stands told.0 (map foreign_item values) told.1 e
+        (beside_is ∙ ap (λ (xs : Option (List Item)). beside values xs) told.1) in
+        let listed : Within (moves_messages I y (map Foreign values)) all =
+        rw (messages_looked meaning key barrier values y, ← counted_open y e) (rw (foreign_values values) at a.messages) in
+        let outside : AllByRecursion (Contains others) values = rw (foreign_of values) at a.values in
+        rw (taking_is I values y) at (within_of meaning key barrier all others asked (all_made (by_lists I) y (map Foreign values))
+        (all_made (by_digests I) d (map Foreign values)) (holds_made meaning key barrier all others asked (map Foreign values) y d
+        (holds_open meaning key barrier all others asked y d e (is_agrees I y d refl) within)
+        (foreign_all meaning key barrier all others asked values y outside) listed))
+
+    stays_extended : Stays all others asked I y new
+    stays_extended = record {
+      after = z;
+      stands = stands_taking;
+      within = within_taking y.is_open refl;
+      batches = refl;
+      names = λ content n. names_alike meaning key barrier y z content refl n;
+    }
+
+  -- power is lost
+  module _ (y : History) (old new : Standing) (cell : new.cell ≡ old.cell) (emptied : new.items ≡ option_map (λ _. []) old.items)
+      (stands : StandsFor I old y) (within : IsWithin all others asked I y) where
+    within_bare : (flag : Bool) → y.is_open ≡ flag → IsWithin all others asked I (bare y)
+    within_bare false e = within_items meaning key barrier all others asked y [] e within
+    within_bare true e =
+        let d : Digests = digests_of I y in
+        within_of meaning key barrier all others asked (moved I y Power) _
+        (holds_moved meaning key barrier all others asked y d Power
+        (holds_open meaning key barrier all others asked y d e (is_agrees I y d refl) within)
+        (power_fine meaning key barrier all others asked y) tt)
+
+    stays_emptied : Stays all others asked I y new
+    stays_emptied =
+        let told = items_told meaning key barrier old.items (register_value_of I y) stands.register in
+        let none : new.items ≡ Some [] = emptied ∙ ap (λ (xs : Option (List Item)). option_map (λ _. []) xs) told.1 in
+        record {
+          after = bare y;
+          stands = record {
+            spells = stands.spells;
+            cell = cell ∙ stands.cell;
+            register = ap (λ (xs : Option (List Item)). reads_of xs) none ∙ ap (λ (r : List ℕ). Some r) (sym reads_zero);
+          };
+          within = within_bare y.is_open refl;
+          batches = refl;
+          names = λ content n. names_alike meaning key barrier y (bare y) content refl n;
+        }
+
+  -- a checkpoint is made
+  module _ (y : History) (old new : Standing) (said : Result Checkpointed CheckpointRefusal) (k : ChecksOn old new said)
+      (seen : IsSeen all others old (Does (Checkpoints said)) new) (stands : StandsFor I old y) (within : IsWithin all others asked I y) where
+    stays_left : (items more : List Item) → old.items ≡ Some items → new.items ≡ Some (standing_items y.is_open items ++ more)
+        → (y.is_open ≡ true → AreShown all others I y more × MayClose all I y more) → Stays all others asked I y new
+    stays_left items more known ends asks =
+        let c = check_leaves meaning key barrier all others asked y items more k stands known ends clear within asks in
+        record { after = c.after; stands = c.stands; within = c.within; batches = c.batches; names = c.names }
+
+    stays_by : (flag : Bool) → y.is_open ≡ flag → Stays all others asked I y new
+    stays_by flag e =
+        let told = items_told meaning key barrier old.items (register_value_of I y) stands.register in
+        let on = check_goes_on meaning key barrier k (digests_of I y) (stands_at I old y stands) told.0 told.1 in
+        by_flag flag e told.0 told.1 on.0 on.1
+      where
+        by_flag : (flag : Bool) → y.is_open ≡ flag → (items : List Item) → old.items ≡ Some items → (more : List Item)
+            → new.items ≡ Some (items ++ more) → Stays all others asked I y new
+        by_flag true e items known more ends =
+            stays_left items more known (ends ∙ ap (λ (f : Bool). Some (standing_items f items ++ more)) (sym e))
+            (λ _. (
+              seen_open meaning key barrier all others y old (Does (Checkpoints said)) new seen stands items more known e ends,
+              seen_closing meaning key barrier all others y old (Does (Checkpoints said)) new seen stands items more known e
+                  (rw (stands.cell, ends) at seen.closings),
+            ))
+        by_flag false e items known more ends =
+            stays_left items (items ++ more) known
+            (ends ∙ ap (λ (f : Bool). Some (standing_items f items ++ (items ++ more))) (sym e))
+            (λ f. let clash : true ≡ false = sym f ∙ e in absurd (cc))
+
+    stays_checked : Stays all others asked I y new
+    stays_checked = stays_by y.is_open refl
+
+  stays : (y : History) (old : Standing) (deed : Deed) (new : Standing) → IsNoCall deed → IsSeen all others old (Does deed) new
+      → DeedLeads Opt meaning old deed new → StandsFor I old y → IsWithin all others asked I y → Stays all others asked I y new
+  stays y old (Calls c) new quiet seen f stands within = absurd quiet
+  stays y old (Extends values) new quiet seen f stands within = stays_extended y old new values f.0 f.1 seen stands within
+  stays y old LosesPower new quiet seen f stands within = stays_emptied y old new f.0 f.1 stands within
+  stays y old (Checkpoints said) new quiet seen f stands within = stays_checked y old new said f seen stands within
+
+module _ (meaning : Meaning) (lawful : IsLawful meaning) (key barrier : List ℕ) where
+  abbrev O : Instance
+  O = opt meaning key barrier
+
+  opt_life : (all others : List (List ℕ)) (asked : List Batch) → IsClear all → AreNoGuards barrier others asked
+      → LifeLaws all others asked O (IsSeen all others)
+  opt_life all others asked clear apart = record {
+    laws = λ final. opt_laws meaning lawful key barrier all others asked final clear apart;
+    leads = λ old new offer request gives c d s. (_, (c.goes key barrier d s).stands);
+    shows = λ y old part final seen stands reaches leads.
+        shows_by meaning key barrier all others asked clear y old part final y.is_open refl seen stands reaches leads;
+    stays = λ y old deed new quiet seen f stands within.
+        stays meaning key barrier all others asked clear y old deed new quiet seen f stands within;
+  }
+
+  all_seen : (all others : List (List ℕ)) (asked : List Batch) (clear : IsClear all) (apart : AreNoGuards barrier others asked)
+      (start : Standing) (stages : List Stage) → Within (register_messages start stages) all
+      → AllByRecursion (Contains others) (others_values stages) → AreSeen (opt_life all others asked clear apart) start stages
+  unfolding opt_life
+  all_seen all others asked clear apart start [] w v = tt
+  all_seen all others asked clear apart start (stage ∷ stages) w v =
+      let shown : List (List ℕ) = shown_messages stage.after.items in
+      let closing : List (List ℕ) = closing_messages stage.part start.cell stage.after.items in
+      let rest : List (List ℕ) = register_messages stage.after stages in
+      let front = each_left (Contains all) (shown ++ closing) rest w in (
+        record {
+          registers = each_left (Contains all) shown closing front;
+          values = each_left (Contains others) (option_map_or foreign_items stage.after.items []) (others_values stages) v;
+          closings = each_right (Contains all) shown closing front;
+        },
+        all_seen all others asked clear apart stage.after stages (each_right (Contains all) (shown ++ closing) rest w)
+            (each_right (Contains others) (option_map_or foreign_items stage.after.items []) (others_values stages) v),
+      )
+
+  -- the first history, on a register that others extended
+  first_sound : (values : List (List ℕ)) → IsSound (first_on values)
+  first_sound values = record {
+    open_is = λ e. absurd (cc);
+    shut_is = λ e. refl;
+    filled = tt;
+    history = inl (record { clean = refl; batches = refl });
+    register = λ e. absurd (cc);
+  }
+
+  first_within : (values all others : List (List ℕ)) (asked : List Batch) → Contains all (start_message Opt meaning.id)
+      → IsWithin all others asked O (first_on values)
+  first_within values all others asked started =
+      record { sound = first_sound values; outside = tt; listed = (started, tt); batches = tt }
+
+  first_genuine : (values : List (List ℕ)) → IsGenuine O (first_on values) (issued_bytes O first_history)
+  first_genuine values content right =
+      subst (λ (x : Content). Names O (first_on values) x)
+      (issued_once O (issued_bytes O first_history) (first_on values) content
+      (opt_content meaning lawful key barrier (first_on values) (omega arith)) refl right)
+      (opt_issued meaning key barrier (first_on values) (first_sound values) refl)
+
+pub opt_deeds_stay : OptDeedsStay
+opt_deeds_stay meaning key barrier all others asked y old deed new clear quiet seen f stands within =
+    stays meaning key barrier all others asked clear y old deed new quiet seen f stands within
+
+pub opt_is_one : OptLifeIsOne
+unfolding opt_life
+opt_is_one meaning lawful key barrier values start stages f stands clear apart untagged =
+    let i : Instance = opt meaning key barrier in
+    let all : List (List ℕ) = opt_messages i start stages f in
+    let asked : List Batch = life_batches i start stages f in
+    let others : List (List ℕ) = others_values stages in
+    let front : List (List ℕ) = life_messages i start stages f in
+    let back : List (List ℕ) = register_messages start stages in
+    let itself = each_self [] all in
+    let calls = each_left (Contains all) front back itself in
+    let l = (lives (opt_life meaning lawful key barrier all others asked clear apart) stages (first_on values)
+    (issued_bytes i first_history ∷ []) start f stands (first_within meaning lawful key barrier values all others asked calls.0)
+    (all_seen meaning lawful key barrier all others asked clear apart start stages (each_right (Contains all) front back itself)
+    (each_self [] others)) (first_genuine meaning lawful key barrier values, tt) untagged
+    (record { messages = calls.1; batches = each_self [] asked })).0 in
+    record {
+      requests = _;
+      follows = l.follows;
+      history = l.after;
+      holds = refl;
+      stands = l.stands;
+      within = l.within;
+      named = l.named;
+      judged = l.judged;
+    }

@@ -1,0 +1,239 @@
+-- A session of a life: its calls one after another, and how it ends, from a history that the platform stands for.
+use Rattle.std.specs.List.{AllByRecursion, Contains}
+use Rattle.std.proofs.Common.{◌≡◌, ℕ, List, [], ◌∷◌, ◌++◌, Result, Ok, Err, refl, inl}
+use Rattle.std.proofs.lemmas.Grind.{flat_map-append}
+use Rattle.mm_seal.specs.Snapshot.{Content}
+use Rattle.mm_digest.specs.declared.variant.Variant.{Variant}
+use Rattle.mm_platform.specs.Standing.{Standing}
+use Rattle.mm_module.specs.Batch.{Batch, One}
+use Rattle.mm_module.specs.Meaning.{Meaning}
+use Rattle.mm_model.specs.History.{History, requests_of}
+use Rattle.mm_model.specs.Instance.{Instance}
+use Rattle.mm_model.specs.ListLaws.{each_append, each_left, each_right}
+use Rattle.mm_model.specs.Messages.{Within}
+use Rattle.mm_model.specs.Moves.{Digests}
+use Rattle.mm_model.specs.Places.{Names}
+use Rattle.mm_model.specs.Standing.{IsGenuine, StandsFor}
+use Rattle.mm_model.specs.declared.answer.BatchAnswer.{BatchAnswer}
+use Rattle.mm_model.specs.declared.refusal.Refusal.{Refusal}
+use Rattle.mm_call.specs.Asked.{IsWithin, right_messages}
+use Rattle.mm_call.specs.CallsOn.{CallsOn}
+use Rattle.mm_call.specs.Found.{right_content}
+use Rattle.mm_call.specs.Leaving.{whole, whole_in}
+use Rattle.mm_call.specs.Standing.{StandsAt}
+use Rattle.mm_recovery.proofs.Above.{grows}
+use Rattle.mm_host.specs.AnySlots.{offered_after}
+use Rattle.mm_host.specs.Continuing.{RunsOver}
+use Rattle.mm_host.specs.Sessions.{Served}
+use Rattle.mm_host.specs.declared.fault.SessionFault.{SessionFault}
+use Rattle.mm_host.proofs.Above.{CallsInTurn, Laws, Reaches, Shows, calls_reach, line_committed, only_by, pending_for, reach_same}
+use Rattle.mm_life.specs.Deeds.{Call}
+use Rattle.mm_life.specs.OneList.{IsLastJudged, SessionSteps}
+use Rattle.mm_life.specs.Premises.{issued_in, snapshots_of}
+use Rattle.mm_life.specs.SessionCalls.{IsFirstOffered, told_calls}
+use Rattle.mm_life.proofs.Chains.{Chain, Ends, call_of, rests, stops}
+use Rattle.mm_life.proofs.OneCall.{AreListed, all_genuine, answer_steps, issue_genuine, issues_genuine, makes_call, met_judged}
+
+-- the first of these calls offers what is genuine
+abbrev pub IsFirstGenuine : Instance → History → List Call → Type 0
+IsFirstGenuine i y [] = Unit {0}
+IsFirstGenuine i y (c ∷ calls) = IsGenuine i y c.offer
+
+first_by : (i : Instance) (y : History) (bytes : List ℕ) (told : List Served) (untold : List Call)
+    → IsFirstOffered (offered_after bytes told) untold → IsGenuine i y bytes → IsFirstGenuine i y (told_calls bytes told ++ untold)
+first_by i y bytes (c ∷ told) untold is g = g
+first_by i y bytes [] [] is g = tt
+first_by i y bytes [] (c ∷ untold) is g = rw is g
+
+listed_rest : (all : List (List ℕ)) (asked : List Batch) (i : Instance) (c : Call) (calls : List Call) → AreListed all asked i (c ∷ calls)
+    → AreListed all asked i calls
+listed_rest all asked i c calls a = record {
+  messages = each_right (Contains all) (right_messages i (One c.request) (right_content i c.offer)) _ a.messages;
+  batches = a.batches.1;
+}
+
+listed_first : (all : List (List ℕ)) (asked : List Batch) (i : Instance) (c : Call) (calls : List Call) → AreListed all asked i (c ∷ calls)
+    → Within (right_messages i (One c.request) (right_content i c.offer)) all
+listed_first all asked i c calls a = each_left (Contains all) (right_messages i (One c.request) (right_content i c.offer)) _ a.messages
+
+-- the call behind those that were told offers the last answer's snapshot
+pub offered_by : {variant : Variant} {meaning : Meaning} {at final : Standing} {offer : List ℕ} {hand : List ℕ → Type 0}
+    {untold : List Call} {result : Result Unit SessionFault} → Ends variant meaning at final offer hand untold result
+    → IsFirstOffered offer untold
+offered_by (rests same none) = rw none tt
+offered_by (stops request hand gives c is came t sent fault says ends) = rw is refl
+
+-- an answered call isn't judged, so the last one is that which wasn't told
+judged_behind : (i : Instance) (y : History) (c : Call) (calls : List Call) → IsLastJudged i y calls
+    → ((why : Refusal) → c.gives ≡ Err why → ⊥) → IsLastJudged i y (c ∷ calls)
+judged_behind i y c [] h none = λ why e. absurd (none why e)
+judged_behind i y c (next ∷ calls) h none = h
+
+judged_told : (i : Instance) (y : History) (offer : List ℕ) (told : List Served) (untold : List Call) → IsLastJudged i y untold
+    → IsLastJudged i y (told_calls offer told ++ untold)
+judged_told i y offer [] untold h = h
+judged_told i y offer (c ∷ told) untold h =
+    judged_behind i y (call_of offer c.line (Ok c.answer)) (told_calls c.answer.snapshot told ++ untold)
+    (judged_told i y c.answer.snapshot told untold h) (λ why e. cc)
+
+-- Where a platform stands at digests, it stands at some afterwards.
+abbrev pub Leads : Instance → Standing → Standing → Type 0
+Leads i old new = (d : Digests) → StandsAt i old d → (e : Digests) × StandsAt i new e
+
+-- so it is of each call
+abbrev pub CallsLead : Instance → Type 0
+CallsLead i =
+    (old new : Standing) (offer request : List ℕ) (gives : Result BatchAnswer Refusal)
+    → CallsOn i.variant i.meaning old new offer (One request) gives → Leads i old new
+
+module _ (i : Instance) (leads : CallsLead i) where
+  calls_lead : (told : List Served) (offer : List ℕ) (old at : Standing) → CallsInTurn i.variant i.meaning offer old told at
+      → Leads i old at
+  calls_lead [] offer old at h = λ d s. (d, rw h s)
+  calls_lead (c ∷ told) offer old at h = λ d s.
+      let first = leads old h.0 offer c.line (Ok (whole c.answer)) h.1.goes d s in
+      calls_lead told c.answer.snapshot h.0 at h.2 first.0 first.1
+
+  ends_lead : {at final : Standing} {offer : List ℕ} {hand : List ℕ → Type 0} {untold : List Call} {result : Result Unit SessionFault}
+      → Ends i.variant i.meaning at final offer hand untold result → Leads i at final
+  ends_lead (rests same none) = λ d s. (d, rw same s)
+  ends_lead {at} {final} {offer} (stops request hand gives c is came t sent fault says ends) =
+      leads at final offer request (whole_in gives) c.goes
+
+  chain_leads : {before final : Standing} {offer : List ℕ} {told : List Served} {hand : List ℕ → Type 0} {untold : List Call}
+      {result : Result Unit SessionFault} → Chain i.variant i.meaning offer before final told hand untold result → Leads i before final
+  chain_leads {before} {final} {offer} {told} k = λ d s.
+      let first = calls_lead told offer before k.at k.calls d s in
+      ends_lead k.ends first.0 first.1
+
+module _ {all others : List (List ℕ)} {asked : List Batch} {i : Instance} {final : Standing} (laws : Laws all others asked i final) where
+  -- behind the calls that were told
+  record Turned (y : History) (at : Standing) (offer : List ℕ) (told : List Served) (untold : List Call) : Type 0 where
+    after : History
+    stands : StandsFor i at after
+    within : IsWithin all others asked i after
+    names : (content : Content) → Names i y content → Names i after content
+    shows : Shows i.variant all others i after at final
+    run : RunsOver i.meaning (requests_of y.batches) told (requests_of after.batches)
+    issued : AllByRecursion (IsGenuine i after) (snapshots_of (told_calls offer told))
+    first : IsFirstGenuine i after untold
+    listed : AreListed all asked i untold
+
+  turns : (told : List Served) (y : History) (old at : Standing) (offer : List ℕ) (untold : List Call)
+      → CallsInTurn i.variant i.meaning offer old told at → Reaches i.variant i at final
+      → IsFirstOffered (offered_after offer told) untold → StandsFor i old y → IsWithin all others asked i y
+      → IsFirstGenuine i y (told_calls offer told ++ untold) → AreListed all asked i (told_calls offer told ++ untold)
+      → Shows i.variant all others i y old final → Turned y at offer told untold
+  turns [] y old at offer untold h reaches is stands within first listed shows = record {
+    after = y;
+    stands = rw h stands;
+    within = within;
+    names = λ content n. n;
+    shows = rw h shows;
+    run = refl;
+    issued = tt;
+    first = first;
+    listed = listed;
+  }
+  turns (c ∷ told) y old at offer untold h reaches is stands within first listed shows =
+      let made : Call = call_of offer c.line (Ok c.answer) in
+      let rest : List Call = told_calls c.answer.snapshot told ++ untold in
+      let m = laws.met y old h.0 offer (pending_for c.line) (whole c.answer)
+      (makes_call laws old h.0 offer c.line y (Ok (whole c.answer)) h.1.goes stands within first listed.batches.0
+      (listed_first all asked i made rest listed)) shows (calls_reach laws c.answer.snapshot h.0 at told h.2 reaches) in
+      let g = issue_genuine laws old h.0 offer c.line c.answer y h.1 m.0 in
+      let r = turns told m.0.after h.0 at c.answer.snapshot untold h.2 reaches is m.0.stands m.0.within
+      (first_by i m.0.after c.answer.snapshot told untold is g) (listed_rest all asked i made rest listed) m.1 in
+      record {
+        after = r.after;
+        stands = r.stands;
+        within = r.within;
+        names = λ content n. r.names content (m.0.names content n);
+        shows = r.shows;
+        run = (requests_of m.0.after.batches, answer_steps i y m.0.after offer c.line c.answer m.0.comes, r.run);
+        issued = (λ content right. r.names content (g content right), r.issued);
+        first = r.first;
+        listed = r.listed;
+      }
+
+  -- a session, or a call: where it leads, and what it makes of the list
+  pub record Lived (y : History) (new : Standing) (calls : List Call) (Steps : List (List ℕ) → Type 0) : Type 0 where
+    pub after : History
+    pub stands : StandsFor i new after
+    pub within : IsWithin all others asked i after
+    pub names : (content : Content) → Names i y content → Names i after content
+    pub issued : AllByRecursion (IsGenuine i after) (snapshots_of calls)
+    pub steps : Steps (requests_of after.batches)
+    pub judged : IsLastJudged i after calls
+
+  ends_reach : {at : Standing} {offer : List ℕ} {hand : List ℕ → Type 0} {untold : List Call} {result : Result Unit SessionFault}
+      → Ends i.variant i.meaning at final offer hand untold result → Reaches i.variant i at final
+  ends_reach {at} (rests same none) = reach_same i.variant i at final same
+  ends_reach {at} {offer} (stops request hand gives c is came t sent fault says ends) =
+      laws.reach at final offer request (whole_in gives) c.goes
+
+  module _ (y : History) (offer : List ℕ) (at : Standing) (told : List Served) (hand : List ℕ → Type 0) (untold : List Call)
+      (r : Turned y at offer told untold) where
+    abbrev Steps : Result Unit SessionFault → List (List ℕ) → Type 0
+    Steps result after = SessionSteps i.meaning (requests_of y.batches) told hand result after
+
+    abbrev Whole : List Call → Type 0
+    Whole calls = AllByRecursion (IsGenuine i r.after) (snapshots_of calls)
+
+    both_issued : (z : History) → ((content : Content) → Names i r.after content → Names i z content)
+        → AllByRecursion (IsGenuine i z) (snapshots_of untold)
+        → AllByRecursion (IsGenuine i z) (snapshots_of (told_calls offer told ++ untold))
+    both_issued z names more =
+        rw (flat_map-append (λ (c : Call). issued_in c.gives) (told_calls offer told) untold)
+        (each_append (IsGenuine i z) (snapshots_of (told_calls offer told)) (snapshots_of untold)
+        (all_genuine i r.after z names (snapshots_of (told_calls offer told)) r.issued) more)
+
+    ended : (result : Result Unit SessionFault) → Ends i.variant i.meaning at final (offered_after offer told) hand untold result
+        → Lived y final (told_calls offer told ++ untold) (Steps result)
+    ended result (rests same none) = record {
+      after = r.after;
+      stands = rw same r.stands;
+      within = r.within;
+      names = r.names;
+      issued = both_issued r.after (λ content n. n) (rw none tt);
+      steps = record { between = requests_of r.after.batches; run = r.run; committed = inl refl };
+      judged = judged_told i r.after offer told untold (rw none tt);
+    }
+    ended result (stops request h gives c is came t sent fault says ends) =
+        let made : Call = call_of (offered_after offer told) request gives in
+        let first : IsGenuine i r.after (offered_after offer told) = rw is at r.first in
+        let listed : AreListed all asked i (made ∷ []) = rw is at r.listed in
+        let m = laws.met_last r.after at (offered_after offer told) (pending_for request) (whole_in gives)
+        (makes_call laws at final (offered_after offer told) request r.after (whole_in gives) c.goes r.stands r.within first
+        listed.batches.0 (listed_first all asked i made [] listed)) r.shows in
+        let given = issues_genuine laws at final (offered_after offer told) request gives r.after c m in
+        record {
+          after = m.after;
+          stands = m.stands;
+          within = m.within;
+          names = λ content n. m.names content (r.names content n);
+          issued = both_issued m.after m.names
+              (rw is (each_append (IsGenuine i m.after) (issued_in gives) [] given tt));
+          steps = record {
+            between = requests_of r.after.batches;
+            run = r.run;
+            committed = rw ends (line_committed r.after m.after request came sent fault hand h says (only_by gives came t m.only)
+                (grows i r.after (pending_for request) (offered_after offer told) m.after (whole_in gives) m.comes));
+          };
+          judged = judged_told i m.after offer told untold
+              (rw is (met_judged r.after final (offered_after offer told) request gives m));
+        }
+
+  -- a whole session
+  pub chain_lives : (y : History) (before : Standing) (offer : List ℕ) (told : List Served) (hand : List ℕ → Type 0)
+      (untold : List Call) (result : Result Unit SessionFault)
+      → Chain i.variant i.meaning offer before final told hand untold result → StandsFor i before y → IsWithin all others asked i y
+      → IsFirstGenuine i y (told_calls offer told ++ untold) → AreListed all asked i (told_calls offer told ++ untold)
+      → CallsLead i → (Reaches i.variant i before final → Leads i before final → Shows i.variant all others i y before final)
+      → Lived y final (told_calls offer told ++ untold)
+      (λ after. SessionSteps i.meaning (requests_of y.batches) told hand result after)
+  chain_lives y before offer told hand untold result k stands within first listed leads shows =
+      let reaches = ends_reach k.ends in
+      ended y offer k.at told hand untold
+      (turns told y before k.at offer untold k.calls reaches (offered_by k.ends) stands within first listed
+      (shows (calls_reach laws offer before k.at told k.calls reaches) (chain_leads i leads k))) result k.ends

@@ -1,0 +1,5 @@
+use Rattle.mm_life.proofs.Tellings.{lives_keep}
+use Rattle.mm_life.proofs.laws.lives_keep_promises.Goals as goal
+
+pub returns : goal.returns
+returns c = lives_keep c.runs_keep_promises.ensures

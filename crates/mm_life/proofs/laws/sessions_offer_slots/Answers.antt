@@ -1,0 +1,5 @@
+use Rattle.mm_life.proofs.Offering.{offer_slots}
+use Rattle.mm_life.proofs.laws.sessions_offer_slots.Goals as goal
+
+pub returns : goal.returns
+returns c = offer_slots

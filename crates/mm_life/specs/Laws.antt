@@ -1,0 +1,94 @@
+-- The laws of a life.
+use Rattle.std.specs.Prelude.{◌≡◌, ℕ, List, [], ◌∷◌, Option, Some, Result, ◌⊎◌}
+use Rattle.mm_life.specs.Below.{Variant, Basic, Opt, Standing, IsLawful, Meaning, AreSaid, AnyModule, meaning_of, first_history, basic}
+use Rattle.mm_life.specs.Below.{AreNoGuards, IsClear, StandsFor, issued_bytes, Promises, tellings_in, Instance, opt, Batch, first_on}
+use Rattle.mm_life.specs.Below.{StoreStanding, Pending, Slots, slot_read, first_offer, IsWaiting, MayStart, SessionFault, Sessions}
+use Rattle.mm_life.specs.SessionCalls.{IsFirstOffered, session_calls}
+use Rattle.mm_life.specs.Deeds.{Call}
+use Rattle.mm_life.specs.OneList.{FollowsOn, IsOneWhole, life_replies}
+use Rattle.mm_life.specs.Premises.{AreUntagged, IsUntagged, life_batches, life_messages, opt_messages, others_values, snapshots_of}
+use Rattle.mm_life.specs.Stages.{IsLife, Stage, end_of, life_calls}
+
+-- the first snapshot, and those that the calls of a life issued
+abbrev pub issued_over : (i : Instance) (start : Standing) (stages : List Stage)
+    → IsLife i.variant i.meaning start stages → List (List ℕ)
+issued_over i start stages f =
+    issued_bytes i first_history ∷ snapshots_of (life_calls i.variant i.meaning start stages f)
+
+-- Basic: whatever is done behind a first start, it is one whole, where no two messages of its calls
+-- share a digest and nobody else made a tag. Nothing is asked of the slots, of the devices, or of
+-- what others put into the register.
+abbrev pub BasicLifeIsOne : Type 0
+BasicLifeIsOne =
+    (meaning : Meaning) → IsLawful meaning → (key : List ℕ) (start : Standing)
+    (stages : List Stage) (f : IsLife Basic meaning start stages) →
+    StandsFor (basic meaning key) start first_history →
+    IsClear (life_messages (basic meaning key) start stages f) →
+    AreUntagged (basic meaning key) (issued_bytes (basic meaning key) first_history ∷ []) start
+    stages f →
+    IsOneWhole (life_messages (basic meaning key) start stages f) []
+    (life_batches (basic meaning key) start stages f) (basic meaning key)
+    (issued_over (basic meaning key) start stages f) start stages f
+
+-- Opt, from a register that others had extended by these values: the same, where besides the
+-- messages by which the register's items went into it share no digest, as it shows them behind each
+-- part, and no value of others is the guard of a request that was asked.
+abbrev pub OptLifeIsOne : Type 0
+OptLifeIsOne =
+    (meaning : Meaning) → IsLawful meaning → (key barrier : List ℕ) (values : List (List ℕ))
+    (start : Standing) (stages : List Stage) (f : IsLife Opt meaning start stages) →
+    StandsFor (opt meaning key barrier) start (first_on values) →
+    IsClear (opt_messages (opt meaning key barrier) start stages f) →
+    AreNoGuards barrier (others_values stages)
+    (life_batches (opt meaning key barrier) start stages f) →
+    AreUntagged (opt meaning key barrier)
+    (issued_bytes (opt meaning key barrier) first_history ∷ []) start stages f →
+    IsOneWhole (opt_messages (opt meaning key barrier) start stages f) (others_values stages)
+    (life_batches (opt meaning key barrier) start stages f) (opt meaning key barrier)
+    (issued_over (opt meaning key barrier) start stages f) start stages f
+
+-- What waits in these slots was found, and the first of the calls offers what they show for it.
+pub record OffersSlots (slots : Slots) (calls : List Call) : Type 0 where
+  pub waiting : Option Pending
+  pub is_waiting : IsWaiting (slot_read slots 2) (slot_read slots 3) waiting
+  pub offered : IsFirstOffered (first_offer slots waiting) calls
+
+-- What a session offers first is what its slots show, where its store tells them; or it made no
+-- call.
+abbrev pub SessionsOfferSlots : Type 0
+SessionsOfferSlots =
+    (variant : Variant) (meaning : Meaning) (before after : Standing) (old new : StoreStanding)
+    (left left' received received' : Option (List ℕ)) (result : Result Unit SessionFault)
+    (s : Sessions variant meaning before after old new left left' received received' result)
+    (slots : Slots) →
+    old.slots ≡ Some slots → (session_calls s ≡ []) ⊎ OffersSlots slots (session_calls s)
+
+-- Behind a life a session may start over any slots, where what they offer first was issued in this
+-- life, if it is right: so it is one run from the life's history on.
+abbrev pub NextMayStart : Type 0
+NextMayStart =
+    (all others : List (List ℕ)) (asked : List Batch) (i : Instance) (issued : List (List ℕ))
+    (start : Standing) (stages : List Stage) (f : IsLife i.variant i.meaning start stages)
+    (whole : IsOneWhole all others asked i issued start stages f) →
+    IsClear all → AreNoGuards i.barrier others asked →
+    (slots : Slots) (kept : StoreStanding) (waiting : Option Pending) →
+    kept.slots ≡ Some slots → IsWaiting (slot_read slots 2) (slot_read slots 3) waiting →
+    IsUntagged i issued (first_offer slots waiting) →
+    MayStart all others asked i whole.history slots (end_of start stages) kept
+
+-- Each line that was told over a life says what the module said when its request was run, once, on
+-- the one list.
+abbrev pub LivesTellWhatWasSaid : Type 0
+LivesTellWhatWasSaid =
+    (variant : Variant) (meaning : Meaning) (start : Standing) (stages : List Stage)
+    (f : IsLife variant meaning start stages) (requests : List (List ℕ)) →
+    FollowsOn variant meaning start stages f [] requests →
+    AreSaid meaning requests (tellings_in (life_replies variant meaning start stages f))
+
+-- What a module promises of one run holds over a whole life.
+abbrev pub LivesKeepPromises : Type 0
+LivesKeepPromises =
+    («module» : AnyModule) (variant : Variant) (start : Standing) (stages : List Stage)
+    (f : IsLife variant (meaning_of «module») start stages) (requests : List (List ℕ)) →
+    FollowsOn variant (meaning_of «module») start stages f [] requests →
+    Promises «module» requests (life_replies variant (meaning_of «module») start stages f)

@@ -1,0 +1,9 @@
+pub mod Below
+pub mod Deeds
+pub mod SessionCalls
+pub mod Stages
+pub mod OneList
+pub mod Premises
+pub mod Laws
+pub mod Staying
+pub mod Doing

@@ -1,0 +1,92 @@
+-- The one list of requests of a life: what its programs tell are steps of the machine on it.
+use Rattle.std.specs.Prelude.{◌≡◌, ℕ, List, [], ◌∷◌, ◌++◌, Result, Ok, Err, IsSome, ◌⊎◌}
+use Rattle.std.specs.List.{AllByRecursion}
+use Rattle.mm_life.specs.Below.{Variant, Standing, Batch, One, Meaning, Answer, History, requests_of, Instance, IsGenuine, StandsFor}
+use Rattle.mm_life.specs.Below.{Refusal, Memory, IsWithin, found_at, by_lists, fault_of, StepsOn, Reply, answer_reply, Served}
+use Rattle.mm_life.specs.Below.{HasUntold, RunsOver, SessionFault}
+use Rattle.mm_life.specs.Deeds.{Call, Calls}
+use Rattle.mm_life.specs.SessionCalls.{InHandOf, told_by}
+use Rattle.mm_life.specs.Stages.{Does, Holds, IsLife, Part, PartLeads, Stage, end_of, latest_calls}
+
+-- One call on a list of requests: its answer is a step of the machine. Refused it leaves the list;
+-- by a device's fault its request may be run, and not told.
+abbrev pub CallSteps : Meaning → List (List ℕ) → List ℕ → Result Answer Refusal → List (List ℕ)
+    → Type 0
+CallSteps meaning requests request (Ok answer) after =
+    StepsOn meaning requests (One request) (answer_reply answer) after
+CallSteps meaning requests request (Err why) after =
+    (after ≡ requests) ⊎ (IsSome (fault_of why) × (after ≡ requests ++ request ∷ []))
+
+-- A session on a list of requests: what it told are steps of the machine, one after another; and
+-- where it stopped the request in hand may be run, and not told.
+pub record SessionSteps (meaning : Meaning) (requests : List (List ℕ)) (told : List Served)
+    (hand : List ℕ → Type 0) (result : Result Unit SessionFault)
+    (after : List (List ℕ)) : Type 0 where
+  pub between : List (List ℕ)
+  pub run : RunsOver meaning requests told between
+  pub committed : (after ≡ between) ⊎ HasUntold hand result between after
+
+-- the replies that are told of calls
+abbrev pub told_replies : List Served → List Reply
+told_replies [] = []
+told_replies (c ∷ calls) = answer_reply c.answer ∷ told_replies calls
+
+abbrev pub call_replies : Result Answer Refusal → List Reply
+call_replies (Ok answer) = answer_reply answer ∷ []
+call_replies (Err why) = []
+
+module _ (variant : Variant) (meaning : Meaning) where
+  -- one part of a life: other deeds leave the list
+  abbrev pub PartSteps : (old : Standing) (part : Part) (new : Standing)
+      → PartLeads variant meaning old part new → List (List ℕ) → List (List ℕ) → Type 0
+  PartSteps old (Holds p) new s requests after =
+      SessionSteps meaning requests (told_by s) (InHandOf s) p.result after
+  PartSteps old (Does (Calls c)) new s requests after =
+      CallSteps meaning requests c.request c.gives after
+  PartSteps old (Does _) new s requests after = after ≡ requests
+
+  -- The life is steps on one list, from these requests to those.
+  abbrev pub FollowsOn : (start : Standing) (stages : List Stage)
+      → IsLife variant meaning start stages → List (List ℕ) → List (List ℕ) → Type 0
+  FollowsOn start [] f requests after = after ≡ requests
+  FollowsOn start (stage ∷ stages) f requests after =
+      (between : List (List ℕ))
+      × PartSteps start stage.part stage.after f.0 requests between
+      × FollowsOn stage.after stages f.1 between after
+
+  -- the replies that are told in a part of a life, and in all of it
+  abbrev pub part_replies : (old : Standing) (part : Part) (new : Standing)
+      → PartLeads variant meaning old part new → List Reply
+  part_replies old (Holds p) new s = told_replies (told_by s)
+  part_replies old (Does (Calls c)) new s = call_replies c.gives
+  part_replies old (Does _) new s = []
+
+  abbrev pub life_replies : (start : Standing) (stages : List Stage)
+      → IsLife variant meaning start stages → List Reply
+  life_replies start [] f = []
+  life_replies start (stage ∷ stages) f =
+      part_replies start stage.part stage.after f.0 ++ life_replies stage.after stages f.1
+
+-- The last of these calls, where it was refused and neither for a device's fault nor for want of
+-- memory, was refused as its offer is by lists at the history.
+abbrev pub IsLastJudged : Instance → History → List Call → Type 0
+IsLastJudged i y [] = Unit {0}
+IsLastJudged i y (c ∷ []) =
+    (why : Refusal) → c.gives ≡ Err why
+    → IsSome (fault_of why) ⊎ (why ≡ Memory)
+    ⊎ (found_at i (by_lists i) y (One c.request) c.offer ≡ Err why)
+IsLastJudged i y (c ∷ next ∷ calls) = IsLastJudged i y (next ∷ calls)
+
+-- The life is one whole: there is one list of requests that all of it follows, from none; and what
+-- stands at the end stands for a history of this list, for which all that was issued is genuine.
+pub record IsOneWhole (all others : List (List ℕ)) (asked : List Batch) (i : Instance)
+    (issued : List (List ℕ)) (start : Standing) (stages : List Stage)
+    (f : IsLife i.variant i.meaning start stages) : Type 0 where
+  pub requests : List (List ℕ)
+  pub follows : FollowsOn i.variant i.meaning start stages f [] requests
+  pub history : History
+  pub holds : requests_of history.batches ≡ requests
+  pub stands : StandsFor i (end_of start stages) history
+  pub within : IsWithin all others asked i history
+  pub named : AllByRecursion (IsGenuine i history) issued
+  pub judged : IsLastJudged i history (latest_calls i.variant i.meaning start stages f)

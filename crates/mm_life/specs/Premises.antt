@@ -1,0 +1,89 @@
+-- What is asked of a life, all of it of bytes and of calls that were made.
+use Rattle.std.specs.Prelude.{ℕ, List, [], ◌∷◌, ◌++◌, drop, map, take, Option, Some, Result, Ok, Err}
+use Rattle.std.specs.List.{Contains, flat_map}
+use Rattle.std.specs.Option.{option_map_or}
+use Rattle.mm_life.specs.Below.{anchored_message, extended_message, start_message, zero_bytes, Content, Item, Standing}
+use Rattle.mm_life.specs.Below.{item_values, Batch, One, after, Instance, register_trail, IsRight, right_messages}
+use Rattle.mm_life.specs.Below.{right_content, foreign_items, Answer, Refusal}
+use Rattle.mm_life.specs.Deeds.{Call, Checkpoints}
+use Rattle.mm_life.specs.Stages.{Does, IsLife, Part, Stage, life_calls, part_calls}
+
+-- the snapshots that these calls issued, told or not
+abbrev pub issued_in : Result Answer Refusal → List (List ℕ)
+issued_in (Ok answer) = answer.snapshot ∷ []
+issued_in (Err why) = []
+
+abbrev pub snapshots_of : List Call → List (List ℕ)
+snapshots_of calls = flat_map (λ c. issued_in c.gives) calls
+
+-- Nobody else made its tag: bytes that are right were issued before.
+abbrev pub IsUntagged : Instance → List (List ℕ) → List ℕ → Type 0
+IsUntagged i issued offer = (content : Content) → IsRight i offer content → Contains issued offer
+
+-- asked of the first of these calls
+abbrev pub IsFirstUntagged : Instance → List (List ℕ) → List Call → Type 0
+IsFirstUntagged i issued [] = Unit {0}
+IsFirstUntagged i issued (c ∷ calls) = IsUntagged i issued c.offer
+
+-- Of each program, and of each call of others, it is asked of what is offered first. What a program
+-- offers later are snapshots that it was answered.
+abbrev pub AreUntagged : (i : Instance) (issued : List (List ℕ)) (start : Standing)
+    (stages : List Stage) → IsLife i.variant i.meaning start stages → Type 0
+AreUntagged i issued start [] f = Unit {0}
+AreUntagged i issued start (stage ∷ stages) f =
+    (let calls = part_calls i.variant i.meaning start stage.part stage.after f.0 in
+    IsFirstUntagged i issued calls
+    × AreUntagged i (issued ++ snapshots_of calls) stage.after stages f.1)
+
+-- the requests of the calls, each a batch
+abbrev pub requests_asked : List Call → List Batch
+requests_asked calls = map (λ c. One c.request) calls
+
+-- The messages of calls: the start message, and for each call those of what is asked with a right
+-- offer.
+abbrev pub call_messages : Instance → List Call → List (List ℕ)
+call_messages i calls =
+    start_message i.variant i.meaning.id
+    ∷ flat_map (λ c. right_messages i (One c.request) (right_content i c.offer)) calls
+
+-- In Opt, behind each part of a life: those by which the register's items went into it; and of a
+-- checkpoint those by which it may close the segment in front of, between and behind these.
+abbrev pub shown_messages : Option (List Item) → List (List ℕ)
+shown_messages items = option_map_or (λ shown. register_trail (item_values shown)) items []
+
+abbrev pub closings : List ℕ → List ℕ → List (List ℕ) → List (List ℕ)
+closings anchor register [] = anchored_message anchor register ∷ []
+closings anchor register (value ∷ values) =
+    anchored_message anchor register
+    ∷ closings anchor (after extended_message register (value ∷ [])) values
+
+-- the digest in a cell's bytes
+abbrev pub digest_in : List ℕ → List ℕ
+digest_in cell = take 32 (drop 8 cell)
+
+abbrev pub closing_messages : Part → Option (List ℕ) → Option (List Item) → List (List ℕ)
+closing_messages (Does (Checkpoints said)) (Some cell) (Some items) =
+    closings (digest_in cell) zero_bytes (item_values items)
+closing_messages _ _ _ = []
+
+abbrev pub register_messages : Standing → List Stage → List (List ℕ)
+register_messages start [] = []
+register_messages start (stage ∷ stages) =
+    shown_messages stage.after.items
+    ++ closing_messages stage.part start.cell stage.after.items
+    ++ register_messages stage.after stages
+
+-- the values by which others extended the register, as it shows them behind each part
+abbrev pub others_values : List Stage → List (List ℕ)
+others_values stages = flat_map (λ stage. option_map_or foreign_items stage.after.items []) stages
+
+module _ (i : Instance) (start : Standing) (stages : List Stage)
+    (f : IsLife i.variant i.meaning start stages) where
+  abbrev pub life_batches : List Batch
+  life_batches = requests_asked (life_calls i.variant i.meaning start stages f)
+
+  abbrev pub life_messages : List (List ℕ)
+  life_messages = call_messages i (life_calls i.variant i.meaning start stages f)
+
+  abbrev pub opt_messages : List (List ℕ)
+  opt_messages = life_messages ++ register_messages start stages

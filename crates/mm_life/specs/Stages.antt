@@ -1,0 +1,64 @@
+-- The life of a platform behind its first start: programs, and deeds between them, one after
+-- another, whatever the slots hold when a program starts.
+use Rattle.std.specs.Prelude.{ℕ, List, [], ◌∷◌, ◌++◌, Option, Result}
+use Rattle.mm_life.specs.Below.{Variant, Standing, Meaning, StoreStanding, Sessions, SessionFault}
+use Rattle.mm_life.specs.Deeds.{Call, Calls, Deed, DeedLeads}
+use Rattle.mm_life.specs.SessionCalls.{session_calls}
+
+-- A program's session: its store, its input and its output, before and after; and how it ended.
+-- Nothing ties the store before it to what another program left.
+pub record Program : Type 0 where
+  pub old : StoreStanding
+  pub new : StoreStanding
+  pub left : Option (List ℕ)
+  pub left' : Option (List ℕ)
+  pub received : Option (List ℕ)
+  pub received' : Option (List ℕ)
+  pub result : Result Unit SessionFault
+
+-- a program holds a session, or a deed is done
+pub data Part : Type 0 where
+  Holds : Program → Part
+  Does : Deed → Part
+
+-- a part of a life, and what stands behind it
+pub record Stage : Type 0 where
+  pub part : Part
+  pub after : Standing
+
+module _ (variant : Variant) (meaning : Meaning) where
+  abbrev pub PartLeads : Standing → Part → Standing → Type 0
+  PartLeads old (Holds p) new =
+      Sessions variant meaning old new p.old p.new p.left p.left' p.received p.received' p.result
+  PartLeads old (Does deed) new = DeedLeads variant meaning old deed new
+
+  -- Each of these stages begins with what stands behind the one before it, the first one here.
+  abbrev pub IsLife : Standing → List Stage → Type 0
+  IsLife start [] = Unit {0}
+  IsLife start (stage ∷ stages) =
+      PartLeads start stage.part stage.after × IsLife stage.after stages
+
+  -- the calls that were made in a part of a life, and in all of it
+  abbrev pub part_calls : (old : Standing) (part : Part) (new : Standing) → PartLeads old part new
+      → List Call
+  part_calls old (Holds p) new s = session_calls s
+  part_calls old (Does (Calls c)) new s = c ∷ []
+  part_calls old (Does _) new s = []
+
+  abbrev pub life_calls : (start : Standing) (stages : List Stage) → IsLife start stages
+      → List Call
+  life_calls start [] f = []
+  life_calls start (stage ∷ stages) f =
+      part_calls start stage.part stage.after f.0 ++ life_calls stage.after stages f.1
+
+  -- those of the last part
+  abbrev pub latest_calls : (start : Standing) (stages : List Stage) → IsLife start stages
+      → List Call
+  latest_calls start [] f = []
+  latest_calls start (stage ∷ []) f = part_calls start stage.part stage.after f.0
+  latest_calls start (stage ∷ next ∷ stages) f = latest_calls stage.after (next ∷ stages) f.1
+
+-- what stands at the end
+abbrev pub end_of : Standing → List Stage → Standing
+end_of start [] = start
+end_of start (stage ∷ stages) = end_of stage.after stages

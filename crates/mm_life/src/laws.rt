@@ -1,0 +1,57 @@
+//! Laws of a life, each the contract of a function that does nothing, or calls what it needs.
+
+ghost use Rattle.mm_life.specs.Doing.{CyclesAreDeeds, ReadsAreDeeds};
+ghost use Rattle.mm_life.specs.Staying.{BasicDeedsStay, OptDeedsStay};
+ghost use Rattle.mm_life.specs.Laws.{BasicLifeIsOne, LivesKeepPromises, LivesTellWhatWasSaid, NextMayStart, OptLifeIsOne, SessionsOfferSlots};
+
+use mm_schedule::laws::{runs_keep_promises, tells_what_was_said};
+
+/// Basic: whatever is done to a platform behind its first start, there is one list of requests, and all that programs
+/// tell are steps on it.
+pub fn basic_life_is_one()
+    ensures { BasicLifeIsOne }
+{}
+
+/// Opt: the same, where the messages by which items went into the register share no digest with these, and no value of
+/// others is a guard.
+pub fn opt_life_is_one()
+    ensures { OptLifeIsOne }
+{}
+
+/// What a session offers first is what its slots show.
+pub fn sessions_offer_slots()
+    ensures { SessionsOfferSlots }
+{}
+
+/// Behind any life the next session may start, from the life's history on.
+pub fn next_may_start()
+    ensures { NextMayStart }
+{}
+
+/// What a deed that is no call leaves: an extension of the register by others, a loss of power, a checkpoint. The platform
+/// stands for a history with the same requests.
+pub fn deeds_stay()
+    ensures basic { BasicDeedsStay }
+    ensures opt { OptDeedsStay }
+{}
+
+/// A read of the cell, and a loss of power that was called for, are deeds.
+pub fn device_calls_are_deeds()
+    ensures reads { ReadsAreDeeds }
+    ensures cycles { CyclesAreDeeds }
+{}
+
+/// Each line that programs told over a life says what the module said when its request was run.
+pub fn lives_tell_what_was_said()
+    ensures { LivesTellWhatWasSaid }
+{
+    tells_what_was_said();
+}
+
+/// What a module promises of one run holds over a life: a limiter gives no more wrong guesses than it has tries between
+/// two `set` or `open`, and a dispenser tells no place twice.
+pub fn lives_keep_promises()
+    ensures { LivesKeepPromises }
+{
+    runs_keep_promises();
+}

@@ -1,0 +1,10 @@
+//! The life of a platform: whatever is done behind a first start, program after program, with whatever in the slots, is
+//! one list of requests.
+#![tactic(auto)]
+
+mod laws;
+
+pub use laws::{
+    basic_life_is_one, deeds_stay, device_calls_are_deeds, lives_keep_promises,
+    lives_tell_what_was_said, next_may_start, opt_life_is_one, sessions_offer_slots,
+};

@@ -1,0 +1,19 @@
+-- How a command over events refuses a line.
+use Rattle.std.specs.Prelude.{is_some}
+use Rattle.mm_play.proofs.Below.{◌≡◌, ℕ, Bool, true, List, Option, None, Some, Err, refl}
+use Rattle.mm_play.specs.Progress.{IsRefusal, RepliesTo}
+use Rattle.mm_play.specs.Stage.{EventStage, Running, is_over}
+use Rattle.mm_play.specs.declared.player.Refused.TheVariants.{Bad, Much}
+use Rattle.mm_play.specs.declared.player.ReplyFault.{ReplyFault}
+use Rattle.mm_play.specs.declared.player.ReplyFault.TheVariants as fault
+
+-- a line that spells an event
+pub spelled : {A : Type 0} (found : Option A) (is : Bool) → is ≡ is_some found → is ≡ true → (it : A) × (found ≡ Some it)
+spelled None is e h = cc
+spelled (Some it) is e h = (it, refl)
+
+pub refused_full : {S : Type 0} (s : EventStage S) (line : List ℕ) (old new : Running S) (why : ReplyFault) → is_over s old line ≡ true
+    → new ≡ old → IsRefusal (s.answer old.stage line) why → RepliesTo s line old new (Err why)
+refused_full s line old new fault.Memory over same r = tt
+refused_full s line old new (fault.Refused Bad) over same r = (r, same)
+refused_full s line old new (fault.Refused Much) over same r = (over, r.0, r.1, same)

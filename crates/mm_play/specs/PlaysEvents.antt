@@ -1,0 +1,19 @@
+-- What a command over events does with an input.
+use Rattle.std.specs.Prelude.{ℕ, List, [], Option, Result}
+use Rattle.mm_base.specs.declared.replay_fault.ReplayFault.{ReplayFault}
+use Rattle.mm_play.specs.Headline.{EventPlayer, TellsEvents}
+use Rattle.mm_play.specs.Plays.{Plays}
+use Rattle.mm_play.specs.Stage.{EventStage, HeadStage, LineStage, AtHeading, line_answer, line_closing}
+use Rattle.mm_play.specs.Tells.{IsReported}
+
+-- What it took and wrote fits its answer line by line, and as a whole tells the headline; and what
+-- stands behind the last line is reported.
+pub record PlaysEvents {G H E S R T : Type 0} (p : EventPlayer G H E S)
+    (Holds : H → List E → (List E → S) → Type 0) (heads : HeadStage G R) (s : EventStage R)
+    (reports : LineStage G R → T → Type 0) (left left' received received' : Option (List ℕ))
+    (result : Result T ReplayFault) : Type 0 where
+  pub next : LineStage G R
+  pub plays : Plays (line_answer heads s) (line_closing heads s) (AtHeading p.start) next left
+      left' received received' result
+  pub tells : TellsEvents p Holds left left' received received' [] result
+  pub reported : IsReported reports next result

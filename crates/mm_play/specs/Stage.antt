@@ -1,0 +1,115 @@
+-- A command over events, line by line: the lines of its heading, and then an event in each line,
+-- until one is too many.
+use Rattle.std.specs.Prelude.{◌≡◌, ℕ, ◌+◌, ◌-◌, ◌^◌, min, Bool, ◌||◌, nat_le, nat_lt, List, [], length, Option, None, Some, Result, Ok, Err, if◌then◌else◌}
+use Rattle.mm_base.specs.Limits.{most_events}
+use Rattle.mm_play.specs.Headed.{Headed, More, Begins}
+use Rattle.mm_play.specs.Kept.{most_kept}
+use Rattle.mm_play.specs.declared.player.Refused.{Refused}
+use Rattle.mm_play.specs.declared.player.Refused.TheVariants.{Bad, Much}
+use Rattle.mm_play.specs.declared.player.ReplyFault.{ReplyFault}
+use Rattle.mm_play.specs.declared.player.ReplyFault.TheVariants as fault
+
+-- What a stage does with events: the reply to the event that a line spells, if it spells one, and
+-- the stage behind it; how many events were answered; how many bytes it keeps; what it writes last.
+pub record EventStage (R : Type 0) : Type 0 where
+  pub answer : R → List ℕ → Option (List ℕ × R)
+  pub events : R → ℕ
+  pub kept : R → ℕ
+  pub last : R → List ℕ
+
+-- How events are read, answered and gone on from, where `R` stands between two of them.
+pub record EventSteps (E R : Type 0) : Type 0 where
+  pub event_in : R → List ℕ → Option E
+  pub reply : R → E → List ℕ
+  pub after : R → E → R
+
+-- the answer to a line, by the event in it
+abbrev pub answer_by : {E R : Type 0} → EventSteps E R → R → Option E → Option (List ℕ × R)
+answer_by steps r None = None
+answer_by steps r (Some event) = Some (steps.reply r event, steps.after r event)
+
+abbrev pub answer_to : {E R : Type 0} → EventSteps E R → R → List ℕ → Option (List ℕ × R)
+answer_to steps r line = answer_by steps r (steps.event_in r line)
+
+-- What a heading does with its lines: where each leads, if it is one; and how many more there may
+-- be, at most.
+pub record HeadStage (H R : Type 0) : Type 0 where
+  pub behind : H → List ℕ → Option (Headed H R)
+  pub left : H → ℕ
+
+-- what stands between two events: the stage, and the bytes of the lines read
+pub record Running (R : Type 0) : Type 0 where
+  pub stage : R
+  pub read : ℕ
+
+abbrev pub running : {R : Type 0} → R → ℕ → Running R
+running stage read = record { stage = stage; read = read }
+
+-- among the lines of the heading, or among the events
+pub data LineStage (H R : Type 0) : Type 0 where
+  AtHeading : H → LineStage H R
+  InEvents : Running R → LineStage H R
+
+-- what 64 bits tell of a number
+abbrev pub within_64 : ℕ → ℕ
+within_64 n = min n (2 ^ 64 - 1)
+
+module _ {R : Type 0} (s : EventStage R) where
+  -- one event more would be too many, or its line too many bytes
+  abbrev pub is_over : Running R → List ℕ → Bool
+  is_over r line = nat_le most_events (s.events r.stage)
+      || nat_lt most_kept (r.read + length line + s.kept r.stage)
+
+  -- an event is answered, unless it is one too many
+  abbrev pub event_answer : {H : Type 0} → Running R → List ℕ → Option (List ℕ × R)
+      → Result (List ℕ × LineStage H R) Refused
+  event_answer r line None = Err Bad
+  event_answer r line (Some found) =
+      if is_over r line then Err Much
+      else Ok (found.0, InEvents (running found.1 (r.read + length line)))
+
+-- a line of the heading is answered by nothing
+abbrev pub head_answer : {H R : Type 0} → Option (Headed H R)
+    → Result (List ℕ × LineStage H R) Refused
+head_answer None = Err Bad
+head_answer (Some (More heading)) = Ok ([], AtHeading heading)
+head_answer (Some (Begins stage)) = Ok ([], InEvents (running stage 0))
+
+module _ {H R : Type 0} (heads : HeadStage H R) (s : EventStage R) where
+  -- the reply to a line
+  abbrev pub line_answer : LineStage H R → List ℕ → Result (List ℕ × LineStage H R) Refused
+  line_answer (AtHeading heading) line = head_answer (heads.behind heading line)
+  line_answer (InEvents r) line = event_answer s r line (s.answer r.stage line)
+
+  -- the last lines, which need the whole heading before them
+  abbrev pub line_closing : LineStage H R → Option (List ℕ)
+  line_closing (AtHeading heading) = None
+  line_closing (InEvents r) = Some (s.last r.stage)
+
+  -- how many more lines can be answered
+  abbrev pub lines_left : LineStage H R → ℕ
+  lines_left (AtHeading heading) = most_events + 1 + heads.left heading
+  lines_left (InEvents r) = most_events - s.events r.stage
+
+-- The event that a line spells was answered; where it spells none, nothing has changed.
+abbrev pub PlaysEvent : {R : Type 0} → Option (List ℕ × R) → R → R → Result (List ℕ) ReplyFault
+    → Type 0
+PlaysEvent answer old new (Ok reply) = answer ≡ Some (reply, new)
+PlaysEvent answer old new (Err fault.Memory) = Unit {0}
+PlaysEvent answer old new (Err (fault.Refused Bad)) = (answer ≡ None) × (new ≡ old)
+PlaysEvent answer old new (Err (fault.Refused Much)) = ⊥
+
+-- A line of the heading was taken: it is the last, and the events begin; or more are to come.
+abbrev pub TakesHead : {H R : Type 0} → Option (Headed H R) → H → Result (Option R) ReplyFault
+    → Type 0
+TakesHead found new (Ok None) = found ≡ Some (More new)
+TakesHead found new (Ok (Some stage)) = found ≡ Some (Begins stage)
+TakesHead found new (Err fault.Memory) = Unit {0}
+TakesHead found new (Err (fault.Refused Bad)) = found ≡ None
+TakesHead found new (Err (fault.Refused Much)) = ⊥
+
+-- A line that was refused has changed nothing.
+abbrev pub LeavesIfRefused : {A P : Type 0} → P → P → Result A ReplyFault → Type 0
+LeavesIfRefused old new (Ok reply) = Unit {0}
+LeavesIfRefused old new (Err fault.Memory) = Unit {0}
+LeavesIfRefused old new (Err (fault.Refused why)) = new ≡ old

@@ -1,0 +1,84 @@
+//! A command among its events, and the limits of them.
+
+ghost use Rattle.std.specs.Prelude.{◌≡◌, ◌+◌, ◌≤◌, ◌<◌, ℕ, List, false, length};
+ghost use Rattle.mm_base.specs.Limits.{longest_line};
+ghost use Rattle.mm_play.specs.Kept.{most_kept};
+
+use crate::player::{Refused, ReplyFault};
+use crate::stage::Stage;
+use mm_base::{Bytes, MOST_EVENTS};
+use std::alloc::Global;
+
+/// The most bytes of event lines, and of what is issued for them, together.
+const MOST_KEPT: u64 = 268_435_456;
+
+/// A stage among its events, and the bytes of their lines.
+#[derive(Drop)]
+pub struct Progress<S: Drop> {
+    /// What plays the events.
+    pub stage: S,
+    /// The bytes of their lines, each without its LF.
+    read: u64,
+    ghost small: { read ≤ most_kept },
+}
+
+impl<S: Stage + Drop> Progress<S> {
+    ghost use Rattle.mm_play.specs.Progress.{RepliesTo, running_in, IsRefusal};
+    ghost use Rattle.mm_play.specs.Stage.{InEvents, LeavesIfRefused, event_answer, is_over, running};
+    ghost use Rattle.mm_play.specs.Takes.{GivesReply};
+
+    /// A stage at its first event.
+    pub fn new(stage: S) -> Progress<S>
+        ensures { running_in result ≡ running stage 0 }
+    {
+        Progress { stage, read: 0 }
+    }
+
+    /// Whether one more event would be too many, or its line and what is kept too many bytes.
+    #[inline(always)]
+    pub fn is_full(&self, line: &[u8]) -> bool
+        ensures { result ≡ is_over S.plays (running_in self.now) line.now }
+    {
+        let lines = self.read.saturating_add(line.len() as u64);
+        self.stage.events() >= MOST_EVENTS || lines.saturating_add(self.stage.kept()) > MOST_KEPT
+    }
+
+    /// Counts a line that was answered.
+    #[inline(always)]
+    pub fn count_line(&mut self, line: &[u8])
+        requires { self.old.read + length line.now ≤ most_kept }
+        ensures { running_in self.new ≡ running self.old.stage (self.old.read + length line.now) }
+    {
+        self.read += line.len() as u64;
+    }
+
+    // Why a line is refused where no more are taken.
+    fn refusal(&self, alloc: Global, line: &[u8]) -> ReplyFault
+        ensures { IsRefusal (S.plays.answer self.now.stage line.now) result }
+    {
+        match self.stage.is_event(alloc, line) {
+            Ok(true) => ReplyFault::Refused(Refused::Much),
+            Ok(false) => ReplyFault::Refused(Refused::Bad),
+            Err(_) => ReplyFault::Memory,
+        }
+    }
+
+    /// The reply to an event line, as text. `Refused::Much` comes exactly where it is event 20,001, or where the event
+    /// lines and what is kept have more than 268,435,456 bytes; it isn't played then. After a refusal nothing has
+    /// changed.
+    pub fn reply_to_line(&mut self, alloc: Global, line: &[u8]) -> Result<Bytes, ReplyFault>
+        requires { length line.now ≤ longest_line }
+        ensures { RepliesTo S.plays line.now (running_in self.old) (running_in self.new) result }
+    {
+        if self.is_full(line) {
+            return Err(self.refusal(alloc, line));
+        }
+        match self.stage.play(alloc, line) {
+            Ok(reply) => {
+                self.count_line(line);
+                Ok(reply)
+            }
+            Err(fault) => Err(fault),
+        }
+    }
+}

@@ -1,0 +1,63 @@
+//! What a command does with its lines: those of its heading, and then an event in each.
+
+ghost use Rattle.std.specs.Prelude.{◌≡◌, ◌+◌, ◌≤◌, ◌<◌, ◌^◌, ℕ, List, Option, Some, is_some, length, IfOk};
+ghost use Rattle.mm_base.specs.Limits.{longest_line, most_events};
+ghost use Rattle.mm_play.specs.Headed.{More};
+ghost use Rattle.mm_play.specs.Kept.{most_kept};
+ghost use Rattle.mm_play.specs.Stage.{EventStage, HeadStage, PlaysEvent, TakesHead, within_64};
+
+use crate::player::ReplyFault;
+use mm_base::{Bytes, Memory};
+use std::alloc::Global;
+
+/// What stands among events, and plays them one after another.
+pub trait Stage {
+    /// What it does with events.
+    ghost plays: { EventStage Self };
+
+    /// How many events were played.
+    fn events(&self) -> u32
+        ensures { result ≡ plays.events self.now };
+
+    /// The bytes that it keeps for them, or the most that 64 bits tell.
+    fn kept(&self) -> u64
+        ensures { result ≡ within_64 (plays.kept self.now) };
+
+    /// Whether the line spells an event.
+    fn is_event(&self, alloc: Global, line: &[u8]) -> Result<bool, Memory>
+        ensures { IfOk result (λ is. is ≡ is_some (plays.answer self.now line.now)) };
+
+    /// Plays the event that a line spells, one of at most 20,000, and gives its reply as text. `Refused::Bad` comes
+    /// exactly where the line spells none.
+    fn play(&mut self, alloc: Global, line: &[u8]) -> Result<Bytes, ReplyFault>
+        requires short { length line.now ≤ longest_line }
+        requires few { plays.events self.old < most_events }
+        requires room { plays.kept self.old ≤ most_kept }
+        ensures { PlaysEvent (plays.answer self.old line.now) self.old self.new result };
+
+    /// What is written last.
+    fn last_lines(&self, alloc: Global) -> Result<Bytes, Memory>
+        ensures { IfOk result (λ last. last ≡ plays.last self.now) };
+
+    /// Each event that is played is one more.
+    ghost counts: { (it next : Self) (line reply : List ℕ)
+        → plays.answer it line ≡ Some (reply, next) → plays.events next ≡ plays.events it + 1 };
+}
+
+/// What stands among the lines of a heading, behind which a stage begins.
+pub trait Heading<S> {
+    /// What it does with lines.
+    ghost heads: { HeadStage Self S };
+
+    /// Takes one more line: the first stage, where it is the last line of the heading. `Refused::Bad` comes exactly
+    /// where it is none of the heading.
+    fn take_line(&mut self, alloc: Global, line: &[u8]) -> Result<Option<S>, ReplyFault>
+        ensures { TakesHead (heads.behind self.old line.now) self.new result };
+
+    /// Each line leaves fewer.
+    ghost fewer: { (it next : Self) (line : List ℕ) → heads.behind it line ≡ Some (More next)
+        → heads.left next < heads.left it };
+
+    /// It ends.
+    ghost few: { (it : Self) → heads.left it < 2 ^ 30 };
+}

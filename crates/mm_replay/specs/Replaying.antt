@@ -1,0 +1,23 @@
+-- A replay among its events, as contracts see it.
+use Rattle.std.specs.Prelude.{◌≡◌, ◌≤◌, ◌<◌, ◌+◌, ◌*◌, ◌^◌, ℕ, length}
+use Rattle.std.specs.List.{sum_by}
+use Rattle.mm_base.specs.Limits.{most_events, most_members}
+use Rattle.mm_run.specs.Held.{Held}
+use Rattle.mm_replay.specs.Schedule.{Replayed}
+
+abbrev pub replayed_in : Held → ℕ → Replayed
+replayed_in world events = record {
+  header = world.header;
+  digests = world.digests;
+  issued = world.issued;
+  events = events;
+}
+
+-- The world has issued snapshots of so many bytes, and no more of them, and committed no more
+-- requests, than so many events can.
+pub record KeepsWorld (world : Held) (events issued : ℕ) : Type 0 where
+  pub few : events ≤ most_events
+  pub counted : issued ≡ sum_by length world.issued
+  pub small : issued < 2 ^ 63 + 2 ^ 62
+  pub one_each : length world.issued ≤ events + 1
+  pub fits : world.digests.count ≤ most_members * events

@@ -1,0 +1,40 @@
+-- The heading of a schedule is one line; and each event that is played is one more.
+use Rattle.std.specs.Prelude.{◌≡◌, ℕ, ◌+◌, ◌<◌, ◌^◌, List, Option, None, Some}
+use Rattle.std.specs.Option.{option_map}
+use Rattle.std.proofs.Common.{refl, sym, ap, arith}
+use Rattle.mm_schedule.specs.declared.header.Header.{Header}
+use Rattle.mm_schedule.specs.Events.{Event}
+use Rattle.mm_schedule.specs.Grammar.{event_at}
+use Rattle.mm_schedule.specs.Headers.{header_at}
+use Rattle.mm_play.specs.Headed.{Headed, More, Begins}
+use Rattle.mm_play.specs.Stage.{answer_by}
+use Rattle.mm_play.specs.StageLaws.{same_stage}
+use Rattle.mm_replay.specs.Schedule.{Replayed, after, begun, replay_heads, replay_stage, replaying}
+use Rattle.mm_replay.specs.declared.heading.HeaderLine.{HeaderLine}
+
+-- no line of it leads to more lines of it
+never_more : (found : Option Header) (next : HeaderLine)
+    → (let x : Option (Headed HeaderLine Replayed) =
+    option_map (λ header. Begins (begun header)) found in x ≡ Some (More next)) → ⊥
+never_more None next h = cc
+never_more (Some header) next h = cc
+
+pub leads_nowhere : (it next : HeaderLine) (line : List ℕ)
+    → replay_heads.behind it line ≡ Some (More next)
+    → replay_heads.left next < replay_heads.left it
+leads_nowhere it next line h = absurd (never_more (header_at line) next h)
+
+pub leaves_none : (it : HeaderLine) → replay_heads.left it < 2 ^ 30
+leaves_none it = omega arith
+
+pub counts_by : (it next : Replayed) (found : Option Event) (reply : List ℕ)
+    → answer_by replaying it found ≡ Some (reply, next) → next.events ≡ it.events + 1
+counts_by it next None reply h = cc
+counts_by it next (Some event) reply h =
+    ap (λ (r : Replayed). r.events)
+    (sym (same_stage (replaying.reply it event) reply (after it event) next h))
+
+pub counts_on : (it next : Replayed) (line reply : List ℕ)
+    → replay_stage.answer it line ≡ Some (reply, next)
+    → replay_stage.events next ≡ replay_stage.events it + 1
+counts_on it next line reply h = counts_by it next (event_at line) reply h

@@ -1,0 +1,32 @@
+//! The header line of a schedule.
+
+ghost use Rattle.mm_replay.specs.Schedule.{replay_heads};
+ghost use Rattle.mm_replay.specs.ScheduleLaws.{leads_nowhere, leaves_none};
+
+use crate::replaying::Replaying;
+use mm_play::{Heading, Refused, ReplyFault};
+use mm_schedule::read_header;
+use std::alloc::Global;
+
+/// A schedule before its header line.
+#[derive(Drop)]
+pub struct HeaderLine {}
+
+impl Heading<Replaying> for HeaderLine {
+    ghost heads = { replay_heads };
+
+    fn take_line(&mut self, alloc: Global, line: &[u8]) -> Result<Option<Replaying>, ReplyFault> {
+        let header = match read_header(line) {
+            Some(header) => header,
+            None => return Err(ReplyFault::Refused(Refused::Bad)),
+        };
+        match Replaying::new(alloc, &header) {
+            Ok(replaying) => Ok(Some(replaying)),
+            Err(_) => Err(ReplyFault::Memory),
+        }
+    }
+
+    ghost fewer = { leads_nowhere };
+
+    ghost few = { leaves_none };
+}

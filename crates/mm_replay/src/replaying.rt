@@ -1,0 +1,190 @@
+//! A replay among its events.
+
+ghost use Rattle.std.specs.Prelude.{◌≡◌, ◌≤◌, ◌<◌, ◌+◌, ◌*◌, ◌^◌, length, IfOk, OnOk, ◌++◌, false, ℕ, List, Some, None, slice_get};
+ghost use Rattle.std.specs.List.{sum_by};
+ghost use Rattle.mm_base.specs.Limits.{longest_line, most_events, most_members};
+ghost use Rattle.mm_play.specs.Kept.{most_kept};
+
+use crate::put::put_reply;
+use crate::report::Report;
+use mm_base::{Bytes, Memory};
+use mm_play::{Refused, ReplyFault, Stage};
+use mm_schedule::{Event, EventText, Header, Meddles, Reply, event_in, put_end};
+use mm_world::World;
+use std::alloc::Global;
+use std::marker::Model;
+
+/// The bytes that are reserved for a reply: most have no more.
+const USUAL_REPLY: usize = 48;
+
+// The bytes of the issued snapshot with this number. None where it isn't issued.
+fn snapshot_length(world: &World, number: u32) -> u64
+    ensures some { (snapshot : List ℕ) → slice_get world.now.issued number ≡ Some snapshot
+        → result ≡ length snapshot }
+    ensures none { slice_get world.now.issued number ≡ None → result ≡ 0 }
+    ensures bound { result < 2 ^ 63 }
+{
+    match world.snapshot(number) {
+        Some(snapshot) => snapshot.len() as u64,
+        None => 0,
+    }
+}
+
+/// A replay among its events: a world, how many events it followed, and the bytes of the snapshots issued.
+#[derive(Drop)]
+pub struct Replaying {
+    world: World,
+    events: u32,
+    issued: u64,
+}
+
+impl Model for Replaying {
+    ghost use Rattle.mm_replay.specs.Replaying.{KeepsWorld, replayed_in};
+    ghost use Rattle.mm_replay.specs.Schedule.{Replayed};
+
+    ghost Value = { Replayed };
+
+    ghost view = { λ p. replayed_in p.world p.events };
+
+    ghost invariant = { λ p. KeepsWorld p.world p.events p.issued };
+}
+
+impl Replaying {
+    ghost use Rattle.mm_replay.specs.Schedule.{after, begun, outcome_of, replaying};
+    ghost use Rattle.mm_schedule.specs.Events.{event_of, meddles_of};
+    ghost use Rattle.mm_schedule.specs.Texts as texts;
+    ghost use Rattle.mm_schedule.specs.Replies.{IsPrintable, end_line};
+    ghost use Rattle.mm_play.specs.Stage.{PlaysEvent, answer_by};
+
+    /// A replay at its first event.
+    pub fn new(alloc: Global, header: &Header) -> Result<Replaying, Memory>
+        ensures { IfOk result (λ it. it ≡ begun header.now) }
+    {
+        let world = World::new(alloc, header)?;
+        let issued = match world.snapshot(0) {
+            Some(first) => first.len() as u64,
+            None => unreachable!(),
+        };
+        Ok(Replaying {
+            world,
+            events: 0,
+            issued,
+        })
+    }
+
+    /// Plays an event in the world.
+    #[inline(always)]
+    pub fn event(&mut self, event: &Event) -> Result<Reply, Memory>
+        requires few { self.old.events < most_events }
+        requires room { sum_by length self.old.issued ≤ most_kept }
+        ensures reply { IfOk result
+            (λ reply. reply ≡ (outcome_of self.old (event_of event.now)).reply) }
+        ensures printable { IfOk result IsPrintable }
+        ensures after { OnOk result (self.new ≡ after self.old (event_of event.now)) }
+    {
+        let before = self.world.issued();
+        let reply = self.world.event(event)?;
+        self.issued += snapshot_length(&self.world, before);
+        self.events += 1;
+        Ok(reply)
+    }
+
+    // Plays an event as it lies in a line, with its meddles.
+    #[inline(always)]
+    fn event_in_line(&mut self, meddles: &Meddles, text: EventText<'_>) -> Result<Reply, Memory>
+        requires few { self.old.events < most_events }
+        requires room { sum_by length self.old.issued ≤ most_kept }
+        ensures reply { IfOk result (λ reply. reply
+            ≡ (outcome_of self.old (texts.event_in (meddles_of meddles.now) text.entry)).reply) }
+        ensures printable { IfOk result IsPrintable }
+        ensures after { OnOk result
+            (self.new ≡ after self.old (texts.event_in (meddles_of meddles.now) text.entry)) }
+    {
+        let before = self.world.issued();
+        let reply = self.world.event_in_line(meddles, text)?;
+        self.issued += snapshot_length(&self.world, before);
+        self.events += 1;
+        Ok(reply)
+    }
+
+    // The reply to an event as it lies in a line, with its meddles, as text.
+    fn written_reply(
+        &mut self,
+        alloc: Global,
+        meddles: &Meddles,
+        text: EventText<'_>,
+    ) -> Result<Bytes, ReplyFault>
+        requires few { self.old.events < most_events }
+        requires room { sum_by length self.old.issued ≤ most_kept }
+        ensures { PlaysEvent (answer_by replaying self.old
+            (Some (texts.event_in (meddles_of meddles.now) text.entry))) self.old self.new result }
+    {
+        let reply = match self.event_in_line(meddles, text) {
+            Ok(reply) => reply,
+            Err(_) => return Err(ReplyFault::Memory),
+        };
+        let mut written = match Bytes::with_capacity(alloc, USUAL_REPLY) {
+            Ok(written) => written,
+            Err(_) => return Err(ReplyFault::Memory),
+        };
+        match put_reply(&reply, &mut written) {
+            Ok(()) => Ok(written),
+            Err(_) => Err(ReplyFault::Memory),
+        }
+    }
+
+    /// Puts the last line at the end.
+    pub fn put_last_line(&self, into: &mut Bytes) -> Result<(), Memory>
+        ensures { OnOk result (into.new
+            ≡ into.old ++ end_line self.now.digests.count (length self.now.issued)) }
+    {
+        put_end(self.world.committed(), self.world.issued(), into)
+    }
+
+    /// How many requests were committed and snapshots issued.
+    pub fn report(&self) -> Report
+        ensures committed { result.committed ≡ self.now.digests.count }
+        ensures issued { result.issued ≡ length self.now.issued }
+    {
+        Report {
+            committed: self.world.committed(),
+            issued: self.world.issued(),
+        }
+    }
+}
+
+impl Stage for Replaying {
+    ghost use Rattle.mm_replay.specs.Schedule.{replay_stage};
+    ghost use Rattle.mm_replay.specs.ScheduleLaws.{counts_on};
+
+    ghost plays = { replay_stage };
+
+    fn events(&self) -> u32 {
+        self.events
+    }
+
+    fn kept(&self) -> u64 {
+        self.issued
+    }
+
+    fn is_event(&self, _alloc: Global, line: &[u8]) -> Result<bool, Memory> {
+        let mut meddles = Meddles::none();
+        Ok(event_in(line, &mut meddles).is_some())
+    }
+
+    fn play(&mut self, alloc: Global, line: &[u8]) -> Result<Bytes, ReplyFault> {
+        let mut meddles = Meddles::none();
+        match event_in(line, &mut meddles) {
+            Some(text) => self.written_reply(alloc, &meddles, text),
+            None => Err(ReplyFault::Refused(Refused::Bad)),
+        }
+    }
+
+    fn last_lines(&self, alloc: Global) -> Result<Bytes, Memory> {
+        let mut last = Bytes::new(alloc);
+        self.put_last_line(&mut last)?;
+        Ok(last)
+    }
+
+    ghost counts = { counts_on };
+}

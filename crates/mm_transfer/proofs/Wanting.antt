@@ -1,0 +1,62 @@
+-- What an event leaves as it was for which memory was wanting.
+use Rattle.mm_transfer.proofs.Below.{◌≡◌, ℕ, List, [], ◌∷◌, length, Result, Ok, Err, OnErr, inl, inr, ap, Memory, Meddle, Stop, Instance}
+use Rattle.mm_transfer.proofs.Below.{Digests, Reads, Step, Event, Ask, Power, Header, Role, Live, Which, First, Second, Pair, instance_on, Side}
+use Rattle.mm_transfer.proofs.Below.{Both, BothEvent, Moves, MoveReply, pair_of}
+use Rattle.mm_sides.specs.Both.{facing}
+use Rattle.mm_sides.specs.Folds.{Act, Plain}
+use Rattle.mm_transfer.specs.Sides.{BothHeld, HeldWants}
+use Rattle.mm_transfer.specs.Wanting.{MayHaveRead, AskWants, PlainWants, ActWants, Wants}
+
+-- by what both are
+pub held_wants : (old : BothHeld) (event : BothEvent) (header : Header) (new : Both Digests ℕ) (result : Result MoveReply Memory)
+    → header ≡ old.header → OnErr result (Wants (pair_of old.header) event old.both new)
+    → OnErr result (HeldWants event old (record { header = header; both = new }))
+held_wants old event header new (Ok reply) is w = tt
+held_wants old event header new (Err memory) is w = record { header = is; both = w }
+
+-- no snapshot was issued on the side
+
+read_issues : (i : Instance) (steps : List Step) (meddles : List Meddle) (stop : Stop) (old new : Side Digests)
+    → MayHaveRead i steps meddles stop old new → new.issued ≡ old.issued
+read_issues i steps meddles stop old new w =
+    elim w [ inl e ↦ ap (λ (s : Side Digests). s.issued) e | inr e ↦ ap (λ (s : Side Digests). s.issued) e ]
+
+ask_issues : (i : Instance) (role : Role) (meddles : List Meddle) (stop : Stop) (old new : Side Digests)
+    → AskWants i role meddles stop old new → new.issued ≡ old.issued
+ask_issues i Live meddles stop old new w = read_issues i _ meddles stop old new w
+ask_issues i role meddles stop old new w = ap (λ (s : Side Digests). s.issued) w
+
+plain_issues : (i : Instance) (event : Event) (old new : Side Digests) → PlainWants i event old new → new.issued ≡ old.issued
+plain_issues i (Ask meddles stop offer b) old new w = ask_issues i old.role meddles stop old new w
+plain_issues i Power old new w = absurd w
+plain_issues i event old new w = ap (λ (s : Side Digests). s.issued) w
+
+act_issues : (i : Instance) (act : Act) (old new : Side Digests) → ActWants i act old new → new.issued ≡ old.issued
+act_issues i (Plain event) old new w = plain_issues i event old new w
+act_issues i (Moves meddles stop command) old new w = read_issues i (Reads ∷ []) meddles stop old new w
+
+-- what counts against the limits is as it was
+pub record CountsSame (old new : Both Digests ℕ) : Type 0 where
+  pub first : new.first.issued ≡ old.first.issued
+  pub second : new.second.issued ≡ old.second.issued
+  pub tickets : new.tickets ≡ old.tickets
+  pub committed : new.committed ≡ old.committed
+
+counts_by : (i : Instance) (which : Which) (act : Act) (old new : Both Digests ℕ)
+    → ActWants i act (facing which old).first (facing which new).first
+    → facing which new ≡ record (facing which old) { first = (facing which new).first } → CountsSame old new
+counts_by i First act old new w e = record {
+  first = act_issues i act old.first new.first w;
+  second = ap (λ (b : Both Digests ℕ). b.second.issued) e;
+  tickets = ap (λ (b : Both Digests ℕ). b.tickets) e;
+  committed = ap (λ (b : Both Digests ℕ). b.committed) e;
+}
+counts_by i Second act old new w e = record {
+  first = ap (λ (b : Both Digests ℕ). b.second.issued) e;
+  second = act_issues i act old.second new.second w;
+  tickets = ap (λ (b : Both Digests ℕ). b.tickets) e;
+  committed = ap (λ (b : Both Digests ℕ). b.committed) e;
+}
+
+pub counts_same : (pair : Pair) (event : BothEvent) (old new : Both Digests ℕ) → Wants pair event old new → CountsSame old new
+counts_same pair event old new w = counts_by (instance_on pair event.which) event.which event.act old new w.here w.rest
