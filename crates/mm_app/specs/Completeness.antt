@@ -143,9 +143,9 @@ CanBeAnswered Replay left =
 CanBeAnswered Check left =
     AnswersToEnd (checked.check_answer header_at) checked.check_closing checked.AtHeader left
 CanBeAnswered Slots left =
-    AnswersToEnd slotted.slots_answer slotted.slots_closing slotted.AtFirst left
+    AnswersToEnd slotted.slots_answer slotted.slots_closing slotted.at_first left
 CanBeAnswered (Receipts key) left =
     AnswersToEnd receipts_answer receipts_closing (first_checking key) left
 CanBeAnswered Transfer left =
-    AnswersToEnd moved.transfer_answer moved.transfer_closing moved.AtHeader left
+    AnswersToEnd moved.transfer_answer moved.transfer_closing moved.at_first left
 CanBeAnswered _ left = ⊥
