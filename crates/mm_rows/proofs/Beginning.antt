@@ -46,6 +46,7 @@ continues_to : (all others : List (List ℕ)) (asked : List Batch) (meaning : Me
     CanBegin all others asked (basic meaning (take 32 s.secrets)) (lines_of input) →
     ContinuesTo all others asked (basic meaning (take 32 s.secrets)) first_history (two_cells after) (kept_in_pages new)
     (told_in None it.session.goes) (IsInHand None it.session.goes) result
+unfolding may_go_on
 continues_to all others asked meaning middle after store new left left' input input' received received' result s it can =
     let i : Instance = basic meaning (take 32 s.secrets) in
     let first : IsFirstStore i first_history = s.first [] in
