@@ -68,4 +68,3 @@ few_slots line count h =
     let word = bound (after_prefix (codes "memoir slots 1 ") line) _ count h in
     let number = bound (number_at word.0) _ count word.2 in
     counted_by_test number.0 count (number.0 == 0 || nat_lt 16 number.0) refl number.2
-
