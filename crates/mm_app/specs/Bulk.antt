@@ -26,8 +26,8 @@ pub record RunsInBulk (it : Generated) (received received' : Option (List ℕ)) 
     (status : Status) : Type 0 where
   pub answer : Result Summary BulkFault
   pub sums : IfOk answer (SumsUp it.header (schedule_lines it.number it.count it.header))
-  pub limit : IsLimited (is_over (first_running it.header) (schedule_lines it.number it.count it.header))
-      answer
+  pub limit : IsLimited (is_over (first_running it.header)
+      (schedule_lines it.number it.count it.header)) answer
   pub replayed : IsReplayed (replay_of it.number it.count it.header) answer
   pub tells : Tells (bulk_told it.count answer) received received' writes writes' status
 

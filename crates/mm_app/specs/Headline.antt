@@ -1,4 +1,4 @@
--- The headlines of the commands that play events: what is out by the status, the stop line among it.
+-- The headlines of the commands that play events: what is out by the status, with the stop line.
 use Rattle.std.specs.Prelude.{◌≡◌, ℕ, List, Option, Result}
 use Rattle.mm_base.specs.declared.replay_fault.ReplayFault.{ReplayFault}
 use Rattle.mm_play.specs.Headline.{EventPlayer, TellsEvents}

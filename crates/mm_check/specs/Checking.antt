@@ -26,7 +26,8 @@ pub record Read : Type 0 where
   pub told : List (List ℕ)
 
 abbrev pub first_read : Header → Read
-first_read header = record { header = header; running = first_running header; events = []; told = [] }
+first_read header =
+    record { header = header; running = first_running header; events = []; told = [] }
 
 abbrev pub with_event : Read → List ℕ → Event → Read
 with_event r line event = record {

@@ -1,5 +1,5 @@
--- The headline of a command over events: which lines it answered, by how it ended, what is left, and
--- what went out.
+-- The headline of a command over events: which lines it answered, and by how it ended what is left
+-- and what went out.
 use Rattle.std.specs.Prelude.{◌≡◌, ◌≤◌, ◌<◌, ℕ, ◌+◌, List, [], ◌∷◌, ◌++◌, length, map, Option, None, Some, Result, Ok, Err, ◌⊎◌}
 use Rattle.std.specs.Io.KnownBytes.{Appends, Consumes, IsAtEnd}
 use Rattle.std.specs.List.{AllByRecursion, sum_by}
@@ -40,8 +40,8 @@ abbrev pub IsOver : (before : List (List ℕ)) (kept : ℕ) → List ℕ → Typ
 IsOver before kept line = (most_events ≤ length before)
     ⊎ (most_kept < sum_by length before + length line + kept)
 
--- By how it ended, what of the bytes taken is left behind so many answered lines. `IsNone` says that
--- a line is none to be answered, `IsMuch` that it is one too many.
+-- By how it ended, what of the bytes taken is left behind so many answered lines. `IsNone` says
+-- that a line is none to be answered, `IsMuch` that it is one too many.
 abbrev pub IsLeft : {T : Type 0} → (left : Option (List ℕ)) (behind : List ℕ) (answered : ℕ)
     (IsNone IsMuch : List ℕ → Type 0) → Result T ReplayFault → Type 0
 -- nothing, and the input is at its end

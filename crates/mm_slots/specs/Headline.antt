@@ -12,9 +12,9 @@ use Rattle.mm_slots.specs.Slot.{Turned, slot_instance, slot_after}
 use Rattle.mm_slots.specs.Stage.{Opening, AtFirst, slots_head}
 use Rattle.mm_slots.specs.Table.{Answer, Row, first_rows, after_events, answers, met_by, said_for}
 
--- The first line names the number of slots, a header line for each follows, and then events. What is
--- shown of these is the answers to them, and what stands in the slots behind them: the last lines
--- count the requests and the snapshots of each slot, and the snapshots are kept.
+-- The first line names the number of slots, a header line for each follows, and then events. What
+-- is shown of these is the answers to them, and what stands in the slots behind them: the last
+-- lines count the requests and the snapshots of each slot, and the snapshots are kept.
 abbrev pub slotted : EventPlayer Opening (List Header) SlotEvent (List Answer × List Row)
 slotted = record {
   start = AtFirst;

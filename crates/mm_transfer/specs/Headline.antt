@@ -44,8 +44,8 @@ pub record IsOneTransfer (header : Header) (events : List BothEvent)
 
 -- The headline. With no premise what is shown is by digests. And so it is of each first part of the
 -- events where no two different messages of it share a digest, no digest is zero, no value that
--- others extend a register by is the guard of a batch, no tag is forged, no nonce was invited twice,
--- and each right ticket that is offered is one that the module left by.
+-- others extend a register by is the guard of a batch, no tag is forged, no nonce was invited
+-- twice, and each right ticket that is offered is one that the module left by.
 abbrev pub AreOneTransfer : Header → List BothEvent → (List BothEvent → BothFollowed Digests ℕ)
     → Type 0
 AreOneTransfer header events shown = (front later : List BothEvent) → events ≡ front ++ later
