@@ -1,6 +1,6 @@
 -- Opt: what the register shows behind a part of a life, and what is asked of it.
-use Rattle.std.specs.List.{AllByRecursion, Contains}
-use Rattle.std.specs.Option.{option_map, option_map_or}
+use Rattle.std.specs.List.{Contains}
+use Rattle.std.specs.Option.{option_map}
 use Rattle.std.proofs.Common.{◌≡◌, ◌∙◌, ◌++◌, ℕ, true, false, List, [], ◌∷◌, Option, None, Some, refl, sym, ap}
 use Rattle.std.proofs.Common.{append_assoc}
 use Rattle.std.proofs.lemmas.List.{map-append, take_at}
@@ -20,10 +20,9 @@ use Rattle.mm_model.specs.Messages.{Within}
 use Rattle.mm_model.specs.Standing.{StandsFor, cell_of}
 use Rattle.mm_call.specs.Asked.{counted_part}
 use Rattle.mm_call.specs.Premises.{AreShown}
-use Rattle.mm_call.specs.Tied.{foreign_items}
 use Rattle.mm_call.proofs.Above.{counted_open, shown_back, shown_shut}
 use Rattle.mm_callers.specs.Closing.{MayClose}
-use Rattle.mm_life.specs.Premises.{closing_messages, closings, digest_in, shown_messages}
+use Rattle.mm_life.specs.Premises.{closings, digest_in}
 use Rattle.mm_life.specs.Staying.{IsSeen}
 use Rattle.mm_life.specs.Stages.{Part}
 

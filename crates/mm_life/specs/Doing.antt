@@ -1,5 +1,5 @@
 -- Which calls of a device are deeds.
-use Rattle.std.specs.Prelude.{◌≡◌, ℕ, List, [], Option, None, ◌⊎◌}
+use Rattle.std.specs.Prelude.{◌≡◌, [], Option, None, ◌⊎◌}
 use Rattle.mm_platform.specs.Steps.{Cycles, Goes, ReadCell}
 use Rattle.mm_life.specs.Below.{Variant, Standing, StepFault, Meaning}
 use Rattle.mm_life.specs.Deeds.{DeedLeads, Extends, LosesPower}

@@ -2,7 +2,7 @@
 use Rattle.std.specs.List.{Contains}
 use Rattle.std.specs.Option.{option_map}
 use Rattle.std.specs.Prelude.{Bool}
-use Rattle.std.proofs.Common.{◌≡◌, ◌≤◌, ◌∙◌, ◌++◌, ℕ, List, [], ◌∷◌, Option, None, Some, Result, arith, drop, length, refl, sym, ap, subst, take, inl, inr}
+use Rattle.std.proofs.Common.{◌≡◌, ◌≤◌, ◌∙◌, ℕ, List, [], ◌∷◌, Option, None, Some, Result, arith, drop, length, refl, sym, ap, subst, take, inl, inr}
 use Rattle.std.proofs.lemmas.List.{append-nil, take_all}
 use Rattle.mm_digest.specs.declared.variant.Variant.{Variant}
 use Rattle.mm_digest.specs.declared.variant.Variant.TheVariants.{Basic, Opt}
@@ -13,20 +13,15 @@ use Rattle.mm_module.specs.Meaning.{IsLawful, Meaning}
 use Rattle.mm_model.specs.History.{History, first_history}
 use Rattle.mm_model.specs.Instance.{Instance}
 use Rattle.mm_model.specs.InstanceWords.{basic, opt}
-use Rattle.mm_model.specs.Messages.{IsClear}
 use Rattle.mm_model.specs.FitLaws.{sealed_of-most}
-use Rattle.mm_model.specs.Standing.{IsRight, issued_bytes}
+use Rattle.mm_model.specs.Standing.{issued_bytes}
 use Rattle.mm_call.specs.OfferLaws.{basic_content, opt_content}
-use Rattle.mm_opt.specs.ChecksOn.{ChecksOn}
 use Rattle.mm_opt.specs.declared.segment.CheckpointRefusal.{CheckpointRefusal}
 use Rattle.mm_opt.specs.declared.segment.Checkpointed.{Checkpointed}
-use Rattle.mm_store.specs.Pending.{Pending}
 use Rattle.mm_store.specs.Slots.{Slots, longest_slot, slot_read}
 use Rattle.mm_store.proofs.Above.{longest_slot-is}
 use Rattle.mm_recovery.specs.Begins.{IsFirstStore, ShowsValues, first_on, first_slots}
 use Rattle.mm_recovery.specs.Fitting.{first_offer}
-use Rattle.mm_recovery.specs.Init.{instance_from}
-use Rattle.mm_recovery.specs.Waiting.{IsWaiting}
 use Rattle.mm_recovery.proofs.Above.{one_waiting}
 use Rattle.mm_host.specs.Sessions.{Sessions}
 use Rattle.mm_host.specs.declared.fault.SessionFault.{SessionFault}
@@ -35,9 +30,8 @@ use Rattle.mm_pages.specs.Sheets.{Sheets}
 use Rattle.mm_twocell.specs.Torn.{Torn}
 use Rattle.mm_twocell.specs.declared.pair.TwoCell.{TwoCell}
 use Rattle.mm_life.specs.Deeds.{Call, Checkpoints, Deed, LosesPower}
-use Rattle.mm_life.specs.Laws.{BasicLifeIsOne, OptLifeIsOne, SessionsOfferSlots, issued_over}
-use Rattle.mm_life.specs.OneList.{IsOneWhole}
-use Rattle.mm_life.specs.Premises.{AreUntagged, IsFirstUntagged, IsUntagged, life_batches, life_messages, snapshots_of}
+use Rattle.mm_life.specs.Laws.{BasicLifeIsOne, OptLifeIsOne, SessionsOfferSlots}
+use Rattle.mm_life.specs.Premises.{IsFirstUntagged, IsUntagged, snapshots_of}
 use Rattle.mm_life.specs.SessionCalls.{IsFirstOffered, session_calls}
 use Rattle.mm_life.specs.Stages.{Does, IsLife, Stage}
 use Rattle.mm_rows.specs.Devices.{kept_in_pages, two_cells}
@@ -187,8 +181,7 @@ module _ (meaning : Meaning) (lawful : IsLawful meaning) (offers : SessionsOffer
         let none : List (List ℕ) = issued_bytes O first_history ∷ [] in
         let issued : List (List ℕ) = issued_bytes O first_history ∷ snapshots_of (session_calls f.0) in
         opt_one meaning lawful (take 32 starts.secrets) (drop 32 starts.secrets) values (two_cells start)
-        (One ∷ deed_stage (Checkpoints said) closed ∷ Two ∷ []) f (starts.stands values shows) clear apart
-        (
+        (One ∷ deed_stage (Checkpoints said) closed ∷ Two ∷ []) f (starts.stands values shows) clear apart (
           start_untagged offers O none (two_cells start) (two_cells middle) pages left_pages (Some first) (Some first') (Some received)
               (Some between) one f.0 (first_slots O) starts.slots (opt_old []),
           (

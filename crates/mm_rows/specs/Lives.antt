@@ -1,13 +1,11 @@
 -- What lives over devices in memory come to: a first start, and two sessions, the second over a
 -- copy in the pages' place.
-use Rattle.std.specs.Prelude.{◌≡◌, ℕ, List, [], ◌∷◌, ◌++◌, Option, Some, Result, length, take}
-use Rattle.mm_digest.specs.declared.variant.Variant.{Variant}
+use Rattle.std.specs.Prelude.{◌≡◌, ℕ, List, [], ◌∷◌, ◌++◌, Option, Some, Result, length}
 use Rattle.mm_digest.specs.declared.variant.Variant.TheVariants.{Basic, Opt}
 use Rattle.mm_platform.specs.Standing.{Standing}
 use Rattle.mm_module.specs.Meaning.{Meaning}
 use Rattle.mm_model.specs.History.{first_history}
 use Rattle.mm_model.specs.Instance.{Instance}
-use Rattle.mm_model.specs.InstanceWords.{basic, opt}
 use Rattle.mm_model.specs.Messages.{AreNoGuards, IsClear}
 use Rattle.mm_model.specs.Standing.{issued_bytes}
 use Rattle.mm_opt.specs.declared.segment.CheckpointRefusal.{CheckpointRefusal}

@@ -63,8 +63,24 @@ pub fn live_on_copy<M: Module>(
     match start(alloc, Variant::Basic, module, platform, store, entropy) {
         Err(fault) => Err(fault),
         Ok(()) => {
-            let first = serve(alloc, Variant::Basic, module, platform, store, first_input, out);
-            let second = serve(alloc, Variant::Basic, module, platform, copy, second_input, out);
+            let first = serve(
+                alloc,
+                Variant::Basic,
+                module,
+                platform,
+                store,
+                first_input,
+                out,
+            );
+            let second = serve(
+                alloc,
+                Variant::Basic,
+                module,
+                platform,
+                copy,
+                second_input,
+                out,
+            );
             Ok(TwoSessions { first, second })
         }
     }
@@ -93,12 +109,27 @@ pub fn live_without_power<M: Module>(
     match start(alloc, Variant::Basic, module, platform, store, entropy) {
         Err(fault) => Err(Unlived::Starting(fault)),
         Ok(()) => {
-            let first = serve(alloc, Variant::Basic, module, platform, store, first_input, out);
+            let first = serve(
+                alloc,
+                Variant::Basic,
+                module,
+                platform,
+                store,
+                first_input,
+                out,
+            );
             match platform.cycle() {
                 Err(fault) => Err(Unlived::LosingPower(fault)),
                 Ok(()) => {
-                    let second =
-                        serve(alloc, Variant::Basic, module, platform, copy, second_input, out);
+                    let second = serve(
+                        alloc,
+                        Variant::Basic,
+                        module,
+                        platform,
+                        copy,
+                        second_input,
+                        out,
+                    );
                     Ok(TwoSessions { first, second })
                 }
             }
@@ -129,9 +160,25 @@ pub fn live_checkpointed<M: Module>(
     match start(alloc, Variant::Opt, module, platform, store, entropy) {
         Err(fault) => Err(fault),
         Ok(()) => {
-            let first = serve(alloc, Variant::Opt, module, platform, store, first_input, out);
+            let first = serve(
+                alloc,
+                Variant::Opt,
+                module,
+                platform,
+                store,
+                first_input,
+                out,
+            );
             let said = close_segment(platform);
-            let second = serve(alloc, Variant::Opt, module, platform, copy, second_input, out);
+            let second = serve(
+                alloc,
+                Variant::Opt,
+                module,
+                platform,
+                copy,
+                second_input,
+                out,
+            );
             let sessions = TwoSessions { first, second };
             Ok(Checkpoint { sessions, said })
         }

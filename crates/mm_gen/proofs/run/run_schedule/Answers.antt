@@ -50,7 +50,7 @@ lines-preserved c =
 pub returns-clause-sums : goal.returns-clause-sums
 returns-clause-sums c =
     ended _ _ (running c.lines.progress) _ _ _ _ _ c.digest_of.result c.lines.invariant.going (sym c.in_default.ensures)
-    c.lines.invariant.header c.report-report.ensures.0 c.report-report.ensures.1
+    c.lines.invariant.header c.report-report.ensures.committed c.report-report.ensures.issued
     (c.digest_of.ensures ∙ ap sha256 (c.as_slice-2.ensures.value ∙ c.in_ok-put_last_line.ensures))
 
 pub returns-in_err-reply-clause-limit : goal.returns-in_err-reply-clause-limit

@@ -12,6 +12,11 @@ returns-in-Ok-cycle g c =
     c.serve-first.new.input.left c.args.second_input.now.left c.serve-second.new.input.left c.args.out.now.received
     c.serve-first.new.out.received c.serve-second.new.out.received c.serve-first.result c.serve-second.result
     c.basic_life_is_one.ensures c.in-Ok.ensures.starts
-    (two_cells c.cycle.new.self)
-    (c.serve-first.ensures.sessions, (power_lost (two_cells c.serve-first.new.platform) (two_cells c.cycle.new.self)
-    (result_err c.cycle.result) (ap (λ r. result_err r) c.in-Ok-cycle.is) c.cycle.ensures, (c.serve-second.ensures.sessions, tt)))
+    (two_cells c.cycle.new.self) (
+      c.serve-first.ensures.sessions,
+      (
+        power_lost (two_cells c.serve-first.new.platform) (two_cells c.cycle.new.self)
+            (result_err c.cycle.result) (ap (λ r. result_err r) c.in-Ok-cycle.is) c.cycle.ensures,
+        (c.serve-second.ensures.sessions, tt),
+      ),
+    )
