@@ -38,7 +38,7 @@ pub use Rattle.mm_recovery.specs.Begins.{BlamesDevice, TellsUse}
 pub use Rattle.mm_recovery.specs.Init.{AfterLooking, AfterPuts, AfterTaking, Devices, devices, instance_from, SetsUp, TakesBytes, written_as}
 pub use Rattle.mm_recovery.specs.declared.init_fault.InitFault.{InitFault}
 pub use Rattle.mm_host.specs.declared.fault.SessionFault.{SessionFault}
-pub use Rattle.mm_host.proofs.Above.{runs_once_from}
+pub use Rattle.mm_host.proofs.Above.{continues_from, runs_once_from}
 pub use Rattle.mm_app.specs.Blame.{BlamesOutput, BlamesSource, source_faults, tells_platform_fault, tells_read_fault, tells_store_fault}
 pub use Rattle.mm_app.specs.Bulk.{bulk_told}
 pub use Rattle.mm_app.specs.Checkpoint.{checkpoint_told}
@@ -46,7 +46,7 @@ pub use Rattle.mm_app.specs.Commands.{Does, DoesOrLacks, ReadsInput, UsesPlatfor
 pub use Rattle.mm_app.specs.Completeness.{CanBeDone, CanClose, CanRun, IsDoneOrFailed, ShowsPower}
 pub use Rattle.mm_app.specs.Outside.{IsStill, Outside, outside}
 pub use Rattle.mm_app.specs.Power.{power_told}
-pub use Rattle.mm_app.specs.Running.{FindsInstance, header_found, instance_found, LooksAtInstance, RunsOnceIfFound, SeesInstance}
+pub use Rattle.mm_app.specs.Running.{ContinuesIfFound, FindsInstance, header_found, instance_found, LooksAtInstance, RunsOnceIfFound, SeesInstance}
 pub use Rattle.mm_app.specs.Running.{ServesAndStops, ServesIfFound, session_status}
 pub use Rattle.mm_app.specs.Starting.{init_told}
 pub use Rattle.mm_app.specs.Status.{EndsUnrefused, status_of, stop_line}

@@ -7,7 +7,7 @@ use Rattle.mm_app.proofs.Below.{ClosesSegment, EndsClosing, EndsLooking, FindsCl
 use Rattle.mm_app.proofs.Below.{closing_handed_on, segment_by, segment_in, Checkpointed, CheckpointRefusal, StepFault, Standing}
 use Rattle.mm_app.proofs.Below.{Header, StoreStanding, Command, Init, Run, Checkpoint, Power, Gen}
 use Rattle.mm_app.proofs.Below.{Help, checkpoint_told, Does, DoesOrLacks, IsDoneOrFailed}
-use Rattle.mm_app.proofs.Below.{CanClose, CanRun, CanBeDone, ShowsPower, Outside, power_told, FindsInstance}
+use Rattle.mm_app.proofs.Below.{CanClose, CanBeDone, ContinuesIfFound, Held, ShowsPower, Outside, power_told, FindsInstance}
 use Rattle.mm_app.proofs.Below.{SeesInstance, ServesAndStops, ServesIfFound, header_found, instance_found, session_status, init_told, Tells}
 use Rattle.mm_app.proofs.Below.{status_by, Status}
 use Rattle.std.specs.Str.{bytes_eq}
@@ -18,14 +18,18 @@ use Rattle.mm_digest.specs.Messages.{zero_bytes}
 use Rattle.mm_digest.specs.declared.variant.Variant.TheVariants.{Basic, Opt}
 use Rattle.mm_base.specs.declared.replay_fault.ReplayFault.TheVariants as replay
 use Rattle.mm_recovery.specs.declared.fault.HostFault.TheVariants as host
+use Rattle.std.specs.Prelude.{◌≢◌}
+use Rattle.mm_base.specs.Input.{lines_of}
+use Rattle.mm_host.proofs.Above.{among_input}
+use Rattle.mm_host.specs.AnySlots.{requests_with}
 use Rattle.mm_host.specs.Continuing.{RefusesAs}
 use Rattle.mm_recovery.specs.InitFaults.{store_failed_as}
 use Rattle.mm_host.specs.SessionLines.{IsNoLines}
 use Rattle.mm_host.specs.declared.fault.SessionFault.TheVariants as session
 use Rattle.mm_recovery.specs.declared.init_fault.InitFault.TheVariants as init
 use Rattle.mm_model.specs.History.{first_history}
-use Rattle.mm_model.specs.InstanceWords.{basic}
-use Rattle.mm_model.specs.Life.{Live}
+use Rattle.mm_model.specs.InstanceWords.{basic, opt}
+use Rattle.mm_model.specs.Life.{Life, life_of, Live, Lost as LostLife, Spoiled}
 use Rattle.mm_model.specs.Standing.{cell_of}
 use Rattle.mm_model.specs.declared.refusal.Refusal.TheVariants as refused
 use Rattle.mm_module.specs.Meaning.{Meaning}
@@ -38,7 +42,7 @@ use Rattle.mm_seal.specs.declared.cell.Cell.{Cell}
 use Rattle.mm_seal.specs.CellLaws.{reads_cell-same}
 use Rattle.mm_store.specs.declared.fault.StoreFault.{StoreFault}
 use Rattle.mm_app.proofs.Below.{Bulk, bulk_told, BulkFault, Summary}
-use Rattle.mm_app.specs.Completeness.{IsReplayable}
+use Rattle.mm_app.specs.Completeness.{CanRun, CanServe, in_basic, in_opt, IsReplayable}
 use Rattle.mm_gen.specs.Replayed.{IsReplayed, replay_of}
 use Rattle.mm_gen.specs.declared.fault.BulkFault.TheVariants as bulk
 use Rattle.mm_words.specs.declared.command.Generated.{Generated}
@@ -61,7 +65,8 @@ power_ends fault = grind arith
 
 -- `bulk`
 
-bulk_ends : (it : Generated) (answer : Result Summary BulkFault) → IsReplayable it → IsReplayed (replay_of it.number it.count it.header) answer
+bulk_ends : (it : Generated) (answer : Result Summary BulkFault) → IsReplayable it
+    → IsReplayed (replay_of it.number it.count it.header) answer
     → IsDoneOrFailed (end_of (bulk_told it.count answer))
 bulk_ends it (Err bulk.TooMuch) can r = let clash : Ok can.0 ≡ Err replay.TooMuch = sym can.1 ∙ r in absurd (cc)
 bulk_ends it _ can r = tt
@@ -193,64 +198,78 @@ closing_ends old new answer can c =
 
 -- `run`
 
-header_is : (it : AnyModule) → header_found Basic (module_with (meaning_of it).id) ≡ Ok (record { variant = Basic; «module» = it })
-header_is it = ap (header_found Basic) (any_is_found it).by_id
+header_is : (v : Variant) (it : AnyModule) → header_found v (module_with (meaning_of it).id) ≡ Ok (record { variant = v; «module» = it })
+header_is v it = ap (header_found v) (any_is_found it).by_id
 
-refused_ends : (why : Refusal) → RefusesAs {T = Unit {0}} (Err (session.Host (host.Refused why))) Live
+refused_ends : (why : Refusal) (how : Life) → how ≢ LostLife → how ≢ Spoiled
+    → RefusesAs {T = Unit {0}} (Err (session.Host (host.Refused why))) how
     → IsDoneOrFailed (session_status (Err (session.Host (host.Refused why))))
-refused_ends (refused.Device fault) r = tt
-refused_ends refused.Lost r = absurd (cc)
-refused_ends refused.Stale r = absurd (cc)
-refused_ends _ r = absurd r
+refused_ends (refused.Device fault) how powered pure r = tt
+refused_ends refused.Lost how powered pure r = absurd (powered r)
+refused_ends refused.Stale how powered pure r = absurd (pure r)
+refused_ends _ how powered pure r = absurd r
 
-session_ends : (answer : Result (Unit {0}) SessionFault) → IsNoLines answer → RefusesAs answer Live → IsDoneOrFailed (session_status answer)
-session_ends (Err (session.Host (host.Refused why))) lines r = refused_ends why r
-session_ends (Err (session.Lines (replay.LineLong line))) lines r = absurd lines
-session_ends (Err (session.Lines (replay.BadLine line))) lines r = absurd lines
-session_ends (Err (session.Lines replay.TooMuch)) lines r = absurd lines
-session_ends _ lines r = tt
+session_ends : (answer : Result (Unit {0}) SessionFault) (how : Life) → how ≢ LostLife → how ≢ Spoiled → IsNoLines answer
+    → RefusesAs answer how → IsDoneOrFailed (session_status answer)
+session_ends (Err (session.Host (host.Refused why))) how powered pure lines r = refused_ends why how powered pure r
+session_ends (Err (session.Lines (replay.LineLong line))) how powered pure lines r = absurd lines
+session_ends (Err (session.Lines (replay.BadLine line))) how powered pure lines r = absurd lines
+session_ends (Err (session.Lines replay.TooMuch)) how powered pure lines r = absurd lines
+session_ends _ how powered pure lines r = tt
 
--- what is found in the cell
-instance_is : (old : Outside) (can : CanRun old) (found : Result Header Status) (bytes : List ℕ)
-    → ((cell : List ℕ) → old.standing.cell ≡ Some cell → bytes ≡ cell)
-    → SeesInstance bytes found → found ≡ Ok (record { variant = Basic; «module» = can.it })
-instance_is old can found bytes told sees =
-    let held = cell_of (basic (meaning_of can.it) can.key) can.y in let stands = can.serves.can.stands in
-    let read : sees.read ≡ Ok held = reads_cell-same bytes sees.read (Ok held) sees.reads
-    (stands.spells, told (cell_spelling held) stands.cell) in
-    sees.found_is ∙ ap instance_found read ∙ header_is can.it
+module _ (old new : Outside) (status : Status) (middle : Standing) where
+  abbrev Serves : Result Header Status → Type 0
+  Serves found =
+      ServesIfFound found middle new.standing old.kept new.kept old.left new.left old.received new.received old.reads new.reads old.writes
+      new.writes status
+      × ContinuesIfFound found old.standing middle new.standing old.kept new.kept old.left new.left old.received
 
-module _ (old new : Outside) (status : Status) where
-  served_ends : (middle : Standing) (can : CanRun old) → middle.cell ≡ old.standing.cell
-      → ServesAndStops (record { variant = Basic; «module» = can.it }) middle new.standing old.kept new.kept old.left new.left old.received
-      new.received old.reads new.reads old.writes new.writes status → IsDoneOrFailed status
-  served_ends middle can same s =
-      let at = can.serves.can in let served = s.served in
-      let continues = served.continues served.sessions can.key can.y can.slots can.all can.others can.asked can.input can.left (record {
-        can = record {
-          honest = at.honest;
-          told = at.told;
-          stands = record { spells = at.stands.spells; cell = same ∙ at.stands.cell; register = tt };
-          fits = at.fits;
-          clear = at.clear;
-          apart = at.apart;
-          within = at.within;
-          is_asked = at.is_asked;
-        };
-        follow = can.serves.follow;
-      }) in
-      subst IsDoneOrFailed (sym served.ends) (session_ends served.answer (served.lines can.input can.left can.lines) continues.refuses)
+  -- what is found in the cell
+  found_is : (v : Variant) (it : AnyModule) (held : Held) (found : Result Header Status) (bytes : List ℕ) → held.variant ≡ v
+      → held.module ≡ (meaning_of it).id → IsCell held → old.standing.cell ≡ Some (cell_spelling held)
+      → ((cell : List ℕ) → old.standing.cell ≡ Some cell → bytes ≡ cell) → SeesInstance bytes found
+      → found ≡ Ok (record { variant = v; «module» = it })
+  found_is v it held found bytes variant id formed here told sees =
+      let read : sees.read ≡ Ok held = reads_cell-same bytes sees.read (Ok held) sees.reads (formed, told (cell_spelling held) here) in
+      sees.found_is ∙ ap instance_found read
+      ∙ (λ j. header_found (variant j) (module_with (id j))) ∙ header_is v it
 
-  found_ends : (middle : Standing) (fault : Option StepFault) (found : Result Header Status) (can : CanRun old)
-      → middle.cell ≡ old.standing.cell → FindsInstance fault old.standing found → ServesIfFound found middle new.standing old.kept new.kept
-      old.left new.left old.received new.received old.reads new.reads old.writes new.writes status → IsDoneOrFailed status
-  found_ends middle None found can same f goes =
-      served_ends middle can same (subst (λ (r : Result Header Status). ServesIfFound r middle new.standing old.kept new.kept old.left
-      new.left old.received new.received old.reads new.reads old.writes new.writes status) (instance_is old can found f.0 f.1 f.2) goes)
-  found_ends middle (Some fault) found can same f goes =
-      let none = subst (λ (r : Result Header Status). ServesIfFound r middle new.standing old.kept new.kept old.left new.left old.received
-      new.received old.reads new.reads old.writes new.writes status) f goes in
-      subst IsDoneOrFailed (sym none.stops.ends) tt
+  basic_ends : (it : AnyModule) (key : List ℕ) (can : CanServe (basic (meaning_of it) key) old new)
+      → Serves (Ok (record { variant = Basic; «module» = it })) → IsDoneOrFailed status
+  basic_ends it key can s =
+      let served = s.0.served in
+      let waiting = can.may.fits.waiting in
+      let c = s.1 s.0.between served.answer served.sessions key can.y can.slots can.all can.others can.asked
+      (requests_with waiting (lines_of can.input)) can.may can.follow can.room
+      (among_input served.sessions can.slots waiting can.may.told can.may.fits.is_waiting can.input can.left) in
+      subst IsDoneOrFailed (sym served.ends)
+      (session_ends served.answer Live (λ e. cc) (λ e. cc) (served.lines can.input can.left can.lines) c.refuses)
+
+  opt_ends : (it : AnyModule) (key barrier : List ℕ) (can : CanServe (opt (meaning_of it) key barrier) old new)
+      → Serves (Ok (record { variant = Opt; «module» = it })) → IsDoneOrFailed status
+  opt_ends it key barrier can s =
+      let served = s.0.served in
+      let waiting = can.may.fits.waiting in
+      let a = can.alone in
+      let c = s.1 s.0.between served.answer served.sessions key barrier can.y can.slots can.all can.others can.asked
+      (requests_with waiting (lines_of can.input)) a.items a.more can.may can.follow can.room
+      (among_input served.sessions can.slots waiting can.may.told can.may.fits.is_waiting can.input can.left) a.shown a.ends a.alone in
+      subst IsDoneOrFailed (sym served.ends)
+      (session_ends served.answer (life_of Opt c.runs.after) (c.runs.powered a.powered) (c.runs.unspoiled a.nobody)
+      (served.lines can.input can.left can.lines) c.refuses)
+
+  run_ends : (fault : Option StepFault) (found : Result Header Status) → CanRun old new → FindsInstance fault old.standing found
+      → Serves found → IsDoneOrFailed status
+  run_ends (Some fault) found can f s =
+      let none = subst (λ (r : Result Header Status). Serves r) f s in subst IsDoneOrFailed (sym none.0.stops.ends) tt
+  run_ends None found (in_basic it key can) f s =
+      let at = can.may.stands in
+      basic_ends it key can (subst (λ (r : Result Header Status). Serves r) (found_is Basic it (cell_of (basic (meaning_of it) key) can.y)
+      found f.0 refl refl at.spells at.cell f.1 f.2) s)
+  run_ends None found (in_opt it key barrier can) f s =
+      let at = can.may.stands in
+      opt_ends it key barrier can (subst (λ (r : Result Header Status). Serves r) (found_is Opt it
+      (cell_of (opt (meaning_of it) key barrier) can.y) found f.0 refl refl at.spells at.cell f.1 f.2) s)
 
 -- the commands
 
@@ -263,7 +282,7 @@ does_end (Init header) old new status can d =
     (start_ends d.answer (λ got s. never_short header.variant (meaning_of header.module) (record before { platform = d.steps.platform })
     after d.steps.is_blank d.answer can.secrets got can.left can.many d.steps.goes s) (unused before blank_cell d.answer d.uses can.cell
     refl))
-does_end Run old new status can d = found_ends old new status d.middle d.looks.fault d.found can d.looks.goes.cell d.looks.finds d.goes
+does_end Run old new status can d = run_ends old new status d.middle d.looks.fault d.found can d.looks.finds (d.goes, d.continues)
 does_end Checkpoint old new status can d =
     told_ends (checkpoint_told d.answer) old.received new.received old.writes new.writes status d.tells
     (closing_ends old new d.answer can d.closes)

@@ -136,7 +136,8 @@ wanting words.Usage other = absurd (other refl)
 wanting words.Memory other = tt
 
 module _ (told : List (List ℕ)) (fault : WordsFault) (status : Status)
-    (usage : (let r : Result Command WordsFault = Err fault in r ≡ Err words.Usage) → SpellNone told) (e : status ≡ words_status fault) where
+    (usage : (let r : Result Command WordsFault = Err fault in r ≡ Err words.Usage) → SpellNone told)
+    (e : status ≡ words_status fault) where
   pub unheld : (end : Status) → tells_held end ≡ true → status ≡ end → ⊥
   unheld end held is = let clash : true ≡ false = sym held ∙ ap tells_held (sym is ∙ e) ∙ words_unheld fault in absurd (cc)
 

@@ -7,6 +7,8 @@ use Rattle.mm_app.proofs.Below.{◌∙◌, sym, status_by, Memory, TooMuch}
 use Rattle.mm_app.specs.Holding.{IsExactlyWhere}
 use Rattle.mm_base.specs.declared.fault.WriteFault as write
 use Rattle.mm_base.specs.declared.replay_fault.ReplayFault.TheVariants as replay
+use Rattle.mm_play.specs.Play.{Told}
+use Rattle.mm_replay.specs.Schedule.{ReplayStage}
 use Rattle.mm_gen.specs.Replayed.{IsReplayed, replay_of}
 use Rattle.mm_gen.specs.declared.fault.BulkFault.TheVariants as bulk
 use Rattle.mm_words.specs.declared.command.Generated.{Generated}
@@ -38,7 +40,8 @@ does_hold Power old new status d =
     quiet_holding Power old new status (told_quiet (power_told d.fault) _ _ _ _ status d.tells (power_quiet d.fault)) (λ h. h) (λ h. h)
     (λ cell h. h) (λ cell h. h) (λ h. h)
 does_hold (Bulk it) old new status d =
-    quiet_holding (Bulk it) old new status (told_quiet (bulk_told it.count d.1.answer) _ _ _ _ status d.1.tells (bulk_quiet it.count d.1.answer))
+    quiet_holding (Bulk it) old new status
+    (told_quiet (bulk_told it.count d.1.answer) _ _ _ _ status d.1.tells (bulk_quiet it.count d.1.answer))
     (λ h. h) (λ h. h) (λ cell h. h) (λ cell h. h) (λ h. h)
 does_hold (Gen it) old new status d =
     quiet_holding (Gen it) old new status (text_quiet d.given.result status d.given.ends) (λ h. h) (λ h. h) (λ cell h. h) (λ cell h. h)
@@ -61,19 +64,19 @@ does_hold Transfer old new status d =
     quiet_holding Transfer old new status (played_quiet d.played.answer status d.played.ends) (λ h. h) (λ h. h) (λ cell h. h) (λ cell h. h)
     (λ h. h)
 
-pub holding : (command : Command) (old new : Outside) (status : Status) → DoesOrLacks command old new status → Holding command old new status
+pub holding : (command : Command) (old new : Outside) (status : Status) → DoesOrLacks command old new status
+    → Holding command old new status
 holding command old new status (inl d) = does_hold command old new status d
 holding command old new status (inr e) = fault_holding command old new status (subst EndsByFault (sym e.stops.ends) tt)
 
 -- a run in bulk is too much where its replay is
 
-much_where : (it : Generated) (answer : Result Summary BulkFault) (status : Status)
-    → IsReplayed (replay_of it.number it.count it.header) answer → ((end : Status) → bulk_told it.count answer ≡ Err end → status ≡ end)
-    → (status ≡ TooMuch → bulk_told it.count answer ≡ Err TooMuch)
-    → IsExactlyWhere ((replay_of it.number it.count it.header).outcome ≡ Err replay.TooMuch) TooMuch status
-much_where it (Err bulk.Memory) status r so only = by_fault_where (subst EndsByFault (sym (so Memory refl)) tt) (λ h. h)
-much_where it (Err bulk.TooMuch) status r so only = exactly_here (so TooMuch refl) r
-much_where it (Ok summary) status r so only = nowhere (λ is. let e = only is in absurd (cc)) (λ h.
+much_where : (replayed : Told ReplayStage) (count : ℕ) (answer : Result Summary BulkFault) (status : Status) → IsReplayed replayed answer
+    → ((end : Status) → bulk_told count answer ≡ Err end → status ≡ end) → (status ≡ TooMuch → bulk_told count answer ≡ Err TooMuch)
+    → IsExactlyWhere (replayed.outcome ≡ Err replay.TooMuch) TooMuch status
+much_where replayed count (Err bulk.Memory) status r so only = by_fault_where (subst EndsByFault (sym (so Memory refl)) tt) (λ h. h)
+much_where replayed count (Err bulk.TooMuch) status r so only = exactly_here (so TooMuch refl) r
+much_where replayed count (Ok summary) status r so only = nowhere (λ is. let e = only is in absurd (cc)) (λ h.
     let clash : Ok r.1 ≡ Err replay.TooMuch = sym r.2 ∙ h in absurd (cc))
 
 text_unmuch : (r : Result (Unit {0}) write.WriteFault) → status_by r ≡ TooMuch → ⊥
@@ -87,7 +90,7 @@ much_only (Err end) received received' writes writes' status t is = ap (λ (s : 
 pub much : (it : Generated) (old new : Outside) (status : Status) → DoesOrLacks (Bulk it) old new status
     → IsExactlyWhere ((replay_of it.number it.count it.header).outcome ≡ Err replay.TooMuch) TooMuch status
 much it old new status (inl d) =
-    much_where it d.1.answer status d.1.replayed
+    much_where (replay_of it.number it.count it.header) it.count d.1.answer status d.1.replayed
     (λ end e. (subst (λ (r : Result (List ℕ) Status). Tells r old.received new.received old.writes new.writes status) e d.1.tells).ends)
     (much_only (bulk_told it.count d.1.answer) old.received new.received old.writes new.writes status d.1.tells)
 much it old new status (inr e) = by_fault_where (subst EndsByFault (sym e.stops.ends) tt) (λ h. h)

@@ -100,18 +100,22 @@ looked_read : (cell : List ℕ) (old middle : Standing) (found : Result Segment 
 looked_read cell old middle (Err (refusal.Device fault)) same l not = absurd (not fault refl)
 looked_read cell old middle _ same l not =
     let f = l.finds refl in
-    record { read = f.sees.read; reads = subst (λ (b : List ℕ). ReadsCell b f.sees.read) (f.told cell same) f.sees.reads; found_is = f.sees.found_is }
+    record {
+      read = f.sees.read;
+      reads = subst (λ (b : List ℕ). ReadsCell b f.sees.read) (f.told cell same) f.sees.reads;
+      found_is = f.sees.found_is;
+    }
 
 -- whether a segment is open, and of what
 by_segment : (variant : Variant) (flag : Bool) (held : Held) (found : Result Segment CheckpointRefusal)
     → found ≡ segment_by variant flag held → ((variant ≡ Basic) × (found ≡ Err refusal.Kind))
     ⊎ ((variant ≡ Opt) × (flag ≡ false) × (found ≡ Ok Shut)) ⊎ ((variant ≡ Opt) × (flag ≡ true) × (found ≡ Ok (Open held)))
 by_segment Basic flag held found e = inl (refl, e)
-by_segment Opt false held found e = inr (inl (refl, (refl, e)))
-by_segment Opt true held found e = inr (inr (refl, (refl, e)))
+by_segment Opt false held found e = inr (inl (refl, refl, e))
+by_segment Opt true held found e = inr (inr (refl, refl, e))
 
 -- the statuses that a checkpoint is told by, but for Done
-is_closing : Status → Bool
+abbrev is_closing : Status → Bool
 is_closing PlatformFault = true
 is_closing Blank = true
 is_closing Cell = true
@@ -138,13 +142,13 @@ module _ (old new : Outside) (status : Status) (answer : Result Checkpointed Che
       → (other ≡ end → ⊥) → (Holds → ⊥) → IsExactlyWhere Holds end status
   apart end other held e not none = nowhere (λ is. not (sym (so other e) ∙ is)) none
 
-  apart_ok : {Holds : Type 0} (end : Status) → tells_held end ≡ true → (said : Checkpointed) → answer ≡ Ok said
+  apart_ok : {Holds : Type 0} (end : Status) → tells_held end ≡ true → (it : Checkpointed) → answer ≡ Ok it
       → (Holds → ⊥) → IsExactlyWhere Holds end status
-  apart_ok end held done e none = nowhere (λ is. told_ok done answer end e (only end is held)) none
+  apart_ok end held it e none = nowhere (λ is. told_ok it answer end e (only end is held)) none
     where
-      told_ok : (done : Checkpointed) (answer : Result Checkpointed CheckpointRefusal) (end : Status) → answer ≡ Ok done
+      told_ok : (it : Checkpointed) (answer : Result Checkpointed CheckpointRefusal) (end : Status) → answer ≡ Ok it
           → checkpoint_told answer ≡ Err end → ⊥
-      told_ok done answer end e told = grind (arith, e, told)
+      told_ok it answer end e told = grind (arith, e, told)
 
   module _ (cell : List ℕ) (same : old.standing.cell ≡ Some cell) where
     -- the register's items are told, where power was lost
@@ -198,7 +202,8 @@ module _ (old new : Outside) (status : Status) (answer : Result Checkpointed Che
         → (answer ≡ Err why → new.standing.cell ≡ Some cell → Ended read) → Closed cell new.standing answer found → Ended read
     refused_ended read why found is leads (failed fault e) = at_fault fault e
     refused_ended read why found is leads (refused_as other k e here) =
-        let same : Err other ≡ Err why = sym k ∙ is in leads (e ∙ same) here
+        let both : (let r : Result Segment CheckpointRefusal = Err other in r ≡ Err why) = sym k ∙ is in
+        let same : other ≡ why = cc in leads (e ∙ ap (λ (x : CheckpointRefusal). Err x) same) here
     refused_ended read why found is leads (shut k e here) = absurd (cc)
     refused_ended read why found is leads (lost held k e here zero) = absurd (cc)
     refused_ended read why found is leads (done held register k e there) = absurd (cc)
@@ -248,18 +253,20 @@ module _ (old new : Outside) (status : Status) (answer : Result Checkpointed Che
       blank = exactly_here (so Blank told) (tt, subst (ReadsCell cell) is r);
       unread = apart Cell Blank refl told (λ k. absurd (cc)) (λ h. h.0 (subst (ReadsCell cell) is r));
       kind = apart Kind Blank refl told (λ k. absurd (cc)) (λ h. reads_apart read (Ok h.0) r (λ k. absurd (cc)) h.1);
-      lost = λ shown. apart Lost Blank refl told (λ k. absurd (cc)) (λ h. reads_apart read (Ok h.1.held) r (λ k. absurd (cc)) (lost_held h.1 here));
+      lost = λ shown. apart Lost Blank refl told (λ k. absurd (cc))
+          (λ h. reads_apart read (Ok h.1.held) r (λ k. absurd (cc)) (lost_held h.1 here));
     }
     at_end read r (at_none is told here) = record {
       blank = apart Blank Cell refl told (λ k. absurd (cc)) (λ h. (subst (ReadsCell cell) is r).0 h.1);
       unread = exactly_here (so Cell told) (subst (ReadsCell cell) is r);
       kind = apart Kind Cell refl told (λ k. absurd (cc)) (λ h. reads_apart read (Ok h.0) r (λ k. absurd (cc)) h.1);
-      lost = λ shown. apart Lost Cell refl told (λ k. absurd (cc)) (λ h. reads_apart read (Ok h.1.held) r (λ k. absurd (cc)) (lost_held h.1 here));
+      lost = λ shown. apart Lost Cell refl told (λ k. absurd (cc))
+          (λ h. reads_apart read (Ok h.1.held) r (λ k. absurd (cc)) (lost_held h.1 here));
     }
     at_end read r (at_basic held is v told here) = record {
       blank = apart Blank Kind refl told (λ k. absurd (cc)) (λ h. reads_apart read (Err unheld.Blank) r (λ k. absurd (cc)) h.1);
       unread = apart Cell Kind refl told (λ k. absurd (cc)) (λ h. reads_apart read (Err unheld.Cell) r (λ k. absurd (cc)) h);
-      kind = exactly_here (so Kind told) (held, (subst (ReadsCell cell) is r, v));
+      kind = exactly_here (so Kind told) (held, subst (ReadsCell cell) is r, v);
       lost = λ shown. apart Lost Kind refl told (λ k. absurd (cc)) (λ h.
           let both : Ok h.1.held ≡ Ok held = sym (reads_cell-same cell read (Ok h.1.held) r (lost_held h.1 here)) ∙ is in
           let same : h.1.held ≡ held = cc in
@@ -281,17 +288,20 @@ module _ (old new : Outside) (status : Status) (answer : Result Checkpointed Che
           unread = apart Cell Lost refl told (λ k. absurd (cc)) (λ h. reads_apart read (Err unheld.Cell) r (λ k. absurd (cc)) h);
           kind = apart Kind Lost refl told (λ k. absurd (cc)) (not_basic read r held is v);
           lost = λ shown.
-              let it = shown e in exactly_here (so Lost told) (tt, record {
-                held = held;
-                cell = cell;
-                told = here;
-                spells = subst (ReadsCell cell) is r;
-                variant = v;
-                is_open = flag;
-                items = it.0;
-                shown = it.1;
-                zero = zero it.0 it.1;
-              });
+              let it = shown e in exactly_here (so Lost told) (
+                tt,
+                record {
+                  held = held;
+                  cell = cell;
+                  told = here;
+                  spells = subst (ReadsCell cell) is r;
+                  variant = v;
+                  is_open = flag;
+                  items = it.0;
+                  shown = it.1;
+                  zero = zero it.0 it.1;
+                },
+              );
         }
     at_end read r (at_done held register is v e there) = record {
       blank = apart_ok Blank refl said.Done e (λ h. reads_apart read (Err unheld.Blank) r (λ k. absurd (cc)) h.1);
@@ -311,14 +321,16 @@ read_of : (old : Outside) (new : Outside) (status : Status) (answer : Result Che
 read_of old new status answer t cell same middle (Err (refusal.Device fault)) l (failed broken e) =
     failed_at old new status answer t cell same broken e
 read_of old new status answer t cell same middle (Err (refusal.Device fault)) l (refused_as why is e here) =
-    failed_at old new status answer t cell same fault (e ∙ sym is)
+    let whys : why ≡ refusal.Device fault = cc in
+    failed_at old new status answer t cell same fault (e ∙ ap (λ (x : CheckpointRefusal). Err x) whys)
 read_of old new status answer t cell same middle (Err (refusal.Device fault)) l (shut is e here) = absurd (cc)
 read_of old new status answer t cell same middle (Err (refusal.Device fault)) l (lost held is e here zero) = absurd (cc)
 read_of old new status answer t cell same middle (Err (refusal.Device fault)) l (done held register is e there) = absurd (cc)
 read_of old new status answer t cell same middle found l c =
     let r = looked_read cell old.standing middle found same l (λ fault is. let it = l.finds in absurd (cc)) in
     at_end old new status answer t cell same r.read r.reads
-    (ended old new status answer t cell same r.read (subst (λ (f : Result Segment CheckpointRefusal). Closed cell new.standing answer f) r.found_is c))
+    (ended old new status answer t cell same r.read
+    (subst (λ (f : Result Segment CheckpointRefusal). Closed cell new.standing answer f) r.found_is c))
 
 pub checkpoint_holding : (old new : Outside) (status : Status) → Does Checkpoint old new status → Holding Checkpoint old new status
 checkpoint_holding old new status d =

@@ -82,7 +82,7 @@ reads_items : (items : Option (List Item)) (register : List ℕ)
     → option_map (λ xs. register_after (item_values xs)) items ≡ Some register
     → (xs : List Item) × (items ≡ Some xs) × (register_after (item_values xs) ≡ register)
 reads_items None register e = absurd (cc)
-reads_items (Some xs) register e = (xs, (refl, cc))
+reads_items (Some xs) register e = (xs, refl, cc)
 
 -- What a session's status tells.
 
@@ -94,17 +94,17 @@ held_refusal : (answer : Result (Unit {0}) SessionFault) (end : Status) → sess
 held_refusal (Ok done) end e held = let clash : true ≡ false = sym held ∙ ap tells_held (sym e) in absurd (cc)
 held_refusal (Err (session.Host host.Memory)) end e held = let clash : true ≡ false = sym held ∙ ap tells_held (sym e) in absurd (cc)
 held_refusal (Err (session.Host host.Store)) end e held = let clash : true ≡ false = sym held ∙ ap tells_held (sym e) in absurd (cc)
-held_refusal (Err (session.Host (host.Refused why))) end e held = (why, (refl, e))
+held_refusal (Err (session.Host (host.Refused why))) end e held = (why, refl, e)
 held_refusal (Err (session.Lines fault)) end e held =
     let clash : true ≡ false = sym held ∙ ap tells_held (sym e) ∙ lines_unheld fault in absurd (cc)
 
 by_offer : {A : Type 0} (why : Refusal) → tells_held (refused_at why) ≡ true → IsSome (fault_of why) ⊎ A → A
 by_offer why held (inr a) = a
 by_offer (refusal.Device fault) held (inl some) = absurd (cc)
-by_offer _ held (inl some) = absurd some
+by_offer _ held (inl some) = absurd (cc)
 
 -- the statuses of a refused offer
-is_offer : Status → Bool
+abbrev is_offer : Status → Bool
 is_offer Lost = true
 is_offer (Refused why) = true
 is_offer _ = false
@@ -124,7 +124,7 @@ may_lose (Refused why) m = inr (why, refl)
 may_lose _ m = absurd m
 
 -- the statuses of `run`
-is_run : Status → Bool
+abbrev is_run : Status → Bool
 is_run Already = false
 is_run Kind = false
 is_run (Short got) = false
@@ -251,11 +251,18 @@ module _ (old new : Outside) (status : Status) (middle : Standing) (cell : List 
       let register : register_after (item_values h.items) ≡ r.digests.register = cc in
       let zero : bytes_eq r.digests.register zero_bytes ≡ true =
       (bytes_eq-Decides r.digests.register zero_bytes).1 (sym register ∙ h.zero) in
-      let found_lost = shown_lost i r.digests (One r.request) (offered_after (some_chain ran).offer (told_in (some_chain ran).waiting ran.goes))
+      let found_lost = shown_lost i r.digests (One r.request)
+      (offered_after (some_chain ran).offer (told_in (some_chain ran).waiting ran.goes))
       (ap (λ (f : Bool). f && bytes_eq r.digests.register zero_bytes) flag ∙ zero) in
       let errors : Err r.why ≡ Err refusal.Lost = sym r.judged ∙ found_lost in
       let why_is : r.why ≡ refusal.Lost = cc in
       let clash : Lost ≡ Refused why = ap refused_at (sym why_is) ∙ r.told_as in absurd (cc)
+
+  -- it is of an offer
+  offered : (why : Refusal) → status ≡ Refused why → IsOfOffer why
+  offered why is =
+      let r = somehow (Refused why) is refl in
+      subst IsOfOffer (refused_why r.why why r.told_as) (refused_as_offer i r.digests (One r.request) _ r.why r.judged)
 
   -- what was refused
   refused_run : (why : Refusal) → status ≡ Refused why → IsRefusedRun old new cell why
@@ -330,7 +337,10 @@ module _ (old new : Outside) (status : Status) (middle : Standing) (cell : List 
           blank = nowhere (never_told Blank refl refl) (λ h. held_unlike held spells h.1);
           unread = nowhere (never_told Cell refl refl) (λ h. let none = h.1 held spells in absurd (cc));
           lost = record {
-            only = λ is. (subst (MayBeLost Run) (sym is) tt, lost_at old new status middle cell held it spells e goes told items shown s is);
+            only = λ is. (
+              subst (MayBeLost Run) (sym is) tt,
+              lost_at old new status middle cell held it spells e goes told items shown s is,
+            );
             always = λ h. elim (may_lose status h.0) [
               | inl is ↦ inl is
               | inr r ↦ absurd (lost_alone old new status middle cell held it spells e goes told items shown s r.0 r.1 h.1)
@@ -338,9 +348,8 @@ module _ (old new : Outside) (status : Status) (middle : Standing) (cell : List 
           };
           refused = λ why is. (
             refl,
-            (let r = somehow old new status middle cell held it spells e goes told items shown s (Refused why) is refl in
-                subst IsOfOffer (refused_why r.why why r.told_as) (refused_as_offer (instance_of held it) r.digests (One r.request) _ r.why r.judged),
-            refused_run old new status middle cell held it spells e goes told items shown s why is),
+            offered old new status middle cell held it spells e goes told items shown s why is,
+            refused_run old new status middle cell held it spells e goes told items shown s why is,
           );
         }
 
@@ -375,10 +384,10 @@ module _ (old new : Outside) (status : Status) (middle : Standing) where
       let sees = f.2 in
       let unlike = unlike_run (ends_run sees.read found sees.found_is g) in
       let at : (cell : List ℕ) (items : List Item) → old.standing.cell ≡ Some cell → old.standing.items ≡ Some items
-          → AtRun old new status cell = λ (cell : List ℕ) (items : List Item) told shown.
-          read_run old new status middle cell goes told items shown sees.read
-          (subst (λ (b : List ℕ). ReadsCell b sees.read) (f.1 cell told) sees.reads)
-          (subst (λ (r : Result Header Status). Goes_on old new status middle cell r) sees.found_is g) in
+      → AtRun old new status cell = λ (cell : List ℕ) (items : List Item) told shown.
+      read_run old new status middle cell goes told items shown sees.read
+      (subst (λ (b : List ℕ). ReadsCell b sees.read) (f.1 cell told) sees.reads)
+      (subst (λ (r : Result Header Status). Goes_on old new status middle cell r) sees.found_is g) in
       record {
         blank = λ cell items told shown. (at cell items told shown).blank;
         already = λ cell told. nowhere (unlike Already refl) (λ h. h.0);

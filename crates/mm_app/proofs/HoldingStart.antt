@@ -15,7 +15,7 @@ use Rattle.mm_app.proofs.Completing.{Shorts, set_whole}
 use Rattle.mm_app.proofs.Holding.{by_fault_where, exactly_here, held_told, Holding, nowhere, tells_held}
 
 -- the statuses that a first start is told by, but for Done
-is_start : Status → Bool
+abbrev is_start : Status → Bool
 is_start Memory = true
 is_start PlatformFault = true
 is_start Already = true
@@ -78,7 +78,7 @@ module _ (cell : List ℕ) (status : Status) where
               only = λ is.
                   let same : Short (length bytes) ≡ Short got = sym ends ∙ is in
                   let counted : length bytes ≡ got = cc in
-                  ((tt, (blank, omega (arith, all, few.0))), sym (all ∙ counted));
+                  ((tt, blank, omega (arith, all, few.0)), sym (all ∙ counted));
               always = λ h. inl (ends ∙ ap (λ (n : ℕ). Short n) (sym all ∙ sym h.1));
             }
         | inr many ↦

@@ -2,10 +2,7 @@ mod Below
 mod Blame
 mod OutputBlame
 mod Completing
-mod Ended
 mod Ending
-mod Fronts
-mod Played
 mod Headlines
 mod Sending
 mod Stopping

@@ -1,13 +1,12 @@
 -- The theorems of the commands `replay`, `slots` and `transfer`, by what the command did.
-use Rattle.mm_app.proofs.Below.{refl, inl, inr, Replay, Slots, Transfer, DoesOrLacks, Outside, Status}
-use Rattle.mm_slots.specs.Headline as slots
-use Rattle.mm_transfer.specs.Headline as transfer
+use Rattle.mm_app.proofs.Below.{inl, inr, Replay, Slots, Transfer, DoesOrLacks, Outside, Status}
+use Rattle.mm_replay.specs.Headline.{AreOneRun, IsByDigests, replayed}
+use Rattle.mm_slots.specs.Headline.{AreSlotRuns, slotted}
+use Rattle.mm_transfer.specs.Headline.{AreOneTransfer, moved}
 use Rattle.mm_app.specs.Headline.{ReplaysOneRun}
 use Rattle.mm_app.specs.Slots.{InterleavesRuns}
 use Rattle.mm_app.specs.Transfer.{MovesOneRun}
-use Rattle.mm_replay.specs.Headline.{AreOneRun, IsByDigests, replayed}
 use Rattle.mm_app.proofs.Headlines.{lacked_by, told_by}
-use Rattle.mm_app.proofs.Played.{answers_input, ended_input}
 
 pub headline_of : (old new : Outside) (status : Status) → DoesOrLacks Replay old new status
     → ReplaysOneRun old.left new.left old.received new.received status
@@ -19,15 +18,11 @@ headline_of old new status (inr lacks) =
 pub interleaved_by : (old new : Outside) (status : Status) → DoesOrLacks Slots old new status
     → InterleavesRuns old.left new.left old.received new.received status
 interleaved_by old new status (inl does) =
-    answers_input slots.AnswersLines slots.AnswersAll slots.IsTooMuch (λ lines written told. (told.first, _, told.split)) does.played.plays
-    does.played.ends does.stops.sends
-interleaved_by old new status (inr lacks) =
-    ended_input slots.AnswersLines slots.AnswersAll slots.IsTooMuch (inl (inl refl, refl)) old new status lacks
+    told_by slotted AreSlotRuns AreSlotRuns (λ headers events shown it. it) does.played.plays.tells does.played.ends does.stops.sends
+interleaved_by old new status (inr lacks) = lacked_by slotted AreSlotRuns AreSlotRuns (λ headers events shown it. it) old new status lacks
 
 pub moved_by : (old new : Outside) (status : Status) → DoesOrLacks Transfer old new status
     → MovesOneRun old.left new.left old.received new.received status
 moved_by old new status (inl does) =
-    answers_input transfer.AnswersLines transfer.AnswersAll transfer.IsTooMuch (λ lines written told. (told.first, told.others, told.split))
-    does.played.plays does.played.ends does.stops.sends
-moved_by old new status (inr lacks) =
-    ended_input transfer.AnswersLines transfer.AnswersAll transfer.IsTooMuch (inl (refl, refl)) old new status lacks
+    told_by moved AreOneTransfer AreOneTransfer (λ header events shown it. it) does.played.plays.tells does.played.ends does.stops.sends
+moved_by old new status (inr lacks) = lacked_by moved AreOneTransfer AreOneTransfer (λ header events shown it. it) old new status lacks

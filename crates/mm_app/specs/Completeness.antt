@@ -1,20 +1,27 @@
 -- When a command isn't refused, by what the objects that it is handed tell.
-use Rattle.std.specs.Prelude.{◌≡◌, ◌≢◌, ◌≤◌, ℕ, true, List, length, Option, Some, Result, Ok}
+use Rattle.std.specs.Prelude.{◌≡◌, ◌≢◌, ◌≤◌, ◌++◌, ℕ, true, List, [], length, Option, Some, Result, Ok}
 use Rattle.mm_base.specs.Input.{lines_of}
 use Rattle.mm_check.specs.Checking as checked
 use Rattle.mm_digest.specs.Messages.{zero_bytes}
-use Rattle.mm_digest.specs.declared.variant.Variant.TheVariants.{Opt}
+use Rattle.mm_call.specs.Premises.{AreShown}
+use Rattle.mm_call.specs.Tied.{standing_items}
+use Rattle.mm_digest.specs.declared.variant.Variant.{Variant}
+use Rattle.mm_digest.specs.declared.variant.Variant.TheVariants.{Basic, Opt}
+use Rattle.mm_host.specs.AnySlots.{AreAskedInTurn, AsksNothingNew, requests_with}
+use Rattle.mm_host.specs.Honest.{HasRoom, MayGoOn}
 use Rattle.mm_gen.specs.Replayed.{replay_of}
-use Rattle.mm_host.specs.Continuing.{CanServe}
 use Rattle.mm_host.specs.SessionLines.{AreWithin}
 use Rattle.mm_module.specs.Batch.{Batch}
 use Rattle.mm_model.specs.History.{History}
-use Rattle.mm_model.specs.InstanceWords.{basic}
+use Rattle.mm_model.specs.Instance.{Instance}
+use Rattle.mm_model.specs.InstanceWords.{basic, opt}
+use Rattle.mm_model.specs.Life.{Lost as LostLife, life_of}
 use Rattle.mm_modules.specs.Modules.{meaning_of}
 use Rattle.mm_modules.specs.declared.any.AnyModule.{AnyModule}
 use Rattle.mm_platform.specs.Standing.{Item, Standing, item_values, register_after}
 use Rattle.mm_play.specs.Play.{run_of}
 use Rattle.mm_play.specs.declared.player.Refused.{Refused}
+use Rattle.mm_recovery.specs.Fitting.{first_offer}
 use Rattle.mm_receipt.specs.Checking.{first_checking, receipts_answer, receipts_closing}
 use Rattle.mm_replay.specs.Schedule as replayed
 use Rattle.mm_schedule.specs.Headers.{header_at}
@@ -62,11 +69,28 @@ pub record CanClose (old new : Outside) : Type 0 where
   pub variant : held.variant ≡ Opt
   pub powered : held.flag ≡ true → ShowsPower new.standing
 
--- For a session of Basic: the platform stands for a history of a module, the slots fit it, and the
--- lines of the input may follow it and are within their limits.
-pub record CanRun (old : Outside) : Type 0 where
-  pub it : AnyModule
-  pub key : List ℕ
+-- Nobody else extends the register of an open segment, by what it shows at the end behind the items
+-- that counted; and power isn't lost inside one. Of Basic nothing is asked.
+pub record ExtendsAlone (all others : List (List ℕ)) (i : Instance) (y : History) (offer : List ℕ)
+    (requests : List (List ℕ)) (before after : Standing) : Type 0 where
+  pub nobody : others ≡ []
+  pub powered : life_of Opt y ≢ LostLife
+  pub items : List Item
+  pub shown : before.items ≡ Some items
+  pub more : List Item
+  pub ends : after.items ≡ Some (standing_items y.is_open items ++ more)
+  pub alone : (AsksNothingNew i y offer requests → ⊥) → AreShown all others i y more
+
+abbrev pub IsAlone : Variant → List (List ℕ) → List (List ℕ) → Instance → History → List ℕ
+    → List (List ℕ)
+    → (before after : Standing) → Type 0
+IsAlone Basic all others i y offer requests before after = Unit {0}
+IsAlone Opt all others i y offer requests before after =
+    ExtendsAlone all others i y offer requests before after
+
+-- For a session: the platform stands for a history of the instance, the slots fit it, and what
+-- waits and the lines of the input may follow it, have positions, and are within their limits.
+pub record CanServe (i : Instance) (old new : Outside) : Type 0 where
   pub y : History
   pub slots : kept.Slots
   pub all : List (List ℕ)
@@ -75,8 +99,20 @@ pub record CanRun (old : Outside) : Type 0 where
   pub input : List ℕ
   pub left : old.left ≡ Some input
   pub lines : AreWithin input
-  pub serves : CanServe all others asked (basic (meaning_of it) key) y slots old.standing old.kept
-      (lines_of input)
+  pub may : MayGoOn all others asked i y slots old.standing old.kept
+  pub follow : AreAskedInTurn all asked i y (first_offer slots may.fits.waiting)
+      (requests_with may.fits.waiting (lines_of input))
+  pub room : HasRoom y (requests_with may.fits.waiting (lines_of input))
+  pub alone : IsAlone i.variant all others i y (first_offer slots may.fits.waiting)
+      (requests_with may.fits.waiting (lines_of input))
+      old.standing new.standing
+
+-- It is an instance of a module, of Basic or of Opt.
+pub data CanRun (old new : Outside) : Type 0 where
+  in_basic : (it : AnyModule) (key : List ℕ) → CanServe (basic (meaning_of it) key) old new
+      → CanRun old new
+  in_opt : (it : AnyModule) (key barrier : List ℕ)
+      → CanServe (opt (meaning_of it) key barrier) old new → CanRun old new
 
 -- For a run in bulk: the replay of the text that its number makes comes to its end.
 abbrev pub IsReplayable : Generated → Type 0
@@ -86,7 +122,7 @@ IsReplayable it =
 -- What is asked, by the command. Of those that play lines see below.
 abbrev pub CanBeDone : Command → (old new : Outside) → Type 0
 CanBeDone (Init header) old new = CanStart old
-CanBeDone Run old new = CanRun old
+CanBeDone Run old new = CanRun old new
 CanBeDone Checkpoint old new = CanClose old new
 CanBeDone Power old new = Unit {0}
 CanBeDone (Gen it) old new = Unit {0}
@@ -107,9 +143,9 @@ CanBeAnswered Replay left =
 CanBeAnswered Check left =
     AnswersToEnd (checked.check_answer header_at) checked.check_closing checked.AtHeader left
 CanBeAnswered Slots left =
-    AnswersToEnd slotted.slots_answer slotted.slots_closing slotted.AtFirst left
+    AnswersToEnd slotted.slots_answer slotted.slots_closing slotted.at_first left
 CanBeAnswered (Receipts key) left =
     AnswersToEnd receipts_answer receipts_closing (first_checking key) left
 CanBeAnswered Transfer left =
-    AnswersToEnd moved.transfer_answer moved.transfer_closing moved.AtHeader left
+    AnswersToEnd moved.transfer_answer moved.transfer_closing moved.at_first left
 CanBeAnswered _ left = ⊥

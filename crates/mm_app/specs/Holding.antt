@@ -159,7 +159,8 @@ TellsShort words before left status =
 abbrev pub TellsLost : List (List ℕ) → Standing → Standing → Status → Type 0
 TellsLost words before after status =
     (cell : List ℕ) (items : List Item) → before.cell ≡ Some cell → before.items ≡ Some items →
-    IsExactlyWhere (SpellSome (λ command. MayBeLost command status) words × HasLostPower after) Lost status
+    IsExactlyWhere (SpellSome (λ command. MayBeLost command status) words × HasLostPower after) Lost
+    status
 
 -- What the host offered was refused: for one of the causes of an offer, and not by a device. Over a
 -- store that tells its slots these are what is offered first; and the request is what waits in

@@ -7,7 +7,6 @@ pub mod Completeness
 pub mod Headline
 pub mod Holding
 pub mod Outside
-pub mod Played
 pub mod Power
 pub mod Running
 pub mod Slots

@@ -3,7 +3,7 @@ use Rattle.std.specs.Prelude.{◌≡◌, ℕ, List, Option, None, Some, Result, 
 use Rattle.mm_digest.specs.declared.variant.Variant.{Variant}
 use Rattle.mm_recovery.specs.declared.fault.HostFault.TheVariants as host
 use Rattle.mm_host.specs.AnySlots.{RunsOnceFrom}
-use Rattle.mm_host.specs.Continuing.{SessionContinues}
+use Rattle.mm_host.specs.Honest.{ContinuesFrom, SessionContinues}
 use Rattle.mm_host.specs.SessionWrites.{SessionWrites}
 use Rattle.mm_host.specs.SessionBlame.{IsRefusalNamed, is_platform_fault, is_read_fault, is_store_fault, is_write_fault}
 use Rattle.mm_host.specs.SessionLines.{SparesLines}
@@ -147,6 +147,17 @@ RunsOnceIfFound (Ok header) entry before after old new left left' received =
     RunsOnceFrom header.variant (meaning_of header.module) entry before after old new left left'
     received between answer
 
+-- Over an honest store whose slots fit the history that the platform stood for before the cell was
+-- read, it goes on, and may be gone on with.
+abbrev pub ContinuesIfFound : Result Header Status → (entry before after : Standing)
+    (old new : StoreStanding)
+    (left left' received : Option (List ℕ)) → Type 0
+ContinuesIfFound (Err end) entry before after old new left left' received = Unit {0}
+ContinuesIfFound (Ok header) entry before after old new left left' received =
+    (between : Option (List ℕ)) (answer : Result (Unit {0}) SessionFault) →
+    ContinuesFrom header.variant (meaning_of header.module) entry before after old new left left'
+    received between answer
+
 -- The platform's cell was read, and a session served over the instance that it holds.
 pub record RunsInstance (before after : Standing) (old new : StoreStanding)
     (left left' received received' : Option (List ℕ))
@@ -157,3 +168,4 @@ pub record RunsInstance (before after : Standing) (old new : StoreStanding)
   pub goes : ServesIfFound found middle after old new left left' received received' reads reads'
       writes writes' status
   pub once : RunsOnceIfFound found before middle after old new left left' received
+  pub continues : ContinuesIfFound found before middle after old new left left' received

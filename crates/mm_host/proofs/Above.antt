@@ -2,6 +2,7 @@
 pub use Rattle.mm_host.specs.Refusing.{CallsInTurn}
 pub use Rattle.mm_host.proofs.ByDigests.{chain_ends, lost_shown, refused_as_offer, shown_lost, shows_loss}
 pub use Rattle.mm_host.proofs.CallsMade.{among_input, chain_of, last_offer, served_calls, SomeChain, some_chain}
+pub use Rattle.mm_host.proofs.Continues.{continues_from, fits_genuine}
 pub use Rattle.mm_host.proofs.InTurn.{calls_reach, pending_for}
 pub use Rattle.mm_host.proofs.Leading.{basic_laws, Laws, Makes, Reaches, reach_same, reach_then, RunsOver-append, Shows, ShowsAt, Stays}
 pub use Rattle.mm_host.proofs.Leading.{steps_again, steps_fresh}

@@ -86,8 +86,9 @@ pub use Rattle.mm_recovery.proofs.Above.{one_waiting, opt_grown, opt_met, opt_me
 pub use Rattle.mm_recovery.proofs.Above.{resumes_told, Saw, saw_two, Told, was_powered}
 pub use Rattle.mm_host.specs.AnySlots.{answered_to, AreAmong, AreAskedInTurn, AsksNothingNew, EndsRun, MayStart, offered_after}
 pub use Rattle.mm_host.specs.AnySlots.{requests_with, RunsOnce, RunsOnceFrom, SessionRunsOnce}
-pub use Rattle.mm_host.specs.Continuing.{answer_reply, AreToFollow, CanServe, ContinuesTo, HasUntold, history_then, IsInHand}
-pub use Rattle.mm_host.specs.Continuing.{IsNotBeyond, MayBeUntold, RefusesAs, RunsOver, RunsTo, SessionContinues, told_first, told_in}
+pub use Rattle.mm_host.specs.Continuing.{answer_reply, ContinuesTo, HasUntold, IsInHand}
+pub use Rattle.mm_host.specs.Continuing.{IsNotBeyond, MayBeUntold, RefusesAs, RunsOver, RunsTo, told_first, told_in}
+pub use Rattle.mm_host.specs.Honest.{ContinuesFrom, HasRoom, MayGoOn, SessionContinues}
 pub use Rattle.mm_host.specs.Continuing.{waiting_position}
 pub use Rattle.mm_host.specs.Sessions.{comes_as, refusal_text, reply_text, SendsReply, TellsReply, told_cause, lines_served, Place}
 pub use Rattle.mm_host.specs.Sessions.{replies_to, Served, Serves, AfterResume, BeginsWith, ended_as, IsAtRest, most_lines, Sessions}

@@ -8,7 +8,7 @@ use Rattle.mm_host.proofs.Below.{AfterOffer, started, SendsReply, reply_text, sn
 use Rattle.mm_host.proofs.Below.{BeginsWith, Sessions, StopsAtOnce, IsWaiting, Saw, one_waiting, saw_two, AreAmong, requests_with}
 use Rattle.mm_host.proofs.Below.{lines_served, Answer}
 use Rattle.mm_recovery.specs.declared.fault.HostFault.TheVariants as host
-use Rattle.mm_host.specs.Sessions.{ServesLines}
+use Rattle.mm_host.specs.Sessions.{GoesOn, ServesLines}
 use Rattle.mm_host.proofs.Lines.{answered_call, asks, by_end, by_told, IsRead, line_tries, lines_in, never_refused, TellsCall}
 use Rattle.mm_host.proofs.Lines.{tried_answer, next_line, read_of, tells_call, Tries}
 use Rattle.mm_host.specs.Refusing.{CallsInTurn}
@@ -230,6 +230,11 @@ module _ {variant : Variant} {meaning : Meaning} {before after : Standing} {old 
         → AreAmong (told_in waiting s.goes) (IsInHand waiting s.goes) (requests_with waiting (lines_of input))
     among_input input e =
         among_by (first_offer slots waiting) waiting begun_told input (read_of left left' input s.taken e s.consumed) s.goes
+
+    -- what was told first
+    pub first_told : (g : GoesOn variant meaning s.begun s.platform after s.store new left' s.taken s.sent result) (rest : List (List ℕ))
+        → lines_served (told_first waiting g.first ++ g.lines.calls) ++ rest ≡ requests_with waiting (lines_served g.lines.calls ++ rest)
+    first_told g rest = (first_by (first_offer slots waiting) waiting begun_told g.first g.begins).told g.lines.calls rest
 
   -- and over any store
   pub record SomeChain : Type 0 where

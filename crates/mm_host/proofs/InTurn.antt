@@ -49,21 +49,25 @@ pub record StandsIn (all others : List (List ℕ)) (asked : List Batch) (i : Ins
   pub same : IsSame i.variant y z
 
 -- a request that was answered
-record Stepped (all others : List (List ℕ)) (asked : List Batch) (i : Instance) (y z : History) (standing : Standing)
+pub record Stepped (all others : List (List ℕ)) (asked : List Batch) (i : Instance) (y z : History) (standing : Standing)
     (offer line : List ℕ) (answer : Answer) (after : History) : Type 0 where
-  here : StandsIn all others asked i after (answered_to i z offer line) standing answer.snapshot
-  next : answer.snapshot ≡ issued_bytes i (answered_to i z offer line)
-  step : StepsOn i.meaning (requests_of y.batches) (One line) (answer_reply answer) (requests_of after.batches)
+  pub here : StandsIn all others asked i after (answered_to i z offer line) standing answer.snapshot
+  pub next : answer.snapshot ≡ issued_bytes i (answered_to i z offer line)
+  pub step : StepsOn i.meaning (requests_of y.batches) (One line) (answer_reply answer) (requests_of after.batches)
 
 module _ {all others : List (List ℕ)} {asked : List Batch} {i : Instance} {final : Standing} (laws : Laws all others asked i final) where
-  module _ (y z : History) (old standing : Standing) (offer line : List ℕ) (answer : Answer) (s : StandsIn all others asked i y z old offer)
-      (fit : IsFit (One line) (whole answer)) (m : Met all others asked i y standing offer (pending_for line) (Ok (whole answer))) where
+  module _ (y z : History) (old standing : Standing) (offer : List ℕ) (p : Pending) (answer : Answer)
+      (s : StandsIn all others asked i y z old offer) (fit : IsFit (One p.request) (whole answer))
+      (m : Met all others asked i y standing offer p (Ok (whole answer))) where
+    abbrev line : List ℕ
+    line = p.request
+
     -- the history after an answer, by what the offer says
     answered_flag : (content : Content) (flag : Bool) → IsRight i offer content → nat_eq content.position (total_of z.batches) ≡ flag
         → answered_to i z offer line ≡ (if flag then moved i z (Commit (One line)) else z)
     answered_flag content flag right e = rw (said_of i offer content right, e) refl
 
-    grown_same : m.after.batches ≡ y.batches → IsGrownBy i y (Some (pending_for line)) m.after → IsSame i.variant m.after z
+    grown_same : m.after.batches ≡ y.batches → IsGrownBy i y (Some p) m.after → IsSame i.variant m.after z
     grown_same same (inl e) = same_then i.variant m.after y z e s.same
     grown_same same (inr g) =
         let clash : total_of y.batches ≡ total_of y.batches + 1 =
@@ -93,7 +97,7 @@ module _ {all others : List (List ℕ)} {asked : List Batch} {i : Instance} {fin
           step = step;
         }
 
-    stepped_by : Comes i y offer (One line) m.after (Ok (whole answer))
+    pub stepped_by : Comes i y offer (One line) m.after (Ok (whole answer))
         → Stepped all others asked i y z standing offer line answer m.after
     stepped_by (kept same answers) =
         let r = answers (whole answer) refl in
@@ -107,7 +111,7 @@ module _ {all others : List (List ℕ)} {asked : List Batch} {i : Instance} {fin
         let here : content.position ≡ total_of z.batches = at ∙ ap total_of (laws.batches y z s.same) in
         step_to (moved i z (Commit (One line))) false
         (answered_flag content true right (grind (arith, nat_tests, here)))
-        (grown_more laws y z m.after (pending_for line) m.within.sound (laws.like y z s.same) (ap total_of more ∙ one_more y.batches line)
+        (grown_more laws y z m.after p m.within.sound (laws.like y z s.same) (ap total_of more ∙ one_more y.batches line)
         m.grown) is
         (steps_fresh i y m.after line answer is more)
 
@@ -116,11 +120,11 @@ module _ {all others : List (List ℕ)} {asked : List Batch} {i : Instance} {fin
   May y standing offer requests = Shows i.variant all others i y standing final ⊎ MindsNothing i y offer requests
 
   -- a call for the next request
-  module _ (y z : History) (old middle : Standing) (offer line : List ℕ) (rest : List (List ℕ))
+  module _ (y z : History) (old middle : Standing) (offer : List ℕ) (p : Pending) (rest : List (List ℕ))
       (s : StandsIn all others asked i y z old offer)
-      (f : AreAskedInTurn all asked i z offer (line ∷ rest)) (may : May y old offer (line ∷ rest)) where
-    makes : (gives : Result BatchAnswer Refusal) → CallsOn i.variant i.meaning old middle offer (One line) gives
-        → Makes all others asked i y old middle offer (pending_for line) gives
+      (f : AreAskedInTurn all asked i z offer (p.request ∷ rest)) (may : May y old offer (p.request ∷ rest)) where
+    makes : (gives : Result BatchAnswer Refusal) → CallsOn i.variant i.meaning old middle offer (One p.request) gives
+        → Makes all others asked i y old middle offer p gives
     makes gives c = record {
       goes = c;
       stands = s.stands;
@@ -135,18 +139,20 @@ module _ {all others : List (List ℕ)} {asked : List Batch} {i : Instance} {fin
     }
 
     -- one that was answered
-    met_between : (answer : Answer) → Reaches i.variant i middle final → IsCall i.variant i.meaning old middle offer line (Ok answer)
-        → (m : Met all others asked i y middle offer (pending_for line) (Ok (whole answer))) × May m.after middle answer.snapshot rest
+    pub met_between : (answer : Answer) → Reaches i.variant i middle final
+        → IsCall i.variant i.meaning old middle offer p.request (Ok answer)
+        → (m : Met all others asked i y middle offer p (Ok (whole answer))) × May m.after middle answer.snapshot rest
     met_between answer reaches c =
-        let o = met_on laws y old offer (pending_for line) may middle (whole answer) (makes (Ok (whole answer)) c.goes) reaches in
+        let o = met_on laws y old offer p may middle (whole answer) (makes (Ok (whole answer)) c.goes) reaches in
         (o.0, elim o.1 [ inl shows ↦ inl shows | inr none ↦ inr (none_left i _ _ rest none) ])
 
   -- the last one
-  pub met_last : (y z : History) (old : Standing) (offer line : List ℕ) (rest : List (List ℕ)) (call : Result Answer Refusal)
-      → StandsIn all others asked i y z old offer → AreAskedInTurn all asked i z offer (line ∷ rest) → May y old offer (line ∷ rest)
-      → IsCall i.variant i.meaning old final offer line call → Met all others asked i y final offer (pending_for line) (whole_in call)
-  met_last y z old offer line rest call s f may c =
-      met_end laws y old offer (pending_for line) may (whole_in call) (makes y z old final offer line rest s f may (whole_in call) c.goes)
+  pub met_last : (y z : History) (old : Standing) (offer : List ℕ) (p : Pending) (rest : List (List ℕ)) (call : Result Answer Refusal)
+      → StandsIn all others asked i y z old offer → AreAskedInTurn all asked i z offer (p.request ∷ rest)
+      → May y old offer (p.request ∷ rest) → IsCall i.variant i.meaning old final offer p.request call
+      → Met all others asked i y final offer p (whole_in call)
+  met_last y z old offer p rest call s f may c =
+      met_end laws y old offer p may (whole_in call) (makes y z old final offer p rest s f may (whole_in call) c.goes)
 
   -- what is shown goes on to the end
 
@@ -195,8 +201,9 @@ module _ {all others : List (List ℕ)} {asked : List Batch} {i : Instance} {fin
   turns y z old at offer (c ∷ calls) rest s may f h reaches =
       let then_is : History = answered_to i z offer c.line in
       let lines : List (List ℕ) = lines_served calls ++ rest in
-      let m = met_between y z old h.0 offer c.line lines s f may c.answer (calls_reach c.answer.snapshot h.0 at calls h.2 reaches) h.1 in
-      let t = stepped_by y z old h.0 offer c.line c.answer s h.1.fits m.0 m.0.comes in
+      let m = met_between y z old h.0 offer (pending_for c.line) lines s f may c.answer
+      (calls_reach c.answer.snapshot h.0 at calls h.2 reaches) h.1 in
+      let t = stepped_by y z old h.0 offer (pending_for c.line) c.answer s h.1.fits m.0 m.0.comes in
       let r = turns m.0.after then_is h.0 at c.answer.snapshot calls rest t.here m.1
       (rw t.next f.2) h.2 reaches in
       record {

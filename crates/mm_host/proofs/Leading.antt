@@ -5,7 +5,7 @@ use Rattle.mm_host.proofs.Below.{Instance, History, Commit, first_history, moved
 use Rattle.mm_host.proofs.Below.{BatchAnswer, Refusal, IsLedTo, CallsOn, AreAsked, AreShown, IsIdle, StandsAt, standing_items, bare}
 use Rattle.mm_host.proofs.Below.{Pending, Met, IsGrownBy, IsSame, AreNoGuards, ◌+◌, Bool, ◌∷◌, arith, Meaning, requests_of, Answer}
 use Rattle.mm_host.proofs.Below.{answer_on, whole, requests-push, said_last, StepsOn, RunsOver, answer_reply, Served, refl, inl, inr}
-use Rattle.mm_host.proofs.Below.{◌⊎◌, if◌then◌else◌, nat_eq, nat_tests, committed, Answered, history_then, told_first, IsAwaited}
+use Rattle.mm_host.proofs.Below.{◌⊎◌, if◌then◌else◌, nat_eq, nat_tests, committed, Answered, told_first, IsAwaited}
 use Rattle.mm_host.proofs.Below.{one_more, ◌≢◌, ◌||◌, AllByRecursion, Contains, Entry, Own, Value, Spoiled, is_empty, are_own, life_by}
 use Rattle.mm_host.proofs.Below.{life_of, counting, values_in, IsOutside, AreItems, has_value-append, InBasic, InOpt, summary_of, basic}
 use Rattle.mm_host.proofs.Below.{IsPlaceOf, digest_of, total-nil, basic_met, basic_content}
@@ -202,20 +202,6 @@ module _ {all others : List (List ℕ)} {asked : List Batch} {i : Instance} {fin
   grown_more y z after p led like total (inr g) =
       laws.grow y z after (One p.request) led like
       (rw (same_pending p g.0 g.1) at g.2)
-
-  -- what waits is committed where its position is the next
-  pub grown_then : (y after : History) (p : Pending) → p.position ≡ total_of after.batches → IsGrownBy i y (Some p) after
-      → IsSame i.variant after (history_then i y (Some p))
-  grown_then y after p at (inl same) =
-      let flag : nat_eq p.position (total_of y.batches) ≡ true = grind (arith, nat_tests, at, ap total_of (laws.batches after y same)) in
-      rw flag same
-  grown_then y after p at (inr g) =
-      let same : IsSame i.variant after (moved i y (Commit (One p.request))) = rw (same_pending p g.0 g.1) at g.2 in
-      let more : after.batches ≡ y.batches ++ One p.request ∷ [] =
-      laws.batches after (moved i y (Commit (One p.request))) same ∙ push_batches i.variant y.is_open y (One p.request) in
-      let flag : nat_eq p.position (total_of y.batches) ≡ false =
-      grind (arith, nat_tests, at, ap total_of more, one_more y.batches p.request) in
-      rw flag same
 
 -- Where no value of others counts, a history isn't spoiled.
 

@@ -12,3 +12,4 @@ mod LineStep
 mod SessionRuns
 mod RunningOnce
 mod ByDigests
+mod Continues

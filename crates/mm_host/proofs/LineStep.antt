@@ -6,14 +6,15 @@ use Rattle.mm_host.proofs.Below.{BatchAnswer, Refusal, answer_on, IsWithin, righ
 use Rattle.mm_host.proofs.Below.{StoreFault, WritesSlot, putting, StoreStanding, Pending, pending_spelling, Slots, longest_slot}
 use Rattle.mm_host.proofs.Below.{slot_read, with_slot, longest_slot-is, HostFault, Resumed, Start, Answered, IsNotBeyond}
 use Rattle.mm_host.proofs.Below.{waiting_position, refusal_fault, store_fault_as, FitsHistory, FitsBy, Holds, offer_slot, ◌∷◌, AnswersAt}
-use Rattle.mm_host.proofs.Below.{AreToFollow, CanRecover, IsGrown, MayHaveCommitted, RecoversTo, IsRefusedAs, position_at, snapshot_at}
+use Rattle.mm_host.proofs.Below.{answered_to, AreAskedInTurn, CanRecover, IsGrown, MayHaveCommitted, RecoversTo, IsRefusedAs, position_at, snapshot_at}
 use Rattle.mm_host.proofs.Below.{AfterRecord, record_for, Place, length-pending_spelling, NoMore, asked_at, left_by, ask_exit}
-use Rattle.mm_host.proofs.Below.{refusal_told, RunsOver, told_first, [], IsGrownBy, issued_bytes, history_then, IsIdle, inr, Met, moved}
-use Rattle.mm_host.proofs.Below.{Commit, sealed_once, last_position, total-nil, one_content, IsSame, ◌≤◌}
+use Rattle.mm_host.proofs.Below.{refusal_told, RunsOver, told_first, [], issued_bytes, inr, Met, sealed_of, first_offer, requests_with, IsCall, length}
+use Rattle.mm_host.proofs.Below.{last_position, one_content, one_more, IsSame, subst, suc, ◌≤◌}
 use Rattle.mm_store.specs.declared.fault.StoreFault.TheVariants as fault
 use Rattle.mm_recovery.specs.declared.fault.HostFault.TheVariants as host
+use Rattle.mm_host.proofs.InTurn.{May, met_between, met_last, StandsIn, stepped_by}
 use Rattle.mm_host.proofs.Lines.{never_stored}
-use Rattle.mm_host.proofs.Leading.{answered_first, grown_more, grown_then, IsLike, Laws, Makes, met_on, Reaches, same_pending, Shows}
+use Rattle.mm_host.proofs.Leading.{answered_first, Laws, Reaches, same_pending}
 use Rattle.mm_host.proofs.Putting.{IsNext, IsPut, fits_next, put_next, torn_fits, waits_next}
 
 -- Between two lines a session stands where a recovery left it, or a line, which is asked as one. The last answer is that of the
@@ -97,88 +98,111 @@ module _ {all others : List (List ℕ)} {asked : List Batch} {i : Instance} {y :
     at_end = (went_first waiting last f r).at_end;
   }
 
--- What others do is known to the very end, or no line follows.
-abbrev pub MayServe : (all others : List (List ℕ)) (i : Instance) (y : History) (standing final : Standing) (lines : List (List ℕ))
-    → Type 0
-MayServe all others i y standing final lines = Shows i.variant all others i y standing final ⊎ (lines ≡ [])
-
--- What is known of the history after a call that was answered, where these lines follow.
-abbrev pub IsBetween : (all others : List (List ℕ)) (i : Instance) (y : History) (waiting : Option Pending) (standing final : Standing)
-    (lines : List (List ℕ)) → History → Type 0
-IsBetween all others i y waiting standing final lines after =
-    MayServe all others i after standing final lines × IsGrownBy i y waiting after
-
--- A session stands for a history that is the same as this one but for others' values, and these lines are to follow it.
-pub record IsReady (all others : List (List ℕ)) (asked : List Batch) (i : Instance) {at : Place} (s : IsSettledAt all others asked i at)
-    (z : History) (final : Standing) (lines : List (List ℕ)) : Type 0 where
-  pub like : IsLike i.variant s.after z
-  pub batches : s.after.batches ≡ z.batches
-  pub placed : (content : Content) → IsRight i (snapshot_at at.last) content → content.place ≡ (issued i z).place
-  pub may : MayServe all others i s.after at.platform final lines
-  pub follow : AreToFollow all asked i z lines
-
 module _ {all others : List (List ℕ)} {asked : List Batch} {i : Instance} {final : Standing} (laws : Laws all others asked i final) where
+  -- What is known of the history after a call that was answered, where its snapshot is offered for these next.
+  abbrev pub IsBetween : History → Standing → List ℕ → List (List ℕ) → History → Type 0
+  IsBetween z standing offer lines after = May laws after standing offer lines × IsSame i.variant after z
+
+  -- A session stands for a history that is the same as this one but for others' values, and these lines may be asked from there.
+  pub record IsReady {at : Place} (s : IsSettledAt all others asked i at) (z : History) (lines : List (List ℕ)) : Type 0 where
+    pub between : IsBetween z at.platform (snapshot_at at.last) lines s.after
+    pub follow : AreAskedInTurn all asked i z (snapshot_at at.last) lines
+    pub room : total_of s.after.batches + length lines ≤ last_position
+
+  pub stands_in : {at : Place} (s : IsSettledAt all others asked i at) (z : History) → IsSame i.variant s.after z
+      → StandsIn all others asked i s.after z at.platform (snapshot_at at.last)
+  stands_in {at} s z same = record {
+    stands = s.stands;
+    within = s.within;
+    genuine = λ content right. rw (one_content i (snapshot_at at.last) s.holds.content content s.holds.right right) at s.holds.names;
+    same = same;
+  }
+
   -- the snapshot of an answer says what the history issues
   ready_on : (z : History) (at : Place) (lines : List (List ℕ)) (s : IsSettledAt all others asked i at)
-      → snapshot_at at.last ≡ issued_bytes i s.after → IsSame i.variant s.after z
-      → MayServe all others i s.after at.platform final lines → AreToFollow all asked i z lines → IsReady all others asked i s z final lines
-  ready_on z at lines s is same may follow =
-      let most : total_of s.after.batches ≤ last_position = rw (s.holds.at ∙ s.at_end) at s.holds.right.formed.position in
+      → snapshot_at at.last ≡ issued_bytes i s.after → IsBetween z at.platform (issued_bytes i z) lines s.after
+      → AreAskedInTurn all asked i z (issued_bytes i z) lines → total_of s.after.batches + length lines ≤ last_position → IsReady s z lines
+  ready_on z at lines s is between follow room =
+      let here : issued_bytes i z ≡ snapshot_at at.last =
+      sym (is ∙ ap (λ (c : Content). sealed_of i.key c) (laws.issue s.after z between.1)) in
       record {
-        like = laws.like s.after z same;
-        batches = laws.batches s.after z same;
-        placed = λ content right.
-            let says : issued i s.after ≡ content =
-            sealed_once i.key i.key (issued i s.after) content (laws.formed s.after most) right.formed (sym is ∙ right.sealed) in
-            ap (λ (c : Content). c.place) (sym says ∙ laws.issue s.after z same);
-        may = may;
-        follow = follow;
+        between = subst (λ (offer : List ℕ). IsBetween z at.platform offer lines s.after) here between;
+        follow = subst (λ (offer : List ℕ). AreAskedInTurn all asked i z offer lines) here follow;
+        room = room;
       }
+
+  -- the history once what waits is answered
+  abbrev pub waiting_then : History → Slots → Option Pending → History
+  waiting_then z slots None = z
+  waiting_then z slots (Some p) = answered_to i z (slot_read slots (offer_slot p)) p.request
+
+  -- and what is offered then
+  abbrev pub offer_then : History → Slots → Option Pending → List ℕ
+  offer_then z slots None = slot_read slots 0
+  offer_then z slots (Some p) = issued_bytes i (waiting_then z slots (Some p))
 
   -- where a session stands once what waits is answered
-  pub ready_first : (y : History) (slots : Slots) (waiting : Option Pending) (standing : Standing) (kept : StoreStanding) (first : Resumed)
-      (lines : List (List ℕ)) (f : FitsBy i slots y waiting)
+  pub ready_first : (y z : History) (slots : Slots) (waiting : Option Pending) (standing : Standing) (kept : StoreStanding)
+      (first : Resumed) (lines : List (List ℕ)) (f : FitsBy i slots y waiting)
       (r : RecoversTo all others asked i y slots waiting standing kept (Ok first))
-      → IsBetween all others i y waiting standing final lines r.after → AreToFollow all asked i (history_then i y waiting) lines
-      → IsReady all others asked i (settled_by waiting first f r) (history_then i y waiting) final lines
-  ready_first y slots None standing kept (Start first) lines f r m follow =
-      let nothing : r.after.batches ≡ [] = total-nil r.after.batches (sym (went_first None (Start first) f r).at_end) in
-      record {
-        like = laws.begins r.after r.within.sound nothing;
-        batches = nothing;
-        placed = λ content right.
-            ap (λ (c : Content). c.place) (one_content i first content r.holds.content right r.holds.right)
-            ∙ laws.placed r.after r.holds.content r.within.sound r.holds.names r.holds.at;
-        may = m.0;
-        follow = follow;
-      }
-  ready_first y slots None standing kept (Answered answer) lines f r m follow =
+      → IsBetween (waiting_then z slots waiting) standing (offer_then z slots waiting) lines r.after
+      → AreAskedInTurn all asked i z (first_offer slots waiting) (requests_with waiting lines)
+      → total_of y.batches + length (requests_with waiting lines) ≤ last_position
+      → IsReady (settled_by waiting first f r) (waiting_then z slots waiting) lines
+  ready_first y z slots None standing kept (Start first) lines f r m follow room = record {
+    between = rw r.comes.1 m;
+    follow = rw r.comes.1 follow;
+    room = omega (arith, room, ap total_of r.grown);
+  }
+  ready_first y z slots None standing kept (Answered answer) lines f r m follow room =
       let clash : None ≡ Some r.comes.p = r.comes.waits in absurd (cc)
-  ready_first y slots (Some p) standing kept (Start first) lines f r m follow = let clash : Some p ≡ None = r.comes.0 in absurd (cc)
-  ready_first y slots (Some p) standing kept (Answered answer) lines f r m follow =
+  ready_first y z slots (Some p) standing kept (Start first) lines f r m follow room = let clash : Some p ≡ None = r.comes.0 in absurd (cc)
+  ready_first y z slots (Some p) standing kept (Answered answer) lines f r m follow room =
       let a = answers_of i y r.after p answer r.comes in
-      ready_on (history_then i y (Some p)) (record { platform = standing; store = kept; last = Answered answer }) lines
-      (settled_by (Some p) (Answered answer) f r) (ap (λ (b : BatchAnswer). b.snapshot) a.1) (grown_then laws y r.after p a.0 m.1) m.0
-      follow
+      ready_on (waiting_then z slots (Some p)) (record { platform = standing; store = kept; last = Answered answer }) lines
+      (settled_by (Some p) (Answered answer) f r) (ap (λ (b : BatchAnswer). b.snapshot) a.1) m follow.2
+      (grown_room y r.after p lines r.grown room)
+    where
+      grown_room : (y after : History) (p : Pending) (lines : List (List ℕ)) → IsGrown y (Some p) after
+          → total_of y.batches + suc (length lines) ≤ last_position → total_of after.batches + length lines ≤ last_position
+      grown_room y after p lines (inl same) h = omega (arith, h, ap total_of same)
+      grown_room y after p lines (inr more) h = omega (arith, h, ap total_of more, one_more y.batches p.request)
 
-  -- a call that was answered, with others behind it where lines follow
-  pub between_called : (y : History) (old middle : Standing) (offer : List ℕ) (p : Pending) (call : Result Answer Refusal)
-      (resumed : Resumed) (lines : List (List ℕ))
+  -- a call that was answered, with others behind it
+  pub between_called : (y z : History) (old middle : Standing) (offer : List ℕ) (p : Pending) (answer : Answer) (rest : List (List ℕ))
+      → StandsIn all others asked i y z old offer → AreAskedInTurn all asked i z offer (p.request ∷ rest)
+      → May laws y old offer (p.request ∷ rest) → Reaches i.variant i middle final
+      → IsCall i.variant i.meaning old middle offer p.request (Ok answer)
+      → (o : Met all others asked i y middle offer p (Ok (whole answer)))
+      × IsBetween (answered_to i z offer p.request) middle (issued_bytes i (answered_to i z offer p.request)) rest o.after
+  between_called y z old middle offer p answer rest s f may reaches c =
+      let m = met_between laws y z old middle offer p rest s f may answer reaches c in
+      let t = stepped_by laws y z old middle offer p answer s c.fits m.0 m.0.comes in
+      (m.0, (subst (λ (bytes : List ℕ). May laws m.0.after middle bytes rest) t.next m.1, t.here.same))
+
+  -- and what is told wasn't refused
+  pub between_told : (y z : History) (old middle : Standing) (offer : List ℕ) (p : Pending) (call : Result Answer Refusal)
+      (resumed : Resumed) (rest : List (List ℕ))
+      → StandsIn all others asked i y z old offer → AreAskedInTurn all asked i z offer (p.request ∷ rest)
+      → May laws y old offer (p.request ∷ rest) → Reaches i.variant i middle final
+      → IsCall i.variant i.meaning old middle offer p.request call
       → ((why : Refusal) → call ≡ Err why → Ok resumed ≡ Err (refusal_fault why))
-      → Makes all others asked i y old middle offer p (whole_in call)
-      → Shows i.variant all others i y old final ⊎ (IsIdle i y offer (One p.request) × (lines ≡ [])) → Reaches i.variant i middle final
-      → (o : Met all others asked i y middle offer p (whole_in call)) × IsBetween all others i y (Some p) middle final lines o.after
-  between_called y old middle offer p (Ok answer) resumed lines told m may reaches =
-      let o = met_on laws y old offer p may middle (whole answer) m reaches in (o.0, (o.1, o.0.grown))
-  between_called y old middle offer p (Err why) resumed lines told m may reaches = let clash = told why refl in absurd (cc)
+      → (o : Met all others asked i y middle offer p (whole_in call))
+      × IsBetween (answered_to i z offer p.request) middle (issued_bytes i (answered_to i z offer p.request)) rest o.after
+  between_told y z old middle offer p (Ok answer) resumed rest s f may reaches c told =
+      between_called y z old middle offer p answer rest s f may reaches c
+  between_told y z old middle offer p (Err why) resumed rest s f may reaches c told = let clash = told why refl in absurd (cc)
 
   module _ (z : History) (at : Place) (line : List ℕ) (lines : List (List ℕ)) (settled : IsSettledAt all others asked i at)
-      (s : IsReady all others asked i settled z final (line ∷ lines)) (within : MayGrow longest_request line) where
+      (s : IsReady settled z (line ∷ lines)) (within : MayGrow longest_request line) where
     abbrev y : History
     y = settled.after
 
     abbrev position : ℕ
     position = position_at at.last
+
+    abbrev offer : List ℕ
+    offer = snapshot_at at.last
 
     abbrev next : Pending
     next = record_for at.last line
@@ -189,9 +213,8 @@ module _ {all others : List (List ℕ)} {asked : List Batch} {i : Instance} {fin
     abbrev put : List ℕ → Slots
     put bytes = with_slot settled.slots_after slot bytes
 
-    shows_on : MayServe all others i y at.platform final (line ∷ lines) → Shows i.variant all others i y at.platform final
-    shows_on (inl shows) = shows
-    shows_on (inr none) = absurd (cc)
+    here : StandsIn all others asked i y z at.platform offer
+    here = stands_in settled z s.between.1
 
     recorded : waiting_position settled.fits.waiting ≡ position
     recorded = ap waiting_position settled.same_wait ∙ settled.recorded
@@ -205,13 +228,13 @@ module _ {all others : List (List ℕ)} {asked : List Batch} {i : Instance} {fin
     is_next : IsNext position next (pending_spelling next)
     is_next = record {
       follows = refl;
-      most = omega (arith, s.follow.2, settled.at_end, ap total_of s.batches);
+      most = omega (arith, s.room, settled.at_end);
       line = within;
       spelled = take_all longest_slot (pending_spelling next)
           (omega (arith, within.short, longest_slot-is, length-pending_spelling next));
     }
 
-    offers : slot_read (put (pending_spelling next)) (offer_slot next) ≡ snapshot_at at.last
+    offers : slot_read (put (pending_spelling next)) (offer_slot next) ≡ offer
     offers =
         let back : position + 1 - 1 ≡ position = omega arith in
         ap (λ (m : ℕ). slot_read (put (pending_spelling next)) (m % 2)) back
@@ -234,33 +257,22 @@ module _ {all others : List (List ℕ)} {asked : List Batch} {i : Instance} {fin
       clear = laws.clear;
       apart = laws.apart;
       within = settled.within;
-      is_asked = (
-        s.follow.0,
-        let offer : List ℕ = slot_read (put (pending_spelling next)) (offer_slot next) in
-            listed_by i y (One line) all (right_content i offer) (λ (content : Content) (is : right_content i offer ≡ Some content).
-            let right : IsRight i offer content = right_of i offer (parts_of i.variant i.meaning.id offer) refl content is in
-            rw (s.placed content (rw offers at right)) s.follow.1),
-      );
+      is_asked = (s.follow.0, rw offers s.follow.1);
     }
 
     -- so what it comes to is a recovery, with more that is known of the history where it is gone on with
     recovered : (More : History → Type 0) (after : Standing) (middle new : StoreStanding) (came : Result Resumed HostFault) (it : Unit {0})
-        → ((offer : List ℕ) (call : Result Answer Refusal) → ((why : Refusal) → call ≡ Err why → came ≡ Err (refusal_fault why))
-        → Makes all others asked i y at.platform after offer next (whole_in call)
-        → (o : Met all others asked i y after offer next (whole_in call)) × More o.after)
         → WritesSlot slot (pending_spelling next) at.store middle (Ok it)
-        → AfterRecord i.variant i.meaning at.platform after (Ok it) middle new at.last line came
+        → (g : AfterRecord i.variant i.meaning at.platform after (Ok it) middle new at.last line came)
+        → (o : Met all others asked i y after offer next (whole_in g.asked)) × More o.after
         → (r : RecoversTo all others asked i y (put (pending_spelling next)) (Some next) after new came)
         × IfOk came (λ (resumed : Resumed). More r.after)
     unfolding can_ask
-    recovered More after middle new came it leads w g =
+    recovered More after middle new came it w g leads =
         let slots : Slots = put (pending_spelling next) in
         let can : CanRecover all others asked i y slots at.platform middle = can_ask it middle w in
-        let o = leads (slot_read slots (offer_slot next)) g.asked (refusal_told g.asked middle new came g.goes) (record {
-          goes = rw offers g.asks.goes;
-          stands = settled.stands;
-          asks = asked_at all others asked i y slots at.platform middle can next refl;
-        }) in
+        let o = subst (λ (bytes : List ℕ). (o : Met all others asked i y after bytes next (whole_in g.asked)) × More o.after) (sym offers)
+        leads in
         let l = left_by all others asked i y slots at.platform middle can More after next (whole_in g.asked) refl o.0 o.1 in
         ask_exit More all others asked i laws.lawful y slots (Some next) next after g.asked middle new came l.0 l.1 g.asks.fits can.honest
         can.told g.goes
@@ -300,13 +312,16 @@ module _ {all others : List (List ℕ)} {asked : List Batch} {i : Instance} {fin
         (torn_fits i y settled.slots_after (put left.0) position left.0 settled.fits recorded settled.at_end holds_newest (is_put left.0))
         (λ n. absurd (n refl))
     line_last (Ok it) middle new came w g =
-        came_by (Some next) came (recovered NoMore final middle new came it
-        (λ offer call told m. (laws.met_last y at.platform offer next (whole_in call) m (shows_on s.may), tt)) w g).0
+        came_by (Some next) came (recovered NoMore final middle new came it w g
+        (met_last laws y z at.platform offer next lines g.asked here s.follow s.between.0 g.asks, tt)).0
 
     -- a line that was answered, with others behind it
+    abbrev pub then_is : History
+    then_is = answered_to i z offer line
+
     pub record LineGoes (after : Standing) (new : StoreStanding) (answer : Answer) : Type 0 where
       pub settled_then : IsSettledAt all others asked i (record { platform = after; store = new; last = Answered answer })
-      pub ready : IsReady all others asked i settled_then (moved i z (Commit (One line))) final lines
+      pub ready : IsReady settled_then then_is lines
       pub run : RunsOver i.meaning (requests_of y.batches) (record { line = line; answer = answer } ∷ [])
           (requests_of settled_then.after.batches)
       pub powered : life_of i.variant y ≢ LostLife → life_of i.variant settled_then.after ≢ LostLife
@@ -319,17 +334,17 @@ module _ {all others : List (List ℕ)} {asked : List Batch} {i : Instance} {fin
     line_goes (Err why) after middle new answer reaches w g =
         let clash : Ok (Answered answer) ≡ Err (store_fault_as why) = g.2 in absurd (cc)
     line_goes (Ok it) after middle new answer reaches w g =
-        let r = recovered (IsBetween all others i y (Some next) after final lines) after middle new (Ok (Answered answer)) it
-        (λ offer call told m. between_called y at.platform after offer next call (Answered answer) lines told m (inl (shows_on s.may))
-        reaches) w g in
+        let r = recovered (IsBetween then_is after (issued_bytes i then_is) lines) after middle new (Ok (Answered answer)) it w g
+        (between_told y z at.platform after offer next g.asked (Answered answer) lines here s.follow s.between.0 reaches g.asks
+        (refusal_told g.asked middle new (Ok (Answered answer)) g.goes)) in
         let f : FitsBy i (put (pending_spelling next)) y (Some next) = (can_ask it middle w).fits.fits in
         let a = answers_of i y r.0.after next answer r.0.comes in
         let total : total_of r.0.after.batches ≡ total_of y.batches + 1 = sym a.0 ∙ ap (λ (n : ℕ). n + 1) settled.at_end in
         record {
           settled_then = settled_by (Some next) (Answered answer) f r.0;
-          ready = ready_on (moved i z (Commit (One line))) (record { platform = after; store = new; last = Answered answer }) lines
-              (settled_by (Some next) (Answered answer) f r.0) (ap (λ (x : BatchAnswer). x.snapshot) a.1)
-              (grown_more laws y z r.0.after next r.0.within.sound s.like total r.1.1) r.1.0 s.follow.3;
+          ready = ready_on then_is (record { platform = after; store = new; last = Answered answer }) lines
+              (settled_by (Some next) (Answered answer) f r.0) (ap (λ (x : BatchAnswer). x.snapshot) a.1) r.1 s.follow.2
+              (omega (arith, total, s.room));
           run = (went_first (Some next) (Answered answer) f r.0).run;
           powered = r.0.powered;
         }

@@ -150,7 +150,7 @@ module _ {all others : List (List ℕ)} {asked : List Batch} {i : Instance} {fin
               let next = among.in_hand request h in
               let is : rest ≡ request ∷ next.0 = append_cancel_left (lines_served told) rest (request ∷ next.0)
               (among.served.1 ∙ sym next.1 ∙ append_assoc (lines_served told) (request ∷ []) next.0) in
-              met_last laws t.after t.then_is chain.at (offered_after first told) request next.0 call t.here
+              met_last laws t.after t.then_is chain.at (offered_after first told) (pending_for request) next.0 call t.here
               (subst (λ (rs : List (List ℕ)). AreAskedInTurn all asked i t.then_is (offered_after first told) rs) is t.asked_in_turn)
               (subst (λ (rs : List (List ℕ)). May laws t.after chain.at (offered_after first told) rs) is t.may) c)
               chain.ends;
@@ -215,7 +215,7 @@ module _ (meaning : Meaning) (key barrier : List ℕ) where
   shut_of y offer (r ∷ []) k = k.shut
   shut_of y offer (r ∷ next ∷ requests) k = absurd k
 
-powered_looked : (values : List (List ℕ)) (y : History) → life_of Opt y ≢ LostLife → life_of Opt (taking y values) ≢ LostLife
+pub powered_looked : (values : List (List ℕ)) (y : History) → life_of Opt y ≢ LostLife → life_of Opt (taking y values) ≢ LostLife
 powered_looked values y p =
     not_lost y.is_open (is_empty (y.items ++ map Value values)) (are_own (y.items ++ map Value values) y.current)
     (has_value (joined y.closed))
@@ -228,7 +228,6 @@ module _ (meaning : Meaning) (lawful : IsLawful meaning) (entry before after : S
     {result : Result Unit SessionFault} (s : Sessions Opt meaning before after old new left left' received received' result)
     (key barrier : List ℕ) (y : History) (slots : Slots) (all others : List (List ℕ)) (asked : List Batch)
     (requests : List (List ℕ)) (items more : List Item) (may : MayStart all others asked (opt meaning key barrier) y slots entry old)
-    (f : AreAskedInTurn all asked (opt meaning key barrier) y (first_offer slots may.waiting) requests)
     (known : entry.items ≡ Some items) (ends : after.items ≡ Some (standing_items y.is_open items ++ more)) where
   abbrev j : Instance
   j = opt meaning key barrier
@@ -245,9 +244,9 @@ module _ (meaning : Meaning) (lawful : IsLawful meaning) (entry before after : S
   abbrev laws : Laws all others asked j after
   laws = opt_laws meaning lawful key barrier all others asked after may.clear may.apart
 
-  abbrev Ran : Type 0
-  Ran =
-      RunsOnce all others asked j y slots may.waiting left after (told_in may.waiting s.goes) (IsInHand may.waiting s.goes) requests result
+  -- where the session stands once it starts, and what is asked of what others do
+  abbrev pub Enters : Type 0
+  Enters = (here : StandsIn all others asked j z y before offered) × May laws z before offered requests
 
   there : before.items ≡ Some (items ++ brought)
   there = looked ∙ ap (λ (xs : Option (List Item)). beside brought_by xs) known
@@ -289,17 +288,19 @@ module _ (meaning : Meaning) (lawful : IsLawful meaning) (entry before after : S
       ∙ ap (λ (vs : List (List ℕ)). chains.after extended_message (register_value_of j (counted_part y)) vs)
       (sym (foreign_values brought_by))) a
 
-  ran_from : IsWithin all others asked j z → May laws z before offered requests → Ran
-  ran_from w m =
-      runs_once laws s z y slots may.waiting may.told may.is_waiting requests (record {
-        stands = stands;
-        within = w;
-        genuine = λ content right. names_alike meaning key barrier y z content refl (may.genuine content right);
-        same = refl;
-      }) (powered_looked brought_by y) m f
+  enter_from : IsWithin all others asked j z → May laws z before offered requests → Enters
+  enter_from w m = (
+    record {
+      stands = stands;
+      within = w;
+      genuine = λ content right. names_alike meaning key barrier y z content refl (may.genuine content right);
+      same = refl;
+    },
+    m,
+  )
 
-  ran_open : y.is_open ≡ true → AreShown all others j y more → Ran
-  ran_open e shown_are =
+  enter_open : y.is_open ≡ true → AreShown all others j y more → Enters
+  enter_open e shown_are =
       let reaches = chain_reaches laws (chain_of s slots may.waiting may.told may.is_waiting) in
       let stays = reaches (digests_of j z) (stands_at j before z stands) e (items ++ brought) there in
       let both : Some (items ++ more) ≡ Some ((items ++ brought) ++ stays.more) =
@@ -308,7 +309,7 @@ module _ (meaning : Meaning) (lawful : IsLawful meaning) (entry before after : S
       let same : items ++ more ≡ items ++ (brought ++ stays.more) = whole ∙ append_assoc items brought stays.more in
       let shown : AreShown all others j y (brought ++ stays.more) =
       rw (append_cancel_left items more (brought ++ stays.more) same) at shown_are in
-      ran_from (within_open stays.more e shown) (inl (record {
+      enter_from (within_open stays.more e shown) (inl (record {
         items = items ++ brought;
         known = there;
         more = stays.more;
@@ -316,9 +317,9 @@ module _ (meaning : Meaning) (lawful : IsLawful meaning) (entry before after : S
         shown_are = shown_open stays.more e shown;
       }))
 
-  ran_shut : y.is_open ≡ false → ((AsksNothingNew j y offered requests → ⊥) → AreShown all others j y more) → Ran
-  ran_shut e shown_so =
-      ran_from (within_items meaning key barrier all others asked y (y.items ++ map Value brought_by) e may.within)
+  enter_shut : y.is_open ≡ false → ((AsksNothingNew j y offered requests → ⊥) → AreShown all others j y more) → Enters
+  enter_shut e shown_so =
+      enter_from (within_items meaning key barrier all others asked y (y.items ++ map Value brought_by) e may.within)
       (elim (unless_nothing j y offered requests shown_so) [
         | inl are ↦ inl (record {
           items = items ++ brought;
@@ -331,10 +332,10 @@ module _ (meaning : Meaning) (lawful : IsLawful meaning) (entry before after : S
         | inr none ↦ inr (minds_nothing meaning key barrier y z offered requests refl none)
       ])
 
-  ran_by : (flag : Bool) → y.is_open ≡ flag → ((AsksNothingNew j y offered requests → ⊥) → AreShown all others j y more) → Ran
-  ran_by true e shown_so =
-      ran_open e (shown_so (λ k. let clash : true ≡ false = sym e ∙ shut_of meaning key barrier y offered requests k in absurd (cc)))
-  ran_by false e shown_so = ran_shut e shown_so
+  pub enter_by : (flag : Bool) → y.is_open ≡ flag → ((AsksNothingNew j y offered requests → ⊥) → AreShown all others j y more) → Enters
+  enter_by true e shown_so =
+      enter_open e (shown_so (λ k. let clash : true ≡ false = sym e ∙ shut_of meaning key barrier y offered requests k in absurd (cc)))
+  enter_by false e shown_so = enter_shut e shown_so
 
 -- a session behind others' values
 run_over : (variant : Variant) (meaning : Meaning) → IsLawful meaning → (entry before after : Standing) (values : List (List ℕ))
@@ -352,8 +353,10 @@ run_over Basic meaning lawful entry before after values cell looked old new left
     }) (λ p. p) (inl tt) f
 run_over Opt meaning lawful entry before after values cell looked old new left left' received received' result =
     λ s key barrier y slots all others asked requests items more may f known ends shown_so.
-    ran_by meaning lawful entry before after values cell looked s key barrier y slots all others asked requests items more may f known ends
-    y.is_open refl shown_so
+    let e = enter_by meaning lawful entry before after values cell looked s key barrier y slots all others asked requests items more may
+    known ends y.is_open refl shown_so in
+    runs_once (opt_laws meaning lawful key barrier all others asked after may.clear may.apart) s (taking y values) y slots may.waiting
+    may.told may.is_waiting requests e.0 (powered_looked values y) e.1 f
 
 -- behind a reading of the cell, whether that failed or not
 pub runs_once_from : (variant : Variant) (meaning : Meaning) → IsLawful meaning
@@ -363,7 +366,7 @@ pub runs_once_from : (variant : Variant) (meaning : Meaning) → IsLawful meanin
 runs_once_from variant meaning lawful entry before after fault old new left left' received received' result g =
     run_over variant meaning lawful entry before after g.others g.cell g.items old new left left' received received' result
 
-nothing_beside : (items : Option (List Item)) → items ≡ beside [] items
+pub nothing_beside : (items : Option (List Item)) → items ≡ beside [] items
 nothing_beside None = refl
 nothing_beside (Some xs) = ap (λ (x : List Item). Some x) (sym (append-nil xs))
 

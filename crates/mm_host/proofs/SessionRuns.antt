@@ -3,20 +3,21 @@ use Rattle.mm_host.proofs.Below.{◌≡◌, ◌≢◌, ◌∙◌, ℕ, List, [],
 use Rattle.mm_host.proofs.Below.{Standing, Batch, One, Instance, History, requests_of, Life, LostLife, life_of, requests-push}
 use Rattle.mm_host.proofs.Below.{StoreStanding, Pending, Refusal, HostFault, SessionFault, Host, Resumed, ContinuesTo, HasUntold}
 use Rattle.mm_host.proofs.Below.{MayBeUntold, RefusesAs, RunsOver, IsGrown, IsRefusedAs, MayHaveCommitted, SendsReply, comes_as}
-use Rattle.mm_host.proofs.Below.{reply_text, Place, Served, IsAtRest, Ok, Commit, moved, Slots, Answered, history_then, FitsBy}
-use Rattle.mm_host.proofs.Below.{RecoversTo, record_for, Serves, lines_served, lines_of, Basic, Opt, Meaning, IsLawful, Variant, opt}
-use Rattle.mm_host.proofs.Below.{whole_in, unless_idle, slot_read, Answer, CanServe, SessionContinues, IsInHand, told_first, told_in}
-use Rattle.mm_host.proofs.Below.{offer_slot, AsksIdly, Resumes, Sessions, AfterResume, StopsAtOnce, NoMore, asked_at, left_by}
-use Rattle.mm_host.proofs.Below.{recovers_by, IsIdle, refusal_fault, Met, IfOk, subst, RunsTo, StandsFor, IsWithin}
+use Rattle.mm_host.proofs.Below.{reply_text, Place, Served, IsAtRest, Ok, Slots, Answered, FitsBy}
+use Rattle.mm_host.proofs.Below.{RecoversTo, record_for, Serves, lines_served, AreAmong, AreAskedInTurn, answered_to, snapshot_at, length}
+use Rattle.mm_host.proofs.Below.{whole_in, slot_read, Answer, CanRecover, IsInHand, told_first, told_in, first_offer, requests_with, ◌+◌, ◌≤◌}
+use Rattle.mm_host.proofs.Below.{offer_slot, Resumes, Sessions, AfterResume, StopsAtOnce, NoMore, left_by, IsCall, IsWaiting, IsSame}
+use Rattle.mm_host.proofs.Below.{recovers_by, Met, IfOk, subst, sym, total_of, last_position, refusal_fault, RunsTo, StandsFor, IsWithin}
+use Rattle.mm_host.proofs.Below.{append_assoc, append_cancel_left, true}
+use Rattle.mm_recovery.specs.Recovery.{IsAskedFor}
 use Rattle.mm_host.specs.Sessions.{GoesOn}
 use Rattle.mm_recovery.specs.declared.fault.HostFault.TheVariants as host
-use Rattle.mm_host.proofs.CallsMade.{served_calls, InHand, lines_chain}
-use Rattle.mm_host.proofs.InTurn.{calls_reach, chain_reaches, ends_reach}
-use Rattle.mm_host.proofs.Leading.{basic_laws, Laws, Makes, Reaches, RunsOver-append, same_pending, same_self, Shows, unspoiled}
-use Rattle.mm_host.proofs.LineStep.{between_called, came_by, CameTo, IsBetween, IsReady, IsSettledAt, line_goes, line_last, MayServe}
-use Rattle.mm_host.proofs.LineStep.{ready_first, settled_by, went_first}
-use Rattle.mm_host.proofs.Lines.{by_told, IsByInput, by_end, IsRead, lines_in, next_line, read_of}
-use Rattle.mm_host.proofs.OptLeading.{opt_laws}
+use Rattle.mm_host.proofs.CallsMade.{first_told, InHand, lines_chain, served_calls}
+use Rattle.mm_host.proofs.InTurn.{calls_reach, chain_reaches, ends_reach, May, met_last, StandsIn}
+use Rattle.mm_host.proofs.Leading.{Laws, Reaches, RunsOver-append, same_pending, unspoiled}
+use Rattle.mm_host.proofs.LineStep.{between_told, came_by, CameTo, IsBetween, IsReady, IsSettledAt, line_goes, line_last, ready_first}
+use Rattle.mm_host.proofs.LineStep.{offer_then, settled_by, waiting_then, went_first}
+use Rattle.mm_host.proofs.Lines.{by_told, IsByInput, by_end}
 
 -- what a fault says of what came
 
@@ -118,12 +119,12 @@ module _ {all others : List (List ℕ)} {asked : List Batch} {i : Instance} {fin
   pub record AfterLines (y : History) (to : Place) (calls : List Served) (rest : List (List ℕ)) : Type 0 where
     pub settled : IsSettledAt all others asked i to
     pub then_is : History
-    pub ready : IsReady all others asked i settled then_is final rest
+    pub ready : IsReady laws settled then_is rest
     pub run : RunsOver i.meaning (requests_of y.batches) calls (requests_of settled.after.batches)
     pub powered : life_of i.variant y ≢ LostLife → life_of i.variant settled.after ≢ LostLife
 
   pub lines_come : (z : History) (from to : Place) (calls : List Served) (rest : List (List ℕ)) (s : IsSettledAt all others asked i from)
-      → IsReady all others asked i s z final (lines_served calls ++ rest) → Serves i.variant i.meaning from calls to
+      → IsReady laws s z (lines_served calls ++ rest) → Serves i.variant i.meaning from calls to
       → Reaches i.variant i to.platform final → AfterLines s.after to calls rest
   lines_come z from to [] rest s ready h reaches =
       rw h (record { settled = s; then_is = z; ready = ready; run = refl; powered = λ p. p })
@@ -134,7 +135,7 @@ module _ {all others : List (List ℕ)} {asked : List Batch} {i : Instance} {fin
       (calls_reach laws c.answer.snapshot h.platform to.platform calls
       (served_calls i.variant i.meaning next to calls h.rest) reaches)
       h.asks.records h.asks.goes in
-      let r = lines_come (moved i z (Commit (One c.line))) next to calls rest b.settled_then b.ready h.rest reaches in
+      let r = lines_come (answered_to i z (snapshot_at from.last) c.line) next to calls rest b.settled_then b.ready h.rest reaches in
       record {
         settled = r.settled;
         then_is = r.then_is;
@@ -144,65 +145,113 @@ module _ {all others : List (List ℕ)} {asked : List Batch} {i : Instance} {fin
         powered = λ k. r.powered (b.powered k);
       }
 
--- A session by lists, in either variant: from what waited, over the lines, to each of its ends.
+-- A session by lists, in either variant: from what waited, over the lines, to each of its ends; it starts at a history that is the
+-- same as the one of which is asked but for others' values.
 
 module _ {all others : List (List ℕ)} {asked : List Batch} {i : Instance} {final : Standing} (laws : Laws all others asked i final)
     {before : Standing} {old new : StoreStanding} {left left' received received' : Option (List ℕ)} {result : Result Unit SessionFault}
-    (s : Sessions i.variant i.meaning before final old new left left' received received' result) (y : History) (slots : Slots)
-    (input : List ℕ) (read : IsRead input s.taken left') (can : CanServe all others asked i y slots before old (lines_of input))
-    (may : Shows i.variant all others i y before final ⊎ (AsksIdly i y slots can.can.fits.waiting × (lines_of input ≡ []))) where
-  abbrev waiting : Option Pending
-  waiting = can.can.fits.waiting
+    (s : Sessions i.variant i.meaning before final old new left left' received received' result) (y z : History) (slots : Slots)
+    (waiting : Option Pending) (slots_told : old.slots ≡ Some slots) (honest : old.is_honest ≡ true)
+    (w : IsWaiting (slot_read slots 2) (slot_read slots 3) waiting) (fits : FitsBy i slots y waiting) (requests : List (List ℕ))
+    (here : StandsIn all others asked i y z before (first_offer slots waiting))
+    (may : May laws y before (first_offer slots waiting) requests)
+    (follow : AreAskedInTurn all asked i z (first_offer slots waiting) requests)
+    (room : total_of y.batches + length requests ≤ last_position)
+    (among : AreAmong (told_in waiting s.goes) (IsInHand waiting s.goes) requests) where
+  -- what waits is the first request
+  waits_first : (p : Pending) → waiting ≡ Some p
+      → (goes : AfterResume i.variant i.meaning s.begun s.platform final s.store new left' s.taken s.sent result)
+      → AreAmong (told_in waiting goes) (IsInHand waiting goes) requests → (rest : List (List ℕ)) × (requests ≡ p.request ∷ rest)
+  waits_first p e (inl stops) a = let f = a.in_hand p.request (p, e, refl) in (f.0, sym f.1)
+  waits_first p e (inr g) a =
+      let lines : List (List ℕ) = lines_served g.lines.calls ++ a.served.0 in (
+        lines,
+        sym a.served.1 ∙ first_told s slots waiting slots_told w g a.served.0
+            ∙ ap (λ (v : Option Pending). requests_with v lines) e,
+      )
 
-  -- what is known of others, for the request that waits
-  may_ask : (p : Pending) → waiting ≡ Some p → Shows i.variant all others i y before final
-      ⊎ (IsIdle i y (slot_read slots (offer_slot p)) (One p.request) × (lines_of input ≡ []))
-  may_ask p e = elim may [ inl shows ↦ inl shows | inr idle ↦ inr (rw e at idle.0, idle.1) ]
+  -- where that is asked
+  record AsksFirst (p : Pending) (rest : List (List ℕ)) : Type 0 where
+    first_here : StandsIn all others asked i y z before (slot_read slots (offer_slot p))
+    first_may : May laws y before (slot_read slots (offer_slot p)) (p.request ∷ rest)
+    first_follow : AreAskedInTurn all asked i z (slot_read slots (offer_slot p)) (p.request ∷ rest)
+
+  asks_first : (p : Pending) (rest : List (List ℕ)) → waiting ≡ Some p → requests ≡ p.request ∷ rest → AsksFirst p rest
+  asks_first p rest e is =
+      let offer : first_offer slots waiting ≡ slot_read slots (offer_slot p) = ap (first_offer slots) e in
+      record {
+        first_here = subst (λ (bytes : List ℕ). StandsIn all others asked i y z before bytes) offer here;
+        first_may = subst (λ (bytes : List ℕ). May laws y before bytes (p.request ∷ rest)) offer
+            (subst (λ (rs : List (List ℕ)). May laws y before (first_offer slots waiting) rs) is may);
+        first_follow = subst (λ (bytes : List ℕ). AreAskedInTurn all asked i z bytes (p.request ∷ rest)) offer
+            (subst (λ (rs : List (List ℕ)). AreAskedInTurn all asked i z (first_offer slots waiting) rs) is follow);
+      }
+
+  is_asked : (v : Option Pending) → waiting ≡ v → IsAskedFor all asked i slots v
+  is_asked None e = tt
+  is_asked (Some p) e =
+      let f = waits_first p e s.goes among in
+      let a = asks_first p f.0 e f.1 in (a.first_follow.0, a.first_follow.1)
+
+  can : CanRecover all others asked i y slots before old
+  can = record {
+    honest = honest;
+    told = slots_told;
+    stands = here.stands;
+    fits = record { waiting = waiting; is_waiting = w; fits = fits };
+    clear = laws.clear;
+    apart = laws.apart;
+    within = here.within;
+    is_asked = is_asked waiting refl;
+  }
 
   -- the recovery, by what a call for what waits comes to
-  recovered_by : (More : History → Type 0) (after : Standing) (came : Result Resumed HostFault) → (after ≡ before → More y)
+  recovered_by : (More : History → Type 0) (after : Standing) (came : Result Resumed HostFault)
+      → (waiting ≡ None → after ≡ before → More y)
       → ((p : Pending) (call : Result Answer Refusal) → waiting ≡ Some p
+      → IsCall i.variant i.meaning before after (slot_read slots (offer_slot p)) p.request call
       → ((why : Refusal) → call ≡ Err why → came ≡ Err (refusal_fault why))
-      → Makes all others asked i y before after (slot_read slots (offer_slot p)) p (whole_in call)
       → (o : Met all others asked i y after (slot_read slots (offer_slot p)) p (whole_in call)) × More o.after)
       → Resumes i.variant i.meaning before after old s.store came
       → (r : RecoversTo all others asked i y slots waiting after s.store came) × IfOk came (λ (resumed : Resumed). More r.after)
+  unfolding can
   recovered_by More after came none leads =
-      recovers_by More i.variant all others asked i laws.lawful y slots before after old can.can s.store came none
+      recovers_by More i.variant all others asked i laws.lawful y slots before after old can s.store came none
       (λ p call e told c.
-      let o = leads p call e told (record {
-        goes = c.goes;
-        stands = can.can.stands;
-        asks = asked_at all others asked i y slots before old can.can p e;
-      }) in left_by all others asked i y slots before old can.can More after p (whole_in call) e o.0 o.1)
+      let o = leads p call e c told in left_by all others asked i y slots before old can More after p (whole_in call) e o.0 o.1)
 
   -- it is all
   recovers_last : Resumes i.variant i.meaning before final old s.store s.begun
       → RecoversTo all others asked i y slots waiting final s.store s.begun
   recovers_last r =
-      (recovered_by NoMore final s.begun (λ e. tt) (λ p call e told m. (
-        elim (may_ask p e) [
-          | inl shows ↦ laws.met_last y before (slot_read slots (offer_slot p)) p (whole_in call) m shows
-          | inr idle ↦ laws.idle y before final (slot_read slots (offer_slot p)) p (whole_in call) m idle.0
-        ],
-        tt,
-      )) r).0
+      (recovered_by NoMore final s.begun (λ n e. tt) (λ p call e c told.
+      let f = waits_first p e s.goes among in
+      let a = asks_first p f.0 e f.1 in
+      (met_last laws y z before (slot_read slots (offer_slot p)) p f.0 call a.first_here a.first_follow a.first_may c, tt)) r).0
 
   -- or lines come behind it
-  recovers_between : (first : Resumed) → Reaches i.variant i s.platform final → s.begun ≡ Ok first
-      → (r : RecoversTo all others asked i y slots waiting s.platform s.store (Ok first))
-      × IsBetween all others i y waiting s.platform final (lines_of input) r.after
-  recovers_between first reaches is =
-      recovered_by (IsBetween all others i y waiting s.platform final (lines_of input)) s.platform (Ok first)
-      (λ e. (
-        elim may as (λ _. MayServe all others i y s.platform final (lines_of input)) [
-          | inl shows ↦ inl (rw e shows)
-          | inr idle ↦ inr idle.1
-        ],
-        inl (same_self i.variant y),
-      ))
-      (λ p call e told m. rw e (between_called laws y before s.platform (slot_read slots (offer_slot p)) p call first (lines_of input) told
-      m (may_ask p e) reaches)) (rw is at s.resumes)
+  recovers_between : (first : Resumed) (lines : List (List ℕ)) → Reaches i.variant i s.platform final → s.begun ≡ Ok first
+      → requests ≡ requests_with waiting lines → (r : RecoversTo all others asked i y slots waiting s.platform s.store (Ok first))
+      × IsBetween laws (waiting_then laws z slots waiting) s.platform (offer_then laws z slots waiting) lines r.after
+  recovers_between first lines reaches is all_lines =
+      recovered_by (IsBetween laws (waiting_then laws z slots waiting) s.platform (offer_then laws z slots waiting) lines) s.platform
+      (Ok first)
+      (λ n e.
+      let rests : May laws y s.platform (slot_read slots 0) lines =
+      subst (λ (x : Standing). May laws y x (slot_read slots 0) lines) (sym e)
+      (subst (λ (rs : List (List ℕ)). May laws y before (slot_read slots 0) rs)
+      (all_lines ∙ ap (λ (v : Option Pending). requests_with v lines) n)
+      (subst (λ (v : Option Pending). May laws y before (first_offer slots v) requests) n may)) in
+      subst (λ (v : Option Pending). IsBetween laws (waiting_then laws z slots v) s.platform (offer_then laws z slots v) lines y) (sym n)
+      (rests, here.same))
+      (λ p call e c told.
+      let a = asks_first p lines e (all_lines ∙ ap (λ (v : Option Pending). requests_with v lines) e) in
+      let b = between_told laws y z before s.platform (slot_read slots (offer_slot p)) p call first lines a.first_here a.first_follow
+      a.first_may reaches c told in
+      subst (λ (v : Option Pending).
+      (o : Met all others asked i y s.platform (slot_read slots (offer_slot p)) p (whole_in call))
+      × IsBetween laws (waiting_then laws z slots v) s.platform (offer_then laws z slots v) lines o.after) (sym e) b)
+      (rw is at s.resumes)
 
   -- what waited ends it
   at_once : new ≡ s.store → (e : StopsAtOnce s.begun s.taken s.sent result)
@@ -216,59 +265,64 @@ module _ {all others : List (List ℕ)} {asked : List Batch} {i : Instance} {fin
 
   -- the lines
   serves_on : (g : GoesOn i.variant i.meaning s.begun s.platform final s.store new left' s.taken s.sent result)
+      → AreAmong (told_first waiting g.first ++ g.lines.calls) (InHand g.lines) requests
       → ContinuesTo all others asked i y final new (told_first waiting g.first ++ g.lines.calls) (InHand g.lines) result
-  serves_on g =
+  serves_on g a =
       let l = g.lines in
       let told : List Served = told_first waiting g.first ++ l.calls in
       let from : Place = record { platform = s.platform; store = s.store; last = g.first } in
-      let start : History = history_then i y waiting in
-      let lines : List (List ℕ) = lines_of (l.more ++ read.rest) in
-      let r = recovers_between g.first (chain_reaches laws (lines_chain l)) g.begins in
-      let f : FitsBy i slots y waiting = can.can.fits.fits in
-      let a = lines_come laws start from l.at l.calls lines (settled_by waiting g.first f r.0)
-      (ready_first laws y slots waiting s.platform s.store g.first (lines_served l.calls ++ lines) f r.0 (rw (lines_in l read) at r.1)
-      (rw (lines_in l read) at can.follow)) l.serves (ends_reach laws (lines_chain l).ends) in
-      let run : RunsOver i.meaning (requests_of y.batches) told (requests_of a.settled.after.batches) =
-      RunsOver-append i.meaning (requests_of y.batches) (requests_of r.0.after.batches) (requests_of a.settled.after.batches)
-      (told_first waiting g.first) l.calls (went_first waiting g.first f r.0).run a.run in
+      let rest : List (List ℕ) = a.served.0 in
+      let lines : List (List ℕ) = lines_served l.calls ++ rest in
+      let all_lines : requests ≡ requests_with waiting lines = sym a.served.1 ∙ first_told s slots waiting slots_told w g rest in
+      let r = recovers_between g.first lines (chain_reaches laws (lines_chain l)) g.begins all_lines in
+      let ready = ready_first laws y z slots waiting s.platform s.store g.first lines fits r.0 r.1
+      (subst (λ (rs : List (List ℕ)). AreAskedInTurn all asked i z (first_offer slots waiting) rs) all_lines follow)
+      (subst (λ (rs : List (List ℕ)). total_of y.batches + length rs ≤ last_position) all_lines room) in
+      let c = lines_come laws (waiting_then laws z slots waiting) from l.at l.calls rest (settled_by waiting g.first fits r.0) ready
+      l.serves (ends_reach laws (lines_chain l).ends) in
+      let run : RunsOver i.meaning (requests_of y.batches) told (requests_of c.settled.after.batches) =
+      RunsOver-append i.meaning (requests_of y.batches) (requests_of r.0.after.batches) (requests_of c.settled.after.batches)
+      (told_first waiting g.first) l.calls (went_first waiting g.first fits r.0).run c.run in
       by_end (λ x. ContinuesTo all others asked i y final new told (InHand l) x) result l
       (λ fault e.
-      let next : lines ≡ e.line ∷ lines_of (e.held ++ read.rest) = next_line l.more read.rest e.line e.held e.begins in
-      stops_with y told (InHand l) a.settled.after (Some (record_for l.at.last e.line)) new e.came l.last fault run
-      (λ p. a.powered (r.0.powered p))
-      (line_last laws a.then_is l.at e.line (lines_of (e.held ++ read.rest)) a.settled
-      (subst (λ (ls : List (List ℕ)). IsReady all others asked i a.settled a.then_is final ls) next a.ready) e.begins.within
+      let next = a.in_hand e.line (e.held, e.begins) in
+      let is : rest ≡ e.line ∷ next.0 = append_cancel_left (lines_served told) rest (e.line ∷ next.0)
+      (a.served.1 ∙ sym next.1 ∙ append_assoc (lines_served told) (e.line ∷ []) next.0) in
+      stops_with y told (InHand l) c.settled.after (Some (record_for l.at.last e.line)) new e.came l.last fault run
+      (λ p. c.powered (r.0.powered p))
+      (line_last laws c.then_is l.at e.line next.0 c.settled
+      (subst (λ (ls : List (List ℕ)). IsReady laws c.settled c.then_is ls) is c.ready) e.begins.within
       e.asks.recorded e.asks.middle new e.came e.asks.records e.asks.goes)
       (λ p k. rw (same_pending (record_for l.at.last e.line) p k) (e.held, e.begins)) e.says)
-      (λ by x. rests_at y told (InHand l) l.at new l.last result a.settled run (λ p. a.powered (r.0.powered p)) x by)
+      (λ by x. rests_at y told (InHand l) l.at new l.last result c.settled run (λ p. c.powered (r.0.powered p)) x by)
 
   ends_by : (goes : AfterResume i.variant i.meaning s.begun s.platform final s.store new left' s.taken s.sent result)
+      → AreAmong (told_in waiting goes) (IsInHand waiting goes) requests
       → ContinuesTo all others asked i y final new (told_in waiting goes) (IsInHand waiting goes) result
-  ends_by (inl e) = at_once e.1 e.2 (recovers_last (rw e.0 s.resumes))
-  ends_by (inr g) = serves_on g
+  ends_by (inl e) a = at_once e.1 e.2 (recovers_last (rw e.0 s.resumes))
+  ends_by (inr g) a = serves_on g a
 
--- the session has lines, or its recovery minds the register; or neither
-unless_resting : {A : Type 0} (i : Instance) (y : History) (slots : Slots) (waiting : Option Pending) (lines : List (List ℕ))
-    → ((AsksIdly i y slots waiting × (lines ≡ []) → ⊥) → A) → A ⊎ (AsksIdly i y slots waiting × (lines ≡ []))
-unless_resting i y slots waiting (line ∷ lines) unless = inl (unless (λ k. let clash : line ∷ lines ≡ [] = k.1 in absurd (cc)))
-unless_resting i y slots None [] unless = inr (tt, refl)
-unless_resting i y slots (Some p) [] unless =
-    elim (unless_idle i y (slot_read slots (offer_slot p)) (One p.request) (λ busy. unless (λ k. busy k.0))) [
-      | inl it ↦ inl it
-      | inr idle ↦ inr (idle, refl)
-    ]
-
-pub continues : (variant : Variant) (meaning : Meaning) → IsLawful meaning
-    → (before after : Standing) (old new : StoreStanding) (left left' received received' : Option (List ℕ))
-    (result : Result Unit SessionFault) → SessionContinues variant meaning before after old new left left' received received' result
-continues Basic meaning lawful before after old new left left' received received' result = λ s key y slots all others asked input e can.
-    ends_by (basic_laws meaning lawful key all others asked after can.can.clear can.can.apart) s y slots input
-    (read_of left left' input s.taken e s.consumed) can (inl tt) s.goes
-continues Opt meaning lawful before after old new left left' received received' result =
-    λ s key barrier y slots all others asked input items more e can known ends shown_so.
-    ends_by (opt_laws meaning lawful key barrier all others asked after can.can.clear can.can.apart) s y slots input
-    (read_of left left' input s.taken e s.consumed) can
-    (elim (unless_resting (opt meaning key barrier) y slots can.can.fits.waiting (lines_of input) shown_so) [
-      | inl shown_are ↦ inl (record { items = items; known = known; more = more; ends = ends; shown_are = shown_are })
-      | inr rests ↦ inr rests
-    ]) s.goes
+  -- of the history of which was asked
+  pub continues_to : (life_of i.variant z ≢ LostLife → life_of i.variant y ≢ LostLife)
+      → ContinuesTo all others asked i z final new (told_in waiting s.goes) (IsInHand waiting s.goes) result
+  continues_to powered =
+      let c = ends_by s.goes among in
+      record {
+        runs = record {
+          after = c.runs.after;
+          stands = c.runs.stands;
+          within = c.runs.within;
+          requests = c.runs.requests;
+          run = subst (λ (bs : List Batch). RunsOver i.meaning (requests_of bs) (told_in waiting s.goes) c.runs.requests)
+              (laws.batches y z here.same) c.runs.run;
+          committed = c.runs.committed;
+          unspoiled = c.runs.unspoiled;
+          powered = λ p. c.runs.powered (powered p);
+        };
+        slots_after = c.slots_after;
+        honest = c.honest;
+        slots_told = c.slots_told;
+        fits = c.fits;
+        whole = c.whole;
+        refuses = c.refuses;
+      }

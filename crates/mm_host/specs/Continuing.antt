@@ -13,23 +13,6 @@ use Rattle.mm_host.specs.declared.fault.SessionFault.{SessionFault}
 use Rattle.mm_host.specs.declared.fault.SessionFault.TheVariants.{Host, Lines}
 use Rattle.mm_host.specs.Sessions.{Served, AfterResume, BeginsWith, Sessions}
 
--- What is asked of requests that are to follow a history, one after another: each is among those
--- asked, the messages of a call that offers the snapshot of the end are in the list, and there is a
--- position for it.
-abbrev pub AreToFollow : List (List ℕ) → List Batch → Instance → History → List (List ℕ) → Type 0
-AreToFollow all asked i y [] = Unit {0}
-AreToFollow all asked i y (line ∷ lines) =
-    Contains asked (One line) × Within (offer_messages i (issued i y).place (One line)) all
-    × (total_of y.batches < last_position)
-    × AreToFollow all asked i (moved i y (Commit (One line))) lines
-
--- the history once what waits is answered, but for others' values; where nothing waits, nothing is
--- committed
-abbrev pub history_then : Instance → History → Option Pending → History
-history_then i y None = first_history
-history_then i y (Some p) =
-    if nat_eq p.position (total_of y.batches) then y else moved i y (Commit (One p.request))
-
 -- the position of what waits, and 0 where nothing does
 abbrev pub waiting_position : Option Pending → ℕ
 waiting_position None = 0
@@ -95,13 +78,6 @@ pub record HasUntold (hand : List ℕ → Type 0) (result : Result Unit SessionF
   pub grown : after ≡ requests ++ request ∷ []
 
 module _ (all others : List (List ℕ)) (asked : List Batch) (i : Instance) (y : History) where
-  -- What is asked of a session on these lines: what is asked of a recovery, and that the lines are
-  -- to follow it.
-  pub record CanServe (slots : Slots) (standing : Standing) (kept : StoreStanding)
-      (lines : List (List ℕ)) : Type 0 where
-    pub can : CanRecover all others asked i y slots standing kept
-    pub follow : AreToFollow all asked i (history_then i y can.fits.waiting) lines
-
   -- From a history: what was told is one run of the module behind the history's requests. The
   -- platform stands for a history of that run's requests, or of those and the one in hand. It isn't
   -- spoiled where no value of others counts, nor lost where it wasn't before.
@@ -130,34 +106,3 @@ module _ (all others : List (List ℕ)) (asked : List Batch) (i : Instance) (y :
         FitsHistory i slots_after runs.after
     pub whole : result ≢ Err (Host Store) → FitsHistory i slots_after runs.after
     pub refuses : RefusesAs result (life_of i.variant runs.after)
-
--- Over an honest store and an input that tell what they hold: by whatever steps the session went,
--- from every history. Over a platform of Basic under every key; over one of Opt under every key and
--- barrier, where what others did is known by the items that the register shows at the session's end
--- behind those that counted at its start, unless it asks idly and has no line.
-abbrev pub SessionContinues : Variant → Meaning → Standing → Standing → StoreStanding
-    → StoreStanding → Option (List ℕ) → Option (List ℕ)
-    → Option (List ℕ)
-    → Option (List ℕ) → Result Unit SessionFault → Type 0
-SessionContinues Basic meaning before after old new left left' received received' result =
-    (s : Sessions Basic meaning before after old new left left' received received' result)
-    (key : List ℕ) (y : History) (slots : Slots) (all others : List (List ℕ)) (asked : List Batch)
-    (input : List ℕ) →
-    left ≡ Some input → (can : CanServe all others asked (basic meaning key) y slots before old
-    (lines_of input)) →
-    ContinuesTo all others asked (basic meaning key) y after new
-    (told_in can.can.fits.waiting s.goes)
-    (IsInHand can.can.fits.waiting s.goes) result
-SessionContinues Opt meaning before after old new left left' received received' result =
-    (s : Sessions Opt meaning before after old new left left' received received' result)
-    (key barrier : List ℕ) (y : History) (slots : Slots) (all others : List (List ℕ))
-    (asked : List Batch) (input : List ℕ)
-    (items more : List Item) →
-    left ≡ Some input → (can : CanServe all others asked (opt meaning key barrier) y slots before
-    old (lines_of input)) →
-    before.items ≡ Some items → after.items ≡ Some (standing_items y.is_open items ++ more) →
-    ((AsksIdly (opt meaning key barrier) y slots can.can.fits.waiting × (lines_of input ≡ []) → ⊥) →
-    AreShown all others (opt meaning key barrier) y more) →
-    ContinuesTo all others asked (opt meaning key barrier) y after new
-    (told_in can.can.fits.waiting s.goes)
-    (IsInHand can.can.fits.waiting s.goes) result

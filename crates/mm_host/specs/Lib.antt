@@ -6,3 +6,4 @@ pub mod SessionLines
 pub mod SessionWrites
 pub mod AnySlots
 pub mod Refusing
+pub mod Honest

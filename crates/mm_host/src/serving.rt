@@ -6,7 +6,7 @@ ghost use Rattle.mm_base.specs.Limits.{longest_request};
 ghost use Rattle.mm_play.specs.Plays.{IsBlamed};
 ghost use Rattle.mm_recovery.specs.Last.{IsSized};
 ghost use Rattle.mm_host.specs.AnySlots.{SessionRunsOnce};
-ghost use Rattle.mm_host.specs.Continuing.{SessionContinues};
+ghost use Rattle.mm_host.specs.Honest.{SessionContinues};
 ghost use Rattle.mm_host.specs.SessionBlame.{IsRefusalNamed, is_platform_fault, is_read_fault, is_store_fault, is_write_fault};
 ghost use Rattle.mm_host.specs.SessionLines.{SparesLines};
 ghost use Rattle.mm_host.specs.SessionWrites.{SessionWrites};

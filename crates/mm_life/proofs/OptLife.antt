@@ -155,7 +155,8 @@ module _ (meaning : Meaning) (key barrier : List ℕ) (all others : List (List �
 
   -- a checkpoint is made
   module _ (y : History) (old new : Standing) (said : Result Checkpointed CheckpointRefusal) (k : ChecksOn old new said)
-      (seen : IsSeen all others old (Does (Checkpoints said)) new) (stands : StandsFor I old y) (within : IsWithin all others asked I y) where
+      (seen : IsSeen all others old (Does (Checkpoints said)) new) (stands : StandsFor I old y)
+      (within : IsWithin all others asked I y) where
     stays_left : (items more : List Item) → old.items ≡ Some items → new.items ≡ Some (standing_items y.is_open items ++ more)
         → (y.is_open ≡ true → AreShown all others I y more × MayClose all I y more) → Stays all others asked I y new
     stays_left items more known ends asks =

@@ -64,7 +64,8 @@ module _ (meaning : Meaning) (key barrier : List ℕ) where
   I = opt meaning key barrier
 
   -- where it stands for a history the items are told
-  pub items_told : (reads : Option (List Item)) (value : List ℕ) → option_map (λ items. register_after (item_values items)) reads ≡ Some value
+  pub items_told : (reads : Option (List Item)) (value : List ℕ)
+      → option_map (λ items. register_after (item_values items)) reads ≡ Some value
       → (items : List Item) × (reads ≡ Some items)
   items_told None value e = absurd (cc)
   items_told (Some items) value e = (items, refl)

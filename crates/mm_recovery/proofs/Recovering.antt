@@ -263,12 +263,13 @@ module _ (More : History → Type 0) (variant : Variant) (all others : List (Lis
       ask_exit More all others asked i lawful y slots can.fits.waiting p after g.asked middle new result l.0 l.1 g.asks.fits (r.honest ∙ h)
       (r.slots ∙ t) g.goes
 
-  start_exit : (zero : Result (List ℕ) StoreFault) (old new : StoreStanding) → (after ≡ before → More y) → can.fits.waiting ≡ None
-      → after ≡ before → old.slots ≡ Some slots → old.is_honest ≡ true → ReadsSlot 0 old new zero → Came new (started zero)
+  start_exit : (zero : Result (List ℕ) StoreFault) (old new : StoreStanding)
+      → (can.fits.waiting ≡ None → after ≡ before → More y) → can.fits.waiting ≡ None → after ≡ before
+      → old.slots ≡ Some slots → old.is_honest ≡ true → ReadsSlot 0 old new zero → Came new (started zero)
   start_exit (Ok bytes) old new m e s t h r =
       let f : FitsBy i slots y None = subst (λ (w : Option Pending). FitsBy i slots y w) e can.fits.fits in
       still new (Ok (Start bytes)) s (r.slots ∙ t) (r.honest ∙ h) (sym (r.gives slots t)) (rw (r.gives slots t) f.1)
-      (e, r.gives slots t) (m s)
+      (e, r.gives slots t) (m e s)
   start_exit (Err why) old new m e s t h r = still_exit why new s (r.slots ∙ t) (r.honest ∙ h)
 
   waits_by : (middle : StoreStanding) (found : Option Pending) → Saw slots first middle (Ok found) → can.fits.waiting ≡ found
@@ -276,8 +277,9 @@ module _ (More : History → Type 0) (variant : Variant) (all others : List (Lis
       one_waiting (slot_read slots 2) (slot_read slots 3) can.fits.waiting found can.fits.is_waiting (s.waiting found refl)
 
   found_exit : (waiting : Result (Option Pending) StoreFault) (middle new : StoreStanding) (result : Result Resumed HostFault)
-      → (after ≡ before → More y) → LeadsOn More all others asked variant i y slots can.fits.waiting before after result
-      → Saw slots first middle waiting → AfterFinding variant i.meaning before after waiting middle new result → Came new result
+      → (can.fits.waiting ≡ None → after ≡ before → More y)
+      → LeadsOn More all others asked variant i y slots can.fits.waiting before after result → Saw slots first middle waiting
+      → AfterFinding variant i.meaning before after waiting middle new result → Came new result
   found_exit (Err why) middle new result m leads s g = failed_exit why middle new result s.told (s.honest ∙ can.honest) g
   found_exit (Ok None) middle new result m leads s g =
       rw g.1.gives
@@ -286,7 +288,7 @@ module _ (More : History → Type 0) (variant : Variant) (all others : List (Lis
       offer_exit g.offer middle g.middle new p result leads (waits_by middle (Some p) s) s.told (s.honest ∙ can.honest) g.reads g.goes
 
   -- the whole call, in either variant
-  pub recovers_by : (new : StoreStanding) (result : Result Resumed HostFault) → (after ≡ before → More y)
+  pub recovers_by : (new : StoreStanding) (result : Result Resumed HostFault) → (can.fits.waiting ≡ None → after ≡ before → More y)
       → LeadsOn More all others asked variant i y slots can.fits.waiting before after result
       → Resumes variant i.meaning before after first new result → Came new result
   recovers_by new result m leads r =
@@ -302,13 +304,13 @@ pub recovers : (variant : Variant) (meaning : Meaning) → IsLawful meaning
     → Resumes variant meaning before after old new result → Recovers variant meaning before after old new result
 recovers Basic meaning lawful before after old new result r = λ key y slots all others asked can.
     let i : Instance = basic meaning key in
-    (recovers_by NoMore Basic all others asked i lawful y slots before after old can new result (λ e. tt)
+    (recovers_by NoMore Basic all others asked i lawful y slots before after old can new result (λ n e. tt)
     (λ p call e told c. left_by all others asked i y slots before old can NoMore after p (whole_in call) e
     (basic_met meaning lawful key all others asked y before after (slot_read slots (offer_slot p)) p (whole_in call) c.goes can.stands
     (asked_at all others asked i y slots before old can p e)) tt) r).0
 recovers Opt meaning lawful before after old new result r = λ key barrier y slots all others asked items more can known ends shown_so.
     let i : Instance = opt meaning key barrier in
-    (recovers_by NoMore Opt all others asked i lawful y slots before after old can new result (λ e. tt)
+    (recovers_by NoMore Opt all others asked i lawful y slots before after old can new result (λ n e. tt)
     (λ p call e told c. left_by all others asked i y slots before old can NoMore after p (whole_in call) e
     (opt_met meaning lawful key barrier all others asked y before after (slot_read slots (offer_slot p)) p (whole_in call) c.goes
     can.stands (asked_at all others asked i y slots before old can p e) items more known ends

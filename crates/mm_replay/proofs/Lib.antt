@@ -1,3 +1,4 @@
+pub mod Above
 mod Below
 mod Telling
 mod Progressing

@@ -8,6 +8,7 @@ use Rattle.mm_digest.specs.declared.variant.Variant.{Variant}
 use Rattle.mm_model.specs.Instance.{Instance}
 use Rattle.mm_module.specs.Meaning.{Meaning}
 use Rattle.mm_modules.specs.Modules.{meaning_of}
+use Rattle.mm_modules.specs.declared.any.AnyModule.{AnyModule}
 use Rattle.mm_play.specs.Headed.{Headed, Begins}
 use Rattle.mm_play.specs.Shown.{behind, begun_by, replies, Shows}
 use Rattle.mm_schedule.specs.Headers.{header_at}
@@ -42,14 +43,14 @@ first_replies : (front : List Event) (all it later : List Reply) → all ≡ it 
 first_replies front all it later is size =
     sym (ap (λ n. take n all) (sym size) ∙ ap (λ (rs : List Reply). take (length it) rs) is ∙ take-append_seam it later)
 
--- the module's promises hold of one run
-promised_run : (header : Header) (events : List Event) (shown : Shown)
-    → IsOneRun (world_of header) events shown.replies shown.committed shown.issued → IsPromisedRun header events shown
-promised_run header events shown one = record {
+-- the module's promises hold of one run, of an instance under any key and barrier
+pub promised_run : (variant : Variant) («module» : AnyModule) (key barrier : List ℕ) (events : List Event) (shown : Shown)
+    → (let i = instance_by variant (meaning_of «module») key barrier in IsOneRun i events shown.replies shown.committed shown.issued
+    → IsPromisedRun i «module» events shown)
+promised_run variant «module» key barrier events shown one = record {
   run = one;
-  promised = promises-kept header.«module» events shown.replies one.requests
-      (subst (λ m. Runs m [] events shown.replies one.requests) (meaning_by header.variant (meaning_of header.«module») world_key
-      world_barrier) one.runs);
+  promised = promises-kept «module» events shown.replies one.requests
+      (subst (λ m. Runs m [] events shown.replies one.requests) (meaning_by variant (meaning_of «module») key barrier) one.runs);
 }
 
 -- each run meets the premises or gives evidence
@@ -74,14 +75,15 @@ by_digests_so law decided header events = record {
     unless_evidence =
         let i : Instance = world_of header in
         let known = decided header.variant (meaning_of header.«module») world_key world_barrier in
-        runs_until i known events (λ front. IsPromisedRun header front (shown_by_digests header front))
-        (promised_run header [] (shown_by_digests header []) (none_is_one i known))
+        runs_until i known events (λ front. IsPromisedRun i header.«module» front (shown_by_digests header front))
+        (promised_run header.variant header.«module» world_key world_barrier [] (shown_by_digests header []) (none_is_one i known))
         (λ front later is clear genuine.
         let own = law header.variant (meaning_of header.«module») world_key world_barrier events front later is in
-        promised_run header front (shown_by_digests header front) (own.1 clear genuine));
+        promised_run header.variant header.«module» world_key world_barrier front (shown_by_digests header front)
+        (own.1 clear genuine));
     one_run = λ front later is clear genuine.
         let own = law header.variant (meaning_of header.«module») world_key world_barrier events front later is in
-        promised_run header front (shown_by_digests header front) (own.1 clear genuine);
+        promised_run header.variant header.«module» world_key world_barrier front (shown_by_digests header front) (own.1 clear genuine);
   };
 }
 

@@ -2,6 +2,8 @@
 use Rattle.std.specs.Prelude.{◌≡◌, ℕ, List, ◌++◌, length, take}
 use Rattle.std.specs.List.{sum_by}
 use Rattle.std.specs.Option.{option_map}
+use Rattle.mm_model.specs.Instance.{Instance}
+use Rattle.mm_modules.specs.declared.any.AnyModule.{AnyModule}
 use Rattle.mm_schedule.specs.declared.header.Header.{Header}
 use Rattle.mm_schedule.specs.Events.{Event}
 use Rattle.mm_schedule.specs.Grammar.{event_at}
@@ -38,11 +40,12 @@ replayed = record {
   kept = λ shown. sum_by length shown.issued;
 }
 
--- One run of the header's module; and what the module promises of a run holds of the requests and
--- of the replies.
-pub record IsPromisedRun (header : Header) (events : List Event) (shown : Shown) : Type 0 where
-  pub run : IsOneRun (world_of header) events shown.replies shown.committed shown.issued
-  pub promised : Promises header.«module» run.requests shown.replies
+-- One run of an instance of the module; and what the module promises of a run holds of the requests
+-- and of the replies.
+pub record IsPromisedRun (i : Instance) («module» : AnyModule) (events : List Event) (shown : Shown)
+    : Type 0 where
+  pub run : IsOneRun i events shown.replies shown.committed shown.issued
+  pub promised : Promises «module» run.requests shown.replies
 
 -- The headline. Each event has one reply, and the first events have the first ones. And each first
 -- part of the events is one run, up to the first event at which one holds evidence in hand: two
@@ -55,10 +58,10 @@ pub record AreOneRun (header : Header) (events : List Event) (shown : List Event
     pub first : (front later : List Event) → events ≡ front ++ later
         → (shown front).replies ≡ take (length front) (shown events).replies
     pub unless_evidence : RunsUntil (world_of header) events
-        (λ front. IsPromisedRun header front (shown front))
+        (λ front. IsPromisedRun (world_of header) header.«module» front (shown front))
     pub one_run : (front later : List Event) → events ≡ front ++ later
         → IsClearRun (world_of header) front → IsGenuineRun (world_of header) front
-        → IsPromisedRun header front (shown front)
+        → IsPromisedRun (world_of header) header.«module» front (shown front)
 
 -- what is shown of events by digests, as the code computes them
 abbrev pub shown_by_digests : Header → List Event → Shown

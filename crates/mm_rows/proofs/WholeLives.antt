@@ -1,14 +1,10 @@
 -- Lives over devices in memory are wholes: the slots of the first start are offered first, and of a copy what is asked.
 use Rattle.std.specs.List.{Contains}
-use Rattle.std.specs.Option.{option_map}
-use Rattle.std.specs.Prelude.{Bool}
 use Rattle.std.proofs.Common.{◌≡◌, ◌≤◌, ◌∙◌, ℕ, List, [], ◌∷◌, Option, None, Some, Result, arith, drop, length, refl, sym, ap, subst, take, inl, inr}
 use Rattle.std.proofs.lemmas.List.{append-nil, take_all}
 use Rattle.mm_digest.specs.declared.variant.Variant.{Variant}
 use Rattle.mm_digest.specs.declared.variant.Variant.TheVariants.{Basic, Opt}
 use Rattle.mm_platform.specs.Standing.{Standing}
-use Rattle.mm_platform.specs.Steps.{Cycles, items_cycled}
-use Rattle.mm_platform.specs.declared.fault.StepFault.{StepFault}
 use Rattle.mm_module.specs.Meaning.{IsLawful, Meaning}
 use Rattle.mm_model.specs.History.{History, first_history}
 use Rattle.mm_model.specs.Instance.{Instance}
@@ -204,9 +200,3 @@ module _ (meaning : Meaning) (lawful : IsLawful meaning) (offers : SessionsOffer
       whole = whole_checkpointed said closed;
       first_is_old = opt_old;
     }
-
--- a loss of power that didn't fail
-pub power_lost : (old new : Standing) (fault : Option StepFault) → fault ≡ None → Cycles old new fault
-    → (new.cell ≡ old.cell) × (new.items ≡ option_map (λ _. []) old.items)
-power_lost old new None e c = (c.cell, c.items ∙ ap (λ (emptied : Bool). items_cycled emptied old.items) c.ends.0)
-power_lost old new (Some fault) e c = absurd (cc)

@@ -10,7 +10,11 @@ use Rattle.mm_model.specs.Instance.{Instance}
 use Rattle.mm_model.specs.InstanceWords.{basic}
 use Rattle.mm_model.specs.History.{first_history}
 use Rattle.mm_model.specs.Messages.{IsClear, AreNoGuards}
-use Rattle.mm_host.specs.Continuing.{AreToFollow, ContinuesTo, IsInHand, told_in}
+use Rattle.mm_host.specs.AnySlots.{AreAskedInTurn}
+use Rattle.mm_host.specs.Continuing.{ContinuesTo, IsInHand, told_in}
+use Rattle.mm_host.specs.Honest.{HasRoom}
+use Rattle.mm_recovery.specs.Begins.{first_slots}
+use Rattle.mm_recovery.specs.Fitting.{first_offer}
 use Rattle.mm_host.specs.Sessions.{Sessions}
 use Rattle.mm_host.specs.declared.fault.SessionFault.{SessionFault}
 use Rattle.mm_pages.specs.Cached.{Cached}
@@ -19,14 +23,15 @@ use Rattle.mm_twocell.specs.Torn.{Torn}
 use Rattle.mm_twocell.specs.declared.pair.TwoCell.{TwoCell}
 use Rattle.mm_rows.specs.Devices.{kept_in_pages, two_cells}
 
--- What is asked of the lines: they are asked one after another from the first history, and no two
--- messages of this share a digest.
+-- What is asked of the lines: they are asked one after another from the first history, with what a
+-- new store offers first; there are positions for them; and no two messages of this share a digest.
 pub record CanBegin (all others : List (List ℕ)) (asked : List Batch) (i : Instance)
     (lines : List (List ℕ)) : Type 0 where
   pub clear : IsClear all
   pub apart : AreNoGuards i.barrier others asked
   pub started : Contains all (start_message i.variant i.meaning.id)
-  pub follow : AreToFollow all asked i first_history lines
+  pub follow : AreAskedInTurn all asked i first_history (first_offer (first_slots i) None) lines
+  pub room : HasRoom first_history lines
 
 -- 64 bytes were taken, of which the first 32 are the key; and a session of Basic was held. What it
 -- told is one run of the module from the empty list, and so on. Nothing is asked of the devices.

@@ -8,7 +8,7 @@ use crate::sessions::{serve, start};
 use mm_base::{MemSink, MemSource};
 use mm_digest::Variant;
 use mm_host::SessionFault;
-use mm_life::{basic_life_is_one, opt_life_is_one, sessions_offer_slots};
+use mm_life::{basic_life_is_one, device_calls_are_deeds, opt_life_is_one, sessions_offer_slots};
 use mm_module::Module;
 use mm_opt::{CheckpointRefusal, Checkpointed};
 use mm_pages::{MemPages, PageStore};
@@ -106,6 +106,7 @@ pub fn live_without_power<M: Module>(
 {
     basic_life_is_one();
     sessions_offer_slots();
+    device_calls_are_deeds();
     match start(alloc, Variant::Basic, module, platform, store, entropy) {
         Err(fault) => Err(Unlived::Starting(fault)),
         Ok(()) => {

@@ -2,7 +2,7 @@
 
 ghost use Rattle.std.specs.Prelude.{◌≡◌, ℕ, List, Some, IfOk, OnOk, length};
 ghost use Rattle.mm_host.specs.AnySlots.{SessionRunsOnce};
-ghost use Rattle.mm_host.specs.Continuing.{SessionContinues};
+ghost use Rattle.mm_host.specs.Honest.{SessionContinues};
 ghost use Rattle.mm_recovery.specs.Begins.{Leaves};
 ghost use Rattle.mm_host.specs.Sessions.{Sessions};
 ghost use Rattle.mm_host.specs.SessionWrites.{SessionWrites};

@@ -3,8 +3,10 @@ use Rattle.mm_slots.proofs.Below.{◌≡◌, ◌∙◌, ◌+◌, ◌==◌, ℕ, 
 use Rattle.mm_slots.proofs.Below.{sym, ap, arith, append-nil, slice_get, option_map, option_map_or, eqb-true, append_assoc, Instance}
 use Rattle.mm_slots.proofs.Below.{Action, SlotEvent, Power, At, Said, Slot, Turned, Met, Acts, Loses, turned, acted, folded, followed_by}
 use Rattle.mm_slots.proofs.Below.{Row, instance_of, row_after, by_place, after_event, cuts_all, met_in, met_by, Answer, PowerLost, Says}
-use Rattle.mm_slots.proofs.Below.{said_at, answers_to, answers, said_for, SlotsAreAlone, length, None, ◌>>=◌, flat_map-append, TakesEvents}
-use Rattle.mm_slots.proofs.Below.{behind, replies, along, answer_text, answers_text, event_at, Running, playing, slots_answer, after_events}
+use Rattle.mm_slots.proofs.Below.{said_at, answers_to, answers, said_for, SlotsAreAlone, length, None, ◌>>=◌, flat_map-append}
+use Rattle.mm_slots.proofs.Below.{answer_text, answers_text, event_at, Running, playing, after_events}
+use Rattle.mm_play.specs.Shown.{behind, replies, TakesEvents}
+use Rattle.mm_slots.specs.Stage.{slots_stage}
 
 pub by_place_get : {A B : Type 0} (f : ℕ → A → B) (place : ℕ) (xs : List A) (n at : ℕ) → at ≡ place + n
     → slice_get (by_place f place xs) n ≡ option_map (f at) (slice_get xs n)
@@ -93,24 +95,20 @@ pub length-by_place : {A B : Type 0} (f : ℕ → A → B) (place : ℕ) (xs : L
 length-by_place f place [] = refl
 length-by_place f place (x ∷ xs) = ap (λ (n : ℕ). suc n) (length-by_place f (place + 1) xs)
 
-pub takes : TakesEvents playing slots_answer
+pub takes : TakesEvents playing slots_stage
 takes = record {
   answers = λ r line. refl;
-  reads = λ r line event. ap event_at (length-by_place (λ k row. row_after row (met_in k r.rows event)) 0 r.rows);
-  counts = λ r line event. refl;
-  sums = λ r line event. refl;
+  reads = λ r event. ap event_at (length-by_place (λ k row. row_after row (met_in k r.rows event)) 0 r.rows);
+  counts = λ r event. refl;
 }
 
 -- what stands behind events, and what was written
-pub record Follows (r : Running) (lines : List (List ℕ)) (events : List SlotEvent) : Type 0 where
-  pub rows : (behind playing r lines events).rows ≡ after_events r.rows events
-  pub sent : replies playing r lines events ≡ answers_text (answers r.rows events)
+pub rows_behind : (events : List SlotEvent) (r : Running) → (behind playing r events).rows ≡ after_events r.rows events
+rows_behind [] r = refl
+rows_behind (event ∷ events) r = rows_behind events (playing.after r event)
 
-pub follows : (reads : List ℕ → Option SlotEvent) (r : Running) (lines : List (List ℕ)) (events : List SlotEvent)
-    → map reads lines ≡ map Some events → Follows r lines events
-follows reads =
-    along playing slots_answer takes reads Follows (λ r. record { rows = refl; sent = refl }) (λ r line lines event events f. record {
-      rows = f.rows;
-      sent = ap (λ (text : List ℕ). answers_text (answers_to r.rows event) ++ text) f.sent
-          ∙ sym (flat_map-append answer_text (answers_to r.rows event) (answers (after_event r.rows event) events));
-    })
+pub texts_behind : (events : List SlotEvent) (r : Running) → answers_text (answers r.rows events) ≡ replies playing r events
+texts_behind [] r = refl
+texts_behind (event ∷ events) r =
+    flat_map-append answer_text (answers_to r.rows event) (answers (after_event r.rows event) events)
+    ∙ ap (λ (text : List ℕ). answers_text (answers_to r.rows event) ++ text) (texts_behind events (playing.after r event))

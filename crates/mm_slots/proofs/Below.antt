@@ -53,9 +53,7 @@ pub use Rattle.mm_steps.specs.Asking.{BreaksAs, StepsAs}
 pub use Rattle.mm_steps.specs.Closing.{BreaksClosingAs, StepsClosingAs}
 pub use Rattle.mm_steps.specs.Stopping.{is_nothing, stop_behind}
 pub use Rattle.mm_steps.proofs.Above.{asks_begun, closes_begun, flight_takes_in, may_take_in}
-pub use Rattle.mm_play.specs.Events.{AreEvents, behind, NoneIsOver, replies, TakesEvents}
-pub use Rattle.mm_play.proofs.Above.{along, ends_with, events_from, header_first, Means, none_answered, plays_err, refused_over, unrefused}
-pub use Rattle.mm_play.proofs.Above.{whole_err, whole_ok}
+pub use Rattle.mm_play.proofs.Above.{events_err, events_ok, plays_err, unrefused}
 pub use Rattle.mm_slots.specs.Answers.{answer_text, answers_text, end_lines, IsSayable, slot_end_line}
 pub use Rattle.mm_slots.specs.First.{AddsSlot, AreFirst, IsFirst}
 pub use Rattle.mm_slots.specs.Grammar.{action_at, event_at}
@@ -69,8 +67,7 @@ pub use Rattle.mm_slots.specs.Slot.{acted, acted_by, Acts, Asks, beginning, begu
 pub use Rattle.mm_slots.specs.Slot.{followed_by, joined, Loses, merely, Met, outcome_in, plays, Slot, slot_instance, so_far, stepped}
 pub use Rattle.mm_slots.specs.Slot.{stop_at, Turned, turned, unpowered}
 pub use Rattle.mm_slots.specs.Slots.{all_cycled, selected_of, Slots}
-pub use Rattle.mm_slots.specs.Stage.{after_line, are_to_come, AtFirst, AtHeads, behind_heads, first_answer, head_answer, InEvents}
-pub use Rattle.mm_slots.specs.Stage.{is_too_much, kept_in, playing, Running, slots_answer, slots_closing, SlotsStage}
+pub use Rattle.mm_slots.specs.Stage.{kept_in, playing, Running}
 pub use Rattle.mm_slots.specs.Table.{after_event, after_events, Answer, answers, answers_to, by_place, cuts_all, first_row, first_rows}
 pub use Rattle.mm_slots.specs.Table.{instance_of, is_cut, met_by, met_in, PowerLost, Row, row_after, said_at, said_for, Says}
 pub use Rattle.mm_slots.specs.Totals.{AreCounted, bytes_in, ends_from, requests_in, snapshots_in}

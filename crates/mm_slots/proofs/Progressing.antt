@@ -2,10 +2,11 @@
 use Rattle.mm_slots.proofs.Below.{◌≡◌, ◌∙◌, ◌+◌, ◌≤◌, ◌<◌, ◌||◌, ℕ, Bool, true, false, List, length, map, nat_le, nat_lt, Option, None}
 use Rattle.mm_slots.proofs.Below.{Some, refl, sym, ap, subst, arith, codes, if◌then◌else◌, nat_tests, longest_line, most_events, Standing}
 use Rattle.mm_slots.proofs.Below.{new_platform, Header, ◌>>=◌, number_at, word_at, SlotEvent, Power, At, CodeSlot, AreFirst}
-use Rattle.mm_slots.proofs.Below.{action_at, within_64, rows_in, AllFit, KeepsAll, IsInside, Follows, Running, kept_in, is_too_much}
-use Rattle.mm_slots.proofs.Below.{after_line, Row, bytes_in}
+use Rattle.mm_slots.proofs.Below.{action_at, within_64, rows_in, AllFit, KeepsAll, IsInside, Follows, Running, kept_in}
+use Rattle.mm_slots.proofs.Below.{Row, bytes_in}
+use Rattle.mm_play.specs.Stage.{within_64 as kept_within}
+use Rattle.mm_slots.specs.Stage.{after}
 use Rattle.std.specs.Str.{bytes_eq}
-use Rattle.mm_play.specs.Kept.{most_kept}
 use Rattle.mm_slots.specs.Grammar.{event_at, index_at}
 use Rattle.mm_slots.specs.Stage.{begun}
 use Rattle.mm_slots.proofs.Alone.{bound}
@@ -13,18 +14,18 @@ use Rattle.mm_slots.proofs.Rowing.{rows_length}
 use Rattle.mm_slots.proofs.Starting.{rows_there, all_there, sizes}
 use Rattle.mm_slots.proofs.Totalling.{bytes_are}
 
-abbrev pub stands : List Row → ℕ → ℕ → Running
-stands rows events read = record { rows = rows; events = events; read = read }
+abbrev pub stands : List Row → ℕ → Running
+stands rows events = record { rows = rows; events = events }
 
 -- there are as many rows as slots
-pub sized : (r : Running) (standings : List Standing) (slots : List CodeSlot) (events read : ℕ)
-    → stands (rows_in standings slots) events read ≡ r → AllFit events standings slots → length r.rows ≡ length slots
-sized r standings slots events read view fit = ap (λ (x : Running). length x.rows) (sym view) ∙ rows_length events standings slots fit
+pub sized : (r : Running) (standings : List Standing) (slots : List CodeSlot) (events : ℕ)
+    → stands (rows_in standings slots) events ≡ r → AllFit events standings slots → length r.rows ≡ length slots
+sized r standings slots events view fit = ap (λ (x : Running). length x.rows) (sym view) ∙ rows_length events standings slots fit
 
 -- a run at its first event
 pub keeps_first : (headers : List Header) (cells : List (List ℕ)) (slots : List CodeSlot) (standings : List Standing)
     → standings ≡ map new_platform cells
-    → AreFirst 0 headers cells slots → 1 ≤ length headers → length headers ≤ 16 → KeepsAll standings slots 0 0
+    → AreFirst 0 headers cells slots → 1 ≤ length headers → length headers ≤ 16 → KeepsAll standings slots 0
 keeps_first headers cells slots standings at are some few =
     let size = sizes 0 headers cells slots are in
     record {
@@ -32,48 +33,36 @@ keeps_first headers cells slots standings at are some few =
       some = omega (arith, some, size.1);
       most = omega (arith, few, size.1);
       few = omega arith;
-      short = omega arith;
     }
 
 pub runs_first : (headers : List Header) (cells : List (List ℕ)) (slots : List CodeSlot) (standings : List Standing)
-    → standings ≡ map new_platform cells → AreFirst 0 headers cells slots → stands (rows_in standings slots) 0 0 ≡ begun headers
+    → standings ≡ map new_platform cells → AreFirst 0 headers cells slots → stands (rows_in standings slots) 0 ≡ begun headers
 runs_first headers cells slots standings at are =
-    ap (λ (x : List Standing). stands (rows_in x slots) 0 0) at
-    ∙ ap (λ (rows : List Row). stands rows 0 0) (rows_there 0 headers cells slots are)
+    ap (λ (x : List Standing). stands (rows_in x slots) 0) at
+    ∙ ap (λ (rows : List Row). stands rows 0) (rows_there 0 headers cells slots are)
 
--- whether an event is one too many
-pub over_by : (events read : ℕ) (line : List ℕ) (standings : List Standing) (slots : List CodeSlot) (bytes total : ℕ)
-    → AllFit events standings slots → bytes ≡ within_64 (bytes_in slots) → total ≡ within_64 (read + length line + bytes)
-    → nat_lt most_kept total ≡ nat_lt most_kept (read + length line + kept_in (rows_in standings slots))
-over_by events read line standings slots bytes total fit is sum =
-    let all = bytes_are events standings slots fit in grind (arith, nat_tests, all, is, sum)
-
-pub full_by : (r : Running) (events read : ℕ) (line : List ℕ) (standings : List Standing) (slots : List CodeSlot) (bytes total : ℕ)
-    → stands (rows_in standings slots) events read ≡ r → events < most_events → AllFit events standings slots
-    → bytes ≡ within_64 (bytes_in slots) → total ≡ within_64 (read + length line + bytes) → nat_lt most_kept total ≡ is_too_much r line
-full_by r events read line standings slots bytes total view few fit is sum =
-    let less : nat_le most_events events ≡ false = grind (arith, nat_tests) in
-    subst (λ (x : Running). nat_lt most_kept total ≡ is_too_much x line) view
-    (over_by events read line standings slots bytes total fit is sum
-    ∙ ap (λ (b : Bool). b || nat_lt most_kept (read + length line + kept_in (rows_in standings slots))) (sym less))
+-- the bytes that are kept
+pub kept_by : (r : Running) (events : ℕ) (standings : List Standing) (slots : List CodeSlot) (bytes : ℕ)
+    → stands (rows_in standings slots) events ≡ r → AllFit events standings slots → bytes ≡ within_64 (bytes_in slots)
+    → bytes ≡ kept_within (kept_in r.rows)
+kept_by r events standings slots bytes view fit is =
+    is ∙ bytes_are events standings slots fit ∙ ap (λ (x : Running). kept_within (kept_in x.rows)) view
 
 -- an event was followed, or memory was wanting
-pub keeps_on : (standings standings' : List Standing) (slots slots' : List CodeSlot) (events read more : ℕ)
-    → KeepsAll standings slots events read → events < most_events → more ≤ longest_line → length slots' ≡ length slots
-    → AllFit (events + 1) standings' slots' → KeepsAll standings' slots' (events + 1) (read + more)
-keeps_on standings standings' slots slots' events read more k few line same fit = record {
+pub keeps_on : (standings standings' : List Standing) (slots slots' : List CodeSlot) (events : ℕ)
+    → KeepsAll standings slots events → events < most_events → length slots' ≡ length slots
+    → AllFit (events + 1) standings' slots' → KeepsAll standings' slots' (events + 1)
+keeps_on standings standings' slots slots' events k few same fit = record {
   fit = fit;
   some = omega (arith, k.some, same);
   most = omega (arith, k.most, same);
   few = omega (arith, few);
-  short = omega (arith, k.short, line);
 }
 
-pub stands_after : (standings standings' : List Standing) (slots slots' : List CodeSlot) (events read : ℕ) (line : List ℕ)
-    (event : SlotEvent) → Follows events event standings standings' slots slots' → stands (rows_in standings' slots') (events + 1)
-    (read + length line) ≡ after_line (stands (rows_in standings slots) events read) line event
-stands_after standings standings' slots slots' events read line event f =
-    ap (λ (rows : List Row). stands rows (events + 1) (read + length line)) f.rows
+pub stands_after : (standings standings' : List Standing) (slots slots' : List CodeSlot) (events : ℕ) (event : SlotEvent)
+    → Follows events event standings standings' slots slots'
+    → stands (rows_in standings' slots') (events + 1) ≡ after (stands (rows_in standings slots) events) event
+stands_after standings standings' slots slots' events event f = ap (λ (rows : List Row). stands rows (events + 1)) f.rows
 
 -- the event of a line is in one of the slots
 same_number : (slots number found : ℕ) (past : Bool) → nat_le slots number ≡ past

@@ -92,7 +92,7 @@ slot_runs runs i it c a =
       runs = subst (λ rs. Runs i.meaning [] it.events rs requests) (sym told) (runs i it.events);
       judged = told;
       count = ap (λ (d : Digests). d.count) (sym c.state) ∙ a.stands.count;
-      shown = ap length (sym c.issued) ∙ ap length a.issued;
+      shown = sym c.issued ∙ a.issued;
     }
 
 pub slots_run : BasicIsExpected → OptIsExpected → ExpectedRuns → SchedulesGoOn → SlotsRun

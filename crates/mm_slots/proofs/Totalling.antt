@@ -48,14 +48,14 @@ snapshots_few standings slots fit = sum_by-le (λ (s : CodeSlot). length s.issue
     (all_slots most_events (λ s. length s.issued.items ≤ most_events + 1) (λ standing slot f. f.short) standings slots fit)
 
 -- what is reported of a run among its events
-abbrev runs : List Row → ℕ → ℕ → Running
-runs rows events read = record { rows = rows; events = events; read = read }
+abbrev runs : List Row → ℕ → Running
+runs rows events = record { rows = rows; events = events }
 
 pub reports : (f : CodeSlot → ℕ) (g : Row → ℕ) → ((standing : Standing) (slot : CodeSlot) → f slot ≡ g (row_in standing slot))
-    → (events read : ℕ) (standings : List Standing) (slots : List CodeSlot) (r : Running) (total : ℕ) (lent : List CodeSlot)
-    → sum_by f slots < 2 ^ 64 → runs (rows_in standings slots) events read ≡ r → AllFit events standings slots → lent ≡ slots
+    → (events : ℕ) (standings : List Standing) (slots : List CodeSlot) (r : Running) (total : ℕ) (lent : List CodeSlot)
+    → sum_by f slots < 2 ^ 64 → runs (rows_in standings slots) events ≡ r → AllFit events standings slots → lent ≡ slots
     → total ≡ within_64 (sum_by f lent) → total ≡ sum_by g r.rows
-reports f g each events read standings slots r total lent few view fit same is =
+reports f g each events standings slots r total lent few view fit same is =
     let all : total ≡ sum_by f slots = omega (arith, is, ap (λ (x : List CodeSlot). sum_by f x) same, few) in
     all ∙ sums_are f g each events standings slots fit ∙ ap (λ (x : Running). sum_by g x.rows) view
 

@@ -1,14 +1,13 @@
 -- The laws of slots.
-use Rattle.std.specs.Prelude.{◌≡◌, ℕ, List, [], ◌∷◌, length, Some, slice_get}
+use Rattle.std.specs.Prelude.{◌≡◌, ℕ, List, [], ◌∷◌, Some, slice_get}
 use Rattle.std.specs.List.{flat_map}
 use Rattle.mm_model.specs.Instance.{Instance}
-use Rattle.mm_schedule.specs.Machine.{Runs}
 use Rattle.mm_schedule.specs.declared.reply.Reply.{Reply}
 use Rattle.mm_schedule.specs.declared.reply.Reply.TheVariants as reply
 use Rattle.mm_call.specs.Standing.{instance_by}
 use Rattle.mm_digest.specs.declared.variant.Variant.{Variant}
 use Rattle.mm_module.specs.Meaning.{Meaning}
-use Rattle.mm_run.specs.Folds.{expected}
+use Rattle.mm_run.specs.OneRun.{IsOneRun}
 use Rattle.mm_run.specs.Premises.{IsClearRun, IsGenuineRun}
 use Rattle.mm_slots.specs.declared.event.SlotEvent.{SlotEvent}
 use Rattle.mm_slots.specs.declared.said.Said.{Said}
@@ -32,14 +31,10 @@ SlotsAreAlone =
     → IsAlone number rows events row
 
 -- The replies that a slot's events come to are those of one run of the module on one list of
--- requests, as the verdict on histories gives them; so many requests were committed, and as many
--- snapshots issued as that verdict issues.
-pub record SlotRuns (i : Instance) (it : Turned) : Type 0 where
-  pub requests : List (List ℕ)
-  pub runs : Runs i.meaning [] it.events it.replies requests
-  pub judged : it.replies ≡ (expected i it.events).replies
-  pub count : it.slot.digests.count ≡ length requests
-  pub shown : length it.slot.issued ≡ length (expected i it.events).issued
+-- requests, as the verdict on histories gives them; so many requests were committed, and the
+-- snapshots issued are those that the verdict issues.
+abbrev pub SlotRuns : Instance → Turned → Type 0
+SlotRuns i it = IsOneRun i it.events it.replies it.slot.digests.count it.slot.issued
 
 -- So it is of each slot, where no two different messages of its run share a digest, no digest is
 -- zero, no value that others extend its register by is the guard of a batch, and no tag is forged.

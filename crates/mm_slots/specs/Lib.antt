@@ -13,6 +13,6 @@ pub mod Totals
 pub mod Stage
 pub mod Headline
 pub mod Plays
-pub mod Counting
 pub mod Lengths
-pub mod Playing
+pub mod StageLaws
+pub mod Opening

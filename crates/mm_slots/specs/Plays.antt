@@ -2,10 +2,11 @@
 use Rattle.std.specs.Prelude.{◌≡◌, ℕ, List, length, Option, Result}
 use Rattle.std.specs.List.{sum_by}
 use Rattle.mm_base.specs.declared.replay_fault.ReplayFault.{ReplayFault}
-use Rattle.mm_play.specs.Tells.{PlaysWhole}
+use Rattle.mm_play.specs.PlaysEvents.{PlaysEvents}
+use Rattle.mm_play.specs.Stage.{AtHeading, InEvents}
 use Rattle.mm_slots.specs.declared.report.SlotReport.{SlotReport}
-use Rattle.mm_slots.specs.Headline.{AnswersLines, AnswersAll, IsTooMuch}
-use Rattle.mm_slots.specs.Stage.{SlotsStage, AtFirst, AtHeads, InEvents, slots_answer, slots_closing}
+use Rattle.mm_slots.specs.Headline.{AreSlotRuns, slotted}
+use Rattle.mm_slots.specs.Stage.{SlotsStage, slots_heads, slots_stage}
 use Rattle.mm_slots.specs.Table.{Row}
 
 -- how many requests were committed and snapshots issued in these slots, all together
@@ -16,15 +17,14 @@ abbrev pub issued_in : List Row → ℕ
 issued_in rows = sum_by (λ (row : Row). length row.slot.issued) rows
 
 abbrev pub Reports : SlotsStage → SlotReport → Type 0
-Reports AtFirst report = (report.committed ≡ 0) × (report.issued ≡ 0)
-Reports (AtHeads count headers) report = (report.committed ≡ 0) × (report.issued ≡ 0)
+Reports (AtHeading at) report = (report.committed ≡ 0) × (report.issued ≡ 0)
 Reports (InEvents r) report =
-    (report.committed ≡ committed_in r.rows) × (report.issued ≡ issued_in r.rows)
+    (report.committed ≡ committed_in r.stage.rows) × (report.issued ≡ issued_in r.stage.rows)
 
 -- What was taken of the input and written fits the answer line by line; and as a whole it is the
 -- answers to the events, each slot's its own, with the headline.
 abbrev pub PlaysSlots : (left left' received received' : Option (List ℕ))
     → Result SlotReport ReplayFault → Type 0
 PlaysSlots left left' received received' result =
-    PlaysWhole slots_answer slots_closing AtFirst Reports AnswersLines AnswersAll IsTooMuch
-    left left' received received' result
+    PlaysEvents slotted AreSlotRuns slots_heads slots_stage Reports left left' received received'
+    result

@@ -1,6 +1,6 @@
 -- The slots of a platform in code.
 use Rattle.std.specs.Prelude.{◌≡◌, ◌≤◌, ◌<◌, ◌+◌, ◌*◌, ◌==◌, ℕ, Bool, List, [], ◌∷◌, length, if◌then◌else◌}
-use Rattle.mm_base.specs.Limits.{longest_line, most_events, most_members}
+use Rattle.mm_base.specs.Limits.{most_events, most_members}
 use Rattle.mm_platform.specs.Standing.{Standing}
 use Rattle.mm_slots.specs.declared.event.Action.{Action}
 use Rattle.mm_slots.specs.declared.event.SlotEvent.{SlotEvent}
@@ -62,14 +62,12 @@ abbrev pub LosesAt : (events number : ℕ) → List Standing → List Standing �
     → List CodeSlot → Type 0
 LosesAt events number = Touches (only_at number Loses) events
 
--- what the fields of a run among its events keep
-pub record KeepsAll (standings : List Standing) (slots : List CodeSlot) (events read : ℕ) : Type 0
-  where
-    pub fit : AllFit events standings slots
-    pub some : 1 ≤ length slots
-    pub most : length slots ≤ 16
-    pub few : events ≤ most_events
-    pub short : read ≤ longest_line * events
+-- what the fields of slots among their events keep
+pub record KeepsAll (standings : List Standing) (slots : List CodeSlot) (events : ℕ) : Type 0 where
+  pub fit : AllFit events standings slots
+  pub some : 1 ≤ length slots
+  pub most : length slots ≤ 16
+  pub few : events ≤ most_events
 
 -- one slot loses its power, but for the one with this number
 abbrev pub others_lose : ℕ → ℕ → List Met

@@ -1,93 +1,141 @@
-//! Where a run of slots stands between two lines.
+//! Slots among their events.
 
-ghost use Rattle.std.specs.Prelude.{◌≡◌, ◌≤◌, ◌<◌, ◌++◌, ◌∷◌, [], IfOk, length};
+ghost use Rattle.std.specs.Prelude.{◌≡◌, ◌≤◌, ◌<◌, ◌+◌, ◌++◌, ◌^◌, Some, Err, length, IfOk, OnOk};
+ghost use Rattle.mm_base.specs.Limits.{longest_line, most_events};
 
-use crate::progress::Progress;
-use crate::read::read_first;
-use mm_base::Memory;
-use mm_play::{Refused, ReplyFault};
-use mm_schedule::{Header, read_head};
+use crate::event::SlotEvent;
+use crate::first::{FirstSlots, first_slots};
+use crate::platform::SlotPlatform;
+use crate::read::read_slot_event;
+use crate::report::SlotReport;
+use crate::rows::follow;
+use crate::slot::Slot;
+use crate::totals::{bytes_in, put_ends, requests_in, snapshots_in};
+use mm_base::{Bytes, Memory};
+use mm_play::{Refused, ReplyFault, Stage};
+use mm_schedule::{EventFault, Header};
 use std::alloc::Global;
-use std::mem;
+use std::marker::Model;
 
-/// Among the header lines: the number of slots, and the headers read so far, which are fewer.
+/// Slots among their events, over their platform. Contracts see what stands in each slot, by digests.
 #[derive(Drop)]
-pub struct Heads {
-    count: u8,
-    headers: Vec<Header>,
-    ghost fewer: { length headers.items < count },
-    ghost most: { count ≤ 16 },
+pub struct SlotsStage {
+    platform: SlotPlatform,
+    slots: Vec<Slot>,
+    /// The events followed.
+    events: u32,
 }
 
-/// Where a run of slots stands: before the first line, among the header lines, or among the events.
-#[derive(Drop)]
-pub enum Stage {
-    First,
-    Heads(Heads),
-    Events(Progress),
+impl Model for SlotsStage {
+    ghost use Rattle.mm_slots.specs.Rows.{rows_in, KeepsAll};
+    ghost use Rattle.mm_slots.specs.Stage.{Running};
+
+    ghost Value = { Running };
+
+    ghost view = { λ p. record { rows = rows_in p.platform.slots p.slots.items; events = p.events } };
+
+    ghost invariant = { λ p. KeepsAll p.platform.slots p.slots.items p.events };
 }
 
-impl Stage {
-    ghost use Rattle.mm_slots.specs.Grammar.{first_at};
-    ghost use Rattle.mm_slots.specs.Stage.{first_answer};
-    ghost use Rattle.mm_slots.specs.Playing.{ComesTo};
+impl SlotsStage {
+    ghost use Rattle.mm_play.specs.Stage.{PlaysEvent, answer_by};
+    ghost use Rattle.mm_slots.specs.Answers.{answers_text, end_lines};
+    ghost use Rattle.mm_slots.specs.Plays.{committed_in, issued_in};
+    ghost use Rattle.mm_slots.specs.Rows.{IsInside};
+    ghost use Rattle.mm_slots.specs.Stage.{after, begun, playing};
+    ghost use Rattle.mm_slots.specs.Table.{answers_to};
 
-    /// The stage behind the first line.
-    pub fn after_first(alloc: Global, line: &[u8]) -> Result<Stage, ReplyFault>
-        ensures { ComesTo (first_answer (first_at line.now)) result }
+    /// Slots at their first event, one for each header.
+    pub fn new(alloc: Global, headers: &[Header]) -> Result<SlotsStage, Memory>
+        requires some { 1 ≤ length headers.now }
+        requires few { length headers.now ≤ 16 }
+        ensures { IfOk result (λ it. it ≡ begun headers.now) }
     {
-        match read_first(line) {
-            Some(count) => Ok(Stage::Heads(Heads {
-                count,
-                headers: Vec::new(alloc),
-            })),
-            None => Err(ReplyFault::Refused(Refused::Bad)),
+        let FirstSlots { cells, slots } = first_slots(alloc, headers)?;
+        let platform = SlotPlatform::new(alloc, cells.as_slice())?;
+        Ok(SlotsStage {
+            platform,
+            slots,
+            events: 0,
+        })
+    }
+
+    // Follows an event, and answers it as text. It counts also where memory is wanting.
+    fn follow(&mut self, alloc: Global, event: SlotEvent) -> Result<Bytes, Memory>
+        requires inside { IsInside (length self.old.rows) event }
+        requires few { self.old.events < most_events }
+        ensures after { OnOk result (self.new ≡ after self.old event) }
+        ensures answers { IfOk result (λ text. text
+            ≡ answers_text (answers_to self.old.rows event)) }
+    {
+        self.events += 1;
+        follow(alloc, &mut self.platform, self.slots.as_mut_slice(), event)
+    }
+
+    // How many slots there are.
+    fn count(&self) -> u8
+        ensures { result ≡ length self.now.rows }
+    {
+        self.slots.len() as u8
+    }
+
+    /// Puts the last lines at the end, one for each slot.
+    pub fn put_last_lines(&self, into: &mut Bytes) -> Result<(), Memory>
+        ensures { OnOk result (into.new ≡ into.old ++ end_lines 0 self.now.rows) }
+    {
+        put_ends(self.slots.as_slice(), into)
+    }
+
+    /// How many requests were committed and snapshots issued, in all slots together.
+    pub fn report(&self) -> SlotReport
+        ensures committed { result.committed ≡ committed_in self.now.rows }
+        ensures issued { result.issued ≡ issued_in self.now.rows }
+    {
+        SlotReport {
+            committed: requests_in(self.slots.as_slice()),
+            issued: snapshots_in(self.slots.as_slice()) as u32,
         }
     }
 }
 
-impl Heads {
-    ghost use Rattle.mm_schedule.specs.Headers.{head_at};
-    ghost use Rattle.mm_slots.specs.Stage.{behind_heads, head_answer};
-    ghost use Rattle.mm_slots.specs.Playing.{ComesTo, stage_in};
+impl Stage for SlotsStage {
+    ghost use Rattle.mm_slots.specs.Stage.{slots_stage};
+    ghost use Rattle.mm_slots.specs.StageLaws.{counts_on};
 
-    /// The stage behind one more header line.
-    pub fn after_line(self, alloc: Global, line: &[u8]) -> Result<Stage, ReplyFault>
-        ensures { ComesTo (head_answer self.count self.headers.items (head_at line.now)) result }
-    {
-        let Some(header) = read_head(line) else {
-            return Err(ReplyFault::Refused(Refused::Bad));
-        };
-        match self.after_header(alloc, header) {
-            Ok(stage) => Ok(stage),
-            Err(_) => Err(ReplyFault::Memory),
+    ghost plays = { slots_stage };
+
+    fn events(&self) -> u32 {
+        self.events
+    }
+
+    fn kept(&self) -> u64 {
+        bytes_in(self.slots.as_slice())
+    }
+
+    fn is_event(&self, alloc: Global, line: &[u8]) -> Result<bool, Memory> {
+        match read_slot_event(alloc, self.count(), line) {
+            Ok(_) => Ok(true),
+            Err(EventFault::Bad) => Ok(false),
+            Err(EventFault::Memory) => Err(Memory),
         }
     }
 
-    /// Takes the heads out. In their place none is read, of one slot.
-    pub fn take(&mut self, alloc: Global) -> Heads
-        ensures taken { result ≡ self.old }
-        ensures count { self.new.count ≡ 1 }
-        ensures none { self.new.headers.items ≡ [] }
-    {
-        let none = Heads {
-            count: 1,
-            headers: Vec::new(alloc),
-        };
-        mem::replace(self, none)
+    fn play(&mut self, alloc: Global, line: &[u8]) -> Result<Bytes, ReplyFault> {
+        match read_slot_event(alloc, self.count(), line) {
+            Ok(event) => match self.follow(alloc, event) {
+                Ok(text) => Ok(text),
+                Err(_) => Err(ReplyFault::Memory),
+            },
+            Err(EventFault::Memory) => Err(ReplyFault::Memory),
+            Err(EventFault::Bad) => Err(ReplyFault::Refused(Refused::Bad)),
+        }
     }
 
-    // The stage behind one more header: the last one begins the events.
-    fn after_header(self, alloc: Global, header: Header) -> Result<Stage, Memory>
-        ensures { IfOk result (λ stage. stage_in stage
-            ≡ behind_heads self.count (self.headers.items ++ header ∷ [])) }
-    {
-        let Heads { count, mut headers } = self;
-        headers.push(header)?;
-        if headers.len() < usize::from(count) {
-            return Ok(Stage::Heads(Heads { count, headers }));
-        }
-        let progress = Progress::new(alloc, &headers)?;
-        Ok(Stage::Events(progress))
+    fn last_lines(&self, alloc: Global) -> Result<Bytes, Memory> {
+        let mut last = Bytes::new(alloc);
+        self.put_last_lines(&mut last)?;
+        Ok(last)
     }
+
+    ghost counts = { counts_on };
 }

@@ -85,12 +85,11 @@ pub use Rattle.mm_world.specs.InVain.{AsksPlanned, CameInVain, ChecksPlanned, Is
 pub use Rattle.mm_world.specs.Stands.{IsQuiet, Stands}
 pub use Rattle.mm_world.proofs.Above.{digests_are, on_settled, power_if, reads_none, reads_shown, register_at, stands_new, stop_power}
 pub use Rattle.mm_world.proofs.Above.{stopped_at}
-pub use Rattle.mm_play.proofs.Above.{along, answered_headed, finished_headed, Means, much_headed, plays_err, unrefused, whole_err, whole_ok}
+pub use Rattle.mm_play.proofs.Above.{events_err, events_ok, plays_err, unrefused}
 pub use Rattle.mm_transfer.specs.Between.{both_with, CommandDone, commanded, CommandLacks, Commands, EnteredAs, FitsBetween, has_moved}
 pub use Rattle.mm_transfer.specs.Between.{InvitedAs, KeepsDigest, LeftAs, RefusedAs, Tried}
 pub use Rattle.mm_transfer.specs.Events.{act_of, command_of, side_event_of, which_of}
-pub use Rattle.mm_transfer.specs.Headline.{AnswersAll, AnswersEvents, AnswersLines, IsContinuous, IsOneTransfer, IsTooMuch, IsWithinLimits}
-pub use Rattle.mm_transfer.specs.Headline.{unended}
+pub use Rattle.mm_transfer.specs.Headline.{IsOneTransfer}
 pub use Rattle.mm_transfer.specs.Lengths.{length_if}
 pub use Rattle.mm_transfer.specs.OneSide.{at_by, at_in, Comes, EndsCall, FitsSide, IsBare, IsNew, Lacks, link_of, outcome_on, role_in}
 pub use Rattle.mm_transfer.specs.OneSide.{role_of, side_in, StandsAs, within_64}
@@ -101,8 +100,7 @@ pub use Rattle.mm_transfer.specs.Replies.{IsSayable, reply_said}
 pub use Rattle.mm_transfer.specs.RoleCells.{cell_of_role, FitsCell, FitsEffect, FitsLive, FitsRole, GivesEntry, GivesEntryBy, GivesInvited}
 pub use Rattle.mm_transfer.specs.RoleCells.{GivesInvitedBy, GivesTicket, GivesTicketBy, IsSaid, Matches, next_if, refusal_of, retired_at}
 pub use Rattle.mm_transfer.specs.RoleCells.{stood, waiting_at}
-pub use Rattle.mm_transfer.specs.Stage.{AtHeader, begun, both_end_line, kept_in, playing, Running, running_text, transfer_answer}
-pub use Rattle.mm_transfer.specs.Stage.{transfer_closing, TransferStage}
+pub use Rattle.mm_transfer.specs.Stage.{begun, both_end_line, kept_in, playing, Running, running_text}
 pub use Rattle.mm_transfer.specs.declared.between.Between.{Between}
 pub use Rattle.mm_transfer.specs.declared.reply.MoveReply.{MoveReply}
 pub use Rattle.mm_transfer.specs.declared.side.Side.{Side as CodeSide}

@@ -47,7 +47,7 @@ abbrev pub answers_text : List BothEvent → List BothReply → List ℕ
 answers_text [] replies = []
 answers_text (event ∷ events) [] = []
 answers_text (event ∷ events) (reply ∷ replies) =
-    answer_text event.which (reply_said reply) ++ answers_text events replies
+    which_text event.which ++ 32 ∷ move_text (reply_said reply) ++ answers_text events replies
 
 -- the line `end N K0 K1 T`: so many requests were committed, so many snapshots issued on each side,
 -- and so many tickets

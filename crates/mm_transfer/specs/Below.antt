@@ -64,11 +64,7 @@ pub use Rattle.mm_world.specs.Calls.{stopped_step, takes_effect}
 pub use Rattle.mm_world.specs.Held.{digest_in, flag_in, value_in}
 pub use Rattle.mm_world.specs.Stands.{IsQuiet}
 pub use Rattle.mm_world.specs.declared.call.Called.{Called}
-pub use Rattle.mm_play.specs.Kept.{most_kept}
 pub use Rattle.mm_replay.specs.Text.{text_of_replies}
-pub use Rattle.mm_play.specs.Counting.{event_counts, header_counts}
-pub use Rattle.mm_play.specs.Events.{EventPlayer, event_answer as answer_by, header_answer as begins_by, is_over}
-pub use Rattle.mm_play.specs.Tells.{PlaysWhole}
 pub use Rattle.mm_play.specs.declared.player.Refused.{Refused}
 pub use Rattle.mm_play.specs.declared.player.Refused.TheVariants.{Bad, Much}
 pub use Rattle.mm_play.specs.declared.player.ReplyFault.{ReplyFault}

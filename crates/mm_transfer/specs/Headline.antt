@@ -1,13 +1,30 @@
--- What the lines of two sides are answered: the whole run, and not its lines one by one.
-use Rattle.std.specs.Prelude.{◌≡◌, ◌≤◌, ◌<◌, ◌+◌, ℕ, List, [], ◌∷◌, ◌++◌, length, map, Some, ◌⊎◌}
+-- What is told of a whole transfer.
+use Rattle.std.specs.Prelude.{◌≡◌, ℕ, ◌+◌, List, [], ◌++◌, length}
 use Rattle.std.specs.List.{sum_by}
-use Rattle.mm_transfer.specs.Below.{most_events, meaning_of, Digests, Runs, Promises, Header, Both, digests_move, first_lists, BothEvent}
-use Rattle.mm_transfer.specs.Below.{BothFollowed, both_followed, both_expected, both_by_digests, IsOneFrom, plain_events, plain_replies}
-use Rattle.mm_transfer.specs.Below.{both_continued, AtMostOne, IsClearPair, IsGenuinePair, IsFreshPair, no_notes, most_kept}
-use Rattle.mm_transfer.specs.Answers.{answers_text}
-use Rattle.mm_transfer.specs.Grammar.{first_at, event_at}
+use Rattle.std.specs.Option.{option_map}
+use Rattle.mm_play.specs.Headed.{Begins}
+use Rattle.mm_play.specs.Headline.{EventPlayer}
+use Rattle.mm_transfer.specs.Below.{meaning_of, Digests, Runs, Promises, Header, first_lists, BothEvent, BothFollowed, both_expected}
+use Rattle.mm_transfer.specs.Below.{both_by_digests, IsOneFrom, plain_events, plain_replies, AtMostOne, IsClearPair, IsGenuinePair}
+use Rattle.mm_transfer.specs.Below.{IsFreshPair, no_notes}
+use Rattle.mm_transfer.specs.Answers.{answers_text, end_line}
+use Rattle.mm_transfer.specs.Grammar.{event_at, first_at}
 use Rattle.mm_transfer.specs.Pairs.{pair_of}
-use Rattle.mm_transfer.specs.Stage.{kept_in, both_end_line}
+use Rattle.mm_transfer.specs.declared.opening.FirstLine.{FirstLine}
+
+-- The first line names a header, and events follow. What is shown of them is what they come to on
+-- both sides: the last line counts the requests, the snapshots and the tickets, and these are kept.
+abbrev pub moved : EventPlayer FirstLine Header BothEvent (BothFollowed Digests ℕ)
+moved = record {
+  start = record {};
+  head = λ at line. option_map (λ header. Begins header) (first_at line);
+  event_in = λ header. event_at;
+  text = λ events shown. answers_text events shown.replies;
+  last = λ shown. end_line shown.both.committed (length shown.both.first.issued)
+      (length shown.both.second.issued) (length shown.both.tickets);
+  kept = λ shown. sum_by length shown.both.first.issued
+      + sum_by length shown.both.second.issued + sum_by length shown.both.tickets;
+}
 
 -- What the events come to on both sides, by digests: the replies to all of them are those of both
 -- sides by lists, as the verdict on the one history gives them; those to the calls of either side
@@ -25,71 +42,13 @@ pub record IsOneTransfer (header : Header) (events : List BothEvent)
   pub entered : IsOneFrom (pair_of header) (first_lists (pair_of header)) no_notes events
   pub promised : Promises header.«module» requests (plain_replies it.replies)
 
--- The headline. The whole run is that of each first part of the events, and then of the rest. And
--- so it is of each first part where no two different messages of it share a digest, no digest is
--- zero, no value that others extend a register by is the guard of a batch, no tag is forged, no
--- nonce was invited twice, and each right ticket that is offered is one that the module left by.
-abbrev pub IsContinuous : Header → List BothEvent → Type 0
-IsContinuous header events = (front rest : List BothEvent) → events ≡ front ++ rest →
-    let pair = pair_of header in
-    let it : BothFollowed Digests ℕ = both_by_digests pair front in
-    (both_by_digests pair events ≡ both_continued it (both_followed digests_move pair it.both rest))
-    × (IsClearPair pair front → IsGenuinePair pair front → IsFreshPair pair front
-    → IsOneTransfer header front it)
-
--- Behind these event lines, and their events, the line is one too many: it is event 20,001, or the
--- event lines with it, the snapshots issued before it on both sides and the tickets have more than
--- 268,435,456 bytes.
-abbrev pub IsOver : Header → List (List ℕ) → List BothEvent → List ℕ → Type 0
-IsOver header before events line = (most_events ≤ length before)
-    ⊎ (most_kept < sum_by length before + length line + kept_in
-    (both_by_digests (pair_of header) events).both)
-
--- none of these event lines was one too many
-abbrev pub IsWithinLimits : Header → List (List ℕ) → Type 0
-IsWithinLimits header lines =
-    (before : List (List ℕ)) (line : List ℕ) (after : List (List ℕ)) (events : List BothEvent)
-    → lines ≡ before ++ line ∷ after → map event_at before ≡ map Some events
-    → IsOver header before events line → ⊥
-
--- The lines are the first one and events. What is written is the replies to the events, by digests,
--- and then the last line.
-pub record AnswersEvents (lines : List (List ℕ)) (written : List ℕ)
-    (last : Both Digests ℕ → List ℕ) : Type 0 where
-  pub first : List ℕ
-  pub others : List (List ℕ)
-  pub header : Header
-  pub events : List BothEvent
-  pub split : lines ≡ first ∷ others
-  pub headed : first_at first ≡ Some header
-  pub read : map event_at others ≡ map Some events
-  pub told : written ≡ answers_text events (both_by_digests (pair_of header) events).replies
-      ++ last (both_by_digests (pair_of header) events).both
-  pub within : IsWithinLimits header others
-  pub headline : IsContinuous header events
-
--- no last line
-abbrev pub unended : Both Digests ℕ → List ℕ
-unended both = []
-
--- Not even the first line was answered; or it and events were.
-abbrev pub AnswersLines : List (List ℕ) → List ℕ → Type 0
-AnswersLines lines written = ((lines ≡ []) × (written ≡ [])) ⊎ AnswersEvents lines written unended
-
--- a transfer whole, with its last line
-abbrev pub AnswersAll : List (List ℕ) → List ℕ → Type 0
-AnswersAll lines written = AnswersEvents lines written both_end_line
-
--- The lines are the first one and events, and the first of the rest is one too many.
-pub record IsTooMuch (done rest : List (List ℕ)) : Type 0 where
-  pub first : List ℕ
-  pub others : List (List ℕ)
-  pub header : Header
-  pub events : List BothEvent
-  pub line : List ℕ
-  pub more : List (List ℕ)
-  pub split : done ≡ first ∷ others
-  pub headed : first_at first ≡ Some header
-  pub read : map event_at others ≡ map Some events
-  pub follows : rest ≡ line ∷ more
-  pub over : IsOver header others events line
+-- The headline. With no premise what is shown is by digests. And so it is of each first part of the
+-- events where no two different messages of it share a digest, no digest is zero, no value that
+-- others extend a register by is the guard of a batch, no tag is forged, no nonce was invited twice,
+-- and each right ticket that is offered is one that the module left by.
+abbrev pub AreOneTransfer : Header → List BothEvent → (List BothEvent → BothFollowed Digests ℕ)
+    → Type 0
+AreOneTransfer header events shown = (front later : List BothEvent) → events ≡ front ++ later
+    → (shown front ≡ both_by_digests (pair_of header) front)
+    × (IsClearPair (pair_of header) front → IsGenuinePair (pair_of header) front
+    → IsFreshPair (pair_of header) front → IsOneTransfer header front (shown front))

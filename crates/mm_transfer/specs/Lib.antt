@@ -15,7 +15,6 @@ pub mod Planned
 pub mod Between
 pub mod Acting
 pub mod Sides
-pub mod Counting
 pub mod Headline
 pub mod Plays
-pub mod Progress
+pub mod StageLaws

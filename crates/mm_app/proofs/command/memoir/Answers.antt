@@ -90,48 +90,48 @@ returns-in-Ok-clause-wrote g c =
 holds : (g : Over) (c : After-done g) → Holding c.in-Ok.command (told_before g c) (told_after g c) c.done.result
 holds g c = holding c.in-Ok.command (told_before g c) (told_after g c) c.done.result c.done.ensures.does
 
-abbrev words_of : {g : Over} → After-done g → List (List ℕ)
-words_of c = map (λ s. s.now) c.args.words.now
+abbrev words_of : (g : Over) → After-done g → List (List ℕ)
+words_of g c = map (λ s. s.now) c.args.words.now
 
 pub returns-in-Ok-clause-blank : goal.returns-in-Ok-clause-blank
 returns-in-Ok-clause-blank g c cell items told shown =
     let it = (goal.at.returns-in-Ok-clause-blank g c).After-done in
-    spelled (words_of it) c.in-Ok.command c.in-Ok.ensures.ok {Is = λ command. NeedsInstance command × (cell ≡ blank_cell)}
+    spelled (words_of g it) it.in-Ok.command it.in-Ok.ensures.ok {Is = λ command. NeedsInstance command × (cell ≡ blank_cell)}
     ((holds g it).blank cell items told shown)
 
 pub returns-in-Ok-clause-already : goal.returns-in-Ok-clause-already
 returns-in-Ok-clause-already g c cell told =
     let it = (goal.at.returns-in-Ok-clause-already g c).After-done in
-    spelled (words_of it) c.in-Ok.command c.in-Ok.ensures.ok {Is = λ command. StartsOne command × (cell ≢ blank_cell)}
+    spelled (words_of g it) it.in-Ok.command it.in-Ok.ensures.ok {Is = λ command. StartsOne command × (cell ≢ blank_cell)}
     ((holds g it).already cell told)
 
 pub returns-in-Ok-clause-cell : goal.returns-in-Ok-clause-cell
 returns-in-Ok-clause-cell g c cell items told shown =
     let it = (goal.at.returns-in-Ok-clause-cell g c).After-done in
-    spelled (words_of it) c.in-Ok.command c.in-Ok.ensures.ok {Is = CantRead cell} ((holds g it).unread cell items told shown)
+    spelled (words_of g it) it.in-Ok.command it.in-Ok.ensures.ok {Is = CantRead cell} ((holds g it).unread cell items told shown)
 
 pub returns-in-Ok-clause-kind : goal.returns-in-Ok-clause-kind
 returns-in-Ok-clause-kind g c cell told =
     let it = (goal.at.returns-in-Ok-clause-kind g c).After-done in
-    spelled (words_of it) c.in-Ok.command c.in-Ok.ensures.ok {Is = FindsBasic cell} ((holds g it).kind cell told)
+    spelled (words_of g it) it.in-Ok.command it.in-Ok.ensures.ok {Is = FindsBasic cell} ((holds g it).kind cell told)
 
 pub returns-in-Ok-clause-short : goal.returns-in-Ok-clause-short
 returns-in-Ok-clause-short g c cell secrets got told left =
     let it = (goal.at.returns-in-Ok-clause-short g c).After-done in
-    spelled_where (words_of it) c.in-Ok.command c.in-Ok.ensures.ok {Is = RunsShort cell secrets}
+    spelled_where (words_of g it) it.in-Ok.command it.in-Ok.ensures.ok {Is = RunsShort cell secrets}
     ((holds g it).short cell secrets got told left)
 
 pub returns-in-Ok-clause-lost : goal.returns-in-Ok-clause-lost
 returns-in-Ok-clause-lost g c cell items told shown =
     let it = (goal.at.returns-in-Ok-clause-lost g c).After-done in
-    spelled_where (words_of it) c.in-Ok.command c.in-Ok.ensures.ok {Is = λ command. MayBeLost command c.done.result}
+    spelled_where (words_of g it) it.in-Ok.command it.in-Ok.ensures.ok {Is = λ command. MayBeLost command it.done.result}
     ((holds g it).lost cell items told shown)
 
 pub returns-in-Ok-clause-refused : goal.returns-in-Ok-clause-refused
 returns-in-Ok-clause-refused g c cell items why told shown is =
     let it = (goal.at.returns-in-Ok-clause-refused g c).After-done in
     let r = (holds g it).refused cell items why told shown is in
-    ((c.in-Ok.command, (r.0, c.in-Ok.ensures.ok)), (r.1, r.2))
+    ((it.in-Ok.command, r.0, it.in-Ok.ensures.ok), r.1, r.2)
 
 pub returns-in-Ok-clause-much : goal.returns-in-Ok-clause-much
 returns-in-Ok-clause-much g c it spells =
@@ -179,40 +179,41 @@ stopped_as g c = c.stopped.ensures.status ∙ c.of_words.ensures
 pub returns-in-Err-clause-blank : goal.returns-in-Err-clause-blank
 returns-in-Err-clause-blank g c cell items told shown =
     let it = (goal.at.returns-in-Err-clause-blank g c).After-stopped in
-    unspelled _ c.in-Err.fault c.stopped.result c.in-Err.ensures.usage (stopped_as g it)
+    unspelled _ it.in-Err.fault it.stopped.result it.in-Err.ensures.usage (stopped_as g it)
     {Is = λ command. NeedsInstance command × (cell ≡ blank_cell)} Blank refl
 
 pub returns-in-Err-clause-already : goal.returns-in-Err-clause-already
 returns-in-Err-clause-already g c cell told =
     let it = (goal.at.returns-in-Err-clause-already g c).After-stopped in
-    unspelled _ c.in-Err.fault c.stopped.result c.in-Err.ensures.usage (stopped_as g it)
+    unspelled _ it.in-Err.fault it.stopped.result it.in-Err.ensures.usage (stopped_as g it)
     {Is = λ command. StartsOne command × (cell ≢ blank_cell)} Already refl
 
 pub returns-in-Err-clause-cell : goal.returns-in-Err-clause-cell
 returns-in-Err-clause-cell g c cell items told shown =
     let it = (goal.at.returns-in-Err-clause-cell g c).After-stopped in
-    unspelled _ c.in-Err.fault c.stopped.result c.in-Err.ensures.usage (stopped_as g it) {Is = CantRead cell} Cell refl
+    unspelled _ it.in-Err.fault it.stopped.result it.in-Err.ensures.usage (stopped_as g it) {Is = CantRead cell} Cell refl
 
 pub returns-in-Err-clause-kind : goal.returns-in-Err-clause-kind
 returns-in-Err-clause-kind g c cell told =
     let it = (goal.at.returns-in-Err-clause-kind g c).After-stopped in
-    unspelled _ c.in-Err.fault c.stopped.result c.in-Err.ensures.usage (stopped_as g it) {Is = FindsBasic cell} Kind refl
+    unspelled _ it.in-Err.fault it.stopped.result it.in-Err.ensures.usage (stopped_as g it) {Is = FindsBasic cell} Kind refl
 
 pub returns-in-Err-clause-short : goal.returns-in-Err-clause-short
 returns-in-Err-clause-short g c cell secrets got told left =
     let it = (goal.at.returns-in-Err-clause-short g c).After-stopped in
-    unspelled_where _ c.in-Err.fault c.stopped.result c.in-Err.ensures.usage (stopped_as g it) {Is = RunsShort cell secrets} (Short got) refl
+    unspelled_where _ it.in-Err.fault it.stopped.result it.in-Err.ensures.usage (stopped_as g it)
+    {Is = RunsShort cell secrets} (Short got) refl
 
 pub returns-in-Err-clause-lost : goal.returns-in-Err-clause-lost
 returns-in-Err-clause-lost g c cell items told shown =
     let it = (goal.at.returns-in-Err-clause-lost g c).After-stopped in
-    unspelled_where _ c.in-Err.fault c.stopped.result c.in-Err.ensures.usage (stopped_as g it)
-    {Is = λ command. MayBeLost command c.stopped.result} Lost refl
+    unspelled_where _ it.in-Err.fault it.stopped.result it.in-Err.ensures.usage (stopped_as g it)
+    {Is = λ command. MayBeLost command it.stopped.result} Lost refl
 
 pub returns-in-Err-clause-refused : goal.returns-in-Err-clause-refused
 returns-in-Err-clause-refused g c cell items why told shown is =
     let it = (goal.at.returns-in-Err-clause-refused g c).After-stopped in
-    absurd (unheld _ c.in-Err.fault c.stopped.result c.in-Err.ensures.usage (stopped_as g it) (Refused why) refl is)
+    absurd (unheld _ it.in-Err.fault it.stopped.result it.in-Err.ensures.usage (stopped_as g it) (Refused why) refl is)
 
 pub returns-in-Err-clause-much : goal.returns-in-Err-clause-much
 returns-in-Err-clause-much g c it spells =

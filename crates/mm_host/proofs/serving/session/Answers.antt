@@ -1,6 +1,6 @@
 use Rattle.mm_host.proofs.Counting.{session_counted, session_writes}
 use Rattle.mm_host.proofs.RunningOnce.{session_runs_once}
-use Rattle.mm_host.proofs.SessionRuns.{continues}
+use Rattle.mm_host.proofs.Continues.{session_continues}
 use Rattle.mm_host.proofs.Lines.{spares_lines}
 use Rattle.mm_host.proofs.serving.session.Goals as goal
 
@@ -15,7 +15,7 @@ returns-clause-named g c = (session_counted c.session_by_steps.ensures.sessions)
 
 pub returns-clause-continues : goal.returns-clause-continues
 returns-clause-continues g c =
-    continues c.args.variant (g.M.Module.meaning c.args.module.now) (g.met.M.Module.is_lawful c.args.module.now) _ _ _ _ _ _ _ _
+    session_continues c.args.variant (g.M.Module.meaning c.args.module.now) (g.met.M.Module.is_lawful c.args.module.now) _ _ _ _ _ _ _ _
     c.session_by_steps.result
 
 pub returns-clause-lines : goal.returns-clause-lines

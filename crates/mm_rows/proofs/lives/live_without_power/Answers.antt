@@ -1,6 +1,7 @@
 use Rattle.std.proofs.Common.{ap}
 use Rattle.std.specs.Result.{result_err}
-use Rattle.mm_rows.proofs.WholeLives.{lives_without_power, power_lost}
+use Rattle.mm_digest.specs.declared.variant.Variant.TheVariants.{Basic}
+use Rattle.mm_rows.proofs.WholeLives.{lives_without_power}
 use Rattle.mm_rows.specs.Devices.{two_cells}
 use Rattle.mm_rows.proofs.lives.live_without_power.Goals as goal
 
@@ -15,8 +16,9 @@ returns-in-Ok-cycle g c =
     (two_cells c.cycle.new.self) (
       c.serve-first.ensures.sessions,
       (
-        power_lost (two_cells c.serve-first.new.platform) (two_cells c.cycle.new.self)
-            (result_err c.cycle.result) (ap (λ r. result_err r) c.in-Ok-cycle.is) c.cycle.ensures,
+        (c.device_calls_are_deeds.ensures.cycles Basic (g.M.Module.meaning c.args.module.now)
+            (two_cells c.serve-first.new.platform) (two_cells c.cycle.new.self) (result_err c.cycle.result)
+            c.cycle.ensures).unfailed (ap (λ r. result_err r) c.in-Ok-cycle.is),
         (c.serve-second.ensures.sessions, tt),
       ),
     )

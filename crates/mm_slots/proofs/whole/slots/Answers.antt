@@ -1,15 +1,22 @@
-use Rattle.mm_slots.proofs.Below.{plays_err, whole_ok, whole_err, unrefused, Reports}
+use Rattle.std.proofs.Common.{◌∙◌, ap}
+use Rattle.mm_play.specs.Stage.{AtHeading, InEvents}
+use Rattle.mm_slots.proofs.Below.{events_err, events_ok, playing, plays_err, unrefused, Reports}
+use Rattle.mm_slots.specs.Headline.{AreSlotRuns, slotted}
+use Rattle.mm_slots.specs.Stage.{begun, slots_heads, slots_stage}
 use Rattle.mm_slots.specs.declared.report.SlotReport.{SlotReport}
-use Rattle.mm_slots.proofs.Telling.{means}
+use Rattle.mm_slots.proofs.Telling.{are_slot_runs, shown_in, shows}
 use Rattle.mm_slots.proofs.whole.slots.Goals as goal
 
 pub returns-clause-plays : goal.returns-clause-plays
 returns-clause-plays g c =
-    whole_err Reports (means c.slots_run.ensures) c.new-player.ensures c.play.ensures.plays c.in-Err.fault c.in-Err.is
+    events_err slotted slots_heads slots_stage playing begun shown_in shows AreSlotRuns (are_slot_runs c.slots_run.ensures) Reports
+    (c.new-player.ensures ∙ ap AtHeading c.new.ensures) c.play.ensures.plays c.in-Err.fault c.in-Err.is
 
 pub returns-in-Ok-clause-plays : goal.returns-in-Ok-clause-plays
 returns-in-Ok-clause-plays g c =
-    whole_ok Reports (means c.slots_run.ensures) c.new-player.ensures c.play.ensures.plays tt c.in-Ok.is c.report.result c.report.ensures
+    events_ok slotted slots_heads slots_stage playing begun shown_in shows AreSlotRuns (are_slot_runs c.slots_run.ensures) Reports
+    (c.new-player.ensures ∙ ap AtHeading c.new.ensures) c.play.ensures.plays tt c.in-Ok.is c.report_of.result c.report_of.ensures
 
 pub returns-clause-complete : goal.returns-clause-complete
-returns-clause-complete g c = unrefused (plays_err {R = SlotReport} c.new-player.ensures c.play.ensures.plays c.in-Err.fault c.in-Err.is)
+returns-clause-complete g c =
+    unrefused (plays_err {R = SlotReport} (c.new-player.ensures ∙ ap AtHeading c.new.ensures) c.play.ensures.plays c.in-Err.fault c.in-Err.is)

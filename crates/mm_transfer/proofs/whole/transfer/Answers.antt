@@ -1,23 +1,26 @@
-use Rattle.mm_transfer.proofs.Below.{Means, plays_err, whole_ok, whole_err, unrefused, PairsAgreeThroughout, OneIsLive, SidesRunAsOne}
-use Rattle.mm_transfer.proofs.Below.{PairsGoOn, AnswersLines, AnswersAll, IsTooMuch, AtHeader, transfer_answer, transfer_closing}
+use Rattle.mm_play.specs.Stage.{AtHeading, InEvents}
+use Rattle.mm_transfer.proofs.Below.{begun, events_err, events_ok, playing, plays_err, unrefused, PairsAgreeThroughout, OneIsLive, SidesRunAsOne}
+use Rattle.mm_transfer.specs.Headline.{AreOneTransfer, moved}
 use Rattle.mm_transfer.specs.Plays.{Reports}
+use Rattle.mm_transfer.specs.Stage.{transfer_heads, transfer_stage}
 use Rattle.mm_transfer.specs.declared.report.TransferReport.{TransferReport}
-use Rattle.mm_transfer.proofs.Telling.{means}
+use Rattle.mm_transfer.proofs.Telling.{SideLaws, are_one_transfer, shown_in, shows}
 use Rattle.mm_transfer.proofs.whole.transfer.Goals as goal
 
-by_laws : PairsAgreeThroughout → OneIsLive → SidesRunAsOne → PairsGoOn
-    → Means transfer_answer transfer_closing AtHeader AnswersLines AnswersAll IsTooMuch
-by_laws agree live run go_on = means (record { agree = agree; live = live; run = run; go_on = go_on })
+by_laws : PairsAgreeThroughout → OneIsLive → SidesRunAsOne → SideLaws
+by_laws agree live run = record { agree = agree; live = live; run = run }
 
 pub returns-clause-plays : goal.returns-clause-plays
 returns-clause-plays g c =
-    whole_err Reports (by_laws c.both_sides_agree.ensures c.one_side_is_live.ensures c.sides_run_as_one.ensures c.both_go_on.ensures)
+    events_err moved transfer_heads transfer_stage playing begun shown_in shows AreOneTransfer
+    (are_one_transfer (by_laws c.both_sides_agree.ensures c.one_side_is_live.ensures c.sides_run_as_one.ensures)) Reports
     c.new-player.ensures c.play.ensures.plays c.in-Err.fault c.in-Err.is
 
 pub returns-in-Ok-clause-plays : goal.returns-in-Ok-clause-plays
 returns-in-Ok-clause-plays g c =
-    whole_ok Reports (by_laws c.both_sides_agree.ensures c.one_side_is_live.ensures c.sides_run_as_one.ensures c.both_go_on.ensures)
-    c.new-player.ensures c.play.ensures.plays tt c.in-Ok.is c.report.result c.report.ensures
+    events_ok moved transfer_heads transfer_stage playing begun shown_in shows AreOneTransfer
+    (are_one_transfer (by_laws c.both_sides_agree.ensures c.one_side_is_live.ensures c.sides_run_as_one.ensures)) Reports
+    c.new-player.ensures c.play.ensures.plays tt c.in-Ok.is c.report_of.result c.report_of.ensures
 
 pub returns-clause-complete : goal.returns-clause-complete
 returns-clause-complete g c =

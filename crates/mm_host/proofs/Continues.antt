@@ -1,0 +1,84 @@
+-- A session over an honest store goes on, also where the cell was read before.
+use Rattle.mm_host.proofs.Below.{◌≡◌, ◌∙◌, ℕ, List, Option, None, Some, Result, refl, [], Standing, Batch, Meaning, IsLawful, Instance, opt}
+use Rattle.mm_host.proofs.Below.{History, Variant, Basic, Opt, inl, StoreStanding, Pending, Slots, SessionFault, ContinuesFrom, MayGoOn}
+use Rattle.mm_host.proofs.Below.{MayStart, SessionContinues, FitsBy, taking, names_alike, IsGenuine, first_offer, Holds, one_content}
+use Rattle.mm_host.proofs.Below.{StepFault}
+use Rattle.mm_platform.specs.Steps.{beside, Goes, ReadCell}
+use Rattle.mm_host.proofs.Leading.{basic_laws}
+use Rattle.mm_host.proofs.OptLeading.{opt_laws}
+use Rattle.mm_host.proofs.RunningOnce.{enter_by, nothing_beside, powered_looked}
+use Rattle.mm_host.proofs.SessionRuns.{continues_to}
+
+-- what fits is genuine
+holds_genuine : (i : Instance) (y : History) (bytes : List ℕ) (position : ℕ) → Holds i y bytes position → IsGenuine i y bytes
+holds_genuine i y bytes position h = λ content right. rw (one_content i bytes h.content content h.right right) at h.names
+
+pub fits_genuine : (i : Instance) (slots : Slots) (y : History) (waiting : Option Pending) → FitsBy i slots y waiting
+    → IsGenuine i y (first_offer slots waiting)
+fits_genuine i slots y None f = holds_genuine i y _ _ f.1
+fits_genuine i slots y (Some p) f = holds_genuine i y _ _ f.1
+
+abbrev starts_by : {all others : List (List ℕ)} {asked : List Batch} {i : Instance} {y : History} {slots : Slots} {standing : Standing}
+    {kept : StoreStanding} → MayGoOn all others asked i y slots standing kept → MayStart all others asked i y slots standing kept
+starts_by {i = i} {y = y} {slots = slots} may = record {
+  told = may.told;
+  waiting = may.fits.waiting;
+  is_waiting = may.fits.is_waiting;
+  stands = may.stands;
+  clear = may.clear;
+  apart = may.apart;
+  within = may.within;
+  genuine = fits_genuine i slots y may.fits.waiting may.fits.fits;
+}
+
+-- slots that fit go on to where others extended the register
+module _ (meaning : Meaning) (key barrier : List ℕ) (y : History) (values : List (List ℕ)) (slots : Slots) where
+  abbrev i : Instance
+  i = opt meaning key barrier
+
+  holds_looked : (bytes : List ℕ) (position : ℕ) → Holds i y bytes position → Holds i (taking y values) bytes position
+  holds_looked bytes position h = record {
+    content = h.content;
+    right = h.right;
+    names = names_alike meaning key barrier y (taking y values) h.content refl h.names;
+    at = h.at;
+  }
+
+  fits_looked : (waiting : Option Pending) → FitsBy i slots y waiting → FitsBy i slots (taking y values) waiting
+  fits_looked None f = (f.0, holds_looked _ _ f.1)
+  fits_looked (Some p) f = (f.0, holds_looked _ _ f.1)
+
+continue_over : (variant : Variant) (meaning : Meaning) → IsLawful meaning → (entry before after : Standing) (values : List (List ℕ))
+    → before.cell ≡ entry.cell → before.items ≡ beside values entry.items
+    → (old new : StoreStanding) (left left' received received' : Option (List ℕ)) (result : Result Unit SessionFault)
+    → ContinuesFrom variant meaning entry before after old new left left' received received' result
+continue_over Basic meaning lawful entry before after values cell looked old new left left' received received' result =
+    λ s key y slots all others asked requests may f room among.
+    continues_to (basic_laws meaning lawful key all others asked after may.clear may.apart) s y y slots may.fits.waiting may.told may.honest
+    may.fits.is_waiting may.fits.fits requests (record {
+      stands = record { spells = may.stands.spells; cell = cell ∙ may.stands.cell; register = tt };
+      within = may.within;
+      genuine = (starts_by may).genuine;
+      same = refl;
+    }) (inl tt) f room among (λ p. p)
+continue_over Opt meaning lawful entry before after values cell looked old new left left' received received' result =
+    λ s key barrier y slots all others asked requests items more may f room among known ends shown_so.
+    let e = enter_by meaning lawful entry before after values cell looked s key barrier y slots all others asked requests items more
+    (starts_by may) known ends y.is_open refl shown_so in
+    continues_to (opt_laws meaning lawful key barrier all others asked after may.clear may.apart) s (taking y values) y slots
+    may.fits.waiting may.told may.honest may.fits.is_waiting (fits_looked meaning key barrier y values slots may.fits.waiting may.fits.fits)
+    requests e.0 e.1 f room among (powered_looked values y)
+
+-- behind a reading of the cell, whether that failed or not
+pub continues_from : (variant : Variant) (meaning : Meaning) → IsLawful meaning
+    → (entry before after : Standing) (fault : Option StepFault) (old new : StoreStanding) (left left' received received' : Option (List ℕ))
+    (result : Result Unit SessionFault) → Goes ReadCell entry before fault
+    → ContinuesFrom variant meaning entry before after old new left left' received received' result
+continues_from variant meaning lawful entry before after fault old new left left' received received' result g =
+    continue_over variant meaning lawful entry before after g.others g.cell g.items old new left left' received received' result
+
+pub session_continues : (variant : Variant) (meaning : Meaning) → IsLawful meaning
+    → (before after : Standing) (old new : StoreStanding) (left left' received received' : Option (List ℕ))
+    (result : Result Unit SessionFault) → SessionContinues variant meaning before after old new left left' received received' result
+session_continues variant meaning lawful before after =
+    continue_over variant meaning lawful before before after [] refl (nothing_beside before.items)

@@ -1,0 +1,65 @@
+//! The lines before the events of slots: the first one, and a header line for each slot.
+
+ghost use Rattle.std.specs.Prelude.{◌≡◌};
+ghost use Rattle.mm_slots.specs.Stage.{slots_heads};
+ghost use Rattle.mm_slots.specs.StageLaws.{openings_fall, openings_few};
+
+use crate::heading::{add_head, first_heads};
+use crate::heads::Heads;
+use crate::stage::SlotsStage;
+use mm_play::{Heading, Refused, ReplyFault};
+use mm_schedule::read_head;
+use std::alloc::Global;
+use std::marker::Model;
+
+/// Before the first line there are no heads.
+#[derive(Drop)]
+pub struct Opening {
+    heads: Option<Heads>,
+}
+
+impl Model for Opening {
+    ghost use Rattle.mm_slots.specs.Opening.{opening_in};
+    ghost use Rattle.mm_slots.specs.Stage.{Opening as Stands};
+
+    ghost Value = { Stands };
+
+    ghost view = { λ it. opening_in it.heads };
+}
+
+impl Opening {
+    ghost use Rattle.mm_slots.specs.Stage.{AtFirst};
+
+    /// Slots before their first line.
+    pub fn new() -> Opening
+        ensures { result ≡ AtFirst }
+    {
+        Opening { heads: None }
+    }
+}
+
+impl Heading<SlotsStage> for Opening {
+    ghost heads = { slots_heads };
+
+    fn take_line(&mut self, alloc: Global, line: &[u8]) -> Result<Option<SlotsStage>, ReplyFault> {
+        match &mut self.heads {
+            None => {
+                self.heads = Some(first_heads(alloc, line)?);
+                Ok(None)
+            }
+            Some(heads) => {
+                let Some(header) = read_head(line) else {
+                    return Err(ReplyFault::Refused(Refused::Bad));
+                };
+                match add_head(alloc, heads, header) {
+                    Ok(stage) => Ok(stage),
+                    Err(_) => Err(ReplyFault::Memory),
+                }
+            }
+        }
+    }
+
+    ghost fewer = { openings_fall };
+
+    ghost few = { openings_few };
+}

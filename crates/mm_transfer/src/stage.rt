@@ -1,0 +1,139 @@
+//! Both sides among their events.
+
+ghost use Rattle.std.specs.Prelude.{◌≡◌, ◌≤◌, ◌<◌, ◌+◌, ◌++◌, ◌∷◌, [], length, IfOk, OnOk};
+ghost use Rattle.mm_base.specs.Limits.{longest_line, most_events};
+
+use crate::event::{SideEvent, Which};
+use crate::put::{put_answer, put_end};
+use crate::read::read_side_event;
+use crate::reply::MoveReply;
+use crate::report::TransferReport;
+use crate::sides::Sides;
+use mm_base::{Bytes, Memory};
+use mm_play::{Refused, ReplyFault, Stage};
+use mm_schedule::{EventFault, Header};
+use std::alloc::Global;
+use std::marker::Model;
+
+/// Both sides among their events.
+#[derive(Drop)]
+pub struct TransferStage {
+    sides: Sides,
+    /// The events followed.
+    events: u32,
+}
+
+impl Model for TransferStage {
+    ghost use Rattle.mm_transfer.specs.Stage.{KeepsSides, Running};
+
+    ghost Value = { Running };
+
+    ghost view = { λ p. record { header = p.sides.header; both = p.sides.both; events = p.events } };
+
+    ghost invariant = { λ p. KeepsSides p.sides.both p.events };
+}
+
+impl TransferStage {
+    ghost use Rattle.mm_transfer.specs.Events.{side_event_of};
+    ghost use Rattle.mm_transfer.specs.Replies.{reply_said, IsSayable};
+    ghost use Rattle.mm_transfer.specs.Stage.{after, begun, both_end_line, running_outcome};
+
+    /// Both sides at their first event.
+    pub fn new(alloc: Global, header: &Header) -> Result<TransferStage, Memory>
+        ensures { IfOk result (λ it. it ≡ begun header.now) }
+    {
+        let sides = Sides::new(alloc, header)?;
+        Ok(TransferStage { sides, events: 0 })
+    }
+
+    // Follows an event on its side.
+    fn event(&mut self, alloc: Global, event: &SideEvent) -> Result<MoveReply, Memory>
+        requires { self.old.events < most_events }
+        ensures reply { IfOk result (λ reply. reply
+            ≡ reply_said (running_outcome self.old (side_event_of event.now)).reply) }
+        ensures sayable { IfOk result IsSayable }
+        ensures after { OnOk result (self.new ≡ after self.old (side_event_of event.now)) }
+    {
+        let reply = self.sides.event(alloc, event)?;
+        self.events += 1;
+        Ok(reply)
+    }
+
+    /// Puts the last line at the end.
+    pub fn put_last_line(&self, into: &mut Bytes) -> Result<(), Memory>
+        ensures { OnOk result (into.new ≡ into.old ++ both_end_line self.now.both) }
+    {
+        put_end(
+            self.sides.committed(),
+            self.sides.issued(Which::First),
+            self.sides.issued(Which::Second),
+            self.sides.tickets(),
+            into,
+        )
+    }
+
+    /// How many requests were committed, snapshots issued on each side, and tickets handed out.
+    pub fn report(&self) -> TransferReport
+        ensures committed { result.committed ≡ self.now.both.committed }
+        ensures issued { result.issued ≡ length self.now.both.first.issued
+            ∷ length self.now.both.second.issued ∷ [] }
+        ensures tickets { result.tickets ≡ length self.now.both.tickets }
+    {
+        TransferReport {
+            committed: self.sides.committed(),
+            issued: [
+                self.sides.issued(Which::First),
+                self.sides.issued(Which::Second),
+            ],
+            tickets: self.sides.tickets(),
+        }
+    }
+}
+
+impl Stage for TransferStage {
+    ghost use Rattle.mm_transfer.specs.Stage.{transfer_stage};
+    ghost use Rattle.mm_transfer.specs.StageLaws.{counts_on};
+
+    ghost plays = { transfer_stage };
+
+    fn events(&self) -> u32 {
+        self.events
+    }
+
+    fn kept(&self) -> u64 {
+        self.sides.kept()
+    }
+
+    fn is_event(&self, alloc: Global, line: &[u8]) -> Result<bool, Memory> {
+        match read_side_event(alloc, line) {
+            Ok(_) => Ok(true),
+            Err(EventFault::Bad) => Ok(false),
+            Err(EventFault::Memory) => Err(Memory),
+        }
+    }
+
+    fn play(&mut self, alloc: Global, line: &[u8]) -> Result<Bytes, ReplyFault> {
+        let event = match read_side_event(alloc, line) {
+            Ok(event) => event,
+            Err(EventFault::Memory) => return Err(ReplyFault::Memory),
+            Err(EventFault::Bad) => return Err(ReplyFault::Refused(Refused::Bad)),
+        };
+        let reply = match self.event(alloc, &event) {
+            Ok(reply) => reply,
+            Err(_) => return Err(ReplyFault::Memory),
+        };
+        let mut text = Bytes::new(alloc);
+        match put_answer(event.which, &reply, &mut text) {
+            Ok(()) => Ok(text),
+            Err(_) => Err(ReplyFault::Memory),
+        }
+    }
+
+    fn last_lines(&self, alloc: Global) -> Result<Bytes, Memory> {
+        let mut last = Bytes::new(alloc);
+        self.put_last_line(&mut last)?;
+        Ok(last)
+    }
+
+    ghost counts = { counts_on };
+}
