@@ -12,4 +12,3 @@ pub struct Heads {
     ghost fewer: { length headers.items < count },
     ghost most: { count ≤ 16 },
 }
-
