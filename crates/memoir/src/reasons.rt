@@ -75,11 +75,11 @@ fn longest_line(command: &str) -> u32 {
 fn refused(why: Refusal) -> &'static str {
     match why {
         Refusal::Stale => {
-            "no slot holds the newest snapshot: were slots put back, or nv, or register extended by others?"
+            "the slots' snapshot isn't the newest: were slots put back or removed, nv put back, or register extended?"
         }
-        Refusal::Form => "no slot holds a snapshot: were slots removed, cut or replaced?",
+        Refusal::Form => "what the slots hold is no snapshot: were slots removed, cut or replaced?",
         Refusal::Kind | Refusal::State | Refusal::Tag => {
-            "the slots hold no snapshot of the instance in nv: are they another's?"
+            "the slots' snapshot is none of the instance in nv: are slots another's, or altered?"
         }
         Refusal::Full => "no position is left",
         _ => "the slots hold a request that can't be run: were they written by others?",

@@ -35,37 +35,39 @@ abbrev pub call_replies : Result Answer Refusal → List Reply
 call_replies (Ok answer) = answer_reply answer ∷ []
 call_replies (Err why) = []
 
-module _ (variant : Variant) (meaning : Meaning) where
-  -- one part of a life: other deeds leave the list
-  abbrev pub PartSteps : (old : Standing) (part : Part) (new : Standing)
-      → PartLeads variant meaning old part new → List (List ℕ) → List (List ℕ) → Type 0
-  PartSteps old (Holds p) new s requests after =
-      SessionSteps meaning requests (told_by s) (InHandOf s) p.result after
-  PartSteps old (Does (Calls c)) new s requests after =
-      CallSteps meaning requests c.request c.gives after
-  PartSteps old (Does _) new s requests after = after ≡ requests
+-- one part of a life: other deeds leave the list
+abbrev pub PartSteps : (variant : Variant) (meaning : Meaning) (old : Standing) (part : Part)
+    (new : Standing) → PartLeads variant meaning old part new → List (List ℕ) → List (List ℕ)
+    → Type 0
+PartSteps variant meaning old (Holds p) new s requests after =
+    SessionSteps meaning requests (told_by s) (InHandOf s) p.result after
+PartSteps variant meaning old (Does (Calls c)) new s requests after =
+    CallSteps meaning requests c.request c.gives after
+PartSteps variant meaning old (Does _) new s requests after = after ≡ requests
 
-  -- The life is steps on one list, from these requests to those.
-  abbrev pub FollowsOn : (start : Standing) (stages : List Stage)
-      → IsLife variant meaning start stages → List (List ℕ) → List (List ℕ) → Type 0
-  FollowsOn start [] f requests after = after ≡ requests
-  FollowsOn start (stage ∷ stages) f requests after =
-      (between : List (List ℕ))
-      × PartSteps start stage.part stage.after f.0 requests between
-      × FollowsOn stage.after stages f.1 between after
+-- The life is steps on one list, from these requests to those.
+abbrev pub FollowsOn : (variant : Variant) (meaning : Meaning) (start : Standing)
+    (stages : List Stage) → IsLife variant meaning start stages → List (List ℕ) → List (List ℕ)
+    → Type 0
+FollowsOn variant meaning start [] f requests after = after ≡ requests
+FollowsOn variant meaning start (stage ∷ stages) f requests after =
+    (between : List (List ℕ))
+    × PartSteps variant meaning start stage.part stage.after f.0 requests between
+    × FollowsOn variant meaning stage.after stages f.1 between after
 
-  -- the replies that are told in a part of a life, and in all of it
-  abbrev pub part_replies : (old : Standing) (part : Part) (new : Standing)
-      → PartLeads variant meaning old part new → List Reply
-  part_replies old (Holds p) new s = told_replies (told_by s)
-  part_replies old (Does (Calls c)) new s = call_replies c.gives
-  part_replies old (Does _) new s = []
+-- the replies that are told in a part of a life, and in all of it
+abbrev pub part_replies : (variant : Variant) (meaning : Meaning) (old : Standing) (part : Part)
+    (new : Standing) → PartLeads variant meaning old part new → List Reply
+part_replies variant meaning old (Holds p) new s = told_replies (told_by s)
+part_replies variant meaning old (Does (Calls c)) new s = call_replies c.gives
+part_replies variant meaning old (Does _) new s = []
 
-  abbrev pub life_replies : (start : Standing) (stages : List Stage)
-      → IsLife variant meaning start stages → List Reply
-  life_replies start [] f = []
-  life_replies start (stage ∷ stages) f =
-      part_replies start stage.part stage.after f.0 ++ life_replies stage.after stages f.1
+abbrev pub life_replies : (variant : Variant) (meaning : Meaning) (start : Standing)
+    (stages : List Stage) → IsLife variant meaning start stages → List Reply
+life_replies variant meaning start [] f = []
+life_replies variant meaning start (stage ∷ stages) f =
+    part_replies variant meaning start stage.part stage.after f.0
+    ++ life_replies variant meaning stage.after stages f.1
 
 -- The last of these calls, where it was refused and neither for a device's fault nor for want of
 -- memory, was refused as its offer is by lists at the history.

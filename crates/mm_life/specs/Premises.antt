@@ -77,13 +77,14 @@ register_messages start (stage ∷ stages) =
 abbrev pub others_values : List Stage → List (List ℕ)
 others_values stages = flat_map (λ stage. option_map_or foreign_items stage.after.items []) stages
 
-module _ (i : Instance) (start : Standing) (stages : List Stage)
-    (f : IsLife i.variant i.meaning start stages) where
-  abbrev pub life_batches : List Batch
-  life_batches = requests_asked (life_calls i.variant i.meaning start stages f)
+abbrev pub life_batches : (i : Instance) (start : Standing) (stages : List Stage)
+    → IsLife i.variant i.meaning start stages → List Batch
+life_batches i start stages f = requests_asked (life_calls i.variant i.meaning start stages f)
 
-  abbrev pub life_messages : List (List ℕ)
-  life_messages = call_messages i (life_calls i.variant i.meaning start stages f)
+abbrev pub life_messages : (i : Instance) (start : Standing) (stages : List Stage)
+    → IsLife i.variant i.meaning start stages → List (List ℕ)
+life_messages i start stages f = call_messages i (life_calls i.variant i.meaning start stages f)
 
-  abbrev pub opt_messages : List (List ℕ)
-  opt_messages = life_messages ++ register_messages start stages
+abbrev pub opt_messages : (i : Instance) (start : Standing) (stages : List Stage)
+    → IsLife i.variant i.meaning start stages → List (List ℕ)
+opt_messages i start stages f = life_messages i start stages f ++ register_messages start stages

@@ -15,52 +15,63 @@ told_calls offer (c ∷ calls) =
     record { offer = offer; request = c.line; gives = Ok c.answer }
     ∷ told_calls c.answer.snapshot calls
 
-module _ (variant : Variant) (meaning : Meaning) (before after : Standing) where
-  -- a request is asked: one call
-  abbrev pub one_call : {old new : StoreStanding} (offer request : List ℕ)
-      {result : Result Resumed HostFault}
-      → AsksAndKeeps variant meaning before after old new offer request result → List Call
-  one_call offer request a = record { offer = offer; request = request; gives = a.asked } ∷ []
+-- a request is asked: one call
+abbrev pub one_call : (variant : Variant) (meaning : Meaning) (before after : Standing)
+    {old new : StoreStanding} (offer request : List ℕ) {result : Result Resumed HostFault}
+    → AsksAndKeeps variant meaning before after old new offer request result → List Call
+one_call variant meaning before after offer request a =
+    record { offer = offer; request = request; gives = a.asked } ∷ []
 
-  -- what waits is asked, unless the store failed before
-  abbrev pub offered_calls : (offer : Result (List ℕ) StoreFault) (old new : StoreStanding)
-      (p : Pending) (result : Result Resumed HostFault)
-      → AfterOffer variant meaning before after offer old new p result → List Call
-  offered_calls (Ok offer) old new p result a = one_call offer p.request a
-  offered_calls (Err why) old new p result a = []
+-- what waits is asked, unless the store failed before
+abbrev pub offered_calls : (variant : Variant) (meaning : Meaning) (before after : Standing)
+    (offer : Result (List ℕ) StoreFault) (old new : StoreStanding) (p : Pending)
+    (result : Result Resumed HostFault)
+    → AfterOffer variant meaning before after offer old new p result → List Call
+offered_calls variant meaning before after (Ok offer) old new p result a =
+    one_call variant meaning before after offer p.request a
+offered_calls variant meaning before after (Err why) old new p result a = []
 
-  abbrev pub first_calls : (waiting : Result (Option Pending) StoreFault) (old new : StoreStanding)
-      (result : Result Resumed HostFault)
-      → AfterFinding variant meaning before after waiting old new result → List Call
-  first_calls (Ok (Some p)) old new result a =
-      offered_calls a.offer a.middle new p result a.goes
-  first_calls (Ok None) old new result a = []
-  first_calls (Err why) old new result a = []
+abbrev pub first_calls : (variant : Variant) (meaning : Meaning) (before after : Standing)
+    (waiting : Result (Option Pending) StoreFault) (old new : StoreStanding)
+    (result : Result Resumed HostFault)
+    → AfterFinding variant meaning before after waiting old new result → List Call
+first_calls variant meaning before after (Ok (Some p)) old new result a =
+    offered_calls variant meaning before after a.offer a.middle new p result a.goes
+first_calls variant meaning before after (Ok None) old new result a = []
+first_calls variant meaning before after (Err why) old new result a = []
 
-  -- what is offered first, and nothing where it wasn't read
-  abbrev pub bytes_of : Result (List ℕ) StoreFault → List ℕ
-  bytes_of (Ok bytes) = bytes
-  bytes_of (Err why) = []
+-- what is offered first, and nothing where it wasn't read
+abbrev pub bytes_of : (variant : Variant) (meaning : Meaning) (before after : Standing)
+    → Result (List ℕ) StoreFault → List ℕ
+bytes_of variant meaning before after (Ok bytes) = bytes
+bytes_of variant meaning before after (Err why) = []
 
-  abbrev pub offered_first : (waiting : Result (Option Pending) StoreFault)
-      (old new : StoreStanding) (result : Result Resumed HostFault)
-      → AfterFinding variant meaning before after waiting old new result → List ℕ
-  offered_first (Ok (Some p)) old new result a = bytes_of a.offer
-  offered_first (Ok None) old new result a = bytes_of (a.1).zero
-  offered_first (Err why) old new result a = []
+abbrev pub offered_first : (variant : Variant) (meaning : Meaning) (before after : Standing)
+    (waiting : Result (Option Pending) StoreFault) (old new : StoreStanding)
+    (result : Result Resumed HostFault)
+    → AfterFinding variant meaning before after waiting old new result → List ℕ
+offered_first variant meaning before after (Ok (Some p)) old new result a =
+    bytes_of variant meaning before after a.offer
+offered_first variant meaning before after (Ok None) old new result a =
+    bytes_of variant meaning before after (a.1).zero
+offered_first variant meaning before after (Err why) old new result a = []
 
-  -- a line is asked, unless its record isn't written
-  abbrev pub recorded_calls : (recorded : Result Unit StoreFault) (old new : StoreStanding)
-      (last : Resumed) (line : List ℕ) (result : Result Resumed HostFault)
-      → AfterRecord variant meaning before after recorded old new last line result → List Call
-  recorded_calls (Ok it) old new last line result a = one_call (snapshot_at last) line a
-  recorded_calls (Err why) old new last line result a = []
+-- a line is asked, unless its record isn't written
+abbrev pub recorded_calls : (variant : Variant) (meaning : Meaning) (before after : Standing)
+    (recorded : Result Unit StoreFault) (old new : StoreStanding) (last : Resumed)
+    (line : List ℕ) (result : Result Resumed HostFault)
+    → AfterRecord variant meaning before after recorded old new last line result → List Call
+recorded_calls variant meaning before after (Ok it) old new last line result a =
+    one_call variant meaning before after (snapshot_at last) line a
+recorded_calls variant meaning before after (Err why) old new last line result a = []
 
-  abbrev pub line_calls : {old new : StoreStanding} (last : Resumed) (line : List ℕ)
-      {result : Result Resumed HostFault}
-      → AsksNext variant meaning before after old new last line result → List Call
-  line_calls {old} {new} last line {result} a =
-      recorded_calls a.recorded a.middle new last line result a.goes
+abbrev pub line_calls : (variant : Variant) (meaning : Meaning) (before after : Standing)
+    {old new : StoreStanding} (last : Resumed) (line : List ℕ)
+    {result : Result Resumed HostFault}
+    → AsksNext variant meaning before after old new last line result → List Call
+line_calls variant meaning before after {old} {new} last line {result} a =
+    recorded_calls variant meaning before after a.recorded a.middle new last line result
+    a.goes
 
 -- the line in hand where the session stops
 abbrev pub last_calls : (variant : Variant) (meaning : Meaning) (number : ℕ) (at : Place)
@@ -78,36 +89,54 @@ abbrev pub found_waiting : Result (Option Pending) StoreFault → Option Pending
 found_waiting (Ok waiting) = waiting
 found_waiting (Err why) = None
 
--- a session
-module _ {variant : Variant} {meaning : Meaning} {before after : Standing} {old new : StoreStanding}
-    {left left' received received' : Option (List ℕ)} {result : Result Unit SessionFault}
-    (s : Sessions variant meaning before after old new left left' received received' result) where
-  -- the requests that it told, each with its answer; and whether one was in hand where it stopped
-  abbrev pub told_by : List Served
-  told_by = told_in (found_waiting s.resumes.waiting) s.goes
+-- the requests that a session told, each with its answer; and whether one was in hand where it
+-- stopped
+abbrev pub told_by : {variant : Variant} {meaning : Meaning} {before after : Standing}
+    {old new : StoreStanding} {left left' received received' : Option (List ℕ)}
+    {result : Result Unit SessionFault}
+    (s : Sessions variant meaning before after old new left left' received received' result)
+    → List Served
+told_by s = told_in (found_waiting s.resumes.waiting) s.goes
 
-  abbrev pub InHandOf : List ℕ → Type 0
-  InHandOf request = IsInHand (found_waiting s.resumes.waiting) s.goes request
+abbrev pub InHandOf : {variant : Variant} {meaning : Meaning} {before after : Standing}
+    {old new : StoreStanding} {left left' received received' : Option (List ℕ)}
+    {result : Result Unit SessionFault}
+    (s : Sessions variant meaning before after old new left left' received received' result)
+    → List ℕ → Type 0
+InHandOf s request = IsInHand (found_waiting s.resumes.waiting) s.goes request
 
-  -- what it offered first
-  abbrev pub first_bytes : List ℕ
-  first_bytes =
-      offered_first variant meaning before s.platform s.resumes.waiting s.resumes.middle s.store
-      s.begun s.resumes.goes
+-- what it offered first
+abbrev pub first_bytes : {variant : Variant} {meaning : Meaning} {before after : Standing}
+    {old new : StoreStanding} {left left' received received' : Option (List ℕ)}
+    {result : Result Unit SessionFault}
+    (s : Sessions variant meaning before after old new left left' received received' result)
+    → List ℕ
+first_bytes {variant} {meaning} {before} s =
+    offered_first variant meaning before s.platform s.resumes.waiting s.resumes.middle s.store
+    s.begun s.resumes.goes
 
-  -- the call that it made and didn't tell: for what waited, or for the line in hand
-  abbrev pub untold_calls :
-      AfterResume variant meaning s.begun s.platform after s.store new left' s.taken s.sent result
-      → List Call
-  untold_calls (inl stops) =
-      first_calls variant meaning before s.platform s.resumes.waiting s.resumes.middle s.store
-      s.begun s.resumes.goes
-  untold_calls (inr goes) =
-      last_calls variant meaning _ goes.lines.at after new left' goes.lines.more goes.lines.last
-      result goes.lines.ends
+-- the call that it made and didn't tell: for what waited, or for the line in hand
+abbrev pub untold_calls : {variant : Variant} {meaning : Meaning} {before after : Standing}
+    {old new : StoreStanding} {left left' received received' : Option (List ℕ)}
+    {result : Result Unit SessionFault}
+    (s : Sessions variant meaning before after old new left left' received received' result)
+    → AfterResume variant meaning s.begun s.platform after s.store new left' s.taken s.sent result
+    → List Call
+untold_calls {variant} {meaning} {before} s (inl stops) =
+    first_calls variant meaning before s.platform s.resumes.waiting s.resumes.middle s.store
+    s.begun s.resumes.goes
+untold_calls {variant} {meaning} {before} {after} {old} {new} {left} {left'} {received} {received'}
+    {result} s (inr goes) =
+    last_calls variant meaning _ goes.lines.at after new left' goes.lines.more goes.lines.last
+    result goes.lines.ends
 
-  abbrev pub session_calls : List Call
-  session_calls = told_calls first_bytes told_by ++ untold_calls s.goes
+-- all calls that it made
+abbrev pub session_calls : {variant : Variant} {meaning : Meaning} {before after : Standing}
+    {old new : StoreStanding} {left left' received received' : Option (List ℕ)}
+    {result : Result Unit SessionFault}
+    (s : Sessions variant meaning before after old new left left' received received' result)
+    → List Call
+session_calls s = told_calls (first_bytes s) (told_by s) ++ untold_calls s s.goes
 
 -- the first of these calls, if any was made, offers these bytes
 abbrev pub IsFirstOffered : List ℕ → List Call → Type 0

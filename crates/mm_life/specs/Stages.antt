@@ -26,37 +26,41 @@ pub record Stage : Type 0 where
   pub part : Part
   pub after : Standing
 
-module _ (variant : Variant) (meaning : Meaning) where
-  abbrev pub PartLeads : Standing → Part → Standing → Type 0
-  PartLeads old (Holds p) new =
-      Sessions variant meaning old new p.old p.new p.left p.left' p.received p.received' p.result
-  PartLeads old (Does deed) new = DeedLeads variant meaning old deed new
+-- The part leads a platform from one standing to another.
+abbrev pub PartLeads : Variant → Meaning → Standing → Part → Standing → Type 0
+PartLeads variant meaning old (Holds p) new =
+    Sessions variant meaning old new p.old p.new p.left p.left' p.received p.received' p.result
+PartLeads variant meaning old (Does deed) new = DeedLeads variant meaning old deed new
 
-  -- Each of these stages begins with what stands behind the one before it, the first one here.
-  abbrev pub IsLife : Standing → List Stage → Type 0
-  IsLife start [] = Unit {0}
-  IsLife start (stage ∷ stages) =
-      PartLeads start stage.part stage.after × IsLife stage.after stages
+-- Each of these stages begins with what stands behind the one before it, the first one here.
+abbrev pub IsLife : Variant → Meaning → Standing → List Stage → Type 0
+IsLife variant meaning start [] = Unit {0}
+IsLife variant meaning start (stage ∷ stages) =
+    PartLeads variant meaning start stage.part stage.after
+    × IsLife variant meaning stage.after stages
 
-  -- the calls that were made in a part of a life, and in all of it
-  abbrev pub part_calls : (old : Standing) (part : Part) (new : Standing) → PartLeads old part new
-      → List Call
-  part_calls old (Holds p) new s = session_calls s
-  part_calls old (Does (Calls c)) new s = c ∷ []
-  part_calls old (Does _) new s = []
+-- the calls that were made in a part of a life, and in all of it
+abbrev pub part_calls : (variant : Variant) (meaning : Meaning) (old : Standing) (part : Part)
+    (new : Standing) → PartLeads variant meaning old part new → List Call
+part_calls variant meaning old (Holds p) new s = session_calls s
+part_calls variant meaning old (Does (Calls c)) new s = c ∷ []
+part_calls variant meaning old (Does _) new s = []
 
-  abbrev pub life_calls : (start : Standing) (stages : List Stage) → IsLife start stages
-      → List Call
-  life_calls start [] f = []
-  life_calls start (stage ∷ stages) f =
-      part_calls start stage.part stage.after f.0 ++ life_calls stage.after stages f.1
+abbrev pub life_calls : (variant : Variant) (meaning : Meaning) (start : Standing)
+    (stages : List Stage) → IsLife variant meaning start stages → List Call
+life_calls variant meaning start [] f = []
+life_calls variant meaning start (stage ∷ stages) f =
+    part_calls variant meaning start stage.part stage.after f.0
+    ++ life_calls variant meaning stage.after stages f.1
 
-  -- those of the last part
-  abbrev pub latest_calls : (start : Standing) (stages : List Stage) → IsLife start stages
-      → List Call
-  latest_calls start [] f = []
-  latest_calls start (stage ∷ []) f = part_calls start stage.part stage.after f.0
-  latest_calls start (stage ∷ next ∷ stages) f = latest_calls stage.after (next ∷ stages) f.1
+-- those of the last part
+abbrev pub latest_calls : (variant : Variant) (meaning : Meaning) (start : Standing)
+    (stages : List Stage) → IsLife variant meaning start stages → List Call
+latest_calls variant meaning start [] f = []
+latest_calls variant meaning start (stage ∷ []) f =
+    part_calls variant meaning start stage.part stage.after f.0
+latest_calls variant meaning start (stage ∷ next ∷ stages) f =
+    latest_calls variant meaning stage.after (next ∷ stages) f.1
 
 -- what stands at the end
 abbrev pub end_of : Standing → List Stage → Standing
