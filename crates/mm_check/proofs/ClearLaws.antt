@@ -1,7 +1,7 @@
 -- The messages of a run are clear exactly where the numbers tell nothing of their digests, and no value of others is a guard exactly
 -- where no event is told.
 use Rattle.mm_check.proofs.Below.{◌≡◌, ◌∙◌, ℕ, ◌+◌, Bool, true, false, cond, List, [], ◌∷◌, ◌++◌, map, Option, None, Some, refl, sym, ap}
-use Rattle.mm_check.proofs.Below.{arith, inl, inr, ◌⊎◌, ◌||◌, append_assoc, append-nil, fold, list_any, list_any_at, list_any-append}
+use Rattle.mm_check.proofs.Below.{arith, inl, inr, ◌⊎◌, ◌||◌, append_assoc, append-nil, fold, list_any, list_any-append}
 use Rattle.mm_check.proofs.Below.{Contains, option_map, bytes_eq, Contains-append_left, Contains-append_right, Contains-append_cases}
 use Rattle.mm_check.proofs.Below.{Contains-push, Contains-push_cases, nat_list_eq_equiv, bytes_eq-Decides, sha256, zero_bytes}
 use Rattle.mm_check.proofs.Below.{start_message, guard, own_values, Instance, History, Move, Close, moved, first_history, IsClear}
@@ -13,7 +13,6 @@ use Rattle.std.specs.Option.{is_some}
 use Rattle.std.specs.List.{All, IsDistinct}
 use Rattle.std.proofs.lemmas.Bool.{both_ways, false_from_ne_true}
 use Rattle.std.proofs.lemmas.List.Elements.{All-contains, All-from_recursion}
-use Rattle.std.proofs.lemmas.List.Folds.{Any-from_list_any}
 use Rattle.std.proofs.lemmas.Map.Keys.{IsDistinct-head, IsDistinct-push, IsDistinct-tail}
 use Rattle.std.proofs.lemmas.Map.Views.{Contains-from_any}
 use Rattle.mm_check.proofs.Below.{any_in, any_some}

@@ -1,20 +1,20 @@
 -- What is told of the premises is evidence, by its numbers; and one premise is told of each run.
-use Rattle.mm_check.proofs.Below.{◌≡◌, ◌∙◌, ℕ, ◌+◌, Bool, true, false, cond, List, [], ◌∷◌, ◌++◌, map, length, Option, None, Some, refl}
-use Rattle.mm_check.proofs.Below.{sym, ap, subst, arith, inl, inr, ◌⊎◌, append_assoc, fold, list_any, option_map, Contains, Contains-append_left}
+use Rattle.mm_check.proofs.Below.{◌≡◌, ◌∙◌, ℕ, ◌+◌, Bool, true, false, cond, List, [], ◌∷◌, ◌++◌, length, Option, None, Some, refl}
+use Rattle.mm_check.proofs.Below.{sym, ap, subst, arith, inl, inr, append_assoc, list_any, option_map, Contains, Contains-append_left}
 use Rattle.mm_check.proofs.Below.{Contains-append_right, bytes_eq, bytes_eq-Decides, flat_map-append, sha256, zero_bytes, start_message}
-use Rattle.mm_check.proofs.Below.{guard, own_values, Variant, Basic, Opt, Batch, History, Instance, first_history, by_lists, Event}
-use Rattle.mm_check.proofs.Below.{expected, first_issued, foreign_of, foreign_values, asked_batches, run_messages, first_where, listed}
+use Rattle.mm_check.proofs.Below.{guard, own_values, Opt, History, Instance, first_history, Event}
+use Rattle.mm_check.proofs.Below.{expected, first_issued, foreign_of, foreign_values, asked_batches, run_messages, first_where}
 use Rattle.mm_check.proofs.Below.{message_digests, both_more, shared_with, shared_in, is_zero, zero_in, numbered, numbered_from, is_secured}
 use Rattle.mm_check.proofs.Below.{secured_in, secured_by, IsForgedAt, IsFirstForged, Decides, premise_by, PremiseIsFixed, Premise, any_some}
-use Rattle.mm_check.proofs.Below.{event_apart, event_or, genuine_or, IsGenuineEvent}
-use Rattle.std.specs.List.{All, IsDistinct}
+use Rattle.mm_check.proofs.Below.{event_apart, event_or, genuine_or}
+use Rattle.std.specs.List.{IsDistinct}
 use Rattle.std.proofs.lemmas.Bool.{both_ways}
 use Rattle.std.proofs.lemmas.List.Elements.{All-contains, All-from_recursion}
 use Rattle.std.proofs.lemmas.Map.Keys.{IsDistinct-head, IsDistinct-tail}
 use Rattle.mm_seal.specs.Snapshot.{Content}
 use Rattle.mm_model.specs.Places.{Names}
 use Rattle.mm_history.specs.Naming.{IsDecided, is_named}
-use Rattle.mm_evidence.specs.Evidence.{collision, event_offer, forgery, guarded, HasEvidence, IsForged, zero_digest}
+use Rattle.mm_evidence.specs.Evidence.{collision, forgery, guarded, zero_digest}
 use Rattle.mm_check.specs.Evidence.{EvidenceIsHeld, IsEvidence, IsForgeryAt, IsSecuredAt, IsSharedAt, IsToldByEvidence, IsZeroAt}
 use Rattle.mm_check.specs.declared.verdicts.Premise.TheVariants.{Held, Shared, Zero, Secured, Forged}
 use Rattle.mm_check.proofs.ClearLaws.{all_once, any_map, first_in, run_same, same_in}

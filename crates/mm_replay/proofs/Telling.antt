@@ -21,7 +21,7 @@ use Rattle.mm_evidence.proofs.Above.{none_is_one, runs_until}
 use Rattle.mm_evidence.specs.Laws.{IsDecidedRun}
 use Rattle.mm_call.specs.Standing.{instance_by}
 use Rattle.mm_replay.specs.Text.{text_of_replies, texts_of}
-use Rattle.mm_replay.specs.Headline.{AreOneRun, IsByDigests, IsPromisedRun, replayed, Shown, shown_by_digests}
+use Rattle.mm_replay.specs.Headline.{IsByDigests, IsPromisedRun, replayed, Shown, shown_by_digests}
 use Rattle.mm_replay.specs.Schedule.{begun, outcome_of, replay_heads, replay_stage, Replayed, replaying}
 use Rattle.mm_replay.specs.declared.heading.HeaderLine.{HeaderLine}
 

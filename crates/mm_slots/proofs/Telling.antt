@@ -6,8 +6,15 @@ use Rattle.mm_slots.proofs.Below.{met_by, after_events, meaning_of}
 use Rattle.mm_play.specs.Shown.{Shows}
 use Rattle.mm_replay.proofs.Above.{promised_run}
 use Rattle.mm_slots.specs.Grammar.{first_at}
-use Rattle.mm_slots.specs.Headline.{AreSlotRuns, IsSlotRun, slotted}
-use Rattle.mm_slots.specs.Slot.{slot_after}
+use Rattle.mm_call.specs.Standing.{instance_by}
+use Rattle.mm_digest.specs.declared.variant.Variant.{Variant}
+use Rattle.mm_evidence.specs.Laws.{IsDecidedRun}
+use Rattle.mm_module.specs.Meaning.{Meaning}
+use Rattle.mm_run.specs.Premises.{IsClearRun, IsGenuineRun}
+use Rattle.mm_schedule.specs.Events.{Event}
+use Rattle.std.proofs.Common.{inl, inr}
+use Rattle.mm_slots.specs.Headline.{AreSlotRuns, IsRunOfSlot, IsSlotRun, slotted}
+use Rattle.mm_slots.specs.Slot.{slot_after, slot_instance}
 use Rattle.mm_slots.proofs.Below.{Answer, ◌+◌}
 use Rattle.std.specs.Prelude.{min}
 use Rattle.mm_slots.specs.Stage.{begun, slots_heads, slots_stage}
@@ -23,23 +30,42 @@ first_at_place headers number header is =
 abbrev pub shown_in : List Header → List SlotEvent → List Answer × List Row
 shown_in headers events = (answers (first_rows headers) events, after_events (first_rows headers) events)
 
--- each slot's answers are its own, and its calls that are over are one run
-slot_run : SlotsRun → (headers : List Header) (events : List SlotEvent) (number : ℕ) (header : Header) → slice_get headers number ≡ Some header
+-- each run meets the premises, or gives evidence
+abbrev pub RunsAreDecided : Type 0
+RunsAreDecided = (variant : Variant) (meaning : Meaning) (key barrier : List ℕ) (events : List Event)
+    → IsDecidedRun (instance_by variant meaning key barrier) events
+
+-- the calls of a slot that are over are one run, where the premises hold
+slot_run : SlotsRun → (headers : List Header) (events : List SlotEvent) (number : ℕ) (header : Header)
+    → (let it = slot_after header number (met_by number (first_rows headers) events) in
+    IsClearRun (slot_instance header number) it.events → IsGenuineRun (slot_instance header number) it.events
+    → IsRunOfSlot number header it)
+slot_run law headers events number header clear genuine =
+    let key = rising_from number in
+    let barrier = rising_from (128 + number) in
+    let it = slot_after header number (met_by number (first_rows headers) events) in
+    promised_run header.variant header.«module» key barrier it.events
+    (record { replies = it.replies; committed = it.slot.digests.count; issued = it.slot.issued })
+    (law header.variant (meaning_of header.«module») key barrier (met_by number (first_rows headers) events) clear genuine)
+
+-- each slot's answers are its own, and its calls that are over are one run or give evidence
+slot_told : SlotsRun → RunsAreDecided → (headers : List Header) (events : List SlotEvent) (number : ℕ) (header : Header)
+    → slice_get headers number ≡ Some header
     → IsSlotRun number header (answers (first_rows headers) events) (slot_after header number (met_by number (first_rows headers) events))
-slot_run law headers events number header is = record {
+slot_told law decided headers events number header is = record {
   own = (alone (first_rows headers) events number (first_row number header) (first_at_place headers number header is)).said;
-  one_run = λ clear genuine.
-      let key = rising_from number in
-      let barrier = rising_from (128 + number) in
+  unless_evidence =
       let it = slot_after header number (met_by number (first_rows headers) events) in
-      promised_run header.variant header.«module» key barrier it.events
-      (record { replies = it.replies; committed = it.slot.digests.count; issued = it.slot.issued })
-      (law header.variant (meaning_of header.«module») key barrier (met_by number (first_rows headers) events) clear genuine);
+      let d = decided header.variant (meaning_of header.«module») (rising_from number) (rising_from (128 + number)) it.events in
+      elim d.decided [ inl p ↦ inl (slot_run law headers events number header p.0 p.1) | inr e ↦ inr e ];
+  one_run = slot_run law headers events number header;
 }
 
 -- the headline, of each slot and of each first part of the events
-pub are_slot_runs : SlotsRun → (headers : List Header) (events : List SlotEvent) → AreSlotRuns headers events (shown_in headers)
-are_slot_runs law headers events front later split = (refl, λ number header is. slot_run law headers front number header is)
+pub are_slot_runs : SlotsRun → RunsAreDecided → (headers : List Header) (events : List SlotEvent)
+    → AreSlotRuns headers events (shown_in headers)
+are_slot_runs law decided headers events front later split =
+    (refl, λ number header is. slot_told law decided headers front number header is)
 
 pub shows : Shows slotted slots_heads slots_stage playing begun shown_in
 shows = record {

@@ -1,8 +1,9 @@
 -- What is told of whole slots.
-use Rattle.std.specs.Prelude.{◌≡◌, ℕ, List, ◌++◌, length, Some, slice_get}
+use Rattle.std.specs.Prelude.{◌≡◌, ℕ, List, ◌++◌, length, Some, slice_get, ◌⊎◌}
 use Rattle.std.specs.List.{sum_by}
 use Rattle.mm_schedule.specs.declared.header.Header.{Header}
 use Rattle.mm_run.specs.Premises.{IsClearRun, IsGenuineRun}
+use Rattle.mm_evidence.specs.Evidence.{HasEvidence}
 use Rattle.mm_play.specs.Headline.{EventPlayer}
 use Rattle.mm_replay.specs.Headline.{IsPromisedRun}
 use Rattle.mm_slots.specs.declared.event.SlotEvent.{SlotEvent}
@@ -25,20 +26,26 @@ slotted = record {
   kept = λ shown. sum_by (λ (row : Row). sum_by length row.slot.issued) shown.1;
 }
 
+-- the calls of a slot that are over are one run of its module
+abbrev pub IsRunOfSlot : ℕ → Header → Turned → Type 0
+IsRunOfSlot number header it =
+    IsPromisedRun (slot_instance header number) header.«module» it.events (record {
+      replies = it.replies;
+      committed = it.slot.digests.count;
+      issued = it.slot.issued;
+    })
+
 -- What a slot is told is what its own fold says, with no premise. And its calls that are over are
--- one run of its module, where no two different messages of the slot's run share a digest, no
--- digest is zero, no value that others extend its register by is the guard of a batch, and no tag
--- is forged.
+-- one run of its module, or one holds evidence in hand: two different messages of the slot's run
+-- with one digest, one with digest zero, a value of others that is the guard of a batch, or an
+-- offer that is forged. So they are one run where the premises hold.
 pub record IsSlotRun (number : ℕ) (header : Header) (told : List Answer) (it : Turned) : Type 0
   where
     pub own : said_for number told ≡ it.said
+    pub unless_evidence : IsRunOfSlot number header it
+        ⊎ HasEvidence (slot_instance header number) it.events
     pub one_run : IsClearRun (slot_instance header number) it.events
-        → IsGenuineRun (slot_instance header number) it.events
-        → IsPromisedRun (slot_instance header number) header.«module» it.events (record {
-          replies = it.replies;
-          committed = it.slot.digests.count;
-          issued = it.slot.issued;
-        })
+        → IsGenuineRun (slot_instance header number) it.events → IsRunOfSlot number header it
 
 -- The headline, of each first part of the events, and of each slot. A slot's fold is over what it
 -- meets itself, and knows no other slot.

@@ -11,6 +11,7 @@ use crate::opening::Opening;
 use crate::report::SlotReport;
 use crate::stage::SlotsStage;
 use mm_base::{ReplayFault, Sink, Source};
+use mm_evidence::premises_or_evidence;
 use mm_play::{LinePlayer, play};
 use std::alloc::Global;
 
@@ -51,6 +52,7 @@ pub fn slots<S: Source, K: Sink>(
         → IsUnrefused result }
 {
     slots_run();
+    premises_or_evidence();
     let mut player: LinePlayer<Opening, SlotsStage> = LinePlayer::new(Opening::new());
     match play(alloc, &mut player, input, out) {
         Ok(()) => Ok(report_of(&player)),

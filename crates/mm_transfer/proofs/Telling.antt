@@ -5,8 +5,10 @@ use Rattle.mm_transfer.proofs.Below.{first_lists, BothEvent, BothReply, BothFoll
 use Rattle.mm_transfer.proofs.Below.{both_by_digests, noted_if, IsOneFrom, PairsAgreeThroughout, OneIsLive, SidesRunAsOne, plain_events}
 use Rattle.mm_transfer.proofs.Below.{plain_replies, history_now, pair_of, Running, begun, playing, kept_in, running_text, both_end_line}
 use Rattle.mm_transfer.proofs.Below.{IsOneTransfer}
+use Rattle.std.proofs.Common.{inl, inr}
 use Rattle.mm_play.specs.Shown.{behind, replies, Shows}
 use Rattle.mm_schedule.specs.Machine.{Runs}
+use Rattle.mm_sides.specs.Evidence.{PairsAreDecided}
 use Rattle.mm_sides.specs.Order.{AtMostOne}
 use Rattle.mm_sides.specs.Premises.{IsClearPair, IsGenuinePair, IsFreshPair}
 use Rattle.mm_transfer.specs.Answers.{answers_text}
@@ -18,6 +20,7 @@ pub record SideLaws : Type 0 where
   pub agree : PairsAgreeThroughout
   pub live : OneIsLive
   pub run : SidesRunAsOne
+  pub decided : PairsAreDecided
 
 -- at the end of the events too at most one side is live
 at_the_end : (pair : Pair) (both : Both History History) (notes : Notes) (events : List BothEvent) → IsOneFrom pair both notes events
@@ -58,7 +61,11 @@ shown_in header events = both_by_digests (pair_of header) events
 
 -- of each first part of the events
 pub are_one_transfer : SideLaws → (header : Header) (events : List BothEvent) → AreOneTransfer header events (shown_in header)
-are_one_transfer laws header events front later split = (refl, λ clear genuine fresh. one_transfer laws header front clear genuine fresh)
+are_one_transfer laws header events front later split = (
+  refl,
+  elim (laws.decided (pair_of header) front).decided [ inl p ↦ inl (one_transfer laws header front p.0 p.1 p.2) | inr e ↦ inr e ],
+  λ clear genuine fresh. one_transfer laws header front clear genuine fresh,
+)
 
 -- what stands behind events, and what was written
 abbrev followed_in : Running → List BothEvent → BothFollowed Digests ℕ

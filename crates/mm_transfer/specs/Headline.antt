@@ -1,5 +1,5 @@
 -- What is told of a whole transfer.
-use Rattle.std.specs.Prelude.{◌≡◌, ℕ, ◌+◌, List, [], ◌++◌, length}
+use Rattle.std.specs.Prelude.{◌≡◌, ℕ, ◌+◌, List, [], ◌++◌, length, ◌⊎◌}
 use Rattle.std.specs.List.{sum_by}
 use Rattle.std.specs.Option.{option_map}
 use Rattle.mm_play.specs.Headed.{Begins}
@@ -7,6 +7,7 @@ use Rattle.mm_play.specs.Headline.{EventPlayer}
 use Rattle.mm_transfer.specs.Below.{meaning_of, Digests, Runs, Promises, Header, first_lists, BothEvent, BothFollowed, both_expected}
 use Rattle.mm_transfer.specs.Below.{both_by_digests, IsOneFrom, plain_events, plain_replies, AtMostOne, IsClearPair, IsGenuinePair}
 use Rattle.mm_transfer.specs.Below.{IsFreshPair, no_notes}
+use Rattle.mm_sides.specs.Evidence.{HasPairEvidence}
 use Rattle.mm_transfer.specs.Answers.{answers_text, end_line}
 use Rattle.mm_transfer.specs.Grammar.{event_at, first_at}
 use Rattle.mm_transfer.specs.Pairs.{pair_of}
@@ -42,13 +43,15 @@ pub record IsOneTransfer (header : Header) (events : List BothEvent)
   pub entered : IsOneFrom (pair_of header) (first_lists (pair_of header)) no_notes events
   pub promised : Promises header.«module» requests (plain_replies it.replies)
 
--- The headline. With no premise what is shown is by digests. And so it is of each first part of the
--- events where no two different messages of it share a digest, no digest is zero, no value that
--- others extend a register by is the guard of a batch, no tag is forged, no nonce was invited
--- twice, and each right ticket that is offered is one that the module left by.
+-- The headline. With no premise what is shown is by digests; and each first part of the events is
+-- one transfer, or one holds evidence in hand: two different messages of it with one digest, one
+-- with digest zero, a value of others that is the guard of a batch, an offer that is forged, a
+-- nonce that was invited twice, or a right ticket that the module didn't leave by. So it is one
+-- transfer where the premises hold.
 abbrev pub AreOneTransfer : Header → List BothEvent → (List BothEvent → BothFollowed Digests ℕ)
     → Type 0
 AreOneTransfer header events shown = (front later : List BothEvent) → events ≡ front ++ later
     → (shown front ≡ both_by_digests (pair_of header) front)
+    × (IsOneTransfer header front (shown front) ⊎ HasPairEvidence (pair_of header) front)
     × (IsClearPair (pair_of header) front → IsGenuinePair (pair_of header) front
     → IsFreshPair (pair_of header) front → IsOneTransfer header front (shown front))

@@ -11,7 +11,7 @@ use crate::report::TransferReport;
 use crate::stage::TransferStage;
 use mm_base::{ReplayFault, Sink, Source};
 use mm_play::{LinePlayer, play};
-use mm_sides::{both_sides_agree, one_side_is_live, sides_run_as_one};
+use mm_sides::{both_sides_agree, one_side_is_live, pairs_are_decided, sides_run_as_one};
 use std::alloc::Global;
 
 /// What stands behind the last line.
@@ -54,6 +54,7 @@ pub fn transfer<S: Source, K: Sink>(
     both_sides_agree();
     one_side_is_live();
     sides_run_as_one();
+    pairs_are_decided();
     let mut player: LinePlayer<FirstLine, TransferStage> = LinePlayer::new(FirstLine {});
     match play(alloc, &mut player, input, out) {
         Ok(()) => Ok(report_of(&player)),

@@ -1,4 +1,3 @@
-use Rattle.mm_play.specs.Stage.{AtHeading, InEvents}
 use Rattle.mm_replay.proofs.Below.{events_err, events_ok, plays_err, unrefused}
 use Rattle.mm_replay.specs.Headline.{IsByDigests, replayed, shown_by_digests}
 use Rattle.mm_replay.specs.Replays.{Reports}

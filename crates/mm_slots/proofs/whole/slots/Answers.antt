@@ -9,12 +9,14 @@ use Rattle.mm_slots.proofs.whole.slots.Goals as goal
 
 pub returns-clause-plays : goal.returns-clause-plays
 returns-clause-plays g c =
-    events_err slotted slots_heads slots_stage playing begun shown_in shows AreSlotRuns (are_slot_runs c.slots_run.ensures) Reports
+    events_err slotted slots_heads slots_stage playing begun shown_in shows AreSlotRuns
+    (are_slot_runs c.slots_run.ensures c.premises_or_evidence.ensures) Reports
     (c.new-player.ensures ∙ ap AtHeading c.new.ensures) c.play.ensures.plays c.in-Err.fault c.in-Err.is
 
 pub returns-in-Ok-clause-plays : goal.returns-in-Ok-clause-plays
 returns-in-Ok-clause-plays g c =
-    events_ok slotted slots_heads slots_stage playing begun shown_in shows AreSlotRuns (are_slot_runs c.slots_run.ensures) Reports
+    events_ok slotted slots_heads slots_stage playing begun shown_in shows AreSlotRuns
+    (are_slot_runs c.slots_run.ensures c.premises_or_evidence.ensures) Reports
     (c.new-player.ensures ∙ ap AtHeading c.new.ensures) c.play.ensures.plays tt c.in-Ok.is c.report_of.result c.report_of.ensures
 
 pub returns-clause-complete : goal.returns-clause-complete

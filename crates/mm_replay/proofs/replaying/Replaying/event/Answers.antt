@@ -1,4 +1,4 @@
-use Rattle.mm_replay.proofs.Below.{◌∙◌, ap, event_of}
+use Rattle.mm_replay.proofs.Below.{event_of}
 use Rattle.mm_replay.proofs.Progressing.{keeps_on, keeps_still}
 use Rattle.mm_replay.proofs.replaying.Replaying.event.Goals as goal
 

@@ -1,4 +1,4 @@
-use Rattle.mm_replay.proofs.Below.{◌∙◌, ap, meddles_of}
+use Rattle.mm_replay.proofs.Below.{meddles_of}
 use Rattle.mm_schedule.specs.Texts.{event_in}
 use Rattle.mm_replay.proofs.Progressing.{keeps_on, keeps_still}
 use Rattle.mm_replay.proofs.replaying.Replaying.event_in_line.Goals as goal
