@@ -160,6 +160,9 @@ lacked g c command spells = inr (record {
       (c.of_words.ensures ∙ is_memory c.in-Err.fault (λ is. c.in-Err.ensures.usage is command spells)) c.stopped.ensures.told;
 })
 
+pub returns-in-Err-clause-does : goal.returns-in-Err-clause-does
+returns-in-Err-clause-does g c command spells = lacked g (goal.at.returns-in-Err-clause-does g c).After-stopped command spells
+
 pub returns-in-Err-clause-headline : goal.returns-in-Err-clause-headline
 returns-in-Err-clause-headline g c spells =
     headline_of _ _ _ (lacked g (goal.at.returns-in-Err-clause-headline g c).After-stopped Replay spells)
