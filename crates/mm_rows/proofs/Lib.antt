@@ -3,3 +3,4 @@ mod InMemory
 mod Beginning
 mod OldCopies
 mod WholeLives
+mod CommandStages

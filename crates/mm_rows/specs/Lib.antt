@@ -4,3 +4,4 @@ pub mod Starting
 pub mod FirstSession
 pub mod OldCopy
 pub mod Lives
+pub mod CommandLives

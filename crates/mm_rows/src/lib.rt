@@ -4,10 +4,12 @@
 #![tactic(auto)]
 
 mod calls;
+mod commands;
 mod lives;
 mod sessions;
 
 pub use calls::{ask_basic, ask_opt, close_segment};
+pub use commands::commands_are_parts_of_life;
 pub use lives::{
     Checkpoint, TwoSessions, Unlived, live_checkpointed, live_on_copy, live_without_power,
 };
