@@ -1,8 +1,15 @@
 -- The commands of the program that go on with an instance are parts of a life.
-use Rattle.std.specs.Prelude.{◌≡◌, ℕ, List, [], ◌∷◌, Option, Result, Ok, Err}
+use Rattle.std.specs.Prelude.{◌≡◌, ℕ, List, [], ◌∷◌, Option, None, Result, Ok, Err}
 use Rattle.mm_app.specs.Checkpoint.{Checkpoints}
+use Rattle.mm_call.specs.Standing.{instance_by}
+use Rattle.mm_model.specs.History.{History}
+use Rattle.mm_model.specs.Standing.{StandsFor}
+use Rattle.mm_modules.specs.declared.any.AnyModule.{AnyModule}
 use Rattle.mm_app.specs.Power.{LosesPower}
 use Rattle.mm_app.specs.Running.{RunsInstance}
+use Rattle.mm_app.specs.Starting.{StartsInstance}
+use Rattle.mm_recovery.specs.Begins.{Begins}
+use Rattle.mm_recovery.specs.Init.{Devices}
 use Rattle.mm_app.specs.declared.status.Status.{Status}
 use Rattle.mm_host.specs.declared.fault.SessionFault.{SessionFault}
 use Rattle.mm_life.specs.Deeds.{DeedLeads, Extends}
@@ -38,6 +45,16 @@ session_stage old new left left' received received' result after = record {
   after = after;
 }
 
+-- `init` begins a life where it ended well: the platform stands for the first history of the
+-- instance whose bytes were taken.
+abbrev pub InitBeginsLife : Type 0
+InitBeginsLife =
+    (header : Header) (before after : Devices) (received received' : Option (List ℕ))
+    (writes writes' : ℕ) (status : Status)
+    (s : StartsInstance header before after received received' writes writes' status)
+    (done : Unit {0}) → s.answer ≡ Ok done
+    → Begins header.variant (meaning_of header.«module») before after
+
 -- What `run` is of a life, by the instance that the cell held: the look at the cell, and a session
 -- over it; where it held none, the look alone, of any instance.
 abbrev pub IsRunOfLife : Result Header Status → (before middle after : Standing)
@@ -59,6 +76,19 @@ RunsArePartsOfLife =
     (r : RunsInstance before after old new left left' received received' reads reads' writes
     writes' status)
     → IsRunOfLife r.found before r.middle after r.looks.goes.others old new left left' received
+
+-- A run that read the cell found the instance for which the platform stands: so several runs are
+-- parts of one life.
+abbrev pub RunsFindTheInstance : Type 0
+RunsFindTheInstance =
+    (it : AnyModule) (variant : Variant) (key barrier : List ℕ) (y : History)
+    (before after : Standing) (old new : StoreStanding)
+    (left left' received received' : Option (List ℕ)) (reads reads' writes writes' : ℕ)
+    (status : Status)
+    (r : RunsInstance before after old new left left' received received' reads reads' writes
+    writes' status)
+    → StandsFor (instance_by variant (meaning_of it) key barrier) before y
+    → r.looks.fault ≡ None → r.found ≡ Ok (record { variant = variant; «module» = it })
 
 -- `checkpoint` is the deed of that name.
 abbrev pub CheckpointsArePartsOfLife : Type 0
