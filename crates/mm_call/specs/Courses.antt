@@ -1,11 +1,10 @@
 -- The course of a call: what others put into the register before each step, and how the step ends;
--- and the walk of
+-- and the walk of steps on a course. Nothing here knows a state: a walk gives the moves that are
+-- made.
 use Rattle.std.specs.Prelude.{◌≡◌, ℕ, suc, Bool, true, false, List, [], ◌∷◌, ◌++◌, Option, None, Some, filter, ◌==◌, if◌then◌else◌, ◌+◌}
 use Rattle.std.specs.Prelude.{map}
 use Rattle.std.specs.Option.{option_map_or}
 use Rattle.mm_call.specs.Below.{Plan, Standing, fault_at, is_made_at, StepFault, Move, Commit, Foreign, Close, Step, Reads, Changes, Writes}
-
--- steps on a course. Nothing here knows a state: a walk gives the moves that are made.
 
 -- how a step ends: it is done; or it fails by this fault, with its effect made or not
 pub data End : Type 0 where

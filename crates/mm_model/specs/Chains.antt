@@ -1,9 +1,7 @@
 -- What the digests stand for: the summary of a list of batches, the value of a register and the
--- anchor
+-- anchor of a list of segments. Each is one chain: every item is hashed with the digest before it.
 use Rattle.std.specs.Prelude.{ℕ, List, [], ◌∷◌, ◌++◌}
 use Rattle.mm_model.specs.Below.{sha256, zero_bytes, start_of, extended_message, anchored_message, Basic, Opt, Batch, One, Many}
-
--- of a list of segments. Each is one chain: every item is hashed with the digest before it.
 
 -- the digest after these items, from the digest s
 abbrev pub after : {A : Type 0} → (List ℕ → A → List ℕ) → List ℕ → List A → List ℕ

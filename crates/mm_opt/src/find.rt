@@ -74,7 +74,7 @@ pub fn find<M: Module>(
     ensures no_fault { fault_in result ≡ None }
     ensures sized { length register.now.bytes ≡ 32 }
 {
-    // Read here, so that its length is known.
+    // Of an array behind a reference contracts know the length only once the body has read it.
     let _bytes = register.bytes;
     let taken = parts(offer, Variant::Opt, module.id());
     if has_lost_power(cell, register) {

@@ -104,7 +104,7 @@ fn prepare_batch<M: Module, P: Platform>(
     }
 }
 
-// Makes the reading steps of a call in two parts, under a key that is absorbed for them alone.
+// Makes the reading steps of a call under a key that is absorbed for them alone.
 fn read_apart<M: Module, P: Platform>(
     alloc: Global,
     module: &M,
