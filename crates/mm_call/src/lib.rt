@@ -9,16 +9,15 @@
 mod ended;
 mod examining;
 mod first;
-mod kept;
 mod laws;
 mod run;
 
 pub use ended::Ended;
 pub use examining::examine;
 pub use first::Provisioned;
-pub use kept::KeptKey;
 pub use laws::{
     basic_calls_agree, basic_checkpoints_agree, opt_calls_agree, opt_checkpoints_agree, opt_tied,
     trails_lead,
 };
+pub use mm_seal::KeptKey;
 pub use run::{Ran, answer, run_batch};

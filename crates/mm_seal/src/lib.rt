@@ -3,10 +3,12 @@
 
 mod cell;
 mod field;
+mod kept;
 mod sealing;
 mod snapshot;
 
 pub use cell::{Cell, CellFault, cell_bytes, read_cell};
 pub use field::split_digest;
+pub use kept::KeptKey;
 pub use sealing::SealingKey;
 pub use snapshot::{Body, Offered, OpenFault, PartsFault, Place, open, parts, seal, seal_under};

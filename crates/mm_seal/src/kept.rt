@@ -2,7 +2,7 @@
 
 ghost use Rattle.std.specs.Prelude.{◌≡◌, IsTrue, IsSome, IfSome};
 
-use mm_seal::SealingKey;
+use crate::sealing::SealingKey;
 use std::marker::Model;
 
 /// What absorbing a key gave, kept from one call to the next, with what was sealed last under it: as long as the key stays

@@ -1,0 +1,16 @@
+//! The machine of whatever a platform is asked: it reads the cell, and the register where that is wanted, finds what is to
+//! be done, and makes the steps that do it, one at a time or to their end. An operation says what it sees and finds; the
+//! order of the device steps, their faults and the room for an own extension stand here once.
+#![tactic(auto)]
+
+mod call;
+mod change;
+mod finishing;
+mod operation;
+mod reading;
+
+pub use call::{Call, Ended, Stage, Step, advance};
+pub use change::{Change, Opening};
+pub use finishing::{advance_and_finish, finish};
+pub use operation::{Found, Operation, Ready, Sight};
+pub use reading::{Halt, read};

@@ -1,0 +1,124 @@
+//! The steps that read, and what they come to.
+
+ghost use Rattle.std.specs.Prelude.{◌≡◌};
+ghost use Rattle.mm_machine.specs.Reading.{FindsOn, FindsRoom, LeavesRoom, Looks, Reads, Rooms, Weighs, extends};
+
+use crate::operation::{Found, Operation, Sight};
+use mm_base::CELL_LENGTH;
+use mm_platform::{Platform, StepFault};
+use mm_seal::{Cell, KeptKey};
+
+/// Why reading comes to nothing.
+#[derive(Drop)]
+pub enum Halt<R> {
+    /// A device failed.
+    Fault(StepFault),
+    /// It is refused.
+    Refused(R),
+    /// Memory is wanting to record the own extension that is to come.
+    Lacks,
+}
+
+// Whether what was found is still to extend the register.
+#[inline(always)]
+fn extends<A>(found: &Found<A>) -> bool
+    ensures { result ≡ extends found.now }
+{
+    match found {
+        Found::Repeat(_) => false,
+        Found::Change(ready) => ready.change.extends(),
+    }
+}
+
+/// The first step: reads the cell.
+#[inline(always)]
+pub(crate) fn look<O: Operation, P: Platform>(
+    op: &O,
+    platform: &mut P,
+    keys: &mut KeptKey,
+) -> Result<Sight<O::Answer>, Halt<O::Refusal>>
+    ensures { Looks (O.asked op.now) (P.standing platform.old) (P.standing platform.new) result }
+{
+    let mut bytes = [0; CELL_LENGTH];
+    match platform.nv_read(&mut bytes) {
+        Err(fault) => Err(Halt::Fault(fault)),
+        Ok(()) => match op.see(&bytes, keys) {
+            Ok(sight) => Ok(sight),
+            Err(refusal) => Err(Halt::Refused(refusal)),
+        },
+    }
+}
+
+// The second step: reads the register.
+#[inline(always)]
+fn weigh<O: Operation, P: Platform>(
+    op: &O,
+    cell: &Cell,
+    platform: &mut P,
+    keys: &mut KeptKey,
+) -> Result<Found<O::Answer>, Halt<O::Refusal>>
+    ensures { Weighs (O.asked op.now) cell.now (P.standing platform.old) (P.standing platform.new)
+        result }
+{
+    match platform.reg_read() {
+        Err(fault) => Err(Halt::Fault(fault)),
+        Ok(register) => match op.find(cell, &register, keys) {
+            Ok(found) => Ok(found),
+            Err(refusal) => Err(Halt::Refused(refusal)),
+        },
+    }
+}
+
+/// Makes room for the own extension that is to come, where one is.
+#[inline(always)]
+pub(crate) fn make_room<A: Drop, R, P: Platform>(
+    found: Found<A>,
+    platform: &mut P,
+) -> Result<Found<A>, Halt<R>>
+    ensures rooms { Rooms (Ok found) (P.standing platform.old) (P.standing platform.new) result }
+    ensures room { LeavesRoom result (P.standing platform.new) }
+{
+    if !extends(&found) {
+        return Ok(found);
+    }
+    match platform.reg_ready() {
+        Ok(()) => Ok(found),
+        Err(_) => Err(Halt::Lacks),
+    }
+}
+
+/// The second step, and room for what it finds.
+#[inline(always)]
+pub(crate) fn weigh_with_room<O: Operation, P: Platform>(
+    op: &O,
+    cell: &Cell,
+    platform: &mut P,
+    keys: &mut KeptKey,
+) -> Result<Found<O::Answer>, Halt<O::Refusal>>
+    ensures finds { FindsRoom (Weighs (O.asked op.now) cell.now (P.standing platform.old))
+        (P.standing platform.new) result }
+    ensures room { LeavesRoom result (P.standing platform.new) }
+{
+    match weigh(op, cell, platform, keys) {
+        Ok(found) => make_room(found, platform),
+        Err(halt) => Err(halt),
+    }
+}
+
+/// Reads, and finds what is to be done, with room for it.
+#[inline(always)]
+pub fn read<O: Operation, P: Platform>(
+    op: &O,
+    platform: &mut P,
+    keys: &mut KeptKey,
+) -> Result<Found<O::Answer>, Halt<O::Refusal>>
+    ensures reads { Reads (O.asked op.now) (P.standing platform.old) (P.standing platform.new)
+        result }
+    ensures room { LeavesRoom result (P.standing platform.new) }
+{
+    match look(op, platform, keys) {
+        Err(halt) => Err(halt),
+        Ok(Sight::Found(found)) => make_room(found, platform),
+        Ok(Sight::Cell(cell)) => weigh_with_room(op, &cell, platform, keys),
+    }
+}
