@@ -10,6 +10,7 @@ mod CallsMade
 mod InTurn
 mod LineStep
 mod SessionRuns
+mod Settling
 mod RunningOnce
 mod ByDigests
 mod Continues
