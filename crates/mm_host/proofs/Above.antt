@@ -9,5 +9,6 @@ pub use Rattle.mm_host.proofs.Leading.{Stays}
 pub use Rattle.mm_host.proofs.Leading.{steps_again, steps_fresh}
 pub use Rattle.mm_host.proofs.Lines.{tells_call, TellsCall}
 pub use Rattle.mm_host.proofs.OptLeading.{opt_laws}
+pub use Rattle.mm_host.proofs.Room.{unless_full}
 pub use Rattle.mm_host.proofs.RunningOnce.{by_fault, foreign_of, messages_looked, only_by, register_looked, runs_once_from}
 pub use Rattle.mm_host.proofs.SessionRuns.{AreMade, continues_by, IsFirstAsked, IsLineAsked, IsWritten, line_committed}

@@ -14,3 +14,4 @@ mod Settling
 mod RunningOnce
 mod ByDigests
 mod Continues
+mod Room
