@@ -16,19 +16,20 @@ use Rattle.mm_life.proofs.OptLife as opt_proofs
 use Rattle.mm_life.proofs.HonestLife.{life_goes}
 
 pub basic_goes_on : BasicLifeGoesOn
-basic_goes_on meaning lawful key start stages f stands over clear chance =
+basic_goes_on meaning lawful key start kept stages f stands honest told over clear chance =
     let i : Instance = basic meaning key in
     let all : List (List ℕ) = life_messages i start stages f in
     let asked : List Batch = life_batches i start stages f in
     let itself = each_self [] all in
     let first = is_first Basic meaning key i.barrier [] lawful in
-    life_goes (basic_proofs.basic_life meaning lawful key all asked clear) stages first_history (first_slots i) start f stands
+    life_goes (basic_proofs.basic_life meaning lawful key all asked clear) stages first_history kept (first_slots i) start f honest
+    told stands
     (basic_proofs.first_within meaning lawful key all asked itself.0) first.fits over
     (basic_proofs.all_seen meaning lawful key all asked clear start stages) chance
     (record { messages = itself.1; batches = each_self [] asked })
 
 pub opt_goes_on : OptLifeGoesOn
-opt_goes_on meaning lawful key barrier values start stages f stands over clear apart chance =
+opt_goes_on meaning lawful key barrier values start kept stages f stands honest told over clear apart chance =
     let i : Instance = opt meaning key barrier in
     let all : List (List ℕ) = opt_messages i start stages f in
     let asked : List Batch = life_batches i start stages f in
@@ -38,8 +39,8 @@ opt_goes_on meaning lawful key barrier values start stages f stands over clear a
     let itself = each_self [] all in
     let calls = each_left (Contains all) front back itself in
     let first = is_first Opt meaning key barrier values lawful in
-    life_goes (opt_proofs.opt_life meaning lawful key barrier all others asked clear apart) stages (first_on values) (first_slots i) start f
-    stands (opt_proofs.first_within meaning lawful key barrier values all others asked calls.0) first.fits over
+    life_goes (opt_proofs.opt_life meaning lawful key barrier all others asked clear apart) stages (first_on values) kept (first_slots i) start f
+    honest told stands (opt_proofs.first_within meaning lawful key barrier values all others asked calls.0) first.fits over
     (opt_proofs.all_seen meaning lawful key barrier all others asked clear apart start stages
     (each_right (Contains all) front back itself) (each_self [] others)) chance
     (record { messages = calls.1; batches = each_self [] asked })

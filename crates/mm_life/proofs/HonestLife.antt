@@ -23,7 +23,8 @@ use Rattle.mm_host.specs.declared.fault.SessionFault.TheVariants.{Host}
 use Rattle.mm_host.proofs.Above.{calls_reach}
 use Rattle.mm_life.specs.Deeds.{Call, Calls, Checkpoints, Deed, DeedLeads, Extends, LosesPower}
 use Rattle.mm_life.specs.Honest.{AreNoChance, BeginsOver, GoesOnFrom, GoesOnOver, IsGoneOnWith, IsNextOrLast, IsOverOneStore, LeavesNoChance}
-use Rattle.mm_life.specs.Honest.{PartGoesOn, reached, slots_behind, slots_left, Waits}
+use Rattle.mm_life.specs.Honest.{PartGoesOn, kept_behind, reached, Waits}
+use Rattle.mm_store.specs.Kept.{StoreStanding}
 use Rattle.mm_life.specs.SessionCalls.{first_bytes, told_by}
 use Rattle.mm_life.specs.Stages.{Does, Holds, IsLife, Part, PartLeads, Program, Stage, end_of, life_calls, part_calls}
 use Rattle.mm_life.specs.Staying.{IsNoCall, Stays}
@@ -95,17 +96,18 @@ store_failed _ = inr (λ e. cc)
 module _ {all others : List (List ℕ)} {asked : List Batch} {i : Instance} {IsSeen : Standing → Part → Standing → Type 0}
     (life : LifeLaws all others asked i IsSeen) where
   -- where a part leads, from a history that the slots fit
-  record PartGone (y : History) (slots : Option Slots) (old : Standing) (part : Part) (new : Standing)
+  record PartGone (y : History) (kept : StoreStanding) (old : Standing) (part : Part) (new : Standing)
       (f : PartLeads i.variant i.meaning old part new) : Type 0 where
     after : History
     stands : StandsFor i new after
     within : IsWithin all others asked i after
     goes : PartGoesOn others i old part new f (requests_of y.batches) (requests_of after.batches)
+    honest : (kept_behind kept part).is_honest ≡ true
     left : Slots
-    told : slots_behind slots part ≡ Some left
+    told : (kept_behind kept part).slots ≡ Some left
     fits : FitsHistory i left after
 
-  module _ (y : History) (slots : Slots) (old : Standing) (p : Program) (new : Standing)
+  module _ (y : History) (kept : StoreStanding) (slots : Slots) (old : Standing) (p : Program) (new : Standing)
       (s : PartLeads i.variant i.meaning old (Holds p) new) (told : p.old.slots ≡ Some slots) (fits : FitsHistory i slots y)
       (chance : LeavesNoChance i.variant i.meaning old (Holds p) new s) where
     abbrev On : Type 0
@@ -125,7 +127,7 @@ module _ {all others : List (List ℕ)} {asked : List Batch} {i : Instance} {IsS
       | inr whole ↦ c.whole whole
     ]
 
-    program_gone : StandsFor i old y → On → PartGone y (Some slots) old (Holds p) new s
+    program_gone : StandsFor i old y → On → PartGone y kept old (Holds p) new s
     program_gone stands c = record {
       after = c.runs.after;
       stands = c.runs.stands;
@@ -145,21 +147,23 @@ module _ {all others : List (List ℕ)} {asked : List Batch} {i : Instance} {IsS
           unspoiled = c.runs.unspoiled;
         },
       );
+      honest = c.honest;
       left = c.slots_after;
       told = c.slots_told;
       fits = fits_then c;
     }
 
-  deed_gone : (y : History) (slots : Slots) (old : Standing) (deed : Deed) (new : Standing)
-      (f : DeedLeads i.variant i.meaning old deed new) → (PartGoesOn others i old (Does deed) new f (requests_of y.batches)
-      (requests_of y.batches)) → FitsHistory i slots y → Stays all others asked i y new → PartGone y (Some slots) old (Does deed) new f
-  deed_gone y slots old deed new f same fits s = record {
+  deed_gone : (y : History) (kept : StoreStanding) (slots : Slots) (old : Standing) (deed : Deed) (new : Standing)
+      (f : DeedLeads i.variant i.meaning old deed new) → kept.is_honest ≡ true → kept.slots ≡ Some slots → FitsHistory i slots y
+      → Stays all others asked i y new → PartGone y kept old (Does deed) new f
+  deed_gone y kept slots old deed new f honest told fits s = record {
     after = s.after;
     stands = s.stands;
     within = s.within;
     goes = ap requests_of s.batches;
+    honest = honest;
     left = slots;
-    told = refl;
+    told = told;
     fits = record {
       waiting = fits.waiting;
       is_waiting = fits.is_waiting;
@@ -167,47 +171,52 @@ module _ {all others : List (List ℕ)} {asked : List Batch} {i : Instance} {IsS
     };
   }
 
-  part_goes : (y : History) (slots : Slots) (old : Standing) (part : Part) (new : Standing) (f : PartLeads i.variant i.meaning old part new)
-      → StandsFor i old y → IsWithin all others asked i y → FitsHistory i slots y → BeginsOver (Some slots) part → IsSeen old part new
+  part_goes : (y : History) (kept : StoreStanding) (slots : Slots) (old : Standing) (part : Part) (new : Standing)
+      (f : PartLeads i.variant i.meaning old part new) → kept.is_honest ≡ true → kept.slots ≡ Some slots
+      → StandsFor i old y → IsWithin all others asked i y → FitsHistory i slots y → BeginsOver kept part → IsSeen old part new
       → LeavesNoChance i.variant i.meaning old part new f → AreListed all asked i (part_calls i.variant i.meaning old part new f)
-      → PartGone y (Some slots) old part new f
-  part_goes y slots old (Holds p) new s stands within fits begins seen chance listed =
+      → PartGone y kept old part new f
+  part_goes y kept slots old (Holds p) new s honest told stands within fits begins seen chance listed =
       let laws = life.laws new in
       let k = session_chain s in
       let reaches = calls_reach laws (first_bytes s) old k.at (told_by s) k.calls (ends_reach laws k.ends) in
       let shows = life.shows y old (Holds p) new seen stands reaches (chain_leads i life.leads k) in
-      program_gone y slots old p new s begins.1 fits chance stands (goes_on laws s y slots begins.1 begins.0 stands within fits shows listed)
-  part_goes y slots old (Does (Calls c)) new f stands within fits begins seen chance listed = absurd begins
-  part_goes y slots old (Does (Extends values)) new f stands within fits begins seen chance listed =
-      deed_gone y slots old (Extends values) new f refl fits (life.stays y old (Extends values) new tt seen f stands within)
-  part_goes y slots old (Does LosesPower) new f stands within fits begins seen chance listed =
-      deed_gone y slots old LosesPower new f refl fits (life.stays y old LosesPower new tt seen f stands within)
-  part_goes y slots old (Does (Checkpoints said)) new f stands within fits begins seen chance listed =
-      deed_gone y slots old (Checkpoints said) new f refl fits (life.stays y old (Checkpoints said) new tt seen f stands within)
+      let here : p.old.slots ≡ Some slots = begins.1 ∙ told in
+      program_gone y kept slots old p new s here fits chance stands
+      (goes_on laws s y slots here (begins.0 ∙ honest) stands within fits shows listed)
+  part_goes y kept slots old (Does (Calls c)) new f honest told stands within fits begins seen chance listed = absurd begins
+  part_goes y kept slots old (Does (Extends values)) new f honest told stands within fits begins seen chance listed =
+      deed_gone y kept slots old (Extends values) new f honest told fits (life.stays y old (Extends values) new tt seen f stands within)
+  part_goes y kept slots old (Does LosesPower) new f honest told stands within fits begins seen chance listed =
+      deed_gone y kept slots old LosesPower new f honest told fits (life.stays y old LosesPower new tt seen f stands within)
+  part_goes y kept slots old (Does (Checkpoints said)) new f honest told stands within fits begins seen chance listed =
+      deed_gone y kept slots old (Checkpoints said) new f honest told fits (life.stays y old (Checkpoints said) new tt seen f stands within)
 
-  pub life_goes : (stages : List Stage) (y : History) (slots : Slots) (start : Standing) (f : IsLife i.variant i.meaning start stages)
-      → StandsFor i start y → IsWithin all others asked i y → FitsHistory i slots y → IsOverOneStore (Some slots) stages
+  pub life_goes : (stages : List Stage) (y : History) (kept : StoreStanding) (slots : Slots) (start : Standing)
+      (f : IsLife i.variant i.meaning start stages) → kept.is_honest ≡ true → kept.slots ≡ Some slots
+      → StandsFor i start y → IsWithin all others asked i y → FitsHistory i slots y → IsOverOneStore kept stages
       → AreSeen life start stages → AreNoChance i.variant i.meaning start stages f
       → AreListed all asked i (life_calls i.variant i.meaning start stages f)
-      → IsGoneOnWith all others asked i (requests_of y.batches) (Some slots) start stages f
-  life_goes [] y slots start f stands within fits over seen chance listed = record {
+      → IsGoneOnWith all others asked i (requests_of y.batches) kept start stages f
+  life_goes [] y kept slots start f honest told stands within fits over seen chance listed = record {
     after = requests_of y.batches;
     goes = refl;
     history = y;
     holds = refl;
     stands = stands;
     within = within;
+    honest = honest;
     left = slots;
-    told = refl;
+    told = told;
     fits = fits;
   }
-  life_goes (stage ∷ stages) y slots start f stands within fits over seen chance listed =
+  life_goes (stage ∷ stages) y kept slots start f honest told stands within fits over seen chance listed =
       let calls : List Call = part_calls i.variant i.meaning start stage.part stage.after f.0 in
       let more : List Call = life_calls i.variant i.meaning stage.after stages f.1 in
-      let p = part_goes y slots start stage.part stage.after f.0 stands within fits over.0 seen.0 chance.0
+      let p = part_goes y kept slots start stage.part stage.after f.0 honest told stands within fits over.0 seen.0 chance.0
       (listed_left all asked i calls more listed) in
-      let r = life_goes stages p.after p.left stage.after f.1 p.stands p.within p.fits
-      (rw p.told at over.1) seen.1 chance.1
+      let r = life_goes stages p.after (kept_behind kept stage.part) p.left stage.after f.1 p.honest p.told p.stands p.within p.fits
+      over.1 seen.1 chance.1
       (listed_right all asked i calls more listed) in
       record {
         after = r.after;
@@ -216,7 +225,8 @@ module _ {all others : List (List ℕ)} {asked : List Batch} {i : Instance} {IsS
         holds = r.holds;
         stands = r.stands;
         within = r.within;
+        honest = r.honest;
         left = r.left;
-        told = rw p.told r.told;
+        told = r.told;
         fits = r.fits;
       }

@@ -4,29 +4,33 @@ use Rattle.std.specs.Prelude.{◌≡◌, ◌≢◌, ◌+◌, ◌-◌, ◌≤◌,
 use Rattle.mm_life.specs.Below.{Variant, Basic, Opt, Standing, IsLawful, Meaning, History, first_history, requests_of, Instance, basic}
 use Rattle.mm_life.specs.Below.{opt, StandsFor, Batch, IsClear, AreNoGuards, IsWithin, Lost, Spoiled, life_of, first_on, first_slots}
 use Rattle.mm_life.specs.Below.{Pending, Slots, slot_read, IsWaiting, IsInHand, Served, SessionFault, told_in, last_position}
-use Rattle.mm_life.specs.Below.{AreToldOnce, FitsHistory, IsNotBeyond, RefusesAs, Store}
+use Rattle.mm_life.specs.Below.{StoreStanding, AreToldOnce, FitsHistory, IsNotBeyond, RefusesAs, Store}
 use Rattle.mm_host.specs.declared.fault.SessionFault.TheVariants.{Host}
 use Rattle.mm_life.specs.Deeds.{Calls}
 use Rattle.mm_life.specs.OneList.{SessionSteps}
 use Rattle.mm_life.specs.Premises.{life_batches, life_messages, opt_messages, others_values}
 use Rattle.mm_life.specs.Stages.{Does, Holds, IsLife, Part, PartLeads, Stage, end_of}
 
--- A program's store is honest and shows these slots; another deed is no call.
-abbrev pub BeginsOver : Option Slots → Part → Type 0
-BeginsOver slots (Holds p) = (p.old.is_honest ≡ true) × (p.old.slots ≡ slots)
-BeginsOver slots (Does (Calls c)) = ⊥
-BeginsOver slots (Does deed) = Unit {0}
+-- A program's store shows what this one does, and is as honest; another deed is no call.
+abbrev pub BeginsOver : StoreStanding → Part → Type 0
+BeginsOver kept (Holds p) = (p.old.is_honest ≡ kept.is_honest) × (p.old.slots ≡ kept.slots)
+BeginsOver kept (Does (Calls c)) = ⊥
+BeginsOver kept (Does deed) = Unit {0}
 
--- the slots behind a part
-abbrev pub slots_behind : Option Slots → Part → Option Slots
-slots_behind slots (Holds p) = p.new.slots
-slots_behind slots (Does deed) = slots
+-- the store behind a part, and behind all of a life
+abbrev pub kept_behind : StoreStanding → Part → StoreStanding
+kept_behind kept (Holds p) = p.new
+kept_behind kept (Does deed) = kept
 
--- each part begins over the slots that those before it left, the first one over these
-abbrev pub IsOverOneStore : Option Slots → List Stage → Type 0
-IsOverOneStore slots [] = Unit {0}
-IsOverOneStore slots (stage ∷ stages) =
-    BeginsOver slots stage.part × IsOverOneStore (slots_behind slots stage.part) stages
+abbrev pub kept_left : StoreStanding → List Stage → StoreStanding
+kept_left kept [] = kept
+kept_left kept (stage ∷ stages) = kept_left (kept_behind kept stage.part) stages
+
+-- each part begins over the store that those before it left, the first one over this
+abbrev pub IsOverOneStore : StoreStanding → List Stage → Type 0
+IsOverOneStore kept [] = Unit {0}
+IsOverOneStore kept (stage ∷ stages) =
+    BeginsOver kept stage.part × IsOverOneStore (kept_behind kept stage.part) stages
 
 -- this waits in slots that are told
 pub record Waits (slots : Option Slots) (waiting : Option Pending) : Type 0 where
@@ -110,16 +114,11 @@ GoesOnFrom others i start (stage ∷ stages) f requests after =
     × PartGoesOn others i start stage.part stage.after f.0 requests between
     × GoesOnFrom others i stage.after stages f.1 between after
 
--- the slots that a life leaves
-abbrev pub slots_left : Option Slots → List Stage → Option Slots
-slots_left slots [] = slots
-slots_left slots (stage ∷ stages) = slots_left (slots_behind slots stage.part) stages
-
 -- A life goes on over one store, from these requests: there is one list that all of it follows; and
 -- at its end the platform stands for a history of this list, which the slots fit: so the next
 -- session may go on from there.
 pub record IsGoneOnWith (all others : List (List ℕ)) (asked : List Batch) (i : Instance)
-    (requests : List (List ℕ)) (slots : Option Slots) (start : Standing) (stages : List Stage)
+    (requests : List (List ℕ)) (kept : StoreStanding) (start : Standing) (stages : List Stage)
     (f : IsLife i.variant i.meaning start stages) : Type 0 where
   pub after : List (List ℕ)
   pub goes : GoesOnFrom others i start stages f requests after
@@ -127,8 +126,9 @@ pub record IsGoneOnWith (all others : List (List ℕ)) (asked : List Batch) (i :
   pub holds : requests_of history.batches ≡ after
   pub stands : StandsFor i (end_of start stages) history
   pub within : IsWithin all others asked i history
+  pub honest : (kept_left kept stages).is_honest ≡ true
   pub left : Slots
-  pub told : slots_left slots stages ≡ Some left
+  pub told : (kept_left kept stages).slots ≡ Some left
   pub fits : FitsHistory i left history
 
 -- Basic: a life over the store of a first start is gone on with, where no two messages of its calls
@@ -136,14 +136,14 @@ pub record IsGoneOnWith (all others : List (List ℕ)) (asked : List Batch) (i :
 abbrev pub BasicLifeGoesOn : Type 0
 BasicLifeGoesOn =
     (meaning : Meaning) → IsLawful meaning → (key : List ℕ) (start : Standing)
-    (stages : List Stage) (f : IsLife Basic meaning start stages) →
+    (kept : StoreStanding) (stages : List Stage) (f : IsLife Basic meaning start stages) →
     StandsFor (basic meaning key) start first_history →
-    IsOverOneStore (Some (first_slots (basic meaning key))) stages →
+    kept.is_honest ≡ true → kept.slots ≡ Some (first_slots (basic meaning key)) →
+    IsOverOneStore kept stages →
     IsClear (life_messages (basic meaning key) start stages f) →
     AreNoChance Basic meaning start stages f →
     IsGoneOnWith (life_messages (basic meaning key) start stages f) []
-    (life_batches (basic meaning key) start stages f) (basic meaning key) []
-    (Some (first_slots (basic meaning key))) start stages f
+    (life_batches (basic meaning key) start stages f) (basic meaning key) [] kept start stages f
 
 -- Opt, from a register that others had extended by these values: the same, where besides the
 -- messages by which the register's items went into it share no digest, as it shows them behind each
@@ -151,13 +151,15 @@ BasicLifeGoesOn =
 abbrev pub OptLifeGoesOn : Type 0
 OptLifeGoesOn =
     (meaning : Meaning) → IsLawful meaning → (key barrier : List ℕ) (values : List (List ℕ))
-    (start : Standing) (stages : List Stage) (f : IsLife Opt meaning start stages) →
+    (start : Standing) (kept : StoreStanding) (stages : List Stage)
+    (f : IsLife Opt meaning start stages) →
     StandsFor (opt meaning key barrier) start (first_on values) →
-    IsOverOneStore (Some (first_slots (opt meaning key barrier))) stages →
+    kept.is_honest ≡ true → kept.slots ≡ Some (first_slots (opt meaning key barrier)) →
+    IsOverOneStore kept stages →
     IsClear (opt_messages (opt meaning key barrier) start stages f) →
     AreNoGuards barrier (others_values stages)
     (life_batches (opt meaning key barrier) start stages f) →
     AreNoChance Opt meaning start stages f →
     IsGoneOnWith (opt_messages (opt meaning key barrier) start stages f) (others_values stages)
-    (life_batches (opt meaning key barrier) start stages f) (opt meaning key barrier) []
-    (Some (first_slots (opt meaning key barrier))) start stages f
+    (life_batches (opt meaning key barrier) start stages f) (opt meaning key barrier) [] kept start
+    stages f
